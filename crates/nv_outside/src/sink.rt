@@ -1,0 +1,23 @@
+ghost use Rattle.std.specs.Prelude.{◌≡◌, ◌≢◌, ◌≤◌, ◌<◌, ℕ, List, Option, IfOk, Ok, is_err, length};
+ghost use Rattle.std.specs.Io.KnownBytes.{WriteAppends};
+ghost use Rattle.nv_outside.specs.Faults.{CountsFailure};
+
+use crate::failed::Failed;
+
+/// Where a program writes bytes.
+pub trait Sink {
+    /// The bytes taken so far, where the sink tells them.
+    ghost taken: { Self → Option (List ℕ) };
+
+    /// How often a write failed.
+    ghost faults: { Self → ℕ };
+
+    /// Takes some bytes from the front of `piece`, and answers how many.
+    ///
+    /// A sink that takes nothing of a piece that is not empty has failed. A write that fails takes nothing.
+    fn write(&mut self, piece: &[u8]) -> Result<usize, Failed>
+        ensures bound { IfOk result (λ n. n ≤ length piece.now) }
+        ensures bytes { WriteAppends (taken self.old) (taken self.new) result piece.now }
+        ensures takes { 0 < length piece.now → result ≢ Ok 0 }
+        ensures count { CountsFailure (is_err result) (faults self.old) (faults self.new) };
+}
