@@ -25,7 +25,7 @@ pub use mem_sink::MemSink;
 pub use mem_source::MemSource;
 pub use shelf::Shelf;
 pub use shelf_error::ShelfError;
-pub use sink::Sink;
+pub use sink::{Sink, write_all};
 pub use source::Source;
 use std::alloc::AllocError;
 pub use std_sink::StdSink;

@@ -1,5 +1,5 @@
-ghost use Rattle.std.specs.Prelude.{◌≡◌, ◌≢◌, ◌≤◌, ◌<◌, ℕ, List, Option, IfOk, Ok, is_err, length};
-ghost use Rattle.std.specs.Io.KnownBytes.{WriteAppends};
+ghost use Rattle.std.specs.Prelude.{◌≡◌, ◌≢◌, ◌≤◌, ◌<◌, ℕ, List, Option, IfOk, OnOk, OnErr, Ok, is_err, length, take};
+ghost use Rattle.std.specs.Io.KnownBytes.{Appends, WriteAppends};
 ghost use Rattle.nv_outside.specs.Faults.{CountsFailure};
 
 use crate::failed::Failed;
@@ -20,4 +20,21 @@ pub trait Sink {
         ensures bytes { WriteAppends (taken self.old) (taken self.new) result piece.now }
         ensures takes { 0 < length piece.now → result ≢ Ok 0 }
         ensures count { CountsFailure (is_err result) (faults self.old) (faults self.new) };
+}
+
+/// Writes all of `bytes`: what the sink leaves of them is written again, until it is taken.
+///
+/// After a failure the sink has taken a front part of them.
+pub fn write_all<K: Sink>(sink: &mut K, bytes: &[u8]) -> Result<(), Failed>
+    ensures ok { OnOk result (Appends (K.taken sink.old) (K.taken sink.new) bytes.now) }
+    ensures err { OnErr result ((n : ℕ) × Appends (K.taken sink.old) (K.taken sink.new) (take n bytes.now)) }
+    ensures count { CountsFailure (is_err result) (K.faults sink.old) (K.faults sink.new) }
+{
+    let mut rest = bytes;
+    while !rest.is_empty() {
+        let n = sink.write(rest)?;
+        let (_, others) = rest.split_at(n);
+        rest = others;
+    }
+    Ok(())
 }
