@@ -1,7 +1,7 @@
-/// A check of an ELF file that failed.
+/// A check of an ELF file that failed: the first one, in the order of `kind`.
 ///
-/// `kind` numbers the checks in the order in which they are made. The names are those of the System V ABI, "ELF Header",
-/// "Program Header" and "Sections".
+/// The names are those of the System V ABI, "ELF Header", "Sections" and "Program Header". A segment is a program header of
+/// type `PT_LOAD`, and it is live where it has bytes in memory. Addresses are hexadecimal.
 ///
 /// | `kind` | The check fails where |
 /// |---|---|
@@ -18,21 +18,25 @@
 /// | 11 | program header `i` is `PT_DYNAMIC` or `PT_INTERP` |
 /// | 12 | the bytes of segment `i` run past the end of the file |
 /// | 13 | segment `i` has more bytes in the file than in memory |
-/// | 14 | segment `i` ends above address 7F000000 (hexadecimal) |
-/// | 15 | segments `i` and `j` share an address |
-/// | 16 | segment `i` can be both written and executed |
+/// | 14 | live segment `i` ends above 7F000000 |
+/// | 15 | live segments `i` and `j`, with `i < j`, share an address |
+/// | 16 | live segment `i` is both writable and executable |
 /// | 17 | there are sections, and `e_shentsize` is not 40 |
 /// | 18 | the section header table runs past the end of the file |
-/// | 19 | code section `i` lies in no executable segment's bytes |
+/// | 19 | code section `i` is not within the bytes in the file of one live executable segment |
 /// | 20 | code section `i` begins at no multiple of 4 |
 /// | 21 | there is no code |
-/// | 22 | page `i` holds code and a byte that can be written |
+/// | 22 | page `i` holds a byte of the code and a byte of a writable live segment |
 ///
-/// `i` and `j` count program headers or section headers from 0, except that of kind 22 `i` is the number of the page of 4,096
-/// bytes. A number that the check does not name is 0.
+/// `i` and `j` number program headers in checks 11 to 16, section headers in checks 19 and 20, and pages of 4,096 bytes in
+/// check 22, from 0. `i` is the least at which the check fails, and `j` the least beside this `i`. One that the check does not
+/// name is 0.
 #[derive(Clone, Copy, Debug, PartialEq, Eq)]
 pub struct ElfFault {
+    /// The number of the check, 1 to 22.
     pub kind: u32,
+    /// The header or page at which it failed.
     pub i: u32,
+    /// The other header, in check 15.
     pub j: u32,
 }
