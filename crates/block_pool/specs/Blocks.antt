@@ -1,4 +1,4 @@
-use Rattle.std.specs.Prelude.{◌≡◌, ◌==◌, ℕ, Bool, false, List, Option, Some, None, if◌then◌else◌, option_and_then, slice_index_or, slice_set, IsSome, count_by, is_some, is_none, length, map, replicate}
+use Rattle.std.specs.Prelude.{◌≡◌, ◌==◌, ℕ, Bool, ◌&&◌, List, Option, Some, None, if◌then◌else◌, option_and_then, slice_index_or, slice_set, IsSome, count_by, is_some, is_none, length, nat_lt, replicate}
 use Rattle.std.specs.List.{range_with_len}
 use Rattle.block_pool.specs.Zeros.{zeros}
 use Rattle.block_pool.specs.declared.block.Block.{Block}
@@ -23,15 +23,15 @@ IsUsed p b = IsSome (block_at p b)
 
 -- whether the pool has a block of this number that is free
 abbrev pub is_free : Pool → ℕ → Bool
-is_free p b = slice_index_or (map is_none p.blocks) b false
+is_free p b = nat_lt b (length p.blocks) && is_none (block_at p b)
 
--- the bytes of a block in use
+-- the bytes of a block in use, and zeros where there is none
+abbrev pub bytes_in : Option Block → List ℕ
+bytes_in None = zeros
+bytes_in (Some k) = k.bytes
+
 abbrev pub bytes_of : Pool → ℕ → List ℕ
 bytes_of p b = bytes_in (block_at p b)
-  where
-  bytes_in : Option Block → List ℕ
-  bytes_in None = zeros
-  bytes_in (Some k) = k.bytes
 
 -- the block that follows a block in use
 abbrev pub next_of : Pool → ℕ → Option ℕ
@@ -48,7 +48,9 @@ free_count p = count_by is_none p.blocks
 abbrev pub used_count : Pool → ℕ
 used_count p = count_by is_some p.blocks
 
--- `order` names each free block once, and no block that is in use
+-- what is true of every pool: `order` names each free block once and no other number, it has as many numbers as blocks
+-- are free, and a block in use has 4,096 bytes
 pub record IsSound (p : Pool) : Type 0 where
   pub waiting : (b : ℕ) → count_by (λ q. q == b) p.order ≡ (if is_free p b then 1 else 0)
   pub counted : length p.order ≡ free_count p
+  pub sized : (b : ℕ) → length (bytes_of p b) ≡ 4096

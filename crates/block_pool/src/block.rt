@@ -13,7 +13,8 @@ impl Block {
     /// A block of zeros that nothing follows.
     #[tactic(auto, unfolding(crate::specs::Zeros::zeros))]
     pub(crate) fn zeroed() -> Block
-        ensures { result ≡ record { bytes = zeros; next = None } }
+        ensures value { result ≡ record { bytes = zeros; next = None } }
+        ensures len { length result.bytes ≡ 4096 }
     {
         Block {
             bytes: [0; 4096],
@@ -24,7 +25,8 @@ impl Block {
     /// Writes the bytes of `from`, from `at` on.
     pub(crate) fn overwrite(&mut self, at: usize, from: &[u8])
         requires { at + length from.now ≤ 4096 }
-        ensures { self.new ≡ record self.old { bytes = overwritten self.old.bytes at from.now } }
+        ensures value { self.new ≡ record self.old { bytes = overwritten self.old.bytes at from.now } }
+        ensures len { length self.new.bytes ≡ 4096 }
     {
         self.bytes[at..at + from.len()].copy_from_slice(from);
     }
