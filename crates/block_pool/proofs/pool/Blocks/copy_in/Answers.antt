@@ -1,0 +1,20 @@
+use Rattle.block_pool.specs.Bytes.{overwritten}
+use Rattle.block_pool.proofs.KeptLemmas.{IsKept-put, pool_of-put_bytes}
+use Rattle.block_pool.proofs.pool.Blocks.copy_in.Goals as goal
+
+pub invariant_of-self : goal.invariant_of-self
+invariant_of-self c =
+    let s = c.self.inside in
+    IsKept-put s.slots.items s.given.items s.size _ _ c.args.b _ c.overwrite.ensures.len (rw (← c.self.view_is) at c.requires.used) c.self.invariant
+
+pub returns-clause-changed : goal.returns-clause-changed
+returns-clause-changed c =
+    let s = c.self.inside in
+    rw (c.overwrite.ensures.value, ← c.self.view_is)
+    (pool_of-put_bytes (λ bytes. overwritten bytes c.args.at c.args.from.now) s.slots.items s.given.items s.size c.args.b c.in-Some.block (rw (← c.self.view_is) at c.requires.used) (rw c.in-Some.is at c.index_mut.ensures.value))
+
+pub returns-clause-sound : goal.returns-clause-sound
+returns-clause-sound c =
+    let s = c.self.inside in
+    let used = rw (← c.self.view_is) at c.requires.used in
+    (IsKept-put s.slots.items s.given.items s.size _ _ c.args.b c.overwrite.new.self c.overwrite.ensures.len used c.self.invariant).sound

@@ -1,0 +1,5 @@
+use Rattle.std.specs.Prelude.{◌+◌, ◌++◌, ℕ, List, length, take, drop}
+
+-- bytes of which those from a place on are overwritten
+abbrev pub overwritten : List ℕ → ℕ → List ℕ → List ℕ
+overwritten bytes at from = take at bytes ++ from ++ drop (at + length from) bytes
