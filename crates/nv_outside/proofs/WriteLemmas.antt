@@ -1,7 +1,9 @@
 -- How far a writing of some bytes has come.
 use Rattle.std.proofs.Common.{◌≡◌, ℕ, ◌+◌, List, [], ◌++◌, take, drop, Option, Some, None, refl, sym, ap, ◌∙◌, append_assoc, append-nil, drop-drop}
 use Rattle.std.proofs.Math.Seq.{take-add}
-use Rattle.std.specs.Io.KnownBytes.{Appends}
+use Rattle.std.proofs.lemmas.List.{take-append-drop}
+use Rattle.std.specs.Io.KnownBytes.{Appends, Keeps}
+use Rattle.nv_outside.specs.Gains.{AppendsPart}
 
 pub record Wrote (old new : Option (List ℕ)) (bytes rest : List ℕ) : Type 0 where
   pub written : ℕ
@@ -18,6 +20,12 @@ both (Some o) None new xs ys p q = absurd p
 both (Some o) (Some m) None xs ys p q = absurd q
 both (Some o) (Some m) (Some n) xs ys p q = q ∙ ap (λ z. z ++ ys) p ∙ append_assoc o xs ys
 
+both-kept : (old mid new : Option (List ℕ)) (xs : List ℕ) → Appends old mid xs → Keeps mid new → Appends old new xs
+both-kept None mid new xs p q = tt
+both-kept (Some o) None new xs p q = absurd p
+both-kept (Some o) (Some m) None xs p q = absurd q
+both-kept (Some o) (Some m) (Some n) xs p q = q ∙ p
+
 pub Wrote-start : (old : Option (List ℕ)) (bytes : List ℕ) → Wrote old old bytes bytes
 Wrote-start old bytes = record { written = 0; took = nothing old; left = refl }
 
@@ -30,3 +38,12 @@ Wrote-more old mid new bytes rest n w took =
       took = rw (take-add w.written n bytes) (both old mid new _ _ w.took more);
       left = ap (drop n) w.left ∙ drop-drop n w.written bytes;
     }
+
+-- the sink kept what it had taken: a front part
+pub Wrote-part : (old mid new : Option (List ℕ)) (bytes rest : List ℕ) → Wrote old mid bytes rest → Keeps mid new → AppendsPart old new bytes
+Wrote-part old mid new bytes rest w kept = record {
+  front = take w.written bytes;
+  rest = drop w.written bytes;
+  splits = sym (take-append-drop w.written bytes);
+  gained = both-kept old mid new _ w.took kept;
+}

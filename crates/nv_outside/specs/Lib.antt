@@ -1,5 +1,6 @@
 pub mod Faults
 pub mod Files
+pub mod Gains
 pub mod Script
 pub mod MemSource
 pub mod MemSink

@@ -1,6 +1,7 @@
-ghost use Rattle.std.specs.Prelude.{◌≡◌, ◌≢◌, ◌≤◌, ◌<◌, ℕ, List, Option, IfOk, OnOk, OnErr, Ok, is_err, length, take};
+ghost use Rattle.std.specs.Prelude.{◌≡◌, ◌≢◌, ◌≤◌, ◌<◌, ℕ, List, Option, IfOk, OnOk, OnErr, Ok, is_err, length};
 ghost use Rattle.std.specs.Io.KnownBytes.{Appends, WriteAppends};
 ghost use Rattle.nv_outside.specs.Faults.{CountsFailure};
+ghost use Rattle.nv_outside.specs.Gains.{AppendsPart};
 
 use crate::failed::Failed;
 
@@ -27,7 +28,7 @@ pub trait Sink {
 /// After a failure the sink has taken a front part of them.
 pub fn write_all<K: Sink>(sink: &mut K, bytes: &[u8]) -> Result<(), Failed>
     ensures ok { OnOk result (Appends (K.taken sink.old) (K.taken sink.new) bytes.now) }
-    ensures err { OnErr result ((n : ℕ) × Appends (K.taken sink.old) (K.taken sink.new) (take n bytes.now)) }
+    ensures err { OnErr result (AppendsPart (K.taken sink.old) (K.taken sink.new) bytes.now) }
     ensures count { CountsFailure (is_err result) (K.faults sink.old) (K.faults sink.new) }
 {
     let mut rest = bytes;

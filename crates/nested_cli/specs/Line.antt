@@ -1,0 +1,52 @@
+-- The status of an answer, and its line on error output.
+use Rattle.std.specs.Prelude.{◌≡◌, ℕ, ◌+◌, ◌*◌, ◌/◌, ◌%◌, ◌^◌, ◌++◌, List, [], ◌∷◌, codes, decimal, if◌then◌else◌, nat_lt}
+use Rattle.std.specs.Int.{cast_unsigned, w32}
+use Rattle.nv_events.specs.declared.fault.Fault.{Fault}
+use Rattle.elf_reader.specs.declared.elf_fault.ElfFault.{ElfFault}
+use Rattle.nested_cli.specs.declared.done.Done.{Done}
+use Rattle.nested_cli.specs.declared.done.Done.TheVariants.{Exited, Faulted, Usage, NoInput, ElfRefused, WriteFault, ShelfFault, NoMemory, NotBuilt}
+use Rattle.nested_cli.specs.Usage.{word_of}
+
+-- the statuses of sysexits.h where one fits, and the program's own status modulo 256
+abbrev pub status_of : Done → ℕ
+status_of (Exited status) = cast_unsigned w32 status % 256
+status_of (Faulted f) = 79
+status_of (Usage kind) = 64
+status_of (NoInput word) = 66
+status_of (ElfRefused f) = 65
+status_of WriteFault = 75
+status_of ShelfFault = 76
+status_of NoMemory = 77
+status_of NotBuilt = 81
+
+-- an upper-case hexadecimal digit
+abbrev pub hex_digit : ℕ → ℕ
+hex_digit d = if nat_lt d 10 then 48 + d else 55 + d
+
+-- a word in eight of them
+unfoldable pub hex_word : ℕ → List ℕ
+hex_word w = hex_digit (w / 2 ^ 28 % 16) ∷ hex_digit (w / 2 ^ 24 % 16) ∷ hex_digit (w / 2 ^ 20 % 16) ∷ hex_digit (w / 2 ^ 16 % 16)
+    ∷ hex_digit (w / 2 ^ 12 % 16) ∷ hex_digit (w / 2 ^ 8 % 16) ∷ hex_digit (w / 2 ^ 4 % 16) ∷ hex_digit (w % 16) ∷ []
+
+-- pieces one after the other
+abbrev pub joined : List (List ℕ) → List ℕ
+joined [] = []
+joined (piece ∷ pieces) = piece ++ joined pieces
+
+abbrev pub fault_line : Fault → List ℕ
+fault_line f = joined (codes "nested: fault " ∷ decimal f.kind ∷ codes " pc " ∷ hex_word f.pc ∷ codes " value " ∷ hex_word f.value ∷ codes "\n" ∷ [])
+
+abbrev pub elf_line : ElfFault → List ℕ
+elf_line f = joined (codes "nested: elf " ∷ decimal f.kind ∷ codes " " ∷ decimal f.i ∷ codes " " ∷ decimal f.j ∷ codes "\n" ∷ [])
+
+-- the line of an answer to these words, with its end
+abbrev pub line_of : List (List ℕ) → Done → List ℕ
+line_of words (Exited status) = []
+line_of words (Faulted f) = fault_line f
+line_of words (Usage kind) = joined (codes "nested: usage " ∷ decimal kind ∷ codes "\n" ∷ [])
+line_of words (NoInput word) = joined (codes "nested: no file " ∷ word_of words word ∷ codes "\n" ∷ [])
+line_of words (ElfRefused f) = elf_line f
+line_of words WriteFault = []
+line_of words ShelfFault = codes "nested: shelf fault\n"
+line_of words NoMemory = codes "nested: no memory\n"
+line_of words NotBuilt = codes "nested: not built\n"

@@ -1,0 +1,50 @@
+use elf_reader::ElfFault;
+use nv_events::Fault;
+
+/// How a call of the program ended.
+///
+/// Each answer has a status and, but for `Exited` and `WriteFault`, a line that is written to error output last.
+#[derive(Clone, Copy, Debug, PartialEq, Eq)]
+pub enum Done {
+    /// The guest program left with this status.
+    Exited(i32),
+    /// The guest program ended in this fault.
+    Faulted(Fault),
+    /// The words are no command line: 1 where the first word is missing or no command, 2 where the other words are not those
+    /// of the command.
+    Usage(u32),
+    /// There is no file of the name that this word gives, counted from 0.
+    NoInput(u32),
+    /// The file is no program: the first check that it fails.
+    ElfRefused(ElfFault),
+    /// Output or error output failed in this call.
+    WriteFault,
+    /// The shelf of files failed in this call.
+    ShelfFault,
+    /// Memory ran out.
+    NoMemory,
+    /// What the file or its run needs is not built yet.
+    NotBuilt,
+}
+
+impl Done {
+    ghost use Rattle.std.specs.Prelude.{◌≡◌};
+    ghost use Rattle.nested_cli.specs.Line.{status_of};
+
+    /// The exit status of the process, in the manner of `sysexits.h`; a guest's own status counts modulo 256.
+    pub fn status(&self) -> u8
+        ensures { result ≡ status_of self.now }
+    {
+        match *self {
+            Done::Exited(status) => (status.cast_unsigned() % 256) as u8,
+            Done::Usage(_) => 64,
+            Done::ElfRefused(_) => 65,
+            Done::NoInput(_) => 66,
+            Done::WriteFault => 75,
+            Done::ShelfFault => 76,
+            Done::NoMemory => 77,
+            Done::Faulted(_) => 79,
+            Done::NotBuilt => 81,
+        }
+    }
+}

@@ -1,0 +1,103 @@
+ghost use Rattle.std.specs.Prelude.{◌≡◌, OnOk, OnErr, decimal, is_err, map};
+ghost use Rattle.std.specs.Io.KnownBytes.{Appends};
+ghost use Rattle.nv_outside.specs.Faults.{CountsFailure};
+ghost use Rattle.nv_outside.specs.Gains.{AppendsPart};
+ghost use Rattle.nested_cli.specs.Line.{elf_line, fault_line, joined, line_of};
+ghost use Rattle.nested_cli.specs.Usage.{texts, word_of};
+
+use crate::done::Done;
+use crate::hexadecimal::hexadecimal;
+use elf_reader::ElfFault;
+use itoa::Buffer;
+use nv_events::Fault;
+use nv_outside::{Failed, Sink, write_all};
+
+/// Writes the line of an answer to these words. Takes no memory.
+pub fn write_line<E: Sink>(err: &mut E, words: &[String], done: &Done) -> Result<(), Failed>
+    ensures ok { OnOk result (Appends (E.taken err.old) (E.taken err.new) (line_of (texts words.now) done.now)) }
+    ensures err { OnErr result (AppendsPart (E.taken err.old) (E.taken err.new) (line_of (texts words.now) done.now)) }
+    ensures count { CountsFailure (is_err result) (E.faults err.old) (E.faults err.new) }
+{
+    match *done {
+        Done::Exited(_) | Done::WriteFault => Ok(()),
+        Done::ShelfFault => write_all(err, b"nested: shelf fault\n"),
+        Done::NoMemory => write_all(err, b"nested: no memory\n"),
+        Done::NotBuilt => write_all(err, b"nested: not built\n"),
+        Done::Usage(kind) => {
+            let mut digits = Buffer::new();
+            write_pieces(err, &[b"nested: usage ", decimal(&mut digits, kind), b"\n"])
+        }
+        Done::NoInput(word) => {
+            let name = word_of(words, word);
+            write_pieces(err, &[b"nested: no file ", name, b"\n"])
+        }
+        Done::Faulted(fault) => write_fault(err, fault),
+        Done::ElfRefused(fault) => write_elf_fault(err, fault),
+    }
+}
+
+/// Writes the line of a fault of the guest.
+fn write_fault<E: Sink>(err: &mut E, fault: Fault) -> Result<(), Failed>
+    ensures ok { OnOk result (Appends (E.taken err.old) (E.taken err.new) (fault_line fault)) }
+    ensures err { OnErr result (AppendsPart (E.taken err.old) (E.taken err.new) (fault_line fault)) }
+    ensures count { CountsFailure (is_err result) (E.faults err.old) (E.faults err.new) }
+{
+    let mut digits = Buffer::new();
+    let kind = decimal(&mut digits, fault.kind);
+    let pc = hexadecimal(fault.pc);
+    let value = hexadecimal(fault.value);
+    write_pieces(
+        err,
+        &[
+            b"nested: fault ",
+            kind,
+            b" pc ",
+            &pc,
+            b" value ",
+            &value,
+            b"\n",
+        ],
+    )
+}
+
+/// Writes the line of a check that the file failed.
+fn write_elf_fault<E: Sink>(err: &mut E, fault: ElfFault) -> Result<(), Failed>
+    ensures ok { OnOk result (Appends (E.taken err.old) (E.taken err.new) (elf_line fault)) }
+    ensures err { OnErr result (AppendsPart (E.taken err.old) (E.taken err.new) (elf_line fault)) }
+    ensures count { CountsFailure (is_err result) (E.faults err.old) (E.faults err.new) }
+{
+    let (mut kinds, mut is, mut js) = (Buffer::new(), Buffer::new(), Buffer::new());
+    let kind = decimal(&mut kinds, fault.kind);
+    let i = decimal(&mut is, fault.i);
+    let j = decimal(&mut js, fault.j);
+    write_pieces(err, &[b"nested: elf ", kind, b" ", i, b" ", j, b"\n"])
+}
+
+/// A number in decimal digits.
+fn decimal(digits: &mut Buffer, n: u32) -> &[u8]
+    ensures { result.now ≡ decimal n }
+{
+    digits.format(n).as_bytes()
+}
+
+/// The bytes of a word, or none where there is no such word.
+fn word_of(words: &[String], word: u32) -> &[u8]
+    ensures { result.now ≡ word_of (texts words.now) word }
+{
+    match words.get(word as usize) {
+        Some(text) => text.as_bytes(),
+        None => b"",
+    }
+}
+
+/// Writes pieces one after the other. After a failure the sink has taken a front part of them.
+fn write_pieces<E: Sink>(sink: &mut E, pieces: &[&[u8]]) -> Result<(), Failed>
+    ensures ok { OnOk result (Appends (E.taken sink.old) (E.taken sink.new) (joined (map (λ p. p.now) pieces.now))) }
+    ensures err { OnErr result (AppendsPart (E.taken sink.old) (E.taken sink.new) (joined (map (λ p. p.now) pieces.now))) }
+    ensures count { CountsFailure (is_err result) (E.faults sink.old) (E.faults sink.new) }
+{
+    for piece in pieces {
+        write_all(sink, piece)?;
+    }
+    Ok(())
+}
