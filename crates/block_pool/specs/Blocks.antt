@@ -1,6 +1,6 @@
 use Rattle.std.specs.Prelude.{◌≡◌, ◌==◌, ℕ, Bool, ◌&&◌, List, Option, Some, None, if◌then◌else◌, option_and_then, slice_index_or, slice_set, IsSome, count_by, is_some, is_none, length, nat_lt, replicate}
 use Rattle.std.specs.List.{range_with_len}
-use Rattle.block_pool.specs.Zeros.{zeros}
+use Rattle.block_pool.specs.Bytes.{zeros}
 use Rattle.block_pool.specs.declared.block.Block.{Block}
 
 -- A pool of blocks: at each number the block in use, or None where that block is free, and the numbers of the free

@@ -1,6 +1,5 @@
 ghost use Rattle.std.specs.Prelude.{◌≡◌, ◌≤◌, ◌<◌, ◌+◌, ◌∷◌, ◌↔◌, Some, None, IfOk, OnErr, IsErr, IsTrue, length, slice_index, slice_set, slice_range};
-ghost use Rattle.block_pool.specs.Zeros.{zeros};
-ghost use Rattle.block_pool.specs.Bytes.{overwritten};
+ghost use Rattle.block_pool.specs.Bytes.{zeros, overwritten};
 ghost use Rattle.block_pool.specs.Blocks.{untouched, block_at, IsUsed, is_free, bytes_of, next_of, with_block, free_count, used_count, IsSound};
 
 use crate::block::Block;
