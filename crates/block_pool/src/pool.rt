@@ -60,6 +60,7 @@ impl Blocks {
         ensures first { IfOk result (λ b. self.old.order ≡ b ∷ self.new.order) }
         ensures was_free { IfOk result (λ b. IsTrue (is_free self.old b)) }
         ensures zeroed { IfOk result (λ b. self.new.blocks ≡ slice_set self.old.blocks b (Some (record { bytes = zeros; next = None }))) }
+        ensures count { IfOk result (λ _. free_count self.new + 1 ≡ free_count self.old) }
         ensures sound { IsSound self.new }
         ensures none { IsErr result ↔ (free_count self.old ≡ 0) }
         ensures err { OnErr result (self.new ≡ self.old) }
@@ -81,6 +82,7 @@ impl Blocks {
         requires { IsUsed self.old b }
         ensures freed { self.new.blocks ≡ slice_set self.old.blocks b None }
         ensures first { self.new.order ≡ b ∷ self.old.order }
+        ensures count { free_count self.new ≡ free_count self.old + 1 }
         ensures sound { IsSound self.new }
     {
         self.slots[b as usize] = None;
@@ -110,6 +112,7 @@ impl Blocks {
         requires used { IsUsed self.old b }
         requires within { at < 4096 }
         ensures changed { self.new ≡ with_block self.old b (slice_set (bytes_of self.old b) at v) (next_of self.old b) }
+        ensures count { free_count self.new ≡ free_count self.old }
         ensures sound { IsSound self.new }
     {
         let Some(block) = &mut self.slots[b as usize] else {
@@ -123,6 +126,7 @@ impl Blocks {
         requires used { IsUsed self.old b }
         requires within { at + length from.now ≤ 4096 }
         ensures changed { self.new ≡ with_block self.old b (overwritten (bytes_of self.old b) at from.now) (next_of self.old b) }
+        ensures count { free_count self.new ≡ free_count self.old }
         ensures sound { IsSound self.new }
     {
         let Some(block) = &mut self.slots[b as usize] else {
@@ -145,6 +149,7 @@ impl Blocks {
     pub fn set_next(&mut self, b: u32, to: Option<u32>)
         requires { IsUsed self.old b }
         ensures changed { self.new ≡ with_block self.old b (bytes_of self.old b) to }
+        ensures count { free_count self.new ≡ free_count self.old }
         ensures sound { IsSound self.new }
     {
         let Some(block) = &mut self.slots[b as usize] else {
