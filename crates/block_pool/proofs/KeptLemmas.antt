@@ -202,3 +202,44 @@ free_of slots given size r g h =
       length-reverse given,
       length-range_with_len (length slots) (size - length slots),
     )
+
+-- how the count of the free blocks goes on
+pub count-popped : (slots : List (Option Block)) (given rest : List ℕ) (size r g b : ℕ) (k : Block) → length k.bytes ≡ 4096 → given ≡ rest ++ b ∷ [] → IsKept slots given size r g → free_count (pool_of (set slots b (Some k)) rest size) + 1 ≡ free_count (pool_of slots given size)
+count-popped slots given rest size r g b k sized is h =
+    omega (
+      arith,
+      free_of slots given size r g h,
+      free_of (set slots b (Some k)) rest size r g (IsKept-popped slots given rest size r g b k sized is h),
+      length-set slots b (Some k),
+      ap length is,
+      length_push rest b,
+    )
+
+pub count-pushed : (slots : List (Option Block)) (given rest : List ℕ) (size r g : ℕ) (k : Block) → length k.bytes ≡ 4096 → given ≡ rest ++ [] → length given ≡ 0 → length slots < size → IsKept slots given size r g → free_count (pool_of (slots ++ Some k ∷ []) rest size) + 1 ≡ free_count (pool_of slots given size)
+count-pushed slots given rest size r g k sized is none room h =
+    omega (
+      arith,
+      free_of slots given size r g h,
+      free_of (slots ++ Some k ∷ []) rest size r g (IsKept-pushed slots given rest size r g k sized is none room h),
+      length_push slots (Some k),
+      ap length (is ∙ append-nil rest),
+    )
+
+pub count-given : (slots : List (Option Block)) (given : List ℕ) (size r g b : ℕ) → IsUsed (pool_of slots given size) b → IsKept slots given size r g → free_count (pool_of (set slots b None) (given ++ b ∷ []) size) ≡ free_count (pool_of slots given size) + 1
+count-given slots given size r g b used h =
+    omega (
+      arith,
+      free_of slots given size r g h,
+      free_of (set slots b None) (given ++ b ∷ []) size r g (IsKept-given slots given size r g b used h),
+      length-set slots b (let none : Option Block = None in none),
+      length_push given b,
+    )
+
+pub count-put : (slots : List (Option Block)) (given : List ℕ) (size r g b : ℕ) (k : Block) → length k.bytes ≡ 4096 → IsUsed (pool_of slots given size) b → IsKept slots given size r g → free_count (pool_of (set slots b (Some k)) given size) ≡ free_count (pool_of slots given size)
+count-put slots given size r g b k sized used h =
+    omega (
+      arith,
+      free_of slots given size r g h,
+      free_of (set slots b (Some k)) given size r g (IsKept-put slots given size r g b k sized used h),
+      length-set slots b (Some k),
+    )

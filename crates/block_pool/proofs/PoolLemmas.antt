@@ -7,7 +7,7 @@ use Rattle.std.proofs.lemmas.List.{length-set, get_or-set_same, get_or-set_other
 use Rattle.std.proofs.lemmas.List.FromFn.{length-range_with_len}
 use Rattle.std.proofs.lemmas.List.Folds.{sum_by-replicate}
 use Rattle.std.proofs.lemmas.List.Sums.{sum_by-cons, sum_by-set, get_or-le-sum_by}
-use Rattle.block_pool.specs.Zeros.{zeros}
+use Rattle.block_pool.specs.Bytes.{zeros}
 use Rattle.block_pool.specs.Blocks.{Pool, IsSound, IsUsed, is_free, bytes_in, untouched}
 use Rattle.block_pool.specs.declared.block.Block.{Block}
 

@@ -1,6 +1,6 @@
 use Rattle.std.specs.Prelude.{◌≡◌, ◌==◌, ℕ, Bool, ◌&&◌, List, Option, Some, None, if◌then◌else◌, option_and_then, slice_index_or, slice_set, IsSome, count_by, is_some, is_none, length, nat_lt, replicate}
 use Rattle.std.specs.List.{range_with_len}
-use Rattle.block_pool.specs.Zeros.{zeros}
+use Rattle.block_pool.specs.Bytes.{zeros}
 use Rattle.block_pool.specs.declared.block.Block.{Block}
 
 -- A pool of blocks: at each number the block in use, or None where that block is free, and the numbers of the free
@@ -33,6 +33,10 @@ bytes_in (Some k) = k.bytes
 abbrev pub bytes_of : Pool → ℕ → List ℕ
 bytes_of p b = bytes_in (block_at p b)
 
+-- a block that was just taken: zeros, and nothing follows it
+abbrev pub new_block : Block
+new_block = record { bytes = zeros; next = None }
+
 -- the block that follows a block in use
 abbrev pub next_of : Pool → ℕ → Option ℕ
 next_of p b = option_and_then (λ k. k.next) (block_at p b)
@@ -40,6 +44,14 @@ next_of p b = option_and_then (λ k. k.next) (block_at p b)
 -- this one block in use becomes so, and all else is as before
 abbrev pub with_block : Pool → ℕ → List ℕ → Option ℕ → Pool
 with_block p b bytes next = record p { blocks = slice_set p.blocks b (Some (record { bytes = bytes; next = next })) }
+
+-- this one block in use has these bytes
+abbrev pub with_bytes : Pool → ℕ → List ℕ → Pool
+with_bytes p b bytes = with_block p b bytes (next_of p b)
+
+-- this one is followed by that
+abbrev pub with_next : Pool → ℕ → Option ℕ → Pool
+with_next p b to = with_block p b (bytes_of p b) to
 
 -- how many blocks are free, and how many are in use
 abbrev pub free_count : Pool → ℕ

@@ -1,6 +1,5 @@
 ghost use Rattle.std.specs.Prelude.{◌≡◌, ◌≤◌, ◌+◌, None, length};
-ghost use Rattle.block_pool.specs.Zeros.{zeros};
-ghost use Rattle.block_pool.specs.Bytes.{overwritten};
+ghost use Rattle.block_pool.specs.Bytes.{zeros, overwritten};
 
 /// A block in use: its 4,096 bytes, and the number of the block that follows it in its file, if one does.
 #[derive(Drop)]
@@ -11,7 +10,7 @@ pub struct Block {
 
 impl Block {
     /// A block of zeros that nothing follows.
-    #[tactic(auto, unfolding(crate::specs::Zeros::zeros))]
+    #[tactic(auto, unfolding(crate::specs::Bytes::zeros))]
     pub(crate) fn zeroed() -> Block
         ensures value { result ≡ record { bytes = zeros; next = None } }
         ensures len { length result.bytes ≡ 4096 }

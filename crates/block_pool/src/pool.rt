@@ -1,7 +1,6 @@
-ghost use Rattle.std.specs.Prelude.{◌≡◌, ◌≤◌, ◌<◌, ◌+◌, ◌∷◌, ◌↔◌, Some, None, IfOk, OnErr, IsErr, IsTrue, length, slice_index, slice_set, slice_range};
-ghost use Rattle.block_pool.specs.Zeros.{zeros};
+ghost use Rattle.std.specs.Prelude.{◌≡◌, ◌≤◌, ◌<◌, ◌+◌, ◌∷◌, ◌↔◌, None, Some, IfOk, OnErr, IsErr, IsTrue, length, slice_index, slice_set, slice_range};
 ghost use Rattle.block_pool.specs.Bytes.{overwritten};
-ghost use Rattle.block_pool.specs.Blocks.{untouched, block_at, IsUsed, is_free, bytes_of, next_of, with_block, free_count, used_count, IsSound};
+ghost use Rattle.block_pool.specs.Blocks.{untouched, block_at, IsUsed, is_free, bytes_of, new_block, next_of, with_bytes, with_next, free_count, used_count, IsSound};
 
 use crate::block::Block;
 use std::alloc::{AllocError, Global};
@@ -60,7 +59,8 @@ impl Blocks {
     pub fn take(&mut self) -> Result<u32, NoBlock>
         ensures first { IfOk result (λ b. self.old.order ≡ b ∷ self.new.order) }
         ensures was_free { IfOk result (λ b. IsTrue (is_free self.old b)) }
-        ensures zeroed { IfOk result (λ b. self.new.blocks ≡ slice_set self.old.blocks b (Some (record { bytes = zeros; next = None }))) }
+        ensures zeroed { IfOk result (λ b. self.new.blocks ≡ slice_set self.old.blocks b (Some new_block)) }
+        ensures count { IfOk result (λ _. free_count self.new + 1 ≡ free_count self.old) }
         ensures sound { IsSound self.new }
         ensures none { IsErr result ↔ (free_count self.old ≡ 0) }
         ensures err { OnErr result (self.new ≡ self.old) }
@@ -82,6 +82,7 @@ impl Blocks {
         requires { IsUsed self.old b }
         ensures freed { self.new.blocks ≡ slice_set self.old.blocks b None }
         ensures first { self.new.order ≡ b ∷ self.old.order }
+        ensures count { free_count self.new ≡ free_count self.old + 1 }
         ensures sound { IsSound self.new }
     {
         self.slots[b as usize] = None;
@@ -110,7 +111,8 @@ impl Blocks {
     pub fn write(&mut self, b: u32, at: u32, v: u8)
         requires used { IsUsed self.old b }
         requires within { at < 4096 }
-        ensures changed { self.new ≡ with_block self.old b (slice_set (bytes_of self.old b) at v) (next_of self.old b) }
+        ensures changed { self.new ≡ with_bytes self.old b (slice_set (bytes_of self.old b) at v) }
+        ensures count { free_count self.new ≡ free_count self.old }
         ensures sound { IsSound self.new }
     {
         let Some(block) = &mut self.slots[b as usize] else {
@@ -123,7 +125,8 @@ impl Blocks {
     pub fn copy_in(&mut self, b: u32, at: u32, from: &[u8])
         requires used { IsUsed self.old b }
         requires within { at + length from.now ≤ 4096 }
-        ensures changed { self.new ≡ with_block self.old b (overwritten (bytes_of self.old b) at from.now) (next_of self.old b) }
+        ensures changed { self.new ≡ with_bytes self.old b (overwritten (bytes_of self.old b) at from.now) }
+        ensures count { free_count self.new ≡ free_count self.old }
         ensures sound { IsSound self.new }
     {
         let Some(block) = &mut self.slots[b as usize] else {
@@ -145,7 +148,8 @@ impl Blocks {
     /// Says which block follows a block in use. That it is in use too, or that the pool has it, is the caller's business.
     pub fn set_next(&mut self, b: u32, to: Option<u32>)
         requires { IsUsed self.old b }
-        ensures changed { self.new ≡ with_block self.old b (bytes_of self.old b) to }
+        ensures changed { self.new ≡ with_next self.old b to }
+        ensures count { free_count self.new ≡ free_count self.old }
         ensures sound { IsSound self.new }
     {
         let Some(block) = &mut self.slots[b as usize] else {

@@ -1,5 +1,5 @@
 use Rattle.block_pool.specs.Bytes.{overwritten}
-use Rattle.block_pool.proofs.KeptLemmas.{IsKept-put, pool_of-put_bytes}
+use Rattle.block_pool.proofs.KeptLemmas.{count-put, IsKept-put, pool_of-put_bytes}
 use Rattle.block_pool.proofs.pool.Blocks.copy_in.Goals as goal
 
 pub invariant_of-self : goal.invariant_of-self
@@ -18,3 +18,10 @@ returns-clause-sound c =
     let s = c.self.inside in
     let used = rw (← c.self.view_is) at c.requires.used in
     (IsKept-put s.slots.items s.given.items s.size _ _ c.args.b c.overwrite.new.self c.overwrite.ensures.len used c.self.invariant).sound
+
+pub returns-clause-count : goal.returns-clause-count
+returns-clause-count c =
+    let s = c.self.inside in
+    let used = rw (← c.self.view_is) at c.requires.used in
+    rw (← c.self.view_is)
+    (count-put s.slots.items s.given.items s.size _ _ c.args.b c.overwrite.new.self c.overwrite.ensures.len used c.self.invariant)

@@ -1,5 +1,5 @@
 use Rattle.std.proofs.Common.{arith}
-use Rattle.block_pool.proofs.KeptLemmas.{IsKept-given, given_room, blocks_of-set, used_slot}
+use Rattle.block_pool.proofs.KeptLemmas.{count-given, IsKept-given, given_room, blocks_of-set, used_slot}
 use Rattle.block_pool.proofs.pool.Blocks.give.Goals as goal
 
 pub push_reserved-requires : goal.push_reserved-requires
@@ -25,3 +25,9 @@ returns-clause-sound c =
     let s = c.self.inside in
     rw c.push_reserved.ensures.items
     (IsKept-given s.slots.items s.given.items s.size _ _ c.args.b (rw (← c.self.view_is) at c.requires) c.self.invariant).sound
+
+pub returns-clause-count : goal.returns-clause-count
+returns-clause-count c =
+    let s = c.self.inside in
+    rw (← c.self.view_is)
+    (count-given s.slots.items s.given.items s.size _ _ c.args.b (rw (← c.self.view_is) at c.requires) c.self.invariant)

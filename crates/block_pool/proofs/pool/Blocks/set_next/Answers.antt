@@ -1,4 +1,4 @@
-use Rattle.block_pool.proofs.KeptLemmas.{IsKept-put, slot_size, pool_of-put_next}
+use Rattle.block_pool.proofs.KeptLemmas.{count-put, IsKept-put, slot_size, pool_of-put_next}
 use Rattle.block_pool.proofs.pool.Blocks.set_next.Goals as goal
 
 pub invariant_of-self : goal.invariant_of-self
@@ -20,3 +20,11 @@ returns-clause-sound c =
     let used = rw (← c.self.view_is) at c.requires in
     let size = slot_size s.slots.items s.given.items s.size _ _ c.args.b c.in-Some.block used (rw c.in-Some.is at c.index_mut.ensures.value) c.self.invariant in
     (IsKept-put s.slots.items s.given.items s.size _ _ c.args.b _ size used c.self.invariant).sound
+
+pub returns-clause-count : goal.returns-clause-count
+returns-clause-count c =
+    let s = c.self.inside in
+    let used = rw (← c.self.view_is) at c.requires in
+    let size = slot_size s.slots.items s.given.items s.size _ _ c.args.b c.in-Some.block used (rw c.in-Some.is at c.index_mut.ensures.value) c.self.invariant in
+    rw (← c.self.view_is)
+    (count-put s.slots.items s.given.items s.size _ _ c.args.b _ size used c.self.invariant)

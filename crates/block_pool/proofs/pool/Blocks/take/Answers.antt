@@ -1,5 +1,5 @@
 use Rattle.std.proofs.Common.{◌≡◌, ◌<◌, length, arith}
-use Rattle.block_pool.proofs.KeptLemmas.{IsKept-popped, IsKept-pushed, popped_slot, blocks_of-set, blocks_of-push, order-pushed}
+use Rattle.block_pool.proofs.KeptLemmas.{count-popped, count-pushed, IsKept-popped, IsKept-pushed, popped_slot, blocks_of-set, blocks_of-push, order-pushed}
 use Rattle.block_pool.proofs.pool.Blocks.take.Goals as goal
 
 pub index_mut-requires : goal.index_mut-requires
@@ -57,3 +57,17 @@ returns-clause-sound c =
     let room : length s.slots.items < s.size = omega (arith, s.slots.ok.0, c.self.invariant.within, c.if-b-self.false) in
     rw c.push_reserved.ensures.items
     (IsKept-pushed s.slots.items s.given.items c.pop.new.self.items s.size _ _ _ c.zeroed-2.ensures.len c.in_default.ensures.items none room c.self.invariant).sound
+
+pub returns-in-Some-clause-count : goal.returns-in-Some-clause-count
+returns-in-Some-clause-count c =
+    let s = c.self.inside in
+    rw (← c.self.view_is)
+    (count-popped s.slots.items s.given.items _ s.size _ _ c.in-Some.b _ c.zeroed.ensures.len c.in-Some.ensures.items c.self.invariant)
+
+pub returns-clause-count : goal.returns-clause-count
+returns-clause-count c =
+    let s = c.self.inside in
+    let none : length s.given.items ≡ 0 = omega (arith, s.given.ok.0, c.in_default.ensures.cases.0) in
+    let room : length s.slots.items < s.size = omega (arith, s.slots.ok.0, c.self.invariant.within, c.if-b-self.false) in
+    rw (c.push_reserved.ensures.items, ← c.self.view_is)
+    (count-pushed s.slots.items s.given.items c.pop.new.self.items s.size _ _ _ c.zeroed-2.ensures.len c.in_default.ensures.items none room c.self.invariant)
