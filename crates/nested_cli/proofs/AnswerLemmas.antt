@@ -1,5 +1,5 @@
 -- Answers that come after the words were found lawful.
-use Rattle.std.proofs.Common.{◌≡◌, ◌≢◌, ℕ, List, Option, None}
+use Rattle.std.proofs.Common.{◌≡◌, ◌≢◌, ℕ, List, None}
 use Rattle.nested_cli.specs.declared.done.Done.{Done}
 use Rattle.nested_cli.specs.declared.done.Done.TheVariants.{Exited, Faulted, Usage, NoInput, ElfRefused, WriteFault, ShelfFault, NoMemory, NotBuilt}
 use Rattle.nested_cli.specs.Usage.{usage_of}

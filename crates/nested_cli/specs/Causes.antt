@@ -1,5 +1,5 @@
 -- What an answer says of its cause, and what it leaves.
-use Rattle.std.specs.Prelude.{◌≡◌, ◌≢◌, ℕ, ◌⊎◌, ◌++◌, List, [], ◌∷◌, Option, Some, None, ⊤, codes, Bool, true, false}
+use Rattle.std.specs.Prelude.{◌≡◌, ◌≢◌, ℕ, ◌⊎◌, List, Option, Some, None, ⊤, codes, Bool, true, false}
 use Rattle.std.specs.Io.KnownBytes.{Appends}
 use Rattle.elf_reader.specs.Header.{IsTooShort, HasMagic}
 use Rattle.elf_reader.specs.declared.elf_fault.ElfFault.{ElfFault}
@@ -7,7 +7,7 @@ use Rattle.nv_outside.specs.Gains.{AppendsPart}
 use Rattle.nv_outside.specs.Files.{Files, SameFiles, OthersStay}
 use Rattle.nested_cli.specs.declared.done.Done.{Done}
 use Rattle.nested_cli.specs.declared.done.Done.TheVariants.{Exited, Faulted, Usage, NoInput, ElfRefused, WriteFault, ShelfFault, NoMemory, NotBuilt}
-use Rattle.nested_cli.specs.Usage.{usage_of, word_of}
+use Rattle.nested_cli.specs.Usage.{usage_of}
 use Rattle.nested_cli.specs.Line.{line_of}
 
 abbrev pub elf_fault : ℕ → ElfFault

@@ -1,5 +1,5 @@
 -- The status of an answer, and its line on error output.
-use Rattle.std.specs.Prelude.{◌≡◌, ℕ, ◌+◌, ◌*◌, ◌/◌, ◌%◌, ◌^◌, ◌++◌, List, [], ◌∷◌, codes, decimal, if◌then◌else◌, nat_lt}
+use Rattle.std.specs.Prelude.{ℕ, ◌+◌, ◌/◌, ◌%◌, ◌^◌, ◌++◌, List, [], ◌∷◌, codes, decimal, if◌then◌else◌, nat_lt}
 use Rattle.std.specs.Int.{cast_unsigned, w32}
 use Rattle.nv_events.specs.declared.fault.Fault.{Fault}
 use Rattle.elf_reader.specs.declared.elf_fault.ElfFault.{ElfFault}

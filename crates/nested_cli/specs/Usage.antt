@@ -1,5 +1,5 @@
 -- The words after the program's name: `go IN`.
-use Rattle.std.specs.Prelude.{◌≡◌, ℕ, Bool, true, false, not, ◌==◌, if◌then◌else◌, List, [], ◌∷◌, Option, Some, None, codes, bytes_eq, map, string_bytes, String, slice_get, unwrap_or}
+use Rattle.std.specs.Prelude.{ℕ, Bool, false, not, ◌==◌, if◌then◌else◌, List, [], ◌∷◌, Option, Some, None, codes, bytes_eq, map, string_bytes, String, slice_get, unwrap_or}
 use Rattle.std.specs.declared.alloc.Global.{Global}
 
 -- the texts of the words

@@ -31,9 +31,9 @@ struct Case<'a> {
     words: &'a [&'a str],
     /// The bytes of the file `a`.
     file: Option<&'a [u8]>,
-    /// The calls of the shelf and of error output that fail.
-    shelf_fails: &'a [u64],
-    err_fails: &'a [u64],
+    /// The call of the shelf and of error output that fails; 0: none.
+    shelf_fails: u64,
+    err_fails: u64,
     done: Done,
     line: &'a str,
     stored: bool,
@@ -45,13 +45,13 @@ fn check(rt: &(impl Abort + AllocGlobal), case: &Case<'_>) -> Result<(), Fail> {
     for word in case.words {
         words.push(String::from_str(alloc, word)?)?;
     }
-    let mut shelf = MemShelf::new(alloc, case.shelf_fails.to_vec(alloc)?);
+    let mut shelf = MemShelf::new(alloc, [case.shelf_fails].to_vec(alloc)?);
     if let Some(file) = case.file {
         shelf.add("a", file)?;
     }
     let mut input = MemSource::new(Vec::new(alloc), Vec::new(alloc));
     let mut out = MemSink::new(alloc, 0, Vec::new(alloc))?;
-    let mut err = MemSink::new(alloc, 100, case.err_fails.to_vec(alloc)?)?;
+    let mut err = MemSink::new(alloc, 100, [case.err_fails].to_vec(alloc)?)?;
     let done = nested(
         alloc,
         words.as_slice(),
@@ -68,14 +68,12 @@ fn check(rt: &(impl Abort + AllocGlobal), case: &Case<'_>) -> Result<(), Fail> {
     Ok(())
 }
 
-const NO_CALLS: &[u64] = &[];
-
 fn expect<'a>(words: &'a [&'a str], file: Option<&'a [u8]>, done: Done, line: &'a str) -> Case<'a> {
     Case {
         words,
         file,
-        shelf_fails: NO_CALLS,
-        err_fails: NO_CALLS,
+        shelf_fails: 0,
+        err_fails: 0,
         done,
         line,
         stored: false,
@@ -157,7 +155,7 @@ fn no_failed_call_is_passed_over(rt: HostRuntime) -> Result<(), Fail> {
     check(
         &rt,
         &Case {
-            err_fails: &[1],
+            err_fails: 1,
             ..absent
         },
     )?;
@@ -166,7 +164,7 @@ fn no_failed_call_is_passed_over(rt: HostRuntime) -> Result<(), Fail> {
         check(
             &rt,
             &Case {
-                shelf_fails: &[call],
+                shelf_fails: call,
                 ..failed
             },
         )?;
