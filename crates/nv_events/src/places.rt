@@ -1,0 +1,18 @@
+/// Where a text of a call stands in the guest's memory.
+#[derive(Clone, Copy, Debug, PartialEq, Eq)]
+pub enum TextPlace {
+    /// The call has no such text.
+    Absent,
+    /// From this address up to the first byte 0.
+    Zero(u32),
+    /// From this address, this number of bytes.
+    Counted(u32, u32),
+}
+
+/// Where the texts of a call stand, and the room for its answer: an address and a number of bytes.
+#[derive(Clone, Copy, Debug, PartialEq, Eq)]
+pub struct Places {
+    pub text: TextPlace,
+    pub second: TextPlace,
+    pub room: Option<(u32, u32)>,
+}
