@@ -1,0 +1,4 @@
+pub mod LeadsLaws
+pub mod Progress
+pub mod Rooms
+pub mod RunLaws
