@@ -13,13 +13,15 @@ can_write-more m a n i h =
     rw e (ap (λ x. m.writable (a + i) && can_write m x (n - (i + 1))) f)
 
 -- a walk over the addresses of a range, one step on, and where it stops
-pub can_write-step : (m : Memory) (a n i : ℕ) → i < n → can_write m a n ≡ can_write m (a + i) (n - i) → m.writable (a + i) ≡ true → can_write m a n ≡ can_write m (a + (i + 1)) (n - (i + 1))
-can_write-step m a n i h so_far w =
-    so_far ∙ can_write-more m a n i h ∙ ap (λ x. x && can_write m (a + (i + 1)) (n - (i + 1))) w
+pub can_write-step : (m : Memory) (a n i at : ℕ) → i < n → can_write m a n ≡ can_write m (a + i) (n - i) → at ≡ a + i → true ≡ m.writable at → can_write m a n ≡ can_write m (a + (i + 1)) (n - (i + 1))
+can_write-step m a n i at h so_far e w =
+    let here : m.writable (a + i) ≡ true = ap m.writable (sym e) ∙ sym w in
+    so_far ∙ can_write-more m a n i h ∙ ap (λ x. x && can_write m (a + (i + 1)) (n - (i + 1))) here
 
-pub can_write-stop : (m : Memory) (a n i : ℕ) → i < n → can_write m a n ≡ can_write m (a + i) (n - i) → m.writable (a + i) ≡ false → false ≡ can_write m a n
-can_write-stop m a n i h so_far w =
-    sym (so_far ∙ can_write-more m a n i h ∙ ap (λ x. x && can_write m (a + (i + 1)) (n - (i + 1))) w)
+pub can_write-stop : (m : Memory) (a n i at : ℕ) → i < n → can_write m a n ≡ can_write m (a + i) (n - i) → at ≡ a + i → false ≡ m.writable at → false ≡ can_write m a n
+can_write-stop m a n i at h so_far e w =
+    let here : m.writable (a + i) ≡ false = ap m.writable (sym e) ∙ sym w in
+    sym (so_far ∙ can_write-more m a n i h ∙ ap (λ x. x && can_write m (a + (i + 1)) (n - (i + 1))) here)
 
 pub writable_in : (m : Memory) (a n i : ℕ) → can_write m a n ≡ true → i < n → m.writable (a + i) ≡ true
 writable_in m a zero i h l = absurd (omega arith)

@@ -1,10 +1,10 @@
 -- Runs of machines, over any kind of system state.
-use Rattle.std.proofs.Common.{◌≡◌, ◌≢◌, ℕ, zero, suc, Bool, true, false, if◌then◌else◌, ◌+◌, ◌-◌, ◌≤◌, List, [], ◌∷◌, ◌++◌, Option, Some, None, refl, ap, subst, sym, ◌∙◌, arith}
+use Rattle.std.proofs.Common.{◌≡◌, ◌≢◌, ℕ, zero, suc, Bool, true, false, IsTrue, if◌then◌else◌, ◌+◌, ◌-◌, ◌≤◌, List, [], ◌∷◌, ◌++◌, Option, Some, None, refl, ap, subst, sym, ◌∙◌, arith}
 use Rattle.std.proofs.lemmas.List.{append_assoc, append-nil}
 use Rattle.nv_events.specs.Question.{Question}
 use Rattle.nv_events.specs.Answer.{Answer, fits, next_answer}
 use Rattle.nv_events.specs.Turn.{Turn, moves, ends, leaves, asks, End, exit, «fault», trap, outcome_of}
-use Rattle.nv_events.specs.Run.{Run, stops, asking, after, is_going, then_run, left_over, run_of}
+use Rattle.nv_events.specs.Run.{Run, stops, asking, after, is_going, then_run, left_over, IsRunOver, run_of}
 use Rattle.nv_events.specs.declared.outcome.Outcome.{Outcome}
 use Rattle.nv_events.specs.declared.outcome.Outcome.TheVariants.{Exited, Faulted, Trapped, Waiting, Going}
 
@@ -136,3 +136,34 @@ run_of-more {S} turn (suc n) s answers more runs =
     first (answers ++ more)
     ∙ turned-more (turn s) s answers more (run_of turn next_answer n) (λ t left. run_of-more turn n t left more) (subst (λ (r : Run S (List Answer)). r.outcome ≢ Waiting) (first answers) runs)
     ∙ ap (λ r. left_over r more) (sym (first answers))
+
+-- A run over system states is a run over the answers that they give, where these fit.
+
+given-list : {S K : Type 0} (got : Option (Answer × K)) (q : Question) (next : Answer → S) (s : S) (k : K) (go : S → K → Run S K) (over : S → List Answer → Run S (List Answer)) → ((a : Answer) (l : K) → got ≡ Some (a, l) → IsTrue (fits a q)) → ((t : S) (l : K) → (answers : List Answer) × IsRunOver (go t l) (over t answers)) → (answers : List Answer) × IsRunOver (given got q next s k go) (given (next_answer answers q) q next s answers over)
+given-list None q next s k go over fitting h =
+    ([], record { questions = refl; outcome = refl; last = refl; used = refl })
+given-list {S} {K} (Some got) q next s k go over fitting h =
+    let rest = h (next got.0) got.1 in
+    let r = rest.1 in
+    let all = got.0 ∷ rest.0 in
+    let asked : IsRunOver (asking q (go (next got.0) got.1)) (asking q (over (next got.0) rest.0)) = record { questions = ap (λ qs. q ∷ qs) r.questions; outcome = r.outcome; last = r.last; used = r.used } in
+    let e : next_answer all q ≡ Some (got.0, rest.0) = ap (λ b. if b then Some (got.0, rest.0) else None) (fitting got.0 got.1 refl) in
+    (all, subst (λ (y : Option (Answer × List Answer)). IsRunOver (asking q (go (next got.0) got.1)) (given y q next s all over)) (sym e) asked)
+
+turned-list : {S K : Type 0} (reply : K → Question → Option (Answer × K)) (x : Turn S) (s : S) (k : K) (go : S → K → Run S K) (over : S → List Answer → Run S (List Answer)) → ((l m : K) (q : Question) (a : Answer) → reply l q ≡ Some (a, m) → IsTrue (fits a q)) → ((t : S) (l : K) → (answers : List Answer) × IsRunOver (go t l) (over t answers)) → (answers : List Answer) × IsRunOver (turned reply x s k go) (turned next_answer x s answers over)
+turned-list reply (moves t) s k go over fitting h = h t k
+turned-list reply (ends e) s k go over fitting h =
+    ([], record { questions = refl; outcome = refl; last = refl; used = refl })
+turned-list reply (leaves q e) s k go over fitting h =
+    ([], record { questions = refl; outcome = refl; last = refl; used = refl })
+turned-list reply (asks q next) s k go over fitting h =
+    given-list (reply k q) q next s k go over (λ a l. fitting k l q a) h
+
+pub run_of-list : {S K : Type 0} (turn : S → Turn S) (reply : K → Question → Option (Answer × K)) → ((k l : K) (q : Question) (a : Answer) → reply k q ≡ Some (a, l) → IsTrue (fits a q)) → (n : ℕ) (s : S) (k : K) → (answers : List Answer) × IsRunOver (run_of turn reply n s k) (run_of turn next_answer n s answers)
+run_of-list turn reply fitting zero s k =
+    ([], record { questions = refl; outcome = refl; last = refl; used = refl })
+run_of-list {S} {K} turn reply fitting (suc n) s k =
+    let by_turn = turned-list reply (turn s) s k (run_of turn reply n) (run_of turn next_answer n) fitting (run_of-list turn reply fitting n) in
+    let answers = by_turn.0 in
+    let over = subst (λ (r : Run S (List Answer)). IsRunOver (turned reply (turn s) s k (run_of turn reply n)) r) (sym (run_of-suc turn next_answer n s answers)) by_turn.1 in
+    (answers, subst (λ (r : Run S K). IsRunOver r (run_of turn next_answer (suc n) s answers)) (sym (run_of-suc turn reply n s k)) over)

@@ -6,6 +6,7 @@ mod call_places;
 mod call_table;
 mod fault;
 mod io_fault;
+pub mod laws;
 mod machine;
 mod outcome;
 mod patch;
@@ -29,3 +30,6 @@ pub use scripted::Scripted;
 pub use server::Server;
 pub use text_place::TextPlace;
 pub use view::View;
+
+#[cfg(test)]
+mod tests;
