@@ -1,0 +1,7 @@
+pub mod Memory
+pub mod Question
+pub mod Answer
+pub mod Turn
+pub mod Run
+pub mod Serving
+pub mod Replies

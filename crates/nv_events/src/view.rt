@@ -1,0 +1,38 @@
+ghost use Rattle.std.specs.Prelude.{◌≡◌, ◌≤◌, ◌<◌, ◌^◌, ℕ, Option, None, IsTrue, is_some, if◌then◌else◌};
+ghost use Rattle.nv_events.specs.Memory.{Memory};
+
+/// A memory of bytes, as a server sees it at a call. None of its calls takes memory.
+pub trait View {
+    /// What the view holds, as plain data.
+    ghost Content: { Type 0 };
+
+    ghost content: { Self → Content };
+
+    /// The bytes that can be read, and the addresses that may be written.
+    ghost memory: { Content → Memory };
+
+    /// What a byte put at an address leaves.
+    ghost put_at: { Content → ℕ → ℕ → Content };
+
+    /// The byte at an address; None where it cannot be read.
+    fn byte(&self, at: u32) -> Option<u8>
+        ensures { result ≡ (memory (content self.now)).byte at };
+
+    fn writable(&self, at: u32) -> bool
+        ensures { result ≡ (memory (content self.now)).writable at };
+
+    /// Puts a byte where the address may be written; otherwise answers false and changes nothing.
+    fn put(&mut self, at: u32, b: u8) -> bool
+        ensures answer { result ≡ (memory (content self.old)).writable at }
+        ensures after { content self.new ≡ (if result then put_at (content self.old) at b else content self.old) };
+
+    /// What may be written can be read.
+    ghost written_is_readable: { (c : Content) (a : ℕ) → IsTrue ((memory c).writable a) → IsTrue (is_some ((memory c).byte a)) };
+
+    /// Addresses end at 2^32.
+    ghost ends: { (c : Content) (a : ℕ) → 2 ^ 32 ≤ a → (memory c).byte a ≡ None };
+
+    ghost readable_stays: { (c : Content) (a b x : ℕ) → b < 256 → IsTrue ((memory c).writable a) → is_some ((memory (put_at c a b)).byte x) ≡ is_some ((memory c).byte x) };
+
+    ghost writable_stays: { (c : Content) (a b x : ℕ) → b < 256 → IsTrue ((memory c).writable a) → (memory (put_at c a b)).writable x ≡ (memory c).writable x };
+}
