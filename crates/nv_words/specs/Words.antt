@@ -1,5 +1,5 @@
 -- Words of 32 bits: their two's complement values, their four bytes, and the numbers that stand in a list of bytes.
-use Rattle.std.specs.Prelude.{ℕ, ℤ, pos, ◌+◌, ◌-◌, ◌*◌, ◌/◌, ◌%◌, ◌^◌, ◌<◌, ◌-ℤ◌, nat_lt, if◌then◌else◌, List, slice_index}
+use Rattle.std.specs.Prelude.{ℕ, ℤ, pos, negsuc, suc, ◌+◌, ◌-◌, ◌*◌, ◌/◌, ◌%◌, ◌^◌, ◌<◌, ◌-ℤ◌, nat_lt, if◌then◌else◌, List, [], ◌∷◌, ◌++◌, length, take, drop, slice_index}
 use Rattle.nv_words.specs.declared.order.Order.{Order}
 use Rattle.nv_words.specs.declared.order.Order.TheVariants.{Big, Little}
 
@@ -10,6 +10,11 @@ IsWord w = w < 2 ^ 32
 -- the word as a two's complement number
 abbrev pub signed_of : ℕ → ℤ
 signed_of w = if nat_lt w (2 ^ 31) then pos w else pos w -ℤ pos (2 ^ 32)
+
+-- the word whose two's complement number is z, for z of 32 bits
+abbrev pub unsigned_of : ℤ → ℕ
+unsigned_of (pos n) = n
+unsigned_of (negsuc n) = 2 ^ 32 - suc n
 
 -- lane i of a word, for i below 4: one of its four bytes, lane 0 the most significant
 abbrev pub lane_of_word : ℕ → ℕ → ℕ
@@ -43,3 +48,15 @@ word_of_list Big bs at =
     word_of_bytes (slice_index bs at) (slice_index bs (at + 1)) (slice_index bs (at + 2)) (slice_index bs (at + 3))
 word_of_list Little bs at =
     word_of_bytes (slice_index bs (at + 3)) (slice_index bs (at + 2)) (slice_index bs (at + 1)) (slice_index bs at)
+
+-- the two bytes of a half-word, the more significant first
+abbrev pub bytes_of_half : ℕ → List ℕ
+bytes_of_half h = h / 2 ^ 8 % 2 ^ 8 ∷ h % 2 ^ 8 ∷ []
+
+-- the four bytes of a word, the most significant first
+abbrev pub bytes_of_word : ℕ → List ℕ
+bytes_of_word w = lane_of_word w 0 ∷ lane_of_word w 1 ∷ lane_of_word w 2 ∷ lane_of_word w 3 ∷ []
+
+-- the list with these items in place of as many from a place
+abbrev pub list_with : List ℕ → ℕ → List ℕ → List ℕ
+list_with bs at items = take at bs ++ items ++ drop (at + length items) bs
