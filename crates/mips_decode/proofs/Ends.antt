@@ -1,0 +1,87 @@
+-- Worked programs that leave, wait or go on.
+use Rattle.std.proofs.Common.{◌≡◌, refl, ℕ, zero, suc, ◌+◌, List, [], ◌∷◌, ◌++◌, map, length, ℤ, pos, negsuc}
+use Rattle.nv_events.specs.Question.{Question, Text, no_text, unreadable, bytes, Room, missing, there}
+use Rattle.nv_events.specs.Answer.{next_answer}
+use Rattle.nv_events.specs.Run.{run_of}
+use Rattle.nv_events.specs.declared.outcome.Outcome.TheVariants.{Exited, Faulted, Waiting, Going}
+use Rattle.mips_decode.specs.State.{register}
+use Rattle.mips_decode.specs.Step.{turn}
+use Rattle.mips_decode.specs.Table.{inst}
+use Rattle.mips_decode.proofs.Programs.{run, started, value, numbers}
+
+-- addiu $2,$0,1; addiu $4,$0,7; syscall: four steps, of which the first is the loader's call
+abbrev seven : List ℕ
+seven = 0x24020001 ∷ 0x24040007 ∷ 0x0000000c ∷ []
+
+seven_goes : (run seven 3 []).outcome ≡ Going
+unfolding inst
+seven_goes = refl
+
+seven_exits : (run seven 4 []).outcome ≡ Exited (pos 7)
+unfolding inst
+seven_exits = refl
+
+seven_asks : numbers (run seven 4 []) ≡ 0 ∷ 1 ∷ []
+unfolding inst
+seven_asks = refl
+
+-- without an answer the run waits, with the loader's question made: a room of 4,096 bytes in the argument page
+seven_waits : (run_of turn next_answer 1 (started seven) []).outcome ≡ Waiting
+unfolding inst
+seven_waits = refl
+
+seven_rooms : map (λ (q : Question). q.room) (run_of turn next_answer 1 (started seven) []).questions ≡ there 0x7fff_f000 4096 ∷ []
+unfolding inst
+seven_rooms = refl
+
+-- a word that is no instruction does no harm where it is not executed
+reserved_behind : (run (seven ++ 0xfc000000 ∷ []) 4 []).outcome ≡ Exited (pos 7)
+unfolding inst
+reserved_behind = refl
+
+-- a jump to the delay slot of a branch: the slot runs alone, and then straight on
+slot_alone : (run (0x3c080040 ∷ 0x35080014 ∷ 0x01000008 ∷ 0x24040000 ∷ 0x10000003 ∷ 0x24840005 ∷ 0x24840001 ∷ 0x24020001 ∷ 0x0000000c ∷ []) 9 []).outcome ≡ Exited (pos 6)
+unfolding inst
+slot_alone = refl
+
+-- a product by 0 leaves the dividend in HI and all ones in LO: 7 + FFFFFFFF is 6
+zero_divisor : (run (0x24080007 ∷ 0x0100001a ∷ 0x00004812 ∷ 0x00002010 ∷ 0x00892021 ∷ 0x24020001 ∷ 0x0000000c ∷ []) 8 []).outcome ≡ Exited (pos 6)
+unfolding inst
+zero_divisor = refl
+
+-- 80000000 by FFFFFFFF, with signs and without
+least_divided : ℕ → List ℕ
+least_divided divide = 0x3c088000 ∷ 0x2409ffff ∷ divide ∷ []
+
+signed_lo : (run (least_divided 0x0109001a) 4 []).last.lo ≡ 0x80000000
+unfolding least_divided inst
+signed_lo = refl
+
+signed_hi : (run (least_divided 0x0109001a) 4 []).last.hi ≡ 0
+unfolding least_divided inst
+signed_hi = refl
+
+unsigned_lo : (run (least_divided 0x0109001b) 4 []).last.lo ≡ 0
+unfolding least_divided inst
+unsigned_lo = refl
+
+unsigned_hi : (run (least_divided 0x0109001b) 4 []).last.hi ≡ 0x80000000
+unfolding least_divided inst
+unsigned_hi = refl
+
+-- ADDU does not overflow: 7FFFFFFF + 1 shifted right by 24 is 128
+sum_wraps : (run (0x3c087fff ∷ 0x3508ffff ∷ 0x24090001 ∷ 0x01095021 ∷ 0x000a2602 ∷ 0x24020001 ∷ 0x0000000c ∷ []) 8 []).outcome ≡ Exited (pos 128)
+unfolding inst
+sum_wraps = refl
+
+-- a write of eight bytes of which four stand past the last address that can be read: it is answered -14, and the program leaves with 14
+abbrev past_end : List ℕ
+past_end = 0x3c057fff ∷ 0x34a5fffc ∷ 0x24060008 ∷ 0x24040001 ∷ 0x24020005 ∷ 0x0000000c ∷ 0x00022023 ∷ 0x24020001 ∷ 0x0000000c ∷ []
+
+past_end_exits : (run past_end 10 (value (negsuc 13) ∷ [])).outcome ≡ Exited (pos 14)
+unfolding inst
+past_end_exits = refl
+
+past_end_asks : map (λ (q : Question). q.text) (run past_end 7 []).questions ≡ no_text ∷ unreadable ∷ []
+unfolding inst
+past_end_asks = refl
