@@ -1,10 +1,10 @@
 -- Worked programs that leave, wait or go on.
-use Rattle.std.proofs.Common.{◌≡◌, refl, ℕ, zero, suc, ◌+◌, List, [], ◌∷◌, ◌++◌, map, length, ℤ, pos, negsuc}
-use Rattle.nv_events.specs.Question.{Question, Text, no_text, unreadable, bytes, Room, missing, there}
+use Rattle.std.proofs.Common.{◌≡◌, refl, ℕ, zero, suc, List, [], ◌∷◌, ◌++◌, map, pos, negsuc}
+use Rattle.nv_events.specs.Question.{Question, no_text, unreadable, bytes, missing, there}
 use Rattle.nv_events.specs.Answer.{next_answer}
 use Rattle.nv_events.specs.Run.{run_of}
-use Rattle.nv_events.specs.declared.outcome.Outcome.TheVariants.{Exited, Faulted, Waiting, Going}
-use Rattle.mips_decode.specs.State.{register}
+use Rattle.nv_events.specs.declared.outcome.Outcome.TheVariants.{Exited, Waiting, Going}
+use Rattle.nv_events.specs.declared.outcome.Outcome.{Outcome}
 use Rattle.mips_decode.specs.Step.{turn}
 use Rattle.mips_decode.specs.Table.{inst}
 use Rattle.mips_decode.proofs.Programs.{run, started, value, numbers}
@@ -82,6 +82,54 @@ past_end_exits : (run past_end 10 (value (negsuc 13) ∷ [])).outcome ≡ Exited
 unfolding inst
 past_end_exits = refl
 
+-- its text cannot be read
 past_end_asks : map (λ (q : Question). q.text) (run past_end 7 []).questions ≡ no_text ∷ unreadable ∷ []
 unfolding inst
 past_end_asks = refl
+
+-- a read of one byte from descriptor 0 into the code: the question has no room, and the answer is -14
+read_code : List ℕ
+read_code = 0x3c050040 ∷ 0x24060001 ∷ 0x24020004 ∷ 0x0000000c ∷ 0x00022023 ∷ 0x24020001 ∷ 0x0000000c ∷ []
+
+read_code_asks : map (λ (q : Question). q.room) (run read_code 5 []).questions ≡ there 0x7fff_f000 4096 ∷ missing ∷ []
+unfolding read_code inst
+read_code_asks = refl
+
+read_code_exits : (run read_code 8 (value (negsuc 13) ∷ [])).outcome ≡ Exited (pos 14)
+unfolding read_code inst
+read_code_exits = refl
+
+-- an answer with a byte for which there is no room counts as none
+read_code_waits : (run read_code 8 (record { value = pos 1; patch = 65 ∷ [] } ∷ [])).outcome ≡ Waiting
+unfolding read_code inst
+read_code_waits = refl
+
+-- a write of no bytes: its text is empty
+write_nothing_asks : map (λ (q : Question). q.text) (run (0x24040001 ∷ 0x24020005 ∷ 0x0000000c ∷ []) 4 []).questions ≡ no_text ∷ bytes [] ∷ []
+unfolding inst
+write_nothing_asks = refl
+
+-- a branch to itself goes on at each bound
+endless : ℕ → Outcome
+endless n = (run (0x1000ffff ∷ 0x00000000 ∷ []) n []).outcome
+
+endless_0 : endless 0 ≡ Going
+unfolding endless inst
+endless_0 = refl
+
+endless_1 : endless 1 ≡ Going
+unfolding endless inst
+endless_1 = refl
+
+endless_1000 : endless 1000 ≡ Going
+unfolding endless inst
+endless_1000 = refl
+
+-- a branch to the word after its slot, with 1 added to $4 in the slot, a thousand times: $4 begins at 1
+chain : ℕ → List ℕ
+chain zero = 0x24020001 ∷ 0x0000000c ∷ []
+chain (suc n) = 0x10000001 ∷ 0x24840001 ∷ chain n
+
+chain_exits : (run (chain 1000) 2003 []).outcome ≡ Exited (pos 1001)
+unfolding chain inst
+chain_exits = refl

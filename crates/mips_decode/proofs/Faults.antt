@@ -1,5 +1,5 @@
 -- Worked programs that end in a fault: its kind, the address of the instruction, and its value.
-use Rattle.std.proofs.Common.{◌≡◌, refl, ℕ, List, [], ◌∷◌, ◌++◌, pos, negsuc}
+use Rattle.std.proofs.Common.{◌≡◌, refl, ℕ, List, [], ◌∷◌, negsuc}
 use Rattle.nv_events.specs.declared.outcome.Outcome.{Outcome}
 use Rattle.nv_events.specs.declared.outcome.Outcome.TheVariants.{Faulted}
 use Rattle.mips_decode.specs.Effect.{fetch_fault, pc_align_fault, read_unmapped_fault, write_refused_fault, read_align_fault, write_align_fault, overflow_fault, break_fault, reserved_fault, branch_in_slot_fault}

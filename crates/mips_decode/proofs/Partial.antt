@@ -1,6 +1,6 @@
 -- LWL, LWR, SWL and SWR in programs: the memory word 11223344 and the register AABBCCDD, at each of the four bytes of a word.
 use Rattle.std.proofs.Common.{◌≡◌, refl, ℕ, ◌+◌, List, [], ◌∷◌, map}
-use Rattle.nv_words.specs.declared.order.Order.TheVariants.{Big, Little}
+use Rattle.nv_words.specs.declared.order.Order.TheVariants.{Big}
 use Rattle.mips_decode.specs.Memory.{word_at}
 use Rattle.mips_decode.specs.State.{State, register}
 use Rattle.mips_decode.specs.Table.{inst}

@@ -1,5 +1,5 @@
 -- Programs of a few words at 00400000, and their runs from the start over a list of answers.
-use Rattle.std.proofs.Common.{ℕ, ◌+◌, ◌-◌, ◌*◌, ◌/◌, ◌%◌, ◌^◌, Bool, ◌&&◌, ◌==◌, nat_lt, nat_le, if◌then◌else◌, List, [], ◌∷◌, Option, Some, None, ℤ, pos, slice_get, map}
+use Rattle.std.proofs.Common.{ℕ, ◌+◌, ◌-◌, ◌/◌, ◌%◌, Bool, ◌&&◌, ◌==◌, nat_lt, nat_le, if◌then◌else◌, List, [], ◌∷◌, Option, Some, None, ℤ, pos, slice_get, map}
 use Rattle.nv_events.specs.Memory.{Memory}
 use Rattle.nv_events.specs.Question.{Question}
 use Rattle.nv_events.specs.Answer.{Answer, next_answer}
