@@ -5,6 +5,7 @@ use Rattle.nv_events.specs.Answer.{next_answer}
 use Rattle.nv_events.specs.Run.{run_of}
 use Rattle.nv_events.specs.declared.outcome.Outcome.TheVariants.{Exited, Waiting, Going}
 use Rattle.nv_events.specs.declared.outcome.Outcome.{Outcome}
+use Rattle.mips_decode.specs.State.{register}
 use Rattle.mips_decode.specs.Step.{turn}
 use Rattle.mips_decode.specs.Table.{inst}
 use Rattle.mips_decode.proofs.Programs.{run, started, value, numbers}
@@ -33,6 +34,19 @@ seven_waits = refl
 seven_rooms : map (λ (q : Question). q.room) (run_of turn next_answer 1 (started seven) []).questions ≡ there 0x7fff_f000 4096 ∷ []
 unfolding inst
 seven_rooms = refl
+
+-- the start, and the loader's call: its four words, and the registers and pc after it
+start_registers : map (register (started seven)) (0 ∷ 4 ∷ 5 ∷ 28 ∷ 29 ∷ 30 ∷ []) ≡ 0 ∷ 0 ∷ 0 ∷ 0 ∷ 0x7fff_eff0 ∷ 0 ∷ []
+start_registers = refl
+
+loader_words : map (λ (q : Question). q.a0 ∷ q.a1 ∷ q.a2 ∷ q.a3 ∷ []) (run seven 1 []).questions ≡ (0x7fff_f000 ∷ 0x00401000 ∷ 4096 ∷ 0 ∷ []) ∷ []
+loader_words = refl
+
+loaded_registers : map (register (run seven 1 []).last) (2 ∷ 4 ∷ 5 ∷ 29 ∷ []) ≡ 0 ∷ 1 ∷ 0x7fff_f000 ∷ 0x7fff_eff0 ∷ []
+loaded_registers = refl
+
+loaded_pc : (run seven 1 []).last.pc ≡ 0x00400000
+loaded_pc = refl
 
 -- a word that is no instruction does no harm where it is not executed
 reserved_behind : (run (seven ++ 0xfc000000 ∷ []) 4 []).outcome ≡ Exited (pos 7)

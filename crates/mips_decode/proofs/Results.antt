@@ -1,21 +1,17 @@
--- Single instructions at the values where a slip shows: signs, links, slots.
-use Rattle.std.proofs.Common.{◌≡◌, refl, ℕ, List, [], ◌∷◌, map, pos, negsuc, Some, None}
-use Rattle.nv_events.specs.declared.outcome.Outcome.TheVariants.{Exited}
-use Rattle.nv_words.specs.declared.order.Order.{Order}
-use Rattle.nv_words.specs.declared.order.Order.TheVariants.{Big, Little}
-use Rattle.nv_events.specs.Memory.{Memory}
-use Rattle.mips_decode.specs.Memory.{with_word, word_at}
-use Rattle.mips_decode.specs.Arithmetic.{arithmetic_result, arithmetic_immediate_result, shifted, variable_shifted, product_hi, product_lo}
-use Rattle.mips_decode.specs.Loads.{loaded, stored}
-use Rattle.mips_decode.specs.Table.{inst}
-use Rattle.mips_decode.specs.declared.names.arithmetic_name.ArithmeticName.TheVariants.{Add, Sub, Subu, Nor, Slt, Sltu}
+-- Results of single instructions at the values where a slip shows, and the conditions and targets of branches.
+use Rattle.std.proofs.Common.{◌≡◌, refl, [], ◌∷◌, true, false, map, pos, negsuc, Some, None}
+use Rattle.mips_decode.specs.Arithmetic.{arithmetic_result, arithmetic_immediate_result, logical_immediate_result, shifted, variable_shifted, product_hi, product_lo}
+use Rattle.mips_decode.specs.Branches.{equal_taken, zero_taken, sign_taken, jump_target, branch_target}
+use Rattle.mips_decode.specs.declared.names.logical_immediate_name.LogicalImmediateName.TheVariants.{Andi, Ori, Xori}
+use Rattle.mips_decode.specs.declared.names.branch_equal_name.BranchEqualName.TheVariants.{Beq, Bne}
+use Rattle.mips_decode.specs.declared.names.branch_zero_name.BranchZeroName.TheVariants.{Blez, Bgtz}
+use Rattle.mips_decode.specs.declared.names.branch_sign_name.BranchSignName.TheVariants.{Bltz, Bgez, Bltzal, Bgezal}
+use Rattle.mips_decode.specs.declared.names.arithmetic_name.ArithmeticName.TheVariants.{Add, Sub, Subu, And, Or, Xor, Nor, Slt, Sltu}
 use Rattle.mips_decode.specs.declared.names.arithmetic_immediate_name.ArithmeticImmediateName.TheVariants.{Addi, Slti, Sltiu}
 use Rattle.mips_decode.specs.declared.names.shift_name.ShiftName.TheVariants.{Sll, Srl, Sra}
 use Rattle.mips_decode.specs.declared.names.variable_shift_name.VariableShiftName.TheVariants.{Srav}
 use Rattle.mips_decode.specs.declared.names.product_name.ProductName.TheVariants.{Mult, Multu, Div, Divu}
-use Rattle.mips_decode.specs.declared.names.load_name.LoadName.TheVariants.{Lb, Lh, Lwl, Lw, Lbu, Lhu, Lwr}
-use Rattle.mips_decode.specs.declared.names.store_name.StoreName.TheVariants.{Sb, Sh, Swl, Swr}
-use Rattle.mips_decode.proofs.Programs.{run, value, program_memory}
+use Rattle.mips_decode.proofs.Programs.{started}
 
 -- signed overflow at both ends, and just within
 sums : map (arithmetic_result Add 0x7fffffff) (0 ∷ 1 ∷ 0xffffffff ∷ []) ≡ Some 0x7fffffff ∷ None ∷ Some 0x7ffffffe ∷ []
@@ -73,71 +69,36 @@ remainders = refl
 zero_divisors : product_hi Div 7 0 ∷ product_lo Div 7 0 ∷ product_hi Divu 7 0 ∷ product_lo Divu 7 0 ∷ [] ≡ 7 ∷ 0xffffffff ∷ 7 ∷ 0xffffffff ∷ []
 zero_divisors = refl
 
--- ---- memory, in both orders: the word 80FF7F01 at 7FFFE000
+logic : arithmetic_result And 12 10 ∷ arithmetic_result Or 12 10 ∷ arithmetic_result Xor 12 10 ∷ [] ≡ Some 8 ∷ Some 14 ∷ Some 6 ∷ []
+logic = refl
 
-abbrev memory_in : Order → Memory
-memory_in order = with_word order (program_memory []) 0x7fffe000 0x80ff7f01
+-- the immediate of logic is extended by zeros
+logic_immediate : map (λ name. logical_immediate_result name 0xffff000c 0x800a) (Andi ∷ Ori ∷ Xori ∷ []) ≡ 8 ∷ 0xffff800e ∷ 0xffff8006 ∷ []
+logic_immediate = refl
 
-big_loads : map (λ name. loaded name Big (memory_in Big) 0x7fffe000 0) (Lb ∷ Lbu ∷ Lh ∷ Lhu ∷ Lw ∷ []) ≡ 0xffffff80 ∷ 0x80 ∷ 0xffff80ff ∷ 0x80ff ∷ 0x80ff7f01 ∷ []
-big_loads = refl
+-- ---- conditions and targets of branches
 
-little_loads : map (λ name. loaded name Little (memory_in Little) 0x7fffe000 0) (Lb ∷ Lbu ∷ Lh ∷ Lhu ∷ Lw ∷ []) ≡ 1 ∷ 1 ∷ 0x7f01 ∷ 0x7f01 ∷ 0x80ff7f01 ∷ []
-little_loads = refl
+equal : map (λ name. equal_taken name 7 7) (Beq ∷ Bne ∷ []) ≡ true ∷ false ∷ []
+equal = refl
 
--- the word after a store of AABBCCDD at its second half
-abbrev word_after : Order → Memory → ℕ
-word_after order m = word_at order m 0x7fffe000
+unequal : map (λ name. equal_taken name 7 8) (Beq ∷ Bne ∷ []) ≡ false ∷ true ∷ []
+unequal = refl
 
-big_stores : map (λ name. word_after Big (stored name Big (memory_in Big) 0x7fffe002 0xaabbccdd)) (Sb ∷ Sh ∷ []) ≡ 0x80ffdd01 ∷ 0x80ffccdd ∷ []
-big_stores = refl
+at_most_zero : map (zero_taken Blez) (negsuc 0 ∷ pos 0 ∷ pos 1 ∷ []) ≡ true ∷ true ∷ false ∷ []
+at_most_zero = refl
 
-little_stores : map (λ name. word_after Little (stored name Little (memory_in Little) 0x7fffe002 0xaabbccdd)) (Sb ∷ Sh ∷ []) ≡ 0x80dd7f01 ∷ 0xccdd7f01 ∷ []
-little_stores = refl
+above_zero : map (zero_taken Bgtz) (negsuc 0 ∷ pos 0 ∷ pos 1 ∷ []) ≡ false ∷ false ∷ true ∷ []
+above_zero = refl
 
--- in little-endian order the left part goes from the start of the word up to the address, and the right part from there to its end
-abbrev offsets : List ℕ
-offsets = 0x7fffe000 ∷ 0x7fffe001 ∷ 0x7fffe002 ∷ 0x7fffe003 ∷ []
+below_zero : map (λ name. map (sign_taken name) (negsuc 0 ∷ pos 0 ∷ pos 1 ∷ [])) (Bltz ∷ Bltzal ∷ []) ≡ (true ∷ false ∷ false ∷ []) ∷ (true ∷ false ∷ false ∷ []) ∷ []
+below_zero = refl
 
-little_lwl : map (λ a. loaded Lwl Little (memory_in Little) a 0xaabbccdd) offsets ≡ 0x01bbccdd ∷ 0x7f01ccdd ∷ 0xff7f01dd ∷ 0x80ff7f01 ∷ []
-little_lwl = refl
+at_least_zero : map (λ name. map (sign_taken name) (negsuc 0 ∷ pos 0 ∷ pos 1 ∷ [])) (Bgez ∷ Bgezal ∷ []) ≡ (false ∷ true ∷ true ∷ []) ∷ (false ∷ true ∷ true ∷ []) ∷ []
+at_least_zero = refl
 
-little_lwr : map (λ a. loaded Lwr Little (memory_in Little) a 0xaabbccdd) offsets ≡ 0x80ff7f01 ∷ 0xaa80ff7f ∷ 0xaabb80ff ∷ 0xaabbcc80 ∷ []
-little_lwr = refl
+-- a jump stays in the 256 megabytes of the instruction after it
+jump_from_end : jump_target (record (started []) { pc = 0x0ffffffc }) 1 ≡ 0x10000004
+jump_from_end = refl
 
-little_swl : map (λ a. word_after Little (stored Swl Little (memory_in Little) a 0xaabbccdd)) offsets ≡ 0x80ff7faa ∷ 0x80ffaabb ∷ 0x80aabbcc ∷ 0xaabbccdd ∷ []
-little_swl = refl
-
-little_swr : map (λ a. word_after Little (stored Swr Little (memory_in Little) a 0xaabbccdd)) offsets ≡ 0xaabbccdd ∷ 0xbbccdd01 ∷ 0xccdd7f01 ∷ 0xddff7f01 ∷ []
-little_swr = refl
-
--- ---- links and slots, in programs that leave with $4
-
--- jalr $8,$8 goes to the old $8, and its link 00400010 is then there: it leaves with the link's low 16 bits
-jalr_target : (run (0x3c080040 ∷ 0x35080014 ∷ 0x01004009 ∷ 0x00000000 ∷ 0x0000000d ∷ 0x3104ffff ∷ 0x24020001 ∷ 0x0000000c ∷ []) 8 []).outcome ≡ Exited (pos 16)
-unfolding inst
-jalr_target = refl
-
--- bltzal $0 is not taken, and links
-not_taken_links : (run (0x04100003 ∷ 0x00000000 ∷ 0x33e4ffff ∷ 0x24020001 ∷ 0x0000000c ∷ []) 6 []).outcome ≡ Exited (pos 8)
-unfolding inst
-not_taken_links = refl
-
--- bgezal $31 is decided by the old $31, which is 0
-link_after_condition : (run (0x07f10003 ∷ 0x24040009 ∷ 0x0000000d ∷ 0x0000000d ∷ 0x24020001 ∷ 0x0000000c ∷ []) 5 []).outcome ≡ Exited (pos 9)
-unfolding inst
-link_after_condition = refl
-
--- jal: the slot runs before the word at the target, and $31 is the address after it
-jal_links : (run (0x0c100004 ∷ 0x24040020 ∷ 0x0000000d ∷ 0x0000000d ∷ 0x009f2021 ∷ 0x3084ffff ∷ 0x24020001 ∷ 0x0000000c ∷ []) 7 []).outcome ≡ Exited (pos 40)
-unfolding inst
-jal_links = refl
-
--- a call in the slot of a taken branch: the answer comes, and the run goes on at the target
-call_in_slot : (run (0x24020007 ∷ 0x10000002 ∷ 0x0000000c ∷ 0x0000000d ∷ 0x00402021 ∷ 0x24020001 ∷ 0x0000000c ∷ []) 7 (value (negsuc 11) ∷ [])).outcome ≡ Exited (negsuc 11)
-unfolding inst
-call_in_slot = refl
-
--- register 0 keeps its 0
-zero_register : (run (0x24000007 ∷ 0x00002021 ∷ 0x24020001 ∷ 0x0000000c ∷ []) 5 []).outcome ≡ Exited (pos 0)
-unfolding inst
-zero_register = refl
+branch_back : branch_target (record (started []) { pc = 0x00400010 }) 0xfffe ≡ 0x0040000c
+branch_back = refl
