@@ -118,6 +118,11 @@ read_code_waits : (run read_code 8 (record { value = pos 1; patch = 65 ∷ [] } 
 unfolding read_code inst
 read_code_waits = refl
 
+-- a read of one byte into the heap: the answer's byte is there for the next load
+read_byte : (run (0x3c050040 ∷ 0x34a51000 ∷ 0x24060001 ∷ 0x24020004 ∷ 0x0000000c ∷ 0x90a40000 ∷ 0x24020001 ∷ 0x0000000c ∷ []) 9 (record { value = pos 1; patch = 65 ∷ [] } ∷ [])).outcome ≡ Exited (pos 65)
+unfolding inst
+read_byte = refl
+
 -- a write of no bytes: its text is empty
 write_nothing_asks : map (λ (q : Question). q.text) (run (0x24040001 ∷ 0x24020005 ∷ 0x0000000c ∷ []) 4 []).questions ≡ no_text ∷ bytes [] ∷ []
 unfolding inst

@@ -14,8 +14,8 @@ not_taken_links : (run (0x04100003 ∷ 0x00000000 ∷ 0x33e4ffff ∷ 0x24020001 
 unfolding inst
 not_taken_links = refl
 
--- bgezal $31 is decided by the old $31, which is 0
-link_after_condition : (run (0x07f10003 ∷ 0x24040009 ∷ 0x0000000d ∷ 0x0000000d ∷ 0x24020001 ∷ 0x0000000c ∷ []) 5 []).outcome ≡ Exited (pos 9)
+-- bltzal $31 is decided by the old $31, which is 80000000
+link_after_condition : (run (0x3c1f8000 ∷ 0x07f00003 ∷ 0x24040009 ∷ 0x0000000d ∷ 0x0000000d ∷ 0x24020001 ∷ 0x0000000c ∷ []) 6 []).outcome ≡ Exited (pos 9)
 unfolding inst
 link_after_condition = refl
 

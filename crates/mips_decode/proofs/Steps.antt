@@ -13,6 +13,14 @@ use Rattle.mips_decode.specs.declared.names.branch_sign_name.BranchSignName.TheV
 use Rattle.mips_decode.specs.declared.names.jump_name.JumpName.TheVariants.{J, Jal}
 use Rattle.mips_decode.specs.declared.names.hi_lo.HiLo.TheVariants.{Hi, Lo}
 
+-- ---- register 0
+
+pub register-zero : (s : State) → register s 0 ≡ 0
+register-zero s = refl
+
+pub with_register-zero : (s : State) (w : ℕ) → with_register s 0 w ≡ s
+with_register-zero s w = refl
+
 -- ---- the step by what stands at pc
 
 pub turn-loader : (s : State) → s.begun ≡ false → turn s ≡ asks (loader_question s) (after_loader s)
