@@ -4,3 +4,4 @@ pub mod Answer
 pub mod Turn
 pub mod Run
 pub mod Serving
+pub mod Replies

@@ -1,5 +1,5 @@
 -- A memory as a call of the program sees it: the byte at each address that can be read, and which addresses may be written.
-use Rattle.std.specs.Prelude.{◌≡◌, ℕ, zero, suc, ◌+◌, Bool, true, false, ◌&&◌, ◌==◌, if◌then◌else◌, List, [], ◌∷◌, Option, Some, None, option_map}
+use Rattle.std.specs.Prelude.{ℕ, zero, suc, ◌+◌, Bool, true, ◌&&◌, List, [], ◌∷◌, Option, Some, None, option_map}
 
 pub record Memory : Type 0 where
   pub byte : ℕ → Option ℕ

@@ -1,11 +1,11 @@
 -- What a call of the program shows to the system: its number and four words, the texts that its words point to, and the room for
 -- an answer. Calls are those of docs/CALLS.md.
-use Rattle.std.specs.Prelude.{◌≡◌, ℕ, zero, suc, Bool, true, ◌==◌, ◌||◌, if◌then◌else◌, List, [], ◌∷◌, Option, Some, None, ◌+◌}
+use Rattle.std.specs.Prelude.{ℕ, zero, suc, ◌==◌, if◌then◌else◌, List, [], ◌∷◌, Option, Some, None, ◌+◌}
 use Rattle.nv_events.specs.Memory.{Memory, bytes_from, can_write}
 use Rattle.nv_events.specs.declared.call.Call.{Call}
-use Rattle.nv_events.specs.declared.places.Places.{Places}
-use Rattle.nv_events.specs.declared.places.TextPlace.{TextPlace}
-use Rattle.nv_events.specs.declared.places.TextPlace.TheVariants.{Absent, Zero, Counted}
+use Rattle.nv_events.specs.declared.call_places.Places.{Places}
+use Rattle.nv_events.specs.declared.text_place.TextPlace.{TextPlace}
+use Rattle.nv_events.specs.declared.text_place.TextPlace.TheVariants.{Absent, Zero, Counted}
 
 -- a text as the system finds it
 pub data Text : Type 0 where

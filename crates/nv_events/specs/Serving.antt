@@ -19,6 +19,10 @@ pub record Counts : Type 0 where
   pub output : ℕ
   pub error : ℕ
 
+-- no fault at all
+abbrev pub none_counted : Counts
+none_counted = record { input = 0; output = 0; error = 0 }
+
 -- no count falls
 pub record NoneFalls (old new : Counts) : Type 0 where
   pub input : old.input ≤ new.input

@@ -4,7 +4,7 @@ use Rattle.nv_events.specs.Question.{Question}
 use Rattle.nv_events.specs.Answer.{Answer}
 use Rattle.nv_events.specs.declared.fault.Fault.{Fault}
 use Rattle.nv_events.specs.declared.outcome.Outcome.{Outcome}
-use Rattle.nv_events.specs.declared.outcome.Outcome.TheVariants.{Exited, Faulted, Trapped, Waiting, Going}
+use Rattle.nv_events.specs.declared.outcome.Outcome.TheVariants.{Exited, Faulted, Trapped}
 
 -- how a machine ends by itself
 pub data End : Type 0 where

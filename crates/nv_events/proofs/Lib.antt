@@ -1,0 +1,6 @@
+pub mod Examples
+pub mod LeadsLaws
+pub mod Progress
+pub mod Rooms
+pub mod RunLaws
+pub mod TurnLaws

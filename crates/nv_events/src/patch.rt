@@ -1,0 +1,54 @@
+//! A patch of bytes, and the room of a call that it is put into.
+
+ghost use Rattle.std.specs.Prelude.{◌≡◌, ℕ, Some, None, Option, IsTrue, length};
+ghost use Rattle.nv_events.specs.Memory.{can_write, patched};
+ghost use Rattle.nv_events.specs.Question.{room_at};
+ghost use Rattle.nv_events.specs.Answer.{fits_room, room_place};
+
+use crate::view::View;
+
+/// Whether each of the addresses from `place` on may be written; none stands past FFFFFFFF.
+fn all_writable<V: View>(view: &V, place: u32, size: u32) -> bool
+    ensures { result ≡ can_write (V.memory (V.content view.now)) place size }
+{
+    for i in 0..size {
+        match place.checked_add(i) {
+            Some(at) if view.writable(at) => {}
+            _ => return false,
+        }
+    }
+    true
+}
+
+/// Whether a patch is empty, or its room is there and no shorter.
+pub fn fits<V: View>(patch: &[u8], room: Option<(u32, u32)>, view: &V) -> bool
+    ensures { result ≡ fits_room patch.now (room_at (V.memory (V.content view.now)) room) }
+{
+    if patch.is_empty() {
+        return true;
+    }
+    match room {
+        Some((place, size)) => patch.len() <= size as usize && all_writable(view, place, size),
+        None => false,
+    }
+}
+
+/// Puts the bytes one after the other from an address on.
+fn put_all<V: View>(patch: &[u8], place: u32, view: &mut V)
+    requires { IsTrue (can_write (V.memory (V.content view.old)) place (length patch.now)) }
+    ensures { V.content view.new ≡ patched V.put_at (V.content view.old) place patch.now }
+{
+    for (i, b) in patch.iter().enumerate() {
+        view.put(place + i as u32, *b);
+    }
+}
+
+/// Puts a patch into the room that it fits.
+pub fn lay<V: View>(patch: &[u8], room: Option<(u32, u32)>, view: &mut V)
+    requires { IsTrue (fits_room patch.now (room_at (V.memory (V.content view.old)) room)) }
+    ensures { V.content view.new ≡ patched V.put_at (V.content view.old) (room_place (room_at (V.memory (V.content view.old)) room)) patch.now }
+{
+    if let Some((place, _)) = room {
+        put_all(patch, place, view);
+    }
+}
