@@ -1,6 +1,9 @@
 //! The instructions of MIPS I: the table of their words, both ways, and their text.
 #![tactic(auto)]
 
+mod decode;
+mod fields;
+mod forms;
 mod inst;
 mod names;
 
