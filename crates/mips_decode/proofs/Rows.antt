@@ -32,7 +32,7 @@ Decides-passes : (x m v n : ℕ) → x < 2 ^ n → whole_field n m v ≡ true �
 Decides-passes x m v n h w = passes_by x m v n h (m == 0) refl w
 
 -- a field of a masked word
-and_field : (w m at n : ℕ) → bit_and w m / 2 ^ at % 2 ^ n ≡ bit_and (w / 2 ^ at % 2 ^ n) (m / 2 ^ at % 2 ^ n)
+pub and_field : (w m at n : ℕ) → bit_and w m / 2 ^ at % 2 ^ n ≡ bit_and (w / 2 ^ at % 2 ^ n) (m / 2 ^ at % 2 ^ n)
 and_field w m at n = ap (λ (x : ℕ). x % 2 ^ n) (and_shr w m at) ∙ and_mod (w / 2 ^ at) (m / 2 ^ at) n
 
 -- words with the same fields are the same
@@ -62,7 +62,7 @@ FieldsAgree w row = (bit_and (op_of w) (op_of row.mask) ≡ op_of row.value) × 
     × ((bit_and (rs_of w) (rs_of row.mask) ≡ rs_of row.value) × ((bit_and (rt_of w) (rt_of row.mask) ≡ rt_of row.value)
     × ((bit_and (rd_of w) (rd_of row.mask) ≡ rd_of row.value) × (bit_and (sa_of w) (sa_of row.mask) ≡ sa_of row.value)))))
 
-both : (a b : Bool) → (a && b) ≡ true → (a ≡ true) × (b ≡ true)
+pub both : (a b : Bool) → (a && b) ≡ true → (a ≡ true) × (b ≡ true)
 both true b h = (refl, h)
 both false b h = absurd (cc)
 
@@ -162,8 +162,8 @@ misses_first op funct rs rt rd sa w [] h = refl
 misses_first op funct rs rt rd sa w (row ∷ rows) h =
     let hit = passes op (op_of row.mask) (op_of row.value) in
     let others = passes funct (funct_of row.mask) (funct_of row.value) && (passes rs (rs_of row.mask) (rs_of row.value)
-        && (passes rt (rt_of row.mask) (rt_of row.value) && (passes rd (rd_of row.mask) (rd_of row.value)
-        && passes sa (sa_of row.mask) (sa_of row.value)))) in
+    && (passes rt (rt_of row.mask) (rt_of row.value) && (passes rd (rd_of row.mask) (rd_of row.value)
+    && passes sa (sa_of row.mask) (sa_of row.value)))) in
     let split = both (misses op row) (list_all (misses op) rows) h in
     other_row hit others (row.read w) (first_by_fields op funct rs rt rd sa w rows) split.0
     ∙ misses_first op funct rs rt rd sa w rows split.1
@@ -180,4 +180,4 @@ pub inst_unlisted : (w : ℕ) → IsWord w → has_op (op_of w) ≡ false → in
 unfolding by_fields
 inst_unlisted w word none = let op = op_of w in
     inst_is w word ∙ misses_first op (funct_of w) (rs_of w) (rt_of w) (rd_of w) (sa_of w) w table
-        (either _ _ none (from_all_below 64 (λ op. has_op op || list_all (misses op) table) op_table op (omega arith)))
+    (either _ _ none (from_all_below 64 (λ op. has_op op || list_all (misses op) table) op_table op (omega arith)))

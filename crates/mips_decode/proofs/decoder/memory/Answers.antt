@@ -2,7 +2,7 @@ use Rattle.std.proofs.Common.{◌≡◌, false, arith}
 use Rattle.std.proofs.lemmas.Bool.Decides.{nat_tests}
 use Rattle.mips_decode.specs.Table.{op_of}
 use Rattle.mips_decode.proofs.Rows.{has_op, inst_unlisted}
-use Rattle.mips_decode.proofs.decode.memory.Goals as goal
+use Rattle.mips_decode.proofs.decoder.memory.Goals as goal
 
 pub returns-in-17 : goal.returns-in-17
 returns-in-17 c =
