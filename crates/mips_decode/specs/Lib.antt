@@ -1,3 +1,4 @@
+pub mod Encoding
 pub mod Table
 pub mod Memory
 pub mod State
