@@ -1,10 +1,10 @@
 -- Loads and stores of single instructions in both orders, over the word 80FF7F01 at 7FFFE000.
-use Rattle.std.proofs.Common.{◌≡◌, refl, ℕ, List, [], ◌∷◌, true, false, ◌==◌, map}
+use Rattle.std.proofs.Common.{◌≡◌, refl, ℕ, List, [], ◌∷◌, replicate, true, false, ◌==◌, map}
 use Rattle.nv_words.specs.declared.order.Order.{Order}
 use Rattle.nv_words.specs.declared.order.Order.TheVariants.{Big, Little}
 use Rattle.nv_events.specs.Memory.{Memory}
 use Rattle.mips_decode.specs.Memory.{with_word, word_at}
-use Rattle.mips_decode.specs.Loads.{loaded, stored, store_allowed}
+use Rattle.mips_decode.specs.Loads.{load_aligned, loaded, store_aligned, stored, store_allowed}
 use Rattle.mips_decode.specs.declared.names.load_name.LoadName.TheVariants.{Lb, Lh, Lwl, Lw, Lbu, Lhu, Lwr}
 use Rattle.mips_decode.specs.declared.names.store_name.StoreName.TheVariants.{Sb, Sh, Swl, Sw, Swr}
 use Rattle.mips_decode.proofs.Programs.{program_memory}
@@ -43,6 +43,23 @@ little_swl = refl
 
 little_swr : map (λ a. word_after Little (stored Swr Little (memory_in Little) a 0xaabbccdd)) offsets ≡ 0xaabbccdd ∷ 0xbbccdd01 ∷ 0xccdd7f01 ∷ 0xddff7f01 ∷ []
 little_swr = refl
+
+-- which addresses each access takes, of a multiple of 4 and the three after it
+abbrev fours : List ℕ
+fours = 4 ∷ 5 ∷ 6 ∷ 7 ∷ []
+
+byte_alignments : map (λ name. map (load_aligned name) fours) (Lb ∷ Lbu ∷ Lwl ∷ Lwr ∷ []) ≡ replicate 4 (true ∷ true ∷ true ∷ true ∷ [])
+byte_alignments = refl
+
+load_alignments : map (λ name. map (load_aligned name) fours) (Lh ∷ Lhu ∷ Lw ∷ [])
+    ≡ (true ∷ false ∷ true ∷ false ∷ []) ∷ (true ∷ false ∷ true ∷ false ∷ []) ∷ (true ∷ false ∷ false ∷ false ∷ []) ∷ []
+load_alignments = refl
+
+byte_store_alignments : map (λ name. map (store_aligned name) fours) (Sb ∷ Swl ∷ Swr ∷ []) ≡ replicate 3 (true ∷ true ∷ true ∷ true ∷ [])
+byte_store_alignments = refl
+
+store_alignments : map (λ name. map (store_aligned name) fours) (Sh ∷ Sw ∷ []) ≡ (true ∷ false ∷ true ∷ false ∷ []) ∷ (true ∷ false ∷ false ∷ false ∷ []) ∷ []
+store_alignments = refl
 
 -- a store is refused whole where one of its bytes may not be written
 abbrev byte_writable : ℕ → Memory
