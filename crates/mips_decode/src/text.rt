@@ -45,20 +45,20 @@ pub fn print_inst(alloc: Global, inst: &Inst, at: u32) -> Result<String, NoMemor
             format!(in alloc; "{name} ${rs},{to}")
         }
         Inst::ArithmeticImmediate { name, rs, rt, imm } => {
-            let imm = signed(imm);
-            format!(in alloc; "{name} ${rt},${rs},{imm}")
+            let value = signed(imm);
+            format!(in alloc; "{name} ${rt},${rs},{value}")
         }
         Inst::LogicalImmediate { name, rs, rt, imm } => format!(in alloc;
             "{name} ${rt},${rs},{imm}"
         ),
         Inst::LoadUpper { rt, imm } => format!(in alloc; "lui ${rt},{imm}"),
         Inst::Load { name, rs, rt, imm } => {
-            let imm = signed(imm);
-            format!(in alloc; "{name} ${rt},{imm}(${rs})")
+            let offset = signed(imm);
+            format!(in alloc; "{name} ${rt},{offset}(${rs})")
         }
         Inst::Store { name, rs, rt, imm } => {
-            let imm = signed(imm);
-            format!(in alloc; "{name} ${rt},{imm}(${rs})")
+            let offset = signed(imm);
+            format!(in alloc; "{name} ${rt},{offset}(${rs})")
         }
         Inst::Reserved(word) | Inst::Float(word) => {
             let word = Hexadecimal(word);

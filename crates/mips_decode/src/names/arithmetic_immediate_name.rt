@@ -1,7 +1,7 @@
 use std::fmt;
 
 /// Arithmetic with an immediate, which is extended by its sign.
-#[derive(Clone, Copy, Debug, PartialEq, Eq)]
+#[derive(Clone, Copy, PartialEq, Eq)]
 pub enum ArithmeticImmediateName {
     Addi,
     Addiu,

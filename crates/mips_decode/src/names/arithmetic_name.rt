@@ -1,7 +1,7 @@
 use std::fmt;
 
 /// Arithmetic of three registers.
-#[derive(Clone, Copy, Debug, PartialEq, Eq)]
+#[derive(Clone, Copy, PartialEq, Eq)]
 pub enum ArithmeticName {
     Add,
     Addu,

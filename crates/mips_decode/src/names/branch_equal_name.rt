@@ -1,7 +1,7 @@
 use std::fmt;
 
 /// A branch on whether two registers are equal.
-#[derive(Clone, Copy, Debug, PartialEq, Eq)]
+#[derive(Clone, Copy, PartialEq, Eq)]
 pub enum BranchEqualName {
     Beq,
     Bne,

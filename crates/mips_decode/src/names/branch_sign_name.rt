@@ -1,7 +1,7 @@
 use std::fmt;
 
 /// A branch on the sign of a register, which may link.
-#[derive(Clone, Copy, Debug, PartialEq, Eq)]
+#[derive(Clone, Copy, PartialEq, Eq)]
 pub enum BranchSignName {
     Bltz,
     Bgez,

@@ -1,7 +1,7 @@
 use std::fmt;
 
 /// A branch that compares a register with zero.
-#[derive(Clone, Copy, Debug, PartialEq, Eq)]
+#[derive(Clone, Copy, PartialEq, Eq)]
 pub enum BranchZeroName {
     Blez,
     Bgtz,

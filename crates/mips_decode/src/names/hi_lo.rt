@@ -1,7 +1,7 @@
 use std::fmt;
 
 /// One of the two registers that hold a product or a quotient.
-#[derive(Clone, Copy, Debug, PartialEq, Eq)]
+#[derive(Clone, Copy, PartialEq, Eq)]
 pub enum HiLo {
     Hi,
     Lo,

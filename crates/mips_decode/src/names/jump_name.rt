@@ -1,7 +1,7 @@
 use std::fmt;
 
 /// A jump within 256 megabytes.
-#[derive(Clone, Copy, Debug, PartialEq, Eq)]
+#[derive(Clone, Copy, PartialEq, Eq)]
 pub enum JumpName {
     J,
     Jal,

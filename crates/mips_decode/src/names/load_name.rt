@@ -1,7 +1,7 @@
 use std::fmt;
 
 /// A load from memory.
-#[derive(Clone, Copy, Debug, PartialEq, Eq)]
+#[derive(Clone, Copy, PartialEq, Eq)]
 pub enum LoadName {
     Lb,
     Lh,

@@ -1,7 +1,7 @@
 use std::fmt;
 
 /// Logic with an immediate, which is extended by zeros.
-#[derive(Clone, Copy, Debug, PartialEq, Eq)]
+#[derive(Clone, Copy, PartialEq, Eq)]
 pub enum LogicalImmediateName {
     Andi,
     Ori,

@@ -1,7 +1,7 @@
 use std::fmt;
 
 /// A multiplication or a division, whose results go to HI and LO.
-#[derive(Clone, Copy, Debug, PartialEq, Eq)]
+#[derive(Clone, Copy, PartialEq, Eq)]
 pub enum ProductName {
     Mult,
     Multu,

@@ -1,7 +1,7 @@
 use std::fmt;
 
 /// A shift by a constant amount.
-#[derive(Clone, Copy, Debug, PartialEq, Eq)]
+#[derive(Clone, Copy, PartialEq, Eq)]
 pub enum ShiftName {
     Sll,
     Srl,

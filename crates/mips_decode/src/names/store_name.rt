@@ -1,7 +1,7 @@
 use std::fmt;
 
 /// A store to memory.
-#[derive(Clone, Copy, Debug, PartialEq, Eq)]
+#[derive(Clone, Copy, PartialEq, Eq)]
 pub enum StoreName {
     Sb,
     Sh,

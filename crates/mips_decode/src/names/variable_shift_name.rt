@@ -1,7 +1,7 @@
 use std::fmt;
 
 /// A shift by the low five bits of a register.
-#[derive(Clone, Copy, Debug, PartialEq, Eq)]
+#[derive(Clone, Copy, PartialEq, Eq)]
 pub enum VariableShiftName {
     Sllv,
     Srlv,
