@@ -1,7 +1,8 @@
 -- Results of single instructions at the values where a slip shows, and the conditions and targets of branches.
 use Rattle.std.proofs.Common.{◌≡◌, refl, [], ◌∷◌, true, false, map, pos, negsuc, Some, None}
 use Rattle.mips_decode.specs.Arithmetic.{arithmetic_result, arithmetic_immediate_result, logical_immediate_result, shifted, variable_shifted, product_hi, product_lo}
-use Rattle.mips_decode.specs.Branches.{equal_taken, zero_taken, sign_taken, jump_target, branch_target}
+use Rattle.mips_decode.specs.Branches.{equal_taken, zero_taken, sign_taken}
+use Rattle.mips_decode.specs.Targets.{branch_target, jump_target}
 use Rattle.mips_decode.specs.declared.names.logical_immediate_name.LogicalImmediateName.TheVariants.{Andi, Ori, Xori}
 use Rattle.mips_decode.specs.declared.names.branch_equal_name.BranchEqualName.TheVariants.{Beq, Bne}
 use Rattle.mips_decode.specs.declared.names.branch_zero_name.BranchZeroName.TheVariants.{Blez, Bgtz}
@@ -11,7 +12,6 @@ use Rattle.mips_decode.specs.declared.names.arithmetic_immediate_name.Arithmetic
 use Rattle.mips_decode.specs.declared.names.shift_name.ShiftName.TheVariants.{Sll, Srl, Sra}
 use Rattle.mips_decode.specs.declared.names.variable_shift_name.VariableShiftName.TheVariants.{Srav}
 use Rattle.mips_decode.specs.declared.names.product_name.ProductName.TheVariants.{Mult, Multu, Div, Divu}
-use Rattle.mips_decode.proofs.Programs.{started}
 
 -- signed overflow at both ends, and just within
 sums : map (arithmetic_result Add 0x7fffffff) (0 ∷ 1 ∷ 0xffffffff ∷ []) ≡ Some 0x7fffffff ∷ None ∷ Some 0x7ffffffe ∷ []
@@ -97,8 +97,8 @@ at_least_zero : map (λ name. map (sign_taken name) (negsuc 0 ∷ pos 0 ∷ pos 
 at_least_zero = refl
 
 -- a jump stays in the 256 megabytes of the instruction after it
-jump_from_end : jump_target (record (started []) { pc = 0x0ffffffc }) 1 ≡ 0x10000004
+jump_from_end : jump_target 0x0ffffffc 1 ≡ 0x10000004
 jump_from_end = refl
 
-branch_back : branch_target (record (started []) { pc = 0x00400010 }) 0xfffe ≡ 0x0040000c
+branch_back : branch_target 0x00400010 0xfffe ≡ 0x0040000c
 branch_back = refl

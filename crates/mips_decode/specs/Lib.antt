@@ -1,5 +1,8 @@
 pub mod Encoding
+pub mod Mnemonics
 pub mod Table
+pub mod Targets
+pub mod Text
 pub mod Memory
 pub mod State
 pub mod Effect
