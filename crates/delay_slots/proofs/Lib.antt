@@ -1,0 +1,4 @@
+mod UnitLemmas
+pub mod TurnLemmas
+pub mod PlaceLemmas
+pub mod RunLemmas

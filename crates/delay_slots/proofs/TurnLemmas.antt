@@ -1,0 +1,218 @@
+-- A unit's turns are those that the machine makes.
+use Rattle.std.proofs.Common.{◌≡◌, ℕ, ◌+◌, ◌%◌, ◌^◌, Bool, true, false, not, ◌==◌, if◌then◌else◌, List, [], ◌∷◌, Option, Some, None, is_none, refl, ap, sym, subst, ◌∙◌}
+use Rattle.nv_events.specs.Turn.{Turn, moves}
+use Rattle.mips_decode.specs.Table.{inst}
+use Rattle.mips_decode.specs.Encoding.{word_of}
+use Rattle.mips_decode.specs.State.{State, register, with_register}
+use Rattle.mips_decode.specs.Effect.{Effect, goes_on, branches, faults, calls, fetch_fault, read_align_fault, read_unmapped_fault, write_align_fault, write_refused_fault, branch_in_slot_fault}
+use Rattle.mips_decode.specs.Arithmetic.{arithmetic_result, arithmetic_immediate_result}
+use Rattle.mips_decode.specs.Loads.{address_of, load_aligned, loaded, store_aligned, store_allowed, stored}
+use Rattle.mips_decode.specs.Step.{effect, result_effect, turn_by, into_slot, faulted, turn}
+use Rattle.mips_decode.specs.declared.inst.Inst.{Inst}
+use Rattle.mips_decode.specs.declared.inst.Inst.TheVariants.{Arithmetic, VariableShift, Shift, JumpRegister, JumpAndLinkRegister, Syscall, Break, MoveFrom, MoveTo, Product, BranchSign, Jump, BranchEqual, BranchZero, ArithmeticImmediate, LogicalImmediate, LoadUpper, Load, Store, Reserved, Float}
+use Rattle.mips_decode.specs.declared.names.branch_sign_name.BranchSignName.TheVariants.{Bltz, Bgez, Bltzal, Bgezal}
+use Rattle.mips_decode.specs.declared.names.jump_name.JumpName.TheVariants.{J, Jal}
+use Rattle.mips_decode.specs.declared.names.hi_lo.HiLo.TheVariants.{Hi, Lo}
+use Rattle.delay_slots.specs.declared.unit.Unit.TheVariants.{SlotIsBranch, Branch}
+use Rattle.delay_slots.specs.Units.{is_branch, branch_unit, unit_of}
+use Rattle.delay_slots.specs.Turns.{done_by, done, then_slot, unit_turns, AreMade}
+use Rattle.delay_slots.proofs.UnitLemmas.{first_of}
+
+-- ---- one turn, by what stands at pc
+
+turn_at : (x : State) (word : ℕ) → x.begun ≡ true → (x.pc % 4 == 0) ≡ true → x.code x.pc ≡ Some word → turn x ≡ turn_by (effect (inst word) word x) word x
+turn_at x word begun aligned there = simp (begun, aligned, there)
+
+turn_outside : (x : State) → x.begun ≡ true → (x.pc % 4 == 0) ≡ true → x.code x.pc ≡ None → turn x ≡ faulted x fetch_fault x.pc
+turn_outside x begun aligned outside = simp (begun, aligned, outside)
+
+-- with nothing pending, each effect is done
+done_alone : (e : Effect) (word : ℕ) (x : State) → x.pending ≡ None → turn_by e word x ≡ done_by e x
+done_alone (goes_on t) word x free = refl
+done_alone (branches t target) word x free = rw free
+done_alone (faults kind value) word x free = refl
+done_alone calls word x free = refl
+
+-- with a branch pending, each effect but a branch is done
+abbrev pub IsNoBranch : Effect → Type 0
+IsNoBranch (branches t target) = ⊥
+IsNoBranch (goes_on t) = Unit {0}
+IsNoBranch (faults kind value) = Unit {0}
+IsNoBranch calls = Unit {0}
+
+done_in_slot : (e : Effect) (word : ℕ) (s : State) → IsNoBranch e → turn_by e word s ≡ done_by e s
+done_in_slot (goes_on t) word s h = refl
+done_in_slot (branches t target) word s h = absurd h
+done_in_slot (faults kind value) word s h = refl
+done_in_slot calls word s h = refl
+
+-- ---- effects of branches, and of the rest
+
+pub record Branches (i : Inst) (word : ℕ) (x : State) : Type 0 where
+  pub linked : State
+  pub target : ℕ
+  pub is : effect i word x ≡ branches linked target
+  pub begun : linked.begun ≡ x.begun
+  pub pc : linked.pc ≡ x.pc
+  pub code : linked.code ≡ x.code
+
+by_refl : (i : Inst) (word : ℕ) (x linked : State) (target : ℕ) → effect i word x ≡ branches linked target → linked ≡ record x { registers = linked.registers } → Branches i word x
+by_refl i word x linked target is kept = record {
+  linked = linked;
+  target = target;
+  is = is;
+  begun = ap (λ (s : State). s.begun) kept;
+  pc = ap (λ (s : State). s.pc) kept;
+  code = ap (λ (s : State). s.code) kept;
+}
+
+branch_effect : (i : Inst) (word : ℕ) (x : State) → is_branch i ≡ true → Branches i word x
+branch_effect (JumpRegister rs) word x h = by_refl _ word x _ _ refl refl
+branch_effect (JumpAndLinkRegister rs rd) word x h = by_refl _ word x _ _ refl refl
+branch_effect (BranchSign Bltz rs imm) word x h = by_refl _ word x _ _ refl refl
+branch_effect (BranchSign Bgez rs imm) word x h = by_refl _ word x _ _ refl refl
+branch_effect (BranchSign Bltzal rs imm) word x h = by_refl _ word x _ _ refl refl
+branch_effect (BranchSign Bgezal rs imm) word x h = by_refl _ word x _ _ refl refl
+branch_effect (Jump J index) word x h = by_refl _ word x _ _ refl refl
+branch_effect (Jump Jal index) word x h = by_refl _ word x _ _ refl refl
+branch_effect (BranchEqual name rs rt imm) word x h = by_refl _ word x _ _ refl refl
+branch_effect (BranchZero name rs imm) word x h = by_refl _ word x _ _ refl refl
+branch_effect _ word x h = cc
+
+no_branch-result : (s : State) (word r : ℕ) (result : Option ℕ) → IsNoBranch (result_effect s word r result)
+no_branch-result s word r None = tt
+no_branch-result s word r (Some result) = tt
+
+-- two tests, of which each may fault
+no_branch-tests : (first second : Bool) (a b c d : ℕ) (t : State) → IsNoBranch (if first then faults a b else if second then faults c d else goes_on t)
+no_branch-tests true second a b c d t = tt
+no_branch-tests false true a b c d t = tt
+no_branch-tests false false a b c d t = tt
+
+no_branch : (i : Inst) (word : ℕ) (s : State) → is_branch i ≡ false → IsNoBranch (effect i word s)
+no_branch (Arithmetic name rs rt rd) word s h = no_branch-result s word rd (arithmetic_result name (register s rs) (register s rt))
+no_branch (ArithmeticImmediate name rs rt imm) word s h = no_branch-result s word rt (arithmetic_immediate_result name (register s rs) imm)
+no_branch (VariableShift name rs rt rd) word s h = tt
+no_branch (Shift name rt rd sa) word s h = tt
+no_branch (JumpRegister rs) word s h = cc
+no_branch (JumpAndLinkRegister rs rd) word s h = cc
+no_branch (Syscall code) word s h = tt
+no_branch (Break code) word s h = tt
+no_branch (MoveFrom Hi rd) word s h = tt
+no_branch (MoveFrom Lo rd) word s h = tt
+no_branch (MoveTo Hi rs) word s h = tt
+no_branch (MoveTo Lo rs) word s h = tt
+no_branch (Product name rs rt) word s h = tt
+no_branch (BranchSign name rs imm) word s h = cc
+no_branch (Jump name index) word s h = cc
+no_branch (BranchEqual name rs rt imm) word s h = cc
+no_branch (BranchZero name rs imm) word s h = cc
+no_branch (LogicalImmediate name rs rt imm) word s h = tt
+no_branch (LoadUpper rt imm) word s h = tt
+no_branch (Load name rs rt imm) word s h =
+    let a : ℕ = address_of s rs imm in
+    let t : State = with_register s rt (loaded name s.order s.memory a (register s rt)) in
+    no_branch-tests (not (load_aligned name a)) (is_none (s.memory.byte a)) read_align_fault a read_unmapped_fault a t
+no_branch (Store name rs rt imm) word s h =
+    let a : ℕ = address_of s rs imm in
+    let t : State = record s { memory = stored name s.order s.memory a (register s rt) } in
+    no_branch-tests (not (store_aligned name a)) (not (store_allowed name s.order s.memory a)) write_align_fault a write_refused_fault a t
+no_branch (Reserved w) word s h = tt
+no_branch (Float w) word s h = tt
+
+-- ---- the turns of a branch
+
+-- A state in the delay slot of a branch that was done in x.
+pub record InSlot (x s : State) : Type 0 where
+  pub target : ℕ
+  pub begun : s.begun ≡ x.begun
+  pub pending : s.pending ≡ Some target
+  pub pc : s.pc ≡ (x.pc + 4) % 2 ^ 32
+  pub code : s.code ≡ x.code
+
+branch_made : (i : Inst) (x : State) (second : State → Turn State) → is_branch i ≡ true → turn x ≡ done i x → ((s : State) → InSlot x s → turn s ≡ second s) → AreMade x (then_slot (done i x) second)
+branch_made i x second branch first slot =
+    let b : Branches i (word_of i) x = branch_effect i (word_of i) x branch in
+    let s : State = into_slot b.linked b.target in
+    let e : done i x ≡ moves s = ap (λ (f : Effect). done_by f x) b.is in
+    let in_slot : InSlot x s = record {
+      target = b.target;
+      begun = b.begun;
+      pending = refl;
+      pc = ap (λ n. (n + 4) % 2 ^ 32) b.pc;
+      code = b.code;
+    } in
+    subst (λ (y : Turn State). AreMade x (then_slot y second)) (sym e) (first ∙ e, slot s in_slot)
+
+-- ---- the turns of any unit
+
+-- A state stands at a word of a range, with no branch pending, and these words follow it.
+pub record Placed (x : State) (word : ℕ) (following : List ℕ) : Type 0 where
+  pub begun : x.begun ≡ true
+  pub pending : x.pending ≡ None
+  pub aligned : (x.pc % 4 == 0) ≡ true
+  pub there : x.code x.pc ≡ Some word
+  pub encodes : word_of (inst word) ≡ word
+  pub next_aligned : ((x.pc + 4) % 2 ^ 32 % 4 == 0) ≡ true
+  pub next_there : x.code ((x.pc + 4) % 2 ^ 32) ≡ first_of following
+  pub next_encodes : (w : ℕ) → first_of following ≡ Some w → word_of (inst w) ≡ w
+
+module _ (x : State) (word : ℕ) (following : List ℕ) (placed : Placed x word following) where
+  first_turn : turn x ≡ done (inst word) x
+  first_turn =
+      turn_at x word placed.begun placed.aligned placed.there
+      ∙ done_alone (effect (inst word) word x) word x placed.pending
+      ∙ ap (λ w. done_by (effect (inst word) w x) x) (sym placed.encodes)
+
+  slot_there : (s : State) → InSlot x s → s.code s.pc ≡ first_of following
+  slot_there s at = ap (λ n. s.code n) at.pc ∙ ap (λ (c : ℕ → Option ℕ). c ((x.pc + 4) % 2 ^ 32)) at.code ∙ placed.next_there
+
+  slot_aligned : (s : State) → InSlot x s → (s.pc % 4 == 0) ≡ true
+  slot_aligned s at = ap (λ n. n % 4 == 0) at.pc ∙ placed.next_aligned
+
+-- the range ends with the branch
+slot_missing : (x s : State) (word : ℕ) → Placed x word [] → InSlot x s → turn s ≡ faulted s fetch_fault s.pc
+slot_missing x s word placed at =
+    turn_outside s (at.begun ∙ placed.begun) (slot_aligned x word [] placed s at) (slot_there x word [] placed s at)
+
+-- an instruction in the slot that is no branch
+slot_done : (x s : State) (word slot : ℕ) (words : List ℕ) → is_branch (inst slot) ≡ false → Placed x word (slot ∷ words) → InSlot x s → turn s ≡ done (inst slot) s
+slot_done x s word slot words plain placed at =
+    turn_at s slot (at.begun ∙ placed.begun) (slot_aligned x word (slot ∷ words) placed s at) (slot_there x word (slot ∷ words) placed s at)
+    ∙ done_in_slot (effect (inst slot) slot s) slot s (no_branch (inst slot) slot s plain)
+    ∙ ap (λ w. done_by (effect (inst slot) w s) s) (sym (placed.next_encodes slot refl))
+
+-- a branch in the slot
+branch_refused : (e : Effect) (s t : State) (slot target pending : ℕ) → e ≡ branches t target → s.pending ≡ Some pending → turn_by e slot s ≡ faulted s branch_in_slot_fault slot
+branch_refused e s t slot target pending is there =
+    ap (λ (f : Effect). turn_by f slot s) is ∙ rw there refl
+
+slot_refused : (x s : State) (word slot : ℕ) (words : List ℕ) → is_branch (inst slot) ≡ true → Placed x word (slot ∷ words) → InSlot x s → turn s ≡ faulted s branch_in_slot_fault slot
+slot_refused x s word slot words branch placed at =
+    let b : Branches (inst slot) slot s = branch_effect (inst slot) slot s branch in
+    turn_at s slot (at.begun ∙ placed.begun) (slot_aligned x word (slot ∷ words) placed s at) (slot_there x word (slot ∷ words) placed s at)
+    ∙ branch_refused (effect (inst slot) slot s) s b.linked slot b.target at.target b.is at.pending
+
+slot_made : (i : Inst) (x : State) (word slot : ℕ) (words : List ℕ) (b : Bool) → is_branch (inst slot) ≡ b → is_branch i ≡ true → turn x ≡ done i x → Placed x word (slot ∷ words) → AreMade x (unit_turns (if b then SlotIsBranch i slot else Branch i (inst slot)) x)
+slot_made i x word slot words true is branch first placed =
+    branch_made i x (λ s. faulted s branch_in_slot_fault slot) branch first (λ s. slot_refused x s word slot words is placed)
+slot_made i x word slot words false is branch first placed =
+    branch_made i x (done (inst slot)) branch first (λ s. slot_done x s word slot words is placed)
+
+branch_unit_made : (i : Inst) (x : State) (word : ℕ) (following : List ℕ) → is_branch i ≡ true → turn x ≡ done i x → Placed x word following → AreMade x (unit_turns (branch_unit i following) x)
+branch_unit_made i x word [] branch first placed =
+    branch_made i x (λ s. faulted s fetch_fault s.pc) branch first (λ s. slot_missing x s word placed)
+branch_unit_made i x word (slot ∷ words) branch first placed =
+    slot_made i x word slot words (is_branch (inst slot)) refl branch first placed
+
+unit_made : (i : Inst) (x : State) (word : ℕ) (following : List ℕ) → turn x ≡ done i x → Placed x word following → AreMade x (unit_turns (unit_of i following) x)
+unit_made (JumpRegister rs) x word following first placed = branch_unit_made _ x word following refl first placed
+unit_made (JumpAndLinkRegister rs rd) x word following first placed = branch_unit_made _ x word following refl first placed
+unit_made (BranchSign name rs imm) x word following first placed = branch_unit_made _ x word following refl first placed
+unit_made (Jump name index) x word following first placed = branch_unit_made _ x word following refl first placed
+unit_made (BranchEqual name rs rt imm) x word following first placed = branch_unit_made _ x word following refl first placed
+unit_made (BranchZero name rs imm) x word following first placed = branch_unit_made _ x word following refl first placed
+unit_made _ x word following first placed = first
+
+pub turns_made : (x : State) (word : ℕ) (following : List ℕ) → Placed x word following → AreMade x (unit_turns (unit_of (inst word) following) x)
+turns_made x word following placed = unit_made (inst word) x word following (first_turn x word following placed) placed

@@ -1,0 +1,80 @@
+-- What a unit does: the machine's turns from a state that stands at the unit's word with no branch pending, by the unit alone.
+use Rattle.std.specs.Prelude.{◌≡◌, ℕ, ◌+◌, ◌*◌, ◌%◌, ◌^◌, ◌<◌, true, List, length, slice_get, slice_index, Option, None}
+use Rattle.nv_words.specs.Words.{IsWord}
+use Rattle.nv_events.specs.Question.{Question}
+use Rattle.nv_events.specs.Answer.{Answer}
+use Rattle.nv_events.specs.Turn.{Turn, moves, ends, leaves, asks}
+use Rattle.nv_events.specs.Run.{Run, run_of}
+use Rattle.mips_decode.specs.Encoding.{word_of}
+use Rattle.mips_decode.specs.State.{State}
+use Rattle.mips_decode.specs.Effect.{Effect, goes_on, branches, faults, calls, fetch_fault, branch_in_slot_fault}
+use Rattle.mips_decode.specs.Step.{effect, advanced, into_slot, faulted, called, turn}
+use Rattle.mips_decode.specs.declared.inst.Inst.{Inst}
+use Rattle.delay_slots.specs.declared.unit.Unit.{Unit}
+use Rattle.delay_slots.specs.declared.unit.Unit.TheVariants.{Plain, Branch, SlotMissing, SlotIsBranch, Call, Trap}
+
+-- A unit's turns: its one turn, or where its branch comes to the delay slot, that state and the turn of the slot from there.
+pub data UnitTurns : Type 0 where
+  one_turn : Turn State → UnitTurns
+  two_turns : State → Turn State → UnitTurns
+
+-- An effect in a state: what comes of it, alone or in a delay slot, where no branch stands in a delay slot.
+abbrev pub done_by : Effect → State → Turn State
+done_by (goes_on t) s = moves (advanced t)
+done_by (branches t target) s = moves (into_slot t target)
+done_by (faults kind value) s = faulted s kind value
+done_by calls s = called s
+
+-- an instruction is done in a state
+abbrev pub done : Inst → State → Turn State
+done i s = done_by (effect i (word_of i) s) s
+
+-- a turn, and where it moves on, a turn from there
+abbrev pub then_slot : Turn State → (State → Turn State) → UnitTurns
+then_slot (moves slot) second = two_turns slot (second slot)
+then_slot (ends end) second = one_turn (ends end)
+then_slot (leaves question end) second = one_turn (leaves question end)
+then_slot (asks question next) second = one_turn (asks question next)
+
+abbrev pub unit_turns : Unit → State → UnitTurns
+unit_turns (Plain i) x = one_turn (done i x)
+unit_turns (Branch i slot) x = then_slot (done i x) (done slot)
+unit_turns (SlotMissing i) x = then_slot (done i x) (λ s. faulted s fetch_fault s.pc)
+unit_turns (SlotIsBranch i word) x = then_slot (done i x) (λ s. faulted s branch_in_slot_fault word)
+unit_turns Call x = one_turn (called x)
+unit_turns (Trap kind value) x = one_turn (faulted x kind value)
+
+-- ---- beside the machine's own turns
+
+-- the machine makes these turns from a state
+abbrev pub AreMade : State → UnitTurns → Type 0
+AreMade x (one_turn last) = turn x ≡ last
+AreMade x (two_turns slot last) = (turn x ≡ moves slot) × (turn slot ≡ last)
+
+-- Code has the words of one whole range, from an address on.
+pub record HasRange (code : ℕ → Option ℕ) (first : ℕ) (words : List ℕ) : Type 0 where
+  pub aligned : first % 4 ≡ 0
+  pub below_end : first + 4 * length words < 2 ^ 32
+  pub are_words : (k : ℕ) → k < length words → IsWord (slice_index words k)
+  pub there : (k : ℕ) → k < length words → code (first + 4 * k) ≡ slice_get words k
+  pub ends : code (first + 4 * length words) ≡ None
+
+-- A state stands at word i of the range, with no branch pending.
+pub record StandsAt (x : State) (first : ℕ) (words : List ℕ) (i : ℕ) : Type 0 where
+  pub begun : x.begun ≡ true
+  pub pending : x.pending ≡ None
+  pub pc : x.pc ≡ first + 4 * i
+  pub in_range : i < length words
+  pub range : HasRange x.code first words
+
+-- ---- in runs
+
+-- how many turns a unit has
+abbrev pub turn_count : UnitTurns → ℕ
+turn_count (one_turn last) = 1
+turn_count (two_turns slot last) = 2
+
+-- the run of a unit's turns alone
+abbrev pub unit_run : {K : Type 0} → (K → Question → Option (Answer × K)) → UnitTurns → State → K → Run State K
+unit_run reply (one_turn last) x k = run_of (λ s. last) reply 1 x k
+unit_run reply (two_turns slot last) x k = run_of (λ s. last) reply 1 slot k

@@ -1,0 +1,90 @@
+//! From the words of a range to its units.
+ghost use Rattle.std.specs.Prelude.{◌≡◌, ◌<◌, IfOk, IsTrue, length};
+ghost use Rattle.mips_decode.specs.Table.{inst};
+ghost use Rattle.delay_slots.specs.Units.{is_branch, branch_unit, unit_of, units_of, HasNoFloat};
+
+use crate::unit::Unit;
+use mips_decode::{Inst, decode};
+use std::alloc::{AllocError, Global};
+
+pub type NoMemory = AllocError;
+
+/// The kind of the fault of BREAK.
+const BREAK: u32 = 8;
+
+/// The kind of the fault of a reserved word.
+const RESERVED: u32 = 9;
+
+/// The units of the words of one whole range of code, one for each word in order.
+///
+/// # Errors
+/// Want of memory for the units.
+pub fn units(alloc: Global, words: &[u32]) -> Result<Vec<Unit>, NoMemory>
+    requires some_words { 0 < length words.now }
+    requires no_float { HasNoFloat words.now }
+    ensures { IfOk result (λ units. units.items ≡ units_of words.now) }
+{
+    let mut units = Vec::new(alloc);
+    let mut rest = words;
+    while let Some((word, following)) = rest.split_first() {
+        units.push(unit(decode(*word), following))?;
+        rest = following;
+    }
+    Ok(units)
+}
+
+/// The unit of an instruction before the words that follow it in its range.
+fn unit(inst: Inst, following: &[u32]) -> Unit
+    ensures { result ≡ unit_of inst following.now }
+{
+    match inst {
+        Inst::Syscall { .. } => Unit::Call,
+        Inst::Break { code } => Unit::Trap {
+            kind: BREAK,
+            value: code,
+        },
+        Inst::Reserved(word) => Unit::Trap {
+            kind: RESERVED,
+            value: word,
+        },
+        Inst::JumpRegister { .. }
+        | Inst::JumpAndLinkRegister { .. }
+        | Inst::BranchSign { .. }
+        | Inst::Jump { .. }
+        | Inst::BranchEqual { .. }
+        | Inst::BranchZero { .. } => branch(inst, following),
+        _ => Unit::Plain(inst),
+    }
+}
+
+/// The unit of a branch or jump before the words that follow it in its range.
+fn branch(inst: Inst, following: &[u32]) -> Unit
+    ensures { result ≡ branch_unit inst following.now }
+{
+    match following.first() {
+        None => Unit::SlotMissing(inst),
+        Some(word) => {
+            let slot = decode(*word);
+            if is_branch(&slot) {
+                Unit::SlotIsBranch { inst, word: *word }
+            } else {
+                Unit::Branch { inst, slot }
+            }
+        }
+    }
+}
+
+/// Whether the instruction is a branch or jump, which has a delay slot.
+fn is_branch(inst: &Inst) -> bool
+    ensures { result ≡ is_branch inst.now }
+{
+    matches!(
+        *inst,
+        Inst::JumpRegister { .. }
+            | Inst::JumpAndLinkRegister { .. }
+            | Inst::BranchSign { .. }
+            | Inst::Jump { .. }
+            | Inst::BranchEqual { .. }
+            | Inst::BranchZero { .. }
+    )
+}

@@ -1,0 +1,13 @@
+//! Delay slots: what happens when a word of code is entered with no branch pending, as one unit a word.
+#![tactic(auto)]
+
+mod builder;
+mod laws;
+mod unit;
+
+pub use builder::{NoMemory, units};
+pub use laws::{unit_is_its_steps, unit_runs_over_systems};
+pub use unit::Unit;
+
+#[cfg(test)]
+mod tests;
