@@ -15,7 +15,7 @@ use Rattle.mips_decode.specs.declared.names.jump_name.JumpName.TheVariants.{J, J
 use Rattle.mips_decode.specs.declared.names.hi_lo.HiLo.TheVariants.{Hi, Lo}
 use Rattle.delay_slots.specs.declared.unit.Unit.TheVariants.{SlotIsBranch, Branch}
 use Rattle.delay_slots.specs.Units.{is_branch, branch_unit, unit_of}
-use Rattle.delay_slots.specs.Turns.{done_by, done, then_slot, unit_turns, AreMade}
+use Rattle.delay_slots.specs.Turns.{UnitTurns, two_turns, done_by, done, then_slot, unit_turns, AreMade}
 use Rattle.delay_slots.proofs.UnitLemmas.{first_of}
 
 -- ---- one turn, by what stands at pc
@@ -48,22 +48,34 @@ done_in_slot calls word s h = refl
 
 -- ---- effects of branches, and of the rest
 
+-- A state has what a branch leaves as it was in another.
+pub record SameAs (x s : State) : Type 0 where
+  pub begun : s.begun ≡ x.begun
+  pub code : s.code ≡ x.code
+  pub order : s.order ≡ x.order
+  pub heap_start : s.heap_start ≡ x.heap_start
+  pub heap_bytes : s.heap_bytes ≡ x.heap_bytes
+
 pub record Branches (i : Inst) (word : ℕ) (x : State) : Type 0 where
   pub linked : State
   pub target : ℕ
   pub is : effect i word x ≡ branches linked target
-  pub begun : linked.begun ≡ x.begun
   pub pc : linked.pc ≡ x.pc
-  pub code : linked.code ≡ x.code
+  pub same : SameAs x linked
 
 by_refl : (i : Inst) (word : ℕ) (x linked : State) (target : ℕ) → effect i word x ≡ branches linked target → linked ≡ record x { registers = linked.registers } → Branches i word x
 by_refl i word x linked target is kept = record {
   linked = linked;
   target = target;
   is = is;
-  begun = ap (λ (s : State). s.begun) kept;
   pc = ap (λ (s : State). s.pc) kept;
-  code = ap (λ (s : State). s.code) kept;
+  same = record {
+    begun = ap (λ (s : State). s.begun) kept;
+    code = ap (λ (s : State). s.code) kept;
+    order = ap (λ (s : State). s.order) kept;
+    heap_start = ap (λ (s : State). s.heap_start) kept;
+    heap_bytes = ap (λ (s : State). s.heap_bytes) kept;
+  };
 }
 
 branch_effect : (i : Inst) (word : ℕ) (x : State) → is_branch i ≡ true → Branches i word x
@@ -89,7 +101,7 @@ no_branch-tests true second a b c d t = tt
 no_branch-tests false true a b c d t = tt
 no_branch-tests false false a b c d t = tt
 
-no_branch : (i : Inst) (word : ℕ) (s : State) → is_branch i ≡ false → IsNoBranch (effect i word s)
+pub no_branch : (i : Inst) (word : ℕ) (s : State) → is_branch i ≡ false → IsNoBranch (effect i word s)
 no_branch (Arithmetic name rs rt rd) word s h = no_branch-result s word rd (arithmetic_result name (register s rs) (register s rt))
 no_branch (ArithmeticImmediate name rs rt imm) word s h = no_branch-result s word rt (arithmetic_immediate_result name (register s rs) imm)
 no_branch (VariableShift name rs rt rd) word s h = tt
@@ -125,24 +137,33 @@ no_branch (Float w) word s h = tt
 -- A state in the delay slot of a branch that was done in x.
 pub record InSlot (x s : State) : Type 0 where
   pub target : ℕ
-  pub begun : s.begun ≡ x.begun
   pub pending : s.pending ≡ Some target
   pub pc : s.pc ≡ (x.pc + 4) % 2 ^ 32
-  pub code : s.code ≡ x.code
+  pub same : SameAs x s
 
-branch_made : (i : Inst) (x : State) (second : State → Turn State) → is_branch i ≡ true → turn x ≡ done i x → ((s : State) → InSlot x s → turn s ≡ second s) → AreMade x (then_slot (done i x) second)
-branch_made i x second branch first slot =
+-- what holds of two turns, for each state in the slot, holds of a branch's turns
+pub by_slot : (P : UnitTurns → Type 0) (i : Inst) (x : State) (second : State → Turn State) → is_branch i ≡ true → ((s : State) → InSlot x s → done i x ≡ moves s → P (two_turns s (second s))) → P (then_slot (done i x) second)
+by_slot P i x second branch each =
     let b : Branches i (word_of i) x = branch_effect i (word_of i) x branch in
     let s : State = into_slot b.linked b.target in
     let e : done i x ≡ moves s = ap (λ (f : Effect). done_by f x) b.is in
-    let in_slot : InSlot x s = record {
+    let at : InSlot x s = record {
       target = b.target;
-      begun = b.begun;
       pending = refl;
       pc = ap (λ n. (n + 4) % 2 ^ 32) b.pc;
-      code = b.code;
+      same = record {
+        begun = b.same.begun;
+        code = b.same.code;
+        order = b.same.order;
+        heap_start = b.same.heap_start;
+        heap_bytes = b.same.heap_bytes;
+      };
     } in
-    subst (λ (y : Turn State). AreMade x (then_slot y second)) (sym e) (first ∙ e, slot s in_slot)
+    subst (λ (y : Turn State). P (then_slot y second)) (sym e) (each s at e)
+
+branch_made : (i : Inst) (x : State) (second : State → Turn State) → is_branch i ≡ true → turn x ≡ done i x → ((s : State) → InSlot x s → turn s ≡ second s) → AreMade x (then_slot (done i x) second)
+branch_made i x second branch first slot =
+    by_slot (AreMade x) i x second branch (λ s at e. (first ∙ e, slot s at))
 
 -- ---- the turns of any unit
 
@@ -165,7 +186,7 @@ module _ (x : State) (word : ℕ) (following : List ℕ) (placed : Placed x word
       ∙ ap (λ w. done_by (effect (inst word) w x) x) (sym placed.encodes)
 
   slot_there : (s : State) → InSlot x s → s.code s.pc ≡ first_of following
-  slot_there s at = ap (λ n. s.code n) at.pc ∙ ap (λ (c : ℕ → Option ℕ). c ((x.pc + 4) % 2 ^ 32)) at.code ∙ placed.next_there
+  slot_there s at = ap (λ n. s.code n) at.pc ∙ ap (λ (c : ℕ → Option ℕ). c ((x.pc + 4) % 2 ^ 32)) at.same.code ∙ placed.next_there
 
   slot_aligned : (s : State) → InSlot x s → (s.pc % 4 == 0) ≡ true
   slot_aligned s at = ap (λ n. n % 4 == 0) at.pc ∙ placed.next_aligned
@@ -173,12 +194,12 @@ module _ (x : State) (word : ℕ) (following : List ℕ) (placed : Placed x word
 -- the range ends with the branch
 slot_missing : (x s : State) (word : ℕ) → Placed x word [] → InSlot x s → turn s ≡ faulted s fetch_fault s.pc
 slot_missing x s word placed at =
-    turn_outside s (at.begun ∙ placed.begun) (slot_aligned x word [] placed s at) (slot_there x word [] placed s at)
+    turn_outside s (at.same.begun ∙ placed.begun) (slot_aligned x word [] placed s at) (slot_there x word [] placed s at)
 
 -- an instruction in the slot that is no branch
 slot_done : (x s : State) (word slot : ℕ) (words : List ℕ) → is_branch (inst slot) ≡ false → Placed x word (slot ∷ words) → InSlot x s → turn s ≡ done (inst slot) s
 slot_done x s word slot words plain placed at =
-    turn_at s slot (at.begun ∙ placed.begun) (slot_aligned x word (slot ∷ words) placed s at) (slot_there x word (slot ∷ words) placed s at)
+    turn_at s slot (at.same.begun ∙ placed.begun) (slot_aligned x word (slot ∷ words) placed s at) (slot_there x word (slot ∷ words) placed s at)
     ∙ done_in_slot (effect (inst slot) slot s) slot s (no_branch (inst slot) slot s plain)
     ∙ ap (λ w. done_by (effect (inst slot) w s) s) (sym (placed.next_encodes slot refl))
 
@@ -190,7 +211,7 @@ branch_refused e s t slot target pending is there =
 slot_refused : (x s : State) (word slot : ℕ) (words : List ℕ) → is_branch (inst slot) ≡ true → Placed x word (slot ∷ words) → InSlot x s → turn s ≡ faulted s branch_in_slot_fault slot
 slot_refused x s word slot words branch placed at =
     let b : Branches (inst slot) slot s = branch_effect (inst slot) slot s branch in
-    turn_at s slot (at.begun ∙ placed.begun) (slot_aligned x word (slot ∷ words) placed s at) (slot_there x word (slot ∷ words) placed s at)
+    turn_at s slot (at.same.begun ∙ placed.begun) (slot_aligned x word (slot ∷ words) placed s at) (slot_there x word (slot ∷ words) placed s at)
     ∙ branch_refused (effect (inst slot) slot s) s b.linked slot b.target at.target b.is at.pending
 
 slot_made : (i : Inst) (x : State) (word slot : ℕ) (words : List ℕ) (b : Bool) → is_branch (inst slot) ≡ b → is_branch i ≡ true → turn x ≡ done i x → Placed x word (slot ∷ words) → AreMade x (unit_turns (if b then SlotIsBranch i slot else Branch i (inst slot)) x)

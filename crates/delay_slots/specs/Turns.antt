@@ -1,5 +1,5 @@
 -- What a unit does: the machine's turns from a state that stands at the unit's word with no branch pending, by the unit alone.
-use Rattle.std.specs.Prelude.{◌≡◌, ℕ, ◌+◌, ◌*◌, ◌%◌, ◌^◌, ◌<◌, true, List, length, slice_get, slice_index, Option, None}
+use Rattle.std.specs.Prelude.{◌≡◌, ℕ, ◌+◌, ◌*◌, ◌%◌, ◌^◌, ◌<◌, true, ⊤, List, length, slice_get, slice_index, Option, None}
 use Rattle.nv_words.specs.Words.{IsWord}
 use Rattle.nv_events.specs.Question.{Question}
 use Rattle.nv_events.specs.Answer.{Answer}
@@ -66,6 +66,28 @@ pub record StandsAt (x : State) (first : ℕ) (words : List ℕ) (i : ℕ) : Typ
   pub pc : x.pc ≡ first + 4 * i
   pub in_range : i < length words
   pub range : HasRange x.code first words
+
+-- ---- where a unit leads
+
+-- A state stands between units: it has begun, no branch is pending, and the code, the order of bytes and the heap are those of another.
+pub record IsBetweenUnits (x t : State) : Type 0 where
+  pub begun : t.begun ≡ true
+  pub pending : t.pending ≡ None
+  pub code : t.code ≡ x.code
+  pub order : t.order ≡ x.order
+  pub heap_start : t.heap_start ≡ x.heap_start
+  pub heap_bytes : t.heap_bytes ≡ x.heap_bytes
+
+-- each state that a turn leads to, whatever the answer, stands between units
+abbrev pub LeadsOn : State → Turn State → Type 0
+LeadsOn x (moves t) = IsBetweenUnits x t
+LeadsOn x (ends end) = ⊤
+LeadsOn x (leaves question end) = ⊤
+LeadsOn x (asks question next) = (answer : Answer) → IsBetweenUnits x (next answer)
+
+abbrev pub last_turn : UnitTurns → Turn State
+last_turn (one_turn last) = last
+last_turn (two_turns slot last) = last
 
 -- ---- in runs
 

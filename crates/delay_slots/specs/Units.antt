@@ -24,7 +24,7 @@ abbrev pub branch_unit : Inst → List ℕ → Unit
 branch_unit branch [] = SlotMissing branch
 branch_unit branch (word ∷ words) = if is_branch (inst word) then SlotIsBranch branch word else Branch branch (inst word)
 
--- an instruction, before the words that follow it in its range
+-- an instruction, before the words that follow it in its range; no range that is translated has a floating-point word
 abbrev pub unit_of : Inst → List ℕ → Unit
 unit_of (Syscall code) words = Call
 unit_of (Break code) words = Trap break_fault code

@@ -7,6 +7,7 @@ use crate::unit::Unit;
 use mips_decode::{Inst, decode};
 use std::alloc::{AllocError, Global};
 
+/// Want of memory, the one error of `units`.
 pub type NoMemory = AllocError;
 
 /// The kind of the fault of BREAK.
@@ -47,12 +48,7 @@ fn unit(inst: Inst, following: &[u32]) -> Unit
             kind: RESERVED,
             value: word,
         },
-        Inst::JumpRegister { .. }
-        | Inst::JumpAndLinkRegister { .. }
-        | Inst::BranchSign { .. }
-        | Inst::Jump { .. }
-        | Inst::BranchEqual { .. }
-        | Inst::BranchZero { .. } => branch(inst, following),
+        _ if is_branch(&inst) => branch(inst, following),
         _ => Unit::Plain(inst),
     }
 }

@@ -6,7 +6,7 @@ mod laws;
 mod unit;
 
 pub use builder::{NoMemory, units};
-pub use laws::{unit_is_its_steps, unit_runs_over_systems};
+pub use laws::{unit_is_its_steps, unit_leads_on, unit_runs_over_systems};
 pub use unit::Unit;
 
 #[cfg(test)]

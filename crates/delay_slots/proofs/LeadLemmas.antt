@@ -1,0 +1,80 @@
+-- Where a unit leads.
+use Rattle.std.proofs.Common.{◌≡◌, ℕ, Bool, true, false, ◌==◌, if◌then◌else◌, List, [], ◌∷◌, refl, ap, subst, ◌∙◌}
+use Rattle.std.specs.List.{slice_get}
+use Rattle.std.specs.Prelude.{Some}
+use Rattle.nv_words.specs.Words.{signed_of}
+use Rattle.nv_events.specs.Turn.{leaves, asks, exit}
+use Rattle.mips_decode.specs.Table.{inst}
+use Rattle.mips_decode.specs.Encoding.{word_of}
+use Rattle.mips_decode.specs.State.{State, register}
+use Rattle.mips_decode.specs.Effect.{Effect, goes_on, branches, faults, calls, fetch_fault, branch_in_slot_fault}
+use Rattle.mips_decode.specs.Step.{effect, question_of, after_call, faulted}
+use Rattle.mips_decode.specs.declared.inst.Inst.{Inst}
+use Rattle.mips_decode.specs.declared.inst.Inst.TheVariants.{JumpRegister, JumpAndLinkRegister, Syscall, Break, BranchSign, Jump, BranchEqual, BranchZero, Reserved}
+use Rattle.mips_decode.proofs.Steps.{Keeps, Keeps-effect}
+use Rattle.delay_slots.specs.declared.unit.Unit.{Unit}
+use Rattle.delay_slots.specs.declared.unit.Unit.TheVariants.{SlotIsBranch, Branch}
+use Rattle.delay_slots.specs.Units.{is_branch, branch_unit, unit_of, units_of}
+use Rattle.delay_slots.specs.Turns.{UnitTurns, done_by, done, unit_turns, LeadsOn, last_turn}
+use Rattle.delay_slots.proofs.UnitLemmas.{Found, found}
+use Rattle.delay_slots.proofs.TurnLemmas.{SameAs, IsNoBranch, no_branch, by_slot}
+
+module _ (x s : State) (same : SameAs x s) (begun : x.begun ≡ true) where
+  call_leads : (leaving : Bool) → LeadsOn x (if leaving then leaves (question_of s) (exit (signed_of (register s 4))) else asks (question_of s) (after_call s))
+  call_leads true = tt
+  call_leads false = λ answer. record {
+    begun = same.begun ∙ begun;
+    pending = refl;
+    code = same.code;
+    order = same.order;
+    heap_start = same.heap_start;
+    heap_bytes = same.heap_bytes;
+  }
+
+  effect_leads : (e : Effect) → IsNoBranch e → Keeps s e → LeadsOn x (done_by e s)
+  effect_leads (goes_on t) plain kept = record {
+    begun = ap (λ (u : State). u.begun) kept ∙ same.begun ∙ begun;
+    pending = refl;
+    code = ap (λ (u : State). u.code) kept ∙ same.code;
+    order = ap (λ (u : State). u.order) kept ∙ same.order;
+    heap_start = ap (λ (u : State). u.heap_start) kept ∙ same.heap_start;
+    heap_bytes = ap (λ (u : State). u.heap_bytes) kept ∙ same.heap_bytes;
+  }
+  effect_leads (branches t target) plain kept = absurd plain
+  effect_leads (faults kind value) plain kept = tt
+  effect_leads calls plain kept = call_leads (register s 2 == 1)
+
+  done_leads : (i : Inst) → is_branch i ≡ false → LeadsOn x (done i s)
+  done_leads i plain =
+      effect_leads (effect i (word_of i) s) (no_branch i (word_of i) s plain) (Keeps-effect i (word_of i) s)
+
+same_self : (x : State) → SameAs x x
+same_self x = record { begun = refl; code = refl; order = refl; heap_start = refl; heap_bytes = refl }
+
+slot_leads : (i : Inst) (x : State) (slot : ℕ) (b : Bool) → is_branch (inst slot) ≡ b → x.begun ≡ true → is_branch i ≡ true → LeadsOn x (last_turn (unit_turns (if b then SlotIsBranch i slot else Branch i (inst slot)) x))
+slot_leads i x slot true is begun branch =
+    by_slot (λ (y : UnitTurns). LeadsOn x (last_turn y)) i x (λ s. faulted s branch_in_slot_fault slot) branch (λ s at e. tt)
+slot_leads i x slot false is begun branch =
+    by_slot (λ (y : UnitTurns). LeadsOn x (last_turn y)) i x (done (inst slot)) branch (λ s at e. done_leads x s at.same begun (inst slot) is)
+
+branch_leads : (i : Inst) (x : State) (following : List ℕ) → x.begun ≡ true → is_branch i ≡ true → LeadsOn x (last_turn (unit_turns (branch_unit i following) x))
+branch_leads i x [] begun branch =
+    by_slot (λ (y : UnitTurns). LeadsOn x (last_turn y)) i x (λ s. faulted s fetch_fault s.pc) branch (λ s at e. tt)
+branch_leads i x (slot ∷ words) begun branch = slot_leads i x slot (is_branch (inst slot)) refl begun branch
+
+unit_of_leads : (i : Inst) (x : State) (following : List ℕ) → x.begun ≡ true → LeadsOn x (last_turn (unit_turns (unit_of i following) x))
+unit_of_leads (JumpRegister rs) x following begun = branch_leads _ x following begun refl
+unit_of_leads (JumpAndLinkRegister rs rd) x following begun = branch_leads _ x following begun refl
+unit_of_leads (BranchSign name rs imm) x following begun = branch_leads _ x following begun refl
+unit_of_leads (Jump name index) x following begun = branch_leads _ x following begun refl
+unit_of_leads (BranchEqual name rs rt imm) x following begun = branch_leads _ x following begun refl
+unit_of_leads (BranchZero name rs imm) x following begun = branch_leads _ x following begun refl
+unit_of_leads (Syscall code) x following begun = call_leads x x (same_self x) begun (register x 2 == 1)
+unit_of_leads (Break code) x following begun = tt
+unit_of_leads (Reserved word) x following begun = tt
+unit_of_leads i x following begun = done_leads x x (same_self x) begun i refl
+
+pub unit_leads : (x : State) (words : List ℕ) (i : ℕ) (unit : Unit) → x.begun ≡ true → slice_get (units_of words) i ≡ Some unit → LeadsOn x (last_turn (unit_turns unit x))
+unit_leads x words i unit begun there =
+    let at : Found words i unit = found words i unit there in
+    subst (λ (u : Unit). LeadsOn x (last_turn (unit_turns u x))) at.unit_is (unit_of_leads (inst at.word) x at.following begun)
