@@ -1,4 +1,4 @@
--- Where a unit leads.
+-- Where a unit leads, and how many turns it has.
 use Rattle.std.proofs.Common.{◌≡◌, ℕ, Bool, true, false, ◌==◌, if◌then◌else◌, List, [], ◌∷◌, refl, ap, subst, ◌∙◌}
 use Rattle.std.specs.List.{slice_get}
 use Rattle.std.specs.Prelude.{Some}
@@ -15,7 +15,7 @@ use Rattle.mips_decode.proofs.Steps.{Keeps, Keeps-effect}
 use Rattle.delay_slots.specs.declared.unit.Unit.{Unit}
 use Rattle.delay_slots.specs.declared.unit.Unit.TheVariants.{SlotIsBranch, Branch}
 use Rattle.delay_slots.specs.Units.{is_branch, branch_unit, unit_of, units_of}
-use Rattle.delay_slots.specs.Turns.{UnitTurns, done_by, done, unit_turns, LeadsOn, last_turn}
+use Rattle.delay_slots.specs.Turns.{UnitTurns, done_by, done, unit_turns, LeadsOn, last_turn, turn_count, unit_turn_count}
 use Rattle.delay_slots.proofs.UnitLemmas.{Found, found}
 use Rattle.delay_slots.proofs.TurnLemmas.{SameAs, IsNoBranch, no_branch, by_slot}
 
@@ -78,3 +78,30 @@ pub unit_leads : (x : State) (words : List ℕ) (i : ℕ) (unit : Unit) → x.be
 unit_leads x words i unit begun there =
     let at : Found words i unit = found words i unit there in
     subst (λ (u : Unit). LeadsOn x (last_turn (unit_turns u x))) at.unit_is (unit_of_leads (inst at.word) x at.following begun)
+
+-- ---- counts
+
+slot_count : (i : Inst) (x : State) (slot : ℕ) (b : Bool) → is_branch i ≡ true → turn_count (unit_turns (if b then SlotIsBranch i slot else Branch i (inst slot)) x) ≡ unit_turn_count (if b then SlotIsBranch i slot else Branch i (inst slot))
+slot_count i x slot true branch =
+    by_slot (λ (y : UnitTurns). turn_count y ≡ 2) i x (λ s. faulted s branch_in_slot_fault slot) branch (λ s at e. refl)
+slot_count i x slot false branch =
+    by_slot (λ (y : UnitTurns). turn_count y ≡ 2) i x (done (inst slot)) branch (λ s at e. refl)
+
+branch_count : (i : Inst) (x : State) (following : List ℕ) → is_branch i ≡ true → turn_count (unit_turns (branch_unit i following) x) ≡ unit_turn_count (branch_unit i following)
+branch_count i x [] branch =
+    by_slot (λ (y : UnitTurns). turn_count y ≡ 2) i x (λ s. faulted s fetch_fault s.pc) branch (λ s at e. refl)
+branch_count i x (slot ∷ words) branch = slot_count i x slot (is_branch (inst slot)) branch
+
+unit_of_count : (i : Inst) (x : State) (following : List ℕ) → turn_count (unit_turns (unit_of i following) x) ≡ unit_turn_count (unit_of i following)
+unit_of_count (JumpRegister rs) x following = branch_count _ x following refl
+unit_of_count (JumpAndLinkRegister rs rd) x following = branch_count _ x following refl
+unit_of_count (BranchSign name rs imm) x following = branch_count _ x following refl
+unit_of_count (Jump name index) x following = branch_count _ x following refl
+unit_of_count (BranchEqual name rs rt imm) x following = branch_count _ x following refl
+unit_of_count (BranchZero name rs imm) x following = branch_count _ x following refl
+unit_of_count _ x following = refl
+
+pub unit_count : (x : State) (words : List ℕ) (i : ℕ) (unit : Unit) → slice_get (units_of words) i ≡ Some unit → turn_count (unit_turns unit x) ≡ unit_turn_count unit
+unit_count x words i unit there =
+    let at : Found words i unit = found words i unit there in
+    subst (λ (u : Unit). turn_count (unit_turns u x) ≡ unit_turn_count u) at.unit_is (unit_of_count (inst at.word) x at.following)

@@ -91,10 +91,18 @@ last_turn (two_turns slot last) = last
 
 -- ---- in runs
 
--- how many turns a unit has
 abbrev pub turn_count : UnitTurns → ℕ
 turn_count (one_turn last) = 1
 turn_count (two_turns slot last) = 2
+
+-- how many turns a unit has: two where it begins with a branch
+abbrev pub unit_turn_count : Unit → ℕ
+unit_turn_count (Plain i) = 1
+unit_turn_count (Branch i slot) = 2
+unit_turn_count (SlotMissing i) = 2
+unit_turn_count (SlotIsBranch i word) = 2
+unit_turn_count Call = 1
+unit_turn_count (Trap kind value) = 1
 
 -- the run of a unit's turns alone
 abbrev pub unit_run : {K : Type 0} → (K → Question → Option (Answer × K)) → UnitTurns → State → K → Run State K

@@ -18,6 +18,8 @@ const RESERVED: u32 = 9;
 
 /// The units of the words of one whole range of code, one for each word in order.
 ///
+/// The range is not empty and has no word of the floating-point coprocessor.
+///
 /// # Errors
 /// Want of memory for the units.
 pub fn units(alloc: Global, words: &[u32]) -> Result<Vec<Unit>, NoMemory>
