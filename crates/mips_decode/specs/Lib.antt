@@ -1,1 +1,12 @@
+pub mod Encoding
+pub mod Mnemonics
 pub mod Table
+pub mod Targets
+pub mod Text
+pub mod Memory
+pub mod State
+pub mod Effect
+pub mod Arithmetic
+pub mod Loads
+pub mod Branches
+pub mod Step
