@@ -10,7 +10,7 @@ use Rattle.mips_decode.specs.declared.names.branch_sign_name.BranchSignName.TheV
 use Rattle.mips_decode.specs.declared.names.arithmetic_name.ArithmeticName.TheVariants.{Add, Sub, Subu, And, Or, Xor, Nor, Slt, Sltu}
 use Rattle.mips_decode.specs.declared.names.arithmetic_immediate_name.ArithmeticImmediateName.TheVariants.{Addi, Slti, Sltiu}
 use Rattle.mips_decode.specs.declared.names.shift_name.ShiftName.TheVariants.{Sll, Srl, Sra}
-use Rattle.mips_decode.specs.declared.names.variable_shift_name.VariableShiftName.TheVariants.{Srav}
+use Rattle.mips_decode.specs.declared.names.variable_shift_name.VariableShiftName.TheVariants.{Sllv, Srlv, Srav}
 use Rattle.mips_decode.specs.declared.names.product_name.ProductName.TheVariants.{Mult, Multu, Div, Divu}
 
 -- signed overflow at both ends, and just within
@@ -42,6 +42,9 @@ less_unsigned = refl
 less_immediate : arithmetic_immediate_result Slti 1 0xffff ∷ arithmetic_immediate_result Sltiu 1 0xffff ∷ [] ≡ Some 0 ∷ Some 1 ∷ []
 less_immediate = refl
 
+less_immediate_unsigned : map (λ a. arithmetic_immediate_result Sltiu a 0xffff) (0xffff ∷ 0x10000 ∷ 0xffffffff ∷ []) ≡ Some 1 ∷ Some 1 ∷ Some 0 ∷ []
+less_immediate_unsigned = refl
+
 nor : arithmetic_result Nor 0xff00ff00 0x0000ffff ≡ Some 0x00ff0000
 nor = refl
 
@@ -51,6 +54,10 @@ shifts = refl
 
 shifts_by_register : map (variable_shifted Srav 0x80000000) (0 ∷ 31 ∷ 32 ∷ 33 ∷ []) ≡ 0x80000000 ∷ 0xffffffff ∷ 0x80000000 ∷ 0xc0000000 ∷ []
 shifts_by_register = refl
+
+-- the low five bits of the amount count
+amounts_of_32 : map (λ name. variable_shifted name 1 32) (Sllv ∷ Srlv ∷ Srav ∷ []) ≡ 1 ∷ 1 ∷ 1 ∷ []
+amounts_of_32 = refl
 
 -- HI and LO of a product and of a quotient
 product_his : map (λ name. product_hi name 0xffffffff 2) (Mult ∷ Multu ∷ Div ∷ Divu ∷ []) ≡ 0xffffffff ∷ 1 ∷ 0xffffffff ∷ 1 ∷ []
