@@ -1,1 +1,6 @@
+pub mod Check
 pub mod Header
+pub mod Segments
+pub mod Sections
+pub mod Area
+pub mod Fault

@@ -1,15 +1,26 @@
 //! Reads ELF32 files of big-endian MIPS I programs (System V ABI, "Object Files").
 #![tactic(auto)]
 
+mod elf;
+mod elf_error;
 mod elf_fault;
+mod elf_header;
 mod fields;
+mod program_header;
+mod range;
 mod reader;
+mod section_header;
 mod segment;
 mod thin;
 mod thin_error;
+mod thin_segment;
 
+pub use elf::Elf;
+pub use elf_error::ElfError;
 pub use elf_fault::ElfFault;
+pub use range::Range;
 pub use reader::read_thin;
+pub use segment::Segment;
 pub use thin::Thin;
 pub use thin_error::ThinError;
 

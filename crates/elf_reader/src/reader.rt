@@ -2,7 +2,7 @@ ghost use Rattle.std.specs.Prelude.{◌≡◌, ◌≤◌, ◌<◌, ◌↔◌, Is
 ghost use Rattle.elf_reader.specs.Header.{IsTooShort, HasMagic};
 
 use crate::fields::word_at;
-use crate::segment::{Segment, read_segment};
+use crate::thin_segment::{ThinSegment, read_segment};
 use crate::thin::Thin;
 use crate::thin_error::ThinError;
 use std::alloc::{AllocError, Global};
@@ -54,7 +54,7 @@ fn has_magic(b: &[u8]) -> bool
 }
 
 /// The words of the segment, or `None` where one lies outside the file or is not an instruction of a straight program.
-fn read_words(alloc: Global, b: &[u8], segment: Segment) -> Result<Option<Vec<u32>>, AllocError>
+fn read_words(alloc: Global, b: &[u8], segment: ThinSegment) -> Result<Option<Vec<u32>>, AllocError>
     ensures { IfOk result (λ found. IfSome found (λ words. vec_len words ≡ segment.words)) }
 {
     let mut words = Vec::new(alloc);

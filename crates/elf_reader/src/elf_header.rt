@@ -1,0 +1,27 @@
+/// The fields of an ELF header that are looked at (System V ABI, "ELF Header").
+#[derive(Clone, Copy)]
+pub struct ElfHeader {
+    /// `e_ident[EI_CLASS]`.
+    pub ei_class: u8,
+    /// `e_ident[EI_DATA]`.
+    pub ei_data: u8,
+    /// `e_ident[EI_VERSION]`.
+    pub ei_version: u8,
+    pub e_type: u16,
+    pub e_machine: u16,
+    pub e_version: u32,
+    /// The address at which the program starts.
+    pub e_entry: u32,
+    /// Where the program header table begins in the file.
+    pub e_phoff: u32,
+    /// Where the section header table begins in the file, or 0.
+    pub e_shoff: u32,
+    /// The length of an entry of the program header table.
+    pub e_phentsize: u16,
+    /// The number of program headers.
+    pub e_phnum: u16,
+    /// The length of an entry of the section header table.
+    pub e_shentsize: u16,
+    /// The number of section headers.
+    pub e_shnum: u16,
+}
