@@ -53,11 +53,10 @@ is_shared_page ranges segments page =
 abbrev pub page_count : ℕ
 page_count = 2 ^ 20
 
--- the checks of the code area: it is not empty, and no page of it can be written
-unfoldable pub area_fault : List ℕ → Option ElfFault
-area_fault file =
-    let ranges = code_ranges file in
+-- the checks of the code area, beside the live segments: it is not empty, and no page of it can be written
+unfoldable pub area_fault : List Range → List Segment → Option ElfFault
+area_fault ranges segments =
     first_fault
     (fails 21 (list_all (λ r. r.words == 0) ranges)
-    ∷ fails_at 22 (least_below (is_shared_page ranges (live file)) page_count)
+    ∷ fails_at 22 (least_below (is_shared_page ranges segments) page_count)
     ∷ [])

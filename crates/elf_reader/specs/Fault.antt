@@ -7,9 +7,9 @@ use Rattle.elf_reader.specs.declared.elf_fault.ElfFault.{ElfFault}
 use Rattle.elf_reader.specs.declared.range.Range.{Range}
 use Rattle.elf_reader.specs.Check.{first_fault}
 use Rattle.elf_reader.specs.Header.{identity_fault, program_table_fault}
-use Rattle.elf_reader.specs.Segments.{segment_fault}
-use Rattle.elf_reader.specs.Sections.{section_table_fault, section_fault}
-use Rattle.elf_reader.specs.Area.{area_fault, range_end, has_address}
+use Rattle.elf_reader.specs.Segments.{program_headers, live, segment_fault}
+use Rattle.elf_reader.specs.Sections.{section_headers, section_table_fault, section_fault}
+use Rattle.elf_reader.specs.Area.{code_ranges, area_fault, range_end, has_address}
 
 -- the first of the 22 checks that a file fails
 unfoldable pub elf_fault : List ℕ → Option ElfFault
@@ -17,10 +17,10 @@ elf_fault file =
     first_fault
     (identity_fault file
     ∷ program_table_fault file
-    ∷ segment_fault file
+    ∷ segment_fault (length file) (program_headers file)
     ∷ section_table_fault file
-    ∷ section_fault file
-    ∷ area_fault file
+    ∷ section_fault (live file) (section_headers file)
+    ∷ area_fault (code_ranges file) (live file)
     ∷ [])
 
 -- an error is the file's first fault; want of memory may come at any file

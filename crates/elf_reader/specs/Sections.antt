@@ -60,11 +60,10 @@ section_table_fault file =
     ∷ fails 18 (has_sections header && is_section_table_outside file header)
     ∷ [])
 
--- the checks of the sections
-unfoldable pub section_fault : List ℕ → Option ElfFault
-section_fault file =
-    let sections = section_headers file in
+-- the checks of the section headers, beside the live segments
+unfoldable pub section_fault : List Segment → List SectionHeader → Option ElfFault
+section_fault segments sections =
     first_fault
-    (fails_at 19 (position (is_code_outside (live file)) sections)
+    (fails_at 19 (position (is_code_outside segments) sections)
     ∷ fails_at 20 (position is_code_unaligned sections)
     ∷ [])

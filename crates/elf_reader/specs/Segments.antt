@@ -86,13 +86,12 @@ overlap_from i (h ∷ later) =
     (option_map (λ k. record { kind = 15; i = i; j = i + 1 + k }) (position (overlap h) later))
     (overlap_from (i + 1) later)
 
--- the checks of the segments
-unfoldable pub segment_fault : List ℕ → Option ElfFault
-segment_fault file =
-    let headers = program_headers file in
+-- the checks of the program headers of a file of this length
+unfoldable pub segment_fault : ℕ → List ProgramHeader → Option ElfFault
+segment_fault len headers =
     first_fault
     (fails_at 11 (position is_dynamic headers)
-    ∷ fails_at 12 (position (is_outside (length file)) headers)
+    ∷ fails_at 12 (position (is_outside len) headers)
     ∷ fails_at 13 (position is_oversized headers)
     ∷ fails_at 14 (position is_too_high headers)
     ∷ overlap_from 0 headers

@@ -6,6 +6,7 @@ mod elf_error;
 mod elf_fault;
 mod elf_header;
 mod fields;
+mod header_checks;
 mod program_header;
 mod range;
 mod reader;

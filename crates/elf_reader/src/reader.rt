@@ -1,10 +1,10 @@
 ghost use Rattle.std.specs.Prelude.{◌≡◌, ◌≤◌, ◌<◌, ◌↔◌, IsTrue, OnOk, IfOk, IfSome, IsErrOf, length, vec_len};
 ghost use Rattle.elf_reader.specs.Header.{IsTooShort, HasMagic};
 
-use crate::fields::word_at;
 use crate::thin_segment::{ThinSegment, read_segment};
 use crate::thin::Thin;
 use crate::thin_error::ThinError;
+use nv_words::word_at;
 use std::alloc::{AllocError, Global};
 
 /// The length of an ELF32 header.
@@ -59,7 +59,7 @@ fn read_words(alloc: Global, b: &[u8], segment: ThinSegment) -> Result<Option<Ve
 {
     let mut words = Vec::new(alloc);
     for i in 0..segment.words {
-        match word_at(b, u64::from(segment.offset) + 4 * u64::from(i)) {
+        match word_at(b, segment.offset as usize + 4 * i as usize) {
             Some(word) if is_straight(word) => words.push(word)?,
             _ => return Ok(None),
         }

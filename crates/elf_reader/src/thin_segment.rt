@@ -1,6 +1,6 @@
 ghost use Rattle.std.specs.Prelude.{◌≤◌, IfSome};
 
-use crate::fields::{half_at, word_at};
+use nv_words::{half_at, word_at};
 
 /// The greatest length of a file, in bytes.
 const MAX_FILE: usize = 67_108_864;
@@ -30,7 +30,7 @@ pub fn read_segment(file: &[u8]) -> Option<ThinSegment>
     if file.len() > MAX_FILE || !has_plain_header(file)? {
         return None;
     }
-    let header = u64::from(word_at(file, 28)?);
+    let header = word_at(file, 28)? as usize;
     let offset = word_at(file, header + 4)?;
     let address = word_at(file, header + 8)?;
     let bytes = word_at(file, header + 16)?;
