@@ -7,28 +7,26 @@ use Rattle.elf_reader.specs.declared.segment.Segment.{Segment}
 use Rattle.elf_reader.specs.declared.section_header.SectionHeader.{SectionHeader}
 use Rattle.elf_reader.specs.Check.{fails, fails_at, first_fault, has_flag}
 use Rattle.elf_reader.specs.Header.{header_of, word}
-use Rattle.elf_reader.specs.Segments.{live, file_end, is_executable}
+use Rattle.elf_reader.specs.Segments.{file_end, is_executable}
 
 -- there are sections
 abbrev pub has_sections : ElfHeader → Bool
 has_sections header = not (header.e_shoff == 0) && not (header.e_shnum == 0)
 
--- the section header that begins at a place
-unfoldable pub section_header_at : List ℕ → ℕ → SectionHeader
-section_header_at file at = record {
+-- the i-th section header, of 40 bytes
+unfoldable pub section_header : List ℕ → ℕ → SectionHeader
+section_header file i = let at = (header_of file).e_shoff + 40 * i in record {
   sh_type = word file (at + 4);
   sh_flags = word file (at + 8);
   sh_addr = word file (at + 12);
   sh_size = word file (at + 20)
 }
 
--- the section header table: e_shnum entries of 40 bytes from e_shoff on, or none
+-- the section header table, if there is one
 unfoldable pub section_headers : List ℕ → List SectionHeader
 section_headers file =
     let header = header_of file in
-    if has_sections header
-    then map (λ i. section_header_at file (header.e_shoff + 40 * i)) (range_with_len 0 header.e_shnum)
-    else []
+    if has_sections header then map (section_header file) (range_with_len 0 header.e_shnum) else []
 
 -- a code section: SHT_PROGBITS with SHF_ALLOC and SHF_EXECINSTR, and not empty
 abbrev pub is_code : SectionHeader → Bool

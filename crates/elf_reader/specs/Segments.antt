@@ -1,5 +1,5 @@
 -- System V ABI, "Program Header"
-use Rattle.std.specs.Prelude.{ℕ, ◌+◌, ◌*◌, Bool, ◌&&◌, ◌||◌, ◌==◌, nat_lt, List, [], ◌∷◌, length, map, filter, position, Option, None, option_map}
+use Rattle.std.specs.Prelude.{ℕ, ◌+◌, ◌*◌, Bool, ◌&&◌, ◌||◌, ◌==◌, nat_lt, List, [], ◌∷◌, map, filter, position, Option, None, option_map}
 use Rattle.std.specs.Option.{option_or}
 use Rattle.std.specs.List.{range_with_len}
 use Rattle.elf_reader.specs.declared.elf_fault.ElfFault.{ElfFault}
@@ -8,9 +8,9 @@ use Rattle.elf_reader.specs.declared.program_header.ProgramHeader.{ProgramHeader
 use Rattle.elf_reader.specs.Check.{fails_at, first_fault, has_flag, meet}
 use Rattle.elf_reader.specs.Header.{header_of, word}
 
--- the program header that begins at a place
-unfoldable pub program_header_at : List ℕ → ℕ → ProgramHeader
-program_header_at file at = record {
+-- the i-th program header, of 32 bytes
+unfoldable pub program_header : List ℕ → ℕ → ProgramHeader
+program_header file i = let at = (header_of file).e_phoff + 32 * i in record {
   p_type = word file at;
   segment = record {
     offset = word file (at + 4);
@@ -21,10 +21,9 @@ program_header_at file at = record {
   }
 }
 
--- the program header table: e_phnum entries of 32 bytes from e_phoff on
+-- the program header table
 unfoldable pub program_headers : List ℕ → List ProgramHeader
-program_headers file =
-    map (λ i. program_header_at file ((header_of file).e_phoff + 32 * i)) (range_with_len 0 (header_of file).e_phnum)
+program_headers file = map (program_header file) (range_with_len 0 (header_of file).e_phnum)
 
 -- PT_LOAD: a segment
 abbrev pub is_segment : ProgramHeader → Bool

@@ -1,5 +1,5 @@
 //! The checks of the ELF header (System V ABI, "ELF Header").
-ghost use Rattle.std.specs.Prelude.{◌≡◌, ◌≤◌, ◌+◌, ◌*◌, IsTrue, None, length};
+ghost use Rattle.std.specs.Prelude.{◌≡◌, ◌≤◌, ◌+◌, ◌*◌, IfNone, length};
 ghost use Rattle.elf_reader.specs.Header.{has_magic, header_of, identity_fault, program_table_fault};
 
 use crate::elf_fault::ElfFault;
@@ -8,7 +8,8 @@ use crate::elf_header::ElfHeader;
 /// The first of the checks of what kind of file it is: a 32-bit big-endian executable for MIPS.
 #[tactic(auto, unfolding(crate::specs::Header::identity_fault))]
 pub fn check_identity(b: &[u8]) -> Option<ElfFault>
-    ensures { result ≡ identity_fault b.now }
+    ensures first { result ≡ identity_fault b.now }
+    ensures has_header { IfNone result (52 ≤ length b.now) }
 {
     if b.len() < ElfHeader::SIZE {
         return ElfFault::when(ElfFault::TOO_SHORT, true);
@@ -44,7 +45,8 @@ fn has_magic(b: &[u8]) -> bool
 #[tactic(auto, unfolding(crate::specs::Header::program_table_fault))]
 pub fn check_program_table(b: &[u8], header: ElfHeader) -> Option<ElfFault>
     requires { header ≡ header_of b.now }
-    ensures { result ≡ program_table_fault b.now }
+    ensures first { result ≡ program_table_fault b.now }
+    ensures has_table { IfNone result (header.e_phoff + 32 * header.e_phnum ≤ length b.now) }
 {
     if header.e_phnum == 0 {
         return ElfFault::when(ElfFault::NO_SEGMENTS, true);

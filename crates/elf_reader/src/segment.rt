@@ -12,3 +12,44 @@ pub struct Segment {
     /// `p_flags`: 1 to execute, 2 to write, 4 to read, added.
     pub flags: u32,
 }
+
+impl Segment {
+    ghost use Rattle.std.specs.Prelude.{◌≡◌};
+    ghost use Rattle.elf_reader.specs.Check.{meet};
+    ghost use Rattle.elf_reader.specs.Segments.{segment_end, file_end, is_executable, is_writable};
+
+    /// The first address behind it.
+    pub(crate) fn end(&self) -> u64
+        ensures { result ≡ segment_end self.now }
+    {
+        u64::from(self.vaddr) + u64::from(self.memsz)
+    }
+
+    /// The first address behind its bytes in the file.
+    pub(crate) fn file_end(&self) -> u64
+        ensures { result ≡ file_end self.now }
+    {
+        u64::from(self.vaddr) + u64::from(self.filesz)
+    }
+
+    /// Whether it may be executed.
+    pub(crate) fn is_executable(&self) -> bool
+        ensures { result ≡ is_executable self.now }
+    {
+        self.flags & 1 != 0
+    }
+
+    /// Whether it may be written.
+    pub(crate) fn is_writable(&self) -> bool
+        ensures { result ≡ is_writable self.now }
+    {
+        self.flags & 2 != 0
+    }
+
+    /// Whether the two share an address.
+    pub(crate) fn meets(&self, other: &Segment) -> bool
+        ensures { result ≡ meet self.now.vaddr (segment_end self.now) other.now.vaddr (segment_end other.now) }
+    {
+        u64::from(self.vaddr.max(other.vaddr)) < self.end().min(other.end())
+    }
+}
