@@ -1,3 +1,4 @@
 pub mod TableLemmas
 pub mod CountLemmas
 pub mod OverlapLemmas
+pub mod SpanLemmas
