@@ -2,3 +2,4 @@ pub mod TableLemmas
 pub mod CountLemmas
 pub mod OverlapLemmas
 pub mod SpanLemmas
+pub mod SectionLemmas
