@@ -3,3 +3,4 @@ pub mod CountLemmas
 pub mod OverlapLemmas
 pub mod SpanLemmas
 pub mod SectionLemmas
+pub mod RunLemmas

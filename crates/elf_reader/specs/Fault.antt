@@ -35,5 +35,5 @@ pub record IsRunsOf (area : ℕ → Bool) (ranges : List Range) : Type 0 where
   pub aligned : All (λ r. r.first % 4 ≡ 0) ranges
   -- between two runs there is a word that is not in the area
   pub apart : AllAdjacentBelow (λ r s. range_end r < s.first) ranges (length ranges)
-  -- a word is in the area where it is in a run
-  pub same : (at : ℕ) → at % 4 ≡ 0 → area at ≡ list_any (has_address at) ranges
+  -- an address is in the area exactly where it is in a run
+  pub same : (at : ℕ) → area at ≡ list_any (has_address at) ranges

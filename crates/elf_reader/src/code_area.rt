@@ -42,3 +42,53 @@ pub fn segment_ranges(alloc: Global, segments: &[Segment]) -> Result<Vec<Range>,
     Ok(ranges)
 }
 
+/// The ranges as the maximal runs of their words, in rising order.
+pub fn runs(alloc: Global, ranges: &[Range]) -> Result<Vec<Range>, AllocError>
+    requires aligned { All (λ (r : Range). r.first % 4 ≡ 0) ranges.now }
+    requires low { All (λ (r : Range). range_end r ≤ 2 ^ 32) ranges.now }
+    ensures { IfOk result (λ v. IsRunsOf (λ at. list_any (has_address at) ranges.now) v.items) }
+{
+    let sorted = by_first(filled(alloc, ranges)?)?;
+    merged(alloc, sorted.as_slice())
+}
+
+/// The ranges that have words.
+fn filled(alloc: Global, ranges: &[Range]) -> Result<Vec<Range>, AllocError>
+    ensures { IfOk result (λ v. v.items ≡ filter (λ (r : Range). nat_lt 0 r.words) ranges.now) }
+{
+    ranges.iter().filter(|r| r.words > 0).copied().collect(alloc)
+}
+
+/// The ranges by their first addresses.
+fn by_first(mut ranges: Vec<Range>) -> Result<Vec<Range>, AllocError>
+    ensures rise { IfOk result (λ v. IsNonDecreasingBy (λ (r : Range). r.first) v.items) }
+    ensures same { IfOk result (λ v. IsPermutation ranges.items v.items) }
+{
+    ranges.sort_by_key(|r| r.first)?;
+    Ok(ranges)
+}
+
+/// The maximal runs of ranges that rise and have words.
+fn merged(alloc: Global, ranges: &[Range]) -> Result<Vec<Range>, AllocError>
+    requires rise { IsNonDecreasingBy (λ (r : Range). r.first) ranges.now }
+    requires filled { All (λ (r : Range). 1 ≤ r.words) ranges.now }
+    requires aligned { All (λ (r : Range). r.first % 4 ≡ 0) ranges.now }
+    requires low { All (λ (r : Range). range_end r ≤ 2 ^ 32) ranges.now }
+    ensures { IfOk result (λ v. IsRunsOf (λ at. list_any (has_address at) ranges.now) v.items) }
+{
+    let mut runs = Vec::new(alloc);
+    if ranges.is_empty() {
+        return Ok(runs);
+    }
+    let mut run = ranges[0];
+    for r in ranges {
+        if u64::from(r.first) <= run.end() {
+            run = run.joined(*r);
+        } else {
+            runs.push(run)?;
+            run = *r;
+        }
+    }
+    runs.push(run)?;
+    Ok(runs)
+}
