@@ -4,3 +4,4 @@ pub mod OverlapLemmas
 pub mod SpanLemmas
 pub mod SectionLemmas
 pub mod RunLemmas
+pub mod PageLemmas

@@ -1,6 +1,7 @@
 //! Reads ELF32 files of big-endian MIPS I programs (System V ABI, "Object Files").
 #![tactic(auto)]
 
+mod area_checks;
 mod code_area;
 mod elf;
 mod elf_error;
