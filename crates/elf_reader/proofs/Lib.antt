@@ -5,3 +5,4 @@ pub mod SpanLemmas
 pub mod SectionLemmas
 pub mod RunLemmas
 pub mod PageLemmas
+pub mod FaultLemmas

@@ -23,7 +23,7 @@ mod thin;
 mod thin_error;
 mod thin_segment;
 
-pub use elf::Elf;
+pub use elf::{Elf, read_elf};
 pub use elf_error::ElfError;
 pub use elf_fault::ElfFault;
 pub use range::Range;
