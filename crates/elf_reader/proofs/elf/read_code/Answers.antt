@@ -1,8 +1,7 @@
-use Rattle.std.proofs.Common.{◌≡◌, ◌∙◌, sym, ap}
+use Rattle.std.proofs.Common.{◌∙◌, sym}
 use Rattle.std.proofs.lemmas.Result.{IfOk-weaker, IfErr-weaker, on_ok_weaker}
-use Rattle.elf_reader.specs.Sections.{section_headers, section_fault, section_table_fault, has_sections}
-use Rattle.elf_reader.specs.Segments.{live}
-use Rattle.elf_reader.specs.Area.{area_fault, code_ranges, ranges_of}
+use Rattle.elf_reader.specs.Sections.{has_sections}
+use Rattle.elf_reader.specs.Area.{ranges_of}
 use Rattle.elf_reader.proofs.FaultLemmas.{code_first, ranges_known, answer_known, runs_known}
 use Rattle.elf_reader.proofs.elf.read_code.Goals as goal
 

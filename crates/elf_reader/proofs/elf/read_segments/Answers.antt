@@ -1,4 +1,4 @@
-use Rattle.std.proofs.Common.{◌≡◌, ◌∙◌, sym, ap, map, filter, length, arith}
+use Rattle.std.proofs.Common.{◌∙◌, sym, ap, map, filter, length, arith}
 use Rattle.elf_reader.specs.declared.program_header.ProgramHeader.{ProgramHeader}
 use Rattle.elf_reader.specs.Segments.{live, is_live, segment_fault}
 use Rattle.elf_reader.proofs.FaultLemmas.{segments_sound}
