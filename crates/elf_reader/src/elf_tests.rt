@@ -188,20 +188,6 @@ fn names_the_segments_and_sections_at_fault(rt: HostRuntime) -> Result<(), Fail>
                 (0x0060_0000, 4, 5, word),
                 (0x0060_0FFC, 8, 6, word),
                 text,
-                (0x003F_FFFC, 8, 4, word),
-                (0x0040_0FFF, 1, 2, &word[..1]),
-            ]
-            .as_slice(),
-            [].as_slice(),
-            15,
-            2,
-            3,
-        ),
-        (
-            [
-                (0x0060_0000, 4, 5, word),
-                (0x0060_0FFC, 8, 6, word),
-                text,
                 (0x0040_0FFF, 1, 2, &word[..1]),
             ]
             .as_slice(),
