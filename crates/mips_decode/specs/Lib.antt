@@ -1,1 +1,9 @@
+pub mod Encoding
 pub mod Table
+pub mod Memory
+pub mod State
+pub mod Effect
+pub mod Arithmetic
+pub mod Loads
+pub mod Branches
+pub mod Step

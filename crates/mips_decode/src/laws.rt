@@ -1,0 +1,17 @@
+//! What holds of the instruction table as a whole.
+ghost use Rattle.std.specs.Prelude.{◌≡◌, ℕ, AllPairs, IsTrue};
+ghost use Rattle.nv_words.specs.Words.{IsWord};
+ghost use Rattle.mips_decode.specs.declared.inst.Inst.{Inst};
+ghost use Rattle.mips_decode.specs.Table.{fits, inst, table};
+ghost use Rattle.mips_decode.specs.Encoding.{word_of};
+
+/// No word fits two rows of the instruction table.
+pub fn rows_are_disjoint()
+    ensures { AllPairs (λ r s. (w : ℕ) → IsTrue (fits w r) → ¬ (IsTrue (fits w s))) table }
+{}
+
+/// To decode and to encode undo each other: on every word, and on every instruction that some word is.
+pub fn encoding_inverts_decoding()
+    ensures words { (w : ℕ) → IsWord w → word_of (inst w) ≡ w }
+    ensures instructions { (i : Inst) (w : ℕ) → IsWord w → i ≡ inst w → inst (word_of i) ≡ i }
+{}
