@@ -1,4 +1,5 @@
 pub mod Encoding
+pub mod Mnemonics
 pub mod Table
 pub mod Memory
 pub mod State
@@ -7,3 +8,5 @@ pub mod Arithmetic
 pub mod Loads
 pub mod Branches
 pub mod Step
+pub mod Targets
+pub mod Text

@@ -8,7 +8,7 @@ use crate::names::{
 /// The instructions of one form of the instruction set share a variant, with their name beside the fields of the word:
 /// `rs`, `rt` and `rd` number a register below 32, `sa` is a shift amount below 32, `imm` is the low half of the word,
 /// `index` has 26 bits and `code` has 20. A field that a form does not list is 0 in the word, or chooses the name.
-#[derive(Clone, Copy, Debug, PartialEq, Eq)]
+#[derive(Clone, Copy, PartialEq, Eq)]
 pub enum Inst {
     /// ADD to SLTU: rd becomes a function of rs and rt.
     Arithmetic {

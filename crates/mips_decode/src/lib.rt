@@ -5,10 +5,13 @@ mod decoder;
 mod encoder;
 mod fields;
 mod forms;
+mod hexadecimal;
 mod inst;
 mod laws;
 mod names;
 mod numbers;
+mod targets;
+mod text;
 
 pub use decoder::decode;
 pub use encoder::encode;
@@ -18,3 +21,8 @@ pub use names::{
     ArithmeticImmediateName, ArithmeticName, BranchEqualName, BranchSignName, BranchZeroName, HiLo,
     JumpName, LoadName, LogicalImmediateName, ProductName, ShiftName, StoreName, VariableShiftName,
 };
+pub use targets::{branch_target, jump_target};
+pub use text::{NoMemory, print_inst};
+
+#[cfg(test)]
+mod tests;

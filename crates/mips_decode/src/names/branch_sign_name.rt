@@ -1,8 +1,26 @@
+use std::fmt;
+
 /// A branch on the sign of a register, which may link.
-#[derive(Clone, Copy, Debug, PartialEq, Eq)]
+#[derive(Clone, Copy, PartialEq, Eq)]
 pub enum BranchSignName {
     Bltz,
     Bgez,
     Bltzal,
     Bgezal,
+}
+
+impl fmt::Display for BranchSignName {
+    ghost use Rattle.std.specs.Prelude.{Some};
+    ghost use Rattle.mips_decode.specs.Mnemonics.{branch_sign_text};
+
+    ghost output = { λ name. Some (branch_sign_text name) };
+
+    fn fmt<W: fmt::Write>(&self, f: &mut fmt::Formatter<W>) -> fmt::Result {
+        f.write_str(match self {
+            BranchSignName::Bltz => "bltz",
+            BranchSignName::Bgez => "bgez",
+            BranchSignName::Bltzal => "bltzal",
+            BranchSignName::Bgezal => "bgezal",
+        })
+    }
 }

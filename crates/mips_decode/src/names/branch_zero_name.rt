@@ -1,6 +1,22 @@
+use std::fmt;
+
 /// A branch that compares a register with zero.
-#[derive(Clone, Copy, Debug, PartialEq, Eq)]
+#[derive(Clone, Copy, PartialEq, Eq)]
 pub enum BranchZeroName {
     Blez,
     Bgtz,
+}
+
+impl fmt::Display for BranchZeroName {
+    ghost use Rattle.std.specs.Prelude.{Some};
+    ghost use Rattle.mips_decode.specs.Mnemonics.{branch_zero_text};
+
+    ghost output = { λ name. Some (branch_zero_text name) };
+
+    fn fmt<W: fmt::Write>(&self, f: &mut fmt::Formatter<W>) -> fmt::Result {
+        f.write_str(match self {
+            BranchZeroName::Blez => "blez",
+            BranchZeroName::Bgtz => "bgtz",
+        })
+    }
 }

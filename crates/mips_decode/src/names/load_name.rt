@@ -1,5 +1,7 @@
+use std::fmt;
+
 /// A load from memory.
-#[derive(Clone, Copy, Debug, PartialEq, Eq)]
+#[derive(Clone, Copy, PartialEq, Eq)]
 pub enum LoadName {
     Lb,
     Lh,
@@ -8,4 +10,23 @@ pub enum LoadName {
     Lbu,
     Lhu,
     Lwr,
+}
+
+impl fmt::Display for LoadName {
+    ghost use Rattle.std.specs.Prelude.{Some};
+    ghost use Rattle.mips_decode.specs.Mnemonics.{load_text};
+
+    ghost output = { λ name. Some (load_text name) };
+
+    fn fmt<W: fmt::Write>(&self, f: &mut fmt::Formatter<W>) -> fmt::Result {
+        f.write_str(match self {
+            LoadName::Lb => "lb",
+            LoadName::Lh => "lh",
+            LoadName::Lwl => "lwl",
+            LoadName::Lw => "lw",
+            LoadName::Lbu => "lbu",
+            LoadName::Lhu => "lhu",
+            LoadName::Lwr => "lwr",
+        })
+    }
 }
