@@ -1,0 +1,3 @@
+pub mod LaneForms
+pub mod PageLemmas
+pub mod WordLemmas
