@@ -1,3 +1,5 @@
+pub mod MapLemmas
+pub mod MemoryLemmas
 pub mod LaneForms
 pub mod PageLemmas
 pub mod WordLemmas

@@ -1,15 +1,15 @@
 -- Pages of memory: where words stand, and what a changed word leaves.
 use Rattle.std.proofs.Common.{◌≡◌, ◌≢◌, ℕ, ◌+◌, ◌*◌, ◌/◌, ◌%◌, ◌<◌, ◌≤◌, ◌^◌, Bool, true, false, ◌==◌, if◌then◌else◌, List, length, Option, Some, None, refl, ap, sym, ◌∙◌, inl, inr, arith, rules, get_or, option_map, is_some, nat_lt, IsTrue}
-use Rattle.std.specs.Prelude.{slice_index, slice_set}
+use Rattle.std.specs.Prelude.{slice_index, slice_index_or, slice_set}
 use Rattle.std.proofs.lemmas.Bool.{cases_Bool, eqb-true, eqb-false, eq-eqb, ne_eqb, both_ways, le-ltb}
 use Rattle.std.proofs.lemmas.Bool.Decides.{nat_tests}
 use Rattle.std.proofs.lemmas.Grind.{common_steps}
-use Rattle.std.proofs.lemmas.List.{get_or-set_same, get_or-set_other}
+use Rattle.std.proofs.lemmas.List.{get_or-set_same, get_or-set_other, length-set}
 use Rattle.nv_events.specs.Memory.{Memory}
 use Rattle.nv_words.specs.Words.{lane_of_word, word_with_lane}
 use Rattle.mips_machine.specs.declared.page.Page.{Page}
 use Rattle.mips_machine.specs.declared.page.Page.TheVariants.{Unmapped, ReadOnly, Writable}
-use Rattle.mips_machine.specs.Pages.{Pages, place_of, is_writable, entry, cell, word_in, memory_of, put_byte_at, IsSound}
+use Rattle.mips_machine.specs.Pages.{Pages, place_of, entry, cell, memory_of, IsSound}
 
 -- where a page stands, from where one of its words stands
 page_of_cell : (place : Option ℕ) (n i : ℕ) → option_map (λ k. k * 1024 + n % 1024) place ≡ Some i → (k : ℕ) × (place ≡ Some k) × (i ≡ k * 1024 + n % 1024)
@@ -60,3 +60,13 @@ pub memory_of-set : (p : Pages) → IsSound p → (n i v : ℕ) → cell p n ≡
 unfolding memory_of byte_of cell entry
 memory_of-set p sound n i v e =
     ap (λ (f : ℕ → Option ℕ). record (memory_of p) { byte = f }) (λ j x. changed_byte p sound n i v x e (x / 4 == n) refl j)
+
+-- pages with a word replaced are sound
+pub IsSound-set : (p : Pages) (i v : ℕ) → IsSound p → IsSound (record p { words = slice_set p.words i v })
+unfolding entry
+IsSound-set p i v s = record {
+  size = s.size;
+  whole = simp length-set s.whole;
+  within = λ n k e. simp length-set (s.within n k e);
+  apart = s.apart;
+}

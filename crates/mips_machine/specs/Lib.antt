@@ -1,2 +1,3 @@
 pub mod Pages
 pub mod OneWord
+pub mod ViewLaws
