@@ -1,11 +1,15 @@
 -- Loads, stores and patches over pages.
-use Rattle.std.proofs.Common.{◌≡◌, ℕ, zero, suc, ◌&&◌, ◌+◌, ◌-◌, ◌*◌, ◌/◌, ◌%◌, ◌<◌, ◌≤◌, ◌^◌, Bool, true, false, ◌==◌, nat_lt, if◌then◌else◌, List, [], ◌∷◌, length, Option, Some, None, refl, ap, sym, ◌∙◌, subst, arith, option_map, is_some, is_none, IsTrue, Result, Ok, Err}
+use Rattle.std.proofs.Common.{◌≡◌, ℕ, zero, suc, ◌&&◌, ◌+◌, ◌-◌, ◌*◌, ◌/◌, ◌%◌, ◌<◌, ◌≤◌, ◌^◌, Bool, true, false, ◌==◌, nat_lt, nat_le, if◌then◌else◌, List, [], ◌∷◌, length, Option, Some, None, refl, ap, sym, ◌∙◌, subst, arith, option_map, is_some, is_none, IsTrue, Result, Ok, Err}
 use Rattle.std.specs.Prelude.{slice_index, slice_set, ℤ}
 use Rattle.std.specs.List.{list_all}
-use Rattle.std.proofs.lemmas.Bool.{eqb-true, eqb-false, and_parts, ltb-true}
+use Rattle.std.proofs.lemmas.Bool.{and_parts, ltb-true, leb-true}
 use Rattle.nv_events.specs.Memory.{Memory, can_write, patched}
-use Rattle.nv_events.specs.Question.{Question, room_at, Room, no_room, missing, there}
-use Rattle.nv_events.specs.Answer.{Answer, fits, fits_room, answered, room_place}
+use Rattle.nv_events.specs.Question.{Question, asked, places_of, room_at, missing, there}
+use Rattle.nv_events.specs.Serving.{Serves}
+use Rattle.nv_events.specs.declared.call.Call.{Call}
+use Rattle.nv_events.specs.declared.io_fault.IoFault.{IoFault}
+use Rattle.nv_events.proofs.Rooms.{can_write-front}
+use Rattle.nv_events.specs.Answer.{Answer, fits_room, room_place}
 use Rattle.nv_words.specs.Words.{lane_of_word, word_with_lane}
 use Rattle.nv_words.specs.declared.order.Order.TheVariants.{Big}
 use Rattle.nv_words.proofs.LaneLemmas.{below_four}
@@ -116,3 +120,30 @@ memory_of-patched (b ∷ bs) p a sound bytes w =
     same_can_write : (m : Memory) (a b x n : ℕ) → can_write (with_byte m a b) x n ≡ can_write m x n
     same_can_write m a b x zero = refl
     same_can_write m a b x (suc n) = ap (λ t. m.writable x && t) (same_can_write m a b (x + 1) n)
+
+-- ---- calls answered
+
+-- a patch that fits the room of a call stands in memory that may be written
+room_holds : (m : Memory) (b : ℕ) (bs : List ℕ) (place size : ℕ) (w : Bool) → can_write m place size ≡ w → fits_room (b ∷ bs) (if w then there place size else missing) ≡ true
+    → (can_write m (room_place (if w then there place size else missing)) (length (b ∷ bs)) ≡ true) × (list_all (λ x. nat_lt x 256) (b ∷ bs) ≡ true)
+room_holds m b bs place size true e h =
+    let parts = and_parts (nat_le (length (b ∷ bs)) size) (list_all (λ x. nat_lt x 256) (b ∷ bs)) h in
+    (can_write-front m place size (length (b ∷ bs)) e (leb-true (length (b ∷ bs)) size parts.0), parts.1)
+room_holds m b bs place size false e h = cc
+
+answered-memory : (c : Pages) → IsSound c → (room : Option (ℕ × ℕ)) (patch : List ℕ) → fits_room patch (room_at (memory_of c) room) ≡ true
+    → memory_of (patched put_byte_at c (room_place (room_at (memory_of c) room)) patch) ≡ patched with_byte (memory_of c) (room_place (room_at (memory_of c) room)) patch
+answered-memory c sound room [] h = refl
+answered-memory c sound None (b ∷ bs) h = cc
+answered-memory c sound (Some place) (b ∷ bs) h =
+    let fit = room_holds (memory_of c) b bs place.0 place.1 (can_write (memory_of c) place.0 place.1) refl h in
+    memory_of-patched (b ∷ bs) c (room_place (room_at (memory_of c) (Some place))) sound fit.1 fit.0
+
+pub served-memory : {V : Type 0} (goes : V → Question → Answer → V → Type 0) (held fell : V → Question → V → Type 0) (call : Call) (c d : Pages) (v w : V) → IsSound c
+    → (r : Result (Option ℤ) IoFault) → Serves goes held fell put_byte_at (asked call (memory_of c)) v w c d r
+    → Serves goes held fell with_byte (asked call (memory_of c)) v w (memory_of c) (memory_of d) r
+served-memory goes held fell call c d v w sound (Ok (Some value)) s =
+    (s.0, s.1, s.2, ap memory_of s.3 ∙ answered-memory c sound (places_of call).room s.0 s.1)
+served-memory goes held fell call c d v w sound (Ok None) s = (s.0, ap memory_of s.1)
+served-memory goes held fell call c d v w sound (Err e) s =
+    (s.0, (s.1.0, s.1.1, ap memory_of s.1.2 ∙ answered-memory c sound (places_of call).room s.1.0 s.1.1))

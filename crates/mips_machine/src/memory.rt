@@ -1,12 +1,15 @@
-ghost use Rattle.std.specs.Prelude.{◌≡◌, ℕ, ◌+◌, ◌*◌, ◌/◌, ◌%◌, ◌<◌, length, Option, Some, None, MatchOption, IfOk, OnOk, OnErr, IsTrue, is_none, true, false, slice_index, slice_index_or, if◌then◌else◌};
+ghost use Rattle.std.specs.Prelude.{◌≡◌, ◌≢◌, Ok, ℕ, ◌+◌, ◌*◌, ◌/◌, ◌%◌, ◌<◌, length, Option, Some, None, MatchOption, IfOk, OnOk, OnErr, IsTrue, is_none, true, false, slice_index, slice_index_or, if◌then◌else◌};
 ghost use Rattle.nv_words.specs.declared.order.Order.TheVariants.{Big};
 ghost use Rattle.mips_decode.specs.Loads.{load_aligned, loaded, store_aligned, store_allowed, stored};
-ghost use Rattle.mips_machine.specs.Pages.{entry, cell, word_in, memory_of, place_of, is_writable, no_memory, with_page};
+ghost use Rattle.nv_events.specs.Question.{asked};
+ghost use Rattle.nv_events.specs.Serving.{Serves, Causes, NoneFalls};
+ghost use Rattle.mips_decode.specs.Memory.{with_byte};
+ghost use Rattle.mips_machine.specs.Pages.{IsSound, entry, cell, word_in, memory_of, place_of, is_writable, no_memory, with_page};
 
 use crate::lanes::{from_word, into_word};
 use crate::page::Page;
 use mips_decode::{LoadName, StoreName};
-use nv_events::View;
+use nv_events::{Call, IoFault, Server, View};
 use nv_words::{lane, with_lane};
 use std::alloc::{AllocError, Global};
 use std::marker::Model;
@@ -99,6 +102,30 @@ impl GuestMemory {
             }
             None => false,
         }
+    }
+
+    /// Lets a server answer a call of the program.
+    #[inline]
+    pub(crate) fn answer<V: Server>(&mut self, call: &Call, server: &mut V) -> Result<Option<i32>, IoFault>
+        requires not_exit { call.now.number ≢ 1 }
+        requires usable { V.usable server.old }
+        ensures served { Serves V.goes V.held V.fell with_byte (asked call.now (memory_of self.old)) server.old server.new (memory_of self.old) (memory_of self.new) result }
+        ensures causes { Causes (V.faults server.old) (V.faults server.new) result }
+        ensures none_falls { NoneFalls (V.faults server.old) (V.faults server.new) }
+        ensures ready { IsTrue (V.ready server.old) → result ≢ Ok None }
+        ensures ready_stays { V.ready server.new ≡ V.ready server.old }
+        ensures usable_stays { OnOk result (V.usable server.new) }
+        ensures keeps { V.keeps server.old server.new }
+    {
+        self.see();
+        server.serve(call, self)
+    }
+
+    /// Does nothing: the memory's pages are sound.
+    fn see(&self)
+        ensures { IsSound self.now }
+    {
+        let _ = &self.words;
     }
 
     /// The page of a number.
