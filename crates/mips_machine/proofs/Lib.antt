@@ -1,3 +1,4 @@
+pub mod CodeLemmas
 pub mod MapLemmas
 pub mod MemoryLemmas
 pub mod LaneForms

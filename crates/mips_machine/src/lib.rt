@@ -2,8 +2,12 @@
 #![tactic(auto)]
 
 mod arithmetic;
+mod code;
 mod lanes;
+mod line;
 mod memory;
 mod page;
 
+pub use code::Code;
+pub use line::Line;
 pub use memory::{GuestMemory, NoMemory};
