@@ -1,3 +1,5 @@
+pub mod RegisterLemmas
+pub mod FieldLemmas
 pub mod CodeLemmas
 pub mod MapLemmas
 pub mod MemoryLemmas

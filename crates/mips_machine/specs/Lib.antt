@@ -2,3 +2,6 @@ pub mod Pages
 pub mod OneWord
 pub mod ViewLaws
 pub mod CodePages
+pub mod Fields
+pub mod Registers
+pub mod Processor

@@ -3,10 +3,13 @@
 
 mod arithmetic;
 mod code;
+mod executed;
 mod lanes;
 mod line;
 mod memory;
 mod page;
+mod processor;
+mod registers;
 
 pub use code::Code;
 pub use line::Line;
