@@ -1,9 +1,12 @@
 //! The guest machine: a MIPS I processor in user mode, its memory, and its run over a server.
 #![tactic(auto)]
 
+mod accessing;
 mod arithmetic;
 mod code;
+mod computing;
 mod executed;
+mod kinds;
 mod lanes;
 mod line;
 mod memory;

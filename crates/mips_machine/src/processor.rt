@@ -1,19 +1,16 @@
-ghost use Rattle.std.specs.Prelude.{◌≡◌, ℕ, ◌<◌, ◌*◌, ◌^◌, Option, Some, None};
-ghost use Rattle.mips_decode.specs.State.{register, with_register};
-ghost use Rattle.mips_decode.specs.Step.{effect, result_effect};
-ghost use Rattle.mips_machine.specs.Fields.{HasFields};
-ghost use Rattle.mips_machine.specs.Processor.{processor_state, effect_of, Stays};
+ghost use Rattle.std.specs.Prelude.{◌≡◌, ℕ, ◌<◌};
+ghost use Rattle.mips_decode.specs.State.{register, with_register, start};
+ghost use Rattle.mips_machine.specs.Pages.{memory_of};
+ghost use Rattle.mips_machine.specs.CodePages.{code_of};
+ghost use Rattle.mips_machine.specs.Processor.{processor_state};
 
-use crate::arithmetic::{
-    arithmetic, arithmetic_immediate, extended, logical_immediate, product, shift, variable_shift,
-};
 use crate::code::Code;
-use crate::executed::Executed;
 use crate::memory::GuestMemory;
 use crate::registers::Registers;
-use mips_decode::HiLo;
 
-/// The processor with its memory and the program's code.
+/// The processor, with its memory and the program's code.
+///
+/// A contract sees it through `processor_state`.
 #[derive(Drop)]
 pub struct Processor {
     pub(crate) begun: bool,
@@ -29,6 +26,31 @@ pub struct Processor {
 }
 
 impl Processor {
+    /// The processor before the first instruction of a program.
+    #[tactic(auto, unfolding(crate::specs::Processor::processor_state))]
+    pub(crate) fn new(
+        memory: GuestMemory,
+        code: Code,
+        entry: u32,
+        heap_start: u32,
+        heap_bytes: u32,
+    ) -> Processor
+        ensures { processor_state result ≡ start entry (memory_of memory) (code_of code) heap_start heap_bytes }
+    {
+        Processor {
+            begun: false,
+            registers: Registers::new(),
+            hi: 0,
+            lo: 0,
+            pc: entry,
+            pending: None,
+            memory,
+            code,
+            heap_start,
+            heap_bytes,
+        }
+    }
+
     /// What a register holds.
     #[inline]
     #[tactic(auto, unfolding(crate::specs::Processor::processor_state))]
@@ -48,23 +70,4 @@ impl Processor {
     {
         self.registers.set(r, w);
     }
-
-    /// A result goes to a register; want of one is an overflow.
-    #[inline]
-    fn take(&mut self, r: u8, outcome: Option<u32>, word: u32) -> Executed
-        requires { r < 32 }
-        ensures effect { effect_of result (processor_state self.new) ≡ result_effect (processor_state self.old) word r outcome }
-        ensures stays { Stays result (processor_state self.old) (processor_state self.new) }
-    {
-        match outcome {
-            Some(w) => {
-                self.set_register(r, w);
-                Executed::On
-            }
-            None => Executed::Fault { kind: OVERFLOW, value: word },
-        }
-    }
 }
-
-/// The kind of an overflow.
-const OVERFLOW: u32 = 7;
