@@ -176,7 +176,7 @@ pub stored-is : (name : StoreName) (m : Memory) (n old k a w v : ℕ) → IsWord
 stored-is name m n old k a w v h small e aligned lanes =
     let d = stored-at name m n old k a w h small e aligned in
     let bytes : (x : ℕ) → (with_cell m n v).byte x ≡ (stored name Big m a w).byte x =
-        λ x. ap (λ b. if x / 4 == n then b else m.byte x) (sym (lanes (x % 4) (omega arith))) ∙ sym (d.byte x) in
+    λ x. ap (λ b. if x / 4 == n then b else m.byte x) (sym (lanes (x % 4) (omega arith))) ∙ sym (d.byte x) in
     ap (λ (f : ℕ → Option ℕ). record m { byte = f }) (λ i x. bytes x i)
     ∙ ap (λ (g : ℕ → Bool). record (stored name Big m a w) { writable = g }) (sym d.writable)
 

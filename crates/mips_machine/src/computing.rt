@@ -18,7 +18,14 @@ use mips_decode::{
 impl Processor {
     /// ADD to SLTU.
     #[inline]
-    pub(crate) fn arithmetic(&mut self, name: ArithmeticName, rs: u8, rt: u8, rd: u8, word: u32) -> Executed
+    pub(crate) fn arithmetic(
+        &mut self,
+        name: ArithmeticName,
+        rs: u8,
+        rt: u8,
+        rd: u8,
+        word: u32,
+    ) -> Executed
         requires rs { rs < 32 }
         requires rt { rt < 32 }
         requires rd { rd < 32 }
@@ -50,7 +57,13 @@ impl Processor {
 
     /// ANDI, ORI, XORI.
     #[inline]
-    pub(crate) fn logical_immediate(&mut self, name: LogicalImmediateName, rs: u8, rt: u8, imm: u16) -> Executed
+    pub(crate) fn logical_immediate(
+        &mut self,
+        name: LogicalImmediateName,
+        rs: u8,
+        rt: u8,
+        imm: u16,
+    ) -> Executed
         requires rs { rs < 32 }
         requires rt { rt < 32 }
         ensures effect { effect_of result (processor_state self.new) ≡ goes_on (with_register (processor_state self.old) rt (manual.logical_immediate_result name (register (processor_state self.old) rs) imm)) }
@@ -88,7 +101,13 @@ impl Processor {
 
     /// SLLV, SRLV, SRAV.
     #[inline]
-    pub(crate) fn variable_shift(&mut self, name: VariableShiftName, rs: u8, rt: u8, rd: u8) -> Executed
+    pub(crate) fn variable_shift(
+        &mut self,
+        name: VariableShiftName,
+        rs: u8,
+        rt: u8,
+        rd: u8,
+    ) -> Executed
         requires rs { rs < 32 }
         requires rt { rt < 32 }
         requires rd { rd < 32 }

@@ -60,11 +60,7 @@ fn signed_half(h: u32) -> u32
     requires { h < 65536 }
     ensures { result ≡ sign_extended 16 h }
 {
-    if h < 0x8000 {
-        h
-    } else {
-        h + 0xffff_0000
-    }
+    if h < 0x8000 { h } else { h + 0xffff_0000 }
 }
 
 /// The upper half of a word at 0, the lower half at 2.

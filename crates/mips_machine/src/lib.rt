@@ -3,8 +3,10 @@
 
 mod accessing;
 mod arithmetic;
+mod branching;
 mod code;
 mod computing;
+mod execute;
 mod executed;
 mod kinds;
 mod lanes;

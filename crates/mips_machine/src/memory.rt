@@ -106,7 +106,11 @@ impl GuestMemory {
 
     /// Lets a server answer a call of the program.
     #[inline]
-    pub(crate) fn answer<V: Server>(&mut self, call: &Call, server: &mut V) -> Result<Option<i32>, IoFault>
+    pub(crate) fn answer<V: Server>(
+        &mut self,
+        call: &Call,
+        server: &mut V,
+    ) -> Result<Option<i32>, IoFault>
         requires not_exit { call.now.number ≢ 1 }
         requires usable { V.usable server.old }
         ensures served { Serves V.goes V.held V.fell with_byte (asked call.now (memory_of self.old)) server.old server.new (memory_of self.old) (memory_of self.new) result }

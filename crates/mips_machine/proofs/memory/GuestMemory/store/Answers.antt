@@ -31,8 +31,8 @@ returns-in-Some-clause-after c =
     let sound = subst IsSound c.self.view_is c.self.invariant in
     let below = cell-within c.args.self.now sound (c.args.at / 4) c.in-Some.cell c.in-Some.ensures.1 in
     let read : c.index.result.now ≡ slice_index c.args.self.now.words c.in-Some.cell =
-        get_or_read c.self.inside.words.items _ _ (omega (arith, below, ap (λ (q : Pages). length q.words) c.self.view_is)) c.index.ensures 0
-        ∙ ap (λ (q : Pages). slice_index q.words c.in-Some.cell) c.self.view_is in
+    get_or_read c.self.inside.words.items _ _ (omega (arith, below, ap (λ (q : Pages). length q.words) c.self.view_is)) c.index.ensures 0
+    ∙ ap (λ (q : Pages). slice_index q.words c.in-Some.cell) c.self.view_is in
     let lanes = subst (λ x. (j : ℕ) → j < 4 → (stored c.args.name Big (one_word x) (c.args.at % 4) c.args.w).byte j ≡ Some (lane_of_word c.into_word.result j)) read c.into_word.ensures in
     ap (λ (q : Pages). memory_of (record q { words = slice_set q.words c.in-Some.cell c.into_word.result })) c.self.view_is
     ∙ store-after c.args.name c.args.self.now c.args.at c.args.w c.in-Some.cell c.into_word.result sound c.in-Some.ensures.1 c.requires lanes

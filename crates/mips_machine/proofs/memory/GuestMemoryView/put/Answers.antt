@@ -25,10 +25,10 @@ returns-in-Some-clause-after c =
     let sound = subst IsSound c.self.view_is c.self.invariant in
     let below = cell-within c.args.self.now sound (c.args.at / 4) c.in-Some.cell c.in-Some.ensures.1 in
     let read : c.index.result.now ≡ slice_index c.args.self.now.words c.in-Some.cell =
-        get_or_read c.self.inside.words.items _ _ (omega (arith, below, ap (λ (q : Pages). length q.words) c.self.view_is)) c.index.ensures 0
-        ∙ ap (λ (q : Pages). slice_index q.words c.in-Some.cell) c.self.view_is in
+    get_or_read c.self.inside.words.items _ _ (omega (arith, below, ap (λ (q : Pages). length q.words) c.self.view_is)) c.index.ensures 0
+    ∙ ap (λ (q : Pages). slice_index q.words c.in-Some.cell) c.self.view_is in
     let put : c.with_lane.result ≡ word_with_lane (slice_index c.args.self.now.words c.in-Some.cell) (c.args.at % 4) c.args.b =
-        c.with_lane.ensures.value ∙ ap (λ x. word_with_lane x (c.args.at % 4) c.args.b) read in
+    c.with_lane.ensures.value ∙ ap (λ x. word_with_lane x (c.args.at % 4) c.args.b) read in
     ap (λ (q : Pages). record q { words = slice_set q.words c.in-Some.cell c.with_lane.result }) c.self.view_is
     ∙ ap (λ v. record c.args.self.now { words = slice_set c.args.self.now.words c.in-Some.cell v }) put
     ∙ sym (put_some c.args.self.now c.args.at c.args.b c.in-Some.cell c.in-Some.ensures.1)
