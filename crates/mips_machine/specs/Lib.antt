@@ -5,3 +5,4 @@ pub mod CodePages
 pub mod Fields
 pub mod Registers
 pub mod Processor
+pub mod Settling

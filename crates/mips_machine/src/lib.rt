@@ -15,6 +15,7 @@ mod memory;
 mod page;
 mod processor;
 mod registers;
+mod turning;
 
 pub use code::Code;
 pub use line::Line;
