@@ -1,3 +1,4 @@
+pub mod TurnLemmas
 pub mod RegisterLemmas
 pub mod FieldLemmas
 pub mod CodeLemmas
