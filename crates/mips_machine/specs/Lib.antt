@@ -6,3 +6,5 @@ pub mod Fields
 pub mod Registers
 pub mod Processor
 pub mod Settling
+pub mod Steps
+pub mod Guest

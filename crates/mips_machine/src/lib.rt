@@ -12,11 +12,15 @@ mod kinds;
 mod lanes;
 mod line;
 mod memory;
+mod mips;
 mod page;
 mod processor;
 mod registers;
+mod step;
 mod turning;
 
 pub use code::Code;
 pub use line::Line;
+pub use mips::Mips;
+pub use step::Step;
 pub use memory::{GuestMemory, NoMemory};
