@@ -1,5 +1,5 @@
 -- Shifted words and their lanes.
-use Rattle.std.proofs.Common.{◌≡◌, ℕ, ◌-◌, ◌<◌, ◌^◌, Some, ap, arith}
+use Rattle.std.proofs.Common.{◌≡◌, ℕ, ◌-◌, ◌<◌, Some, ap, arith}
 use Rattle.nv_words.specs.Words.{lane_of_word}
 use Rattle.nv_words.specs.declared.order.Order.TheVariants.{Big}
 use Rattle.nv_words.proofs.LaneLemmas.{below_four}

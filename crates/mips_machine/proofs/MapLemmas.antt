@@ -1,15 +1,13 @@
 -- Tables of pages that are made, and pages that are added.
-use Rattle.std.proofs.Common.{◌≡◌, ◌≢◌, ℕ, ◌+◌, ◌-◌, ◌*◌, ◌/◌, ◌%◌, ◌<◌, ◌≤◌, Bool, true, false, ◌==◌, nat_lt, if◌then◌else◌, List, [], ◌++◌, length, Option, Some, None, refl, ap, sym, ◌∙◌, inl, inr, subst, arith, option_map, get_or}
+use Rattle.std.proofs.Common.{◌≡◌, ℕ, ◌+◌, ◌-◌, ◌*◌, ◌/◌, ◌%◌, ◌<◌, ◌≤◌, Bool, true, false, ◌==◌, nat_lt, if◌then◌else◌, List, [], ◌++◌, length, Option, Some, None, refl, ap, sym, ◌∙◌, arith, option_map}
 use Rattle.std.specs.Prelude.{slice_index, slice_index_or, slice_set}
-use Rattle.std.proofs.lemmas.Bool.{cases_Bool, cases_eq, eqb-true, eqb-false, ne_eqb, eq-eqb, lt-ltb}
+use Rattle.std.proofs.lemmas.Bool.{eqb-true, eqb-false, lt-ltb}
 use Rattle.std.proofs.lemmas.List.{get_or-set_same, get_or-set_other, get_or-append_right, get_or_append_left, length-set, length-append}
-use Rattle.nv_events.specs.Memory.{Memory}
 use Rattle.nv_words.specs.Words.{lane_of_word}
 use Rattle.mips_machine.specs.declared.page.Page.{Page}
-use Rattle.mips_machine.specs.declared.page.Page.TheVariants.{Unmapped, ReadOnly, Writable}
-use Rattle.mips_machine.specs.Pages.{Pages, place_of, is_writable, entry, cell, word_in, memory_of, IsSound, no_memory, with_page}
+use Rattle.mips_machine.specs.declared.page.Page.TheVariants.{Unmapped}
+use Rattle.mips_machine.specs.Pages.{Pages, place_of, is_writable, entry, cell, memory_of, IsSound, no_memory, with_page}
 use Rattle.mips_machine.specs.ViewLaws.{page_number}
-use Rattle.mips_machine.proofs.PageLemmas.{cell-within}
 
 -- ---- a table of no pages
 

@@ -1,14 +1,10 @@
 -- Pages of memory: where words stand, and what a changed word leaves.
-use Rattle.std.proofs.Common.{◌≡◌, ◌≢◌, ℕ, ◌+◌, ◌*◌, ◌/◌, ◌%◌, ◌<◌, ◌≤◌, ◌^◌, Bool, true, false, ◌==◌, if◌then◌else◌, List, length, Option, Some, None, refl, ap, sym, ◌∙◌, inl, inr, arith, rules, get_or, option_map, is_some, nat_lt, IsTrue}
-use Rattle.std.specs.Prelude.{slice_index, slice_index_or, slice_set}
-use Rattle.std.proofs.lemmas.Bool.{cases_Bool, eqb-true, eqb-false, eq-eqb, ne_eqb, both_ways, le-ltb}
-use Rattle.std.proofs.lemmas.Bool.Decides.{nat_tests}
-use Rattle.std.proofs.lemmas.Grind.{common_steps}
+use Rattle.std.proofs.Common.{◌≡◌, ◌≢◌, ℕ, ◌+◌, ◌*◌, ◌/◌, ◌%◌, ◌<◌, Bool, true, false, ◌==◌, if◌then◌else◌, List, length, Option, Some, None, refl, ap, sym, ◌∙◌, arith, option_map}
+use Rattle.std.specs.Prelude.{slice_index, slice_set}
+use Rattle.std.proofs.lemmas.Bool.{eqb-true, eqb-false}
 use Rattle.std.proofs.lemmas.List.{get_or-set_same, get_or-set_other, length-set}
 use Rattle.nv_events.specs.Memory.{Memory}
-use Rattle.nv_words.specs.Words.{lane_of_word, word_with_lane}
-use Rattle.mips_machine.specs.declared.page.Page.{Page}
-use Rattle.mips_machine.specs.declared.page.Page.TheVariants.{Unmapped, ReadOnly, Writable}
+use Rattle.nv_words.specs.Words.{lane_of_word}
 use Rattle.mips_machine.specs.Pages.{Pages, place_of, entry, cell, memory_of, IsSound}
 
 -- where a page stands, from where one of its words stands

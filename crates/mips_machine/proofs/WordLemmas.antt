@@ -1,11 +1,11 @@
 -- Loads and stores at the word of a number, from what they are on a memory of that word alone.
-use Rattle.std.proofs.Common.{◌≡◌, ◌≢◌, ℕ, ◌+◌, ◌-◌, ◌*◌, ◌/◌, ◌%◌, ◌<◌, ◌≤◌, ◌^◌, Bool, true, false, ◌==◌, ◌&&◌, if◌then◌else◌, Option, Some, None, refl, ap, subst, sym, ◌∙◌, ◌⊎◌, inl, inr, arith, nat_lt, nat_le, IsTrue, unwrap_or, is_none}
-use Rattle.std.proofs.lemmas.Bool.{eqb-true, eqb-false, eq-eqb, ne_eqb, ltb-true, leb-true, ltb-false, leb-false, lt-ltb, le-leb, and_right, cases_Bool}
+use Rattle.std.proofs.Common.{◌≡◌, ℕ, ◌+◌, ◌-◌, ◌*◌, ◌/◌, ◌%◌, ◌<◌, ◌≤◌, Bool, true, false, ◌==◌, ◌&&◌, if◌then◌else◌, Option, Some, None, refl, ap, subst, sym, ◌∙◌, ◌⊎◌, inl, inr, arith, nat_lt, nat_le, IsTrue}
+use Rattle.std.proofs.lemmas.Bool.{eqb-true, ltb-true, leb-true, lt-ltb, le-leb, and_right, cases_Bool}
 use Rattle.std.proofs.lemmas.Bool.Decides.{nat_tests}
-use Rattle.nv_events.specs.Memory.{Memory, can_write}
-use Rattle.nv_words.specs.Words.{lane_of_word, lane_in_order, word_of_bytes, half_of_bytes}
+use Rattle.nv_events.specs.Memory.{Memory}
+use Rattle.nv_words.specs.Words.{lane_of_word, word_of_bytes, half_of_bytes}
 use Rattle.nv_words.specs.declared.order.Order.TheVariants.{Big}
-use Rattle.mips_decode.specs.Memory.{byte_at, with_byte, word_at, half_at, with_word, with_half, left_part, right_part, merged, merged_lane, with_lane, with_lanes, lane_writable, lanes_writable}
+use Rattle.mips_decode.specs.Memory.{byte_at, with_byte, word_at, half_at, left_part, right_part, merged_lane, with_lane, lane_writable}
 use Rattle.mips_decode.specs.Arithmetic.{sign_extended}
 use Rattle.mips_decode.specs.Loads.{load_aligned, loaded, store_aligned, store_allowed, stored}
 use Rattle.mips_decode.specs.declared.names.load_name.LoadName.{LoadName}

@@ -21,6 +21,6 @@ mod turning;
 
 pub use code::Code;
 pub use line::Line;
+pub use memory::{GuestMemory, NoMemory};
 pub use mips::Mips;
 pub use step::Step;
-pub use memory::{GuestMemory, NoMemory};

@@ -1,5 +1,3 @@
-use Rattle.std.proofs.Common.{◌≡◌, ℕ, Some, ap, sym, ◌∙◌, refl}
-use Rattle.nv_words.specs.Words.{lane_of_word}
 use Rattle.mips_machine.proofs.LaneForms.{left_lanes, right_lanes}
 use Rattle.mips_machine.proofs.lanes.into_word.Goals as goal
 

@@ -1,4 +1,4 @@
-use Rattle.std.proofs.Common.{◌≡◌, Some, ap, sym, ◌∙◌}
+use Rattle.std.proofs.Common.{Some, ap, sym, ◌∙◌}
 use Rattle.mips_machine.proofs.MemoryLemmas.{load-none, load-some}
 use Rattle.mips_machine.proofs.memory.GuestMemory.load.Goals as goal
 

@@ -1,6 +1,6 @@
-use Rattle.std.proofs.Common.{◌≡◌, ◌*◌, ◌/◌, ℕ, List, length, ap, sym, subst, ◌∙◌, ◌++◌, refl, arith, Some, None}
+use Rattle.std.proofs.Common.{◌≡◌, ◌/◌, ℕ, List, length, ap, sym, subst, ◌∙◌, arith}
 use Rattle.std.specs.Prelude.{slice_set}
-use Rattle.mips_machine.specs.Pages.{Pages, IsSound, memory_of, entry, place_of, with_page}
+use Rattle.mips_machine.specs.Pages.{Pages, IsSound, memory_of, with_page}
 use Rattle.mips_machine.proofs.MapLemmas.{IsSound-added, memory_of-added, added}
 use Rattle.mips_machine.proofs.memory.GuestMemory.map_page.Goals as goal
 

@@ -1,4 +1,4 @@
-use Rattle.std.proofs.Common.{◌≡◌, ◌/◌, ℕ, Option, Some, length, ap, sym, subst, ◌∙◌, arith}
+use Rattle.std.proofs.Common.{◌/◌, Some, length, ap, sym, subst, ◌∙◌, arith}
 use Rattle.std.specs.Prelude.{slice_index}
 use Rattle.std.proofs.lemmas.List.{get_or_read}
 use Rattle.mips_machine.specs.Pages.{Pages, IsSound}

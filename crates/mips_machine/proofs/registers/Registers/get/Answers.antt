@@ -1,5 +1,4 @@
-use Rattle.std.proofs.Common.{◌≡◌, ℕ, List, ap, ◌∙◌, if◌then◌else◌, ◌==◌}
-use Rattle.std.specs.Prelude.{slice_index}
+use Rattle.std.proofs.Common.{ℕ, List, ap, ◌∙◌, if◌then◌else◌, ◌==◌}
 use Rattle.mips_machine.specs.Registers.{registers_of}
 use Rattle.mips_machine.proofs.RegisterLemmas.{register_read}
 use Rattle.mips_machine.proofs.registers.Registers.get.Goals as goal
