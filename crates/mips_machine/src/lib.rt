@@ -24,3 +24,6 @@ pub use line::Line;
 pub use memory::{GuestMemory, NoMemory};
 pub use mips::Mips;
 pub use step::Step;
+
+#[cfg(test)]
+mod tests;
