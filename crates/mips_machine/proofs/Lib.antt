@@ -1,3 +1,4 @@
+pub mod TrapLemmas
 pub mod TurnLemmas
 pub mod RegisterLemmas
 pub mod FieldLemmas
