@@ -8,3 +8,4 @@ pub mod Processor
 pub mod Settling
 pub mod Steps
 pub mod Guest
+pub mod GuestLaws
