@@ -40,3 +40,53 @@ pub struct ElfFault {
     /// The other header, in check 15.
     pub j: u32,
 }
+
+impl ElfFault {
+    ghost use Rattle.std.specs.Prelude.{◌≡◌, ◌^◌, ◌<◌, true, IfSome, Some};
+    ghost use Rattle.elf_reader.specs.Check.{fails, fails_at};
+
+    pub const TOO_SHORT: u32 = 1;
+    pub const BAD_MAGIC: u32 = 2;
+    pub const NOT_CLASS_32: u32 = 3;
+    pub const NOT_BIG_ENDIAN: u32 = 4;
+    pub const BAD_VERSION: u32 = 5;
+    pub const NOT_EXECUTABLE: u32 = 6;
+    pub const NOT_MIPS: u32 = 7;
+    pub const NO_SEGMENTS: u32 = 8;
+    pub const BAD_PROGRAM_HEADER_SIZE: u32 = 9;
+    pub const PROGRAM_TABLE_OUTSIDE: u32 = 10;
+    pub const DYNAMIC: u32 = 11;
+    pub const SEGMENT_OUTSIDE: u32 = 12;
+    pub const SEGMENT_SIZES: u32 = 13;
+    pub const ADDRESS_OUTSIDE: u32 = 14;
+    pub const OVERLAP: u32 = 15;
+    pub const WRITABLE_TEXT: u32 = 16;
+    pub const BAD_SECTION_HEADER_SIZE: u32 = 17;
+    pub const SECTION_TABLE_OUTSIDE: u32 = 18;
+    pub const CODE_OUTSIDE: u32 = 19;
+    pub const CODE_UNALIGNED: u32 = 20;
+    pub const NO_CODE: u32 = 21;
+    pub const SHARED_PAGE: u32 = 22;
+
+    /// A check that names no header, where it fails.
+    pub(crate) fn when(kind: u32, failed: bool) -> Option<ElfFault>
+        ensures { result ≡ fails kind failed }
+    {
+        failed.then_some(ElfFault { kind, i: 0, j: 0 })
+    }
+
+    /// A check that names the first header or page at which it fails, if there is one.
+    pub(crate) fn at(kind: u32, place: Option<usize>) -> Option<ElfFault>
+        requires { IfSome place (λ i. i < 2 ^ 32) }
+        ensures { result ≡ fails_at kind place }
+    {
+        match place {
+            Some(i) => Some(ElfFault {
+                kind,
+                i: i as u32,
+                j: 0,
+            }),
+            None => None,
+        }
+    }
+}

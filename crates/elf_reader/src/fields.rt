@@ -1,17 +1,21 @@
-/// The big-endian number of 16 bits at `at`, or `None` where it runs past the end.
-pub fn half_at(file: &[u8], at: u64) -> Option<u16> {
-    let start = usize::try_from(at).ok()?;
-    match file.get(start..start.checked_add(2)?)? {
-        [high, low] => Some(u16::from_be_bytes([*high, *low])),
-        _ => None,
-    }
+//! Numbers in a part of the file that is known to be there.
+ghost use Rattle.std.specs.Prelude.{◌≡◌, ◌+◌, ◌≤◌, length};
+ghost use Rattle.elf_reader.specs.Header.{half, word};
+
+use nv_words::{half_at, word_at};
+
+/// The big-endian number of 16 bits at `at`.
+pub fn half(b: &[u8], at: usize) -> u16
+    requires { at + 2 ≤ length b.now }
+    ensures { result ≡ half b.now at }
+{
+    half_at(b, at).unwrap()
 }
 
-/// The big-endian number of 32 bits at `at`, or `None` where it runs past the end.
-pub fn word_at(file: &[u8], at: u64) -> Option<u32> {
-    let start = usize::try_from(at).ok()?;
-    match file.get(start..start.checked_add(4)?)? {
-        [a, b, c, d] => Some(u32::from_be_bytes([*a, *b, *c, *d])),
-        _ => None,
-    }
+/// The big-endian number of 32 bits at `at`.
+pub fn word(b: &[u8], at: usize) -> u32
+    requires { at + 4 ≤ length b.now }
+    ensures { result ≡ word b.now at }
+{
+    word_at(b, at).unwrap()
 }

@@ -1,10 +1,10 @@
 ghost use Rattle.std.specs.Prelude.{◌≡◌, ◌≤◌, ◌<◌, ◌↔◌, IsTrue, OnOk, IfOk, IfSome, IsErrOf, length, vec_len};
 ghost use Rattle.elf_reader.specs.Header.{IsTooShort, HasMagic};
 
-use crate::fields::word_at;
-use crate::segment::{Segment, read_segment};
+use crate::thin_segment::{ThinSegment, read_segment};
 use crate::thin::Thin;
 use crate::thin_error::ThinError;
+use nv_words::word_at;
 use std::alloc::{AllocError, Global};
 
 /// The length of an ELF32 header.
@@ -54,12 +54,12 @@ fn has_magic(b: &[u8]) -> bool
 }
 
 /// The words of the segment, or `None` where one lies outside the file or is not an instruction of a straight program.
-fn read_words(alloc: Global, b: &[u8], segment: Segment) -> Result<Option<Vec<u32>>, AllocError>
+fn read_words(alloc: Global, b: &[u8], segment: ThinSegment) -> Result<Option<Vec<u32>>, AllocError>
     ensures { IfOk result (λ found. IfSome found (λ words. vec_len words ≡ segment.words)) }
 {
     let mut words = Vec::new(alloc);
     for i in 0..segment.words {
-        match word_at(b, u64::from(segment.offset) + 4 * u64::from(i)) {
+        match word_at(b, segment.offset as usize + 4 * i as usize) {
             Some(word) if is_straight(word) => words.push(word)?,
             _ => return Ok(None),
         }

@@ -1,0 +1,59 @@
+//! The checks of the ELF header (System V ABI, "ELF Header").
+ghost use Rattle.std.specs.Prelude.{◌≡◌, ◌≤◌, ◌+◌, ◌*◌, IfNone, length};
+ghost use Rattle.elf_reader.specs.Header.{has_magic, header_of, identity_fault, program_table_fault};
+
+use crate::elf_fault::ElfFault;
+use crate::elf_header::ElfHeader;
+
+/// The first of the checks of what kind of file it is: a 32-bit big-endian executable for MIPS.
+#[tactic(auto, unfolding(crate::specs::Header::identity_fault))]
+pub fn check_identity(b: &[u8]) -> Option<ElfFault>
+    ensures first { result ≡ identity_fault b.now }
+    ensures has_header { IfNone result (52 ≤ length b.now) }
+{
+    if b.len() < ElfHeader::SIZE {
+        return ElfFault::when(ElfFault::TOO_SHORT, true);
+    }
+    if !has_magic(b) {
+        return ElfFault::when(ElfFault::BAD_MAGIC, true);
+    }
+    let header = ElfHeader::read(b);
+    if header.ei_class != 1 {
+        return ElfFault::when(ElfFault::NOT_CLASS_32, true);
+    }
+    if header.ei_data != 2 {
+        return ElfFault::when(ElfFault::NOT_BIG_ENDIAN, true);
+    }
+    if header.ei_version != 1 || header.e_version != 1 {
+        return ElfFault::when(ElfFault::BAD_VERSION, true);
+    }
+    if header.e_type != 2 {
+        return ElfFault::when(ElfFault::NOT_EXECUTABLE, true);
+    }
+    ElfFault::when(ElfFault::NOT_MIPS, header.e_machine != 8)
+}
+
+/// Whether the file begins with the four bytes of every ELF file.
+fn has_magic(b: &[u8]) -> bool
+    requires { 52 ≤ length b.now }
+    ensures { result ≡ has_magic b.now }
+{
+    b[0] == 0x7F && b[1] == b'E' && b[2] == b'L' && b[3] == b'F'
+}
+
+/// The first of the checks of where the program header table stands.
+#[tactic(auto, unfolding(crate::specs::Header::program_table_fault))]
+pub fn check_program_table(b: &[u8], header: ElfHeader) -> Option<ElfFault>
+    requires { header ≡ header_of b.now }
+    ensures first { result ≡ program_table_fault b.now }
+    ensures has_table { IfNone result (header.e_phoff + 32 * header.e_phnum ≤ length b.now) }
+{
+    if header.e_phnum == 0 {
+        return ElfFault::when(ElfFault::NO_SEGMENTS, true);
+    }
+    if header.e_phentsize != 32 {
+        return ElfFault::when(ElfFault::BAD_PROGRAM_HEADER_SIZE, true);
+    }
+    let is_outside = header.is_program_table_outside(b);
+    ElfFault::when(ElfFault::PROGRAM_TABLE_OUTSIDE, is_outside)
+}
