@@ -1,0 +1,6 @@
+pub mod Pages
+pub mod Content
+pub mod Refusals
+pub mod Start
+pub mod Answer
+pub mod Kept
