@@ -1,13 +1,14 @@
 -- Spans that rise and reach as far as the furthest before them.
-use Rattle.std.proofs.Common.{◌≡◌, ℕ, zero, suc, ◌+◌, ◌-◌, ◌<◌, ◌≤◌, Bool, true, false, ◌&&◌, ◌||◌, nat_le, max, List, [], ◌∷◌, ◌++◌, length, get_or, drop, refl, sym, ap, ◌∙◌, append_assoc, subst, inl, inr, arith}
+use Rattle.std.proofs.Common.{◌≡◌, ℕ, zero, suc, ◌+◌, ◌-◌, ◌<◌, ◌≤◌, Bool, true, false, ◌&&◌, ◌||◌, nat_le, max, List, [], ◌∷◌, ◌++◌, length, get_or, drop, refl, sym, ap, ◌∙◌, append_assoc, subst, Some, None, IsPermutation, inl, inr, arith}
 use Rattle.std.specs.List.{list_any}
 use Rattle.std.specs.List.Sorted.{IsNonDecreasingBy}
 use Rattle.std.proofs.lemmas.Bool.{cases_Bool, cases_lt, leb-false, and_from, le-leb}
 use Rattle.std.proofs.lemmas.Bool.Decides.{nat_tests}
 use Rattle.std.proofs.lemmas.List.{at_drop_more, at_drop_all, get_or_default}
+use Rattle.std.proofs.lemmas.List.Sorted.{All-permutation}
 use Rattle.std.proofs.lemmas.List.Folds.{list_any_at, list_any_none}
 use Rattle.elf_reader.specs.declared.span.Span.{Span}
-use Rattle.elf_reader.specs.Spans.{are_within, AreRising}
+use Rattle.elf_reader.specs.Spans.{are_within, AreRising, AreFilled, IsLeastFrom}
 
 -- each span with the furthest end up to it, where m was reached before
 abbrev pub reach_from : ℕ → List Span → List Span
@@ -158,3 +159,71 @@ rises_done out ss done rise = let P : List Span → Type 0 = λ xs. AreRising xs
 pub same_done : (out ss : List Span) (first behind : ℕ) → out ≡ reach_from 0 ss → IsNonDecreasingBy (λ (s : Span). s.first) ss
     → first < behind → are_within first behind out ≡ are_within first behind ss
 same_done out ss first behind done rise some = ap (are_within first behind) done ∙ reach_same ss first behind rise some
+
+-- each span reaches at least to its own end
+reach_filled : (m : ℕ) (ss : List Span) → AreFilled ss → AreFilled (reach_from m ss)
+reach_filled m [] filled k d within = absurd (omega (arith, within))
+reach_filled m (s ∷ rest) filled zero d within =
+    let some = filled 0 s (omega arith) in
+    omega (arith, some)
+reach_filled m (s ∷ rest) filled (suc k) d within =
+    reach_filled (max s.end m) rest (λ j e inside. filled (suc j) e (omega (arith, inside))) k d (omega (arith, within))
+
+pub filled_done : (out ss : List Span) → out ≡ reach_from 0 ss → AreFilled ss → AreFilled out
+filled_done out ss done filled = let P : List Span → Type 0 = λ xs. AreFilled xs in subst P (sym done) (reach_filled 0 ss filled)
+
+pub filled_moved : (spans sorted given : List Span) → IsPermutation spans sorted → given ≡ sorted → AreFilled spans → AreFilled given
+filled_moved spans sorted given moved is_given filled =
+    let P : List Span → Type 0 = λ xs. AreFilled xs in
+    subst P (sym is_given) (All-permutation (λ (s : Span). s.first < s.end) spans sorted moved filled)
+
+-- the number itself, where the last span that has begun holds it
+pub next_here : (ss : List Span) (k at : ℕ) (d : Span) → 0 < k → k ≤ length ss → at < (get_or ss (k - 1) d).end
+    → ((j : ℕ) (d : Span) → j < k → (get_or ss j d).first ≤ at)
+    → IsLeastFrom at (λ n. are_within n (n + 1) ss) (Some at)
+next_here ss k at d some le held begun =
+    (omega arith,
+    list_any_at _ ss (k - 1) d (omega arith) (and_from _ _ (le-leb _ _ (begun (k - 1) d (omega arith))) (le-leb _ _ (omega (arith, held)))),
+    λ m from lt. absurd (omega (arith, from, lt)))
+
+-- nothing from the number on lies in a span that has begun, where the last of these is over
+passed : (ss : List Span) (k at n : ℕ) → AreRising ss → k ≤ length ss
+    → ((d : Span) → 0 < k → (get_or ss (k - 1) d).end ≤ at) → at ≤ n
+    → (j : ℕ) (e : Span) → j < k → (nat_le (get_or ss j e).first n && nat_le (n + 1) (get_or ss j e).end) ≡ false
+passed ss k at n rise le over from j e lt =
+    let up = rise.ends j (k - 1) e (omega arith) (omega arith) in
+    let past = over e (omega arith) in
+    ends_before (get_or ss j e).first n (n + 1) (get_or ss j e).end (omega (arith, up, past))
+
+over_any : (ss : List Span) (k at : ℕ) (d : Span) → k ≤ length ss → (0 < k → (get_or ss (k - 1) d).end ≤ at)
+    → (e : Span) → 0 < k → (get_or ss (k - 1) e).end ≤ at
+over_any ss k at d le over e some =
+    let same = ap (λ (s : Span). s.end) (get_or_default ss (k - 1) d e (omega arith)) in
+    let past = over some in
+    omega (arith, same, past)
+
+-- no span begins later
+pub next_none : (ss : List Span) (k at : ℕ) (d : Span) → AreRising ss → k ≤ length ss → length ss ≤ k
+    → (0 < k → (get_or ss (k - 1) d).end ≤ at)
+    → IsLeastFrom at (λ n. are_within n (n + 1) ss) None
+next_none ss k at d rise le past over = λ n from.
+    list_any_none _ ss (λ j e within. passed ss k at n rise le (over_any ss k at d le over) from j e (omega (arith, within, past)))
+
+-- the first number of the next span
+pub next_later : (ss : List Span) (k at : ℕ) (c d : Span) → AreRising ss → AreFilled ss → k < length ss
+    → (0 < k → (get_or ss (k - 1) d).end ≤ at)
+    → ((j : ℕ) (e : Span) → k ≤ j → j < length ss → at < (get_or ss j e).first)
+    → IsLeastFrom at (λ n. are_within n (n + 1) ss) (Some (get_or ss k c).first)
+next_later ss k at c d rise filled lt over later =
+    let begins = later k c (omega arith) lt in
+    let some = filled k c lt in
+    (omega (arith, begins),
+    list_any_at _ ss k c lt (and_from _ _ (le-leb (get_or ss k c).first (get_or ss k c).first (omega arith)) (le-leb ((get_or ss k c).first + 1) (get_or ss k c).end (omega (arith, some)))),
+    λ m from below. list_any_none _ ss (λ j e within.
+        elim (cases_lt j k) [
+            inl before ↦ passed ss k at m rise (omega arith) (over_any ss k at d (omega arith) over) from j e before
+            | inr after ↦
+                let same = ap (λ (s : Span). s.first) (get_or_default ss k c e lt) in
+                let up = rise.firsts k j e after within in
+                begins_after (get_or ss j e).first m (m + 1) (get_or ss j e).end (omega (arith, same, up, below))
+        ]))

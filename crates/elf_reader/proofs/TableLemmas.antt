@@ -1,5 +1,5 @@
 -- Tables that are read entry by entry.
-use Rattle.std.proofs.Common.{◌≡◌, ℕ, ◌+◌, List, [], ◌∷◌, ◌++◌, map, sym, ap, ◌∙◌, arith}
+use Rattle.std.proofs.Common.{◌≡◌, ℕ, ◌+◌, ◌≤◌, length, length-append, List, [], ◌∷◌, ◌++◌, map, sym, ap, ◌∙◌, arith}
 use Rattle.std.specs.List.{range_with_len}
 use Rattle.std.proofs.lemmas.List.FromFn.{map-range_with_len_more}
 
@@ -12,3 +12,6 @@ table_more entry xs ys x n before here pushed =
     let old = ap (λ l. l ++ x ∷ []) before in
     let new = ap (λ e. map entry (range_with_len 0 n) ++ e ∷ []) here in
     pushed ∙ old ∙ new ∙ sym more
+
+pub few_more : {X : Type 0} (xs ys : List X) (x : X) (n : ℕ) → length xs ≤ n → ys ≡ xs ++ x ∷ [] → length ys ≤ n + 1
+few_more xs ys x n few pushed = omega (arith, few, ap length pushed, length-append xs (x ∷ []))

@@ -18,12 +18,14 @@ section_range s = record { first = s.sh_addr; words = s.sh_size / 4 }
 abbrev pub segment_range : Segment → Range
 segment_range s = record { first = (s.vaddr + 3) / 4 * 4; words = file_end s / 4 - (s.vaddr + 3) / 4 }
 
--- the words of each code section, or, without sections, of each executable live segment
+-- the words of each code section, or, without sections, of each executable segment
+abbrev pub ranges_of : Bool → List SectionHeader → List Segment → List Range
+ranges_of with_sections sections segments =
+    if with_sections then map section_range (filter is_code sections) else map segment_range (filter is_executable segments)
+
+-- the words of the code area, range by range
 unfoldable pub code_ranges : List ℕ → List Range
-code_ranges file =
-    if has_sections (header_of file)
-    then map section_range (filter is_code (section_headers file))
-    else map segment_range (filter is_executable (live file))
+code_ranges file = ranges_of (has_sections (header_of file)) (section_headers file) (live file)
 
 -- the first address behind a range
 abbrev pub range_end : Range → ℕ

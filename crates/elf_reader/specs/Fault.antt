@@ -1,13 +1,14 @@
 -- What reading a file answers.
-use Rattle.std.specs.Prelude.{◌≡◌, ℕ, ◌%◌, ◌<◌, ◌≤◌, Bool, List, [], ◌∷◌, length, All, Option, Some}
+use Rattle.std.specs.Prelude.{◌+◌, ◌≡◌, ℕ, ◌%◌, ◌<◌, ◌≤◌, Bool, List, [], ◌∷◌, length, All, Option, Some}
 use Rattle.std.specs.List.{list_any, AllAdjacentBelow}
 use Rattle.elf_reader.specs.declared.elf_error.ElfError.{ElfError}
 use Rattle.elf_reader.specs.declared.elf_error.ElfError.TheVariants.{Refused, NoMemory}
 use Rattle.elf_reader.specs.declared.elf_fault.ElfFault.{ElfFault}
+use Rattle.elf_reader.specs.declared.segment.Segment.{Segment}
 use Rattle.elf_reader.specs.declared.range.Range.{Range}
 use Rattle.elf_reader.specs.Check.{first_fault}
 use Rattle.elf_reader.specs.Header.{identity_fault, program_table_fault}
-use Rattle.elf_reader.specs.Segments.{program_headers, live, segment_fault}
+use Rattle.elf_reader.specs.Segments.{program_headers, live, segment_end, segment_fault}
 use Rattle.elf_reader.specs.Sections.{section_headers, section_table_fault, section_fault}
 use Rattle.elf_reader.specs.Area.{code_ranges, area_fault, range_end, has_address}
 
@@ -23,10 +24,18 @@ elf_fault file =
     ∷ area_fault (code_ranges file) (live file)
     ∷ [])
 
--- an error is the file's first fault; want of memory may come at any file
-abbrev pub IsAnswerTo : List ℕ → ElfError → Type 0
-IsAnswerTo file (Refused fault) = elf_fault file ≡ Some fault
-IsAnswerTo file NoMemory = Unit {0}
+-- an error is the first fault; want of memory may come at any file
+abbrev pub IsAnswer : Option ElfFault → ElfError → Type 0
+IsAnswer found (Refused fault) = found ≡ Some fault
+IsAnswer found NoMemory = Unit {0}
+
+-- a live segment that passed the checks, in a file of this length
+pub record IsSound (len : ℕ) (s : Segment) : Type 0 where
+  pub live : 1 ≤ s.memsz
+  -- it has no more bytes in the file than in memory, and these lie in the file
+  pub sizes : s.filesz ≤ s.memsz
+  pub inside : 0 < s.filesz → s.offset + s.filesz ≤ len
+  pub low : segment_end s ≤ 0x7F00_0000
 
 -- the ranges are the maximal runs of words of an area, in rising order
 pub record IsRunsOf (area : ℕ → Bool) (ranges : List Range) : Type 0 where
@@ -35,5 +44,5 @@ pub record IsRunsOf (area : ℕ → Bool) (ranges : List Range) : Type 0 where
   pub aligned : All (λ r. r.first % 4 ≡ 0) ranges
   -- between two runs there is a word that is not in the area
   pub apart : AllAdjacentBelow (λ r s. range_end r < s.first) ranges (length ranges)
-  -- a word is in the area where it is in a run
-  pub same : (at : ℕ) → at % 4 ≡ 0 → area at ≡ list_any (has_address at) ranges
+  -- an address is in the area exactly where it is in a run
+  pub same : (at : ℕ) → area at ≡ list_any (has_address at) ranges

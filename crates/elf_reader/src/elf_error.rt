@@ -1,4 +1,8 @@
+ghost use Rattle.std.specs.Prelude.{◌≡◌};
+ghost use Rattle.elf_reader.specs.declared.elf_error.ElfError.TheVariants.{NoMemory};
+
 use crate::elf_fault::ElfFault;
+use std::alloc::AllocError;
 use thiserror::Error;
 
 /// Why an ELF file was not read.
@@ -10,4 +14,12 @@ pub enum ElfError {
     /// There was not enough memory.
     #[error("there is not enough memory")]
     NoMemory,
+}
+
+impl From<AllocError> for ElfError {
+    ghost from_gives = { λ _ e. e ≡ NoMemory };
+
+    fn from(_e: AllocError) -> ElfError {
+        ElfError::NoMemory
+    }
 }

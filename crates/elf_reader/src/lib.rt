@@ -1,6 +1,7 @@
 //! Reads ELF32 files of big-endian MIPS I programs (System V ABI, "Object Files").
 #![tactic(auto)]
 
+mod area_checks;
 mod code_area;
 mod elf;
 mod elf_error;
@@ -22,7 +23,7 @@ mod thin;
 mod thin_error;
 mod thin_segment;
 
-pub use elf::Elf;
+pub use elf::{Elf, read_elf};
 pub use elf_error::ElfError;
 pub use elf_fault::ElfFault;
 pub use range::Range;

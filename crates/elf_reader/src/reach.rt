@@ -1,7 +1,7 @@
 //! Spans in rising order, so that one that holds given numbers is found at once.
-ghost use Rattle.std.specs.Prelude.{◌≡◌, ℕ, ◌≤◌, ◌<◌, length, IfOk, IsPermutation, slice_index_or};
+ghost use Rattle.std.specs.Prelude.{◌≡◌, ℕ, ◌+◌, ◌≤◌, ◌<◌, length, IfOk, IsPermutation, slice_index_or};
 ghost use Rattle.std.specs.List.Sorted.{IsNonDecreasingBy};
-ghost use Rattle.elf_reader.specs.Spans.{are_within, AreRising};
+ghost use Rattle.elf_reader.specs.Spans.{are_within, AreRising, AreFilled, IsLeastFrom};
 ghost use Rattle.elf_reader.specs.declared.span.Span.{Span};
 
 use crate::span::Span;
@@ -11,6 +11,7 @@ use std::alloc::{AllocError, Global};
 /// furthest of those before it.
 pub fn rising(alloc: Global, spans: Vec<Span>) -> Result<Vec<Span>, AllocError>
     ensures rise { IfOk result (λ v. AreRising v.items) }
+    ensures filled { IfOk result (λ v. AreFilled spans.items → AreFilled v.items) }
     ensures same { IfOk result (λ v. (first behind : ℕ) → first < behind →
         are_within first behind v.items ≡ are_within first behind spans.items) }
 {
@@ -31,6 +32,7 @@ fn by_first(mut spans: Vec<Span>) -> Result<Vec<Span>, AllocError>
 fn reaching(alloc: Global, spans: &[Span]) -> Result<Vec<Span>, AllocError>
     requires { IsNonDecreasingBy (λ (s : Span). s.first) spans.now }
     ensures rise { IfOk result (λ v. AreRising v.items) }
+    ensures filled { IfOk result (λ v. AreFilled spans.now → AreFilled v.items) }
     ensures same { IfOk result (λ v. (first behind : ℕ) → first < behind →
         are_within first behind v.items ≡ are_within first behind spans.now) }
 {
@@ -53,6 +55,22 @@ pub fn are_within(spans: &[Span], first: u64, behind: u64) -> bool
 {
     let begun = begun_at(spans, first);
     begun > 0 && behind <= spans[begun - 1].end
+}
+
+/// The least number from `at` on that lies in one of the rising spans.
+pub fn next_within(spans: &[Span], at: u64) -> Option<u64>
+    requires rise { AreRising spans.now }
+    requires filled { AreFilled spans.now }
+    ensures { IsLeastFrom at (λ n. are_within n (n + 1) spans.now) result }
+{
+    let begun = begun_at(spans, at);
+    if begun > 0 && at < spans[begun - 1].end {
+        return Some(at);
+    }
+    if begun < spans.len() {
+        return Some(spans[begun].first);
+    }
+    None
 }
 
 /// How many of the rising spans begin at `at` or before.

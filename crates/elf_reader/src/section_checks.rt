@@ -41,7 +41,8 @@ pub fn read_section_headers(
 ) -> Result<Vec<SectionHeader>, AllocError>
     requires read { header ≡ header_of b.now }
     requires there { IsTrue (has_sections header) → header.e_shoff + 40 * header.e_shnum ≤ length b.now }
-    ensures { IfOk result (λ sections. sections.items ≡ section_headers b.now) }
+    ensures read { IfOk result (λ sections. sections.items ≡ section_headers b.now) }
+    ensures few { IfOk result (λ sections. length sections.items < 65536) }
 {
     let mut sections = Vec::new(alloc);
     if !header.has_sections() {

@@ -1,13 +1,15 @@
 //! The program header table and its checks (System V ABI, "Program Header").
-ghost use Rattle.std.specs.Prelude.{◌≡◌, [], ◌∷◌, ◌+◌, ◌*◌, ◌<◌, ◌≤◌, length, position, IfOk, IfSome};
+ghost use Rattle.std.specs.Prelude.{◌≡◌, [], ◌∷◌, ◌+◌, ◌*◌, ◌<◌, ◌≤◌, length, map, filter, position, IfOk, IfSome};
 ghost use Rattle.elf_reader.specs.Check.{fails_at, first_fault};
 ghost use Rattle.elf_reader.specs.Header.{header_of};
-ghost use Rattle.elf_reader.specs.Segments.{program_headers, segment_fault, is_dynamic, is_outside, is_oversized, is_too_high, is_writable_text};
+ghost use Rattle.elf_reader.specs.Segments.{program_headers, segment_fault, is_live, is_dynamic, is_outside, is_oversized, is_too_high, is_writable_text};
+ghost use Rattle.elf_reader.specs.declared.program_header.ProgramHeader.{ProgramHeader};
 
 use crate::elf_fault::ElfFault;
 use crate::elf_header::ElfHeader;
 use crate::overlap::check_overlap;
 use crate::program_header::ProgramHeader;
+use crate::segment::Segment;
 use std::alloc::{AllocError, Global};
 
 /// Reads the program header table, which lies in the file.
@@ -19,7 +21,8 @@ pub fn read_program_headers(
 ) -> Result<Vec<ProgramHeader>, AllocError>
     requires read { header ≡ header_of b.now }
     requires there { header.e_phoff + 32 * header.e_phnum ≤ length b.now }
-    ensures { IfOk result (λ headers. headers.items ≡ program_headers b.now) }
+    ensures read { IfOk result (λ headers. headers.items ≡ program_headers b.now) }
+    ensures few { IfOk result (λ headers. length headers.items < 65536) }
 {
     let mut headers = Vec::new(alloc);
     for i in 0..header.e_phnum {
@@ -111,4 +114,15 @@ fn check_each(headers: &[ProgramHeader], len: usize) -> Option<ElfFault>
         return Some(fault);
     }
     ElfFault::at(ElfFault::ADDRESS_OUTSIDE, first_too_high(headers))
+}
+
+/// The live segments, in the order of the table.
+pub fn live_segments(alloc: Global, headers: &[ProgramHeader]) -> Result<Vec<Segment>, AllocError>
+    ensures { IfOk result (λ v. v.items ≡ map (λ (h : ProgramHeader). h.segment) (filter is_live headers.now)) }
+{
+    headers
+        .iter()
+        .filter(|h| h.is_live())
+        .map(|h| h.segment)
+        .collect(alloc)
 }

@@ -1,4 +1,4 @@
-use Rattle.elf_reader.proofs.SpanLemmas.{reach_more, reach_done, rises_done, same_done}
+use Rattle.elf_reader.proofs.SpanLemmas.{reach_more, reach_done, rises_done, filled_done, same_done}
 use Rattle.elf_reader.proofs.reach.reaching.Goals as goal
 
 pub loop-s-preserved : goal.loop-s-preserved
@@ -16,3 +16,8 @@ pub returns-clause-same : goal.returns-clause-same
 returns-clause-same c = λ first behind some.
     same_done _ c.args.spans.now first behind
     (reach_done _ _ c.args.spans.now c.loop-s.furthest c.loop-s.s-index c.loop-s-test.false c.loop-s.invariant) c.requires some
+
+pub returns-clause-filled : goal.returns-clause-filled
+returns-clause-filled c = λ filled.
+    filled_done _ c.args.spans.now
+    (reach_done _ _ c.args.spans.now c.loop-s.furthest c.loop-s.s-index c.loop-s-test.false c.loop-s.invariant) filled
