@@ -14,3 +14,6 @@ pub use guest_image::Image;
 pub use image_error::ImageError;
 pub use image_fault::ImageFault;
 pub use loader::image;
+
+#[cfg(test)]
+mod tests;
