@@ -37,8 +37,8 @@ prefix_len-count : {X : Type 0} (p : X → Bool) (xs : List X) → count_by p xs
 prefix_len-count p [] none = refl
 prefix_len-count p (x ∷ xs) none =
     elim (cases_Bool (p x)) [
-        inl passes ↦ absurd (omega (arith, one (p x) passes, count_by-cons p x xs, none))
-        | inr fails ↦ rw fails (omega (arith, prefix_len-count p xs (omega (arith, count_by-cons p x xs, none))))
+      | inl passes ↦ absurd (omega (arith, one (p x) passes, count_by-cons p x xs, none))
+      | inr fails ↦ rw fails (omega (arith, prefix_len-count p xs (omega (arith, count_by-cons p x xs, none))))
     ]
 
 -- where none passes there is no first one

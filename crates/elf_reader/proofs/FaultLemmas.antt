@@ -41,8 +41,8 @@ from_none : {X : Type 0} (test : X → Bool) (i : ℕ) (xs : List X) → positio
 from_none test i [] none = λ k d within. absurd (omega (arith, within))
 from_none test i (x ∷ xs) none =
     elim (cases_Bool (test x)) [
-        inl passes ↦ absurd (some_none i (rw passes at none))
-        | inr fails ↦ all_more (λ x. test x ≡ false) x xs fails (from_none test (i + 1) xs (rw fails at none))
+      | inl passes ↦ absurd (some_none i (rw passes at none))
+      | inr fails ↦ all_more (λ x. test x ≡ false) x xs fails (from_none test (i + 1) xs (rw fails at none))
     ]
 
 -- where there is no first element that passes, none does
@@ -56,7 +56,7 @@ header_sound len h in_file sized low alive = record {
   live = grind (arith, nat_tests);
   sizes = grind (arith, nat_tests);
   inside = λ some. grind (arith, nat_tests);
-  low = grind (arith, nat_tests)
+  low = grind (arith, nat_tests);
 }
 
 segment_nones : (a b c d e f : Option ElfFault) → first_fault (a ∷ b ∷ c ∷ d ∷ e ∷ f ∷ []) ≡ None
@@ -74,8 +74,8 @@ pub headers_sound : (len : ℕ) (headers : List ProgramHeader) → segment_fault
 unfolding segment_fault
 headers_sound len headers none =
     let parts = segment_nones (fails_at 11 (position is_dynamic headers)) (fails_at 12 (position (is_outside len) headers))
-        (fails_at 13 (position is_oversized headers)) (fails_at 14 (position is_too_high headers)) (overlap_from 0 headers)
-        (fails_at 16 (position is_writable_text headers)) none in
+    (fails_at 13 (position is_oversized headers)) (fails_at 14 (position is_too_high headers)) (overlap_from 0 headers)
+    (fails_at 16 (position is_writable_text headers)) none in
     let in_file = position_none_all (is_outside len) headers (fails_at_none 12 _ parts.0) in
     let sized = position_none_all is_oversized headers (fails_at_none 13 _ parts.1) in
     let low = position_none_all is_too_high headers (fails_at_none 14 _ parts.2) in
@@ -88,8 +88,8 @@ kept_map P f test [] holds = λ k d within. absurd (omega (arith, within))
 kept_map P f test (x ∷ rest) holds =
     let more = kept_map P f test rest (λ j e inside. holds (suc j) e (omega (arith, inside))) in
     elim (cases_Bool (test x)) [
-        inl passes ↦ rw passes (all_more P (f x) (map f (filter test rest)) (holds 0 x (omega arith) passes) more)
-        | inr fails ↦ rw fails more
+      | inl passes ↦ rw passes (all_more P (f x) (map f (filter test rest)) (holds 0 x (omega arith) passes) more)
+      | inr fails ↦ rw fails more
     ]
 
 -- the live segments of a file that passed
@@ -143,10 +143,10 @@ ranges_placed true sections segments low none =
     let in_file = position_none_all (is_code_outside segments) sections (fails_at_none 19 _ a.0) in
     let aligned = position_none_all is_code_unaligned sections (fails_at_none 20 _ b.0) in
     kept_map IsPlaced section_range is_code sections
-        (λ k d within code. section_placed segments (get_or sections k d) low (in_file k d within) (aligned k d within) code)
+    (λ k d within code. section_placed segments (get_or sections k d) low (in_file k d within) (aligned k d within) code)
 ranges_placed false sections segments low none =
     kept_map IsPlaced segment_range is_executable segments
-        (λ k d within may. segment_placed (get_or segments k d) (low k d within) (omega (arith, (low k d within).1)))
+    (λ k d within may. segment_placed (get_or segments k d) (low k d within) (omega (arith, (low k d within).1)))
 
 pub placed_low : (ranges given : List Range) → given ≡ ranges → All IsPlaced ranges → All (λ (r : Range). range_end r ≤ 2 ^ 32) given
 placed_low ranges given same placed =
@@ -191,7 +191,7 @@ runs_known file ranges out same runs = record {
   filled = runs.filled;
   aligned = runs.aligned;
   apart = runs.apart;
-  same = λ at. sym (ap (list_any (has_address at)) same) ∙ runs.same at
+  same = λ at. sym (ap (list_any (has_address at)) same) ∙ runs.same at;
 }
 
 -- the checks from the section header table on, where those before the area passed
@@ -199,10 +199,10 @@ pub code_first : (file : List ℕ) (header : ElfHeader) (sections given : List S
     → sections ≡ section_headers file → given ≡ sections → segments ≡ live file
     → first_fault (section_table_fault file ∷ section_fault segments (section_headers file) ∷ []) ≡ None
     → area_fault (ranges_of (has_sections header) given segments) segments
-        ≡ first_fault (section_table_fault file ∷ section_fault (live file) (section_headers file) ∷ area_fault (code_ranges file) (live file) ∷ [])
+    ≡ first_fault (section_table_fault file ∷ section_fault (live file) (section_headers file) ∷ area_fault (code_ranges file) (live file) ∷ [])
 code_first file header sections given segments is_header is_sections is_given is_live_ones none =
     last_fault (section_table_fault file) (section_fault segments (section_headers file)) (section_fault (live file) (section_headers file))
     (area_fault (ranges_of (has_sections header) given segments) segments) (area_fault (code_ranges file) (live file)) none
     (ap (λ xs. section_fault xs (section_headers file)) is_live_ones)
     (ap (λ rs. area_fault rs segments) (ranges_known file header sections given segments is_header is_sections is_given is_live_ones)
-        ∙ ap (area_fault (code_ranges file)) is_live_ones)
+    ∙ ap (area_fault (code_ranges file)) is_live_ones)

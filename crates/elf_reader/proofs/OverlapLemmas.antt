@@ -16,16 +16,21 @@ count_split : {H : Type 0} (live meets : H → Bool) (first behind : H → ℕ) 
     → ((g : H) → live g ≡ true → cond (nat_lt (first g) e) 1 0 ≡ cond (meets g) 1 0 + cond (nat_le (behind g) v) 1 0)
     → (hs : List H)
     → count_by (λ x. nat_lt x e) (map first (filter live hs))
-        ≡ count_by meets hs + count_by (λ x. nat_le x v) (map behind (filter live hs))
+    ≡ count_by meets hs + count_by (λ x. nat_le x v) (map behind (filter live hs))
 count_split live meets first behind e v off on [] = refl
 count_split live meets first behind e v off on (g ∷ hs) =
     let rest = count_split live meets first behind e v off on hs in
     let met = count_by-cons meets g hs in
     elim (cases_Bool (live g)) [
-        inl alive ↦ rw alive (omega (arith, rest, met, on g alive,
-            count_by-cons (λ x. nat_lt x e) (first g) (map first (filter live hs)),
-            count_by-cons (λ x. nat_le x v) (behind g) (map behind (filter live hs))))
-        | inr over ↦ rw over (omega (arith, rest, met, nothing (meets g) (off g over)))
+      | inl alive ↦ rw alive (omega (
+        arith,
+        rest,
+        met,
+        on g alive,
+        count_by-cons (λ x. nat_lt x e) (first g) (map first (filter live hs)),
+        count_by-cons (λ x. nat_le x v) (behind g) (map behind (filter live hs)),
+      ))
+      | inr over ↦ rw over (omega (arith, rest, met, nothing (meets g) (off g over)))
     ]
 
 -- one that is live overlaps itself
@@ -49,7 +54,7 @@ overlap_counted : (hs : List ProgramHeader) (i : ℕ) (d : ProgramHeader) (first
     → IsPermutation (map (λ (g : ProgramHeader). segment_end g.segment) (filter is_live hs)) ends
     → is_live (get_or hs i d) ≡ true
     → count_by (overlap (get_or hs i d)) (drop (i + 1) hs) + 1 + count_by (λ x. nat_le x (get_or hs i d).segment.vaddr) ends
-        ≤ count_by (λ x. nat_lt x (segment_end (get_or hs i d).segment)) firsts
+    ≤ count_by (λ x. nat_lt x (segment_end (get_or hs i d).segment)) firsts
 overlap_counted hs i d firsts ends within same_firsts same_ends alive =
     let h = get_or hs i d in
     let begun = sum_by-IsPermutation (λ x. cond (nat_lt x (segment_end h.segment)) 1 0) _ firsts same_firsts in
@@ -67,16 +72,16 @@ pub overlap_counted-at : (hs later : List ProgramHeader) (i : ℕ) (d : ProgramH
     → IsPermutation (map (λ (g : ProgramHeader). segment_end g.segment) (filter is_live hs)) ends
     → is_live (get_or hs i d) ≡ true
     → count_by (overlap (get_or hs i d)) later + 1 + count_by (λ x. nat_le x (get_or hs i d).segment.vaddr) es
-        ≤ count_by (λ x. nat_lt x (segment_end (get_or hs i d).segment)) fs
+    ≤ count_by (λ x. nat_lt x (segment_end (get_or hs i d).segment)) fs
 overlap_counted-at hs later i d firsts ends fs es within is_later is_firsts is_ends same_firsts same_ends alive =
     rw (is_later, is_firsts, is_ends) (overlap_counted hs i d firsts ends within same_firsts same_ends alive)
 
 -- a step of the search for the first overlap
 overlap_from-step : (hs : List ProgramHeader) (i : ℕ) (d : ProgramHeader) → i < length hs
     → overlap_from i (drop i hs)
-        ≡ option_or
-            (option_map (λ k. record { kind = 15; i = i; j = i + 1 + k }) (position (overlap (get_or hs i d)) (drop (i + 1) hs)))
-            (overlap_from (i + 1) (drop (i + 1) hs))
+    ≡ option_or
+    (option_map (λ k. record { kind = 15; i = i; j = i + 1 + k }) (position (overlap (get_or hs i d)) (drop (i + 1) hs)))
+    (overlap_from (i + 1) (drop (i + 1) hs))
 unfolding overlap_from
 overlap_from-step hs i d within = at_drop_more (overlap_from i) hs i d within
 

@@ -37,9 +37,9 @@ pages_same page [] live = refl
 pages_same page (s ∷ rest) live =
     let more = pages_same page rest (λ j e inside. live (suc j) e (omega (arith, inside))) in
     elim (cases_Bool (is_writable s)) [
-        inl may ↦ rw may (ap (λ b. (nat_le (s.vaddr / 4096) page && nat_le (page + 1) ((segment_end s + 4095) / 4096)) || b) more
-            ∙ ap (λ b. b || list_any (data_is_on_page page) rest) (held s.vaddr s.memsz page (live 0 s (omega arith))))
-        | inr fixed ↦ rw fixed more
+      | inl may ↦ rw may (ap (λ b. (nat_le (s.vaddr / 4096) page && nat_le (page + 1) ((segment_end s + 4095) / 4096)) || b) more
+          ∙ ap (λ b. b || list_any (data_is_on_page page) rest) (held s.vaddr s.memsz page (live 0 s (omega arith))))
+      | inr fixed ↦ rw fixed more
     ]
   where
     held : (v m page : ℕ) → 1 ≤ m
@@ -61,10 +61,10 @@ unfolding least_below
 least_found test n zero lt passes before = absurd (omega (arith, lt))
 least_found test n (suc limit) lt passes before =
     elim (cases_lt n limit) [
-        inl below ↦ rw (least_found test n limit below passes before) refl
-        | inr from ↦
-            let same : limit ≡ n = omega (arith, lt, from) in
-            rw (same, least_none test n before, passes) refl
+      | inl below ↦ rw (least_found test n limit below passes before) refl
+      | inr from ↦
+          let same : limit ≡ n = omega (arith, lt, from) in
+          rw (same, least_none test n before, passes) refl
     ]
 
 from_least : (found test : ℕ → Bool) (limit : ℕ) (o : Option ℕ) → ((n : ℕ) → found n ≡ test n) → IsLeastFrom 0 found o → IfSome o (λ i. i < limit)

@@ -37,7 +37,7 @@ ready_next run r rest ready = record {
   some = ready.filled 0 r (omega arith);
   filled = λ k d within. ready.filled (suc k) d (omega (arith, within));
   even = ready.aligned 0 r (omega arith);
-  aligned = λ k d within. ready.aligned (suc k) d (omega (arith, within))
+  aligned = λ k d within. ready.aligned (suc k) d (omega (arith, within));
 }
 
 join_some : (f w g v : ℕ) → 1 ≤ w → 1 ≤ (max (f + 4 * w) (g + 4 * v) - f) / 4
@@ -58,7 +58,7 @@ ready_join run r rest ready = record {
   some = join_some run.first run.words r.first r.words ready.some;
   filled = λ k d within. ready.filled (suc k) d (omega (arith, within));
   even = ready.even;
-  aligned = λ k d within. ready.aligned (suc k) d (omega (arith, within))
+  aligned = λ k d within. ready.aligned (suc k) d (omega (arith, within));
 }
 
 join_address : (run r : Range) (rest : List Range) (at : ℕ) → Ready run (r ∷ rest) → r.first ≤ range_end run
@@ -87,7 +87,7 @@ merge_facts run [] ready = record {
   filled = only_filled run ready.some;
   aligned = only_aligned run ready.even;
   apart = λ k d within. absurd (omega (arith, within));
-  same = λ at. refl
+  same = λ at. refl;
 }
   where
     only_filled : (run : Range) → 1 ≤ run.words → All (λ (r : Range). 1 ≤ r.words) (run ∷ [])
@@ -99,8 +99,8 @@ merge_facts run [] ready = record {
     only_aligned run h (suc k) d within = absurd (omega (arith, within))
 merge_facts run (r ∷ rest) ready =
     elim (cases_Bool (nat_le r.first (range_end run))) [
-        inl begins ↦ rw begins (joins run r rest ready (leb-true _ _ begins) (merge_facts (join run r) rest (ready_join run r rest ready)))
-        | inr gap ↦ rw gap (parts run r rest ready (leb-false _ _ gap) (merge_facts r rest (ready_next run r rest ready)))
+      | inl begins ↦ rw begins (joins run r rest ready (leb-true _ _ begins) (merge_facts (join run r) rest (ready_join run r rest ready)))
+      | inr gap ↦ rw gap (parts run r rest ready (leb-false _ _ gap) (merge_facts r rest (ready_next run r rest ready)))
     ]
   where
     joins : (run r : Range) (rest : List Range) → Ready run (r ∷ rest) → r.first ≤ range_end run
@@ -111,9 +111,9 @@ merge_facts run (r ∷ rest) ready =
       aligned = m.aligned;
       apart = m.apart;
       same = λ at.
-        or_group (has_address at run) (has_address at r) (list_any (has_address at) rest)
-        ∙ ap (λ b. b || list_any (has_address at) rest) (sym (join_address run r rest at ready begins))
-        ∙ m.same at
+          or_group (has_address at run) (has_address at r) (list_any (has_address at) rest)
+          ∙ ap (λ b. b || list_any (has_address at) rest) (sym (join_address run r rest at ready begins))
+          ∙ m.same at;
     }
 
     filled_more : (run : Range) (out : List Range) → 1 ≤ run.words → All (λ (r : Range). 1 ≤ r.words) out → All (λ (r : Range). 1 ≤ r.words) (run ∷ out)
@@ -137,7 +137,7 @@ merge_facts run (r ∷ rest) ready =
       filled = filled_more run (merge_from r rest) ready.some m.filled;
       aligned = aligned_more run (merge_from r rest) ready.even m.aligned;
       apart = apart_more run r (merge_from r rest) gap m.head m.apart;
-      same = λ at. ap (λ b. has_address at run || b) (m.same at)
+      same = λ at. ap (λ b. has_address at run || b) (m.same at);
     }
 
 -- the merged ranges are the maximal runs
@@ -150,7 +150,7 @@ merge_runs run rest out ready is_out =
       filled = m.filled;
       aligned = m.aligned;
       apart = λ k d within. rw (add-one k) (m.apart k d (omega (arith, within)));
-      same = m.same
+      same = m.same;
     })
 
 -- one step of the loop, where the next range joins, and where there is a gap
@@ -221,21 +221,21 @@ merge_done out pushed ranges run i d some rise filled aligned past before is_pus
     let all = is_pushed ∙ sym (ap (λ xs. out ++ xs) (at_drop_all (merge_from run) ranges i past)) ∙ before in
     let first = get_or ranges 0 d in
     let ready : Ready first ranges = record {
-        after = λ k e within. first_before ranges 0 k d e rise (omega arith) within;
-        rise = rise;
-        some = filled 0 d some;
-        filled = filled;
-        even = aligned 0 d some;
-        aligned = aligned
+      after = λ k e within. first_before ranges 0 k d e rise (omega arith) within;
+      rise = rise;
+      some = filled 0 d some;
+      filled = filled;
+      even = aligned 0 d some;
+      aligned = aligned;
     } in
     let twice = merge_runs first ranges pushed ready all in
     record {
-        filled = twice.filled;
-        aligned = twice.aligned;
-        apart = twice.apart;
-        same = λ at.
-            sym (or_absorb (has_address at first) (list_any (has_address at) ranges) (λ e. list_any_at (has_address at) ranges 0 d some e))
-            ∙ twice.same at
+      filled = twice.filled;
+      aligned = twice.aligned;
+      apart = twice.apart;
+      same = λ at.
+          sym (or_absorb (has_address at first) (list_any (has_address at) ranges) (λ e. list_any_at (has_address at) ranges 0 d some e))
+          ∙ twice.same at;
     }
 
 -- no range at all
@@ -243,10 +243,10 @@ pub no_runs : (ranges out : List Range) → length ranges ≡ 0 → out ≡ [] �
 no_runs [] out none is_out =
     let P : List Range → Type 0 = λ xs. IsRunsOf (λ at. false) xs in
     subst P (sym is_out) (record {
-        filled = λ k d within. absurd (omega (arith, within));
-        aligned = λ k d within. absurd (omega (arith, within));
-        apart = λ k d within. absurd (omega (arith, within));
-        same = λ at. refl
+      filled = λ k d within. absurd (omega (arith, within));
+      aligned = λ k d within. absurd (omega (arith, within));
+      apart = λ k d within. absurd (omega (arith, within));
+      same = λ at. refl;
     })
 no_runs (r ∷ rest) out none is_out = absurd (omega (arith, none))
 
@@ -270,8 +270,8 @@ filled_same : (at : ℕ) (ranges : List Range) → list_any (has_address at) (fi
 filled_same at [] = refl
 filled_same at (r ∷ rest) =
     elim (cases_Bool (nat_lt 0 r.words)) [
-        inl some ↦ rw some (ap (λ b. has_address at r || b) (filled_same at rest))
-        | inr none ↦ rw none (filled_same at rest ∙ ap (λ b. b || list_any (has_address at) rest) (sym (empty r.first r.words at (ltb-false _ _ none))))
+      | inl some ↦ rw some (ap (λ b. has_address at r || b) (filled_same at rest))
+      | inr none ↦ rw none (filled_same at rest ∙ ap (λ b. b || list_any (has_address at) rest) (sym (empty r.first r.words at (ltb-false _ _ none))))
     ]
   where
     empty : (f w at : ℕ) → w ≤ 0 → (nat_le f at && nat_lt at (f + 4 * w)) ≡ false
@@ -293,5 +293,5 @@ kept_runs ranges kept sorted given out is_kept moved is_given runs = record {
   filled = runs.filled;
   aligned = runs.aligned;
   apart = runs.apart;
-  same = λ at. kept_same ranges kept sorted given is_kept moved is_given at ∙ runs.same at
+  same = λ at. kept_same ranges kept sorted given is_kept moved is_given at ∙ runs.same at;
 }

@@ -16,8 +16,8 @@ within_texts : (segments : List Segment) (s : SectionHeader)
 within_texts [] s = refl
 within_texts (g ∷ gs) s =
     elim (cases_Bool (is_executable g)) [
-        inl may ↦ rw may (ap (λ b. (nat_le g.vaddr s.sh_addr && nat_le (s.sh_addr + s.sh_size) (file_end g)) || b) (within_texts gs s))
-        | inr no_code ↦ rw no_code (within_texts gs s)
+      | inl may ↦ rw may (ap (λ b. (nat_le g.vaddr s.sh_addr && nat_le (s.sh_addr + s.sh_size) (file_end g)) || b) (within_texts gs s))
+      | inr no_code ↦ rw no_code (within_texts gs s)
     ]
 
 position-same : {X : Type 0} (p q : X → Bool) (xs : List X) → ((x : X) → p x ≡ q x) → position p xs ≡ position q xs
@@ -35,10 +35,10 @@ pub outside_same : (segments : List Segment) (sections : List SectionHeader) (sp
     → ((first behind : ℕ) → first < behind → are_within first behind texts ≡ are_within first behind spans)
     → given ≡ texts
     → position (λ (s : SectionHeader). is_code s && not (are_within s.sh_addr (s.sh_addr + s.sh_size) given)) sections
-        ≡ position (is_code_outside segments) sections
+    ≡ position (is_code_outside segments) sections
 outside_same segments sections spans texts given is_spans same is_given =
     position-same _ _ sections (λ s. and_same (is_code s) _ _ (λ code.
-        ap (are_within s.sh_addr (s.sh_addr + s.sh_size)) is_given
-        ∙ same s.sh_addr (s.sh_addr + s.sh_size) (not_empty s code)
-        ∙ ap (are_within s.sh_addr (s.sh_addr + s.sh_size)) is_spans
-        ∙ within_texts segments s))
+    ap (are_within s.sh_addr (s.sh_addr + s.sh_size)) is_given
+    ∙ same s.sh_addr (s.sh_addr + s.sh_size) (not_empty s code)
+    ∙ ap (are_within s.sh_addr (s.sh_addr + s.sh_size)) is_spans
+    ∙ within_texts segments s))

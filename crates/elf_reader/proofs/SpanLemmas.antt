@@ -37,7 +37,7 @@ pub reach_more : (out pushed all ss : List Span) (m i f : ℕ) (d : Span) → i 
 reach_more out pushed all ss m i f d within before is_furthest is_pushed =
     ap (λ e. pushed ++ reach_from e (drop (i + 1) ss)) is_furthest
     ∙ reach_more_max out pushed all ss m i d within before
-        (is_pushed ∙ ap (λ e. out ++ record { first = (get_or ss i d).first; end = e } ∷ []) is_furthest)
+    (is_pushed ∙ ap (λ e. out ++ record { first = (get_or ss i d).first; end = e } ∷ []) is_furthest)
 
 reach_all : (out all ss : List Span) (m i : ℕ) → length ss ≤ i → out ++ reach_from m (drop i ss) ≡ all → out ++ [] ≡ all
 reach_all out all ss m i past before = sym (ap (λ xs. out ++ xs) (at_drop_all (reach_from m) ss i past)) ∙ before
@@ -69,7 +69,7 @@ reach_ends m (s ∷ rest) (suc i) (suc j) d le within = reach_ends (max s.end m)
 reach_rises : (ss : List Span) → IsNonDecreasingBy (λ (s : Span). s.first) ss → AreRising (reach_from 0 ss)
 reach_rises ss rise = record {
   firsts = λ i j d le within. rw (reach_first 0 ss i d, reach_first 0 ss j d) (rise i j d le (omega (arith, within, length-reach 0 ss)));
-  ends = λ i j d le within. reach_ends 0 ss i j d le (omega (arith, within, length-reach 0 ss))
+  ends = λ i j d le within. reach_ends 0 ss i j d le (omega (arith, within, length-reach 0 ss));
 }
 
 or_step : (x ra sa s y : Bool) → (ra || x) ≡ (sa || x) → (x || y) ≡ (s || y) → ((x || ra) || y) ≡ ((s || sa) || y)
@@ -83,18 +83,18 @@ or_step false ra sa false false p q = grind arith
 reach_within : (m b : ℕ) (first behind : ℕ) (ss : List Span) → IsNonDecreasingBy (λ (s : Span). s.first) ss
     → ((k : ℕ) (d : Span) → k < length ss → b ≤ (get_or ss k d).first)
     → (are_within first behind (reach_from m ss) || (nat_le b first && nat_le behind m))
-        ≡ (are_within first behind ss || (nat_le b first && nat_le behind m))
+    ≡ (are_within first behind ss || (nat_le b first && nat_le behind m))
 reach_within m b first behind [] rise after = refl
 reach_within m b first behind (s ∷ rest) rise after =
     let rest_same = reach_within (max s.end m) s.first first behind rest
-        (λ i j d le within. rise (suc i) (suc j) d (omega (arith, le)) (omega (arith, within)))
-        (λ k d within. rise 0 (suc k) d (omega arith) (omega (arith, within))) in
+    (λ i j d le within. rise (suc i) (suc j) d (omega (arith, le)) (omega (arith, within)))
+    (λ k d within. rise 0 (suc k) d (omega arith) (omega (arith, within))) in
     or_step _ (are_within first behind (reach_from (max s.end m) rest)) (are_within first behind rest) _ _ rest_same
-        (here b s.first first behind s.end m (after 0 s (omega arith)))
+    (here b s.first first behind s.end m (after 0 s (omega arith)))
   where
     here : (b f first behind e m : ℕ) → b ≤ f
         → ((nat_le f first && nat_le behind (max e m)) || (nat_le b first && nat_le behind m))
-            ≡ ((nat_le f first && nat_le behind e) || (nat_le b first && nat_le behind m))
+        ≡ ((nat_le f first && nat_le behind e) || (nat_le b first && nat_le behind m))
     here b f first behind e m le = grind (arith, nat_tests)
 
 or_false : (x y : Bool) → y ≡ false → (x || y) ≡ x
@@ -122,21 +122,21 @@ pub within_at : (ss : List Span) (k : ℕ) (d : Span) (first behind : ℕ) → A
     → nat_le behind (get_or ss (k - 1) d).end ≡ are_within first behind ss
 within_at ss k d first behind rise some le begun later =
     elim (cases_Bool (nat_le behind (get_or ss (k - 1) d).end)) [
-        inl ends ↦ ends ∙ sym (list_any_at _ ss (k - 1) d (omega arith)
-            (and_from _ _ (le-leb _ _ (begun (k - 1) d (omega arith))) ends))
-        | inr short ↦ short ∙ sym (list_any_none _ ss (λ j e within. none j e within short))
+      | inl ends ↦ ends ∙ sym (list_any_at _ ss (k - 1) d (omega arith)
+          (and_from _ _ (le-leb _ _ (begun (k - 1) d (omega arith))) ends))
+      | inr short ↦ short ∙ sym (list_any_none _ ss (λ j e within. none j e within short))
     ]
   where
     none : (j : ℕ) (e : Span) → j < length ss → nat_le behind (get_or ss (k - 1) d).end ≡ false
         → (nat_le (get_or ss j e).first first && nat_le behind (get_or ss j e).end) ≡ false
     none j e within short =
         elim (cases_lt j k) [
-            inl lt ↦
-                let up = rise.ends j (k - 1) e (omega arith) (omega arith) in
-                let same = ap (λ (s : Span). s.end) (get_or_default ss (k - 1) d e (omega arith)) in
-                let past = leb-false _ _ short in
-                ends_before (get_or ss j e).first first behind (get_or ss j e).end (omega (arith, up, same, past))
-            | inr ge ↦ begins_after (get_or ss j e).first first behind (get_or ss j e).end (later j e ge within)
+          | inl lt ↦
+              let up = rise.ends j (k - 1) e (omega arith) (omega arith) in
+              let same = ap (λ (s : Span). s.end) (get_or_default ss (k - 1) d e (omega arith)) in
+              let past = leb-false _ _ short in
+              ends_before (get_or ss j e).first first behind (get_or ss j e).end (omega (arith, up, same, past))
+          | inr ge ↦ begins_after (get_or ss j e).first first behind (get_or ss j e).end (later j e ge within)
         ]
 
 pub within_none : (ss : List Span) (k : ℕ) (first behind : ℕ) → k ≡ 0
@@ -181,10 +181,11 @@ filled_moved spans sorted given moved is_given filled =
 pub next_here : (ss : List Span) (k at : ℕ) (d : Span) → 0 < k → k ≤ length ss → at < (get_or ss (k - 1) d).end
     → ((j : ℕ) (d : Span) → j < k → (get_or ss j d).first ≤ at)
     → IsLeastFrom at (λ n. are_within n (n + 1) ss) (Some at)
-next_here ss k at d some le held begun =
-    (omega arith,
-    list_any_at _ ss (k - 1) d (omega arith) (and_from _ _ (le-leb _ _ (begun (k - 1) d (omega arith))) (le-leb _ _ (omega (arith, held)))),
-    λ m from lt. absurd (omega (arith, from, lt)))
+next_here ss k at d some le held begun = (
+  omega arith,
+  list_any_at _ ss (k - 1) d (omega arith) (and_from _ _ (le-leb _ _ (begun (k - 1) d (omega arith))) (le-leb _ _ (omega (arith, held)))),
+  λ m from lt. absurd (omega (arith, from, lt)),
+)
 
 -- nothing from the number on lies in a span that has begun, where the last of these is over
 passed : (ss : List Span) (k at n : ℕ) → AreRising ss → k ≤ length ss
@@ -216,14 +217,15 @@ pub next_later : (ss : List Span) (k at : ℕ) (c d : Span) → AreRising ss →
     → IsLeastFrom at (λ n. are_within n (n + 1) ss) (Some (get_or ss k c).first)
 next_later ss k at c d rise filled lt over later =
     let begins = later k c (omega arith) lt in
-    let some = filled k c lt in
-    (omega (arith, begins),
-    list_any_at _ ss k c lt (and_from _ _ (le-leb (get_or ss k c).first (get_or ss k c).first (omega arith)) (le-leb ((get_or ss k c).first + 1) (get_or ss k c).end (omega (arith, some)))),
-    λ m from below. list_any_none _ ss (λ j e within.
-        elim (cases_lt j k) [
-            inl before ↦ passed ss k at m rise (omega arith) (over_any ss k at d (omega arith) over) from j e before
+    let some = filled k c lt in (
+      omega (arith, begins),
+      list_any_at _ ss k c lt (and_from _ _ (le-leb (get_or ss k c).first (get_or ss k c).first (omega arith)) (le-leb ((get_or ss k c).first + 1) (get_or ss k c).end (omega (arith, some)))),
+      λ m from below. list_any_none _ ss (λ j e within.
+          elim (cases_lt j k) [
+            | inl before ↦ passed ss k at m rise (omega arith) (over_any ss k at d (omega arith) over) from j e before
             | inr after ↦
                 let same = ap (λ (s : Span). s.first) (get_or_default ss k c e lt) in
                 let up = rise.firsts k j e after within in
                 begins_after (get_or ss j e).first m (m + 1) (get_or ss j e).end (omega (arith, same, up, below))
-        ]))
+          ]),
+    )

@@ -43,7 +43,7 @@ header_of file = record {
   e_phentsize = half file 42;
   e_phnum = half file 44;
   e_shentsize = half file 46;
-  e_shnum = half file 48
+  e_shnum = half file 48;
 }
 
 -- the program header table, whose entries take 32 bytes, runs past the end of the file

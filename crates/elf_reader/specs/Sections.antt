@@ -19,7 +19,7 @@ section_header file i = let at = (header_of file).e_shoff + 40 * i in record {
   sh_type = word file (at + 4);
   sh_flags = word file (at + 8);
   sh_addr = word file (at + 12);
-  sh_size = word file (at + 20)
+  sh_size = word file (at + 20);
 }
 
 -- the section header table, if there is one

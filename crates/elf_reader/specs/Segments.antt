@@ -17,8 +17,8 @@ program_header file i = let at = (header_of file).e_phoff + 32 * i in record {
     vaddr = word file (at + 8);
     filesz = word file (at + 16);
     memsz = word file (at + 20);
-    flags = word file (at + 24)
-  }
+    flags = word file (at + 24);
+  };
 }
 
 -- the program header table

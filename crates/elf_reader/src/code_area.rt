@@ -33,10 +33,7 @@ pub fn code_ranges(
 }
 
 /// The words of each code section.
-fn section_ranges(
-    alloc: Global,
-    sections: &[SectionHeader],
-) -> Result<Vec<Range>, AllocError>
+fn section_ranges(alloc: Global, sections: &[SectionHeader]) -> Result<Vec<Range>, AllocError>
     ensures { IfOk result (λ v. v.items ≡ map section_range (filter is_code sections.now)) }
 {
     sections
@@ -74,7 +71,11 @@ pub fn runs(alloc: Global, ranges: &[Range]) -> Result<Vec<Range>, AllocError>
 fn filled(alloc: Global, ranges: &[Range]) -> Result<Vec<Range>, AllocError>
     ensures { IfOk result (λ v. v.items ≡ filter (λ (r : Range). nat_lt 0 r.words) ranges.now) }
 {
-    ranges.iter().filter(|r| r.words > 0).copied().collect(alloc)
+    ranges
+        .iter()
+        .filter(|r| r.words > 0)
+        .copied()
+        .collect(alloc)
 }
 
 /// The ranges by their first addresses.

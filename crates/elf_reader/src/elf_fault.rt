@@ -46,26 +46,47 @@ impl ElfFault {
     ghost use Rattle.elf_reader.specs.Check.{fails, fails_at};
 
     pub const TOO_SHORT: u32 = 1;
+
     pub const BAD_MAGIC: u32 = 2;
+
     pub const NOT_CLASS_32: u32 = 3;
+
     pub const NOT_BIG_ENDIAN: u32 = 4;
+
     pub const BAD_VERSION: u32 = 5;
+
     pub const NOT_EXECUTABLE: u32 = 6;
+
     pub const NOT_MIPS: u32 = 7;
+
     pub const NO_SEGMENTS: u32 = 8;
+
     pub const BAD_PROGRAM_HEADER_SIZE: u32 = 9;
+
     pub const PROGRAM_TABLE_OUTSIDE: u32 = 10;
+
     pub const DYNAMIC: u32 = 11;
+
     pub const SEGMENT_OUTSIDE: u32 = 12;
+
     pub const SEGMENT_SIZES: u32 = 13;
+
     pub const ADDRESS_OUTSIDE: u32 = 14;
+
     pub const OVERLAP: u32 = 15;
+
     pub const WRITABLE_TEXT: u32 = 16;
+
     pub const BAD_SECTION_HEADER_SIZE: u32 = 17;
+
     pub const SECTION_TABLE_OUTSIDE: u32 = 18;
+
     pub const CODE_OUTSIDE: u32 = 19;
+
     pub const CODE_UNALIGNED: u32 = 20;
+
     pub const NO_CODE: u32 = 21;
+
     pub const SHARED_PAGE: u32 = 22;
 
     /// A check that names no header, where it fails.

@@ -33,4 +33,6 @@ pub use thin::Thin;
 pub use thin_error::ThinError;
 
 #[cfg(test)]
+mod elf_tests;
+#[cfg(test)]
 mod tests;

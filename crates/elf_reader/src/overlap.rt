@@ -65,7 +65,7 @@ fn meets_another(h: &ProgramHeader, firsts: &[u64], ends: &[u64]) -> bool
     requires ends_rise { IsNonDecreasing ends.now }
     ensures { result
         ≡ nat_lt (count_by (λ x. nat_le x h.now.segment.vaddr) ends.now + 1)
-            (count_by (λ x. nat_lt x (segment_end h.now.segment)) firsts.now) }
+        (count_by (λ x. nat_lt x (segment_end h.now.segment)) firsts.now) }
 {
     count_below(firsts, h.segment.end()) > count_to(ends, u64::from(h.segment.vaddr)) + 1
 }

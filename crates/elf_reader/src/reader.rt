@@ -1,9 +1,9 @@
 ghost use Rattle.std.specs.Prelude.{◌≡◌, ◌≤◌, ◌<◌, ◌↔◌, IsTrue, OnOk, IfOk, IfSome, IsErrOf, length, vec_len};
 ghost use Rattle.elf_reader.specs.Header.{IsTooShort, HasMagic};
 
-use crate::thin_segment::{ThinSegment, read_segment};
 use crate::thin::Thin;
 use crate::thin_error::ThinError;
+use crate::thin_segment::{ThinSegment, read_segment};
 use nv_words::word_at;
 use std::alloc::{AllocError, Global};
 

@@ -61,9 +61,7 @@ fn first_code_outside(sections: &[SectionHeader], texts: &[Span]) -> Option<usiz
         ≡ position (λ (s : SectionHeader). is_code s && not (are_within s.sh_addr (s.sh_addr + s.sh_size) texts.now)) sections.now }
     ensures bound { IfSome result (λ i. i < length sections.now) }
 {
-    sections
-        .iter()
-        .position(|s| s.is_code() && !are_within(texts, u64::from(s.sh_addr), s.end()))
+    sections.iter().position(|s| s.is_code() && !are_within(texts, u64::from(s.sh_addr), s.end()))
 }
 
 /// The first code section that begins at no multiple of 4.

@@ -87,10 +87,7 @@ pub fn check_segments(
     if let Some(fault) = check_overlap(alloc, headers)? {
         return Ok(Some(fault));
     }
-    Ok(ElfFault::at(
-        ElfFault::WRITABLE_TEXT,
-        first_writable_text(headers),
-    ))
+    Ok(ElfFault::at(ElfFault::WRITABLE_TEXT, first_writable_text(headers)))
 }
 
 /// The first of the checks that look at one header at a time, up to the addresses.
@@ -98,11 +95,11 @@ fn check_each(headers: &[ProgramHeader], len: usize) -> Option<ElfFault>
     requires { length headers.now < 65536 }
     ensures { result
         ≡ first_fault
-            (fails_at 11 (position is_dynamic headers.now)
-            ∷ fails_at 12 (position (is_outside len) headers.now)
-            ∷ fails_at 13 (position is_oversized headers.now)
-            ∷ fails_at 14 (position is_too_high headers.now)
-            ∷ []) }
+        (fails_at 11 (position is_dynamic headers.now)
+        ∷ fails_at 12 (position (is_outside len) headers.now)
+        ∷ fails_at 13 (position is_oversized headers.now)
+        ∷ fails_at 14 (position is_too_high headers.now)
+        ∷ []) }
 {
     if let Some(fault) = ElfFault::at(ElfFault::DYNAMIC, first_dynamic(headers)) {
         return Some(fault);

@@ -8,5 +8,5 @@ abbrev pub invariant-loop-r : goal.invariant-loop-r
 invariant-loop-r l = record {
   value : l.runs.items ++ merge_from l.run (drop l.r-index l.ranges) ≡ merge_from (get_or l.ranges 0 (record { first = 0; words = 0 })) l.ranges;
   low : range_end l.run ≤ 2 ^ 32;
-  after : (k : ℕ) (d : Range) → l.r-index ≤ k → k < length l.ranges → l.run.first ≤ (get_or l.ranges k d).first
+  after : (k : ℕ) (d : Range) → l.r-index ≤ k → k < length l.ranges → l.run.first ≤ (get_or l.ranges k d).first;
 }

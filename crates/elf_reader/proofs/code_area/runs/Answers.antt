@@ -24,5 +24,5 @@ pub returns : goal.returns
 returns c =
     IfOk-weaker c.merged.result _ _
     (λ v found. kept_runs c.args.ranges.now c.in_ok-filled.field-0.items c.in_ok-sorted.sorted.items c.as_slice.result.now v.items
-        c.in_ok-filled.ensures c.in_ok-sorted.ensures.same c.as_slice.ensures.value found)
+    c.in_ok-filled.ensures c.in_ok-sorted.ensures.same c.as_slice.ensures.value found)
     c.merged.ensures

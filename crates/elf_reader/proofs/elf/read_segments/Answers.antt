@@ -16,8 +16,8 @@ returns-clause-live c =
 pub returns-clause-sound : goal.returns-clause-sound
 returns-clause-sound c =
     let none =
-        ap (segment_fault (length c.args.b.now)) (sym c.as_slice.ensures.value)
-        ∙ sym c.in_ok-check_segments.ensures
-        ∙ c.in_ok-refuse.ensures.passed in
+    ap (segment_fault (length c.args.b.now)) (sym c.as_slice.ensures.value)
+    ∙ sym c.in_ok-check_segments.ensures
+    ∙ c.in_ok-refuse.ensures.passed in
     let lives = c.in_ok-segments.ensures ∙ ap (λ hs. map (λ (h : ProgramHeader). h.segment) (filter is_live hs)) c.as_slice-2.ensures.value in
     segments_sound (length c.args.b.now) c.in_ok-headers.headers.items c.in_ok-segments.segments.items none lives

@@ -13,10 +13,10 @@ pub returns-in-Some : goal.returns-in-Some
 returns-in-Some c =
     sym (c.loop-i.invariant
     ∙ overlap_from-found c.args.headers.now c.split_at.result.1.now c.loop-i.i c.in-Some.k _ (omega arith)
-        c.split_at.ensures.back c.in-Some.ensures.first)
+    c.split_at.ensures.back c.in-Some.ensures.first)
 
 pub loop-i-preserved : goal.loop-i-preserved
 loop-i-preserved c =
     c.loop-i.invariant
     ∙ overlap_from-next c.args.headers.now c.split_at.result.1.now c.loop-i.i _ (omega arith)
-        c.split_at.ensures.back c.in_default.ensures.first
+    c.split_at.ensures.back c.in_default.ensures.first

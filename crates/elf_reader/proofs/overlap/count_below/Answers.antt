@@ -6,7 +6,7 @@ use Rattle.elf_reader.proofs.overlap.count_below.Goals as goal
 pub returns-clause-value : goal.returns-clause-value
 returns-clause-value c =
     let passes = IsPartitionPoint-from_clause (λ x. nat_lt x c.args.limit) c.args.numbers.now c.partition_point.result
-        c.partition_point.ensures.partitioned
-        (IsPartitionedBy-ltb (λ x. x) c.args.numbers.now c.args.limit c.requires)
-        (λ a r q k. search rules) in
+    c.partition_point.ensures.partitioned
+    (IsPartitionedBy-ltb (λ x. x) c.args.numbers.now c.args.limit c.requires)
+    (λ a r q k. search rules) in
     partition_count (λ x. nat_lt x c.args.limit) c.args.numbers.now _ c.partition_point.ensures.bound passes

@@ -9,7 +9,7 @@ pub returns-then-not-is_live-clause-first : goal.returns-then-not-is_live-clause
 returns-then-not-is_live-clause-first c =
     let off : is_live c.args.h.now ≡ false = search rules in
     sym (position-none (overlap c.args.h.now) c.args.later.now
-        (count_by-none (overlap c.args.h.now) c.args.later.now (λ g. not_live_first c.args.h.now g off)))
+    (count_by-none (overlap c.args.h.now) c.args.later.now (λ g. not_live_first c.args.h.now g off)))
 
 pub returns-then-not-meets_another-clause-first : goal.returns-then-not-meets_another-clause-first
 returns-then-not-meets_another-clause-first c =

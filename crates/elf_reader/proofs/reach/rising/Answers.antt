@@ -9,8 +9,8 @@ pub returns-clause-same : goal.returns-clause-same
 returns-clause-same c =
     IfOk-weaker c.reaching.result _ _
     (λ v same first behind some. same first behind some
-        ∙ ap (are_within first behind) c.as_slice.ensures.value
-        ∙ sym (list_any-IsPermutation _ c.args.spans.items _ c.in_ok-sorted.ensures.same))
+    ∙ ap (are_within first behind) c.as_slice.ensures.value
+    ∙ sym (list_any-IsPermutation _ c.args.spans.items _ c.in_ok-sorted.ensures.same))
     c.reaching.ensures.same
 
 pub returns-clause-filled : goal.returns-clause-filled
