@@ -1,5 +1,5 @@
 -- What holds of a file that passed checks.
-use Rattle.std.proofs.Common.{◌≡◌, ℕ, zero, suc, ◌+◌, ◌-◌, ◌*◌, ◌/◌, ◌%◌, ◌^◌, ◌<◌, ◌≤◌, Bool, true, false, ◌&&◌, cond, not, nat_lt, nat_le, List, [], ◌∷◌, length, map, filter, position, get_or, Option, Some, None, refl, sym, ap, ◌∙◌, subst, inl, inr, arith}
+use Rattle.std.proofs.Common.{◌≡◌, ℕ, zero, suc, ◌+◌, ◌-◌, ◌*◌, ◌/◌, ◌%◌, ◌^◌, ◌≤◌, Bool, true, false, List, [], ◌∷◌, map, filter, position, get_or, Option, Some, None, refl, sym, ap, ◌∙◌, subst, inl, inr, arith}
 use Rattle.std.specs.List.{All, list_any, position_from}
 use Rattle.std.proofs.lemmas.Bool.{cases_Bool}
 use Rattle.std.proofs.lemmas.Bool.Decides.{nat_tests}
@@ -59,7 +59,7 @@ header_sound len h in_file sized low alive = record {
   low = grind (arith, nat_tests);
 }
 
-segment_nones : (a b c d e f : Option ElfFault) → first_fault (a ∷ b ∷ c ∷ d ∷ e ∷ f ∷ []) ≡ None
+pub segment_nones : (a b c d e f : Option ElfFault) → first_fault (a ∷ b ∷ c ∷ d ∷ e ∷ f ∷ []) ≡ None
     → (b ≡ None) × (c ≡ None) × (d ≡ None) × (e ≡ None)
 segment_nones a b c d e f none =
     let past_a = first_none a (b ∷ c ∷ d ∷ e ∷ f ∷ []) none in
@@ -82,7 +82,7 @@ headers_sound len headers none =
     λ k e within alive. header_sound len (get_or headers k e) (in_file k e within) (sized k e within) (low k e within) alive
 
 -- what holds of each that is kept and mapped
-kept_map : {X Y : Type 0} (P : Y → Type 0) (f : X → Y) (test : X → Bool) (xs : List X) → All (λ x. test x ≡ true → P (f x)) xs
+pub kept_map : {X Y : Type 0} (P : Y → Type 0) (f : X → Y) (test : X → Bool) (xs : List X) → All (λ x. test x ≡ true → P (f x)) xs
     → All P (map f (filter test xs))
 kept_map P f test [] holds = λ k d within. absurd (omega (arith, within))
 kept_map P f test (x ∷ rest) holds =

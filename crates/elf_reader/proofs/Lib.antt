@@ -6,3 +6,4 @@ pub mod SectionLemmas
 pub mod RunLemmas
 pub mod PageLemmas
 pub mod FaultLemmas
+pub mod PassedLemmas

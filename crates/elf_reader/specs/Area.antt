@@ -39,6 +39,10 @@ has_address at r = nat_le r.first at && nat_lt at (range_end r)
 unfoldable pub area : List ℕ → ℕ → Bool
 area file at = list_any (has_address at) (code_ranges file)
 
+-- an address lies in the bytes in the file of an executable segment
+abbrev pub is_in_text : ℕ → Segment → Bool
+is_in_text at s = is_executable s && nat_le s.vaddr at && nat_lt at (file_end s)
+
 -- a page of 4,096 bytes holds a byte of a range, and a byte of a writable segment
 abbrev pub range_is_on_page : ℕ → Range → Bool
 range_is_on_page page r = meet r.first (range_end r) (4096 * page) (4096 * page + 4096)

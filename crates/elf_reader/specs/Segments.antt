@@ -1,5 +1,5 @@
 -- System V ABI, "Program Header"
-use Rattle.std.specs.Prelude.{ℕ, ◌+◌, ◌*◌, Bool, ◌&&◌, ◌||◌, ◌==◌, nat_lt, List, [], ◌∷◌, map, filter, position, Option, None, option_map}
+use Rattle.std.specs.Prelude.{◌≡◌, false, ℕ, ◌+◌, ◌*◌, Bool, ◌&&◌, ◌||◌, ◌==◌, nat_lt, List, [], ◌∷◌, map, filter, position, Option, None, option_map}
 use Rattle.std.specs.Option.{option_or}
 use Rattle.std.specs.List.{range_with_len}
 use Rattle.elf_reader.specs.declared.elf_fault.ElfFault.{ElfFault}
@@ -76,6 +76,10 @@ abbrev pub overlap : ProgramHeader → ProgramHeader → Bool
 overlap h g =
     is_live h && is_live g
     && meet h.segment.vaddr (segment_end h.segment) g.segment.vaddr (segment_end g.segment)
+
+-- two segments share no address
+abbrev pub IsApart : Segment → Segment → Type 0
+IsApart s t = meet s.vaddr (segment_end s) t.vaddr (segment_end t) ≡ false
 
 -- the first header, counted from i, that overlaps a later one, and the first such later one
 unfoldable pub overlap_from : ℕ → List ProgramHeader → Option ElfFault

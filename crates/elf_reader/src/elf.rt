@@ -1,10 +1,11 @@
-ghost use Rattle.std.specs.Prelude.{◌≡◌, [], ◌∷◌, ◌+◌, ◌*◌, ◌≤◌, All, length, IfOk, IfErr, OnOk};
-ghost use Rattle.elf_reader.specs.Area.{area, code_ranges, ranges_of, area_fault, has_address};
+ghost use Rattle.std.specs.Prelude.{true, ℕ, AllPairs, ◌≡◌, [], ◌∷◌, ◌+◌, ◌*◌, ◌≤◌, All, length, IfOk, IfErr, OnOk};
+ghost use Rattle.elf_reader.specs.Area.{area, code_ranges, ranges_of, area_fault, has_address, range_end, is_in_text};
 ghost use Rattle.elf_reader.specs.Check.{first_fault};
 ghost use Rattle.elf_reader.specs.Fault.{elf_fault, IsAnswer, IsSound, IsRunsOf};
 ghost use Rattle.elf_reader.specs.Header.{header_of, identity_fault, program_table_fault};
 ghost use Rattle.elf_reader.specs.Sections.{has_sections, section_headers, section_table_fault, section_fault};
-ghost use Rattle.elf_reader.specs.Segments.{program_headers, live, file_end, segment_fault};
+ghost use Rattle.elf_reader.specs.Segments.{program_headers, live, file_end, segment_fault, IsApart};
+ghost use Rattle.elf_reader.specs.declared.range.Range.{Range};
 ghost use Rattle.elf_reader.specs.declared.segment.Segment.{Segment};
 ghost use Rattle.std.specs.List.{list_any};
 
@@ -49,7 +50,13 @@ pub fn read_elf(alloc: Global, b: &[u8]) -> Result<Elf<'_>, ElfError>
     ensures entry { IfOk result (λ elf. elf.entry ≡ (header_of b.now).e_entry) }
     ensures segments { IfOk result (λ elf. elf.segments.items ≡ live b.now) }
     ensures sound { IfOk result (λ elf. All (IsSound (length b.now)) elf.segments.items) }
+    ensures apart { IfOk result (λ elf. AllPairs IsApart elf.segments.items) }
     ensures code { IfOk result (λ elf. IsRunsOf (area b.now) elf.code.items) }
+
+    // The code lies in the bytes in the file of the executable segments.
+    ensures text { IfOk result (λ elf. (at : ℕ) → area b.now at ≡ true →
+        list_any (is_in_text at) elf.segments.items ≡ true) }
+    ensures low { IfOk result (λ elf. All (λ (r : Range). range_end r ≤ 0x7F00_0000) elf.code.items) }
 {
     let header = read_header(b)?;
     let segments = read_segments(alloc, b, header)?;
@@ -83,6 +90,7 @@ fn read_segments(alloc: Global, b: &[u8], header: ElfHeader) -> Result<Vec<Segme
     ensures passed { OnOk result (segment_fault (length b.now) (program_headers b.now) ≡ None) }
     ensures live { IfOk result (λ segments. segments.items ≡ live b.now) }
     ensures sound { IfOk result (λ segments. All (IsSound (length b.now)) segments.items) }
+    ensures apart { IfOk result (λ segments. AllPairs IsApart segments.items) }
 {
     let headers = read_program_headers(alloc, b, header)?;
     refuse(check_segments(alloc, headers.as_slice(), b.len())?)?;
@@ -112,6 +120,8 @@ fn read_code(
         ∷ [])
         ≡ None) }
     ensures code { IfOk result (λ code. IsRunsOf (area b.now) code.items) }
+    ensures text { OnOk result ((at : ℕ) → area b.now at ≡ true → list_any (is_in_text at) segments.now ≡ true) }
+    ensures low { IfOk result (λ code. All (λ (r : Range). range_end r ≤ 0x7F00_0000) code.items) }
 {
     let sections = read_sections(alloc, b, header, segments)?;
     read_area(alloc, header, sections.as_slice(), segments)

@@ -1,7 +1,7 @@
 //! Whole files: what is refused, and what an accepted one gives.
 use crate::tests::{EXIT_7, edited};
-use crate::{ElfError, ElfFault, Range, Segment, read_elf};
-use std::alloc::{AllocError, Global};
+use crate::written::written;
+use crate::{ElfError, ElfFault, Range, read_elf};
 use std::test::Fail;
 
 /// The answer for a file that fails a check.
@@ -59,84 +59,6 @@ fn names_the_check_that_a_cut_file_fails(rt: HostRuntime) {
             "{len} bytes"
         );
     }
-}
-
-/// The words, big-endian.
-fn put(file: &mut Vec<u8>, words: &[u32]) -> Result<(), AllocError> {
-    for word in words {
-        file.extend_from_slice(&word.to_be_bytes())?;
-    }
-    Ok(())
-}
-
-/// The next multiple of 4.
-fn aligned(place: u32) -> u32 {
-    place.wrapping_add(3) / 4 * 4
-}
-
-/// A file of segments (address, length in memory, flags, bytes) and sections (type, flags, address, length), which has its
-/// tables at the front and at the end.
-fn written(
-    alloc: Global,
-    segments: &[(u32, u32, u32, &[u8])],
-    sections: &[(u32, u32, u32, u32)],
-) -> Result<Vec<u8>, AllocError> {
-    let count = u32::try_from(segments.len()).unwrap_or(0);
-    let tables = count.wrapping_mul(32).wrapping_add(52);
-    let mut end = tables;
-    for (_, _, _, bytes) in segments {
-        end = aligned(end).wrapping_add(u32::try_from(bytes.len()).unwrap_or(0));
-    }
-    let (place, headers) = match u32::try_from(sections.len()) {
-        Ok(n) if n > 0 => (aligned(end), n.wrapping_add(1)),
-        _ => (0, 0),
-    };
-    let mut file = Vec::new(alloc);
-    let identity = [0x7F45_4C46, 0x0102_0100, 0, 0, 0x0002_0008, 1];
-    put(&mut file, &identity)?;
-    put(&mut file, &[0x0040_0000, 52, place, 0, 0x0034_0020])?;
-    put(
-        &mut file,
-        &[
-            count.wrapping_mul(0x1_0000).wrapping_add(40),
-            headers.wrapping_mul(0x1_0000),
-        ],
-    )?;
-    let mut at = tables;
-    for (address, memory, flags, bytes) in segments {
-        let len = u32::try_from(bytes.len()).unwrap_or(0);
-        at = aligned(at);
-        put(
-            &mut file,
-            &[1, at, *address, *address, len, *memory, *flags, 4],
-        )?;
-        at = at.wrapping_add(len);
-    }
-    for (_, _, _, bytes) in segments {
-        pad(&mut file)?;
-        file.extend_from_slice(bytes)?;
-    }
-    if headers > 0 {
-        pad(&mut file)?;
-        put(&mut file, &[0; 10])?;
-        for (kind, flags, address, size) in sections {
-            put(
-                &mut file,
-                &[0, *kind, *flags, *address, 0, *size, 0, 0, 4, 0],
-            )?;
-        }
-    }
-    Ok(file)
-}
-
-/// Zeros up to the next multiple of 4.
-fn pad(file: &mut Vec<u8>) -> Result<(), AllocError> {
-    for _ in 0..3 {
-        if file.len() % 4 != 0 {
-            file.push(0)?;
-        }
-    }
-    Ok(())
 }
 
 /// ADDIU, ADDIU, SYSCALL.
@@ -266,20 +188,6 @@ fn names_the_segments_and_sections_at_fault(rt: HostRuntime) -> Result<(), Fail>
                 (0x0060_0000, 4, 5, word),
                 (0x0060_0FFC, 8, 6, word),
                 text,
-                (0x003F_FFFC, 8, 4, word),
-                (0x0040_0FFF, 1, 2, &word[..1]),
-            ]
-            .as_slice(),
-            [].as_slice(),
-            15,
-            2,
-            3,
-        ),
-        (
-            [
-                (0x0060_0000, 4, 5, word),
-                (0x0060_0FFC, 8, 6, word),
-                text,
                 (0x0040_0FFF, 1, 2, &word[..1]),
             ]
             .as_slice(),
@@ -383,70 +291,5 @@ fn finds_the_runs_of_code(rt: HostRuntime) -> Result<(), Fail> {
             );
         }
     }
-    Ok(())
-}
-
-/// The header and the program headers of a stripped C program, as GCC and the GNU linker make it for MIPS I.
-const LINKED_FRONT: [u32; 61] = [
-    0x7F454C46, 0x01020100, 0x00000000, 0x00000000, 0x00020008, 0x00000001, 0x00400150, 0x00000034,
-    0x00000250, 0x00001000, 0x00340020, 0x00060028, 0x000B000A, 0x70000003, 0x000000F8, 0x004000F8,
-    0x004000F8, 0x00000018, 0x00000018, 0x00000004, 0x00000008, 0x70000000, 0x00000110, 0x00400110,
-    0x00400110, 0x00000018, 0x00000018, 0x00000004, 0x00000004, 0x00000001, 0x00000000, 0x00400000,
-    0x00400000, 0x00000180, 0x00000180, 0x00000005, 0x00001000, 0x00000001, 0x00000180, 0x00401180,
-    0x00401180, 0x00000010, 0x00000010, 0x00000006, 0x00001000, 0x00000004, 0x00000128, 0x00400128,
-    0x00400128, 0x00000024, 0x00000024, 0x00000004, 0x00000004, 0x6474E551, 0x00000000, 0x00000000,
-    0x00000000, 0x00000000, 0x00000000, 0x00000006, 0x00000010,
-];
-
-/// Its section headers, at the end of the file.
-const LINKED_BACK: [u32; 110] = [
-    0x00000000, 0x00000000, 0x00000000, 0x00000000, 0x00000000, 0x00000000, 0x00000000, 0x00000000,
-    0x00000000, 0x00000000, 0x0000000B, 0x7000002A, 0x00000002, 0x004000F8, 0x000000F8, 0x00000018,
-    0x00000000, 0x00000000, 0x00000008, 0x00000018, 0x0000001A, 0x70000006, 0x00000002, 0x00400110,
-    0x00000110, 0x00000018, 0x00000000, 0x00000000, 0x00000004, 0x00000018, 0x00000023, 0x00000007,
-    0x00000002, 0x00400128, 0x00000128, 0x00000024, 0x00000000, 0x00000000, 0x00000004, 0x00000000,
-    0x00000036, 0x00000001, 0x00000006, 0x00400150, 0x00000150, 0x00000030, 0x00000000, 0x00000000,
-    0x00000010, 0x00000000, 0x0000003C, 0x00000001, 0x00000003, 0x00401180, 0x00000180, 0x00000010,
-    0x00000000, 0x00000000, 0x00000010, 0x00000000, 0x00000042, 0x00000001, 0x00000030, 0x00000000,
-    0x00000190, 0x0000001F, 0x00000000, 0x00000000, 0x00000001, 0x00000001, 0x0000004B, 0x00000001,
-    0x00000000, 0x00000000, 0x000001B0, 0x00000020, 0x00000000, 0x00000000, 0x00000004, 0x00000000,
-    0x00000050, 0x6FFFFFF5, 0x00000000, 0x00000000, 0x000001D0, 0x00000010, 0x00000000, 0x00000000,
-    0x00000001, 0x00000000, 0x00000060, 0x00000001, 0x00000000, 0x00000000, 0x000001E0, 0x00000000,
-    0x00000000, 0x00000000, 0x00000001, 0x00000000, 0x00000001, 0x00000003, 0x00000000, 0x00000000,
-    0x000001E0, 0x0000006E, 0x00000000, 0x00000000, 0x00000001, 0x00000000,
-];
-
-#[test]
-fn reads_the_file_of_a_linker(rt: HostRuntime) -> Result<(), Fail> {
-    let mut file = Vec::new(rt.alloc());
-    put(&mut file, &LINKED_FRONT)?;
-    put(&mut file, &[0; 87])?;
-    put(&mut file, &LINKED_BACK)?;
-    let elf = read_elf(rt.alloc(), file.as_slice())?;
-    assert_eq!(rt; elf.file.len(), 1032);
-    assert_eq!(rt; elf.entry, 0x0040_0150);
-    let text = Segment {
-        offset: 0,
-        filesz: 0x180,
-        vaddr: 0x0040_0000,
-        memsz: 0x180,
-        flags: 5,
-    };
-    let variables = Segment {
-        offset: 0x180,
-        filesz: 0x10,
-        vaddr: 0x0040_1180,
-        memsz: 0x10,
-        flags: 6,
-    };
-    assert_eq!(rt; elf.segments.as_slice(), [text, variables].as_slice());
-    assert_eq!(rt;
-        elf.code.as_slice(),
-        [Range {
-            first: 0x0040_0150,
-            words: 12
-        }]
-        .as_slice()
-    );
     Ok(())
 }

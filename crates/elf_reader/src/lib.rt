@@ -35,4 +35,8 @@ pub use thin_error::ThinError;
 #[cfg(test)]
 mod elf_tests;
 #[cfg(test)]
+mod linked_tests;
+#[cfg(test)]
 mod tests;
+#[cfg(test)]
+mod written;

@@ -1,4 +1,4 @@
-use Rattle.std.proofs.Common.{ℕ, ◌+◌, ◌^◌, ◌<◌, ◌&&◌, take, IfSome}
+use Rattle.std.proofs.Common.{◌+◌, ◌^◌, ◌<◌, ◌&&◌, take, IfSome}
 use Rattle.std.specs.List.{list_any}
 use Rattle.elf_reader.specs.Area.{range_is_on_page}
 use Rattle.elf_reader.specs.Spans.{are_within, IsLeastFrom}

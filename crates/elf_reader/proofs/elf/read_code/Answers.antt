@@ -1,9 +1,11 @@
-use Rattle.std.proofs.Common.{◌≡◌, ◌∙◌, sym, ap}
+use Rattle.std.proofs.Common.{◌∙◌, sym}
 use Rattle.std.proofs.lemmas.Result.{IfOk-weaker, IfErr-weaker, on_ok_weaker}
-use Rattle.elf_reader.specs.Sections.{section_headers, section_fault, section_table_fault, has_sections}
-use Rattle.elf_reader.specs.Segments.{live}
-use Rattle.elf_reader.specs.Area.{area_fault, code_ranges, ranges_of}
+use Rattle.elf_reader.specs.Sections.{has_sections}
+use Rattle.elf_reader.specs.Area.{ranges_of}
 use Rattle.elf_reader.proofs.FaultLemmas.{code_first, ranges_known, answer_known, runs_known}
+use Rattle.elf_reader.proofs.PassedLemmas.{area_text, runs_low, section_passed}
+use Rattle.std.proofs.Common.{length}
+use Rattle.elf_reader.specs.Area.{area}
 use Rattle.elf_reader.proofs.elf.read_code.Goals as goal
 
 pub returns-clause-refused : goal.returns-clause-refused
@@ -25,4 +27,21 @@ returns-clause-code c =
     (ranges_known c.args.b.now c.args.header c.in_ok-sections.sections.items c.as_slice.result.now c.args.segments.now c.requires.read
     c.in_ok-sections.ensures.sections c.as_slice.ensures.value c.requires.live)
     runs)
+    c.read_area.ensures.code
+
+pub returns-clause-text : goal.returns-clause-text
+returns-clause-text c =
+    on_ok_weaker c.read_area.result
+    (λ none. area_text c.args.b.now c.args.segments.now (section_passed c.args.b.now c.args.segments.now c.in_ok-sections.ensures.passed c.requires.live) c.requires.live)
+    c.read_area.ensures.passed
+
+pub returns-clause-low : goal.returns-clause-low
+returns-clause-low c =
+    let text = area_text c.args.b.now c.args.segments.now (section_passed c.args.b.now c.args.segments.now c.in_ok-sections.ensures.passed c.requires.live) c.requires.live in
+    IfOk-weaker c.read_area.result _ _
+    (λ v runs. runs_low (length c.args.b.now) (area c.args.b.now) v.items c.args.segments.now
+    (runs_known c.args.b.now (ranges_of (has_sections c.args.header) c.as_slice.result.now c.args.segments.now) v.items
+    (ranges_known c.args.b.now c.args.header c.in_ok-sections.sections.items c.as_slice.result.now c.args.segments.now c.requires.read
+    c.in_ok-sections.ensures.sections c.as_slice.ensures.value c.requires.live)
+    runs) c.requires.sound text)
     c.read_area.ensures.code

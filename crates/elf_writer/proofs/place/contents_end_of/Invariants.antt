@@ -1,0 +1,10 @@
+use Rattle.std.proofs.Common.{◌≡◌, length}
+use Rattle.elf_writer.specs.Places.{contents_end}
+use Rattle.elf_writer.proofs.place.contents_end_of.Given as goal
+
+-- the end behind the rest is the end behind them all
+abbrev pub invariant-loop-part : goal.invariant-loop-part
+invariant-loop-part l = contents_end l.at l.rest ≡ contents_end l.start l.segments
+
+abbrev pub decreases-loop-part : goal.decreases-loop-part
+decreases-loop-part l = length l.rest

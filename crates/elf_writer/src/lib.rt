@@ -1,0 +1,20 @@
+//! Writes ELF32 files of big-endian MIPS I programs (System V ABI, "Object Files").
+#![tactic(auto)]
+
+mod fields;
+mod limits;
+mod part;
+mod parts;
+mod place;
+mod sec;
+mod tables;
+mod writer;
+
+pub use limits::is_writable;
+pub use part::Part;
+pub use parts::Parts;
+pub use sec::Sec;
+pub use writer::{NoMemory, write_elf};
+
+#[cfg(test)]
+mod tests;

@@ -1,0 +1,121 @@
+//! Branches and jumps. Each reads its condition and its target before the link is written.
+ghost use Rattle.std.specs.Prelude.{◌≡◌, ℕ, ◌+◌, ◌%◌, ◌^◌, ◌<◌, Bool};
+ghost use Rattle.mips_decode.specs.Branches as manual;
+ghost use Rattle.mips_machine.specs.Processor.{processor_state, effect_of, Stays};
+
+use crate::executed::Executed;
+use crate::processor::Processor;
+use mips_decode::{
+    BranchEqualName, BranchSignName, BranchZeroName, JumpName, branch_target, jump_target,
+};
+use nv_words::signed;
+
+impl Processor {
+    /// BEQ, BNE.
+    #[inline]
+    pub(crate) fn branch_equal(&self, name: BranchEqualName, rs: u8, rt: u8, imm: u16) -> Executed
+        requires rs { rs < 32 }
+        requires rt { rt < 32 }
+        ensures effect { effect_of result (processor_state self.now) ≡ manual.branch_equal_effect name (processor_state self.now) rs rt imm }
+        ensures stays { Stays result (processor_state self.now) (processor_state self.now) }
+    {
+        let equal = self.register(rs) == self.register(rt);
+        let taken = match name {
+            BranchEqualName::Beq => equal,
+            BranchEqualName::Bne => !equal,
+        };
+        self.branch(taken, imm, None)
+    }
+
+    /// BLEZ, BGTZ.
+    #[inline]
+    pub(crate) fn branch_zero(&self, name: BranchZeroName, rs: u8, imm: u16) -> Executed
+        requires { rs < 32 }
+        ensures effect { effect_of result (processor_state self.now) ≡ manual.branch_zero_effect name (processor_state self.now) rs imm }
+        ensures stays { Stays result (processor_state self.now) (processor_state self.now) }
+    {
+        let w = signed(self.register(rs));
+        let taken = match name {
+            BranchZeroName::Blez => w <= 0,
+            BranchZeroName::Bgtz => 0 < w,
+        };
+        self.branch(taken, imm, None)
+    }
+
+    /// BLTZ to BGEZAL.
+    #[inline]
+    pub(crate) fn branch_sign(&self, name: BranchSignName, rs: u8, imm: u16) -> Executed
+        requires { rs < 32 }
+        ensures effect { effect_of result (processor_state self.now) ≡ manual.branch_sign_effect name (processor_state self.now) rs imm }
+        ensures stays { Stays result (processor_state self.now) (processor_state self.now) }
+    {
+        let negative = signed(self.register(rs)) < 0;
+        match name {
+            BranchSignName::Bltz => self.branch(negative, imm, None),
+            BranchSignName::Bgez => self.branch(!negative, imm, None),
+            BranchSignName::Bltzal => self.branch(negative, imm, Some(31)),
+            BranchSignName::Bgezal => self.branch(!negative, imm, Some(31)),
+        }
+    }
+
+    /// J, JAL.
+    #[inline]
+    pub(crate) fn jump(&self, name: JumpName, index: u32) -> Executed
+        requires { index < 2 ^ 26 }
+        ensures effect { effect_of result (processor_state self.now) ≡ manual.jump_effect name (processor_state self.now) index }
+        ensures stays { Stays result (processor_state self.now) (processor_state self.now) }
+    {
+        let target = jump_target(self.pc(), index);
+        let link = match name {
+            JumpName::J => None,
+            JumpName::Jal => Some(31),
+        };
+        Executed::Branch { target, link }
+    }
+
+    /// JR.
+    #[inline]
+    pub(crate) fn jump_register(&self, rs: u8) -> Executed
+        requires { rs < 32 }
+        ensures effect { effect_of result (processor_state self.now) ≡ manual.jump_register_effect (processor_state self.now) rs }
+        ensures stays { Stays result (processor_state self.now) (processor_state self.now) }
+    {
+        let target = self.register(rs);
+        Executed::Branch { target, link: None }
+    }
+
+    /// JALR.
+    #[inline]
+    pub(crate) fn jump_and_link_register(&self, rs: u8, rd: u8) -> Executed
+        requires rs { rs < 32 }
+        requires rd { rd < 32 }
+        ensures effect { effect_of result (processor_state self.now) ≡ manual.jump_and_link_register_effect (processor_state self.now) rs rd }
+        ensures stays { Stays result (processor_state self.now) (processor_state self.now) }
+    {
+        let target = self.register(rs);
+        let link = Some(rd);
+        Executed::Branch { target, link }
+    }
+
+    /// A branch to its target where it is taken, and else past its slot.
+    #[inline]
+    fn branch(&self, taken: bool, imm: u16, link: Option<u8>) -> Executed
+        ensures { result ≡ Executed.Branch (manual.taken_or_not (processor_state self.now) taken imm) link }
+    {
+        let target = if taken {
+            branch_target(self.pc(), imm)
+        } else {
+            self.pc().wrapping_add(8)
+        };
+        Executed::Branch { target, link }
+    }
+
+    /// The address of the instruction.
+    #[inline]
+    #[tactic(auto, unfolding(crate::specs::Processor::processor_state))]
+    pub(crate) fn pc(&self) -> u32
+        ensures { result ≡ (processor_state self.now).pc }
+    {
+        self.pc
+    }
+}

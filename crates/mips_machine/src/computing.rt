@@ -1,0 +1,186 @@
+//! The instructions that compute.
+ghost use Rattle.std.specs.Prelude.{◌≡◌, ℕ, ◌<◌, ◌*◌, ◌^◌};
+ghost use Rattle.mips_decode.specs.State.{register, with_register};
+ghost use Rattle.mips_decode.specs.Effect.{goes_on};
+ghost use Rattle.mips_decode.specs.Arithmetic as manual;
+ghost use Rattle.mips_decode.specs.Step.{result_effect, move_from_effect, move_to_effect};
+ghost use Rattle.mips_machine.specs.Processor.{processor_state, effect_of, Stays};
+
+use crate::arithmetic;
+use crate::executed::Executed;
+use crate::kinds::OVERFLOW;
+use crate::processor::Processor;
+use mips_decode::{
+    ArithmeticImmediateName, ArithmeticName, HiLo, LogicalImmediateName, ProductName, ShiftName,
+    VariableShiftName,
+};
+
+impl Processor {
+    /// ADD to SLTU.
+    #[inline]
+    pub(crate) fn arithmetic(
+        &mut self,
+        name: ArithmeticName,
+        rs: u8,
+        rt: u8,
+        rd: u8,
+        word: u32,
+    ) -> Executed
+        requires rs { rs < 32 }
+        requires rt { rt < 32 }
+        requires rd { rd < 32 }
+        ensures effect { effect_of result (processor_state self.new) ≡ result_effect (processor_state self.old) word rd (manual.arithmetic_result name (register (processor_state self.old) rs) (register (processor_state self.old) rt)) }
+        ensures stays { Stays result (processor_state self.old) (processor_state self.new) }
+    {
+        let computed = arithmetic::arithmetic(name, self.register(rs), self.register(rt));
+        self.take(rd, computed, word)
+    }
+
+    /// ADDI to SLTIU.
+    #[inline]
+    pub(crate) fn arithmetic_immediate(
+        &mut self,
+        name: ArithmeticImmediateName,
+        rs: u8,
+        rt: u8,
+        imm: u16,
+        word: u32,
+    ) -> Executed
+        requires rs { rs < 32 }
+        requires rt { rt < 32 }
+        ensures effect { effect_of result (processor_state self.new) ≡ result_effect (processor_state self.old) word rt (manual.arithmetic_immediate_result name (register (processor_state self.old) rs) imm) }
+        ensures stays { Stays result (processor_state self.old) (processor_state self.new) }
+    {
+        let computed = arithmetic::arithmetic_immediate(name, self.register(rs), imm);
+        self.take(rt, computed, word)
+    }
+
+    /// ANDI, ORI, XORI.
+    #[inline]
+    pub(crate) fn logical_immediate(
+        &mut self,
+        name: LogicalImmediateName,
+        rs: u8,
+        rt: u8,
+        imm: u16,
+    ) -> Executed
+        requires rs { rs < 32 }
+        requires rt { rt < 32 }
+        ensures effect { effect_of result (processor_state self.new) ≡ goes_on (with_register (processor_state self.old) rt (manual.logical_immediate_result name (register (processor_state self.old) rs) imm)) }
+        ensures stays { Stays result (processor_state self.old) (processor_state self.new) }
+    {
+        let computed = arithmetic::logical_immediate(name, self.register(rs), imm);
+        self.set_register(rt, computed);
+        Executed::On
+    }
+
+    /// LUI.
+    #[inline]
+    pub(crate) fn load_upper(&mut self, rt: u8, imm: u16) -> Executed
+        requires { rt < 32 }
+        ensures effect { effect_of result (processor_state self.new) ≡ goes_on (with_register (processor_state self.old) rt (imm * 2 ^ 16)) }
+        ensures stays { Stays result (processor_state self.old) (processor_state self.new) }
+    {
+        self.set_register(rt, u32::from(imm) << 16);
+        Executed::On
+    }
+
+    /// SLL, SRL, SRA.
+    #[inline]
+    pub(crate) fn shift(&mut self, name: ShiftName, rt: u8, rd: u8, sa: u8) -> Executed
+        requires rt { rt < 32 }
+        requires rd { rd < 32 }
+        requires sa { sa < 32 }
+        ensures effect { effect_of result (processor_state self.new) ≡ goes_on (with_register (processor_state self.old) rd (manual.shifted name (register (processor_state self.old) rt) sa)) }
+        ensures stays { Stays result (processor_state self.old) (processor_state self.new) }
+    {
+        let computed = arithmetic::shift(name, self.register(rt), u32::from(sa));
+        self.set_register(rd, computed);
+        Executed::On
+    }
+
+    /// SLLV, SRLV, SRAV.
+    #[inline]
+    pub(crate) fn variable_shift(
+        &mut self,
+        name: VariableShiftName,
+        rs: u8,
+        rt: u8,
+        rd: u8,
+    ) -> Executed
+        requires rs { rs < 32 }
+        requires rt { rt < 32 }
+        requires rd { rd < 32 }
+        ensures effect { effect_of result (processor_state self.new) ≡ goes_on (with_register (processor_state self.old) rd (manual.variable_shifted name (register (processor_state self.old) rt) (register (processor_state self.old) rs))) }
+        ensures stays { Stays result (processor_state self.old) (processor_state self.new) }
+    {
+        let computed = arithmetic::variable_shift(name, self.register(rt), self.register(rs));
+        self.set_register(rd, computed);
+        Executed::On
+    }
+
+    /// MULT to DIVU.
+    #[inline]
+    #[tactic(auto, unfolding(crate::specs::Processor::processor_state))]
+    pub(crate) fn product(&mut self, name: ProductName, rs: u8, rt: u8) -> Executed
+        requires rs { rs < 32 }
+        requires rt { rt < 32 }
+        ensures effect { effect_of result (processor_state self.new) ≡ goes_on (record (processor_state self.old) { hi = manual.product_hi name (register (processor_state self.old) rs) (register (processor_state self.old) rt); lo = manual.product_lo name (register (processor_state self.old) rs) (register (processor_state self.old) rt) }) }
+        ensures stays { Stays result (processor_state self.old) (processor_state self.new) }
+    {
+        let (hi, lo) = arithmetic::product(name, self.register(rs), self.register(rt));
+        self.hi = hi;
+        self.lo = lo;
+        Executed::On
+    }
+
+    /// MFHI, MFLO.
+    #[inline]
+    #[tactic(auto, unfolding(crate::specs::Processor::processor_state))]
+    pub(crate) fn move_from(&mut self, name: HiLo, rd: u8) -> Executed
+        requires { rd < 32 }
+        ensures effect { effect_of result (processor_state self.new) ≡ move_from_effect name (processor_state self.old) rd }
+        ensures stays { Stays result (processor_state self.old) (processor_state self.new) }
+    {
+        match name {
+            HiLo::Hi => self.set_register(rd, self.hi),
+            HiLo::Lo => self.set_register(rd, self.lo),
+        }
+        Executed::On
+    }
+
+    /// MTHI, MTLO.
+    #[inline]
+    #[tactic(auto, unfolding(crate::specs::Processor::processor_state))]
+    pub(crate) fn move_to(&mut self, name: HiLo, rs: u8) -> Executed
+        requires { rs < 32 }
+        ensures effect { effect_of result (processor_state self.new) ≡ move_to_effect name (processor_state self.old) rs }
+        ensures stays { Stays result (processor_state self.old) (processor_state self.new) }
+    {
+        let w = self.register(rs);
+        match name {
+            HiLo::Hi => self.hi = w,
+            HiLo::Lo => self.lo = w,
+        }
+        Executed::On
+    }
+
+    /// A result goes to a register, and want of one is an overflow.
+    #[inline]
+    fn take(&mut self, r: u8, computed: Option<u32>, word: u32) -> Executed
+        requires { r < 32 }
+        ensures effect { effect_of result (processor_state self.new) ≡ result_effect (processor_state self.old) word r computed }
+        ensures stays { Stays result (processor_state self.old) (processor_state self.new) }
+    {
+        match computed {
+            Some(w) => {
+                self.set_register(r, w);
+                Executed::On
+            }
+            None => Executed::Fault {
+                kind: OVERFLOW,
+                value: word,
+            },
+        }
+    }
+}

@@ -1,0 +1,53 @@
+//! One instruction, apart from where the program goes next.
+ghost use Rattle.std.specs.Prelude.{◌≡◌};
+ghost use Rattle.mips_decode.specs.Step.{effect};
+ghost use Rattle.mips_machine.specs.Fields.{HasFields};
+ghost use Rattle.mips_machine.specs.Processor.{processor_state, effect_of, Stays};
+
+use crate::executed::Executed;
+use crate::kinds::{BREAK, RESERVED};
+use crate::processor::Processor;
+use mips_decode::Inst;
+
+impl Processor {
+    /// Executes an instruction, which stands in the given word.
+    #[inline]
+    pub(crate) fn execute(&mut self, inst: Inst, word: u32) -> Executed
+        requires { HasFields inst }
+        ensures effect { effect_of result (processor_state self.new) ≡ effect inst word (processor_state self.old) }
+        ensures stays { Stays result (processor_state self.old) (processor_state self.new) }
+    {
+        match inst {
+            Inst::Arithmetic { name, rs, rt, rd } => self.arithmetic(name, rs, rt, rd, word),
+            Inst::VariableShift { name, rs, rt, rd } => self.variable_shift(name, rs, rt, rd),
+            Inst::Shift { name, rt, rd, sa } => self.shift(name, rt, rd, sa),
+            Inst::JumpRegister { rs } => self.jump_register(rs),
+            Inst::JumpAndLinkRegister { rs, rd } => self.jump_and_link_register(rs, rd),
+            Inst::Syscall { .. } => Executed::Call,
+            Inst::Break { code } => Executed::Fault {
+                kind: BREAK,
+                value: code,
+            },
+            Inst::MoveFrom { name, rd } => self.move_from(name, rd),
+            Inst::MoveTo { name, rs } => self.move_to(name, rs),
+            Inst::Product { name, rs, rt } => self.product(name, rs, rt),
+            Inst::BranchSign { name, rs, imm } => self.branch_sign(name, rs, imm),
+            Inst::Jump { name, index } => self.jump(name, index),
+            Inst::BranchEqual { name, rs, rt, imm } => self.branch_equal(name, rs, rt, imm),
+            Inst::BranchZero { name, rs, imm } => self.branch_zero(name, rs, imm),
+            Inst::ArithmeticImmediate { name, rs, rt, imm } => {
+                self.arithmetic_immediate(name, rs, rt, imm, word)
+            }
+            Inst::LogicalImmediate { name, rs, rt, imm } => {
+                self.logical_immediate(name, rs, rt, imm)
+            }
+            Inst::LoadUpper { rt, imm } => self.load_upper(rt, imm),
+            Inst::Load { name, rs, rt, imm } => self.load(name, rs, rt, imm),
+            Inst::Store { name, rs, rt, imm } => self.store(name, rs, rt, imm),
+            Inst::Reserved(_) | Inst::Float(_) => Executed::Fault {
+                kind: RESERVED,
+                value: word,
+            },
+        }
+    }
+}

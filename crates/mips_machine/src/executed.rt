@@ -1,0 +1,12 @@
+/// What an instruction did, apart from where the program goes next.
+#[derive(Clone, Copy)]
+pub(crate) enum Executed {
+    /// It changed registers, HI, LO or memory, and the program goes on.
+    On,
+    /// A branch: after the slot the program goes to the target, and the address after the slot is for a register.
+    Branch { target: u32, link: Option<u8> },
+    /// A fault, of a kind and with a value.
+    Fault { kind: u32, value: u32 },
+    /// A call of the system.
+    Call,
+}

@@ -1,0 +1,73 @@
+ghost use Rattle.std.specs.Prelude.{◌≡◌, ℕ, ◌<◌};
+ghost use Rattle.mips_decode.specs.State.{register, with_register, start};
+ghost use Rattle.mips_machine.specs.Pages.{memory_of};
+ghost use Rattle.mips_machine.specs.CodePages.{code_of};
+ghost use Rattle.mips_machine.specs.Processor.{processor_state};
+
+use crate::code::Code;
+use crate::memory::GuestMemory;
+use crate::registers::Registers;
+
+/// The processor, with its memory and the program's code.
+///
+/// A contract sees it through `processor_state`.
+#[derive(Drop)]
+pub struct Processor {
+    pub(crate) begun: bool,
+    pub(crate) registers: Registers,
+    pub(crate) hi: u32,
+    pub(crate) lo: u32,
+    pub(crate) pc: u32,
+    pub(crate) pending: Option<u32>,
+    pub(crate) memory: GuestMemory,
+    pub(crate) code: Code,
+    pub(crate) heap_start: u32,
+    pub(crate) heap_bytes: u32,
+}
+
+impl Processor {
+    /// The processor before the first instruction of a program.
+    #[tactic(auto, unfolding(crate::specs::Processor::processor_state))]
+    pub(crate) fn new(
+        memory: GuestMemory,
+        code: Code,
+        entry: u32,
+        heap_start: u32,
+        heap_bytes: u32,
+    ) -> Processor
+        ensures { processor_state result ≡ start entry (memory_of memory) (code_of code) heap_start heap_bytes }
+    {
+        Processor {
+            begun: false,
+            registers: Registers::new(),
+            hi: 0,
+            lo: 0,
+            pc: entry,
+            pending: None,
+            memory,
+            code,
+            heap_start,
+            heap_bytes,
+        }
+    }
+
+    /// What a register holds.
+    #[inline]
+    #[tactic(auto, unfolding(crate::specs::Processor::processor_state))]
+    pub(crate) fn register(&self, r: u8) -> u32
+        requires { r < 32 }
+        ensures { result ≡ register (processor_state self.now) r }
+    {
+        self.registers.get(r)
+    }
+
+    /// Writes a register. A write of register 0 is lost.
+    #[inline]
+    #[tactic(auto, unfolding(crate::specs::Processor::processor_state))]
+    pub(crate) fn set_register(&mut self, r: u8, w: u32)
+        requires { r < 32 }
+        ensures { processor_state self.new ≡ with_register (processor_state self.old) r w }
+    {
+        self.registers.set(r, w);
+    }
+}
