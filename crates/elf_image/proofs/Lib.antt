@@ -1,3 +1,4 @@
 pub mod Counting
 pub mod Floats
 pub mod Accepted
+pub mod TableLemmas
