@@ -2,3 +2,4 @@ pub mod Counting
 pub mod Floats
 pub mod Accepted
 pub mod TableLemmas
+mod Examples
