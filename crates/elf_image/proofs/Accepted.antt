@@ -14,7 +14,8 @@ use Rattle.elf_reader.specs.Segments.{program_headers, live, is_live, is_too_hig
 use Rattle.elf_reader.specs.Header.{identity_fault, program_table_fault}
 use Rattle.elf_reader.specs.Sections.{section_table_fault, section_fault, section_headers}
 use Rattle.elf_reader.specs.Area.{area_fault, code_ranges}
-use Rattle.elf_reader.specs.Fault.{elf_fault}
+use Rattle.elf_reader.specs.Fault.{elf_fault, IsSound}
+use Rattle.elf_reader.proofs.FaultLemmas.{segments_sound}
 
 -- where none of two checks fails, neither does
 or_none : (a b : Option ElfFault) → option_or a b ≡ None → (a ≡ None) × (b ≡ None)
@@ -71,3 +72,8 @@ pub low_of : (file : List ℕ) (segments given : List Segment) → elf_fault fil
 low_of file segments given accepted are is_given =
     let P : List Segment → Type 0 = λ xs. All (λ (s : Segment). segment_end s ≤ 0x7F00_0000) xs in
     subst P (sym is_given) (subst P (sym are) (live_low file accepted))
+
+pub sound_of : (file : List ℕ) (segments : List Segment) → elf_fault file ≡ None → segments ≡ live file → All (IsSound (length file)) segments
+unfolding live
+sound_of file segments accepted are =
+    segments_sound (length file) (program_headers file) segments (segments_pass file accepted) are

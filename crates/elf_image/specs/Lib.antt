@@ -4,3 +4,4 @@ pub mod Refusals
 pub mod Start
 pub mod Answer
 pub mod Kept
+pub mod PageTable

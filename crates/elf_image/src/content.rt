@@ -58,7 +58,7 @@ pub fn stored_word(file: &[u8], segments: &[Segment], at: u64) -> u32
 
 /// Whether a page of the segments holds a byte that is not 0.
 #[tactic(auto, unfolding(crate::specs::Content::is_filled_page))]
-fn is_filled_page(file: &[u8], segments: &[Segment], page: u32) -> bool
+pub fn is_filled_page(file: &[u8], segments: &[Segment], page: u32) -> bool
     requires { page < 2 ^ 20 }
     ensures { result ≡ is_filled_page file.now segments.now page }
 {

@@ -1,13 +1,14 @@
-ghost use Rattle.std.specs.Prelude.{◌≡◌, IfOk};
+ghost use Rattle.std.specs.Prelude.{◌≡◌, IfOk, All, length};
 ghost use Rattle.std.specs.List.{list_any};
 ghost use Rattle.elf_reader.specs.Header.{header_of};
 ghost use Rattle.elf_reader.specs.Segments.{live};
 ghost use Rattle.elf_reader.specs.Area.{area, has_address};
-ghost use Rattle.elf_reader.specs.Fault.{IsRunsOf};
+ghost use Rattle.elf_reader.specs.Fault.{IsRunsOf, IsSound};
+ghost use Rattle.elf_image.specs.Content.{stored_word};
 ghost use Rattle.elf_image.specs.Start.{image_of, readable, writable};
 
-use crate::content::{stored_byte, stored_word};
 use crate::layout::Layout;
+use crate::page_table::{PageTable, page_table, table_byte, table_word};
 use elf_reader::{Elf, Range, Segment};
 use std::alloc::{AllocError, Global};
 use std::marker::Model;
@@ -22,6 +23,7 @@ pub struct Image {
     entry: u32,
     segments: Vec<Segment>,
     code: Vec<Range>,
+    table: PageTable,
     heap_first: u32,
     heap: u32,
     stack: u32,
@@ -36,7 +38,7 @@ impl Model for Image {
 
     ghost view = { λ i. record { file = i.file.items; heap = i.heap; stack = i.stack } };
 
-    ghost invariant = { λ i. IsKept i.file.items i.entry i.segments.items i.code.items i.heap_first i.heap i.stack i.mapped };
+    ghost invariant = { λ i. IsKept i.file.items i.entry i.segments.items i.code.items i.table.index.items i.table.stored.items i.heap_first i.heap i.stack i.mapped };
 }
 
 impl Image {
@@ -48,6 +50,7 @@ impl Image {
     ) -> Result<Image, AllocError>
         requires entry { elf.now.entry ≡ (header_of elf.now.file.now).e_entry }
         requires segments { elf.now.segments.items ≡ live elf.now.file.now }
+        requires sound { All (IsSound (length elf.now.file.now)) elf.now.segments.items }
         requires layout { layout.now.segments.now ≡ live elf.now.file.now }
         requires code { IsRunsOf (area elf.now.file.now) elf.now.code.items }
         ensures { IfOk result (λ i. i ≡ record { file = elf.now.file.now; heap = layout.now.heap; stack = layout.now.stack }) }
@@ -55,11 +58,13 @@ impl Image {
         let file = elf.file.to_vec(alloc)?;
         let segments = elf.segments.as_slice().to_vec(alloc)?;
         let code = elf.code.as_slice().to_vec(alloc)?;
+        let table = page_table(alloc, elf.file, elf.segments.as_slice())?;
         Ok(Image {
             file,
             entry: elf.entry,
             segments,
             code,
+            table,
             heap_first: layout.heap_first,
             heap: layout.heap,
             stack: layout.stack,
@@ -88,11 +93,7 @@ impl Image {
         ensures { result ≡ (image_of self.now).code at }
     {
         if at % 4 == 0 && has_address(self.code.as_slice(), at) {
-            Some(stored_word(
-                self.file.as_slice(),
-                self.segments.as_slice(),
-                u64::from(at),
-            ))
+            Some(self.stored_word(at))
         } else {
             None
         }
@@ -118,9 +119,9 @@ impl Image {
         ensures { result ≡ (image_of self.now).memory.byte at }
     {
         if self.readable(at / 4096) {
-            Some(stored_byte(
-                self.file.as_slice(),
-                self.segments.as_slice(),
+            Some(table_byte(
+                self.table.index.as_slice(),
+                self.table.stored.as_slice(),
                 u64::from(at),
             ))
         } else {
@@ -150,6 +151,17 @@ impl Image {
         ensures { result ≡ (image_of self.now).heap_bytes }
     {
         4096 * self.heap
+    }
+
+    /// The big-endian word at an address of the segments.
+    fn stored_word(&self, at: u32) -> u32
+        ensures { result ≡ stored_word self.now.file (live self.now.file) at }
+    {
+        table_word(
+            self.table.index.as_slice(),
+            self.table.stored.as_slice(),
+            u64::from(at),
+        )
     }
 
     fn layout(&self) -> Layout<'_>

@@ -8,6 +8,7 @@ mod image_error;
 mod image_fault;
 mod layout;
 mod loader;
+mod page_table;
 mod pages;
 
 pub use guest_image::Image;
