@@ -1,4 +1,4 @@
-//! Translates MIPS programs to Java class files and runs them: `nested go IN`.
+//! Translates MIPS programs to Java class files and runs or lists them: `nested go IN`, `nested list IN`.
 #![tactic(auto)]
 
 use nested_cli::nested;

@@ -9,13 +9,13 @@ pub record Joins (old new : Option (List ℕ)) (all later : List (List ℕ)) : T
   pub took : Appends old new gained
   pub splits : joined all ≡ gained ++ joined later
 
-both : (old mid new : Option (List ℕ)) (xs ys : List ℕ) → Appends old mid xs → Appends mid new ys → Appends old new (xs ++ ys)
+pub both : (old mid new : Option (List ℕ)) (xs ys : List ℕ) → Appends old mid xs → Appends mid new ys → Appends old new (xs ++ ys)
 both None mid new xs ys p q = tt
 both (Some o) None new xs ys p q = absurd p
 both (Some o) (Some m) None xs ys p q = absurd q
 both (Some o) (Some m) (Some n) xs ys p q = q ∙ ap (λ z. z ++ ys) p ∙ append_assoc o xs ys
 
-nothing : (old : Option (List ℕ)) → Appends old old []
+pub nothing : (old : Option (List ℕ)) → Appends old old []
 nothing None = tt
 nothing (Some xs) = sym (append-nil xs)
 

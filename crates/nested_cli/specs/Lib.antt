@@ -1,3 +1,4 @@
 pub mod Usage
 pub mod Line
+pub mod Listing
 pub mod Causes

@@ -3,17 +3,20 @@ use Rattle.std.specs.Prelude.{ℕ, ◌+◌, ◌/◌, ◌%◌, ◌^◌, ◌++◌,
 use Rattle.std.specs.Int.{cast_unsigned, w32}
 use Rattle.nv_events.specs.declared.fault.Fault.{Fault}
 use Rattle.elf_reader.specs.declared.elf_fault.ElfFault.{ElfFault}
+use Rattle.elf_image.specs.declared.image_fault.ImageFault.{ImageFault}
 use Rattle.nested_cli.specs.declared.done.Done.{Done}
-use Rattle.nested_cli.specs.declared.done.Done.TheVariants.{Exited, Faulted, Usage, NoInput, ElfRefused, WriteFault, ShelfFault, NoMemory, NotBuilt}
+use Rattle.nested_cli.specs.declared.done.Done.TheVariants.{Good, Exited, Faulted, Usage, NoInput, ElfRefused, ImageRefused, WriteFault, ShelfFault, NoMemory, NotBuilt}
 use Rattle.nested_cli.specs.Usage.{word_of}
 
 -- the statuses of sysexits.h where one fits, and the program's own status modulo 256
 abbrev pub status_of : Done → ℕ
+status_of Good = 0
 status_of (Exited status) = cast_unsigned w32 status % 256
 status_of (Faulted f) = 79
 status_of (Usage kind) = 64
 status_of (NoInput word) = 66
 status_of (ElfRefused f) = 65
+status_of (ImageRefused f) = 67
 status_of WriteFault = 75
 status_of ShelfFault = 76
 status_of NoMemory = 77
@@ -39,13 +42,18 @@ fault_line f = joined (codes "nested: fault " ∷ decimal f.kind ∷ codes " pc 
 abbrev pub elf_line : ElfFault → List ℕ
 elf_line f = joined (codes "nested: elf " ∷ decimal f.kind ∷ codes " " ∷ decimal f.i ∷ codes " " ∷ decimal f.j ∷ codes "\n" ∷ [])
 
+abbrev pub image_line : ImageFault → List ℕ
+image_line f = joined (codes "nested: image " ∷ decimal f.kind ∷ codes " " ∷ decimal f.number ∷ codes " " ∷ hex_word f.word ∷ codes "\n" ∷ [])
+
 -- the line of an answer to these words, with its end
 abbrev pub line_of : List (List ℕ) → Done → List ℕ
+line_of words Good = []
 line_of words (Exited status) = []
 line_of words (Faulted f) = fault_line f
 line_of words (Usage kind) = joined (codes "nested: usage " ∷ decimal kind ∷ codes "\n" ∷ [])
 line_of words (NoInput word) = joined (codes "nested: no file " ∷ word_of words word ∷ codes "\n" ∷ [])
 line_of words (ElfRefused f) = elf_line f
+line_of words (ImageRefused f) = image_line f
 line_of words WriteFault = []
 line_of words ShelfFault = codes "nested: shelf fault\n"
 line_of words NoMemory = codes "nested: no memory\n"

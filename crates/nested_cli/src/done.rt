@@ -1,11 +1,14 @@
+use elf_image::ImageFault;
 use elf_reader::ElfFault;
 use nv_events::Fault;
 
 /// How a call of the program ended.
 ///
-/// Each answer has a status and, but for `Exited` and `WriteFault`, a line that is written to error output last.
+/// Each answer has a status and, but for `Good`, `Exited` and `WriteFault`, a line that is written to error output last.
 #[derive(Clone, Copy, Debug, PartialEq, Eq)]
 pub enum Done {
+    /// The command did all its work.
+    Good,
     /// The guest program left with this status.
     Exited(i32),
     /// The guest program ended in this fault.
@@ -17,6 +20,8 @@ pub enum Done {
     NoInput(u32),
     /// The file is no program: the first check that it fails.
     ElfRefused(ElfFault),
+    /// The program has no image in memory: the first check that it fails.
+    ImageRefused(ImageFault),
     /// Output or error output failed in this call.
     WriteFault,
     /// The shelf of files failed in this call.
@@ -37,9 +42,11 @@ impl Done {
     {
         match *self {
             Done::Exited(status) => (status.cast_unsigned() % 256) as u8,
+            Done::Good => 0,
             Done::Usage(_) => 64,
             Done::ElfRefused(_) => 65,
             Done::NoInput(_) => 66,
+            Done::ImageRefused(_) => 67,
             Done::WriteFault => 75,
             Done::ShelfFault => 76,
             Done::NoMemory => 77,

@@ -5,6 +5,8 @@ mod done;
 mod go;
 mod hexadecimal;
 mod line;
+mod list;
+mod list_error;
 mod program;
 #[cfg(test)]
 mod tests;

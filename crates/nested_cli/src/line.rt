@@ -2,11 +2,12 @@ ghost use Rattle.std.specs.Prelude.{◌≡◌, OnOk, OnErr, decimal, is_err, map
 ghost use Rattle.std.specs.Io.KnownBytes.{Appends};
 ghost use Rattle.nv_outside.specs.Faults.{CountsFailure};
 ghost use Rattle.nv_outside.specs.Gains.{AppendsPart};
-ghost use Rattle.nested_cli.specs.Line.{elf_line, fault_line, joined, line_of};
+ghost use Rattle.nested_cli.specs.Line.{elf_line, fault_line, image_line, joined, line_of};
 ghost use Rattle.nested_cli.specs.Usage.{texts, word_of};
 
 use crate::done::Done;
 use crate::hexadecimal::hexadecimal;
+use elf_image::ImageFault;
 use elf_reader::ElfFault;
 use itoa::Buffer;
 use nv_events::Fault;
@@ -19,7 +20,7 @@ pub fn write_line<E: Sink>(err: &mut E, words: &[String], done: &Done) -> Result
     ensures count { CountsFailure (is_err result) (E.faults err.old) (E.faults err.new) }
 {
     match *done {
-        Done::Exited(_) | Done::WriteFault => Ok(()),
+        Done::Good | Done::Exited(_) | Done::WriteFault => Ok(()),
         Done::ShelfFault => write_all(err, b"nested: shelf fault\n"),
         Done::NoMemory => write_all(err, b"nested: no memory\n"),
         Done::NotBuilt => write_all(err, b"nested: not built\n"),
@@ -33,6 +34,7 @@ pub fn write_line<E: Sink>(err: &mut E, words: &[String], done: &Done) -> Result
         }
         Done::Faulted(fault) => write_fault(err, fault),
         Done::ElfRefused(fault) => write_elf_fault(err, fault),
+        Done::ImageRefused(fault) => write_image_fault(err, fault),
     }
 }
 
@@ -73,8 +75,31 @@ fn write_elf_fault<E: Sink>(err: &mut E, fault: ElfFault) -> Result<(), Failed>
     write_pieces(err, &[b"nested: elf ", kind, b" ", i, b" ", j, b"\n"])
 }
 
+/// Writes the line of a check that the program's image failed.
+fn write_image_fault<E: Sink>(err: &mut E, fault: ImageFault) -> Result<(), Failed>
+    ensures ok { OnOk result (Appends (E.taken err.old) (E.taken err.new) (image_line fault)) }
+    ensures err { OnErr result (AppendsPart (E.taken err.old) (E.taken err.new) (image_line fault)) }
+    ensures count { CountsFailure (is_err result) (E.faults err.old) (E.faults err.new) }
+{
+    let (mut kinds, mut numbers) = (Buffer::new(), Buffer::new());
+    let kind = decimal(&mut kinds, fault.kind);
+    let number = decimal_long(&mut numbers, fault.number);
+    let word = hexadecimal(fault.word);
+    write_pieces(
+        err,
+        &[b"nested: image ", kind, b" ", number, b" ", &word, b"\n"],
+    )
+}
+
 /// A number in decimal digits.
 fn decimal(digits: &mut Buffer, n: u32) -> &[u8]
+    ensures { result.now ≡ decimal n }
+{
+    digits.format(n).as_bytes()
+}
+
+/// A number of 64 bits in decimal digits.
+fn decimal_long(digits: &mut Buffer, n: u64) -> &[u8]
     ensures { result.now ≡ decimal n }
 {
     digits.format(n).as_bytes()
@@ -91,7 +116,7 @@ fn word_of(words: &[String], word: u32) -> &[u8]
 }
 
 /// Writes pieces one after the other. After a failure the sink has taken a front part of them.
-fn write_pieces<E: Sink>(sink: &mut E, pieces: &[&[u8]]) -> Result<(), Failed>
+pub fn write_pieces<E: Sink>(sink: &mut E, pieces: &[&[u8]]) -> Result<(), Failed>
     ensures ok { OnOk result (Appends (E.taken sink.old) (E.taken sink.new) (joined (map (λ p. p.now) pieces.now))) }
     ensures err { OnErr result (AppendsPart (E.taken sink.old) (E.taken sink.new) (joined (map (λ p. p.now) pieces.now))) }
     ensures count { CountsFailure (is_err result) (E.faults sink.old) (E.faults sink.new) }

@@ -1,4 +1,5 @@
 use super::*;
+use elf_image::ImageFault;
 use elf_reader::ElfFault;
 use nv_events::Fault;
 use nv_outside::{MemShelf, MemSink, MemSource};
@@ -31,10 +32,13 @@ struct Case<'a> {
     words: &'a [&'a str],
     /// The bytes of the file `a`.
     file: Option<&'a [u8]>,
-    /// The call of the shelf and of error output that fails; 0: none.
+    /// The call of the shelf, of error output and of output that fails; 0: none.
     shelf_fails: u64,
     err_fails: u64,
+    out_fails: u64,
     done: Done,
+    /// What output takes, and what error output does.
+    printed: &'a str,
     line: &'a str,
     stored: bool,
 }
@@ -50,7 +54,7 @@ fn check(rt: &(impl Abort + AllocGlobal), case: &Case<'_>) -> Result<(), Fail> {
         shelf.add("a", file)?;
     }
     let mut input = MemSource::new(Vec::new(alloc), Vec::new(alloc));
-    let mut out = MemSink::new(alloc, 0, Vec::new(alloc))?;
+    let mut out = MemSink::new(alloc, 200, [case.out_fails].to_vec(alloc)?)?;
     let mut err = MemSink::new(alloc, 100, [case.err_fails].to_vec(alloc)?)?;
     let done = nested(
         alloc,
@@ -63,6 +67,7 @@ fn check(rt: &(impl Abort + AllocGlobal), case: &Case<'_>) -> Result<(), Fail> {
     );
     let name = case.line;
     assert_eq!(rt; done, case.done, "{name}");
+    assert_eq!(rt; out.bytes(), case.printed.as_bytes(), "{name}");
     assert_eq!(rt; err.bytes(), case.line.as_bytes(), "{name}");
     assert_eq!(rt; shelf.get("Main.class").is_some(), case.stored, "{name}");
     Ok(())
@@ -74,7 +79,9 @@ fn expect<'a>(words: &'a [&'a str], file: Option<&'a [u8]>, done: Done, line: &'
         file,
         shelf_fails: 0,
         err_fails: 0,
+        out_fails: 0,
         done,
+        printed: "",
         line,
         stored: false,
     }
@@ -148,6 +155,51 @@ fn each_refusal_has_its_line(rt: HostRuntime) -> Result<(), Fail> {
 }
 
 #[test]
+fn a_listing_has_a_line_for_each_word(rt: HostRuntime) -> Result<(), Fail> {
+    let list = ["list", "a"].as_slice();
+    let good = expect(list, Some(&EXIT_7), Done::Good, "");
+    let printed =
+        "00400000: 24020001 addiu $2,$0,1\n00400004: 24040007 addiu $4,$0,7\n00400008: 0000000C syscall 0\n";
+    check(&rt, &Case { printed, ..good })?;
+    let cut = expect(list, Some(&EXIT_7), Done::WriteFault, "");
+    check(
+        &rt,
+        &Case {
+            out_fails: 7,
+            printed: "00400000: 24020001 addiu $2,$0,1\n",
+            ..cut
+        },
+    )?;
+    let mut float = EXIT_7;
+    float[92] = 0x46;
+    float[95] = 0;
+    let fault = Done::ImageRefused(ImageFault {
+        kind: 7,
+        number: 4_194_312,
+        word: 0x4600_0000,
+    });
+    let outside = Done::ElfRefused(ElfFault {
+        kind: 12,
+        i: 0,
+        j: 0,
+    });
+    for case in [
+        expect(
+            list,
+            Some(&float),
+            fault,
+            "nested: image 7 4194312 46000000\n",
+        ),
+        expect(list, Some(&EXIT_7[..95]), outside, "nested: elf 12 0 0\n"),
+        expect(list, None, Done::NoInput(1), "nested: no file a\n"),
+        expect(&["list"], None, Done::Usage(2), "nested: usage 2\n"),
+    ] {
+        check(&rt, &case)?;
+    }
+    Ok(())
+}
+
+#[test]
 fn no_failed_call_is_passed_over(rt: HostRuntime) -> Result<(), Fail> {
     let go = ["go", "a"].as_slice();
     let shelf_line = "nested: shelf fault\n";
@@ -179,6 +231,7 @@ fn statuses_are_bytes(rt: HostRuntime) {
         (Done::Exited(1001), 233),
         (Done::Exited(-1), 255),
         (Done::NoMemory, 77),
+        (Done::Good, 0),
     ] {
         assert_eq!(rt; done.status(), status, "{done:?}");
     }

@@ -1,5 +1,5 @@
 ghost use Rattle.std.specs.Prelude.{◌≡◌};
-ghost use Rattle.nested_cli.specs.Usage.{texts, usage_of, usage_of_go, names_a_file};
+ghost use Rattle.nested_cli.specs.Usage.{texts, is_list, usage_of, usage_of_file, names_a_file};
 
 /// What is wrong with the words: 1 where the first is missing or no command, 2 where the others are not those of the command.
 pub fn usage(words: &[String]) -> Option<u32>
@@ -8,8 +8,8 @@ pub fn usage(words: &[String]) -> Option<u32>
     match words.split_first() {
         None => Some(1),
         Some((command, others)) => {
-            if command.as_str() == "go" {
-                usage_of_go(others)
+            if command.as_str() == "go" || command.as_str() == "list" {
+                usage_of_file(others)
             } else {
                 Some(1)
             }
@@ -17,9 +17,19 @@ pub fn usage(words: &[String]) -> Option<u32>
     }
 }
 
-/// What is wrong with the words after `go`.
-fn usage_of_go(words: &[String]) -> Option<u32>
-    ensures { result ≡ usage_of_go (texts words.now) }
+/// Whether the command is `list`.
+pub fn is_list(words: &[String]) -> bool
+    ensures { result ≡ is_list (texts words.now) }
+{
+    match words.split_first() {
+        None => false,
+        Some((command, _)) => command.as_str() == "list",
+    }
+}
+
+/// What is wrong with the words after `go` or `list`.
+fn usage_of_file(words: &[String]) -> Option<u32>
+    ensures { result ≡ usage_of_file (texts words.now) }
 {
     match words {
         [name] if names_a_file(name.as_bytes()) => None,

@@ -1,0 +1,5 @@
+pub mod Counting
+pub mod Floats
+pub mod Accepted
+pub mod TableLemmas
+mod Examples

@@ -1,0 +1,11 @@
+-- What making an image answers where it makes none.
+use Rattle.std.specs.Prelude.{◌≡◌, ℕ, List, Some}
+use Rattle.elf_reader.specs.declared.range.Range.{Range}
+use Rattle.elf_image.specs.declared.image_error.ImageError.{ImageError}
+use Rattle.elf_image.specs.declared.image_error.ImageError.TheVariants.{Refused, NoMemory}
+use Rattle.elf_image.specs.Refusals.{image_fault}
+
+-- an error is the first check that fails; want of memory may come at any file
+abbrev pub IsAnswerTo : List ℕ → List Range → ℕ → ℕ → ImageError → Type 0
+IsAnswerTo file code heap stack (Refused fault) = image_fault file code heap stack ≡ Some fault
+IsAnswerTo file code heap stack NoMemory = Unit {0}

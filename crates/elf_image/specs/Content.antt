@@ -1,0 +1,38 @@
+-- The bytes that a file's segments put into memory.
+use Rattle.std.specs.Prelude.{ℕ, ◌+◌, ◌-◌, ◌*◌, Bool, not, ◌&&◌, ◌||◌, ◌==◌, nat_lt, nat_le, List, slice_index, find, is_some}
+use Rattle.std.specs.Option.{option_map_or}
+use Rattle.elf_reader.specs.declared.segment.Segment.{Segment}
+use Rattle.elf_reader.specs.Segments.{file_end}
+use Rattle.elf_reader.specs.Check.{least_below}
+use Rattle.elf_image.specs.Pages.{is_segment_page}
+use Rattle.nv_words.specs.Words.{word_of_bytes}
+use Rattle.mips_decode.specs.Table.{op_of}
+
+-- an address is one of a segment's bytes in the file
+abbrev pub is_in_file_part : ℕ → Segment → Bool
+is_in_file_part at s = nat_le s.vaddr at && nat_lt at (file_end s)
+
+-- the file's byte that a segment puts at an address
+abbrev pub file_byte : List ℕ → ℕ → Segment → ℕ
+file_byte file at s = slice_index file (s.offset + (at - s.vaddr))
+
+-- the byte at an address of the segments: the file's where one's bytes in the file reach, else 0
+unfoldable pub stored_byte : List ℕ → List Segment → ℕ → ℕ
+stored_byte file segments at = option_map_or (file_byte file at) (find (is_in_file_part at) segments) 0
+
+-- the word at an address, big-endian
+unfoldable pub stored_word : List ℕ → List Segment → ℕ → ℕ
+stored_word file segments at =
+    word_of_bytes
+    (stored_byte file segments at) (stored_byte file segments (at + 1))
+    (stored_byte file segments (at + 2)) (stored_byte file segments (at + 3))
+
+-- a page of the segments that holds a byte that is not 0
+unfoldable pub is_filled_page : List ℕ → List Segment → ℕ → Bool
+is_filled_page file segments page =
+    is_segment_page segments page
+    && is_some (least_below (λ k. not (stored_byte file segments (4096 * page + k) == 0)) 4096)
+
+-- a word with a primary opcode of the floating-point unit
+abbrev pub is_float : ℕ → Bool
+is_float word = op_of word == 0x11 || op_of word == 0x31 || op_of word == 0x39

@@ -1,0 +1,22 @@
+-- What an image keeps beside its file: numbers and tables of it that are looked up again and again.
+use Rattle.std.specs.Prelude.{◌≡◌, ℕ, ◌≤◌, List}
+use Rattle.elf_reader.specs.declared.segment.Segment.{Segment}
+use Rattle.elf_reader.specs.declared.range.Range.{Range}
+use Rattle.elf_reader.specs.Header.{header_of}
+use Rattle.elf_reader.specs.Segments.{live}
+use Rattle.elf_reader.specs.Area.{area}
+use Rattle.elf_reader.specs.Fault.{IsRunsOf}
+use Rattle.elf_image.specs.Pages.{heap_page, mapped_pages}
+use Rattle.elf_image.specs.Content.{stored_byte}
+use Rattle.elf_image.specs.PageTable.{table_byte}
+
+pub record IsKept (file : List ℕ) (entry : ℕ) (segments : List Segment) (code : List Range) (index stored : List ℕ) (heap_first heap stack mapped : ℕ) : Type 0 where
+  pub same_entry : entry ≡ (header_of file).e_entry
+  pub same_segments : segments ≡ live file
+  pub runs : IsRunsOf (area file) code
+  pub bytes : (at : ℕ) → table_byte index stored at ≡ stored_byte file segments at
+  pub first : heap_first ≡ heap_page segments
+  pub low : heap_first ≤ 0x7F000
+  pub heap_fits : heap ≤ 32768
+  pub stack_fits : stack ≤ 32768
+  pub same_mapped : mapped ≡ mapped_pages segments heap stack

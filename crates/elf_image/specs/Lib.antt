@@ -1,0 +1,7 @@
+pub mod Pages
+pub mod Content
+pub mod Refusals
+pub mod Start
+pub mod Answer
+pub mod Kept
+pub mod PageTable
