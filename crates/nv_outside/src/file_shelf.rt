@@ -80,12 +80,13 @@ fn load_file<R: Files>(
     }
 }
 
-/// All bytes of a reader, if it has at most `LONGEST_FILE`.
+/// All bytes of a reader, if it has at most `LONGEST_FILE`. Of a longer one it reads one byte more and no further.
 fn read_whole(alloc: Global, reader: &mut impl Read) -> Result<Vec<u8>, ShelfError> {
     let mut bytes = Vec::new(alloc);
     let mut piece = [0u8; PIECE];
     for _ in 0..u64::MAX {
-        match reader.read(&mut piece) {
+        let asked = PIECE.min((LONGEST_FILE + 1).saturating_sub(bytes.len()));
+        match reader.read(&mut piece[..asked]) {
             Ok(0) => return Ok(bytes),
             Ok(n) => bytes.extend_from_slice(&piece[..n])?,
             Err(_) => return Err(ShelfError::Failed),
