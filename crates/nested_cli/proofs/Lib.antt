@@ -1,3 +1,3 @@
-pub mod AnswerLemmas
+pub mod DeedLemmas
 pub mod PieceLemmas
 pub mod ListingLemmas

@@ -1,4 +1,7 @@
 pub mod Usage
 pub mod Line
+pub mod Deeds
+pub mod Counts
 pub mod Listing
-pub mod Causes
+pub mod Straight
+pub mod Commands

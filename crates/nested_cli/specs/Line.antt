@@ -5,7 +5,7 @@ use Rattle.nv_events.specs.declared.fault.Fault.{Fault}
 use Rattle.elf_reader.specs.declared.elf_fault.ElfFault.{ElfFault}
 use Rattle.elf_image.specs.declared.image_fault.ImageFault.{ImageFault}
 use Rattle.nested_cli.specs.declared.done.Done.{Done}
-use Rattle.nested_cli.specs.declared.done.Done.TheVariants.{Good, Exited, Faulted, Usage, NoInput, ElfRefused, ImageRefused, WriteFault, ShelfFault, NoMemory, NotBuilt}
+use Rattle.nested_cli.specs.declared.done.Done.TheVariants.{Good, Exited, Faulted, Usage, NoInput, ElfRefused, ImageRefused, ReadFault, WriteFault, ShelfFault, NoMemory, NotBuilt}
 use Rattle.nested_cli.specs.Usage.{word_of}
 
 -- the statuses of sysexits.h where one fits, and the program's own status modulo 256
@@ -17,6 +17,7 @@ status_of (Usage kind) = 64
 status_of (NoInput word) = 66
 status_of (ElfRefused f) = 65
 status_of (ImageRefused f) = 67
+status_of ReadFault = 74
 status_of WriteFault = 75
 status_of ShelfFault = 76
 status_of NoMemory = 77
@@ -54,6 +55,7 @@ line_of words (Usage kind) = joined (codes "nested: usage " ∷ decimal kind ∷
 line_of words (NoInput word) = joined (codes "nested: no file " ∷ word_of words word ∷ codes "\n" ∷ [])
 line_of words (ElfRefused f) = elf_line f
 line_of words (ImageRefused f) = image_line f
+line_of words ReadFault = codes "nested: read fault\n"
 line_of words WriteFault = []
 line_of words ShelfFault = codes "nested: shelf fault\n"
 line_of words NoMemory = codes "nested: no memory\n"

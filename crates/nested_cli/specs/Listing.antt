@@ -1,16 +1,15 @@
 -- The listing of a program: a line for each word of its code.
 use Rattle.std.specs.Prelude.{ℕ, zero, suc, ◌+◌, ◌%◌, ◌^◌, ◌≡◌, ◌++◌, List, [], ◌∷◌, Option, Some, None, codes}
 use Rattle.std.specs.Option.{option_map_or}
-use Rattle.std.specs.Io.KnownBytes.{Appends}
 use Rattle.elf_reader.specs.declared.range.Range.{Range}
 use Rattle.elf_reader.specs.Area.{area}
 use Rattle.elf_reader.specs.Fault.{elf_fault, IsRunsOf}
-use Rattle.elf_image.specs.declared.image_fault.ImageFault.{ImageFault}
 use Rattle.elf_image.specs.Refusals.{image_fault}
 use Rattle.elf_image.specs.Start.{Source, image_of}
 use Rattle.mips_decode.specs.Table.{inst}
 use Rattle.mips_decode.specs.Text.{text_of}
-use Rattle.nv_outside.specs.Gains.{AppendsPart}
+use Rattle.nested_cli.specs.declared.done.Done.TheVariants.{Good, NoInput, ElfRefused, ImageRefused}
+use Rattle.nested_cli.specs.Deeds.{Due, prints, answers}
 use Rattle.nested_cli.specs.Line.{hex_word, joined}
 
 -- the columns of a line: an address, a word, and a text
@@ -39,44 +38,26 @@ runs_lines code (run ∷ runs) = run_lines code run.first run.words ++ runs_line
 abbrev pub source : List ℕ → Source
 source file = record { file = file; heap = 256; stack = 64 }
 
--- a text is the listing of a program: the lines of the maximal runs of its code, in rising order of addresses
-pub record IsListing (s : Source) (text : List ℕ) : Type 0 where
-  pub runs : List Range
-  pub are_runs : IsRunsOf (area s.file) runs
-  pub lines : text ≡ runs_lines ((image_of s).code) runs
+-- a listing of such runs is printed
+abbrev pub listed : (ℕ → Option ℕ) → List Range → Due
+listed code runs = record { deeds = prints (runs_lines code runs) ∷ []; answer = Good }
 
--- a sink took the listing of a program, or a front part of it
-pub record TakesListing (s : Source) (old new : Option (List ℕ)) : Type 0 where
-  pub text : List ℕ
-  pub is_listing : IsListing s text
-  pub took : Appends old new text
+-- what is to be done with a program whose code has these maximal runs
+abbrev pub due_of_runs : List ℕ → List Range → Due
+due_of_runs file runs = elim (image_fault file runs 256 64) [
+  | Some f ↦ answers (ImageRefused f)
+  | None ↦ listed (image_of (source file)).code runs
+]
 
-pub record TakesPart (s : Source) (old new : Option (List ℕ)) : Type 0 where
-  pub text : List ℕ
-  pub is_listing : IsListing s text
-  pub took : AppendsPart old new text
+-- what is to be done with a file
+abbrev pub IsDueOfListed : List ℕ → Due → Type 0
+IsDueOfListed file due = elim (elf_fault file) [
+  | Some f ↦ due ≡ answers (ElfRefused f)
+  | None ↦ (runs : List Range) × IsRunsOf (area file) runs × (due ≡ due_of_runs file runs)
+]
 
--- what the checks of an image answer for a file
-pub record ImageChecks (file : List ℕ) (answer : Option ImageFault) : Type 0 where
-  pub runs : List Range
-  pub are_runs : IsRunsOf (area file) runs
-  pub checks : image_fault file runs 256 64 ≡ answer
-
--- a file that passes all checks
-pub record IsListable (file : List ℕ) : Type 0 where
-  pub accepted : elf_fault file ≡ None
-  pub has_image : ImageChecks file None
-
--- an accepted file that has no image, for the first check that it fails
-pub record LacksImage (file : List ℕ) (fault : ImageFault) : Type 0 where
-  pub accepted : elf_fault file ≡ None
-  pub refused : ImageChecks file (Some fault)
-
--- the file passes, and its listing was taken, or a front part of it
-pub record IsListed (file : List ℕ) (old new : Option (List ℕ)) : Type 0 where
-  pub listable : IsListable file
-  pub took : TakesListing (source file) old new
-
-pub record IsPartlyListed (file : List ℕ) (old new : Option (List ℕ)) : Type 0 where
-  pub listable : IsListable file
-  pub took : TakesPart (source file) old new
+-- What `list` is to do, given the file that a word names, if it is there: a line for each word of its code, by the maximal runs of
+-- the code in rising order of addresses.
+abbrev pub IsDueOfList : ℕ → Option (List ℕ) → Due → Type 0
+IsDueOfList word None due = due ≡ answers (NoInput word)
+IsDueOfList word (Some file) due = IsDueOfListed file due

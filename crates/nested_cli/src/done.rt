@@ -22,6 +22,8 @@ pub enum Done {
     ElfRefused(ElfFault),
     /// The program has no image in memory: the first check that it fails.
     ImageRefused(ImageFault),
+    /// Input failed in this call.
+    ReadFault,
     /// Output or error output failed in this call.
     WriteFault,
     /// The shelf of files failed in this call.
@@ -47,6 +49,7 @@ impl Done {
             Done::ElfRefused(_) => 65,
             Done::NoInput(_) => 66,
             Done::ImageRefused(_) => 67,
+            Done::ReadFault => 74,
             Done::WriteFault => 75,
             Done::ShelfFault => 76,
             Done::NoMemory => 77,

@@ -1,8 +1,13 @@
-ghost use Rattle.std.specs.Prelude.{◌≡◌, ◌≤◌, IfSome, vec_len, false};
+ghost use Rattle.std.specs.Prelude.{◌≡◌, ◌≤◌, ℕ, ℤ, ◌⊎◌, List, Option, IfSome, IfOk, IfErr, vec_len, false};
+ghost use Rattle.nv_events.specs.declared.fault.Fault.{Fault};
 ghost use Rattle.nv_outside.specs.Faults.{CountsFailure};
-ghost use Rattle.nested_cli.specs.Causes.{FitsBytes, FitsFile, IsAfterLoad, IsAfterWords, LeavesFiles, is_shelf_fault};
+ghost use Rattle.nested_cli.specs.Counts.{shelf_stopped, write_stopped};
+ghost use Rattle.nested_cli.specs.Deeds.{Comes, world};
+ghost use Rattle.nested_cli.specs.Straight.{IsDueOfBytes, IsDueOfGo, RunsClass, IsRunEnd, header_fault};
 
 use crate::done::Done;
+use crate::load::load;
+use crate::stop::Stop;
 use elf_reader::{ElfFault, Thin, ThinError, read_thin};
 use jvm_machine::run_straight;
 use nv_events::Outcome;
@@ -14,77 +19,75 @@ use std::alloc::Global;
 const MAIN_CLASS: &str = "Main.class";
 
 /// Loads a program, translates it, stores its class, and runs the class.
-pub fn go<H: Shelf>(alloc: Global, name: &str, shelf: &mut H) -> Done
-    ensures lawful { IsAfterWords result }
-    ensures file { IfSome (H.files shelf.old) (λ files. FitsFile name.now files result) }
-    ensures files { LeavesFiles (H.files shelf.old) (H.files shelf.new) result }
-    ensures count { CountsFailure (is_shelf_fault result) (H.faults shelf.old) (H.faults shelf.new) }
+pub fn go<H: Shelf>(alloc: Global, word: u32, name: &str, shelf: &mut H) -> Result<Done, Stop>
+    ensures comes { (rest out err : Option (List ℕ)) → IfSome (H.files shelf.old) (λ files. Comes (IsDueOfGo word (files name.now)) (world (H.files shelf.old) rest out err) (world (H.files shelf.new) rest out err) result) }
+    ensures count { CountsFailure (shelf_stopped result) (H.faults shelf.old) (H.faults shelf.new) }
+    ensures no_write { write_stopped result ≡ false }
 {
-    match shelf.load(alloc, name) {
+    match load(alloc, shelf, name) {
         Ok(Some(file)) => go_file(alloc, file.as_slice(), shelf),
-        Ok(None) => Done::NoInput(1),
-        Err(ShelfError::Failed) => Done::ShelfFault,
-        Err(ShelfError::NoMemory) => Done::NoMemory,
+        Ok(None) => Ok(Done::NoInput(word)),
+        Err(stop) => Err(stop),
     }
 }
 
 /// Translates a program, stores its class, and runs the class.
-fn go_file<H: Shelf>(alloc: Global, file: &[u8], shelf: &mut H) -> Done
-    ensures bytes { FitsBytes file.now result }
-    ensures files { LeavesFiles (H.files shelf.old) (H.files shelf.new) result }
-    ensures count { CountsFailure (is_shelf_fault result) (H.faults shelf.old) (H.faults shelf.new) }
+fn go_file<H: Shelf>(alloc: Global, file: &[u8], shelf: &mut H) -> Result<Done, Stop>
+    ensures comes { (rest out err : Option (List ℕ)) → Comes (IsDueOfBytes file.now) (world (H.files shelf.old) rest out err) (world (H.files shelf.new) rest out err) result }
+    ensures count { CountsFailure (shelf_stopped result) (H.faults shelf.old) (H.faults shelf.new) }
+    ensures no_write { write_stopped result ≡ false }
 {
     match read_thin(alloc, file) {
         Ok(thin) => go_thin(alloc, &thin, shelf),
-        Err(ThinError::TooShort) => refused(1),
-        Err(ThinError::BadMagic) => refused(2),
-        Err(ThinError::NotThin) => Done::NotBuilt,
-        Err(ThinError::NoMemory) => Done::NoMemory,
+        Err(ThinError::TooShort) => Ok(refused(1)),
+        Err(ThinError::BadMagic) => Ok(refused(2)),
+        Err(ThinError::NotThin) => Ok(Done::NotBuilt),
+        Err(ThinError::NoMemory) => Err(Stop::NoMemory),
     }
 }
 
 /// A check of the file that failed.
 fn refused(kind: u32) -> Done
-    ensures { result ≡ Done.ElfRefused (record { kind = kind; i = 0; j = 0 }) }
+    ensures { result ≡ Done.ElfRefused (header_fault kind) }
 {
     Done::ElfRefused(ElfFault { kind, i: 0, j: 0 })
 }
 
 /// Translates a straight program, stores its class, and runs the class.
-fn go_thin<H: Shelf>(alloc: Global, thin: &Thin, shelf: &mut H) -> Done
+fn go_thin<H: Shelf>(alloc: Global, thin: &Thin, shelf: &mut H) -> Result<Done, Stop>
     requires { vec_len thin.now.words ≤ 256 }
-    ensures ran { IsAfterLoad result }
-    ensures files { LeavesFiles (H.files shelf.old) (H.files shelf.new) result }
-    ensures count { CountsFailure (is_shelf_fault result) (H.faults shelf.old) (H.faults shelf.new) }
+    ensures comes { (rest out err : Option (List ℕ)) → Comes RunsClass (world (H.files shelf.old) rest out err) (world (H.files shelf.new) rest out err) result }
+    ensures count { CountsFailure (shelf_stopped result) (H.faults shelf.old) (H.faults shelf.new) }
+    ensures no_write { write_stopped result ≡ false }
 {
     match straight_class(alloc, thin) {
         Ok(class) => go_class(alloc, class.as_slice(), shelf),
-        Err(_) => Done::NoMemory,
+        Err(_) => Err(Stop::NoMemory),
     }
 }
 
 /// Stores a class, and runs it.
-fn go_class<H: Shelf>(alloc: Global, class: &[u8], shelf: &mut H) -> Done
-    ensures ran { IsAfterLoad result }
-    ensures files { LeavesFiles (H.files shelf.old) (H.files shelf.new) result }
-    ensures count { CountsFailure (is_shelf_fault result) (H.faults shelf.old) (H.faults shelf.new) }
+fn go_class<H: Shelf>(alloc: Global, class: &[u8], shelf: &mut H) -> Result<Done, Stop>
+    ensures comes { (rest out err : Option (List ℕ)) → Comes RunsClass (world (H.files shelf.old) rest out err) (world (H.files shelf.new) rest out err) result }
+    ensures count { CountsFailure (shelf_stopped result) (H.faults shelf.old) (H.faults shelf.new) }
+    ensures no_write { write_stopped result ≡ false }
 {
     match shelf.store(MAIN_CLASS, class) {
         Ok(()) => run_class(alloc, class),
-        Err(ShelfError::Failed) => Done::ShelfFault,
-        Err(ShelfError::NoMemory) => Done::NoMemory,
+        Err(ShelfError::Failed) => Err(Stop::ShelfFault),
+        Err(ShelfError::NoMemory) => Err(Stop::NoMemory),
     }
 }
 
 /// Runs a class. A straight program is not waited for, and a straight class has no loops and no traps.
-fn run_class(alloc: Global, class: &[u8]) -> Done
-    ensures ran { IsAfterLoad result }
-    ensures sound { is_shelf_fault result ≡ false }
+fn run_class(alloc: Global, class: &[u8]) -> Result<Done, Stop>
+    ensures ends { IfOk result IsRunEnd }
+    ensures stop { IfErr result (λ stop. stop ≡ Stop.NoMemory) }
 {
     match run_straight(alloc, class) {
-        Ok(Outcome::Exited(status)) => Done::Exited(status),
-        Ok(Outcome::Faulted(fault)) => Done::Faulted(fault),
-        Ok(Outcome::Trapped(_) | Outcome::Waiting | Outcome::Going) => Done::NotBuilt,
-        Err(_) => Done::NoMemory,
+        Ok(Outcome::Exited(status)) => Ok(Done::Exited(status)),
+        Ok(Outcome::Faulted(fault)) => Ok(Done::Faulted(fault)),
+        Ok(Outcome::Trapped(_) | Outcome::Waiting | Outcome::Going) => Ok(Done::NotBuilt),
+        Err(_) => Err(Stop::NoMemory),
     }
 }

@@ -6,8 +6,9 @@ mod go;
 mod hexadecimal;
 mod line;
 mod list;
-mod list_error;
+mod load;
 mod program;
+mod stop;
 #[cfg(test)]
 mod tests;
 mod usage;

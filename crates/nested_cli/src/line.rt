@@ -21,6 +21,7 @@ pub fn write_line<E: Sink>(err: &mut E, words: &[String], done: &Done) -> Result
 {
     match *done {
         Done::Good | Done::Exited(_) | Done::WriteFault => Ok(()),
+        Done::ReadFault => write_all(err, b"nested: read fault\n"),
         Done::ShelfFault => write_all(err, b"nested: shelf fault\n"),
         Done::NoMemory => write_all(err, b"nested: no memory\n"),
         Done::NotBuilt => write_all(err, b"nested: not built\n"),

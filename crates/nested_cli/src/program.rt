@@ -1,13 +1,15 @@
-ghost use Rattle.std.specs.Prelude.{◌≡◌, ◌≢◌, ◌⊎◌, IfSome, true, false};
+ghost use Rattle.std.specs.Prelude.{◌≡◌, ◌≢◌, ◌⊎◌, ℕ, List, Option, IfSome};
 ghost use Rattle.nv_outside.specs.Faults.{CountsFailure, Rose};
-ghost use Rattle.nv_outside.specs.Files.{SameFiles};
-ghost use Rattle.nested_cli.specs.Causes.{FitsFile, FitsWords, LeavesFiles, ListsFile, WritesLine, is_shelf_fault, is_write_fault};
-ghost use Rattle.nested_cli.specs.Usage.{is_list, texts, word_of};
+ghost use Rattle.nested_cli.specs.Counts.{shelf_stopped, write_stopped};
+ghost use Rattle.nested_cli.specs.Commands.{Does, IsDue};
+ghost use Rattle.nested_cli.specs.Deeds.{Comes, world};
+ghost use Rattle.nested_cli.specs.Usage.{texts};
 
 use crate::done::Done;
 use crate::go::go;
 use crate::line::write_line;
 use crate::list::list;
+use crate::stop::Stop;
 use crate::usage::{is_list, usage};
 use nv_outside::{Failed, Shelf, Sink, Source};
 use std::alloc::Global;
@@ -30,47 +32,44 @@ pub fn nested<H: Shelf, S: Source, O: Sink, E: Sink>(
     out: &mut O,
     err: &mut E,
 ) -> Done
-    ensures words { FitsWords (texts words.now) result }
-    ensures file { is_list (texts words.now) ≡ false → IfSome (H.files shelf.old) (λ files. FitsFile (word_of (texts words.now) 1) files result) }
-    ensures listing { is_list (texts words.now) ≡ true → IfSome (H.files shelf.old) (λ files. ListsFile (word_of (texts words.now) 1) files (O.taken out.old) (O.taken out.new) result) }
-    ensures kept { is_list (texts words.now) ≡ true → SameFiles (H.files shelf.old) (H.files shelf.new) }
-    ensures files { LeavesFiles (H.files shelf.old) (H.files shelf.new) result }
-    ensures line { WritesLine (E.taken err.old) (E.taken err.new) (texts words.now) result }
+    ensures does { IfSome (H.files shelf.old) (λ files. Does (texts words.now) files (world (H.files shelf.old) (S.rest input.old) (O.taken out.old) (E.taken err.old)) (world (H.files shelf.new) (S.rest input.new) (O.taken out.new) (E.taken err.new)) result) }
     ensures shelf_fault { result ≡ Done.ShelfFault → Rose (H.faults shelf.old) (H.faults shelf.new) }
     ensures write_fault { result ≡ Done.WriteFault → Rose (O.faults out.old) (O.faults out.new) ⊎ Rose (E.faults err.old) (E.faults err.new) }
     ensures shelf_sound { result ≢ Done.ShelfFault → result ≢ Done.WriteFault → H.faults shelf.new ≡ H.faults shelf.old }
     ensures out_sound { result ≢ Done.WriteFault → O.faults out.new ≡ O.faults out.old }
     ensures err_sound { result ≢ Done.WriteFault → E.faults err.new ≡ E.faults err.old }
     ensures input { input.new ≡ input.old }
-    ensures out { is_list (texts words.now) ≡ false → out.new ≡ out.old }
 {
-    let done = answer(alloc, words, shelf, out);
+    let done = match command(alloc, words, shelf, out) {
+        Ok(done) => done,
+        Err(stop) => stop.done(),
+    };
     match write_line(err, words, &done) {
         Ok(()) => done,
         Err(Failed) => Done::WriteFault,
     }
 }
 
-/// The answer, before its line is written.
-fn answer<H: Shelf, O: Sink>(alloc: Global, words: &[String], shelf: &mut H, out: &mut O) -> Done
-    ensures words { FitsWords (texts words.now) result }
-    ensures file { is_list (texts words.now) ≡ false → IfSome (H.files shelf.old) (λ files. FitsFile (word_of (texts words.now) 1) files result) }
-    ensures listing { is_list (texts words.now) ≡ true → IfSome (H.files shelf.old) (λ files. ListsFile (word_of (texts words.now) 1) files (O.taken out.old) (O.taken out.new) result) }
-    ensures kept { is_list (texts words.now) ≡ true → SameFiles (H.files shelf.old) (H.files shelf.new) }
-    ensures files { LeavesFiles (H.files shelf.old) (H.files shelf.new) result }
-    ensures count { CountsFailure (is_shelf_fault result) (H.faults shelf.old) (H.faults shelf.new) }
-    ensures out_count { CountsFailure (is_write_fault result) (O.faults out.old) (O.faults out.new) }
-    ensures out { is_list (texts words.now) ≡ false → out.new ≡ out.old }
+/// Does what the words say, but for the answer's line.
+fn command<H: Shelf, O: Sink>(
+    alloc: Global,
+    words: &[String],
+    shelf: &mut H,
+    out: &mut O,
+) -> Result<Done, Stop>
+    ensures comes { (rest err : Option (List ℕ)) → IfSome (H.files shelf.old) (λ files. Comes (IsDue (texts words.now) files) (world (H.files shelf.old) rest (O.taken out.old) err) (world (H.files shelf.new) rest (O.taken out.new) err) result) }
+    ensures count { CountsFailure (shelf_stopped result) (H.faults shelf.old) (H.faults shelf.new) }
+    ensures out_count { CountsFailure (write_stopped result) (O.faults out.old) (O.faults out.new) }
 {
     match (usage(words), words.get(1)) {
-        (Some(kind), _) => Done::Usage(kind),
+        (Some(kind), _) => Ok(Done::Usage(kind)),
         (None, Some(name)) => {
             if is_list(words) {
-                list(alloc, name.as_str(), shelf, out)
+                list(alloc, 1, name.as_str(), shelf, out)
             } else {
-                go(alloc, name.as_str(), shelf)
+                go(alloc, 1, name.as_str(), shelf)
             }
         }
-        (None, None) => Done::Usage(2),
+        (None, None) => Ok(Done::Usage(2)),
     }
 }

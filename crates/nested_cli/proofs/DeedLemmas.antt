@@ -1,0 +1,135 @@
+-- How deeds follow one another.
+use Rattle.std.proofs.Common.{◌≡◌, ◌⊎◌, ℕ, List, [], ◌∷◌, drop, Option, Some, None, Result, Ok, Err, refl, sym, ◌∙◌, ap, inl, inr}
+use Rattle.std.specs.Prelude.{IfSome, IfOk, IfErr, Vec}
+use Rattle.std.specs.declared.alloc.Global.{Global}
+use Rattle.std.specs.Io.KnownBytes.{Appends}
+use Rattle.nv_outside.specs.Files.{Files, Finds, SameFiles, OthersStay, SetsFile}
+use Rattle.nv_outside.specs.Gains.{AppendsPart}
+use Rattle.nested_cli.specs.declared.done.Done.{Done}
+use Rattle.nested_cli.specs.declared.stop.Stop.{Stop}
+use Rattle.nested_cli.specs.declared.stop.Stop.TheVariants.{ReadFault, WriteFault, ShelfFault, NoMemory}
+use Rattle.nested_cli.specs.Straight.{IsRunEnd, RunsClass, main_class}
+use Rattle.nested_cli.specs.Deeds.{World, Deed, prepares, stores, prints, plays, Due, Stays, LosesRead, LosesFront, DoesDeed, StopsDeed, DoesAll, StopsIn, Works, StopsEarly, Comes, world, answers}
+
+pub same_files : (files : Option Files) → SameFiles files files
+same_files None = tt
+same_files (Some f) = λ name. refl
+
+pub stays : (w : World) → Stays w w
+stays w = (same_files w.files, refl, refl, refl)
+
+pub same_then_same : (a b c : Option Files) → SameFiles a b → SameFiles b c → SameFiles a c
+same_then_same None b c p q = tt
+same_then_same (Some a) None c p q = absurd p
+same_then_same (Some a) (Some b) None p q = absurd q
+same_then_same (Some a) (Some b) (Some c) p q = λ name. q name ∙ p name
+
+pub same_then_set : (a b c : Option Files) (name bytes : List ℕ) → SameFiles a b → SetsFile b c name bytes → SetsFile a c name bytes
+same_then_set None b c name bytes p q = tt
+same_then_set (Some a) None c name bytes p q = absurd p
+same_then_set (Some a) (Some b) None name bytes p q = absurd q
+same_then_set (Some a) (Some b) (Some c) name bytes p q = (q.0, λ other h. q.1 other h ∙ p other)
+
+pub same_then_others : (a b c : Option Files) (name : List ℕ) → SameFiles a b → OthersStay b c name → OthersStay a c name
+same_then_others None b c name p q = tt
+same_then_others (Some a) None c name p q = absurd p
+same_then_others (Some a) (Some b) None name p q = absurd q
+same_then_others (Some a) (Some b) (Some c) name p q = λ other h. q other h ∙ p other
+
+pub stays_then : (w u v : World) → Stays w u → Stays u v → Stays w v
+stays_then w u v p q = (same_then_same _ _ _ p.0 q.0, q.1 ∙ p.1, q.2 ∙ p.2, q.3 ∙ p.3)
+
+stays_then_deed : (deed : Deed) (w u v : World) → Stays w u → DoesDeed deed u v → DoesDeed deed w v
+stays_then_deed prepares w u v p q = stays_then w u v p q
+stays_then_deed (stores name bytes) w u v p q = (same_then_set _ _ _ _ _ p.0 q.0, q.1 ∙ p.1, q.2 ∙ p.2, q.3 ∙ p.3)
+stays_then_deed (prints text) w u v p q = (same_then_same _ _ _ p.0 q.0, q.1 ∙ p.1, rw (sym p.2) q.2, q.3 ∙ p.3)
+stays_then_deed (plays n out err) w u v p q = (same_then_same _ _ _ p.0 q.0, rw (sym p.1) q.1, rw (sym p.2) q.2, rw (sym p.3) q.3)
+
+stays_then_stop : (deed : Deed) (w u v : World) (stop : Stop) → Stays w u → StopsDeed deed u v stop → StopsDeed deed w v stop
+stays_then_stop prepares w u v stop p q = (stays_then w u v p q.0, q.1)
+stays_then_stop (stores name bytes) w u v stop p (inl q) = inl (stays_then w u v p q.0, q.1)
+stays_then_stop (stores name bytes) w u v stop p (inr q) = inr (same_then_others _ _ _ _ p.0 q.0, q.1 ∙ p.1, q.2 ∙ p.2, q.3 ∙ p.3, q.4)
+stays_then_stop (prints text) w u v stop p q = (same_then_same _ _ _ p.0 q.0, q.1 ∙ p.1, rw (sym p.2) q.2, q.3 ∙ p.3, q.4)
+stays_then_stop (plays n out err) w u v stop p q = (same_then_same _ _ _ p.0 q.0, rw (sym p.1) q.1, rw (sym p.2) q.2, rw (sym p.3) q.3, q.4)
+
+stays_then_all : (deeds : List Deed) (w u v : World) → Stays w u → DoesAll deeds u v → DoesAll deeds w v
+stays_then_all [] w u v p q = stays_then w u v p q
+stays_then_all (deed ∷ deeds) w u v p q = (q.0, stays_then_deed deed w u q.0 p q.1, q.2)
+
+stays_then_stops : (deeds : List Deed) (w u v : World) (stop : Stop) → Stays w u → StopsIn deeds u v stop → StopsIn deeds w v stop
+stays_then_stops [] w u v stop p q = q
+stays_then_stops (deed ∷ deeds) w u v stop p (inl q) = inl (stays_then_stop deed w u v stop p q)
+stays_then_stops (deed ∷ deeds) w u v stop p (inr q) = inr (q.0, stays_then_deed deed w u q.0 p q.1, q.2)
+
+-- work that begins where nothing has changed yet
+pub stays_then_works : (due : Due) (w u v : World) (ended : Result Done Stop) → Stays w u → Works due u v ended → Works due w v ended
+stays_then_works due w u v (Ok answer) p q = (q.0, stays_then_all due.deeds w u v p q.1)
+stays_then_works due w u v (Err stop) p q = stays_then_stops due.deeds w u v stop p q
+
+-- an answer with nothing changed
+pub answered : (answer : Done) (w v : World) → Stays w v → Works (answers answer) w v (Ok answer)
+answered answer w v p = (refl, p)
+
+pub stays_then_comes : (IsDue : Due → Type 0) (w u v : World) (ended : Result Done Stop) → Stays w u → Comes IsDue u v ended → Comes IsDue w v ended
+stays_then_comes IsDue w u v (Ok answer) p (inl q) = absurd q
+stays_then_comes IsDue w u v (Err stop) p (inl q) = inl (stays_then w u v p q.0, q.1)
+stays_then_comes IsDue w u v ended p (inr q) = inr (q.0, q.1, stays_then_works q.0 w u v ended p q.2)
+
+-- what is due is due under another name
+pub due_as : (IsDue Also : Due → Type 0) (w v : World) (ended : Result Done Stop) → ((due : Due) → IsDue due → Also due) → Comes IsDue w v ended → Comes Also w v ended
+due_as IsDue Also w v ended f (inl q) = inl q
+due_as IsDue Also w v ended f (inr q) = inr (q.0, f q.0 q.1, q.2)
+
+-- a file was loaded, and then worked on
+pub after_load : (IsDue : Option (List ℕ) → Due → Type 0) (name : List ℕ) (found : Option (List ℕ)) (old mid new : Option Files) (rest rest' out out' err err' : Option (List ℕ)) (ended : Result Done Stop) → IfSome old (λ files. found ≡ files name) → SameFiles old mid → Comes (IsDue found) (world mid rest out err) (world new rest' out' err') ended → IfSome old (λ files. Comes (IsDue (files name)) (world old rest out err) (world new rest' out' err') ended)
+after_load IsDue name found None mid new rest rest' out out' err err' ended e p q = tt
+after_load IsDue name found (Some files) mid new rest rest' out out' err err' ended e p q =
+    rw (sym e) (stays_then_comes (IsDue found) _ _ _ ended (p, refl, refl, refl) q)
+
+-- a load was stopped
+pub load_stopped : (IsDue : Option (List ℕ) → Due → Type 0) (name : List ℕ) (old new : Option Files) (rest out err : Option (List ℕ)) (stop : Stop) → SameFiles old new → (stop ≡ ShelfFault) ⊎ (stop ≡ NoMemory) → IfSome old (λ files. Comes (IsDue (files name)) (world old rest out err) (world new rest out err) (Err stop))
+load_stopped IsDue name None new rest out err stop p e = tt
+load_stopped IsDue name (Some files) new rest out err stop p e = inl ((p, refl, refl, refl), e)
+
+-- what was found, by the files that are told
+pub found_none : (old : Option Files) (name : List ℕ) → Finds old name None → IfSome old (λ files. None ≡ files name)
+found_none None name e = tt
+found_none (Some files) name e = e
+
+pub found_some : (old : Option Files) (name : List ℕ) (v : Vec ℕ Global) → Finds old name (Some v) → IfSome old (λ files. Some v.items ≡ files name)
+found_some None name v e = tt
+found_some (Some files) name v e = e
+
+-- a text was printed, or a part of it
+pub printed : (files : Option Files) (rest out out' err : Option (List ℕ)) (text : List ℕ) (answer : Done) → Appends out out' text → Works (record { deeds = prints text ∷ []; answer = answer }) (world files rest out err) (world files rest out' err) (Ok answer)
+printed files rest out out' err text answer p = (refl, world files rest out' err, (same_files files, refl, p, refl), stays (world files rest out' err))
+
+pub print_stopped : (files : Option Files) (rest out out' err : Option (List ℕ)) (text : List ℕ) (answer : Done) (stop : Stop) → AppendsPart out out' text → (stop ≡ WriteFault) ⊎ (stop ≡ NoMemory) → Works (record { deeds = prints text ∷ []; answer = answer }) (world files rest out err) (world files rest out' err) (Err stop)
+print_stopped files rest out out' err text answer stop p e = inl (same_files files, refl, p, refl, e)
+
+-- an answer alone is due
+pub answers_due : (IsDue : Due → Type 0) (answer : Done) (w : World) → IsDue (answers answer) → Comes IsDue w w (Ok answer)
+answers_due IsDue answer w h = inr (answers answer, h, (refl, stays w))
+
+pub stops_early : (IsDue : Due → Type 0) (w : World) (stop : Stop) → (stop ≡ ShelfFault) ⊎ (stop ≡ NoMemory) → Comes IsDue w w (Err stop)
+stops_early IsDue w stop e = inl (stays w, e)
+
+-- a class was stored and run
+pub class_ran : (old new : Option Files) (rest out err : Option (List ℕ)) (class : List ℕ) (ended : Result Done Stop) → SetsFile old new main_class class → IfOk ended IsRunEnd → IfErr ended (λ stop. stop ≡ NoMemory) → Comes RunsClass (world old rest out err) (world new rest out err) ended
+class_ran old new rest out err class (Ok answer) p ends none = inr (
+  record { deeds = stores main_class class ∷ prepares ∷ []; answer = answer },
+  record { class = class; deeds = refl; ends = ends },
+  (refl, world new rest out err, (p, refl, refl, refl), world new rest out err, stays (world new rest out err), stays (world new rest out err)),
+)
+class_ran old new rest out err class (Err stop) p none e = inr (
+  record { deeds = stores main_class class ∷ prepares ∷ []; answer = Done.NotBuilt },
+  record { class = class; deeds = refl; ends = inr (inr refl) },
+  inr (world new rest out err, (p, refl, refl, refl), inl (stays (world new rest out err), inr e)),
+)
+
+pub class_not_stored : (old new : Option Files) (rest out err : Option (List ℕ)) (class : List ℕ) → OthersStay old new main_class → Comes RunsClass (world old rest out err) (world new rest out err) (Err ShelfFault)
+class_not_stored old new rest out err class p = inr (
+  record { deeds = stores main_class class ∷ prepares ∷ []; answer = Done.NotBuilt },
+  record { class = class; deeds = refl; ends = inr (inr refl) },
+  inl (inr (p, refl, refl, refl, refl)),
+)

@@ -1,0 +1,6 @@
+use Rattle.std.proofs.Common.{◌≡◌, refl, sym, ap, inr}
+use Rattle.nested_cli.proofs.DeedLemmas.{answers_due, due_of_image}
+use Rattle.nested_cli.proofs.list.list_elf.Goals as goal
+
+pub returns-in-Ok-clause-comes : goal.returns-in-Ok-clause-comes
+returns-in-Ok-clause-comes g c = λ files rest err. due_of_image _ _ _ _ _ _ c.in-Ok.ensures.passed c.in-Ok.ensures.image (c.list_image.ensures.works files rest err)

@@ -1,0 +1,35 @@
+-- Which answers say that a call of the outside failed.
+use Rattle.std.specs.Prelude.{Bool, true, false, Result, Ok, Err}
+use Rattle.nested_cli.specs.declared.stop.Stop.{Stop}
+use Rattle.nested_cli.specs.declared.stop.Stop.TheVariants.{ReadFault, WriteFault, ShelfFault, NoMemory}
+
+abbrev pub is_shelf_stop : Stop → Bool
+is_shelf_stop ReadFault = false
+is_shelf_stop WriteFault = false
+is_shelf_stop ShelfFault = true
+is_shelf_stop NoMemory = false
+
+abbrev pub is_write_stop : Stop → Bool
+is_write_stop ReadFault = false
+is_write_stop WriteFault = true
+is_write_stop ShelfFault = false
+is_write_stop NoMemory = false
+
+abbrev pub is_read_stop : Stop → Bool
+is_read_stop ReadFault = true
+is_read_stop WriteFault = false
+is_read_stop ShelfFault = false
+is_read_stop NoMemory = false
+
+-- the shelf failed, and output, and input
+abbrev pub shelf_stopped : {A : Type 0} → Result A Stop → Bool
+shelf_stopped (Ok a) = false
+shelf_stopped (Err stop) = is_shelf_stop stop
+
+abbrev pub write_stopped : {A : Type 0} → Result A Stop → Bool
+write_stopped (Ok a) = false
+write_stopped (Err stop) = is_write_stop stop
+
+abbrev pub read_stopped : {A : Type 0} → Result A Stop → Bool
+read_stopped (Ok a) = false
+read_stopped (Err stop) = is_read_stop stop
