@@ -1,0 +1,10 @@
+//! Divides the code of a class into methods of a limited size, into as few as there can be.
+#![tactic(auto)]
+
+mod cutting;
+mod span;
+#[cfg(test)]
+mod tests;
+
+pub use cutting::cut;
+pub use span::Span;
