@@ -9,6 +9,14 @@ use Rattle.nested_cli.specs.declared.done.Done.{Done}
 use Rattle.nested_cli.specs.declared.stop.Stop.{Stop}
 use Rattle.nested_cli.specs.declared.stop.Stop.TheVariants.{ReadFault, WriteFault, ShelfFault, NoMemory}
 use Rattle.nested_cli.specs.Straight.{IsRunEnd, RunsClass, main_class}
+use Rattle.elf_reader.specs.declared.elf_fault.ElfFault.{ElfFault}
+use Rattle.elf_reader.specs.declared.range.Range.{Range}
+use Rattle.elf_reader.specs.Area.{area}
+use Rattle.elf_reader.specs.Fault.{elf_fault, IsRunsOf}
+use Rattle.elf_image.specs.Refusals.{image_fault}
+use Rattle.elf_image.specs.Start.{Source, image_of}
+use Rattle.nested_cli.specs.Listing.{source, listed, due_by, due_of_runs, IsDueOfListed}
+use Rattle.nested_cli.specs.declared.done.Done.TheVariants.{ElfRefused}
 use Rattle.nested_cli.specs.Deeds.{World, Deed, prepares, stores, prints, plays, Due, Stays, LosesRead, LosesFront, DoesDeed, StopsDeed, DoesAll, StopsIn, Works, StopsEarly, Comes, world, answers}
 
 pub same_files : (files : Option Files) → SameFiles files files
@@ -133,3 +141,16 @@ class_not_stored old new rest out err class p = inr (
   record { class = class; deeds = refl; ends = inr (inr refl) },
   inl (inr (p, refl, refl, refl, refl)),
 )
+
+-- an image's listing is what is due of its file and runs
+pub due_of_image : (file : List ℕ) (runs : List Range) (i : Source) (w v : World) (ended : Result Done Stop) → image_fault file runs 256 64 ≡ None → i ≡ source file → Works (listed (image_of i).code runs) w v ended → Comes (λ due. due ≡ due_of_runs file runs) w v ended
+due_of_image file runs i w v ended passed made works =
+    let e : due_of_runs file runs ≡ listed (image_of (source file)).code runs = ap (λ f. due_by f file runs) passed in
+    inr (listed (image_of i).code runs, ap (λ s. listed (image_of s).code runs) made ∙ sym e, works)
+
+-- a file that is accepted, and one that is not
+pub listed_file : (file : List ℕ) (runs : List Range) (w v : World) (ended : Result Done Stop) → elf_fault file ≡ None → IsRunsOf (area file) runs → Comes (λ due. due ≡ due_of_runs file runs) w v ended → Comes (IsDueOfListed file) w v ended
+listed_file file runs w v ended accepted are_runs comes = due_as _ (IsDueOfListed file) w v ended (λ due e. rw accepted (runs, are_runs, e)) comes
+
+pub refused_file : (file : List ℕ) (f : ElfFault) (w : World) → elf_fault file ≡ Some f → Comes (IsDueOfListed file) w w (Ok (ElfRefused f))
+refused_file file f w refused = answers_due (IsDueOfListed file) (ElfRefused f) w (rw refused refl)

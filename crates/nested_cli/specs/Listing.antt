@@ -1,9 +1,11 @@
 -- The listing of a program: a line for each word of its code.
 use Rattle.std.specs.Prelude.{ℕ, zero, suc, ◌+◌, ◌%◌, ◌^◌, ◌≡◌, ◌++◌, List, [], ◌∷◌, Option, Some, None, codes}
 use Rattle.std.specs.Option.{option_map_or}
+use Rattle.elf_reader.specs.declared.elf_fault.ElfFault.{ElfFault}
 use Rattle.elf_reader.specs.declared.range.Range.{Range}
 use Rattle.elf_reader.specs.Area.{area}
 use Rattle.elf_reader.specs.Fault.{elf_fault, IsRunsOf}
+use Rattle.elf_image.specs.declared.image_fault.ImageFault.{ImageFault}
 use Rattle.elf_image.specs.Refusals.{image_fault}
 use Rattle.elf_image.specs.Start.{Source, image_of}
 use Rattle.mips_decode.specs.Table.{inst}
@@ -42,19 +44,21 @@ source file = record { file = file; heap = 256; stack = 64 }
 abbrev pub listed : (ℕ → Option ℕ) → List Range → Due
 listed code runs = record { deeds = prints (runs_lines code runs) ∷ []; answer = Good }
 
--- what is to be done with a program whose code has these maximal runs
-abbrev pub due_of_runs : List ℕ → List Range → Due
-due_of_runs file runs = elim (image_fault file runs 256 64) [
-  | Some f ↦ answers (ImageRefused f)
-  | None ↦ listed (image_of (source file)).code runs
-]
+-- what is to be done with a program whose code has these maximal runs, by the first check that its image fails
+abbrev pub due_by : Option ImageFault → List ℕ → List Range → Due
+due_by None file runs = listed (image_of (source file)).code runs
+due_by (Some f) file runs = answers (ImageRefused f)
 
--- what is to be done with a file
+abbrev pub due_of_runs : List ℕ → List Range → Due
+due_of_runs file runs = due_by (image_fault file runs 256 64) file runs
+
+-- what is to be done with a file, by the first check that it fails
+abbrev pub IsDueBy : Option ElfFault → List ℕ → Due → Type 0
+IsDueBy None file due = (runs : List Range) × IsRunsOf (area file) runs × (due ≡ due_of_runs file runs)
+IsDueBy (Some f) file due = due ≡ answers (ElfRefused f)
+
 abbrev pub IsDueOfListed : List ℕ → Due → Type 0
-IsDueOfListed file due = elim (elf_fault file) [
-  | Some f ↦ due ≡ answers (ElfRefused f)
-  | None ↦ (runs : List Range) × IsRunsOf (area file) runs × (due ≡ due_of_runs file runs)
-]
+IsDueOfListed file due = IsDueBy (elf_fault file) file due
 
 -- What `list` is to do, given the file that a word names, if it is there: a line for each word of its code, by the maximal runs of
 -- the code in rising order of addresses.

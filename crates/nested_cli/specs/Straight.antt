@@ -29,11 +29,18 @@ pub record RunsClass (due : Due) : Type 0 where
 abbrev pub IsDueOfHeader : Due → Type 0
 IsDueOfHeader due = (due ≡ answers NotBuilt) ⊎ RunsClass due
 
+-- the two checks
+abbrev pub FailsLength : List ℕ → Type 0
+FailsLength file = IsTooShort file
+
+abbrev pub FailsMagic : List ℕ → Type 0
+FailsMagic file = (¬ IsTooShort file) × (¬ HasMagic file)
+
 abbrev pub IsDueOfBytes : List ℕ → Due → Type 0
 IsDueOfBytes file due =
-    (IsTooShort file × (due ≡ answers (ElfRefused (header_fault 1))))
-    ⊎ ((¬ IsTooShort file) × (¬ HasMagic file) × (due ≡ answers (ElfRefused (header_fault 2))))
-    ⊎ ((¬ IsTooShort file) × HasMagic file × IsDueOfHeader due)
+    (FailsLength file × (due ≡ answers (ElfRefused (header_fault 1))))
+    ⊎ (FailsMagic file × (due ≡ answers (ElfRefused (header_fault 2))))
+    ⊎ ((¬ FailsLength file) × (¬ FailsMagic file) × IsDueOfHeader due)
 
 -- what `go` is to do, given the file that a word names, if it is there
 abbrev pub IsDueOfGo : ℕ → Option (List ℕ) → Due → Type 0

@@ -1,5 +1,4 @@
-use Rattle.std.proofs.Common.{◌≡◌, refl, sym, ap, inr}
-use Rattle.nested_cli.proofs.DeedLemmas.{answers_due, due_of_image}
+use Rattle.nested_cli.proofs.DeedLemmas.{due_of_image}
 use Rattle.nested_cli.proofs.list.list_elf.Goals as goal
 
 pub returns-in-Ok-clause-comes : goal.returns-in-Ok-clause-comes

@@ -7,15 +7,11 @@ use Rattle.nested_cli.proofs.list.write_runs.Goals as goal
 
 pub loop-run-preserved : goal.loop-run-preserved
 loop-run-preserved g c =
-    let next = runs_next (image_of c.args.image.now).code c.ranges-runs.result.now c.loop-run.run-index (record { first = 0; words = 0 }) c.loop-run-test.true in
+    let next = runs_next (image_of c.args.image.now).code c.args.runs.now c.loop-run.run-index (record { first = 0; words = 0 }) c.loop-run-test.true in
     (Leads-more _ _ _ _ _ _ _ next c.loop-run.invariant.0 c.in_ok-write_run.ensures.ok, c.in_ok-write_run.ensures.count.stays (refl {a = false}) ∙ c.loop-run.invariant.1)
 
 pub returns-in_err-write_run-clause-err : goal.returns-in_err-write_run-clause-err
 returns-in_err-write_run-clause-err g c =
     let p = err_from_is_err_and c.from_residual.result c.from_residual.ensures.1 in
-    let next = runs_next (image_of c.args.image.now).code c.ranges-runs.result.now c.loop-run.run-index (record { first = 0; words = 0 }) c.loop-run-test.true in
-    rw (p.1) record {
-      text = runs_lines (image_of c.args.image.now).code c.ranges-runs.result.now;
-      is_listing = record { runs = c.ranges-runs.result.now; are_runs = c.ranges-runs.ensures; lines = refl };
-      took = Leads-part _ _ _ _ _ _ _ next c.loop-run.invariant.0 c.in_err-write_run.ensures.err;
-    }
+    let next = runs_next (image_of c.args.image.now).code c.args.runs.now c.loop-run.run-index (record { first = 0; words = 0 }) c.loop-run-test.true in
+    rw (p.1) (Leads-part _ _ _ _ _ _ _ next c.loop-run.invariant.0 c.in_err-write_run.ensures.err)
