@@ -1,9 +1,11 @@
 -- How deeds follow one another.
-use Rattle.std.proofs.Common.{◌≡◌, ◌⊎◌, ℕ, List, [], ◌∷◌, drop, Option, Some, None, Result, Ok, Err, refl, sym, ◌∙◌, ap, inl, inr}
+use Rattle.std.proofs.Common.{◌≡◌, ◌⊎◌, ℕ, List, [], ◌∷◌, drop, Option, Some, None, option_map, Result, Ok, Err, refl, sym, ◌∙◌, ap, subst, inl, inr}
 use Rattle.std.specs.Prelude.{IfSome, IfOk, IfErr, Vec}
 use Rattle.std.specs.declared.alloc.Global.{Global}
 use Rattle.std.specs.Io.KnownBytes.{Appends}
-use Rattle.nv_outside.specs.Files.{Files, Finds, SameFiles, OthersStay, SetsFile}
+use Rattle.nv_outside.specs.Files.{Files, Finds, SameFiles, OthersStay, SetsFile, Stores}
+use Rattle.nv_outside.specs.declared.shelf_error.ShelfError.{ShelfError}
+use Rattle.nv_outside.specs.declared.shelf_error.ShelfError.TheVariants.{Failed}
 use Rattle.nv_outside.specs.Gains.{AppendsPart}
 use Rattle.nested_cli.specs.declared.done.Done.{Done}
 use Rattle.nested_cli.specs.declared.stop.Stop.{Stop}
@@ -12,12 +14,15 @@ use Rattle.nested_cli.specs.Straight.{IsRunEnd, RunsClass, main_class}
 use Rattle.elf_reader.specs.declared.elf_fault.ElfFault.{ElfFault}
 use Rattle.elf_reader.specs.declared.range.Range.{Range}
 use Rattle.elf_reader.specs.Area.{area}
+use Rattle.elf_reader.specs.declared.elf_error.ElfError.{ElfError}
+use Rattle.elf_reader.specs.declared.elf_error.ElfError.TheVariants.{Refused}
+use Rattle.elf_reader.specs.Check.{IsAnswer}
 use Rattle.elf_reader.specs.Fault.{elf_fault, IsRunsOf}
 use Rattle.elf_image.specs.Refusals.{image_fault}
 use Rattle.elf_image.specs.Start.{Source, image_of}
 use Rattle.nested_cli.specs.Listing.{source, listed, due_by, due_of_runs, IsDueOfListed}
 use Rattle.nested_cli.specs.declared.done.Done.TheVariants.{ElfRefused}
-use Rattle.nested_cli.specs.Deeds.{World, Deed, prepares, stores, prints, plays, Due, Stays, LosesRead, LosesFront, DoesDeed, StopsDeed, DoesAll, StopsIn, Works, StopsEarly, Comes, world, answers}
+use Rattle.nested_cli.specs.Deeds.{World, Deed, prepares, stores, prints, plays, Due, Stays, LosesRead, LosesFront, DoesDeed, StopsStore, StopsDeed, DoesAll, StopsIn, Works, StopsEarly, Comes, world, answers}
 
 pub same_files : (files : Option Files) → SameFiles files files
 same_files None = tt
@@ -47,6 +52,10 @@ same_then_others (Some a) (Some b) (Some c) name p q = λ other h. q other h ∙
 pub stays_then : (w u v : World) → Stays w u → Stays u v → Stays w v
 stays_then w u v p q = (same_then_same _ _ _ p.0 q.0, q.1 ∙ p.1, q.2 ∙ p.2, q.3 ∙ p.3)
 
+same_then_stop : (a b c : Option Files) (name : List ℕ) (stop : Stop) → SameFiles a b → StopsStore b c name stop → StopsStore a c name stop
+same_then_stop a b c name stop p (inl q) = inl (same_then_same a b c p q.0, q.1)
+same_then_stop a b c name stop p (inr q) = inr (same_then_others a b c name p q.0, q.1)
+
 stays_then_deed : (deed : Deed) (w u v : World) → Stays w u → DoesDeed deed u v → DoesDeed deed w v
 stays_then_deed prepares w u v p q = stays_then w u v p q
 stays_then_deed (stores name bytes) w u v p q = (same_then_set _ _ _ _ _ p.0 q.0, q.1 ∙ p.1, q.2 ∙ p.2, q.3 ∙ p.3)
@@ -55,8 +64,7 @@ stays_then_deed (plays n out err) w u v p q = (same_then_same _ _ _ p.0 q.0, rw 
 
 stays_then_stop : (deed : Deed) (w u v : World) (stop : Stop) → Stays w u → StopsDeed deed u v stop → StopsDeed deed w v stop
 stays_then_stop prepares w u v stop p q = (stays_then w u v p q.0, q.1)
-stays_then_stop (stores name bytes) w u v stop p (inl q) = inl (stays_then w u v p q.0, q.1)
-stays_then_stop (stores name bytes) w u v stop p (inr q) = inr (same_then_others _ _ _ _ p.0 q.0, q.1 ∙ p.1, q.2 ∙ p.2, q.3 ∙ p.3, q.4)
+stays_then_stop (stores name bytes) w u v stop p q = (same_then_stop _ _ _ name stop p.0 q.0, q.1 ∙ p.1, q.2 ∙ p.2, q.3 ∙ p.3)
 stays_then_stop (prints text) w u v stop p q = (same_then_same _ _ _ p.0 q.0, q.1 ∙ p.1, rw (sym p.2) q.2, q.3 ∙ p.3, q.4)
 stays_then_stop (plays n out err) w u v stop p q = (same_then_same _ _ _ p.0 q.0, rw (sym p.1) q.1, rw (sym p.2) q.2, rw (sym p.3) q.3, q.4)
 
@@ -100,17 +108,19 @@ load_stopped IsDue name None new rest out err stop p e = tt
 load_stopped IsDue name (Some files) new rest out err stop p e = inl ((p, refl, refl, refl), e)
 
 -- what was found, by the files that are told
-pub found_none : (old : Option Files) (name : List ℕ) → Finds old name None → IfSome old (λ files. None ≡ files name)
-found_none None name e = tt
-found_none (Some files) name e = e
+found : (old : Option Files) (name : List ℕ) (v : Option (Vec ℕ Global)) → Finds old name v → IfSome old (λ files. option_map (λ v. v.items) v ≡ files name)
+found None name v e = tt
+found (Some files) name v e = e
 
-pub found_some : (old : Option Files) (name : List ℕ) (v : Vec ℕ Global) → Finds old name (Some v) → IfSome old (λ files. Some v.items ≡ files name)
-found_some None name v e = tt
-found_some (Some files) name v e = e
+pub found_none : (old : Option Files) (name : List ℕ) (v : Option (Vec ℕ Global)) → v ≡ None → Finds old name v → IfSome old (λ files. None ≡ files name)
+found_none old name v none e = found old name None (subst (Finds old name) none e)
+
+pub found_some : (old : Option Files) (name : List ℕ) (v : Option (Vec ℕ Global)) (file : Vec ℕ Global) → v ≡ Some file → Finds old name v → IfSome old (λ files. Some file.items ≡ files name)
+found_some old name v file some e = found old name (Some file) (subst (Finds old name) some e)
 
 -- a text was printed, or a part of it
 pub printed : (files : Option Files) (rest out out' err : Option (List ℕ)) (text : List ℕ) (answer : Done) → Appends out out' text → Works (record { deeds = prints text ∷ []; answer = answer }) (world files rest out err) (world files rest out' err) (Ok answer)
-printed files rest out out' err text answer p = (refl, world files rest out' err, (same_files files, refl, p, refl), stays (world files rest out' err))
+printed files rest out out' err text answer p = (refl, (world files rest out' err, (same_files files, refl, p, refl), stays (world files rest out' err)))
 
 pub print_stopped : (files : Option Files) (rest out out' err : Option (List ℕ)) (text : List ℕ) (answer : Done) (stop : Stop) → AppendsPart out out' text → (stop ≡ WriteFault) ⊎ (stop ≡ NoMemory) → Works (record { deeds = prints text ∷ []; answer = answer }) (world files rest out err) (world files rest out' err) (Err stop)
 print_stopped files rest out out' err text answer stop p e = inl (same_files files, refl, p, refl, e)
@@ -127,7 +137,7 @@ pub class_ran : (old new : Option Files) (rest out err : Option (List ℕ)) (cla
 class_ran old new rest out err class (Ok answer) p ends none = inr (
   record { deeds = stores main_class class ∷ prepares ∷ []; answer = answer },
   record { class = class; deeds = refl; ends = ends },
-  (refl, world new rest out err, (p, refl, refl, refl), world new rest out err, stays (world new rest out err), stays (world new rest out err)),
+  (refl, (world new rest out err, (p, refl, refl, refl), (world new rest out err, stays (world new rest out err), stays (world new rest out err)))),
 )
 class_ran old new rest out err class (Err stop) p none e = inr (
   record { deeds = stores main_class class ∷ prepares ∷ []; answer = Done.NotBuilt },
@@ -135,22 +145,39 @@ class_ran old new rest out err class (Err stop) p none e = inr (
   inr (world new rest out err, (p, refl, refl, refl), inl (stays (world new rest out err), inr e)),
 )
 
-pub class_not_stored : (old new : Option Files) (rest out err : Option (List ℕ)) (class : List ℕ) → OthersStay old new main_class → Comes RunsClass (world old rest out err) (world new rest out err) (Err ShelfFault)
-class_not_stored old new rest out err class p = inr (
+pub class_not_stored : (old new : Option Files) (rest out err : Option (List ℕ)) (class : List ℕ) (error : ShelfError) → error ≡ Failed → Stores old new main_class class (Err error) → Comes RunsClass (world old rest out err) (world new rest out err) (Err ShelfFault)
+class_not_stored old new rest out err class error failed stored = let p : OthersStay old new main_class = subst (λ e. Stores old new main_class class (Err e)) failed stored in inr (
   record { deeds = stores main_class class ∷ prepares ∷ []; answer = Done.NotBuilt },
   record { class = class; deeds = refl; ends = inr (inr refl) },
-  inl (inr (p, refl, refl, refl, refl)),
+  inl (inr (p, refl), refl, refl, refl),
 )
 
 -- an image's listing is what is due of its file and runs
-pub due_of_image : (file : List ℕ) (runs : List Range) (i : Source) (w v : World) (ended : Result Done Stop) → image_fault file runs 256 64 ≡ None → i ≡ source file → Works (listed (image_of i).code runs) w v ended → Comes (λ due. due ≡ due_of_runs file runs) w v ended
-due_of_image file runs i w v ended passed made works =
+pub due_of_image : (file : List ℕ) (runs these : List Range) (i : Source) (w v : World) (ended : Result Done Stop) → image_fault file runs 256 64 ≡ None → i ≡ source file → these ≡ runs → Works (listed (image_of i).code these) w v ended → Comes (λ due. due ≡ due_of_runs file runs) w v ended
+due_of_image file runs these i w v ended passed made same works =
     let e : due_of_runs file runs ≡ listed (image_of (source file)).code runs = ap (λ f. due_by f file runs) passed in
-    inr (listed (image_of i).code runs, ap (λ s. listed (image_of s).code runs) made ∙ sym e, works)
+    inr (listed (image_of i).code these, ap (λ s. listed (image_of s).code these) made ∙ ap (listed (image_of (source file)).code) same ∙ sym e, works)
 
 -- a file that is accepted, and one that is not
-pub listed_file : (file : List ℕ) (runs : List Range) (w v : World) (ended : Result Done Stop) → elf_fault file ≡ None → IsRunsOf (area file) runs → Comes (λ due. due ≡ due_of_runs file runs) w v ended → Comes (IsDueOfListed file) w v ended
-listed_file file runs w v ended accepted are_runs comes = due_as _ (IsDueOfListed file) w v ended (λ due e. rw accepted (runs, are_runs, e)) comes
+listed_now : (file : List ℕ) (runs : List Range) (w v : World) (ended : Result Done Stop) → elf_fault file ≡ None → IsRunsOf (area file) runs → Comes (λ due. due ≡ due_of_runs file runs) w v ended → Comes (IsDueOfListed file) w v ended
+listed_now file runs w v ended accepted are_runs comes = due_as _ (IsDueOfListed file) w v ended (λ due e. rw accepted (runs, are_runs, e)) comes
 
-pub refused_file : (file : List ℕ) (f : ElfFault) (w : World) → elf_fault file ≡ Some f → Comes (IsDueOfListed file) w w (Ok (ElfRefused f))
-refused_file file f w refused = answers_due (IsDueOfListed file) (ElfRefused f) w (rw refused refl)
+pub listed_file : (file this : List ℕ) (runs : List Range) (w v : World) (ended : Result Done Stop) → elf_fault file ≡ None → IsRunsOf (area file) runs → this ≡ file → Comes (λ due. due ≡ due_of_runs this runs) w v ended → Comes (IsDueOfListed file) w v ended
+listed_file file this runs w v ended accepted are_runs same comes = subst (λ f. Comes (λ due. due ≡ due_of_runs f runs) w v ended → Comes (IsDueOfListed file) w v ended) (sym same) (listed_now file runs w v ended accepted are_runs) comes
+
+pub refused_file : (file : List ℕ) (f : ElfFault) (error : ElfError) (w : World) → error ≡ Refused f → IsAnswer (elf_fault file) error → Comes (IsDueOfListed file) w w (Ok (ElfRefused f))
+refused_file file f error w is answer = let refused : elf_fault file ≡ Some f = subst (IsAnswer (elf_fault file)) is answer in answers_due (IsDueOfListed file) (ElfRefused f) w (rw refused refl)
+
+-- one deed before others
+pub works_more : (deed : Deed) (deeds : List Deed) (answer : Done) (w u v : World) (ended : Result Done Stop) → DoesDeed deed w u → Works (record { deeds = deeds; answer = answer }) u v ended → Works (record { deeds = deed ∷ deeds; answer = answer }) w v ended
+works_more deed deeds answer w u v (Ok d) p q = (q.0, (u, p, q.1))
+works_more deed deeds answer w u v (Err stop) p q = inr (u, p, q)
+
+-- the words mean a command, or none
+pub performed : (c : Command) (words : List (List ℕ)) (F : Option Files) (w v : World) (ended : Result Done Stop) → command_of words ≡ Ok c → IfSome F (λ files. Comes (IsDueOf c files) w v ended) → IfSome F (λ files. Comes (IsDue words files) w v ended)
+performed c words None w v ended e h = tt
+performed c words (Some files) w v ended e h = due_as (IsDueOf c files) (IsDue words files) w v ended (λ due d. rw e d) h
+
+pub misused : (u fault : Usage) (error : WordsError) (words : List (List ℕ)) (F : Option Files) (w : World) → error ≡ WordsError.Usage fault → command_of words ≡ Err fault → IfSome F (λ files. Comes (IsDue words files) w w (Ok (Done.Usage (usage_number fault))))
+misused u fault error words None w is e = tt
+misused u fault error words (Some files) w is e = answers_due (IsDue words files) (Done.Usage (usage_number fault)) w (rw e refl)

@@ -1,3 +1,4 @@
 pub mod DeedLemmas
 pub mod PieceLemmas
 pub mod ListingLemmas
+pub mod AnswerLemmas

@@ -1,32 +1,56 @@
 -- What the program is to do, by its words and the files that are there, and what it leaves.
-use Rattle.std.specs.Prelude.{◌≡◌, ℕ, ◌⊎◌, List, Option, Some, None, if◌then◌else◌, Result, MatchOption}
+use Rattle.std.specs.Prelude.{◌≡◌, ℕ, ◌⊎◌, List, Option, Some, None, Result, Ok, Err}
 use Rattle.std.specs.Io.KnownBytes.{Appends}
+use Rattle.command_words.specs.Word.{Text}
+use Rattle.command_words.specs.Meaning.{command_of}
+use Rattle.command_words.specs.declared.command.Command.{Command}
+use Rattle.command_words.specs.declared.command.Command.TheVariants as command
+use Rattle.command_words.specs.declared.usage.Usage.{Usage}
+use Rattle.command_words.specs.declared.usage.Usage.TheVariants.{NoCommand, NotLawful}
 use Rattle.nv_outside.specs.Files.{Files, SameFiles}
 use Rattle.nv_outside.specs.Gains.{AppendsPart}
 use Rattle.nested_cli.specs.declared.done.Done.{Done}
-use Rattle.nested_cli.specs.declared.done.Done.TheVariants.{Usage, WriteFault}
+use Rattle.nested_cli.specs.declared.done.Done.TheVariants as done
 use Rattle.nested_cli.specs.declared.stop.Stop.{Stop}
-use Rattle.nested_cli.specs.Usage.{usage_of, is_list, word_of}
 use Rattle.nested_cli.specs.Line.{line_of}
 use Rattle.nested_cli.specs.Deeds.{World, Due, Comes, answers, done_of}
 use Rattle.nested_cli.specs.Listing.{IsDueOfList}
 use Rattle.nested_cli.specs.Straight.{IsDueOfGo}
+use Rattle.nested_cli.specs.Assembly.{IsDueOfAsm}
 
--- what the words of a command ask for
-abbrev pub IsDue : List (List ℕ) → Files → Due → Type 0
-IsDue words files due = MatchOption (usage_of words)
-    (if is_list words then IsDueOfList 1 (files (word_of words 1)) due else IsDueOfGo 1 (files (word_of words 1)) due)
-    (λ kind. due ≡ answers (Usage kind))
+-- the number of what is wrong with the words
+abbrev pub usage_number : Usage → ℕ
+usage_number NoCommand = 1
+usage_number NotLawful = 2
+
+-- what a command is to do
+abbrev pub IsDueOf : Command → Files → Due → Type 0
+IsDueOf (command.Go input name pages method_bytes session) files due = IsDueOfGo input.word (files input.text) due
+IsDueOf (command.Translate input name pages method_bytes) files due = due ≡ answers done.NotBuilt
+IsDueOf (command.Interp input name pages session) files due = due ≡ answers done.NotBuilt
+IsDueOf (command.Run name words session) files due = due ≡ answers done.NotBuilt
+IsDueOf (command.Verify name) files due = due ≡ answers done.NotBuilt
+IsDueOf (command.Asm input output) files due = IsDueOfAsm input.word output (files input.text) due
+IsDueOf (command.List input) files due = IsDueOfList input.word (files input.text) due
+IsDueOf (command.Make count method_bytes) files due = due ≡ answers done.NotBuilt
+
+-- what the words ask for
+abbrev pub IsDueBy : Result Command Usage → Files → Due → Type 0
+IsDueBy (Ok c) files due = IsDueOf c files due
+IsDueBy (Err usage) files due = due ≡ answers (done.Usage (usage_number usage))
+
+abbrev pub IsDue : List Text → Files → Due → Type 0
+IsDue words files due = IsDueBy (command_of words) files due
 
 -- the answer's line is written to error output last; where that fails, the answer is a write fault
 abbrev pub Says : List ℕ → World → World → Done → Done → Type 0
-Says line u v answer done =
+Says line u v answer said =
     SameFiles u.files v.files × (v.rest ≡ u.rest) × (v.out ≡ u.out)
-    × (((done ≡ answer) × Appends u.err v.err line) ⊎ ((done ≡ WriteFault) × AppendsPart u.err v.err line))
+    × (((said ≡ answer) × Appends u.err v.err line) ⊎ ((said ≡ done.WriteFault) × AppendsPart u.err v.err line))
 
 -- What a call of the program leaves, and its answer: its work, done or stopped on the way, and then the answer's line.
-pub record Does (words : List (List ℕ)) (files : Files) (w v : World) (done : Done) : Type 0 where
+pub record Does (words : List Text) (files : Files) (w v : World) (said : Done) : Type 0 where
   pub worked : World
   pub ended : Result Done Stop
   pub comes : Comes (IsDue words files) w worked ended
-  pub says : Says (line_of words (done_of ended)) worked v (done_of ended) done
+  pub says : Says (line_of words (done_of ended)) worked v (done_of ended) said

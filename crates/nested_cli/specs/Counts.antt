@@ -1,5 +1,7 @@
 -- Which answers say that a call of the outside failed.
 use Rattle.std.specs.Prelude.{Bool, true, false, Result, Ok, Err}
+use Rattle.nested_cli.specs.declared.done.Done.{Done}
+use Rattle.nested_cli.specs.declared.done.Done.TheVariants as done
 use Rattle.nested_cli.specs.declared.stop.Stop.{Stop}
 use Rattle.nested_cli.specs.declared.stop.Stop.TheVariants.{ReadFault, WriteFault, ShelfFault, NoMemory}
 
@@ -33,3 +35,22 @@ write_stopped (Err stop) = is_write_stop stop
 abbrev pub read_stopped : {A : Type 0} → Result A Stop → Bool
 read_stopped (Ok a) = false
 read_stopped (Err stop) = is_read_stop stop
+
+-- an answer that says that the call was stopped
+abbrev pub is_stop : Done → Bool
+is_stop done.Good = false
+is_stop (done.Exited status) = false
+is_stop (done.Faulted f) = false
+is_stop (done.Usage kind) = false
+is_stop (done.NoInput word) = false
+is_stop (done.ElfRefused f) = false
+is_stop (done.ImageRefused f) = false
+is_stop (done.ArgsTooLong n) = false
+is_stop (done.FilesTooLarge n) = false
+is_stop (done.AsmRefused f) = false
+is_stop done.Spent = false
+is_stop done.ReadFault = true
+is_stop done.WriteFault = true
+is_stop done.ShelfFault = true
+is_stop done.NoMemory = true
+is_stop done.NotBuilt = false

@@ -54,12 +54,15 @@ DoesDeed (stores name bytes) w v = SetsFile w.files v.files name bytes × (v.res
 DoesDeed (prints text) w v = SameFiles w.files v.files × (v.rest ≡ w.rest) × Appends w.out v.out text × (v.err ≡ w.err)
 DoesDeed (plays n out err) w v = SameFiles w.files v.files × LosesRead w.rest v.rest n × Appends w.out v.out out × Appends w.err v.err err
 
--- What may stop a deed, and what is done of it then. A guest's run takes no memory. A file that could not be stored may hold anything.
+-- Nothing is stored for want of memory; where the shelf failed, the file may hold anything.
+abbrev pub StopsStore : Option Files → Option Files → List ℕ → Stop → Type 0
+StopsStore old new name stop = (SameFiles old new × (stop ≡ NoMemory)) ⊎ (OthersStay old new name × (stop ≡ ShelfFault))
+
+-- What may stop a deed, and what is done of it then. A guest's run takes no memory.
 abbrev pub StopsDeed : Deed → World → World → Stop → Type 0
 StopsDeed prepares w v stop = Stays w v × ((stop ≡ ShelfFault) ⊎ (stop ≡ NoMemory))
 StopsDeed (stores name bytes) w v stop =
-    (Stays w v × (stop ≡ NoMemory))
-    ⊎ (OthersStay w.files v.files name × (v.rest ≡ w.rest) × (v.out ≡ w.out) × (v.err ≡ w.err) × (stop ≡ ShelfFault))
+    StopsStore w.files v.files name stop × (v.rest ≡ w.rest) × (v.out ≡ w.out) × (v.err ≡ w.err)
 StopsDeed (prints text) w v stop =
     SameFiles w.files v.files × (v.rest ≡ w.rest) × AppendsPart w.out v.out text × (v.err ≡ w.err)
     × ((stop ≡ WriteFault) ⊎ (stop ≡ NoMemory))

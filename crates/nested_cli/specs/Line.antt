@@ -1,12 +1,12 @@
 -- The status of an answer, and its line on error output.
-use Rattle.std.specs.Prelude.{ℕ, ◌+◌, ◌/◌, ◌%◌, ◌^◌, ◌++◌, List, [], ◌∷◌, codes, decimal, if◌then◌else◌, nat_lt}
+use Rattle.std.specs.Prelude.{ℕ, ◌+◌, ◌/◌, ◌%◌, ◌^◌, ◌++◌, List, [], ◌∷◌, codes, decimal, if◌then◌else◌, nat_lt, slice_get, unwrap_or}
 use Rattle.std.specs.Int.{cast_unsigned, w32}
 use Rattle.nv_events.specs.declared.fault.Fault.{Fault}
 use Rattle.elf_reader.specs.declared.elf_fault.ElfFault.{ElfFault}
 use Rattle.elf_image.specs.declared.image_fault.ImageFault.{ImageFault}
+use Rattle.mips_asm.specs.declared.asm_fault.AsmFault.{AsmFault}
 use Rattle.nested_cli.specs.declared.done.Done.{Done}
-use Rattle.nested_cli.specs.declared.done.Done.TheVariants.{Good, Exited, Faulted, Usage, NoInput, ElfRefused, ImageRefused, ReadFault, WriteFault, ShelfFault, NoMemory, NotBuilt}
-use Rattle.nested_cli.specs.Usage.{word_of}
+use Rattle.nested_cli.specs.declared.done.Done.TheVariants.{Good, Exited, Faulted, Usage, NoInput, ElfRefused, ImageRefused, ArgsTooLong, FilesTooLarge, AsmRefused, Spent, ReadFault, WriteFault, ShelfFault, NoMemory, NotBuilt}
 
 -- the statuses of sysexits.h where one fits, and the program's own status modulo 256
 abbrev pub status_of : Done → ℕ
@@ -17,6 +17,10 @@ status_of (Usage kind) = 64
 status_of (NoInput word) = 66
 status_of (ElfRefused f) = 65
 status_of (ImageRefused f) = 67
+status_of (ArgsTooLong n) = 68
+status_of (FilesTooLarge n) = 69
+status_of (AsmRefused f) = 73
+status_of Spent = 78
 status_of ReadFault = 74
 status_of WriteFault = 75
 status_of ShelfFault = 76
@@ -46,15 +50,30 @@ elf_line f = joined (codes "nested: elf " ∷ decimal f.kind ∷ codes " " ∷ d
 abbrev pub image_line : ImageFault → List ℕ
 image_line f = joined (codes "nested: image " ∷ decimal f.kind ∷ codes " " ∷ decimal f.number ∷ codes " " ∷ hex_word f.word ∷ codes "\n" ∷ [])
 
+-- a text and a number, as a line
+abbrev pub number_line : List ℕ → ℕ → List ℕ
+number_line text n = joined (text ∷ decimal n ∷ codes "\n" ∷ [])
+
+abbrev pub asm_line : AsmFault → List ℕ
+asm_line f = joined (codes "nested: asm " ∷ decimal f.line ∷ codes " " ∷ decimal f.kind ∷ codes "\n" ∷ [])
+
+-- the word with this number, from 0
+abbrev pub word_of : List (List ℕ) → ℕ → List ℕ
+word_of words number = unwrap_or (slice_get words number) []
+
 -- the line of an answer to these words, with its end
 abbrev pub line_of : List (List ℕ) → Done → List ℕ
 line_of words Good = []
 line_of words (Exited status) = []
 line_of words (Faulted f) = fault_line f
-line_of words (Usage kind) = joined (codes "nested: usage " ∷ decimal kind ∷ codes "\n" ∷ [])
+line_of words (Usage kind) = number_line (codes "nested: usage ") kind
 line_of words (NoInput word) = joined (codes "nested: no file " ∷ word_of words word ∷ codes "\n" ∷ [])
 line_of words (ElfRefused f) = elf_line f
 line_of words (ImageRefused f) = image_line f
+line_of words (ArgsTooLong n) = number_line (codes "nested: arguments ") n
+line_of words (FilesTooLarge n) = number_line (codes "nested: files ") n
+line_of words (AsmRefused f) = asm_line f
+line_of words Spent = codes "nested: spent\n"
 line_of words ReadFault = codes "nested: read fault\n"
 line_of words WriteFault = []
 line_of words ShelfFault = codes "nested: shelf fault\n"

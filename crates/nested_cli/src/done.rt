@@ -1,5 +1,6 @@
 use elf_image::ImageFault;
 use elf_reader::ElfFault;
+use mips_asm::AsmFault;
 use nv_events::Fault;
 
 /// How a call of the program ended.
@@ -22,6 +23,14 @@ pub enum Done {
     ElfRefused(ElfFault),
     /// The program has no image in memory: the first check that it fails.
     ImageRefused(ImageFault),
+    /// The argument block would have this number of bytes, of which there may be 4,096.
+    ArgsTooLong(u64),
+    /// The files would need this number of blocks, and the disk has fewer.
+    FilesTooLarge(u64),
+    /// The assembly text is faulty: its first faulty line.
+    AsmRefused(AsmFault),
+    /// The run made as many steps as it may, without an end.
+    Spent,
     /// Input failed in this call.
     ReadFault,
     /// Output or error output failed in this call.
@@ -49,6 +58,10 @@ impl Done {
             Done::ElfRefused(_) => 65,
             Done::NoInput(_) => 66,
             Done::ImageRefused(_) => 67,
+            Done::ArgsTooLong(_) => 68,
+            Done::FilesTooLarge(_) => 69,
+            Done::AsmRefused(_) => 73,
+            Done::Spent => 78,
             Done::ReadFault => 74,
             Done::WriteFault => 75,
             Done::ShelfFault => 76,

@@ -1,7 +1,7 @@
 ghost use Rattle.std.specs.Prelude.{◌≡◌, ◌≤◌, ℕ, ℤ, ◌⊎◌, List, Option, IfSome, IfOk, IfErr, vec_len, false};
 ghost use Rattle.nv_events.specs.declared.fault.Fault.{Fault};
 ghost use Rattle.nv_outside.specs.Faults.{CountsFailure};
-ghost use Rattle.nested_cli.specs.Counts.{shelf_stopped, write_stopped};
+ghost use Rattle.nested_cli.specs.Counts.{is_stop, read_stopped, shelf_stopped, write_stopped};
 ghost use Rattle.nested_cli.specs.Deeds.{Comes, world};
 ghost use Rattle.nested_cli.specs.Straight.{IsDueOfBytes, IsDueOfGo, RunsClass, IsRunEnd, header_fault};
 
@@ -21,8 +21,10 @@ const MAIN_CLASS: &str = "Main.class";
 /// Loads a program, translates it, stores its class, and runs the class.
 pub fn go<H: Shelf>(alloc: Global, word: u32, name: &str, shelf: &mut H) -> Result<Done, Stop>
     ensures comes { (rest out err : Option (List ℕ)) → IfSome (H.files shelf.old) (λ files. Comes (IsDueOfGo word (files name.now)) (world (H.files shelf.old) rest out err) (world (H.files shelf.new) rest out err) result) }
+    ensures answer { IfOk result (λ d. is_stop d ≡ false) }
     ensures count { CountsFailure (shelf_stopped result) (H.faults shelf.old) (H.faults shelf.new) }
     ensures no_write { write_stopped result ≡ false }
+    ensures no_read { read_stopped result ≡ false }
 {
     match load(alloc, shelf, name) {
         Ok(Some(file)) => go_file(alloc, file.as_slice(), shelf),
@@ -34,8 +36,10 @@ pub fn go<H: Shelf>(alloc: Global, word: u32, name: &str, shelf: &mut H) -> Resu
 /// Translates a program, stores its class, and runs the class.
 fn go_file<H: Shelf>(alloc: Global, file: &[u8], shelf: &mut H) -> Result<Done, Stop>
     ensures comes { (rest out err : Option (List ℕ)) → Comes (IsDueOfBytes file.now) (world (H.files shelf.old) rest out err) (world (H.files shelf.new) rest out err) result }
+    ensures answer { IfOk result (λ d. is_stop d ≡ false) }
     ensures count { CountsFailure (shelf_stopped result) (H.faults shelf.old) (H.faults shelf.new) }
     ensures no_write { write_stopped result ≡ false }
+    ensures no_read { read_stopped result ≡ false }
 {
     match read_thin(alloc, file) {
         Ok(thin) => go_thin(alloc, &thin, shelf),
@@ -57,8 +61,10 @@ fn refused(kind: u32) -> Done
 fn go_thin<H: Shelf>(alloc: Global, thin: &Thin, shelf: &mut H) -> Result<Done, Stop>
     requires { vec_len thin.now.words ≤ 256 }
     ensures comes { (rest out err : Option (List ℕ)) → Comes RunsClass (world (H.files shelf.old) rest out err) (world (H.files shelf.new) rest out err) result }
+    ensures answer { IfOk result (λ d. is_stop d ≡ false) }
     ensures count { CountsFailure (shelf_stopped result) (H.faults shelf.old) (H.faults shelf.new) }
     ensures no_write { write_stopped result ≡ false }
+    ensures no_read { read_stopped result ≡ false }
 {
     match straight_class(alloc, thin) {
         Ok(class) => go_class(alloc, class.as_slice(), shelf),
@@ -69,8 +75,10 @@ fn go_thin<H: Shelf>(alloc: Global, thin: &Thin, shelf: &mut H) -> Result<Done, 
 /// Stores a class, and runs it.
 fn go_class<H: Shelf>(alloc: Global, class: &[u8], shelf: &mut H) -> Result<Done, Stop>
     ensures comes { (rest out err : Option (List ℕ)) → Comes RunsClass (world (H.files shelf.old) rest out err) (world (H.files shelf.new) rest out err) result }
+    ensures answer { IfOk result (λ d. is_stop d ≡ false) }
     ensures count { CountsFailure (shelf_stopped result) (H.faults shelf.old) (H.faults shelf.new) }
     ensures no_write { write_stopped result ≡ false }
+    ensures no_read { read_stopped result ≡ false }
 {
     match shelf.store(MAIN_CLASS, class) {
         Ok(()) => run_class(alloc, class),

@@ -1,6 +1,7 @@
 //! The commands of `nested`, over any shelf of files, source of input and sinks of output.
 #![tactic(auto)]
 
+mod asm;
 mod done;
 mod go;
 mod hexadecimal;
@@ -9,9 +10,9 @@ mod list;
 mod load;
 mod program;
 mod stop;
+mod store;
 #[cfg(test)]
 mod tests;
-mod usage;
 
 pub use done::Done;
 pub use program::nested;

@@ -2,14 +2,15 @@ ghost use Rattle.std.specs.Prelude.{◌≡◌, OnOk, OnErr, decimal, is_err, map
 ghost use Rattle.std.specs.Io.KnownBytes.{Appends};
 ghost use Rattle.nv_outside.specs.Faults.{CountsFailure};
 ghost use Rattle.nv_outside.specs.Gains.{AppendsPart};
-ghost use Rattle.nested_cli.specs.Line.{elf_line, fault_line, image_line, joined, line_of};
-ghost use Rattle.nested_cli.specs.Usage.{texts, word_of};
+ghost use Rattle.nested_cli.specs.Line.{elf_line, fault_line, image_line, joined, asm_line, line_of, number_line, word_of};
+ghost use Rattle.command_words.specs.Word.{texts};
 
 use crate::done::Done;
 use crate::hexadecimal::hexadecimal;
 use elf_image::ImageFault;
 use elf_reader::ElfFault;
 use itoa::Buffer;
+use mips_asm::AsmFault;
 use nv_events::Fault;
 use nv_outside::{Failed, Sink, write_all};
 
@@ -25,10 +26,11 @@ pub fn write_line<E: Sink>(err: &mut E, words: &[String], done: &Done) -> Result
         Done::ShelfFault => write_all(err, b"nested: shelf fault\n"),
         Done::NoMemory => write_all(err, b"nested: no memory\n"),
         Done::NotBuilt => write_all(err, b"nested: not built\n"),
-        Done::Usage(kind) => {
-            let mut digits = Buffer::new();
-            write_pieces(err, &[b"nested: usage ", decimal(&mut digits, kind), b"\n"])
-        }
+        Done::Usage(kind) => write_number(err, b"nested: usage ", u64::from(kind)),
+        Done::ArgsTooLong(bytes) => write_number(err, b"nested: arguments ", bytes),
+        Done::FilesTooLarge(blocks) => write_number(err, b"nested: files ", blocks),
+        Done::AsmRefused(fault) => write_asm_fault(err, fault),
+        Done::Spent => write_all(err, b"nested: spent\n"),
         Done::NoInput(word) => {
             let name = word_of(words, word);
             write_pieces(err, &[b"nested: no file ", name, b"\n"])
@@ -90,6 +92,28 @@ fn write_image_fault<E: Sink>(err: &mut E, fault: ImageFault) -> Result<(), Fail
         err,
         &[b"nested: image ", kind, b" ", number, b" ", &word, b"\n"],
     )
+}
+
+/// Writes the line of a faulty text.
+fn write_asm_fault<E: Sink>(err: &mut E, fault: AsmFault) -> Result<(), Failed>
+    ensures ok { OnOk result (Appends (E.taken err.old) (E.taken err.new) (asm_line fault)) }
+    ensures err { OnErr result (AppendsPart (E.taken err.old) (E.taken err.new) (asm_line fault)) }
+    ensures count { CountsFailure (is_err result) (E.faults err.old) (E.faults err.new) }
+{
+    let (mut lines, mut kinds) = (Buffer::new(), Buffer::new());
+    let line = decimal(&mut lines, fault.line);
+    let kind = decimal(&mut kinds, fault.kind);
+    write_pieces(err, &[b"nested: asm ", line, b" ", kind, b"\n"])
+}
+
+/// Writes a text and a number, as a line. Takes no memory.
+pub fn write_number<E: Sink>(sink: &mut E, text: &[u8], number: u64) -> Result<(), Failed>
+    ensures ok { OnOk result (Appends (E.taken sink.old) (E.taken sink.new) (number_line text.now number)) }
+    ensures err { OnErr result (AppendsPart (E.taken sink.old) (E.taken sink.new) (number_line text.now number)) }
+    ensures count { CountsFailure (is_err result) (E.faults sink.old) (E.faults sink.new) }
+{
+    let mut digits = Buffer::new();
+    write_pieces(sink, &[text, decimal_long(&mut digits, number), b"\n"])
 }
 
 /// A number in decimal digits.

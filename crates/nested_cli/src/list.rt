@@ -1,4 +1,4 @@
-ghost use Rattle.std.specs.Prelude.{◌≡◌, ◌⊎◌, Option, None, OnOk, OnErr, IfErr, IfSome, List, ℕ, false, is_err};
+ghost use Rattle.std.specs.Prelude.{◌≡◌, ◌⊎◌, Option, None, OnOk, OnErr, IfErr, IfOk, IfSome, List, ℕ, false, is_err};
 ghost use Rattle.std.specs.Io.KnownBytes.{Appends};
 ghost use Rattle.elf_reader.specs.Area.{area};
 ghost use Rattle.elf_reader.specs.Fault.{elf_fault, IsRunsOf};
@@ -8,7 +8,7 @@ ghost use Rattle.elf_image.specs.Start.{image_of};
 ghost use Rattle.nv_outside.specs.Faults.{CountsFailure};
 ghost use Rattle.nv_outside.specs.Files.{Files};
 ghost use Rattle.nv_outside.specs.Gains.{AppendsPart};
-ghost use Rattle.nested_cli.specs.Counts.{shelf_stopped, write_stopped};
+ghost use Rattle.nested_cli.specs.Counts.{is_stop, read_stopped, shelf_stopped, write_stopped};
 ghost use Rattle.nested_cli.specs.Deeds.{Comes, Works, world};
 ghost use Rattle.nested_cli.specs.Listing.{IsDueOfList, IsDueOfListed, columns, due_of_runs, line_at, listed, run_lines, runs_lines, word_line};
 
@@ -38,8 +38,10 @@ pub fn list<H: Shelf, O: Sink>(
     out: &mut O,
 ) -> Result<Done, Stop>
     ensures comes { (rest err : Option (List ℕ)) → IfSome (H.files shelf.old) (λ files. Comes (IsDueOfList word (files name.now)) (world (H.files shelf.old) rest (O.taken out.old) err) (world (H.files shelf.new) rest (O.taken out.new) err) result) }
+    ensures answer { IfOk result (λ d. is_stop d ≡ false) }
     ensures count { CountsFailure (shelf_stopped result) (H.faults shelf.old) (H.faults shelf.new) }
     ensures out_count { CountsFailure (write_stopped result) (O.faults out.old) (O.faults out.new) }
+    ensures no_read { read_stopped result ≡ false }
 {
     match load(alloc, shelf, name) {
         Ok(Some(file)) => list_file(alloc, file.as_slice(), out),
@@ -51,8 +53,10 @@ pub fn list<H: Shelf, O: Sink>(
 /// Reads a program, and writes a line for each word of its code.
 fn list_file<O: Sink>(alloc: Global, file: &[u8], out: &mut O) -> Result<Done, Stop>
     ensures comes { (files : Option Files) (rest err : Option (List ℕ)) → Comes (IsDueOfListed file.now) (world files rest (O.taken out.old) err) (world files rest (O.taken out.new) err) result }
+    ensures answer { IfOk result (λ d. is_stop d ≡ false) }
     ensures no_shelf { shelf_stopped result ≡ false }
     ensures out_count { CountsFailure (write_stopped result) (O.faults out.old) (O.faults out.new) }
+    ensures no_read { read_stopped result ≡ false }
 {
     match read_elf(alloc, file) {
         Ok(elf) => list_elf(alloc, &elf, out),
@@ -68,8 +72,10 @@ fn list_elf<O: Sink>(alloc: Global, elf: &Elf<'_>, out: &mut O) -> Result<Done, 
     requires segments { elf.now.segments.items ≡ live elf.now.file.now }
     requires code { IsRunsOf (area elf.now.file.now) elf.now.code.items }
     ensures comes { (files : Option Files) (rest err : Option (List ℕ)) → Comes (λ due. due ≡ due_of_runs elf.now.file.now elf.now.code.items) (world files rest (O.taken out.old) err) (world files rest (O.taken out.new) err) result }
+    ensures answer { IfOk result (λ d. is_stop d ≡ false) }
     ensures no_shelf { shelf_stopped result ≡ false }
     ensures out_count { CountsFailure (write_stopped result) (O.faults out.old) (O.faults out.new) }
+    ensures no_read { read_stopped result ≡ false }
 {
     match image(alloc, elf, HEAP_PAGES, STACK_PAGES) {
         Ok(image) => list_image(alloc, &image, elf.code.as_slice(), out),
@@ -86,8 +92,10 @@ fn list_image<O: Sink>(
     out: &mut O,
 ) -> Result<Done, Stop>
     ensures works { (files : Option Files) (rest err : Option (List ℕ)) → Works (listed (image_of image.now).code runs.now) (world files rest (O.taken out.old) err) (world files rest (O.taken out.new) err) result }
+    ensures answer { IfOk result (λ d. is_stop d ≡ false) }
     ensures no_shelf { shelf_stopped result ≡ false }
     ensures out_count { CountsFailure (write_stopped result) (O.faults out.old) (O.faults out.new) }
+    ensures no_read { read_stopped result ≡ false }
 {
     match write_runs(alloc, image, runs, out) {
         Ok(()) => Ok(Done::Good),

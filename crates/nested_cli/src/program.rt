@@ -1,25 +1,26 @@
-ghost use Rattle.std.specs.Prelude.{◌≡◌, ◌≢◌, ◌⊎◌, ℕ, List, Option, IfSome};
+ghost use Rattle.std.specs.Prelude.{◌≡◌, ◌≢◌, ◌⊎◌, ℕ, List, Option, IfOk, IfSome, false};
 ghost use Rattle.nv_outside.specs.Faults.{CountsFailure, Rose};
-ghost use Rattle.nested_cli.specs.Counts.{shelf_stopped, write_stopped};
-ghost use Rattle.nested_cli.specs.Commands.{Does, IsDue};
-ghost use Rattle.nested_cli.specs.Deeds.{Comes, world};
-ghost use Rattle.nested_cli.specs.Usage.{texts};
+ghost use Rattle.nested_cli.specs.Counts.{is_stop, read_stopped, shelf_stopped, write_stopped};
+ghost use Rattle.nested_cli.specs.Commands.{Does, IsDue, IsDueOf, usage_number};
+ghost use Rattle.nested_cli.specs.Deeds.{Comes, done_of, world};
+ghost use Rattle.command_words.specs.Word.{texts};
 
+use crate::asm::asm;
 use crate::done::Done;
 use crate::go::go;
 use crate::line::write_line;
 use crate::list::list;
 use crate::stop::Stop;
-use crate::usage::{is_list, usage};
+use command_words::{Command, Usage, WordsError, read_words};
 use nv_outside::{Failed, Shelf, Sink, Source};
 use std::alloc::Global;
 
 /// The program: does what its words say, over a shelf of files, a source of input and sinks of output, and writes the answer's
 /// line to `err` last.
 ///
-/// `words` are the words after the program's name, and `moment` is the time, in seconds since 1970. So far the words are
-/// `go IN`: the program in the file IN is translated, its classes are stored, and they are run; or `list IN`: a line for each
-/// word of its code is written to `out`.
+/// `words` are the words after the program's name, and `moment` is the time, in seconds since 1970. So far two
+/// commands are built: `go IN`, where the program in the file IN is translated, its classes are stored, and they are run; and `list IN`,
+/// where a line for each word of its code is written to `out`.
 ///
 /// The answer is `WriteFault` where that last write failed, or a write to `out`. Where a call of the outside failed, the answer is one of its
 /// faults: no failed call is passed over.
@@ -38,38 +39,84 @@ pub fn nested<H: Shelf, S: Source, O: Sink, E: Sink>(
     ensures shelf_sound { result ≢ Done.ShelfFault → result ≢ Done.WriteFault → H.faults shelf.new ≡ H.faults shelf.old }
     ensures out_sound { result ≢ Done.WriteFault → O.faults out.new ≡ O.faults out.old }
     ensures err_sound { result ≢ Done.WriteFault → E.faults err.new ≡ E.faults err.old }
+    ensures no_read { result ≢ Done.ReadFault }
     ensures input { input.new ≡ input.old }
 {
-    let done = match command(alloc, words, shelf, out) {
-        Ok(done) => done,
-        Err(stop) => stop.done(),
-    };
+    let done = answer(perform(alloc, words, shelf, out));
     match write_line(err, words, &done) {
         Ok(()) => done,
         Err(Failed) => Done::WriteFault,
     }
 }
 
+/// The answer of work that was done, or stopped.
+fn answer(ended: Result<Done, Stop>) -> Done
+    ensures { result ≡ done_of ended }
+{
+    match ended {
+        Ok(done) => done,
+        Err(stop) => stop.done(),
+    }
+}
+
 /// Does what the words say, but for the answer's line.
-fn command<H: Shelf, O: Sink>(
+fn perform<H: Shelf, O: Sink>(
     alloc: Global,
     words: &[String],
     shelf: &mut H,
     out: &mut O,
 ) -> Result<Done, Stop>
     ensures comes { (rest err : Option (List ℕ)) → IfSome (H.files shelf.old) (λ files. Comes (IsDue (texts words.now) files) (world (H.files shelf.old) rest (O.taken out.old) err) (world (H.files shelf.new) rest (O.taken out.new) err) result) }
+    ensures answer { IfOk result (λ d. is_stop d ≡ false) }
     ensures count { CountsFailure (shelf_stopped result) (H.faults shelf.old) (H.faults shelf.new) }
     ensures out_count { CountsFailure (write_stopped result) (O.faults out.old) (O.faults out.new) }
+    ensures no_read { read_stopped result ≡ false }
 {
-    match (usage(words), words.get(1)) {
-        (Some(kind), _) => Ok(Done::Usage(kind)),
-        (None, Some(name)) => {
-            if is_list(words) {
-                list(alloc, 1, name.as_str(), shelf, out)
-            } else {
-                go(alloc, 1, name.as_str(), shelf)
-            }
-        }
-        (None, None) => Ok(Done::Usage(2)),
+    match read_words(alloc, words) {
+        Ok(command) => perform_command(alloc, &command, shelf, out),
+        Err(WordsError::Usage(usage)) => Ok(Done::Usage(usage_number(usage))),
+        Err(WordsError::NoMemory) => Err(Stop::NoMemory),
+    }
+}
+
+/// Does what a command says.
+fn perform_command<H: Shelf, O: Sink>(
+    alloc: Global,
+    command: &Command,
+    shelf: &mut H,
+    out: &mut O,
+) -> Result<Done, Stop>
+    ensures comes { (rest err : Option (List ℕ)) → IfSome (H.files shelf.old) (λ files. Comes (IsDueOf command.now files) (world (H.files shelf.old) rest (O.taken out.old) err) (world (H.files shelf.new) rest (O.taken out.new) err) result) }
+    ensures answer { IfOk result (λ d. is_stop d ≡ false) }
+    ensures count { CountsFailure (shelf_stopped result) (H.faults shelf.old) (H.faults shelf.new) }
+    ensures out_count { CountsFailure (write_stopped result) (O.faults out.old) (O.faults out.new) }
+    ensures no_read { read_stopped result ≡ false }
+{
+    match command {
+        Command::Go { input, .. } => go(alloc, input.word, input.text.as_str(), shelf),
+        Command::List { input } => list(alloc, input.word, input.text.as_str(), shelf, out),
+        Command::Asm { input, output } => asm(
+            alloc,
+            input.word,
+            input.text.as_str(),
+            output.as_str(),
+            shelf,
+            out,
+        ),
+        Command::Translate { .. }
+        | Command::Interp { .. }
+        | Command::Run { .. }
+        | Command::Verify { .. }
+        | Command::Make { .. } => Ok(Done::NotBuilt),
+    }
+}
+
+/// The number of what is wrong with the words.
+fn usage_number(usage: Usage) -> u32
+    ensures { result ≡ usage_number usage }
+{
+    match usage {
+        Usage::NoCommand => 1,
+        Usage::NotLawful => 2,
     }
 }

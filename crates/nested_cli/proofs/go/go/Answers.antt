@@ -6,8 +6,8 @@ use Rattle.nested_cli.proofs.go.go.Goals as goal
 
 pub returns-in-Ok-Some-clause-comes : goal.returns-in-Ok-Some-clause-comes
 returns-in-Ok-Some-clause-comes g c = λ rest out err.
-    after_load (IsDueOfGo c.args.word) c.args.name.now (Some c.in-Ok-Some.file.items) _ _ _ rest rest out out err err c.go_file.result (found_some _ _ _ c.in-Ok-Some.ensures.found) c.load.ensures.same (c.go_file.ensures.comes rest out err)
+    after_load (IsDueOfGo c.args.word) c.args.name.now (Some c.in-Ok-Some.file.items) _ _ _ rest rest out out err err c.go_file.result (found_some _ _ c.in-Ok-Some.field-0 c.in-Ok-Some.file c.in-Ok-Some.field-0-is c.in-Ok-Some.ensures.found) c.load.ensures.same (c.go_file.ensures.comes rest out err)
 
 pub returns-in-Ok-None-clause-comes : goal.returns-in-Ok-None-clause-comes
 returns-in-Ok-None-clause-comes g c = λ rest out err.
-    after_load (IsDueOfGo c.args.word) c.args.name.now None _ _ _ rest rest out out err err (Ok (NoInput c.args.word)) (found_none _ _ c.in-Ok-None.ensures.found) c.load.ensures.same (answers_due (IsDueOfGo c.args.word None) (NoInput c.args.word) _ refl)
+    after_load (IsDueOfGo c.args.word) c.args.name.now None _ _ _ rest rest out out err err (Ok (NoInput c.args.word)) (found_none _ _ c.in-Ok-None.field-0 c.in-Ok-None.field-0-is c.in-Ok-None.ensures.found) c.load.ensures.same (answers_due (IsDueOfGo c.args.word None) (NoInput c.args.word) _ refl)

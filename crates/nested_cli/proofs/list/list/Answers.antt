@@ -6,8 +6,8 @@ use Rattle.nested_cli.proofs.list.list.Goals as goal
 
 pub returns-in-Ok-Some-clause-comes : goal.returns-in-Ok-Some-clause-comes
 returns-in-Ok-Some-clause-comes g c = λ rest err.
-    after_load (IsDueOfList c.args.word) c.args.name.now (Some c.in-Ok-Some.file.items) _ _ _ rest rest _ _ err err c.list_file.result (found_some _ _ _ c.in-Ok-Some.ensures.found) c.load.ensures.same (c.list_file.ensures.comes _ rest err)
+    after_load (IsDueOfList c.args.word) c.args.name.now (Some c.in-Ok-Some.file.items) _ _ _ rest rest _ _ err err c.list_file.result (found_some _ _ c.in-Ok-Some.field-0 c.in-Ok-Some.file c.in-Ok-Some.field-0-is c.in-Ok-Some.ensures.found) c.load.ensures.same (c.list_file.ensures.comes _ rest err)
 
 pub returns-in-Ok-None-clause-comes : goal.returns-in-Ok-None-clause-comes
 returns-in-Ok-None-clause-comes g c = λ rest err.
-    after_load (IsDueOfList c.args.word) c.args.name.now None _ _ _ rest rest _ _ err err (Ok (NoInput c.args.word)) (found_none _ _ c.in-Ok-None.ensures.found) c.load.ensures.same (answers_due (IsDueOfList c.args.word None) (NoInput c.args.word) _ refl)
+    after_load (IsDueOfList c.args.word) c.args.name.now None _ _ _ rest rest _ _ err err (Ok (NoInput c.args.word)) (found_none _ _ c.in-Ok-None.field-0 c.in-Ok-None.field-0-is c.in-Ok-None.ensures.found) c.load.ensures.same (answers_due (IsDueOfList c.args.word None) (NoInput c.args.word) _ refl)
