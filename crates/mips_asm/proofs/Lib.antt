@@ -1,1 +1,4 @@
 pub mod ShapeLemmas
+pub mod PassLemmas
+pub mod LineCounts
+pub mod FillLemmas

@@ -4,3 +4,4 @@ pub mod Halves
 pub mod Program
 pub mod Passes
 pub mod Fillings
+pub mod Answers
