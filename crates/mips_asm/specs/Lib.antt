@@ -5,3 +5,4 @@ pub mod Program
 pub mod Passes
 pub mod Fillings
 pub mod Answers
+pub mod File

@@ -3,6 +3,7 @@
 
 mod asm_error;
 mod asm_fault;
+mod assembler;
 mod both;
 mod directives;
 mod examples;
@@ -14,11 +15,13 @@ mod half_form;
 mod instruction;
 mod operands;
 mod place;
+mod program_file;
 mod second_pass;
 mod segments;
 
 pub use asm_error::AsmError;
 pub use asm_fault::AsmFault;
+pub use assembler::assemble;
 pub use directives::{size_of_statement, space_value, word_value};
 pub use examples::{lines_have_words, operands_have_kinds, texts_have_programs};
 pub use filling::Filling;
@@ -30,3 +33,6 @@ pub use operands::Operands;
 pub use place::Place;
 pub use second_pass::fill_segments;
 pub use segments::Segments;
+
+#[cfg(test)]
+mod tests;
