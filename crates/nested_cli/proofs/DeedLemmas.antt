@@ -16,10 +16,14 @@ use Rattle.elf_reader.specs.declared.range.Range.{Range}
 use Rattle.elf_reader.specs.Area.{area}
 use Rattle.elf_reader.specs.declared.elf_error.ElfError.{ElfError}
 use Rattle.elf_reader.specs.declared.elf_error.ElfError.TheVariants.{Refused}
-use Rattle.elf_reader.specs.Check.{IsAnswer}
+use Rattle.elf_reader.specs.Fault.{IsAnswer}
 use Rattle.elf_reader.specs.Fault.{elf_fault, IsRunsOf}
 use Rattle.elf_image.specs.Refusals.{image_fault}
 use Rattle.elf_image.specs.Start.{Source, image_of}
+use Rattle.command_words.specs.Meaning.{command_of}
+use Rattle.command_words.specs.declared.command.Command.{Command}
+use Rattle.command_words.specs.declared.usage.Usage.{Usage}
+use Rattle.nested_cli.specs.Commands.{IsDue, IsDueOf, usage_number}
 use Rattle.nested_cli.specs.Listing.{source, listed, due_by, due_of_runs, IsDueOfListed}
 use Rattle.nested_cli.specs.declared.done.Done.TheVariants.{ElfRefused}
 use Rattle.nested_cli.specs.Deeds.{World, Deed, prepares, stores, prints, plays, Due, Stays, LosesRead, LosesFront, DoesDeed, StopsStore, StopsDeed, DoesAll, StopsIn, Works, StopsEarly, Comes, world, answers}
@@ -102,11 +106,6 @@ after_load IsDue name found None mid new rest rest' out out' err err' ended e p 
 after_load IsDue name found (Some files) mid new rest rest' out out' err err' ended e p q =
     rw (sym e) (stays_then_comes (IsDue found) _ _ _ ended (p, refl, refl, refl) q)
 
--- a load was stopped
-pub load_stopped : (IsDue : Option (List ℕ) → Due → Type 0) (name : List ℕ) (old new : Option Files) (rest out err : Option (List ℕ)) (stop : Stop) → SameFiles old new → (stop ≡ ShelfFault) ⊎ (stop ≡ NoMemory) → IfSome old (λ files. Comes (IsDue (files name)) (world old rest out err) (world new rest out err) (Err stop))
-load_stopped IsDue name None new rest out err stop p e = tt
-load_stopped IsDue name (Some files) new rest out err stop p e = inl ((p, refl, refl, refl), e)
-
 -- what was found, by the files that are told
 found : (old : Option Files) (name : List ℕ) (v : Option (Vec ℕ Global)) → Finds old name v → IfSome old (λ files. option_map (λ v. v.items) v ≡ files name)
 found None name v e = tt
@@ -117,6 +116,16 @@ found_none old name v none e = found old name None (subst (Finds old name) none 
 
 pub found_some : (old : Option Files) (name : List ℕ) (v : Option (Vec ℕ Global)) (file : Vec ℕ Global) → v ≡ Some file → Finds old name v → IfSome old (λ files. Some file.items ≡ files name)
 found_some old name v file some e = found old name (Some file) (subst (Finds old name) some e)
+
+pub after_found : (IsDue : Option (List ℕ) → Due → Type 0) (name : List ℕ) (v : Option (Vec ℕ Global)) (file : Vec ℕ Global) (this : List ℕ) (old mid new : Option Files) (rest rest' out out' err err' : Option (List ℕ)) (ended : Result Done Stop) → v ≡ Some file → Finds old name v → this ≡ file.items → SameFiles old mid → Comes (IsDue (Some this)) (world mid rest out err) (world new rest' out' err') ended → IfSome old (λ files. Comes (IsDue (files name)) (world old rest out err) (world new rest' out' err') ended)
+after_found IsDue name v file this old mid new rest rest' out out' err err' ended some e same p q =
+    let q' : Comes (IsDue (Some file.items)) (world mid rest out err) (world new rest' out' err') ended = subst (λ f. Comes (IsDue (Some f)) (world mid rest out err) (world new rest' out' err') ended) same q in
+    after_load IsDue name (Some file.items) old mid new rest rest' out out' err err' ended (found_some old name v file some e) p q'
+
+-- a load was stopped
+pub load_stopped : (IsDue : Option (List ℕ) → Due → Type 0) (name : List ℕ) (old new : Option Files) (rest out err : Option (List ℕ)) (stop : Stop) → SameFiles old new → (stop ≡ ShelfFault) ⊎ (stop ≡ NoMemory) → IfSome old (λ files. Comes (IsDue (files name)) (world old rest out err) (world new rest out err) (Err stop))
+load_stopped IsDue name None new rest out err stop p e = tt
+load_stopped IsDue name (Some files) new rest out err stop p e = inl ((p, refl, refl, refl), e)
 
 -- a text was printed, or a part of it
 pub printed : (files : Option Files) (rest out out' err : Option (List ℕ)) (text : List ℕ) (answer : Done) → Appends out out' text → Works (record { deeds = prints text ∷ []; answer = answer }) (world files rest out err) (world files rest out' err) (Ok answer)
@@ -178,6 +187,15 @@ pub performed : (c : Command) (words : List (List ℕ)) (F : Option Files) (w v 
 performed c words None w v ended e h = tt
 performed c words (Some files) w v ended e h = due_as (IsDueOf c files) (IsDue words files) w v ended (λ due d. rw e d) h
 
-pub misused : (u fault : Usage) (error : WordsError) (words : List (List ℕ)) (F : Option Files) (w : World) → error ≡ WordsError.Usage fault → command_of words ≡ Err fault → IfSome F (λ files. Comes (IsDue words files) w w (Ok (Done.Usage (usage_number fault))))
-misused u fault error words None w is e = tt
-misused u fault error words (Some files) w is e = answers_due (IsDue words files) (Done.Usage (usage_number fault)) w (rw e refl)
+pub misused : (fault : Usage) (words : List (List ℕ)) (F : Option Files) (w : World) → command_of words ≡ Err fault → IfSome F (λ files. Comes (IsDue words files) w w (Ok (Done.Usage (usage_number fault))))
+misused fault words None w e = tt
+misused fault words (Some files) w e = answers_due (IsDue words files) (Done.Usage (usage_number fault)) w (rw e refl)
+
+-- a file is stored and a text printed
+pub stored_and_printed : (F F' : Option Files) (rest O O' err : Option (List ℕ)) (name bytes text : List ℕ) (answer : Done) → SetsFile F F' name bytes → Appends O O' text → Works (record { deeds = stores name bytes ∷ prints text ∷ []; answer = answer }) (world F rest O err) (world F' rest O' err) (Ok answer)
+stored_and_printed F F' rest O O' err name bytes text answer p q =
+    works_more (stores name bytes) (prints text ∷ []) answer (world F rest O err) (world F' rest O err) (world F' rest O' err) (Ok answer) (p, refl, refl, refl) (printed F' rest O O' err text answer q)
+
+pub stored_and_stopped : (F F' : Option Files) (rest O O' err : Option (List ℕ)) (name bytes text : List ℕ) (answer : Done) → SetsFile F F' name bytes → AppendsPart O O' text → Works (record { deeds = stores name bytes ∷ prints text ∷ []; answer = answer }) (world F rest O err) (world F' rest O' err) (Err WriteFault)
+stored_and_stopped F F' rest O O' err name bytes text answer p q =
+    works_more (stores name bytes) (prints text ∷ []) answer (world F rest O err) (world F' rest O err) (world F' rest O' err) (Err WriteFault) (p, refl, refl, refl) (print_stopped F' rest O O' err text answer WriteFault q (inl refl))

@@ -2,3 +2,4 @@ pub mod DeedLemmas
 pub mod PieceLemmas
 pub mod ListingLemmas
 pub mod AnswerLemmas
+pub mod AssemblyLemmas

@@ -1,5 +1,5 @@
 -- What `asm` is to do.
-use Rattle.std.specs.Prelude.{◌≡◌, ℕ, nat_lt, List, [], ◌∷◌, Option, Some, None, codes, length, if◌then◌else◌}
+use Rattle.std.specs.Prelude.{◌≡◌, ℕ, nat_lt, Bool, true, false, List, [], ◌∷◌, Option, Some, None, codes, length}
 use Rattle.mips_asm.specs.declared.asm_fault.AsmFault.{AsmFault}
 use Rattle.mips_asm.specs.File.{IsAssembled}
 use Rattle.mips_asm.specs.Program.{asm_fault}
@@ -19,9 +19,14 @@ abbrev pub IsDueByLine : Option (ℕ × ℕ) → List ℕ → List ℕ → Due �
 IsDueByLine None text output due = (file : List ℕ) × IsAssembled text file × (due ≡ assembled output file)
 IsDueByLine (Some f) text output due = due ≡ refused f.0 f.1
 
--- a text of more than 67,108,864 bytes is not looked at
+-- a text that is too long is not looked at
+abbrev pub IsDueByLength : Bool → List ℕ → List ℕ → Due → Type 0
+IsDueByLength true text output due = due ≡ refused 0 3
+IsDueByLength false text output due = IsDueByLine (asm_fault text) text output due
+
+-- what is to be done with a text, which may have 67,108,864 bytes
 abbrev pub IsDueOfText : List ℕ → List ℕ → Due → Type 0
-IsDueOfText text output due = if nat_lt 67108864 (length text) then due ≡ refused 0 3 else IsDueByLine (asm_fault text) text output due
+IsDueOfText text output due = IsDueByLength (nat_lt 67108864 (length text)) text output due
 
 -- what `asm` is to do, given the name of the program's file and the text that a word names, if it is there
 abbrev pub IsDueOfAsm : ℕ → List ℕ → Option (List ℕ) → Due → Type 0

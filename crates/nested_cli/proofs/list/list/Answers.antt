@@ -1,12 +1,12 @@
-use Rattle.std.proofs.Common.{Ok, Some, None, refl}
+use Rattle.std.proofs.Common.{Ok, None, refl}
 use Rattle.nested_cli.specs.Listing.{IsDueOfList}
 use Rattle.nested_cli.specs.declared.done.Done.TheVariants.{NoInput}
-use Rattle.nested_cli.proofs.DeedLemmas.{after_load, answers_due, found_none, found_some}
+use Rattle.nested_cli.proofs.DeedLemmas.{after_found, after_load, answers_due, found_none}
 use Rattle.nested_cli.proofs.list.list.Goals as goal
 
 pub returns-in-Ok-Some-clause-comes : goal.returns-in-Ok-Some-clause-comes
 returns-in-Ok-Some-clause-comes g c = λ rest err.
-    after_load (IsDueOfList c.args.word) c.args.name.now (Some c.in-Ok-Some.file.items) _ _ _ rest rest _ _ err err c.list_file.result (found_some _ _ c.in-Ok-Some.field-0 c.in-Ok-Some.file c.in-Ok-Some.field-0-is c.in-Ok-Some.ensures.found) c.load.ensures.same (c.list_file.ensures.comes _ rest err)
+    after_found (IsDueOfList c.args.word) c.args.name.now c.in-Ok-Some.field-0 c.in-Ok-Some.file _ _ _ _ rest rest _ _ err err c.list_file.result c.in-Ok-Some.field-0-is c.in-Ok-Some.ensures.found c.as_slice.ensures.value c.load.ensures.same (c.list_file.ensures.comes _ rest err)
 
 pub returns-in-Ok-None-clause-comes : goal.returns-in-Ok-None-clause-comes
 returns-in-Ok-None-clause-comes g c = λ rest err.
