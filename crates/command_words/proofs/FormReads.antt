@@ -1,12 +1,11 @@
 -- What a parse by `clap` of a form's command gives, for formed words.
-use Rattle.std.proofs.Common.{◌≡◌, ◌∙◌, ◌≤◌, ◌&&◌, ◌||◌, ◌⊎◌, ℕ, Bool, cond, true, false, not, suc, refl, sym, ap, ap₂, subst, List, [], ◌∷◌, ◌++◌, map, length, Option, Some, None, is_some, inl, inr, true≢false, Result, MatchResult}
-use Rattle.std.specs.Prelude.{slice_get, find, option_and_then, option_map}
+use Rattle.std.proofs.Common.{◌≡◌, ◌∙◌, ◌≤◌, ◌&&◌, ◌||◌, ℕ, Bool, cond, true, false, not, suc, refl, ap, ap₂, List, [], ◌∷◌, ◌++◌, map, length, None, is_some}
 use Rattle.std.specs.List.{fold, list_all, list_any}
 use Rattle.std.specs.Str.{bytes_eq}
-use Rattle.clap.specs.Kinds.{FailsBy, HasKind, IsAmong, Kinds, or_else}
-use Rattle.clap.specs.Walk.{Row, Rule, finished, first_of, has_row, nothing_held, settled, settled_rows, walk, with_default}
+use Rattle.clap.specs.Kinds.{or_else}
+use Rattle.clap.specs.Walk.{Row, Rule, finished, first_of, has_row, nothing_held, settled, walk, with_default}
 use Rattle.clap.specs.Faults.{check_fault, defaults_fault, fault_of, is_simple_and_free, settle_fault, walk_fault}
-use Rattle.clap.specs.Simple.{App, built, is_buildable, is_ready, is_ready_leaf, is_simple, matches_of, names_of}
+use Rattle.clap.specs.Simple.{App, is_buildable, is_ready, is_ready_leaf, is_simple, matches_of, names_of}
 use Rattle.std.specs.Prelude.{count_by}
 use Rattle.clap.specs.Walk.{idle, rows_after, walk_from}
 use Rattle.clap.specs.Faults.{built_fault, is_free_app}
@@ -17,7 +16,7 @@ use Rattle.command_words.specs.Word.{Text, is_formed}
 use Rattle.command_words.specs.Given.{Form, Given, given_in, value_of}
 use Rattle.command_words.proofs.FormRules.{app_built, built_option, built_rules, built_shape, built_word, built_words}
 use Rattle.command_words.specs.Builder.{form_app, option_rule, word_rules}
-use Rattle.command_words.proofs.FormWalk.{Agrees, agree, all_fault, at, end_rows, or_else-nil, row_of_given, rows_of_given}
+use Rattle.command_words.proofs.FormWalk.{Agrees, agree, all_fault, at, end_rows, or_else-nil, rows_of_given}
 
 -- ---- the end of a parse
 

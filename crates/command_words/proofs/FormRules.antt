@@ -1,18 +1,17 @@
 -- The rules that `clap` reads of a command of a form, and what a search in them finds.
-use Rattle.std.proofs.Common.{◌≡◌, ◌∙◌, ◌<◌, ◌≤◌, ◌+◌, ◌&&◌, ◌||◌, ℕ, Bool, cond, codes, true, false, not, zero, suc, refl, sym, ap, ap₂, subst, arith, List, [], ◌∷◌, ◌++◌, map, length, Option, Some, None, is_some, option_map, add-one, inl, inr, ⊎_elim, ◌⊎◌, true≢false, eqb, nat_lt}
-use Rattle.std.specs.Prelude.{slice_get, find, ◌==◌}
-use Rattle.std.specs.List.{list_all, list_any}
+use Rattle.std.proofs.Common.{◌≡◌, ◌+◌, ℕ, Bool, cond, true, false, zero, suc, refl, sym, ap, arith, List, [], ◌∷◌, ◌++◌, map, Option, Some, None, option_map, inl, inr, ⊎_elim, ◌⊎◌, true≢false}
+use Rattle.std.specs.Prelude.{slice_get, ◌==◌}
 use Rattle.std.specs.Str.{bytes_eq}
 use Rattle.std.proofs.lemmas.Slice.Eq.{bytes_eq-Decides}
 use Rattle.std.proofs.lemmas.Bool.{eq-eqb}
 use Rattle.std.proofs.lemmas.Bool.Decides.{eqb_tells}
-use Rattle.clap.specs.Walk.{Row, Rule, arg_by_id, arg_by_index, arg_by_long}
-use Rattle.clap.specs.Simple.{App, Shape, built, filled_from, new_rule, new_shape}
+use Rattle.clap.specs.Walk.{Rule, arg_by_id, arg_by_index, arg_by_long}
+use Rattle.clap.specs.Simple.{Shape, built, filled_from, new_rule}
 use Rattle.clap.specs.declared.builder.action.ArgAction.TheVariants.{Set}
 use Rattle.clap.specs.declared.builder.value_parser.ValueParser.TheVariants as vp
 use Rattle.command_words.specs.Word.{Text}
 use Rattle.command_words.specs.Given.{Form, is_among}
-use Rattle.command_words.specs.Builder.{form_app, form_rules, form_shape, option_rule, word_rule, word_rules}
+use Rattle.command_words.specs.Builder.{form_app, form_shape, option_rule, word_rules}
 
 -- the rules, built
 abbrev pub value_rule : Text → Option Text → Option ℕ → Rule
@@ -109,7 +108,7 @@ id_in (o ∷ os) ns n known = go (bytes_eq o n) refl (id_in os ns n)
 pub by_id : (form : Form) (n : Text) → (is_among form.options n ≡ true) ⊎ (is_among form.words n ≡ true) → FindsId (built_rules form) n
 by_id form n known = id_in form.options form.words n known
 
-differs : (a b : ℕ) → (a ≡ b → ⊥) → (a == b) ≡ false
+pub differs : (a b : ℕ) → (a ≡ b → ⊥) → (a == b) ≡ false
 differs a b ne = ⊎_elim (λ same. absurd (ne same.1)) (λ other. other.0) (eqb_tells a b)
 
 index_of_word : (i j p : ℕ) (ns : List Text) → p ≡ i + j → arg_by_index (built_words i ns) p ≡ option_map (built_word p) (slice_get ns j)

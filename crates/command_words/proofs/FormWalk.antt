@@ -1,14 +1,13 @@
 -- `clap`'s walk over formed words gives what the definition gives.
-use Rattle.std.proofs.Common.{◌≡◌, ◌∙◌, ◌<◌, ◌≤◌, ◌+◌, ◌&&◌, ◌||◌, ◌⊎◌, ℕ, Bool, cond, codes, true, false, not, zero, suc, refl, sym, ap, ap₂, subst, arith, List, [], ◌∷◌, ◌++◌, map, length, min, Option, Some, None, is_some, option_map, inl, inr, ⊎_elim, true≢false, append-nil, append_assoc}
-use Rattle.std.specs.Prelude.{slice_get, find, option_and_then, ◌==◌}
+use Rattle.std.proofs.Common.{◌≡◌, ◌∙◌, ◌<◌, ◌≤◌, ◌+◌, ◌&&◌, ◌||◌, ℕ, Bool, cond, true, false, zero, suc, refl, sym, ap, ap₂, subst, arith, List, [], ◌∷◌, ◌++◌, map, length, min, Option, Some, None, option_map, inl, inr, true≢false, append-nil}
+use Rattle.std.specs.Prelude.{slice_get, option_and_then, ◌==◌}
 use Rattle.std.specs.List.{fold, list_all, list_any}
 use Rattle.std.specs.Str.{bytes_eq}
 use Rattle.std.proofs.lemmas.List.{map-append}
-use Rattle.clap.specs.Lexer.{usize_max, long_of, name_and_value as clap_name_and_value}
+use Rattle.clap.specs.Lexer.{usize_max}
 use Rattle.clap.specs.Kinds.{Kinds, or_else}
-use Rattle.clap.specs.Walk.{Held, Row, Rule, Step, Waiting, Walk, arg_by_id, arg_by_index, arg_by_long, at_row, has_row, idle, option, positional_held, reacted, settled, settled_rows, to_positional, used, value, walk, walked, without, with_values, more_values, word_met, long_word}
-use Rattle.clap.specs.Faults.{long_fault, option_fault, positional_fault, settle_fault, step_fault, stray_fault, turn_fault, use_fault, walk_fault}
-use Rattle.clap.specs.Simple.{Shape}
+use Rattle.clap.specs.Walk.{Held, Row, Rule, Waiting, Walk, arg_by_index, arg_by_long, at_row, has_row, idle, option, settled_rows, to_positional, used, value, walked, without, with_values, more_values, long_word}
+use Rattle.clap.specs.Faults.{long_fault, settle_fault, step_fault, turn_fault, use_fault, walk_fault}
 use Rattle.clap.specs.declared.builder.value_parser.Reading.TheVariants as reading
 use Rattle.clap.specs.declared.parser.matches.ValueSource.TheVariants.{CommandLine}
 use Rattle.clap.proofs.WalkLemmas.{list_any-map}
@@ -16,8 +15,8 @@ use Rattle.std.specs.List.{before_first, after_first}
 use Rattle.std.specs.Prelude.{if◌then◌else◌}
 use Rattle.clap.specs.Walk.{after_step}
 use Rattle.std.proofs.lemmas.Bool.{eqb-true}
-use Rattle.command_words.specs.Word.{has_some_value, is_equals, Text, is_plain, is_formed, name_and_value, option_in}
-use Rattle.command_words.specs.Given.{Form, Given, Reading, given_after, given_more, has_name, is_among, option_read, plain_read, value_read, word_read}
+use Rattle.command_words.specs.Word.{has_some_value, is_equals, Text, is_formed}
+use Rattle.command_words.specs.Given.{Form, Given, Reading, given_after, given_more, has_name, is_among, value_read}
 use Rattle.command_words.proofs.FormRules.{FindsId, built_option, built_rules, built_shape, built_word, by_id, by_index, by_long, found_long, text_is_itself, value_rule}
 
 -- ---- rows
@@ -156,7 +155,7 @@ valued_walked c rows pending p word n v known = simp known
 
 -- ---- a plain word
 
-and_no : (b : Bool) → (b && false) ≡ false
+pub and_no : (b : Bool) → (b && false) ≡ false
 and_no true = refl
 and_no false = refl
 
@@ -229,11 +228,11 @@ all_fault c w words = or_else (walk_fault (built_shape c) [] w words) (settle_fa
 abbrev pub end_rows : List Rule → Walk → List Text → List Row
 end_rows c w words = settled_rows c (fold (walked c []) w words).held.pending (fold (walked c []) w words).held.rows
 
-and_first : (a b : Bool) → (a && b) ≡ true → a ≡ true
+pub and_first : (a b : Bool) → (a && b) ≡ true → a ≡ true
 and_first true b e = refl
 and_first false b e = e
 
-and_second : (a b : Bool) → (a && b) ≡ true → b ≡ true
+pub and_second : (a b : Bool) → (a && b) ≡ true → b ≡ true
 and_second true b e = e
 and_second false b e = absurd (true≢false (sym e))
 

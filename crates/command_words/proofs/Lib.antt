@@ -4,3 +4,6 @@ pub mod FormWalk
 pub mod FormReads
 pub mod WordLemmas
 pub mod MatchLemmas
+pub mod NumberLemmas
+pub mod NameLemmas
+pub mod EndLemmas

@@ -1,11 +1,11 @@
 -- What the parse of a form's words needs.
-use Rattle.std.proofs.Common.{◌≡◌, ◌∙◌, ◌<◌, ◌≤◌, ◌+◌, ◌&&◌, ◌||◌, ◌⊎◌, ℕ, Bool, cond, true, false, not, zero, suc, refl, sym, ap, ap₂, subst, arith, List, [], ◌∷◌, ◌++◌, map, length, take, Option, Some, None, is_some, option_map, inl, inr, ⊎_elim, true≢false, append_assoc, Result, Ok, Err}
+use Rattle.std.proofs.Common.{◌≡◌, ◌∙◌, ◌<◌, ◌+◌, ◌||◌, ◌⊎◌, ℕ, Bool, cond, true, false, suc, refl, sym, ap, subst, arith, List, [], ◌∷◌, ◌++◌, map, length, take, Option, Some, None, is_some, ⊎_elim, true≢false, append_assoc, Err}
 use Rattle.std.specs.Prelude.{option_and_then}
 use Rattle.std.specs.Borrow.{Bor}
 use Rattle.std.specs.List.{list_all, slice_index_or}
 use Rattle.std.specs.Option.{option_map_or}
 use Rattle.std.proofs.lemmas.List.{length-map, length-take-le, map-append, take_more}
-use Rattle.clap.specs.Words.{first_value, found_of, rows_of}
+use Rattle.clap.specs.Words.{first_value, rows_of}
 use Rattle.clap.specs.Kinds.{IsAmong, Kinds}
 use Rattle.clap.specs.Walk.{Row, first_of}
 use Rattle.clap.specs.Simple.{App, with_rule}
@@ -14,10 +14,10 @@ use Rattle.clap.specs.declared.error.kind.ErrorKind.TheVariants.{OutOfMemory}
 use Rattle.clap.specs.declared.parser.matches.Found.{Found}
 use Rattle.clap.proofs.WalkLemmas.{first_value-rows}
 use Rattle.command_words.specs.Word.{Text, has_some_value, is_formed, is_plain, option_in}
-use Rattle.command_words.specs.Given.{Form, Given, Reading, given_after, given_in, is_among, option_read, value_in, value_of, value_read, word_read}
+use Rattle.command_words.specs.Given.{Form, Given, Reading, given_after, given_in, is_among, option_read, value_of, word_read}
 use Rattle.command_words.specs.Answers.{MatchesForm, shown, words_error_of}
 use Rattle.command_words.specs.Builder.{option_rule, with_rules, word_rule, word_rules}
-use Rattle.command_words.proofs.FormWalk.{Agrees, rows_of_given}
+use Rattle.command_words.proofs.FormWalk.{Agrees}
 use Rattle.command_words.proofs.FormReads.{value_of_row}
 
 -- ---- words that are not formed

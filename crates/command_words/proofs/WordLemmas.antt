@@ -1,9 +1,7 @@
 -- What the code finds in a word.
-use Rattle.std.proofs.Common.{◌≡◌, ◌∙◌, ◌<◌, ◌≤◌, ◌+◌, ◌⊎◌, ℕ, Bool, cond, true, false, not, zero, suc, refl, sym, ap, subst, arith, List, [], ◌∷◌, length, take, drop, Option, Some, None, inl, inr, true≢false, nat_lt, drop_of_length-le, lt-ltb, ltb-true, ap₂}
+use Rattle.std.proofs.Common.{◌≡◌, ◌∙◌, ◌<◌, ◌≤◌, ◌+◌, ℕ, Bool, cond, true, false, not, suc, refl, sym, arith, List, [], ◌∷◌, length, take, drop, Some, None, nat_lt, lt-ltb, ap₂}
 use Rattle.std.proofs.lemmas.Bool.Decides.{nat_tests}
 use Rattle.std.specs.List.{list_any, position, position_or_len}
-use Rattle.std.specs.Prelude.{◌==◌}
-use Rattle.std.proofs.lemmas.Grind.{common_steps}
 use Rattle.std.proofs.lemmas.Bool.{ltb-false}
 use Rattle.std.proofs.Math.Seq.{take-length}
 use Rattle.std.proofs.lemmas.List.Sums.{prefix_len-le-length}
@@ -37,7 +35,7 @@ no_position p xs none = go (nat_lt (position_or_len p xs) (length xs)) refl
     go true e = let at : Some (position_or_len p xs) ≡ None = rw e at none in absurd (cc)
     go false e = (ltb-false (position_or_len p xs) (length xs) e, any_position p xs ∙ e)
 
-whole : (t : Text) (k : ℕ) → length t ≤ k → k ≤ length t → take k t ≡ t
+pub whole : {A : Type 0} (t : List A) (k : ℕ) → length t ≤ k → k ≤ length t → take k t ≡ t
 whole t k past within = let at : k ≡ length t = omega arith in rw at (take-length t)
 
 pub name_at : (text : Text) (i : ℕ) → position is_equals text ≡ Some i → name_and_value text ≡ Some (take i text, Some (drop (i + 1) text))

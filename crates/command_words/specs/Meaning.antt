@@ -1,5 +1,5 @@
 -- The command that lawful words mean.
-use Rattle.std.specs.Prelude.{ℕ, ◌+◌, ◌^◌, ◌-◌, Bool, true, false, not, ◌&&◌, ◌||◌, if◌then◌else◌, List, [], ◌∷◌, Option, Some, None, Result, Ok, Err, codes, is_some, min, option_and_then, option_map}
+use Rattle.std.specs.Prelude.{ℕ, ◌+◌, ◌^◌, ◌-◌, Bool, true, false, not, ◌&&◌, if◌then◌else◌, List, [], ◌∷◌, Option, Some, None, Result, Err, codes, is_some, min, option_and_then, option_map}
 use Rattle.std.specs.Option.{ok_or}
 use Rattle.std.specs.List.{list_any, before_first, after_first}
 use Rattle.std.specs.Option.{option_map_or}
@@ -74,6 +74,10 @@ name_list_in words name value = option_map (λ names. record {
   names = names;
 }) (names_in (value name))
 
+-- the ARGS
+abbrev pub arguments_in : List Text → Option (List Text)
+arguments_in arguments = if are_arguments arguments then Some arguments else None
+
 -- ---- the commands
 
 abbrev pub pages_in : Value → Option Pages
@@ -82,14 +86,13 @@ pages_in value = option_and_then (λ heap. option_map (λ stack. record { heap =
 -- how a guest or a class is run
 abbrev pub session_in : ℕ → List Text → Value → List Text → Option Session
 session_in most words value arguments =
-    option_and_then (λ steps. option_and_then (λ disk. option_and_then (λ with. option_and_then (λ keep.
-    if are_arguments arguments then Some (record {
+    option_and_then (λ steps. option_and_then (λ disk. option_and_then (λ with. option_and_then (λ keep. option_map (λ lawful. record {
       steps = steps;
       disk = disk;
       with = with;
       keep = keep;
-      arguments = arguments;
-    }) else None)
+      arguments = lawful;
+    }) (arguments_in arguments))
     (name_list_in words (codes "keep") value)) (name_list_in words (codes "with") value)) (disk_in value)) (steps_in most value)
 
 -- ---- what each command makes of its words

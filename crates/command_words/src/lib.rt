@@ -6,15 +6,21 @@
 
 mod command;
 mod command_name;
+mod commands;
 mod matching;
 mod name_list;
 mod named;
+mod names;
+mod number;
 mod pages;
+mod place;
+mod read;
 mod session;
 mod text;
 mod texts;
 mod usage;
 mod word;
+mod words;
 mod words_error;
 
 pub use command::Command;
@@ -25,4 +31,5 @@ pub use session::Session;
 pub use text::Text;
 pub use texts::Texts;
 pub use usage::Usage;
+pub use words::read_words;
 pub use words_error::WordsError;

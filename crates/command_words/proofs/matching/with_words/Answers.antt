@@ -1,4 +1,4 @@
-use Rattle.std.proofs.Common.{◌≡◌, ◌∙◌, ◌+◌, ap, rules, arith}
+use Rattle.std.proofs.Common.{◌≡◌, ◌∙◌, ◌+◌, ap, rules}
 use Rattle.clap.specs.Words.{app_of, rule_of, with_rule}
 use Rattle.command_words.specs.Builder.{word_rule}
 use Rattle.command_words.proofs.MatchLemmas.{words_step}

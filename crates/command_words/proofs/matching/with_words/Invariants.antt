@@ -1,4 +1,4 @@
-use Rattle.std.proofs.Common.{◌≡◌, map, take}
+use Rattle.std.proofs.Common.{◌≡◌, take}
 use Rattle.clap.specs.Words.{app_of}
 use Rattle.command_words.specs.Answers.{shown}
 use Rattle.command_words.specs.Builder.{with_rules, word_rules}

@@ -1,4 +1,4 @@
-use Rattle.std.proofs.Common.{◌≡◌, ◌<◌, ℕ, Some, None, ◌+◌, take, drop, length, position, sym, ◌∙◌, ap₂, rules, arith}
+use Rattle.std.proofs.Common.{◌≡◌, ◌<◌, Some, None, length, position, sym, ◌∙◌, ap₂, rules, arith}
 use Rattle.command_words.specs.Word.{is_equals}
 use Rattle.command_words.proofs.WordLemmas.{name_alone, name_at}
 use Rattle.command_words.proofs.word.name_and_value.Goals as goal
