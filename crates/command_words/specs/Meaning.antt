@@ -1,0 +1,230 @@
+-- The command that lawful words mean.
+use Rattle.std.specs.Prelude.{ℕ, ◌+◌, ◌^◌, ◌-◌, Bool, true, false, not, ◌&&◌, if◌then◌else◌, List, [], ◌∷◌, Option, Some, None, Result, Err, codes, is_some, min, option_and_then, option_map}
+use Rattle.std.specs.Option.{ok_or}
+use Rattle.std.specs.List.{list_any, before_first, after_first}
+use Rattle.std.specs.Option.{option_map_or}
+use Rattle.std.specs.Str.{bytes_eq}
+use Rattle.command_words.specs.Word.{Text, is_end}
+use Rattle.command_words.specs.Given.{Form, given_in, value_in, value_place, word_place}
+use Rattle.command_words.specs.Values.{are_arguments, is_class_name, names_in, number_in, number_or}
+use Rattle.command_words.specs.declared.command.Command.{Command}
+use Rattle.command_words.specs.declared.command.Command.TheVariants.{Go, Translate, Interp, Run, Verify, Asm, List as ListIn, Make}
+use Rattle.command_words.specs.declared.command_name.CommandName.{CommandName}
+use Rattle.command_words.specs.declared.command_name.CommandName.TheVariants as name
+use Rattle.command_words.specs.declared.named.Named.{Named}
+use Rattle.command_words.specs.declared.name_list.NameList.{NameList}
+use Rattle.command_words.specs.declared.pages.Pages.{Pages}
+use Rattle.command_words.specs.declared.session.Session.{Session}
+use Rattle.command_words.specs.declared.usage.Usage.{Usage}
+use Rattle.command_words.specs.declared.usage.Usage.TheVariants.{NoCommand, NotLawful}
+
+-- the value that the words give to a name
+abbrev pub Value : Type 0
+Value = Text → Option Text
+
+-- ---- the options: least, most, and what stands where the option is left out
+
+abbrev pub heap_in : Value → Option ℕ
+heap_in value = number_or 0 32768 256 (value (codes "heap"))
+
+abbrev pub stack_in : Value → Option ℕ
+stack_in value = number_or 1 32768 64 (value (codes "stack"))
+
+abbrev pub method_bytes_in : Value → Option ℕ
+method_bytes_in value = number_or 4096 65535 65535 (value (codes "method-bytes"))
+
+-- of a guest's instructions, and of a class machine's
+abbrev pub guest_steps : ℕ
+guest_steps = 1099511627776
+
+abbrev pub class_steps : ℕ
+class_steps = 1125899906842624
+
+abbrev pub steps_in : ℕ → Value → Option ℕ
+steps_in most value = number_or 0 most most (value (codes "steps"))
+
+abbrev pub region_words_in : Value → Option ℕ
+region_words_in value = number_or 1 68288580 4194304 (value (codes "words"))
+
+abbrev pub disk_in : Value → Option ℕ
+disk_in value = number_or 0 65536 1024 (value (codes "disk"))
+
+abbrev pub lawful_name : Text → Option Text
+lawful_name text = if is_class_name text then Some text else None
+
+abbrev pub name_in : Value → Option Text
+name_in value = option_map_or lawful_name (value (codes "name")) (Some (codes "Main"))
+
+-- ---- the numbers of words, from 0 at the command; a number that no `u32` holds is the greatest
+
+abbrev pub word_number : ℕ → ℕ
+word_number place = min (place + 1) (2 ^ 32 - 1)
+
+-- the first plain word
+abbrev pub input_in : List Text → Text → Value → Option Named
+input_in words name value = option_map (λ text. record { word = word_number (word_place false words); text = text }) (value name)
+
+abbrev pub class_in : List Text → Value → Option Named
+class_in words value = option_and_then (λ text. if is_class_name text then input_in words (codes "NAME") value else None) (value (codes "NAME"))
+
+-- the names of an option, which no word holds where it is left out
+abbrev pub name_list_in : List Text → Text → Value → Option NameList
+name_list_in words name value = option_map (λ names. record {
+  word = if is_some (value name) then word_number (value_place name words) else 0;
+  names = names;
+}) (names_in (value name))
+
+-- the ARGS
+abbrev pub arguments_in : List Text → Option (List Text)
+arguments_in arguments = if are_arguments arguments then Some arguments else None
+
+-- ---- the commands
+
+abbrev pub pages_in : Value → Option Pages
+pages_in value = option_and_then (λ heap. option_map (λ stack. record { heap = heap; stack = stack }) (stack_in value)) (heap_in value)
+
+-- how a guest or a class is run
+abbrev pub session_in : ℕ → List Text → Value → List Text → Option Session
+session_in most words value arguments =
+    option_and_then (λ steps. option_and_then (λ disk. option_and_then (λ with. option_and_then (λ keep. option_map (λ lawful. record {
+      steps = steps;
+      disk = disk;
+      with = with;
+      keep = keep;
+      arguments = lawful;
+    }) (arguments_in arguments))
+    (name_list_in words (codes "keep") value)) (name_list_in words (codes "with") value)) (disk_in value)) (steps_in most value)
+
+-- ---- what each command makes of its words
+
+abbrev pub name_of : Text → Option CommandName
+name_of word =
+    if bytes_eq word (codes "go") then Some name.Go
+    else if bytes_eq word (codes "translate") then Some name.Translate
+    else if bytes_eq word (codes "interp") then Some name.Interp
+    else if bytes_eq word (codes "run") then Some name.Run
+    else if bytes_eq word (codes "verify") then Some name.Verify
+    else if bytes_eq word (codes "asm") then Some name.Asm
+    else if bytes_eq word (codes "list") then Some name.List
+    else if bytes_eq word (codes "make") then Some name.Make
+    else None
+
+abbrev pub go_options : List Text
+go_options = codes "name" ∷ codes "heap" ∷ codes "stack" ∷ codes "method-bytes" ∷ codes "steps" ∷ codes "disk" ∷ codes "with" ∷ codes "keep" ∷ []
+
+abbrev pub translate_options : List Text
+translate_options = codes "name" ∷ codes "heap" ∷ codes "stack" ∷ codes "method-bytes" ∷ []
+
+abbrev pub interp_options : List Text
+interp_options = codes "name" ∷ codes "heap" ∷ codes "stack" ∷ codes "steps" ∷ codes "disk" ∷ codes "with" ∷ codes "keep" ∷ []
+
+abbrev pub run_options : List Text
+run_options = codes "words" ∷ codes "steps" ∷ codes "disk" ∷ codes "with" ∷ codes "keep" ∷ []
+
+-- what a command makes of its words before `--`, the values that they give, and the words after `--`
+abbrev pub Maker : Type 0
+Maker = List Text → Value → List Text → Option Command
+
+abbrev pub go_from : Maker
+go_from words value arguments =
+    option_and_then (λ input. option_and_then (λ name. option_and_then (λ pages. option_and_then (λ method_bytes.
+    option_map (λ session. Go input name pages method_bytes session)
+    (session_in guest_steps words value arguments)) (method_bytes_in value)) (pages_in value)) (name_in value))
+    (input_in words (codes "IN") value)
+
+abbrev pub translate_from : Maker
+translate_from words value arguments =
+    option_and_then (λ input. option_and_then (λ name. option_and_then (λ pages.
+    option_map (λ method_bytes. Translate input name pages method_bytes)
+    (method_bytes_in value)) (pages_in value)) (name_in value)) (input_in words (codes "IN") value)
+
+abbrev pub interp_from : Maker
+interp_from words value arguments =
+    option_and_then (λ input. option_and_then (λ name. option_and_then (λ pages.
+    option_map (λ session. Interp input name pages session)
+    (session_in guest_steps words value arguments)) (pages_in value)) (name_in value)) (input_in words (codes "IN") value)
+
+abbrev pub run_from : Maker
+run_from words value arguments =
+    option_and_then (λ name. option_and_then (λ region.
+    option_map (λ session. Run name region session)
+    (session_in class_steps words value arguments)) (region_words_in value)) (class_in words value)
+
+abbrev pub verify_from : Maker
+verify_from words value arguments = option_map (λ name. Verify name) (class_in words value)
+
+abbrev pub asm_from : Maker
+asm_from words value arguments =
+    option_and_then (λ input. option_map (λ output. Asm input output) (value (codes "OUT"))) (input_in words (codes "IN") value)
+
+abbrev pub list_from : Maker
+list_from words value arguments = option_map (λ input. ListIn input) (input_in words (codes "IN") value)
+
+abbrev pub make_from : Maker
+make_from words value arguments =
+    option_and_then (λ count. option_map (λ method_bytes. Make count method_bytes) (method_bytes_in value))
+    (option_and_then (number_in 1 65536) (value (codes "N")))
+
+-- ---- the forms
+
+abbrev pub form_of : CommandName → Form
+form_of name.Go = record { words = codes "IN" ∷ []; options = go_options }
+form_of name.Translate = record { words = codes "IN" ∷ []; options = translate_options }
+form_of name.Interp = record { words = codes "IN" ∷ []; options = interp_options }
+form_of name.Run = record { words = codes "NAME" ∷ []; options = run_options }
+form_of name.Verify = record { words = codes "NAME" ∷ []; options = [] }
+form_of name.Asm = record { words = codes "IN" ∷ codes "OUT" ∷ []; options = [] }
+form_of name.List = record { words = codes "IN" ∷ []; options = [] }
+form_of name.Make = record { words = codes "N" ∷ []; options = codes "method-bytes" ∷ [] }
+
+-- the command may have ARGS
+abbrev pub takes_arguments : CommandName → Bool
+takes_arguments name.Go = true
+takes_arguments name.Interp = true
+takes_arguments name.Run = true
+takes_arguments name.Translate = false
+takes_arguments name.Verify = false
+takes_arguments name.Asm = false
+takes_arguments name.List = false
+takes_arguments name.Make = false
+
+abbrev pub maker_of : CommandName → Maker
+maker_of name.Go = go_from
+maker_of name.Translate = translate_from
+maker_of name.Interp = interp_from
+maker_of name.Run = run_from
+maker_of name.Verify = verify_from
+maker_of name.Asm = asm_from
+maker_of name.List = list_from
+maker_of name.Make = make_from
+
+-- ---- all the words
+
+-- the words before the first `--`, and those after it
+abbrev pub before_end : List Text → List Text
+before_end words = before_first is_end words
+
+abbrev pub after_end : List Text → List Text
+after_end words = after_first is_end words
+
+abbrev pub has_end : List Text → Bool
+has_end words = list_any is_end words
+
+-- what the words before `--` mean with those after it, where they break no rule of the form
+abbrev pub made : Form → Maker → List Text → List Text → Option Command
+made form maker words arguments =
+    if is_some (given_in form words) then maker words (value_in form words) arguments else None
+
+-- what the words after COMMAND mean
+abbrev pub command_after : CommandName → List Text → Option Command
+command_after name words = if has_end words && not (takes_arguments name) then None
+    else made (form_of name) (maker_of name) (before_end words) (after_end words)
+
+abbrev pub named_command : Option CommandName → List Text → Result Command Usage
+named_command None words = Err NoCommand
+named_command (Some name) words = ok_or (command_after name words) NotLawful
+
+-- the command that the words mean, or what is wrong with them
+abbrev pub command_of : List Text → Result Command Usage
+command_of [] = Err NoCommand
+command_of (word ∷ words) = named_command (name_of word) words

@@ -1,0 +1,82 @@
+ghost use Rattle.std.specs.Prelude.{◌≡◌};
+ghost use Rattle.command_words.specs.Meaning.{form_of, name_of, takes_arguments};
+ghost use Rattle.command_words.specs.Answers.{shown};
+
+/// The first word.
+#[derive(Clone, Copy, Debug, PartialEq, Eq)]
+pub(crate) enum CommandName {
+    Go,
+    Translate,
+    Interp,
+    Run,
+    Verify,
+    Asm,
+    List,
+    Make,
+}
+
+impl CommandName {
+    /// The command of this name.
+    pub(crate) fn of(word: &str) -> Option<CommandName>
+        ensures { result ≡ name_of word.now }
+    {
+        match word {
+            "go" => Some(CommandName::Go),
+            "translate" => Some(CommandName::Translate),
+            "interp" => Some(CommandName::Interp),
+            "run" => Some(CommandName::Run),
+            "verify" => Some(CommandName::Verify),
+            "asm" => Some(CommandName::Asm),
+            "list" => Some(CommandName::List),
+            "make" => Some(CommandName::Make),
+            _ => None,
+        }
+    }
+
+    /// The names of its plain words.
+    pub(crate) fn words(self) -> &'static [&'static str]
+        ensures { shown result.now ≡ (form_of self).words }
+    {
+        match self {
+            CommandName::Go | CommandName::Translate | CommandName::Interp | CommandName::List => &[
+                "IN",
+            ],
+            CommandName::Run | CommandName::Verify => &["NAME"],
+            CommandName::Asm => &["IN", "OUT"],
+            CommandName::Make => &["N"],
+        }
+    }
+
+    /// The names of its options.
+    pub(crate) fn options(self) -> &'static [&'static str]
+        ensures { shown result.now ≡ (form_of self).options }
+    {
+        match self {
+            CommandName::Go => &[
+                "name",
+                "heap",
+                "stack",
+                "method-bytes",
+                "steps",
+                "disk",
+                "with",
+                "keep",
+            ],
+            CommandName::Translate => &["name", "heap", "stack", "method-bytes"],
+            CommandName::Interp => &["name", "heap", "stack", "steps", "disk", "with", "keep"],
+            CommandName::Run => &["words", "steps", "disk", "with", "keep"],
+            CommandName::Make => &["method-bytes"],
+            CommandName::Verify | CommandName::Asm | CommandName::List => &[],
+        }
+    }
+
+    /// Whether it may have arguments after `--`.
+    pub(crate) fn takes_arguments(self) -> bool
+        ensures { result ≡ takes_arguments self }
+    {
+        matches!(
+            self,
+            CommandName::Go | CommandName::Interp | CommandName::Run
+        )
+    }
+}

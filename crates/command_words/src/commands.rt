@@ -1,0 +1,177 @@
+ghost use Rattle.std.specs.Prelude.{[]};
+ghost use Rattle.clap.specs.Words.{first_value, found_of};
+ghost use Rattle.command_words.specs.Answers.{Reads};
+ghost use Rattle.command_words.specs.Meaning.{asm_from, go_from, interp_from, list_from, make_from, maker_of, run_from, translate_from, verify_from};
+ghost use Rattle.command_words.specs.Word.{texts};
+
+use crate::command::Command;
+use crate::command_name::CommandName;
+use crate::number::small_number_in;
+use crate::read::{class, input, method_bytes, name, pages, region_words, session};
+use crate::text::Text;
+use crate::usage::Usage;
+use crate::words_error::WordsError;
+use clap::ArgMatches;
+use std::alloc::Global;
+
+/// The most steps of a guest.
+const GUEST_STEPS: u64 = 1_099_511_627_776;
+
+/// The most steps of a class.
+const CLASS_STEPS: u64 = 1_125_899_906_842_624;
+
+/// The command that the values mean. `words` are those before `--`.
+pub(crate) fn make(
+    alloc: Global,
+    command: CommandName,
+    words: &[String],
+    matches: &ArgMatches<'_>,
+    arguments: &[String],
+) -> Result<Command, WordsError>
+    ensures { Reads (maker_of command (texts words.now) (first_value (found_of matches.now)) (texts arguments.now)) result }
+{
+    match command {
+        CommandName::Go => go(alloc, words, matches, arguments),
+        CommandName::Translate => translate(alloc, words, matches),
+        CommandName::Interp => interp(alloc, words, matches, arguments),
+        CommandName::Run => run(alloc, words, matches, arguments),
+        CommandName::Verify => verify(alloc, words, matches),
+        CommandName::Asm => asm(alloc, words, matches),
+        CommandName::List => list(alloc, words, matches),
+        CommandName::Make => counter(matches),
+    }
+}
+
+fn go(
+    alloc: Global,
+    words: &[String],
+    matches: &ArgMatches<'_>,
+    arguments: &[String],
+) -> Result<Command, WordsError>
+    ensures { Reads (go_from (texts words.now) (first_value (found_of matches.now)) (texts arguments.now)) result }
+{
+    let input = input(alloc, words, matches, "IN")?;
+    let name = name(alloc, matches)?;
+    let Some(pages) = pages(matches) else {
+        return Err(WordsError::Usage(Usage::NotLawful));
+    };
+    let Some(method_bytes) = method_bytes(matches) else {
+        return Err(WordsError::Usage(Usage::NotLawful));
+    };
+    let session = session(alloc, GUEST_STEPS, words, matches, arguments)?;
+    Ok(Command::Go {
+        input,
+        name,
+        pages,
+        method_bytes,
+        session,
+    })
+}
+
+fn translate(
+    alloc: Global,
+    words: &[String],
+    matches: &ArgMatches<'_>,
+) -> Result<Command, WordsError>
+    ensures { Reads (translate_from (texts words.now) (first_value (found_of matches.now)) []) result }
+{
+    let input = input(alloc, words, matches, "IN")?;
+    let name = name(alloc, matches)?;
+    let Some(pages) = pages(matches) else {
+        return Err(WordsError::Usage(Usage::NotLawful));
+    };
+    let Some(method_bytes) = method_bytes(matches) else {
+        return Err(WordsError::Usage(Usage::NotLawful));
+    };
+    Ok(Command::Translate {
+        input,
+        name,
+        pages,
+        method_bytes,
+    })
+}
+
+fn interp(
+    alloc: Global,
+    words: &[String],
+    matches: &ArgMatches<'_>,
+    arguments: &[String],
+) -> Result<Command, WordsError>
+    ensures { Reads (interp_from (texts words.now) (first_value (found_of matches.now)) (texts arguments.now)) result }
+{
+    let input = input(alloc, words, matches, "IN")?;
+    let name = name(alloc, matches)?;
+    let Some(pages) = pages(matches) else {
+        return Err(WordsError::Usage(Usage::NotLawful));
+    };
+    let session = session(alloc, GUEST_STEPS, words, matches, arguments)?;
+    Ok(Command::Interp {
+        input,
+        name,
+        pages,
+        session,
+    })
+}
+
+fn run(
+    alloc: Global,
+    words: &[String],
+    matches: &ArgMatches<'_>,
+    arguments: &[String],
+) -> Result<Command, WordsError>
+    ensures { Reads (run_from (texts words.now) (first_value (found_of matches.now)) (texts arguments.now)) result }
+{
+    let name = class(alloc, words, matches)?;
+    let Some(region) = region_words(matches) else {
+        return Err(WordsError::Usage(Usage::NotLawful));
+    };
+    let session = session(alloc, CLASS_STEPS, words, matches, arguments)?;
+    Ok(Command::Run {
+        name,
+        words: region,
+        session,
+    })
+}
+
+fn verify(alloc: Global, words: &[String], matches: &ArgMatches<'_>) -> Result<Command, WordsError>
+    ensures { Reads (verify_from (texts words.now) (first_value (found_of matches.now)) []) result }
+{
+    let name = class(alloc, words, matches)?;
+    Ok(Command::Verify { name })
+}
+
+fn asm(alloc: Global, words: &[String], matches: &ArgMatches<'_>) -> Result<Command, WordsError>
+    ensures { Reads (asm_from (texts words.now) (first_value (found_of matches.now)) []) result }
+{
+    let input = input(alloc, words, matches, "IN")?;
+    let Some(output) = matches.get_str("OUT") else {
+        return Err(WordsError::Usage(Usage::NotLawful));
+    };
+    let output = Text::new(String::from_str(alloc, output)?);
+    Ok(Command::Asm { input, output })
+}
+
+fn list(alloc: Global, words: &[String], matches: &ArgMatches<'_>) -> Result<Command, WordsError>
+    ensures { Reads (list_from (texts words.now) (first_value (found_of matches.now)) []) result }
+{
+    let input = input(alloc, words, matches, "IN")?;
+    Ok(Command::List { input })
+}
+
+fn counter(matches: &ArgMatches<'_>) -> Result<Command, WordsError>
+    ensures { Reads (make_from [] (first_value (found_of matches.now)) []) result }
+{
+    let Some(count) = matches.get_str("N") else {
+        return Err(WordsError::Usage(Usage::NotLawful));
+    };
+    let Some(count) = small_number_in(count, 1, 65_536) else {
+        return Err(WordsError::Usage(Usage::NotLawful));
+    };
+    let Some(method_bytes) = method_bytes(matches) else {
+        return Err(WordsError::Usage(Usage::NotLawful));
+    };
+    Ok(Command::Make {
+        count,
+        method_bytes,
+    })
+}

@@ -1,0 +1,179 @@
+ghost use Rattle.std.specs.Prelude.{◌≡◌, if◌then◌else◌};
+ghost use Rattle.command_words.specs.Given.{value_place};
+ghost use Rattle.clap.specs.Words.{first_value, found_of};
+ghost use Rattle.command_words.specs.Answers.{Reads};
+ghost use Rattle.command_words.specs.Meaning.{arguments_in, class_in, disk_in, heap_in, input_in, method_bytes_in, name_in, name_list_in, pages_in, region_words_in, session_in, stack_in, steps_in, word_number};
+ghost use Rattle.command_words.specs.Word.{texts};
+
+use crate::name_list::NameList;
+use crate::named::Named;
+use crate::names::{are_arguments, copied_words, is_class_name, names_in};
+use crate::number::{number_or, small_number_or};
+use crate::pages::Pages;
+use crate::place::{value_place, word_number, word_place};
+use crate::session::Session;
+use crate::text::Text;
+use crate::texts::Texts;
+use crate::usage::Usage;
+use crate::words_error::WordsError;
+use clap::ArgMatches;
+use std::alloc::{AllocError, Global};
+
+/// The file that the first plain word names.
+pub(crate) fn input(
+    alloc: Global,
+    words: &[String],
+    matches: &ArgMatches<'_>,
+    name: &str,
+) -> Result<Named, WordsError>
+    ensures { Reads (input_in (texts words.now) name.now (first_value (found_of matches.now))) result }
+{
+    match matches.get_str(name) {
+        Some(text) => {
+            let text = Text::new(String::from_str(alloc, text)?);
+            Ok(Named {
+                word: word_number(word_place(words)),
+                text,
+            })
+        }
+        None => Err(WordsError::Usage(Usage::NotLawful)),
+    }
+}
+
+/// The class that the first plain word names.
+pub(crate) fn class(
+    alloc: Global,
+    words: &[String],
+    matches: &ArgMatches<'_>,
+) -> Result<Named, WordsError>
+    ensures { Reads (class_in (texts words.now) (first_value (found_of matches.now))) result }
+{
+    match matches.get_str("NAME") {
+        Some(text) => {
+            if is_class_name(text.as_bytes()) {
+                input(alloc, words, matches, "NAME")
+            } else {
+                Err(WordsError::Usage(Usage::NotLawful))
+            }
+        }
+        None => Err(WordsError::Usage(Usage::NotLawful)),
+    }
+}
+
+/// The name of the classes, `Main` where the option is left out.
+pub(crate) fn name(alloc: Global, matches: &ArgMatches<'_>) -> Result<Text, WordsError>
+    ensures { Reads (name_in (first_value (found_of matches.now))) result }
+{
+    match matches.get_str("name") {
+        Some(text) => {
+            if is_class_name(text.as_bytes()) {
+                Ok(Text::new(String::from_str(alloc, text)?))
+            } else {
+                Err(WordsError::Usage(Usage::NotLawful))
+            }
+        }
+        None => Ok(Text::new(String::from_str(alloc, "Main")?)),
+    }
+}
+
+/// The names that an option gives, with the number of its word.
+fn name_list(
+    alloc: Global,
+    words: &[String],
+    matches: &ArgMatches<'_>,
+    name: &str,
+) -> Result<NameList, WordsError>
+    ensures { Reads (name_list_in (texts words.now) name.now (first_value (found_of matches.now))) result }
+{
+    let text = matches.get_str(name);
+    let names = names_in(alloc, text)?;
+    let word = list_word(words, name, text.is_some());
+    Ok(NameList { word, names })
+}
+
+/// The number of an option's word, 0 where it is left out.
+fn list_word(words: &[String], name: &str, is_given: bool) -> u32
+    ensures { result ≡ (if is_given then word_number (value_place name.now (texts words.now)) else 0) }
+{
+    if is_given {
+        word_number(value_place(name, words))
+    } else {
+        0
+    }
+}
+
+/// The sizes of the heap and the stack.
+pub(crate) fn pages(matches: &ArgMatches<'_>) -> Option<Pages>
+    ensures { result ≡ pages_in (first_value (found_of matches.now)) }
+{
+    let heap = small_number_or(matches.get_str("heap"), 0, 32_768, 256)?;
+    let stack = small_number_or(matches.get_str("stack"), 1, 32_768, 64)?;
+    Some(Pages { heap, stack })
+}
+
+/// The greatest length of a method.
+pub(crate) fn method_bytes(matches: &ArgMatches<'_>) -> Option<u32>
+    ensures { result ≡ method_bytes_in (first_value (found_of matches.now)) }
+{
+    small_number_or(matches.get_str("method-bytes"), 4_096, 65_535, 65_535)
+}
+
+/// The words of the class machine's region.
+pub(crate) fn region_words(matches: &ArgMatches<'_>) -> Option<u32>
+    ensures { result ≡ region_words_in (first_value (found_of matches.now)) }
+{
+    small_number_or(matches.get_str("words"), 1, 68_288_580, 4_194_304)
+}
+
+/// The steps, of which `most` are the greatest number and the default.
+fn steps(matches: &ArgMatches<'_>, most: u64) -> Option<u64>
+    ensures { result ≡ steps_in most (first_value (found_of matches.now)) }
+{
+    number_or(matches.get_str("steps"), 0, most, most)
+}
+
+/// The blocks of the disk.
+fn disk(matches: &ArgMatches<'_>) -> Option<u32>
+    ensures { result ≡ disk_in (first_value (found_of matches.now)) }
+{
+    small_number_or(matches.get_str("disk"), 0, 65_536, 1_024)
+}
+
+/// How a guest or a class is run, in at most `most` steps.
+pub(crate) fn session(
+    alloc: Global,
+    most: u64,
+    words: &[String],
+    matches: &ArgMatches<'_>,
+    arguments: &[String],
+) -> Result<Session, WordsError>
+    ensures { Reads (session_in most (texts words.now) (first_value (found_of matches.now)) (texts arguments.now)) result }
+{
+    let Some(steps) = steps(matches, most) else {
+        return Err(WordsError::Usage(Usage::NotLawful));
+    };
+    let Some(disk) = disk(matches) else {
+        return Err(WordsError::Usage(Usage::NotLawful));
+    };
+    let with = name_list(alloc, words, matches, "with")?;
+    let keep = name_list(alloc, words, matches, "keep")?;
+    let arguments = arguments_in(alloc, arguments)?;
+    Ok(Session {
+        steps,
+        disk,
+        with,
+        keep,
+        arguments,
+    })
+}
+
+/// The arguments.
+fn arguments_in(alloc: Global, arguments: &[String]) -> Result<Texts, WordsError>
+    ensures { Reads (arguments_in (texts arguments.now)) result }
+{
+    if !are_arguments(arguments) {
+        return Err(WordsError::Usage(Usage::NotLawful));
+    }
+    let texts = copied_words(alloc, arguments)?;
+    Ok(Texts::new(texts))
+}
