@@ -2,9 +2,3 @@ pub mod TrapLemmas
 pub mod TurnLemmas
 pub mod RegisterLemmas
 pub mod FieldLemmas
-pub mod CodeLemmas
-pub mod MapLemmas
-pub mod MemoryLemmas
-pub mod LaneForms
-pub mod PageLemmas
-pub mod WordLemmas

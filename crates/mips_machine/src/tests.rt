@@ -4,7 +4,7 @@ ghost use Rattle.std.specs.Prelude.{◌≡◌, ◌<◌, false, length, IfOk, vec
 ghost use Rattle.mips_machine.specs.Guest.{has_ended};
 
 use super::*;
-use mips_decode::{LoadName, StoreName};
+use guest_memory::{Code, GuestMemory};
 use nv_events::{Fault, Outcome, Reply, Scripted, View};
 use std::alloc::{AllocError, Global};
 use std::test::Fail;
@@ -229,8 +229,5 @@ fn pages_are_written_where_they_may_be(rt: HostRuntime) -> Result<(), Fail> {
     assert!(rt; !mips.writable(0xffff_ffff));
     assert_eq!(rt; mips.register(29), 0x7fff_eff0);
     assert_eq!(rt; (mips.hi(), mips.lo()), (0, 0));
-    let mut memory = GuestMemory::new(rt.alloc())?;
-    assert_eq!(rt; memory.load(LoadName::Lb, 0, 0), None);
-    assert!(rt; !memory.store(StoreName::Sb, 0, 0));
     Ok(())
 }
