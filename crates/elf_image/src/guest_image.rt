@@ -1,14 +1,14 @@
-ghost use Rattle.std.specs.Prelude.{◌≡◌, IfOk, All, length};
+ghost use Rattle.std.specs.Prelude.{◌≡◌, ℕ, ◌+◌, ◌*◌, ◌%◌, ◌<◌, IfOk, IfSome, is_some, All, length, slice_index};
 ghost use Rattle.std.specs.List.{list_any};
 ghost use Rattle.elf_reader.specs.Header.{header_of};
 ghost use Rattle.elf_reader.specs.Segments.{live};
 ghost use Rattle.elf_reader.specs.Area.{area, has_address};
 ghost use Rattle.elf_reader.specs.Fault.{IsRunsOf, IsSound};
-ghost use Rattle.elf_image.specs.Content.{stored_word};
+ghost use Rattle.elf_image.specs.Content.{stored_word, is_filled_page};
 ghost use Rattle.elf_image.specs.Start.{image_of, readable, writable};
 
 use crate::layout::Layout;
-use crate::page_table::{PageTable, page_table, table_byte, table_word};
+use crate::page_table::{PageTable, page_table, table_byte, table_page, table_word};
 use elf_reader::{Elf, Range, Segment};
 use std::alloc::{AllocError, Global};
 use std::marker::Model;
@@ -122,11 +122,25 @@ impl Image {
             Some(table_byte(
                 self.table.index.as_slice(),
                 self.table.stored.as_slice(),
-                u64::from(at),
+                at,
             ))
         } else {
             None
         }
+    }
+
+    /// The 1,024 big-endian words of a page of the segments that holds a byte that is not 0, in the order of their addresses.
+    pub fn page(&self, page: u32) -> Option<&[u32]>
+        ensures filled { is_some result ≡ is_filled_page self.now.file (live self.now.file) page }
+        ensures len { IfSome result (λ words. length words.now ≡ 1024) }
+        ensures words { IfSome result (λ words. (k : ℕ) → k < 1024
+            → slice_index words.now k ≡ stored_word self.now.file (live self.now.file) (4096 * page + 4 * k)) }
+    {
+        table_page(
+            self.table.index.as_slice(),
+            self.table.stored.as_slice(),
+            page,
+        )
     }
 
     /// How many pages can be read.
@@ -153,14 +167,15 @@ impl Image {
         4096 * self.heap
     }
 
-    /// The big-endian word at an address of the segments.
+    /// The big-endian word at an address of the segments that is a multiple of 4.
     fn stored_word(&self, at: u32) -> u32
+        requires { at % 4 ≡ 0 }
         ensures { result ≡ stored_word self.now.file (live self.now.file) at }
     {
         table_word(
             self.table.index.as_slice(),
             self.table.stored.as_slice(),
-            u64::from(at),
+            at / 4,
         )
     }
 
