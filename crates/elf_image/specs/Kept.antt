@@ -1,9 +1,9 @@
 -- What an image keeps beside its file: numbers and tables of it that are looked up again and again.
-use Rattle.std.specs.Prelude.{◌≡◌, ℕ, ◌*◌, ◌≤◌, ◌==◌, not, List, length, slice_index}
+use Rattle.std.specs.Prelude.{◌≡◌, ℕ, ◌+◌, ◌*◌, ◌^◌, ◌≤◌, false, ◌==◌, not, List, length, slice_index, All}
 use Rattle.elf_reader.specs.declared.segment.Segment.{Segment}
 use Rattle.elf_reader.specs.declared.range.Range.{Range}
 use Rattle.elf_reader.specs.Header.{header_of}
-use Rattle.elf_reader.specs.Segments.{live}
+use Rattle.elf_reader.specs.Segments.{live, segment_end}
 use Rattle.elf_reader.specs.Area.{area}
 use Rattle.elf_reader.specs.Fault.{IsRunsOf}
 use Rattle.elf_image.specs.Pages.{heap_page, mapped_pages}
@@ -23,3 +23,7 @@ pub record IsKept (file : List ℕ) (entry : ℕ) (segments : List Segment) (cod
   pub heap_fits : heap ≤ 32768
   pub stack_fits : stack ≤ 32768
   pub same_mapped : mapped ≡ mapped_pages segments heap stack
+  -- segments, heap and code end below 80000000
+  pub segments_low : All (λ (s : Segment). segment_end s ≤ 0x7F00_0000) segments
+  pub heap_end : heap_page segments + heap ≤ 524288
+  pub code_end : (at : ℕ) → 2 ^ 31 ≤ at → area file at ≡ false

@@ -1,10 +1,12 @@
-ghost use Rattle.std.specs.Prelude.{◌≡◌, ℕ, ◌+◌, ◌*◌, ◌%◌, ◌<◌, IfOk, IfSome, is_some, All, length, slice_index};
+ghost use Rattle.std.specs.Prelude.{◌≡◌, ℕ, ◌+◌, ◌*◌, ◌/◌, ◌%◌, ◌^◌, ◌<◌, ◌≤◌, false, IfOk, IfSome, is_some, All, length, slice_index};
 ghost use Rattle.std.specs.List.{list_any};
 ghost use Rattle.elf_reader.specs.Header.{header_of};
 ghost use Rattle.elf_reader.specs.Segments.{live};
 ghost use Rattle.elf_reader.specs.Area.{area, has_address};
 ghost use Rattle.elf_reader.specs.Fault.{IsRunsOf, IsSound};
-ghost use Rattle.elf_image.specs.Content.{stored_word, is_filled_page};
+ghost use Rattle.elf_image.specs.Content.{stored_byte, stored_word, is_filled_page};
+ghost use Rattle.nv_words.specs.Words.{lane_of_word};
+ghost use Rattle.elf_image.specs.Pages.{heap_page};
 ghost use Rattle.elf_image.specs.Start.{image_of, readable, writable};
 
 use crate::layout::Layout;
@@ -53,6 +55,8 @@ impl Image {
         requires sound { All (IsSound (length elf.now.file.now)) elf.now.segments.items }
         requires layout { layout.now.segments.now ≡ live elf.now.file.now }
         requires code { IsRunsOf (area elf.now.file.now) elf.now.code.items }
+        requires heap_end { heap_page (live elf.now.file.now) + layout.now.heap ≤ 524288 }
+        requires code_end { (at : ℕ) → 2 ^ 31 ≤ at → area elf.now.file.now at ≡ false }
         ensures { IfOk result (λ i. i ≡ record { file = elf.now.file.now; heap = layout.now.heap; stack = layout.now.stack }) }
     {
         let file = elf.file.to_vec(alloc)?;
@@ -165,6 +169,17 @@ impl Image {
         ensures { result ≡ (image_of self.now).heap_bytes }
     {
         4096 * self.heap
+    }
+
+    /// Does nothing. It tells which bytes the words of an image are, and that its pages and its code end below 80000000
+    /// (hexadecimal).
+    pub fn laws(&self)
+        ensures lanes { (at : ℕ) → lane_of_word (stored_word self.now.file (live self.now.file) (4 * (at / 4))) (at % 4) ≡ stored_byte self.now.file (live self.now.file) at }
+        ensures zeros { (at : ℕ) → is_filled_page self.now.file (live self.now.file) (at / 4096) ≡ false → stored_byte self.now.file (live self.now.file) at ≡ 0 }
+        ensures pages { (page : ℕ) → 524288 ≤ page → readable self.now page ≡ false }
+        ensures code { (at : ℕ) → 2 ^ 31 ≤ at → area self.now.file at ≡ false }
+    {
+        let _ = &self.stack;
     }
 
     /// The big-endian word at an address of the segments that is a multiple of 4.
