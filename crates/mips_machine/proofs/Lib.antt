@@ -2,3 +2,6 @@ pub mod TrapLemmas
 pub mod TurnLemmas
 pub mod RegisterLemmas
 pub mod FieldLemmas
+pub mod LoadLemmas
+pub mod CodeLoading
+pub mod ImageLemmas

@@ -5,3 +5,4 @@ pub mod Settling
 pub mod Steps
 pub mod Guest
 pub mod GuestLaws
+pub mod Loading

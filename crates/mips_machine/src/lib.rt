@@ -4,10 +4,12 @@
 mod accessing;
 mod arithmetic;
 mod branching;
+mod code_loader;
 mod computing;
 mod execute;
 mod executed;
 mod kinds;
+mod memory_loader;
 mod mips;
 mod processor;
 mod registers;
