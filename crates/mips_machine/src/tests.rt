@@ -1,11 +1,12 @@
 //! Small programs at 00400000 (hexadecimal), run over written replies.
 
-ghost use Rattle.std.specs.Prelude.{◌≡◌, false, IfOk};
+ghost use Rattle.std.specs.Prelude.{◌≡◌, ◌<◌, false, length, IfOk};
 ghost use Rattle.mips_machine.specs.Guest.{has_ended};
 
 use super::*;
 use elf_image::image;
 use elf_reader::read_elf;
+use guest_memory::{Code, GuestMemory};
 use nv_events::{Fault, Outcome, Reply, Scripted, View};
 use std::alloc::{AllocError, Global};
 use std::test::Fail;
@@ -14,14 +15,56 @@ const CODE: u32 = 0x0040_0000;
 
 const HEAP: u32 = 0x0040_1000;
 
+const HEAP_PAGE: u32 = 0x401;
+
+const STACK_PAGE: u32 = 0x7fffe;
+
+const ARGUMENT_PAGE: u32 = 0x7ffff;
+
+/// Adds a page that is not there yet.
+fn add_page(
+    memory: &mut GuestMemory,
+    page: u32,
+    writable: bool,
+    words: &[u32],
+) -> Result<(), AllocError>
+    requires low { page < 524288 }
+    requires whole { length words.now ≡ 1024 }
+{
+    if memory.byte(page << 12).is_some() {
+        return Err(AllocError);
+    }
+    memory.map_page(page, writable, words)
+}
+
+/// A machine with a page of code, and writable pages for the heap, the stack and the arguments.
+fn machine(alloc: Global, words: &[u32]) -> Result<Mips, Fail>
+    ensures { IfOk result (λ m. has_ended m ≡ false) }
+{
+    let empty = vec![in alloc; 0u32; 1024]?;
+    let mut page = vec![in alloc]?;
+    page.extend_from_slice(words)?;
+    page.resize(1024, 0)?;
+    let mut memory = GuestMemory::new(alloc)?;
+    add_page(&mut memory, CODE >> 12, false, &page)?;
+    add_page(&mut memory, HEAP_PAGE, true, &empty)?;
+    add_page(&mut memory, STACK_PAGE, true, &empty)?;
+    add_page(&mut memory, ARGUMENT_PAGE, true, &empty)?;
+    let mut code = Code::new(alloc)?;
+    for i in 0..words.len().min(1024) {
+        code.put(CODE + 4 * i as u32, words[i])?;
+    }
+    Ok(Mips::new(memory, code, CODE, HEAP, 4096))
+}
+
 /// The header of an ELF file of one segment at 00400000 (hexadecimal), up to the segment's size.
 const HEADER: [u32; 17] = [
     0x7f454c46, 0x01020100, 0, 0, 0x00020008, 1, CODE, 0x34, 0, 0, 0x00340020, 0x00010028, 0, 1,
     0x54, CODE, CODE,
 ];
 
-/// A program of these words, with one page of heap and one of stack.
-fn machine(alloc: Global, words: &[u32]) -> Result<Mips, Fail>
+/// The same program, loaded from a file of one segment.
+fn loaded(alloc: Global, words: &[u32]) -> Result<Mips, Fail>
     ensures { IfOk result (λ m. has_ended m ≡ false) }
 {
     let size = 4 * words.len().min(4096) as u32;
@@ -194,6 +237,18 @@ fn programs_end_as_the_manual_says(rt: HostRuntime) -> Result<(), Fail> {
 }
 
 #[test]
+fn a_file_is_loaded_and_run(rt: HostRuntime) -> Result<(), Fail> {
+    let alloc = rt.alloc();
+    let mut mips = loaded(alloc, &[0x24020001, 0x24040007, 0x0000000c])?;
+    let mut server = replies(alloc, &[])?;
+    assert_eq!(rt; mips.byte(CODE + 7), Some(7));
+    assert_eq!(rt; (mips.byte(HEAP), mips.byte(HEAP + 4096)), (Some(0), None));
+    assert!(rt; !mips.writable(CODE) && mips.writable(HEAP));
+    assert_eq!(rt; mips.run(4, &mut server)?, Outcome::Exited(7));
+    Ok(())
+}
+
+#[test]
 fn a_program_waits_for_its_arguments(rt: HostRuntime) -> Result<(), Fail> {
     let mut mips = machine(rt.alloc(), &[0x24020001])?;
     let mut server = Scripted::new(Vec::new(rt.alloc()));
@@ -210,7 +265,7 @@ fn a_thousand_branches_with_their_slots(rt: HostRuntime) -> Result<(), Fail> {
         words.extend_from_slice(&[0x10000001, 0x24840001])?;
     }
     words.extend_from_slice(&[0x24020001, 0x0000000c])?;
-    let mut mips = machine(alloc, &words)?;
+    let mut mips = loaded(alloc, &words)?;
     let mut server = replies(alloc, &[])?;
     assert_eq!(rt; mips.run(2002, &mut server)?, Outcome::Going);
     assert!(rt; !mips.ended());
@@ -233,7 +288,7 @@ fn after(alloc: Global, a: u32, b: u32, inst: u32) -> Result<Mips, Fail> {
     Ok(mips)
 }
 
-// The values are those of qemu-mips 8.2.
+// The values are those of qemu-mips 7.2.
 #[test]
 fn instructions_give_the_values_of_another_machine(rt: HostRuntime) -> Result<(), Fail> {
     // registers 8 and 9, an instruction, and register 10 after it
@@ -252,7 +307,11 @@ fn instructions_give_the_values_of_another_machine(rt: HostRuntime) -> Result<()
         [0xffff8001, 0, 0x310a8000, 0x00008000],
     ];
     for [a, b, inst, value] in results {
-        assert_eq!(rt; after(rt.alloc(), a, b, inst)?.register(10), value, "{inst:x}");
+        assert_eq!(rt;
+            after(rt.alloc(), a, b, inst)?.register(10),
+            value,
+            "{inst:x}"
+        );
     }
     // registers 8 and 9, an instruction, and HI and LO after it
     let products: [[u32; 5]; 6] = [
