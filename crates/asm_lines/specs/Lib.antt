@@ -1,0 +1,9 @@
+pub mod Lexical
+pub mod Numbers
+pub mod Mnemonics
+pub mod Lines
+pub mod Operands
+pub mod Limits
+pub mod Statements
+pub mod KeptLabels
+pub mod Cuts

@@ -1,0 +1,8 @@
+/// A number as it is written: a sign and a magnitude.
+#[derive(Clone, Copy)]
+pub struct Number {
+    /// Whether a `-` stands before the digits.
+    pub negative: bool,
+    /// What the digits are.
+    pub magnitude: u64,
+}

@@ -1,0 +1,10 @@
+use Rattle.std.proofs.Common.{[], ◌∷◌, sym}
+use Rattle.asm_lines.specs.Lexical.{operands_of}
+use Rattle.mips_asm.specs.Instructions.{Register}
+use Rattle.mips_asm.specs.Halves.{form_of}
+use Rattle.mips_asm.proofs.ShapeLemmas.{other_count}
+use Rattle.mips_asm.proofs.operands.Operands.register_and_half.Goals as goal
+
+pub returns-in-None : goal.returns-in-None
+returns-in-None c =
+    sym (other_count c.args.self.now.labels.now c.args.self.now.at (Register ∷ form_of c.args.form ∷ []) (operands_of c.args.self.now.text.now) (sym c.in-None.ensures.count))

@@ -1,0 +1,38 @@
+//! Assembles the text of MIPS I programs.
+#![tactic(auto)]
+
+mod asm_error;
+mod asm_fault;
+mod assembler;
+mod both;
+mod directives;
+mod examples;
+mod filling;
+mod fillings;
+mod first_pass;
+mod found;
+mod half_form;
+mod instruction;
+mod operands;
+mod place;
+mod program_file;
+mod second_pass;
+mod segments;
+
+pub use asm_error::AsmError;
+pub use asm_fault::AsmFault;
+pub use assembler::assemble;
+pub use directives::{size_of_statement, space_value, word_value};
+pub use examples::{lines_have_words, operands_have_kinds, texts_have_programs};
+pub use filling::Filling;
+pub use fillings::filling_of;
+pub use first_pass::find_labels;
+pub use found::Found;
+pub use instruction::instruction_of;
+pub use operands::Operands;
+pub use place::Place;
+pub use second_pass::fill_segments;
+pub use segments::Segments;
+
+#[cfg(test)]
+mod tests;
