@@ -1,0 +1,4 @@
+pub mod Examples
+pub mod PathLemmas
+pub mod ReadLemmas
+pub mod WriteLemmas
