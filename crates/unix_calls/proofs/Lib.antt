@@ -1,4 +1,0 @@
-pub mod Examples
-pub mod PathLemmas
-pub mod ReadLemmas
-pub mod WriteLemmas
