@@ -7,3 +7,4 @@ pub mod MatchLemmas
 pub mod NumberLemmas
 pub mod NameLemmas
 pub mod EndLemmas
+pub mod LimitLemmas

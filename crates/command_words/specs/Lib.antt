@@ -4,3 +4,4 @@ pub mod Values
 pub mod Meaning
 pub mod Answers
 pub mod Builder
+pub mod Limits

@@ -1,5 +1,6 @@
 ghost use Rattle.std.specs.Prelude.{◌≡◌, IfOk, Ok, Err, ◌&&◌, not, position, string_bytes};
 ghost use Rattle.command_words.specs.Answers.{Reads};
+ghost use Rattle.command_words.specs.Limits.{IsWithinLimits};
 ghost use Rattle.command_words.specs.Meaning.{after_end, before_end, command_after, command_of, has_end, takes_arguments};
 ghost use Rattle.command_words.specs.Word.{is_end, texts};
 ghost use Rattle.command_words.specs.declared.usage.Usage.{Usage};
@@ -19,6 +20,7 @@ use std::alloc::Global;
 /// it yields to want of memory, as the command does.
 pub fn read_words(alloc: Global, words: &[String]) -> Result<Command, WordsError>
     ensures ok { IfOk result (λ command. command_of (texts words.now) ≡ Ok command) }
+    ensures limits { IfOk result IsWithinLimits }
     ensures usage { (fault : Usage) → result ≡ Err (WordsError.Usage fault) → command_of (texts words.now) ≡ Err fault }
 {
     let Some((first, others)) = words.split_first() else {

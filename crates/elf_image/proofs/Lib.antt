@@ -2,4 +2,5 @@ pub mod Counting
 pub mod Floats
 pub mod Accepted
 pub mod TableLemmas
+pub mod ImageLaws
 mod Examples

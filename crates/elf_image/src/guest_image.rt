@@ -1,14 +1,16 @@
-ghost use Rattle.std.specs.Prelude.{◌≡◌, IfOk, All, length};
+ghost use Rattle.std.specs.Prelude.{◌≡◌, ℕ, ◌+◌, ◌*◌, ◌/◌, ◌%◌, ◌^◌, ◌<◌, ◌≤◌, false, IfOk, IfSome, is_some, All, length, slice_index};
 ghost use Rattle.std.specs.List.{list_any};
 ghost use Rattle.elf_reader.specs.Header.{header_of};
 ghost use Rattle.elf_reader.specs.Segments.{live};
 ghost use Rattle.elf_reader.specs.Area.{area, has_address};
 ghost use Rattle.elf_reader.specs.Fault.{IsRunsOf, IsSound};
-ghost use Rattle.elf_image.specs.Content.{stored_word};
+ghost use Rattle.elf_image.specs.Content.{stored_byte, stored_word, is_filled_page};
+ghost use Rattle.nv_words.specs.Words.{lane_of_word};
+ghost use Rattle.elf_image.specs.Pages.{heap_page};
 ghost use Rattle.elf_image.specs.Start.{image_of, readable, writable};
 
 use crate::layout::Layout;
-use crate::page_table::{PageTable, page_table, table_byte, table_word};
+use crate::page_table::{PageTable, page_table, table_byte, table_page, table_word};
 use elf_reader::{Elf, Range, Segment};
 use std::alloc::{AllocError, Global};
 use std::marker::Model;
@@ -53,6 +55,8 @@ impl Image {
         requires sound { All (IsSound (length elf.now.file.now)) elf.now.segments.items }
         requires layout { layout.now.segments.now ≡ live elf.now.file.now }
         requires code { IsRunsOf (area elf.now.file.now) elf.now.code.items }
+        requires heap_end { heap_page (live elf.now.file.now) + layout.now.heap ≤ 524288 }
+        requires code_end { (at : ℕ) → 2 ^ 31 ≤ at → area elf.now.file.now at ≡ false }
         ensures { IfOk result (λ i. i ≡ record { file = elf.now.file.now; heap = layout.now.heap; stack = layout.now.stack }) }
     {
         let file = elf.file.to_vec(alloc)?;
@@ -122,11 +126,25 @@ impl Image {
             Some(table_byte(
                 self.table.index.as_slice(),
                 self.table.stored.as_slice(),
-                u64::from(at),
+                at,
             ))
         } else {
             None
         }
+    }
+
+    /// The 1,024 big-endian words of a page of the segments that holds a byte that is not 0, in the order of their addresses.
+    pub fn page(&self, page: u32) -> Option<&[u32]>
+        ensures filled { is_some result ≡ is_filled_page self.now.file (live self.now.file) page }
+        ensures len { IfSome result (λ words. length words.now ≡ 1024) }
+        ensures words { IfSome result (λ words. (k : ℕ) → k < 1024
+            → slice_index words.now k ≡ stored_word self.now.file (live self.now.file) (4096 * page + 4 * k)) }
+    {
+        table_page(
+            self.table.index.as_slice(),
+            self.table.stored.as_slice(),
+            page,
+        )
     }
 
     /// How many pages can be read.
@@ -153,14 +171,26 @@ impl Image {
         4096 * self.heap
     }
 
-    /// The big-endian word at an address of the segments.
+    /// Does nothing. It tells which bytes the words of an image are, and that its pages and its code end below 80000000
+    /// (hexadecimal).
+    pub fn laws(&self)
+        ensures lanes { (at : ℕ) → lane_of_word (stored_word self.now.file (live self.now.file) (4 * (at / 4))) (at % 4) ≡ stored_byte self.now.file (live self.now.file) at }
+        ensures zeros { (at : ℕ) → is_filled_page self.now.file (live self.now.file) (at / 4096) ≡ false → stored_byte self.now.file (live self.now.file) at ≡ 0 }
+        ensures pages { (page : ℕ) → 524288 ≤ page → readable self.now page ≡ false }
+        ensures code { (at : ℕ) → 2 ^ 31 ≤ at → area self.now.file at ≡ false }
+    {
+        let _ = &self.stack;
+    }
+
+    /// The big-endian word at an address of the segments that is a multiple of 4.
     fn stored_word(&self, at: u32) -> u32
+        requires { at % 4 ≡ 0 }
         ensures { result ≡ stored_word self.now.file (live self.now.file) at }
     {
         table_word(
             self.table.index.as_slice(),
             self.table.stored.as_slice(),
-            u64::from(at),
+            at / 4,
         )
     }
 

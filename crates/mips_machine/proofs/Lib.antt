@@ -2,9 +2,6 @@ pub mod TrapLemmas
 pub mod TurnLemmas
 pub mod RegisterLemmas
 pub mod FieldLemmas
-pub mod CodeLemmas
-pub mod MapLemmas
-pub mod MemoryLemmas
-pub mod LaneForms
-pub mod PageLemmas
-pub mod WordLemmas
+pub mod LoadLemmas
+pub mod CodeLoading
+pub mod ImageLemmas

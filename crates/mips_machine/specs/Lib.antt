@@ -1,7 +1,3 @@
-pub mod Pages
-pub mod OneWord
-pub mod ViewLaws
-pub mod CodePages
 pub mod Fields
 pub mod Registers
 pub mod Processor
@@ -9,3 +5,4 @@ pub mod Settling
 pub mod Steps
 pub mod Guest
 pub mod GuestLaws
+pub mod Loading

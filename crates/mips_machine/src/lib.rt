@@ -4,24 +4,18 @@
 mod accessing;
 mod arithmetic;
 mod branching;
-mod code;
+mod code_loader;
 mod computing;
 mod execute;
 mod executed;
 mod kinds;
-mod lanes;
-mod line;
-mod memory;
+mod memory_loader;
 mod mips;
-mod page;
 mod processor;
 mod registers;
 mod step;
 mod turning;
 
-pub use code::Code;
-pub use line::Line;
-pub use memory::{GuestMemory, NoMemory};
 pub use mips::Mips;
 pub use step::Step;
 

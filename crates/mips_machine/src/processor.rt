@@ -1,12 +1,11 @@
 ghost use Rattle.std.specs.Prelude.{◌≡◌, ℕ, ◌<◌};
 ghost use Rattle.mips_decode.specs.State.{register, with_register, start};
-ghost use Rattle.mips_machine.specs.Pages.{memory_of};
-ghost use Rattle.mips_machine.specs.CodePages.{code_of};
+ghost use Rattle.guest_memory.specs.Pages.{memory_of};
+ghost use Rattle.guest_memory.specs.CodePages.{code_of};
 ghost use Rattle.mips_machine.specs.Processor.{processor_state};
 
-use crate::code::Code;
-use crate::memory::GuestMemory;
 use crate::registers::Registers;
+use guest_memory::{Code, GuestMemory};
 
 /// The processor, with its memory and the program's code.
 ///

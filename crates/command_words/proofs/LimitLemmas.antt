@@ -1,0 +1,183 @@
+-- The limits that the definition keeps.
+use Rattle.std.proofs.Common.{◌≡◌, ◌∙◌, ◌<◌, ◌≤◌, ◌&&◌, ℕ, Bool, cond, true, false, not, refl, sym, ap, subst, arith, List, [], ◌∷◌, length, codes, Option, Some, None, is_some, option_map, Result, Ok, Err, IfOk, true≢false, bytes_eq}
+use Rattle.std.specs.Prelude.{IfSome, option_and_then, ⊤, nat_le}
+use Rattle.std.specs.List.{All, list_all}
+use Rattle.std.specs.Option.{option_map_or}
+use Rattle.std.proofs.lemmas.List.Elements.{All-cons, All-nil}
+use Rattle.std.proofs.lemmas.Bool.Decides.{nat_tests}
+use Rattle.command_words.specs.Word.{Text}
+use Rattle.command_words.specs.Given.{Form, given_in, value_in}
+use Rattle.command_words.specs.Values.{all_different, are_arguments, are_file_names, has_zero, is_class_name, is_file_name, is_number, lies_in, names_in, names_of, number_in, number_or}
+use Rattle.std.specs.Str.Parse.{digits_value}
+use Rattle.command_words.specs.Meaning.{Maker, Value, arguments_in, class_in, class_steps, command_after, command_of, disk_in, go_from, guest_steps, has_end, input_in, interp_from, lawful_name, made, make_from, maker_of, method_bytes_in, name_in, name_list_in, named_command, name_of, pages_in, region_words_in, run_from, session_in, stack_in, heap_in, steps_in, takes_arguments, translate_from, verify_from, asm_from, list_from, form_of, before_end, after_end}
+use Rattle.command_words.specs.Answers.{Reads}
+use Rattle.command_words.specs.declared.words_error.WordsError.{WordsError}
+use Rattle.command_words.specs.Limits.{AreFileNames, AreMethodBytes, ArePages, IsClassName, IsFileName, IsSession, IsWithinLimits}
+use Rattle.command_words.specs.declared.command.Command.{Command}
+use Rattle.command_words.specs.declared.command_name.CommandName.{CommandName}
+use Rattle.command_words.specs.declared.command_name.CommandName.TheVariants as name
+use Rattle.command_words.specs.declared.named.Named.{Named}
+use Rattle.command_words.specs.declared.name_list.NameList.{NameList}
+use Rattle.command_words.proofs.FormWalk.{and_first, and_second}
+
+-- what holds of a first value leads to what holds of the second
+through : {A B : Type 0} (o : Option A) (f : A → Option B) (P : A → Type 0) (Q : B → Type 0) → IfSome o P → ((x : A) → P x → IfSome (f x) Q) → IfSome (option_and_then f o) Q
+through None f P Q p h = tt
+through (Some x) f P Q p h = h x p
+
+mapped : {A B : Type 0} (o : Option A) (f : A → B) (P : A → Type 0) (Q : B → Type 0) → IfSome o P → ((x : A) → P x → Q (f x)) → IfSome (option_map f o) Q
+mapped None f P Q p h = tt
+mapped (Some x) f P Q p h = h x p
+
+always : {A : Type 0} (o : Option A) → IfSome o (λ _. ⊤)
+always None = tt
+always (Some x) = tt
+
+if_some : {A : Type 0} (b : Bool) (x : A) (P : A → Type 0) → (b ≡ true → P x) → IfSome (cond b (Some x) None) P
+if_some true x P h = h refl
+if_some false x P h = tt
+
+in_range : (least most n : ℕ) → lies_in least most n ≡ true → (least ≤ n) × (n ≤ most)
+in_range least most n e = grind (arith, nat_tests)
+
+number_limits : (least most : ℕ) (text : Text) → IfSome (number_in least most text) (λ n. (least ≤ n) × (n ≤ most))
+number_limits least most text = if_some (is_number text && lies_in least most (digits_value 10 text)) (digits_value 10 text) (λ n. (least ≤ n) × (n ≤ most))
+    (λ e. in_range least most (digits_value 10 text) (and_second (is_number text) (lies_in least most (digits_value 10 text)) e))
+
+option_limits : (least most default : ℕ) (text : Option Text) → least ≤ default → default ≤ most → IfSome (number_or least most default text) (λ n. (least ≤ n) × (n ≤ most))
+option_limits least most default None low high = (low, high)
+option_limits least most default (Some text) low high = number_limits least most text
+
+pages_limits : (value : Value) → IfSome (pages_in value) ArePages
+pages_limits value =
+    through (heap_in value) (λ heap. option_map (λ stack. record { heap = heap; stack = stack }) (stack_in value)) (λ n. (0 ≤ n) × (n ≤ 32768)) ArePages (option_limits 0 32768 256 (value (codes "heap")) (omega arith) (omega arith))
+    (λ heap h. mapped (stack_in value) (λ stack. record { heap = heap; stack = stack }) (λ n. (1 ≤ n) × (n ≤ 32768)) ArePages (option_limits 1 32768 64 (value (codes "stack")) (omega arith) (omega arith))
+    (λ stack s. record { heap = h.1; some_stack = s.0; stack = s.1 }))
+
+bytes_limits : (value : Value) → IfSome (method_bytes_in value) AreMethodBytes
+bytes_limits value = option_limits 4096 65535 65535 (value (codes "method-bytes")) (omega arith) (omega arith)
+
+name_limits : (value : Value) → IfSome (name_in value) IsClassName
+name_limits value = go (value (codes "name"))
+  where
+    go : (o : Option Text) → IfSome (option_map_or lawful_name o (Some (codes "Main"))) IsClassName
+    go None = refl
+    go (Some text) = if_some (is_class_name text) text IsClassName (λ e. e)
+
+file_limits : (name : Text) → is_file_name name ≡ true → IsFileName name
+file_limits name e =
+    let sizes = in_range 1 255 (length name) (and_first (lies_in 1 255 (length name)) (not (has_zero name)) e) in
+    record { some = sizes.0; short = sizes.1; no_zero = negated (has_zero name) (and_second (lies_in 1 255 (length name)) (not (has_zero name)) e) }
+  where
+    negated : (b : Bool) → not b ≡ true → b ≡ false
+    negated true h = sym h
+    negated false h = refl
+
+all_from : (p : Text → Bool) (P : Text → Type 0) → ((t : Text) → p t ≡ true → P t) → (ts : List Text) → list_all p ts ≡ true → All P ts
+all_from p P h [] e = All-nil P
+all_from p P h (t ∷ ts) e = All-cons P t ts (h t (and_first (p t) (list_all p ts) e)) (all_from p P h ts (and_second (p t) (list_all p ts) e))
+
+names_limits : (names : List Text) → are_file_names names ≡ true → AreFileNames names
+names_limits names e =
+    let both = and_first (nat_le (length names) 64 && list_all is_file_name names) (all_different names) e in
+    record {
+      few = at_most (length names) (and_first (nat_le (length names) 64) (list_all is_file_name names) both);
+      each = all_from is_file_name IsFileName file_limits names (and_second (nat_le (length names) 64) (list_all is_file_name names) both);
+      different = and_second (nat_le (length names) 64 && list_all is_file_name names) (all_different names) e;
+    }
+  where
+    at_most : (n : ℕ) → nat_le n 64 ≡ true → n ≤ 64
+    at_most n h = grind (arith, nat_tests)
+
+list_limits : (words : List Text) (name : Text) (value : Value) → IfSome (name_list_in words name value) (λ l. AreFileNames l.names)
+list_limits words name value = mapped (names_in (value name)) _ AreFileNames (λ l. AreFileNames l.names) (go (value name)) (λ names h. h)
+  where
+    go : (o : Option Text) → IfSome (names_in o) AreFileNames
+    go None = names_limits [] refl
+    go (Some text) = if_some (are_file_names (names_of text)) (names_of text) AreFileNames (names_limits (names_of text))
+
+arguments_limits : (arguments : List Text) → IfSome (arguments_in arguments) (λ a. All (λ t. has_zero t ≡ false) a)
+arguments_limits arguments = if_some (are_arguments arguments) arguments (λ a. All (λ t. has_zero t ≡ false) a)
+    (all_from (λ t. not (has_zero t)) (λ t. has_zero t ≡ false) (λ t e. negated (has_zero t) e) arguments)
+  where
+    negated : (b : Bool) → not b ≡ true → b ≡ false
+    negated true h = sym h
+    negated false h = refl
+
+session_limits : (most : ℕ) (words : List Text) (value : Value) (arguments : List Text) → IfSome (session_in most words value arguments) (IsSession most)
+session_limits most words value arguments =
+    through (steps_in most value) _ (λ n. (0 ≤ n) × (n ≤ most)) (IsSession most) (option_limits 0 most most (value (codes "steps")) (omega arith) (omega arith)) (λ steps s.
+    through (disk_in value) _ (λ n. (0 ≤ n) × (n ≤ 65536)) (IsSession most) (option_limits 0 65536 1024 (value (codes "disk")) (omega arith) (omega arith)) (λ disk d.
+    through (name_list_in words (codes "with") value) _ (λ l. AreFileNames l.names) (IsSession most) (list_limits words (codes "with") value) (λ with w.
+    through (name_list_in words (codes "keep") value) _ (λ l. AreFileNames l.names) (IsSession most) (list_limits words (codes "keep") value) (λ keep k.
+    mapped (arguments_in arguments) _ (λ a. All (λ t. has_zero t ≡ false) a) (IsSession most) (arguments_limits arguments) (λ lawful a.
+    record { steps = s.1; disk = d.1; with = w; keep = k; arguments = a })))))
+
+input_text : (words : List Text) (name text : Text) (value : Value) → value name ≡ Some text → IfSome (input_in words name value) (λ n. n.text ≡ text)
+input_text words name text value e = go (value name) e
+  where
+    go : (o : Option Text) → o ≡ Some text → IfSome (option_map (λ t. record { word = Rattle.command_words.specs.Meaning.word_number (Rattle.command_words.specs.Given.word_place false words); text = t }) o) (λ (n : Named). n.text ≡ text)
+    go None h = tt
+    go (Some t) h = cc
+
+class_limits : (words : List Text) (value : Value) → IfSome (class_in words value) (λ n. IsClassName n.text)
+class_limits words value = go (value (codes "NAME")) refl
+  where
+    named : (text : Text) → value (codes "NAME") ≡ Some text → (b : Bool) → is_class_name text ≡ b → IfSome (cond b (input_in words (codes "NAME") value) None) (λ n. IsClassName n.text)
+    named text e true lawful = weaker (input_in words (codes "NAME") value) (λ (n : Named). n.text ≡ text) (λ n. IsClassName n.text) (input_text words (codes "NAME") text value e) (λ n same. ap is_class_name same ∙ lawful)
+      where
+        weaker : {A : Type 0} (o : Option A) (P Q : A → Type 0) → IfSome o P → ((x : A) → P x → Q x) → IfSome o Q
+        weaker None P Q p h = tt
+        weaker (Some x) P Q p h = h x p
+    named text e false lawful = tt
+
+    go : (o : Option Text) → value (codes "NAME") ≡ o → IfSome (option_and_then (λ text. cond (is_class_name text) (input_in words (codes "NAME") value) None) o) (λ n. IsClassName n.text)
+    go None e = tt
+    go (Some text) e = named text e (is_class_name text) refl
+
+maker_limits : (command : CommandName) (words : List Text) (value : Value) (arguments : List Text) → IfSome (maker_of command words value arguments) IsWithinLimits
+maker_limits name.Go words value arguments =
+    through (input_in words (codes "IN") value) _ (λ _. ⊤) IsWithinLimits (always _) (λ input _.
+    through (name_in value) _ IsClassName IsWithinLimits (name_limits value) (λ text n.
+    through (pages_in value) _ ArePages IsWithinLimits (pages_limits value) (λ pages p.
+    through (method_bytes_in value) _ AreMethodBytes IsWithinLimits (bytes_limits value) (λ bytes b.
+    mapped (session_in guest_steps words value arguments) _ (IsSession guest_steps) IsWithinLimits (session_limits guest_steps words value arguments) (λ session s. (n, p, b, s))))))
+maker_limits name.Translate words value arguments =
+    through (input_in words (codes "IN") value) _ (λ _. ⊤) IsWithinLimits (always _) (λ input _.
+    through (name_in value) _ IsClassName IsWithinLimits (name_limits value) (λ text n.
+    through (pages_in value) _ ArePages IsWithinLimits (pages_limits value) (λ pages p.
+    mapped (method_bytes_in value) _ AreMethodBytes IsWithinLimits (bytes_limits value) (λ bytes b. (n, p, b)))))
+maker_limits name.Interp words value arguments =
+    through (input_in words (codes "IN") value) _ (λ _. ⊤) IsWithinLimits (always _) (λ input _.
+    through (name_in value) _ IsClassName IsWithinLimits (name_limits value) (λ text n.
+    through (pages_in value) _ ArePages IsWithinLimits (pages_limits value) (λ pages p.
+    mapped (session_in guest_steps words value arguments) _ (IsSession guest_steps) IsWithinLimits (session_limits guest_steps words value arguments) (λ session s. (n, p, s)))))
+maker_limits name.Run words value arguments =
+    through (class_in words value) _ (λ n. IsClassName n.text) IsWithinLimits (class_limits words value) (λ name n.
+    through (region_words_in value) _ (λ k. (1 ≤ k) × (k ≤ 68288580)) IsWithinLimits (option_limits 1 68288580 4194304 (value (codes "words")) (omega arith) (omega arith)) (λ region r.
+    mapped (session_in class_steps words value arguments) _ (IsSession class_steps) IsWithinLimits (session_limits class_steps words value arguments) (λ session s. (n, r.0, r.1, s))))
+maker_limits name.Verify words value arguments = mapped (class_in words value) _ (λ n. IsClassName n.text) IsWithinLimits (class_limits words value) (λ name n. n)
+maker_limits name.Asm words value arguments =
+    through (input_in words (codes "IN") value) _ (λ _. ⊤) IsWithinLimits (always _) (λ input _.
+    mapped (value (codes "OUT")) _ (λ _. ⊤) IsWithinLimits (always _) (λ output _. tt))
+maker_limits name.List words value arguments = mapped (input_in words (codes "IN") value) _ (λ _. ⊤) IsWithinLimits (always _) (λ input _. tt)
+maker_limits name.Make words value arguments =
+    through (option_and_then (number_in 1 65536) (value (codes "N"))) _ (λ n. (1 ≤ n) × (n ≤ 65536)) IsWithinLimits
+    (through (value (codes "N")) (number_in 1 65536) (λ _. ⊤) (λ n. (1 ≤ n) × (n ≤ 65536)) (always _) (λ text _. number_limits 1 65536 text)) (λ count c.
+    mapped (method_bytes_in value) _ AreMethodBytes IsWithinLimits (bytes_limits value) (λ bytes b. (c.0, c.1, b)))
+
+-- a command that words mean is within the limits
+pub within_limits : (name : CommandName) (words : List Text) (command : Command) → command_after name words ≡ Some command → IsWithinLimits command
+within_limits name words command is = subst (λ o. IfSome o IsWithinLimits) is (go (has_end words && not (takes_arguments name)))
+  where
+    taken : (b : Bool) → IfSome (cond b (maker_of name (before_end words) (value_in (form_of name) (before_end words)) (after_end words)) None) IsWithinLimits
+    taken true = maker_limits name (before_end words) (value_in (form_of name) (before_end words)) (after_end words)
+    taken false = tt
+
+    go : (b : Bool) → IfSome (cond b None (made (form_of name) (maker_of name) (before_end words) (after_end words))) IsWithinLimits
+    go true = tt
+    go false = taken (is_some (given_in (form_of name) (before_end words)))
+
+pub read_within : (name : CommandName) (words : List Text) (r : Result Command WordsError) → Reads (command_after name words) r → IfOk r IsWithinLimits
+read_within name words (Ok command) reads = within_limits name words command reads
+read_within name words (Err e) reads = tt

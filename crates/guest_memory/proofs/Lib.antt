@@ -1,0 +1,6 @@
+pub mod CodeLemmas
+pub mod MapLemmas
+pub mod MemoryLemmas
+pub mod LaneForms
+pub mod PageLemmas
+pub mod WordLemmas

@@ -1,0 +1,149 @@
+-- Loads, stores and patches over pages.
+use Rattle.std.proofs.Common.{◌≡◌, ℕ, zero, suc, ◌&&◌, ◌+◌, ◌*◌, ◌/◌, ◌%◌, ◌<◌, ◌^◌, Bool, true, false, ◌==◌, nat_lt, nat_le, if◌then◌else◌, List, [], ◌∷◌, length, Option, Some, None, refl, ap, sym, ◌∙◌, subst, arith, option_map, is_none, IsTrue, Result, Ok, Err}
+use Rattle.std.specs.Prelude.{slice_index, slice_set, ℤ}
+use Rattle.std.specs.List.{list_all}
+use Rattle.std.proofs.lemmas.Bool.{and_parts, ltb-true, leb-true}
+use Rattle.nv_events.specs.Memory.{Memory, can_write, patched}
+use Rattle.nv_events.specs.Question.{Question, asked, places_of, room_at, missing, there}
+use Rattle.nv_events.specs.Serving.{Serves}
+use Rattle.nv_events.specs.declared.call.Call.{Call}
+use Rattle.nv_events.specs.declared.io_fault.IoFault.{IoFault}
+use Rattle.nv_events.proofs.Rooms.{can_write-front}
+use Rattle.nv_events.specs.Answer.{Answer, fits_room, room_place}
+use Rattle.nv_words.specs.Words.{lane_of_word, word_with_lane}
+use Rattle.nv_words.specs.declared.order.Order.TheVariants.{Big}
+use Rattle.nv_words.proofs.LaneLemmas.{below_four}
+use Rattle.mips_decode.specs.Memory.{with_byte}
+use Rattle.mips_decode.specs.Loads.{load_aligned, loaded, store_aligned, store_allowed, stored}
+use Rattle.mips_decode.specs.declared.names.load_name.LoadName.{LoadName}
+use Rattle.mips_decode.specs.declared.names.store_name.StoreName.{StoreName}
+use Rattle.mips_decode.specs.declared.names.store_name.StoreName.TheVariants.{Sb}
+use Rattle.guest_memory.specs.OneWord.{one_word}
+use Rattle.guest_memory.specs.Pages.{Pages, is_writable, entry, cell, word_in, memory_of, put_byte_at, IsSound}
+use Rattle.guest_memory.specs.ViewLaws.{cell-writable, put_some}
+use Rattle.guest_memory.proofs.PageLemmas.{memory_of-set, IsSound-set}
+use Rattle.guest_memory.proofs.WordLemmas.{IsWordAt, IsAllowedAt, loaded-at, load_aligned-at, store_aligned-at, store_allowed-at, stored-is}
+
+-- the word of a number, as the memory has it
+pub word_there : (p : Pages) (n w : ℕ) → word_in p n ≡ Some w → IsWordAt (memory_of p) n w
+unfolding memory_of
+word_there p n w e = record {
+  lanes = λ j h.
+      let q : (4 * n + j) / 4 ≡ n = omega arith in
+      let r : (4 * n + j) % 4 ≡ j = omega arith in
+      ap (λ x. option_map (λ w. lane_of_word w ((4 * n + j) % 4)) (word_in p x)) q
+      ∙ ap (λ x. option_map (λ w. lane_of_word w x) (word_in p n)) r
+      ∙ ap (option_map (λ w. lane_of_word w j)) e;
+}
+
+at_split : (a : ℕ) → a ≡ 4 * (a / 4) + a % 4
+at_split a = omega arith
+
+allowed_there : (p : Pages) (a : ℕ) → IsAllowedAt (memory_of p) (a / 4) ((memory_of p).writable a)
+unfolding memory_of
+allowed_there p a = record {
+  lanes = λ j h.
+      let q : (4 * (a / 4) + j) / 4096 ≡ a / 4096 = omega arith in
+      ap (λ x. is_writable (entry p x)) q;
+}
+
+-- ---- loads
+
+pub load-none : (p : Pages) (a x : ℕ) → word_in p (a / 4) ≡ None → None ≡ (if is_none ((memory_of p).byte a) then None else Some x)
+unfolding memory_of
+load-none p a x e = sym (ap (λ o. if is_none (option_map (λ w. lane_of_word w (a % 4)) o) then None else Some x) e)
+
+some_byte : (p : Pages) (a w x : ℕ) → word_in p (a / 4) ≡ Some w → (if is_none ((memory_of p).byte a) then None else Some x) ≡ Some x
+unfolding memory_of
+some_byte p a w x e = ap (λ o. if is_none (option_map (λ w. lane_of_word w (a % 4)) o) then None else Some x) e
+
+pub load-some : (name : LoadName) (p : Pages) (a w old : ℕ) → word_in p (a / 4) ≡ Some w → IsTrue (load_aligned name a)
+    → Some (loaded name Big (one_word w) (a % 4) old) ≡ (if is_none ((memory_of p).byte a) then None else Some (loaded name Big (memory_of p) a old))
+load-some name p a w old e aligned =
+    let at = loaded-at name (memory_of p) (a / 4) w (a % 4) a old (word_there p (a / 4) w e) (omega arith) (at_split a) (sym (load_aligned-at name (a / 4) (a % 4) a (at_split a)) ∙ aligned) in
+    sym (some_byte p a w (loaded name Big (memory_of p) a old) e ∙ ap Some at)
+
+-- ---- stores
+
+pub store-answer : (name : StoreName) (p : Pages) (a : ℕ) → IsTrue (store_aligned name a) → store_allowed name Big (memory_of p) a ≡ (memory_of p).writable a
+store-answer name p a aligned =
+    store_allowed-at name (memory_of p) (a / 4) (a % 4) a ((memory_of p).writable a) (allowed_there p a) (omega arith) (at_split a)
+    (sym (store_aligned-at name (a / 4) (a % 4) a (at_split a)) ∙ aligned)
+
+pub word_at_cell : (p : Pages) (n i : ℕ) → cell p n ≡ Some i → word_in p n ≡ Some (slice_index p.words i)
+word_at_cell p n i e = ap (option_map (slice_index p.words)) e
+
+pub store-after : (name : StoreName) (p : Pages) (a w i v : ℕ) → IsSound p → cell p (a / 4) ≡ Some i → IsTrue (store_aligned name a)
+    → ((j : ℕ) → j < 4 → (stored name Big (one_word (slice_index p.words i)) (a % 4) w).byte j ≡ Some (lane_of_word v j))
+    → memory_of (record p { words = slice_set p.words i v }) ≡ stored name Big (memory_of p) a w
+store-after name p a w i v sound e aligned lanes =
+    memory_of-set p sound (a / 4) i v e
+    ∙ stored-is name (memory_of p) (a / 4) (slice_index p.words i) (a % 4) a w v (word_there p (a / 4) (slice_index p.words i) (word_at_cell p (a / 4) i e)) (omega arith) (at_split a)
+    (sym (store_aligned-at name (a / 4) (a % 4) a (at_split a)) ∙ aligned) lanes
+
+-- ---- bytes put
+
+-- the lanes of a word with one lane replaced
+lane_put : (w i b k : ℕ) → i < 4 → b < 2 ^ 8 → k < 4 → (if k == i then Some (lane_of_word b 3) else Some (lane_of_word w k)) ≡ Some (lane_of_word (word_with_lane w i b) k)
+lane_put w i b k hi byte hk =
+    below_four (λ i. (if k == i then Some (lane_of_word b 3) else Some (lane_of_word w k)) ≡ Some (lane_of_word (word_with_lane w i b) k))
+    (below_four (λ k. (if k == 0 then Some (lane_of_word b 3) else Some (lane_of_word w k)) ≡ Some (lane_of_word (word_with_lane w 0 b) k)) (ap Some (omega arith)) (ap Some (omega arith)) (ap Some (omega arith)) (ap Some (omega arith)) k hk)
+    (below_four (λ k. (if k == 1 then Some (lane_of_word b 3) else Some (lane_of_word w k)) ≡ Some (lane_of_word (word_with_lane w 1 b) k)) (ap Some (omega arith)) (ap Some (omega arith)) (ap Some (omega arith)) (ap Some (omega arith)) k hk)
+    (below_four (λ k. (if k == 2 then Some (lane_of_word b 3) else Some (lane_of_word w k)) ≡ Some (lane_of_word (word_with_lane w 2 b) k)) (ap Some (omega arith)) (ap Some (omega arith)) (ap Some (omega arith)) (ap Some (omega arith)) k hk)
+    (below_four (λ k. (if k == 3 then Some (lane_of_word b 3) else Some (lane_of_word w k)) ≡ Some (lane_of_word (word_with_lane w 3 b) k)) (ap Some (omega arith)) (ap Some (omega arith)) (ap Some (omega arith)) (ap Some (omega arith)) k hk)
+    i hi
+
+pub memory_of-put : (p : Pages) (a b : ℕ) → IsSound p → b < 256 → (memory_of p).writable a ≡ true → memory_of (put_byte_at p a b) ≡ with_byte (memory_of p) a b
+memory_of-put p a b sound byte w =
+    let at = cell-writable p a w in
+    let low : lane_of_word b 3 ≡ b = omega arith in
+    ap memory_of (put_some p a b at.0 at.1)
+    ∙ store-after Sb p a b at.0 (word_with_lane (slice_index p.words at.0) (a % 4) b) sound at.1 refl (λ j h. lane_put (slice_index p.words at.0) (a % 4) b j (omega arith) byte h)
+    ∙ ap (with_byte (memory_of p) a) low
+
+pub IsSound-put : (p : Pages) (a b : ℕ) → IsSound p → (memory_of p).writable a ≡ true → IsSound (put_byte_at p a b)
+IsSound-put p a b sound w =
+    let at = cell-writable p a w in
+    subst IsSound (sym (put_some p a b at.0 at.1)) (IsSound-set p at.0 (word_with_lane (slice_index p.words at.0) (a % 4) b) sound)
+
+-- bytes put one after the other
+pub memory_of-patched : (patch : List ℕ) (p : Pages) (a : ℕ) → IsSound p → list_all (λ x. nat_lt x 256) patch ≡ true → can_write (memory_of p) a (length patch) ≡ true
+    → memory_of (patched put_byte_at p a patch) ≡ patched with_byte (memory_of p) a patch
+memory_of-patched [] p a sound bytes w = refl
+memory_of-patched (b ∷ bs) p a sound bytes w =
+    let byte = and_parts (nat_lt b 256) (list_all (λ x. nat_lt x 256) bs) bytes in
+    let here = and_parts ((memory_of p).writable a) (can_write (memory_of p) (a + 1) (length bs)) w in
+    let put = memory_of-put p a b sound (ltb-true b 256 byte.0) here.0 in
+    memory_of-patched bs (put_byte_at p a b) (a + 1) (IsSound-put p a b sound here.0) byte.1 (ap (λ m. can_write m (a + 1) (length bs)) put ∙ same_can_write (memory_of p) a b (a + 1) (length bs) ∙ here.1)
+    ∙ ap (λ m. patched with_byte m (a + 1) bs) put
+  where
+    same_can_write : (m : Memory) (a b x n : ℕ) → can_write (with_byte m a b) x n ≡ can_write m x n
+    same_can_write m a b x zero = refl
+    same_can_write m a b x (suc n) = ap (λ t. m.writable x && t) (same_can_write m a b (x + 1) n)
+
+-- ---- calls answered
+
+-- a patch that fits the room of a call stands in memory that may be written
+room_holds : (m : Memory) (b : ℕ) (bs : List ℕ) (place size : ℕ) (w : Bool) → can_write m place size ≡ w → fits_room (b ∷ bs) (if w then there place size else missing) ≡ true
+    → (can_write m (room_place (if w then there place size else missing)) (length (b ∷ bs)) ≡ true) × (list_all (λ x. nat_lt x 256) (b ∷ bs) ≡ true)
+room_holds m b bs place size true e h =
+    let parts = and_parts (nat_le (length (b ∷ bs)) size) (list_all (λ x. nat_lt x 256) (b ∷ bs)) h in
+    (can_write-front m place size (length (b ∷ bs)) e (leb-true (length (b ∷ bs)) size parts.0), parts.1)
+room_holds m b bs place size false e h = cc
+
+answered-memory : (c : Pages) → IsSound c → (room : Option (ℕ × ℕ)) (patch : List ℕ) → fits_room patch (room_at (memory_of c) room) ≡ true
+    → memory_of (patched put_byte_at c (room_place (room_at (memory_of c) room)) patch) ≡ patched with_byte (memory_of c) (room_place (room_at (memory_of c) room)) patch
+answered-memory c sound room [] h = refl
+answered-memory c sound None (b ∷ bs) h = cc
+answered-memory c sound (Some place) (b ∷ bs) h =
+    let fit = room_holds (memory_of c) b bs place.0 place.1 (can_write (memory_of c) place.0 place.1) refl h in
+    memory_of-patched (b ∷ bs) c (room_place (room_at (memory_of c) (Some place))) sound fit.1 fit.0
+
+pub served-memory : {V : Type 0} (goes : V → Question → Answer → V → Type 0) (held fell : V → Question → V → Type 0) (call : Call) (c d : Pages) (v w : V) → IsSound c
+    → (r : Result (Option ℤ) IoFault) → Serves goes held fell put_byte_at (asked call (memory_of c)) v w c d r
+    → Serves goes held fell with_byte (asked call (memory_of c)) v w (memory_of c) (memory_of d) r
+served-memory goes held fell call c d v w sound (Ok (Some value)) s =
+    (s.0, s.1, s.2, ap memory_of s.3 ∙ answered-memory c sound (places_of call).room s.0 s.1)
+served-memory goes held fell call c d v w sound (Ok None) s = (s.0, ap memory_of s.1)
+served-memory goes held fell call c d v w sound (Err e) s =
+    (s.0, (s.1.0, s.1.1, ap memory_of s.1.2 ∙ answered-memory c sound (places_of call).room s.1.0 s.1.1))

@@ -1,0 +1,4 @@
+pub mod Pages
+pub mod OneWord
+pub mod ViewLaws
+pub mod CodePages

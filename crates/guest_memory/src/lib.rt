@@ -1,0 +1,16 @@
+//! The memory and the code of a guest program, each in pages of 4,096 bytes.
+#![tactic(auto)]
+
+mod code;
+mod lanes;
+mod line;
+mod memory;
+mod page;
+mod paging;
+
+pub use code::Code;
+pub use line::Line;
+pub use memory::{GuestMemory, NoMemory};
+
+#[cfg(test)]
+mod tests;

@@ -1,0 +1,239 @@
+ghost use Rattle.std.specs.Prelude.{◌≡◌, ◌≢◌, Ok, ℕ, ◌+◌, ◌*◌, ◌/◌, ◌%◌, ◌<◌, length, Option, Some, None, MatchOption, IfOk, OnOk, OnErr, IsTrue, is_none, true, false, slice_index, slice_index_or, if◌then◌else◌};
+ghost use Rattle.nv_words.specs.declared.order.Order.TheVariants.{Big};
+ghost use Rattle.mips_decode.specs.Loads.{load_aligned, loaded, store_aligned, store_allowed, stored};
+ghost use Rattle.nv_events.specs.Question.{asked};
+ghost use Rattle.nv_events.specs.Serving.{Serves, Causes, NoneFalls};
+ghost use Rattle.mips_decode.specs.Memory.{with_byte};
+ghost use Rattle.guest_memory.specs.Pages.{IsSound, entry, cell, word_in, memory_of, place_of, is_writable, no_memory, with_page};
+
+use crate::lanes::{from_word, into_word};
+use crate::page::Page;
+use crate::paging::{PAGE_WORDS, PAGES, word_place};
+use mips_decode::{LoadName, StoreName};
+use nv_events::{Call, IoFault, Server, View};
+use nv_words::{lane, with_lane};
+use std::alloc::{AllocError, Global};
+use std::marker::Model;
+
+/// There was no memory for what was asked.
+pub type NoMemory = AllocError;
+
+/// The bytes of a guest program, in pages of 4,096 below address 80000000 (hexadecimal), of which each may be written or only be
+/// read.
+///
+/// A contract sees it through `memory_of`: the byte at each address that can be read, and which addresses may be written.
+/// Only `new` and `map_page` take memory.
+#[derive(Drop)]
+pub struct GuestMemory {
+    table: Vec<Page>,
+    words: Vec<u32>,
+}
+
+impl Model for GuestMemory {
+    ghost use Rattle.guest_memory.specs.Pages.{Pages, IsSound};
+
+    ghost Value = { Pages };
+
+    ghost view = { λ m. record { table = m.table.items; words = m.words.items } };
+
+    ghost invariant = { λ m. IsSound (record { table = m.table.items; words = m.words.items }) };
+}
+
+impl GuestMemory {
+    /// A memory of no pages.
+    pub fn new(alloc: Global) -> Result<GuestMemory, NoMemory>
+        ensures { IfOk result (λ m. memory_of m ≡ no_memory) }
+    {
+        Ok(GuestMemory {
+            table: no_pages(alloc, PAGES)?,
+            words: Vec::new(alloc),
+        })
+    }
+
+    /// Adds a page, by its number, with its words in the order of their addresses.
+    ///
+    /// # Errors
+    ///
+    /// NoMemory, and the memory is as before.
+    pub fn map_page(&mut self, page: u32, writable: bool, words: &[u32]) -> Result<(), NoMemory>
+        requires low { page < 524288 }
+        requires whole { length words.now ≡ 1024 }
+        requires fresh { (memory_of self.old).byte (page * 4096) ≡ None }
+        ensures ok { OnOk result (memory_of self.new ≡ with_page (memory_of self.old) page writable words.now) }
+        ensures err { OnErr result (memory_of self.new ≡ memory_of self.old) }
+    {
+        // more than 2^32 pages are more than there is memory for
+        let Ok(place) = u32::try_from(self.words.len() / PAGE_WORDS) else {
+            return Err(AllocError);
+        };
+        self.words.extend_from_slice(words)?;
+        self.table[page as usize] = page_at(place, writable);
+        Ok(())
+    }
+
+    /// What a register holds after a load from an address, by what it held before; None where the address cannot be read.
+    #[inline]
+    pub fn load(&self, name: LoadName, at: u32, old: u32) -> Option<u32>
+        requires { IsTrue (load_aligned name at) }
+        ensures { result ≡ (if is_none ((memory_of self.now).byte at) then None else Some (loaded name Big (memory_of self.now) at old)) }
+    {
+        match self.word_around(at) {
+            Some(word) => Some(from_word(name, at % 4, word, old)),
+            None => None,
+        }
+    }
+
+    /// Stores a register's word at an address; false, with nothing changed, where a byte of it may not be written.
+    #[inline]
+    pub fn store(&mut self, name: StoreName, at: u32, w: u32) -> bool
+        requires { IsTrue (store_aligned name at) }
+        ensures answer { result ≡ store_allowed name Big (memory_of self.old) at }
+        ensures after { memory_of self.new ≡ (if result then stored name Big (memory_of self.old) at w else memory_of self.old) }
+    {
+        match self.writable_cell(at) {
+            Some(cell) => {
+                self.words[cell] = into_word(name, at % 4, self.words[cell], w);
+                true
+            }
+            None => false,
+        }
+    }
+
+    /// Lets a server answer a call of the program.
+    #[inline]
+    pub fn answer<V: Server>(&mut self, call: &Call, server: &mut V) -> Result<Option<i32>, IoFault>
+        requires not_exit { call.now.number ≢ 1 }
+        requires usable { V.usable server.old }
+        ensures served { Serves V.goes V.held V.fell with_byte (asked call.now (memory_of self.old)) server.old server.new (memory_of self.old) (memory_of self.new) result }
+        ensures causes { Causes (V.faults server.old) (V.faults server.new) result }
+        ensures none_falls { NoneFalls (V.faults server.old) (V.faults server.new) }
+        ensures ready { IsTrue (V.ready server.old) → result ≢ Ok None }
+        ensures ready_stays { V.ready server.new ≡ V.ready server.old }
+        ensures usable_stays { OnOk result (V.usable server.new) }
+        ensures keeps { V.keeps server.old server.new }
+    {
+        self.see();
+        server.serve(call, self)
+    }
+
+    /// Does nothing: the memory's pages are sound.
+    fn see(&self)
+        ensures { IsSound self.now }
+    {
+        let _ = &self.words;
+    }
+
+    /// The page of a number.
+    #[inline]
+    #[tactic(auto, unfolding(crate::specs::Pages::entry))]
+    fn page(&self, number: u32) -> Page
+        ensures { result ≡ entry self.now number }
+    {
+        match self.table.get(number as usize) {
+            Some(page) => *page,
+            None => Page::Unmapped,
+        }
+    }
+
+    /// Where the word that an address lies in stands, if it can be read.
+    #[inline]
+    #[tactic(auto, unfolding(crate::specs::Pages::cell))]
+    fn readable_cell(&self, at: u32) -> Option<usize>
+        ensures { result ≡ cell self.now (at / 4) }
+    {
+        match self.page(at >> 12) {
+            Page::Unmapped => None,
+            Page::ReadOnly(place) | Page::Writable(place) => Some(word_place(place, at)),
+        }
+    }
+
+    /// Where the word that an address lies in stands, if it may be written.
+    #[inline]
+    #[tactic(auto, unfolding(crate::specs::Pages::cell, crate::specs::Pages::memory_of))]
+    fn writable_cell(&self, at: u32) -> Option<usize>
+        ensures { MatchOption result ((memory_of self.now).writable at ≡ false) (λ i. ((memory_of self.now).writable at ≡ true) × (cell self.now (at / 4) ≡ Some i)) }
+    {
+        match self.page(at >> 12) {
+            Page::Writable(place) => Some(word_place(place, at)),
+            _ => None,
+        }
+    }
+
+    /// The word that an address lies in, if it can be read.
+    #[inline]
+    fn word_around(&self, at: u32) -> Option<u32>
+        ensures { result ≡ word_in self.now (at / 4) }
+    {
+        match self.readable_cell(at) {
+            Some(cell) => Some(self.words[cell]),
+            None => None,
+        }
+    }
+}
+
+/// It shows the bytes that can be read. A byte that is put changes one lane of a word.
+impl View for GuestMemory {
+    ghost use Rattle.guest_memory.specs.Pages.{Pages, memory_of, put_byte_at};
+    ghost use Rattle.guest_memory.specs.ViewLaws as laws;
+
+    ghost Content = { Pages };
+
+    ghost content = { λ m. m };
+
+    ghost memory = { memory_of };
+
+    ghost put_at = { put_byte_at };
+
+    #[inline]
+    #[tactic(auto, unfolding(crate::specs::Pages::memory_of))]
+    fn byte(&self, at: u32) -> Option<u8> {
+        match self.word_around(at) {
+            Some(word) => Some(lane(word, at % 4)),
+            None => None,
+        }
+    }
+
+    #[inline]
+    fn writable(&self, at: u32) -> bool {
+        self.writable_cell(at).is_some()
+    }
+
+    #[inline]
+    fn put(&mut self, at: u32, b: u8) -> bool {
+        match self.writable_cell(at) {
+            Some(cell) => {
+                self.words[cell] = with_lane(self.words[cell], at % 4, b);
+                true
+            }
+            None => false,
+        }
+    }
+
+    ghost written_is_readable = { laws.written_is_readable };
+
+    ghost ends = { laws.byte-past };
+
+    ghost readable_stays = { λ c a b x h w. laws.readable_stays c a b x };
+
+    ghost writable_stays = { λ c a b x h w. laws.writable_stays c a b x };
+}
+
+/// The page whose words stand at the given place.
+fn page_at(place: u32, writable: bool) -> Page
+    ensures there { place_of result ≡ Some place }
+    ensures kind { is_writable result ≡ writable }
+{
+    if writable {
+        Page::Writable(place)
+    } else {
+        Page::ReadOnly(place)
+    }
+}
+
+/// A table of so many pages that are not there.
+fn no_pages(alloc: Global, n: usize) -> Result<Vec<Page>, NoMemory>
+    ensures size { IfOk result (λ table. length table.items ≡ n) }
+    ensures empty { IfOk result (λ table. (i : ℕ) → slice_index_or table.items i Page.Unmapped ≡ Page.Unmapped) }
+{
+    vec![in alloc; Page::Unmapped; n]
+}

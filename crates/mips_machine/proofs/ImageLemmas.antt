@@ -1,0 +1,139 @@
+-- An image's memory, page by page, and its code, address by address.
+use Rattle.std.proofs.Common.{◌≡◌, ℕ, ◌+◌, ◌-◌, ◌*◌, ◌/◌, ◌%◌, ◌^◌, ◌<◌, ◌≤◌, Bool, true, false, ◌&&◌, ◌||◌, ◌⊎◌, ◌==◌, nat_lt, nat_le, if◌then◌else◌, List, [], ◌∷◌, length, get_or, Option, Some, None, refl, sym, ap, ◌∙◌, inl, inr, arith}
+use Rattle.std.specs.Prelude.{slice_index}
+use Rattle.std.specs.List.{list_any}
+use Rattle.std.proofs.lemmas.Bool.{eq-eqb}
+use Rattle.std.proofs.lemmas.Bool.Decides.{nat_tests}
+use Rattle.std.proofs.lemmas.List.Folds.{list_any_at}
+use Rattle.nv_words.specs.Words.{lane_of_word}
+use Rattle.nv_words.proofs.LaneLemmas.{below_four}
+use Rattle.elf_reader.specs.declared.range.Range.{Range}
+use Rattle.elf_reader.specs.declared.segment.Segment.{Segment}
+use Rattle.elf_reader.specs.Segments.{live, is_writable}
+use Rattle.elf_reader.specs.Area.{area, range_end, has_address}
+use Rattle.elf_reader.specs.Fault.{IsRunsOf}
+use Rattle.elf_image.specs.Pages.{is_on_page, is_segment_page, is_data_page, is_heap_page, is_stack_page, is_argument_page, is_readable_page, is_writable_page}
+use Rattle.elf_image.specs.Content.{stored_byte, stored_word, is_filled_page}
+use Rattle.elf_image.specs.Start.{Source, image_of, byte_at, code_at, readable, writable}
+use Rattle.mips_machine.specs.Loading.{with_words, AreZeros, ArePageWords}
+
+-- ---- what may be written can be read
+
+data_page : (page : ℕ) (segments : List Segment) → list_any (is_on_page page) segments ≡ false → list_any (λ s. is_writable s && is_on_page page s) segments ≡ false
+data_page page [] off = refl
+data_page page (s ∷ rest) off = by_tests (is_writable s) (is_on_page page s) (list_any (is_on_page page) rest) (list_any (λ s. is_writable s && is_on_page page s) rest) off (data_page page rest)
+  where
+    by_tests : (w t a b : Bool) → (t || a) ≡ false → (a ≡ false → b ≡ false) → ((w && t) || b) ≡ false
+    by_tests true true a b e f = absurd (cc)
+    by_tests true false a b e f = f e
+    by_tests false true a b e f = absurd (cc)
+    by_tests false false a b e f = f e
+
+writable_page : (segments : List Segment) (heap stack page : ℕ) → is_readable_page segments heap stack page ≡ false → is_writable_page segments heap stack page ≡ false
+unfolding is_readable_page is_writable_page is_segment_page is_data_page
+writable_page segments heap stack page off =
+    by_tests (list_any (is_on_page page) segments) (list_any (λ s. is_writable s && is_on_page page s) segments)
+    (is_heap_page segments heap page) (is_stack_page stack page) (is_argument_page page) off (data_page page segments)
+  where
+    by_tests : (a b h s g : Bool) → (a || h || s || g) ≡ false → (a ≡ false → b ≡ false) → (b || h || s || g) ≡ false
+    by_tests true b h s g e f = last b h s g e
+      where
+        last : (b h s g : Bool) → (true || h || s || g) ≡ false → (b || h || s || g) ≡ false
+        last b true true true e = absurd (cc)
+        last b true true false e = absurd (cc)
+        last b true false true e = absurd (cc)
+        last b true false false e = absurd (cc)
+        last b false true true e = absurd (cc)
+        last b false true false e = absurd (cc)
+        last b false false true e = absurd (cc)
+        last b false false false e = absurd (cc)
+    by_tests false b h s g e f = ap (λ x. x || h || s || g) (f refl) ∙ e
+
+module _ (v : Source) where
+  -- a page that cannot be read
+  pub no_byte : (a : ℕ) → readable v (a / 4096) ≡ false → (image_of v).memory.byte a ≡ None
+  unfolding image_of byte_at
+  no_byte a off = ap (λ t. if t then Some (stored_byte v.file (live v.file) a) else None) off
+
+  pub no_writing : (a : ℕ) → readable v (a / 4096) ≡ false → (image_of v).memory.writable a ≡ false
+  unfolding image_of
+  no_writing a off = writable_page (live v.file) v.heap v.stack (a / 4096) off
+
+  pub same_writing : (a page : ℕ) (w : Bool) → w ≡ writable v page → a / 4096 ≡ page → (image_of v).memory.writable a ≡ w
+  unfolding image_of
+  same_writing a page w is here = ap (λ n. writable v n) here ∙ sym is
+
+  -- a page that can be read
+  there : (a page : ℕ) → readable v page ≡ true → a / 4096 ≡ page → (image_of v).memory.byte a ≡ Some (stored_byte v.file (live v.file) a)
+  unfolding image_of byte_at
+  there a page on here = ap (λ n. if readable v n then Some (stored_byte v.file (live v.file) a) else None) here ∙ ap (λ t. if t then Some (stored_byte v.file (live v.file) a) else None) on
+
+  zero_lane : (i : ℕ) → i < 4 → lane_of_word 0 i ≡ 0
+  zero_lane i h = below_four (λ i. lane_of_word 0 i ≡ 0) refl refl refl refl i h
+
+  pub zeros_are : (page : ℕ) (zeros : List ℕ) → readable v page ≡ true → AreZeros zeros → is_filled_page v.file (live v.file) page ≡ false
+      → ((a : ℕ) → is_filled_page v.file (live v.file) (a / 4096) ≡ false → stored_byte v.file (live v.file) a ≡ 0) → ArePageWords (image_of v).memory page zeros
+  zeros_are page zeros on are empty zero = record {
+    size = are.size;
+    bytes = λ a here. there a page on here
+        ∙ ap Some (zero a (ap (is_filled_page v.file (live v.file)) here ∙ empty)
+        ∙ sym (ap (λ w. lane_of_word w (a % 4)) (are.zero (a / 4 % 1024)) ∙ zero_lane (a % 4) (omega arith)));
+  }
+
+  pub words_are : (page : ℕ) (words : List ℕ) → readable v page ≡ true → length words ≡ 1024
+      → ((k : ℕ) → k < 1024 → slice_index words k ≡ stored_word v.file (live v.file) (4096 * page + 4 * k))
+      → ((a : ℕ) → lane_of_word (stored_word v.file (live v.file) (4 * (a / 4))) (a % 4) ≡ stored_byte v.file (live v.file) a) → ArePageWords (image_of v).memory page words
+  words_are page words on size are lanes = record {
+    size = size;
+    bytes = λ a here. there a page on here
+        ∙ ap Some (sym (lanes a)
+        ∙ ap (λ n. lane_of_word (stored_word v.file (live v.file) n) (a % 4)) (place a page here)
+        ∙ sym (ap (λ w. lane_of_word w (a % 4)) (are (a / 4 % 1024) (omega arith))));
+  }
+    where
+      place : (a page : ℕ) → a / 4096 ≡ page → 4 * (a / 4) ≡ 4096 * page + 4 * (a / 4 % 1024)
+      place a page here = omega arith
+
+  -- ---- the code
+
+  -- an address in the code has a word
+  pub has_word : (a : ℕ) → a % 4 ≡ 0 → area v.file a ≡ true → None ≡ (image_of v).code a → ⊥
+  unfolding image_of code_at
+  has_word a aligned on none =
+      let is : (a % 4 == 0 && area v.file a) ≡ true = ap (λ t. t && area v.file a) (eq-eqb (a % 4) 0 aligned) ∙ on in
+      let some = ap (λ t. if t then Some (stored_word v.file (live v.file) a) else None) is in
+      let f : None ≡ Some (stored_word v.file (live v.file) a) = none ∙ some in
+      cc
+
+  -- the code of all ranges is the image's
+  pub all_words : (ranges : List Range) → IsRunsOf (area v.file) ranges → with_words (λ a. None) (image_of v).code (λ a. list_any (has_address a) ranges) ≡ (image_of v).code
+  unfolding with_words image_of code_at
+  all_words ranges are = λ i a. by_tests (a % 4 == 0) (list_any (has_address a) ranges) (area v.file a) (Some (stored_word v.file (live v.file) a)) (are.same a) i
+    where
+      by_tests : (t l s : Bool) (o : Option ℕ) → s ≡ l → (if t && l then (if t && s then o else None) else None) ≡ (if t && s then o else None)
+      by_tests true true s o e = refl
+      by_tests true false true o e = absurd (cc)
+      by_tests true false false o e = refl
+      by_tests false l s o e = refl
+
+last_address : (f w : ℕ) → 1 ≤ w → (nat_le f (f + 4 * w - 1) && nat_lt (f + 4 * w - 1) (f + 4 * w)) ≡ true
+last_address f w some = grind (arith, nat_tests)
+
+module _ (test : ℕ → Bool) (ranges : List Range) (are : IsRunsOf test ranges) (k : ℕ) (d : Range) (within : k < length ranges) where
+  -- a range's addresses are in the area
+  pub range_inside : (a : ℕ) → has_address a (get_or ranges k d) ≡ true → test a ≡ true
+  range_inside a has = are.same a ∙ list_any_at (has_address a) ranges k d within has
+
+  pub range_low : ((a : ℕ) → 2 ^ 31 ≤ a → test a ≡ false) → range_end (get_or ranges k d) ≤ 2 ^ 31
+  range_low low =
+      elim (split (range_end (get_or ranges k d))) [
+        | inl ok ↦ ok
+        | inr high ↦ absurd (
+            let r = get_or ranges k d in
+            let on = range_inside (range_end r - 1) (last_address r.first r.words (are.filled k d within)) in
+            let off = low (range_end r - 1) (omega (arith, high)) in
+            cc)
+      ]
+    where
+      split : (n : ℕ) → (n ≤ 2 ^ 31) ⊎ (2 ^ 31 < n)
+      split n = grind arith

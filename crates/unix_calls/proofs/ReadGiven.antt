@@ -1,0 +1,122 @@
+-- What a read of the code gave, from what its parts gave.
+use Rattle.std.proofs.Common.{◌≡◌, ℕ, ℤ, pos, false, List, [], ◌++◌, length, take, drop, Option, refl, ap, sym, ◌∙◌, subst, append_assoc}
+use Rattle.std.proofs.Math.Seq.{drop-append_seam}
+use Rattle.std.specs.Prelude.{Result, Ok, Err, IfOk, OnErr}
+use Rattle.nv_outside.specs.declared.failed.Failed.{Failed}
+use Rattle.unix_system.specs.Errors.{bad_descriptor}
+use Rattle.unix_system.specs.declared.description.Description.{Description}
+use Rattle.unix_system.specs.declared.target.Target.{Target}
+use Rattle.unix_system.specs.declared.target.Target.TheVariants.{File, Input, Output, ErrorOutput}
+use Rattle.nv_words.specs.declared.order.Order.TheVariants.{Big}
+use Rattle.nv_events.specs.Question.{Room, there}
+use Rattle.nv_events.specs.Memory.{patched}
+use Rattle.nv_events.specs.Answer.{Answer, fits_room, room_place}
+use Rattle.unix_files.specs.Files.{Files}
+use Rattle.unix_system.specs.declared.opened.Opened.{Opened}
+use Rattle.unix_system.specs.System.{System, with_tables}
+use Rattle.unix_system.specs.Asked.{value_only}
+use Rattle.unix_system.specs.Calls.{first_line, input_read, read_target}
+use Rattle.unix_system.specs.Serving.{Gives}
+use Rattle.unix_system.proofs.RoomLemmas.{fits-there}
+use Rattle.unix_calls.specs.Drawing.{ReadsLine, ReadsSome, known}
+use Rattle.unix_calls.specs.Reading.{Inputs, inputs, with_input, Reads, ReadsPart, ReadGives}
+use Rattle.unix_calls.proofs.DrawLemmas.{consumes-nothing}
+
+pub given-is : (given : Answer × System) (value : ℤ) (patch : List ℕ) (last : System) → given.0.value ≡ value → given.0.patch ≡ patch → given.1 ≡ last → given ≡ (record { value = value; patch = patch }, last)
+given-is given value patch last p q r = λ i. (record { value = p i; patch = q i }, r i)
+
+pub some_system : Files → Opened → System
+some_system files opened = record {
+  files = files;
+  opened = opened;
+  console = record { rest = []; output = []; error_output = [] };
+  heap = record { begun = false; start = 0; end = 0; program_break = 0 };
+  args = [];
+  moment = 0;
+  order = Big;
+}
+
+module _ {C : Type 0} (put_at : C → ℕ → ℕ → C) (does : System → Answer × System) (files : Files) (opened : Opened) (ahead : List ℕ) where
+  pub reads-quiet : (room : Room) (c : C) (rest : Option (List ℕ)) (files_new : Files) (opened_new : Opened) (value : ℤ) → ((s : System) (r : List ℕ) → does (with_input s files opened r) ≡ (value_only value, with_input s files_new opened_new r)) → Reads put_at does room c c (inputs files opened ahead rest) (inputs files_new opened_new ahead rest) value
+  reads-quiet room c rest files_new opened_new value h = record {
+    got = [];
+    patch = [];
+    consumed = consumes-nothing rest;
+    fits = refl;
+    after = refl;
+    is = λ s. h s (ahead ++ known rest);
+  }
+
+  pub reads-file : (room : Room) (c d : C) (rest : Option (List ℕ)) (files_new : Files) (opened_new : Opened) (value : ℤ) (bs : List ℕ) (given : System → Answer × System) → ((s : System) → does s ≡ given s) → ((s : System) → (given (with_tables s files opened)).0.patch ≡ bs) → ((s : System) → Gives put_at c d room value (with_tables s files_new opened_new) (given (with_tables s files opened))) → Reads put_at does room c d (inputs files opened ahead rest) (inputs files_new opened_new ahead rest) value
+  reads-file room c d rest files_new opened_new value bs given is same gives =
+      let some = some_system files opened in
+      record {
+        got = [];
+        patch = bs;
+        consumed = consumes-nothing rest;
+        fits = ap (λ b. fits_room b room) (sym (same some)) ∙ (gives some).fits;
+        after = (gives some).patch ∙ ap (λ b. patched put_at c (room_place room) b) (same some);
+        is = λ s.
+            let t = with_input s files opened (ahead ++ known rest) in
+            is t ∙ given-is (given t) value bs (with_input s files_new opened_new (ahead ++ known rest)) (gives t).value (same t) (gives t).after;
+      }
+
+  pub reads-line : (place most : ℕ) (c d : C) (new : List ℕ) (rest left : Option (List ℕ)) (n : ℕ) (value : ℤ) → ((s : System) → does s ≡ input_read s (take most (first_line s.console.rest))) → ReadsLine put_at c d place most ahead new rest left n → value ≡ pos n → Reads put_at does (there place most) c d (inputs files opened ahead rest) (inputs files opened new left) value
+  reads-line place most c d new rest left n value is line v =
+      let all : List ℕ = ahead ++ (line.drawn.got ++ known left) in
+      let behind : List ℕ = new ++ known left in
+      let splits : all ≡ line.bytes ++ behind = sym (append_assoc ahead line.drawn.got (known left)) ∙ (ap (λ z. z ++ known left) line.drawn.is ∙ append_assoc line.bytes new (known left)) in
+      let taken : take most (first_line all) ≡ line.bytes = ap (λ z. take most (first_line z)) (splits ∙ sym (append_assoc line.bytes new (known left))) ∙ line.line in
+      let left_over : drop (length line.bytes) all ≡ behind = ap (drop (length line.bytes)) splits ∙ drop-append_seam line.bytes behind in
+      let count : pos (length (take most (first_line all))) ≡ value = ap (λ b. pos (length b)) taken ∙ (ap pos line.all ∙ sym v) in
+      record {
+        got = line.drawn.got;
+        patch = line.bytes;
+        consumed = line.drawn.consumed;
+        fits = fits-there line.bytes place most line.copied.small line.copied.short;
+        after = line.copied.after;
+        is = λ s.
+            is (with_input s files opened all)
+            ∙ given-is (input_read (with_input s files opened all) (take most (first_line all))) value line.bytes (with_input s files opened behind) count taken
+            (ap (with_input s files opened) (ap (λ b. drop (length b) all) taken ∙ left_over));
+      }
+
+pub reads-some : {C : Type 0} (put_at : C → ℕ → ℕ → C) (files : Files) (opened : Opened) (ahead : List ℕ) (place most : ℕ) (c d : C) (new : List ℕ) (rest left : Option (List ℕ)) → ReadsSome put_at c d place most ahead new rest left → ReadsPart put_at (there place most) c d (inputs files opened ahead rest) (inputs files opened new left)
+reads-some put_at files opened ahead place most c d new rest left some = record {
+  got = some.drawn.got;
+  patch = some.bytes;
+  consumed = some.drawn.consumed;
+  fits = fits-there some.bytes place most some.copied.small some.copied.short;
+  after = some.copied.after;
+  files = refl;
+  opened = refl;
+}
+
+-- what cannot be read
+pub not-readable : (s : System) (d : ℕ) (description : Description) (n : ℕ) (t : Target) → ((k : ℕ) → t ≡ File k → ⊥) → (t ≡ Input → ⊥) → read_target s d description n t ≡ (value_only bad_descriptor, s)
+not-readable s d description n (File k) f i = absurd (f k refl)
+not-readable s d description n Input f i = absurd (i refl)
+not-readable s d description n Output f i = refl
+not-readable s d description n ErrorOutput f i = refl
+
+pub console-given : {C : Type 0} (put_at : C → ℕ → ℕ → C) (does : System → Answer × System) (files : Files) (opened : Opened) (ahead : List ℕ) (place most : ℕ) (c d : C) (new : List ℕ) (rest left : Option (List ℕ)) (r : Result ℤ Failed) → ((s : System) → does s ≡ input_read s (take most (first_line s.console.rest))) → IfOk r (λ v. (n : ℕ) × ReadsLine put_at c d place most ahead new rest left n × (v ≡ pos n)) → OnErr r (ReadsSome put_at c d place most ahead new rest left) → ReadGives put_at does (there place most) c d (inputs files opened ahead rest) (inputs files opened new left) r
+console-given put_at does files opened ahead place most c d new rest left (Ok v) is ok err = reads-line put_at does files opened ahead place most c d new rest left ok.0 v is ok.1 ok.2
+console-given put_at does files opened ahead place most c d new rest left (Err e) is ok err = reads-some put_at files opened ahead place most c d new rest left err
+
+-- one call for another, where they are the same over these files and descriptors
+pub reads-by : {C : Type 0} (put_at : C → ℕ → ℕ → C) (does other : System → Answer × System) (room : Room) (c d : C) (files : Files) (opened : Opened) (ahead : List ℕ) (rest : Option (List ℕ)) (new : Inputs) (r : Result ℤ Failed) → ((s : System) (f : Files) → does (with_tables s f opened) ≡ other (with_tables s f opened)) → ReadGives put_at other room c d (inputs files opened ahead rest) new r → ReadGives put_at does room c d (inputs files opened ahead rest) new r
+reads-by put_at does other room c d files opened ahead rest new (Ok v) same given = record {
+  got = given.got;
+  patch = given.patch;
+  consumed = given.consumed;
+  fits = given.fits;
+  after = given.after;
+  is = λ s. same (with_input s files opened (ahead ++ (given.got ++ known new.rest))) files ∙ given.is s;
+}
+reads-by put_at does other room c d files opened ahead rest new (Err e) same given = given
+
+pub reads-by-room : {C : Type 0} (put_at : C → ℕ → ℕ → C) (does other : System → Answer × System) (room given_room : Room) (c d : C) (old new : Inputs) (r : Result ℤ Failed) → ((s : System) → does s ≡ other s) → room ≡ given_room → ReadGives put_at other given_room c d old new r → ReadGives put_at does room c d old new r
+reads-by-room put_at does other room given_room c d old new (Ok v) same is given =
+    let g = subst (λ (k : Room). Reads put_at other k c d old new v) (sym is) given in
+    record { got = g.got; patch = g.patch; consumed = g.consumed; fits = g.fits; after = g.after; is = λ s. same _ ∙ g.is s }
+reads-by-room put_at does other room given_room c d old new (Err e) same is given = subst (λ (k : Room). ReadsPart put_at k c d old new) (sym is) given

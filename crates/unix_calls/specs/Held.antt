@@ -1,0 +1,70 @@
+-- What the code holds of the system between calls: all but the console, and the input that was read ahead.
+use Rattle.std.specs.Prelude.{ℕ, List, ◌++◌}
+use Rattle.nv_words.specs.declared.order.Order.{Order}
+use Rattle.unix_files.specs.Files.{Files}
+use Rattle.unix_system.specs.declared.opened.Opened.{Opened}
+use Rattle.unix_system.specs.declared.heap.Heap.{Heap}
+use Rattle.unix_system.specs.System.{System}
+
+pub record Held : Type 0 where
+  pub files : Files
+  pub blocks : ℕ
+  pub opened : Opened
+  pub heap : Heap
+  pub args : List (List ℕ)
+  pub moment : ℕ
+  pub order : Order
+  pub ahead : List ℕ
+
+-- The system, where the source of input has this left and these were written. What was read ahead comes first.
+abbrev pub system_of : Held → List ℕ → List ℕ → List ℕ → System
+system_of held rest output error_output = record {
+  files = held.files;
+  opened = held.opened;
+  console = record { rest = held.ahead ++ rest; output = output; error_output = error_output };
+  heap = held.heap;
+  args = held.args;
+  moment = held.moment;
+  order = held.order;
+}
+
+-- only what was read ahead differs
+abbrev pub with_ahead : Held → List ℕ → Held
+with_ahead held ahead = record {
+  files = held.files;
+  blocks = held.blocks;
+  opened = held.opened;
+  heap = held.heap;
+  args = held.args;
+  moment = held.moment;
+  order = held.order;
+  ahead = ahead;
+}
+
+-- a system with these files, descriptors and heap, at this moment
+abbrev pub with_parts : System → Files → Opened → Heap → ℕ → System
+with_parts s files opened heap moment = record { files = files; opened = opened; console = s.console; heap = heap; args = s.args; moment = moment; order = s.order }
+
+abbrev pub with_tables_held : Held → Files → Opened → Heap → Held
+with_tables_held held files opened heap = record {
+  files = files;
+  blocks = held.blocks;
+  opened = opened;
+  heap = heap;
+  args = held.args;
+  moment = held.moment;
+  order = held.order;
+  ahead = held.ahead;
+}
+
+abbrev pub with_input_held : Held → Files → Opened → List ℕ → Held
+with_input_held held files opened ahead = record {
+  files = files;
+  blocks = held.blocks;
+  opened = opened;
+  heap = held.heap;
+  args = held.args;
+  moment = held.moment;
+  order = held.order;
+  ahead = ahead;
+}

@@ -1,0 +1,103 @@
+-- What a read and a write of the code did, call by call. `does` is the definition's call.
+use Rattle.std.specs.Prelude.{◌≡◌, ℕ, ℤ, ◌⊎◌, List, ◌++◌, Option, Result, Ok, Err, IsTrue}
+use Rattle.std.specs.Io.KnownBytes.{Consumes, Appends}
+use Rattle.nv_outside.specs.Faults.{Rose}
+use Rattle.nv_outside.specs.Gains.{AppendsPart}
+use Rattle.nv_events.specs.Memory.{patched}
+use Rattle.nv_events.specs.Question.{Room}
+use Rattle.nv_events.specs.Answer.{Answer, fits_room, room_place}
+use Rattle.unix_files.specs.Files.{Files}
+use Rattle.unix_system.specs.declared.opened.Opened.{Opened}
+use Rattle.unix_system.specs.System.{System, with_tables}
+use Rattle.unix_system.specs.Asked.{value_only}
+use Rattle.unix_calls.specs.Drawing.{known}
+
+-- a system with these files, descriptors and rest of input
+abbrev pub with_input : System → Files → Opened → List ℕ → System
+with_input s files opened rest = record {
+  files = files;
+  opened = opened;
+  console = record { rest = rest; output = s.console.output; error_output = s.console.error_output };
+  heap = s.heap;
+  args = s.args;
+  moment = s.moment;
+  order = s.order;
+}
+
+-- files, descriptors, what was read ahead, and what the source tells
+pub record Inputs : Type 0 where
+  pub files : Files
+  pub opened : Opened
+  pub ahead : List ℕ
+  pub rest : Option (List ℕ)
+
+abbrev pub inputs : Files → Opened → List ℕ → Option (List ℕ) → Inputs
+inputs files opened ahead rest = record { files = files; opened = opened; ahead = ahead; rest = rest }
+
+pub record Reads {C : Type 0} (put_at : C → ℕ → ℕ → C) (does : System → Answer × System) (room : Room) (c d : C) (old new : Inputs) (value : ℤ) : Type 0 where
+  pub got : List ℕ
+  pub patch : List ℕ
+  pub consumed : Consumes old.rest new.rest got
+  pub fits : IsTrue (fits_room patch room)
+  pub after : d ≡ patched put_at c (room_place room) patch
+  pub is : (s : System) → does (with_input s old.files old.opened (old.ahead ++ (got ++ known new.rest))) ≡ (record { value = value; patch = patch }, with_input s new.files new.opened (new.ahead ++ known new.rest))
+
+pub record ReadsPart {C : Type 0} (put_at : C → ℕ → ℕ → C) (room : Room) (c d : C) (old new : Inputs) : Type 0 where
+  pub got : List ℕ
+  pub patch : List ℕ
+  pub consumed : Consumes old.rest new.rest got
+  pub fits : IsTrue (fits_room patch room)
+  pub after : d ≡ patched put_at c (room_place room) patch
+  pub files : new.files ≡ old.files
+  pub opened : new.opened ≡ old.opened
+
+abbrev pub ReadGives : {C E : Type 0} → (C → ℕ → ℕ → C) → (System → Answer × System) → Room → C → C → Inputs → Inputs → Result ℤ E → Type 0
+ReadGives put_at does room c d old new (Ok value) = Reads put_at does room c d old new value
+ReadGives put_at does room c d old new (Err e) = ReadsPart put_at room c d old new
+
+-- a system that has written more
+abbrev pub with_written : System → List ℕ → List ℕ → System
+with_written s output error_output = record {
+  files = s.files;
+  opened = s.opened;
+  console = record { rest = s.console.rest; output = s.console.output ++ output; error_output = s.console.error_output ++ error_output };
+  heap = s.heap;
+  args = s.args;
+  moment = s.moment;
+  order = s.order;
+}
+
+-- files, descriptors, and what the sinks tell
+pub record Outputs : Type 0 where
+  pub files : Files
+  pub opened : Opened
+  pub output : Option (List ℕ)
+  pub error_output : Option (List ℕ)
+
+abbrev pub outputs : Files → Opened → Option (List ℕ) → Option (List ℕ) → Outputs
+outputs files opened output error_output = record { files = files; opened = opened; output = output; error_output = error_output }
+
+pub record Writes (does : System → Answer × System) (old new : Outputs) (value : ℤ) : Type 0 where
+  pub output : List ℕ
+  pub error_output : List ℕ
+  pub wrote : Appends old.output new.output output
+  pub wrote_error : Appends old.error_output new.error_output error_output
+  pub is : (s : System) → does (with_tables s old.files old.opened) ≡ (value_only value, with_written (with_tables s new.files new.opened) output error_output)
+
+pub record WritesPart (does : System → Answer × System) (old new : Outputs) : Type 0 where
+  pub output : List ℕ
+  pub error_output : List ℕ
+  pub wrote : AppendsPart old.output new.output output
+  pub wrote_error : AppendsPart old.error_output new.error_output error_output
+  pub files : new.files ≡ old.files
+  pub opened : new.opened ≡ old.opened
+  pub is : (s : System) → (does (with_tables s old.files old.opened)).1.console ≡ (with_written s output error_output).console
+
+abbrev pub WriteGives : {E : Type 0} → (System → Answer × System) → Outputs → Outputs → Result ℤ E → Type 0
+WriteGives does old new (Ok value) = Writes does old new value
+WriteGives does old new (Err e) = WritesPart does old new
+
+-- A write fails only where the count of a sink rose.
+abbrev pub WriteCauses : {E : Type 0} → ℕ → ℕ → ℕ → ℕ → Result ℤ E → Type 0
+WriteCauses output output_new error error_new (Ok value) = (output_new ≡ output) × (error_new ≡ error)
+WriteCauses output output_new error error_new (Err e) = Rose output output_new ⊎ Rose error error_new

@@ -1,0 +1,66 @@
+ghost use Rattle.std.specs.Prelude.{◌≡◌, true};
+ghost use Rattle.unix_system.specs.System.{System};
+ghost use Rattle.unix_system.specs.Unix.{unix, reply};
+ghost use Rattle.unix_calls.specs.Serving.{parts, told_by, Goes, Fell, counted, AsSome};
+
+use crate::unix::Unix;
+use nv_events::{Call, IoFault, Server, View};
+use nv_outside::{Sink, Source};
+
+/// A system with its source of input and its two sinks, as the server of a program.
+///
+/// It always has an answer. Its state is told where the source and both sinks tell theirs.
+pub struct Joined<'a, S, O, E> {
+    pub unix: &'a mut Unix,
+    pub source: &'a mut S,
+    pub out: &'a mut O,
+    pub err: &'a mut E,
+}
+
+impl<'a, S: Source, O: Sink, E: Sink> Server for Joined<'a, S, O, E> {
+    ghost use Rattle.std.proofs.Common.{◌∙◌, refl};
+    ghost use Rattle.unix_calls.specs.Telling.{goes_as_told};
+
+    ghost State = { System };
+
+    ghost reply = { reply };
+
+    ghost told = { λ j. told_by j.unix.now (S.rest j.source.now) (O.taken j.out.now) (E.taken j.err.now) };
+
+    ghost goes = { λ j q a k. Goes (λ s. unix s q) q.room (parts j.unix.now (S.rest j.source.now) (O.taken j.out.now) (E.taken j.err.now)) a (parts k.unix.now (S.rest k.source.now) (O.taken k.out.now) (E.taken k.err.now)) };
+
+    ghost held = { λ j q k. ⊥ };
+
+    ghost fell = { λ j q k. Fell (λ s. unix s q) (parts j.unix.now (S.rest j.source.now) (O.taken j.out.now) (E.taken j.err.now)) (parts k.unix.now (S.rest k.source.now) (O.taken k.out.now) (E.taken k.err.now)) };
+
+    ghost ready = { λ j. true };
+
+    ghost usable = { λ j. Unit {0} };
+
+    ghost faults = { λ j. counted (S.faults j.source.now) (O.faults j.out.now) (E.faults j.err.now) };
+
+    ghost keeps = { λ j k. (k.unix.ghost_name ≡ j.unix.ghost_name) × (k.source.ghost_name ≡ j.source.ghost_name) × (k.out.ghost_name ≡ j.out.ghost_name) × (k.err.ghost_name ≡ j.err.ghost_name) };
+
+    fn serve<M: View>(&mut self, call: &Call, view: &mut M) -> Result<Option<i32>, IoFault> {
+        let answer = self.unix.serve(call, view, self.source, self.out, self.err);
+        as_some(answer)
+    }
+
+    ghost goes_as_told = { λ j k q a s w g. goes_as_told q j.unix.now k.unix.now a s (S.rest j.source.now) (O.taken j.out.now) (E.taken j.err.now) (S.rest k.source.now) (O.taken k.out.now) (E.taken k.err.now) w g };
+
+    ghost held_as_told = { λ j k q s w h. absurd h };
+
+    ghost keeps_itself = { λ j. (refl, refl, refl, refl) };
+
+    ghost keeps_on = { λ i j k a b. (b.0 ∙ a.0, b.1 ∙ a.1, b.2 ∙ a.2, b.3 ∙ a.3) };
+}
+
+/// An answer that is there.
+fn as_some(answer: Result<i32, IoFault>) -> Result<Option<i32>, IoFault>
+    ensures { AsSome answer result }
+{
+    match answer {
+        Ok(value) => Ok(Some(value)),
+        Err(fault) => Err(fault),
+    }
+}

@@ -1,0 +1,27 @@
+//! The system as a program finds it: it answers all calls, over a source of input and two sinks.
+#![tactic(auto)]
+
+mod access;
+mod args;
+mod begin;
+mod console;
+mod input;
+mod joined;
+mod quiet;
+mod read_ahead;
+mod serving;
+mod text;
+mod unix;
+mod unix_error;
+
+pub use access::Access;
+pub use args::Args;
+pub use joined::Joined;
+pub use read_ahead::ReadAhead;
+use std::alloc::AllocError;
+pub use text::Text;
+pub use unix::Unix;
+pub use unix_error::UnixError;
+
+/// Memory ran out.
+pub type NoMemory = AllocError;

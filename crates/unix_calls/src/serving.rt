@@ -1,0 +1,135 @@
+//! How calls are served: one method for each group of them, and the choice between the groups.
+
+ghost use Rattle.std.specs.Prelude.{◌≡◌, ◌≢◌, ◌≤◌, ℕ, List, Option};
+ghost use Rattle.nv_events.specs.Question.{asked};
+ghost use Rattle.nv_events.specs.Serving.{Causes, NoneFalls, Counts};
+ghost use Rattle.unix_system.specs.Unix.{unix};
+ghost use Rattle.unix_calls.specs.Serving.{parts, Serves, counted, AsFault};
+
+use crate::begin::begin;
+use crate::console::write;
+use crate::input::read;
+use crate::quiet::answer;
+use crate::unix::Unix;
+use nv_events::{Call, IoFault, View};
+use nv_outside::{Failed, Sink, Source};
+use unix_system::status::fstat;
+
+/// The bytes of the room for the argument block.
+fn room_size() -> u32
+    ensures { result ≡ 4096 }
+{
+    4096
+}
+
+/// An answer, or this fault in place of a failure.
+fn as_fault(answer: Result<i32, Failed>, fault: IoFault) -> Result<i32, IoFault>
+    ensures { AsFault fault answer result }
+{
+    match answer {
+        Ok(value) => Ok(value),
+        Err(_) => Err(fault),
+    }
+}
+
+impl Unix {
+    fn serve_begin<M: View>(&mut self, call: &Call, view: &mut M) -> Result<i32, IoFault>
+        requires { call.now.number ≡ 0 }
+        ensures causes { (counts : Counts) → Causes counts counts result }
+        ensures served { (rest output error_output : Option (List ℕ)) → Serves M.put_at (λ s. unix s (asked call.now (M.memory (M.content view.old)))) (asked call.now (M.memory (M.content view.old))).room (parts self.old rest output error_output) (parts self.new rest output error_output) (M.content view.old) (M.content view.new) result }
+    {
+        let size = room_size();
+        Ok(begin(&mut self.heap, &self.args, self.order, call, size, view))
+    }
+
+    fn serve_status<M: View>(&mut self, call: &Call, view: &mut M) -> Result<i32, IoFault>
+        requires { call.now.number ≡ 8 }
+        ensures causes { (counts : Counts) → Causes counts counts result }
+        ensures served { (rest output error_output : Option (List ℕ)) → Serves M.put_at (λ s. unix s (asked call.now (M.memory (M.content view.old)))) (asked call.now (M.memory (M.content view.old))).room (parts self.old rest output error_output) (parts self.new rest output error_output) (M.content view.old) (M.content view.new) result }
+    {
+        Ok(fstat(&self.disk, &self.opened, self.order, call.a0, call.a1, view))
+    }
+
+    fn serve_quiet<M: View>(&mut self, call: &Call, view: &M) -> Result<i32, IoFault>
+        requires { (call.now.number ≢ 0) × (call.now.number ≢ 4) × (call.now.number ≢ 5) × (call.now.number ≢ 8) }
+        ensures causes { (counts : Counts) → Causes counts counts result }
+        ensures served { (rest output error_output : Option (List ℕ)) → Serves M.put_at (λ s. unix s (asked call.now (M.memory (M.content view.now)))) (asked call.now (M.memory (M.content view.now))).room (parts self.old rest output error_output) (parts self.new rest output error_output) (M.content view.now) (M.content view.now) result }
+    {
+        Ok(answer(
+            &mut self.disk,
+            &mut self.opened,
+            &mut self.heap,
+            self.moment,
+            call,
+            view,
+        ))
+    }
+
+    fn serve_read<M: View, S: Source>(
+        &mut self,
+        call: &Call,
+        view: &mut M,
+        source: &mut S,
+    ) -> Result<i32, IoFault>
+        requires { call.now.number ≡ 4 }
+        ensures served { (output error_output : Option (List ℕ)) → Serves M.put_at (λ s. unix s (asked call.now (M.memory (M.content view.old)))) (asked call.now (M.memory (M.content view.old))).room (parts self.old (S.rest source.old) output error_output) (parts self.new (S.rest source.new) output error_output) (M.content view.old) (M.content view.new) result }
+        ensures causes { (output error : ℕ) → Causes (counted (S.faults source.old) output error) (counted (S.faults source.new) output error) result }
+        ensures never_falls { S.faults source.old ≤ S.faults source.new }
+    {
+        let answer = read(
+            &mut self.disk,
+            &mut self.opened,
+            &mut self.ahead,
+            call,
+            view,
+            source,
+        );
+        as_fault(answer, IoFault::ReadFault)
+    }
+
+    fn serve_write<M: View, O: Sink, E: Sink>(
+        &mut self,
+        call: &Call,
+        view: &M,
+        out: &mut O,
+        err: &mut E,
+    ) -> Result<i32, IoFault>
+        requires { call.now.number ≡ 5 }
+        ensures served { (rest : Option (List ℕ)) → Serves M.put_at (λ s. unix s (asked call.now (M.memory (M.content view.now)))) (asked call.now (M.memory (M.content view.now))).room (parts self.old rest (O.taken out.old) (E.taken err.old)) (parts self.new rest (O.taken out.new) (E.taken err.new)) (M.content view.now) (M.content view.now) result }
+        ensures causes { (input : ℕ) → Causes (counted input (O.faults out.old) (E.faults err.old)) (counted input (O.faults out.new) (E.faults err.new)) result }
+        ensures none_falls { (O.faults out.old ≤ O.faults out.new) × (E.faults err.old ≤ E.faults err.new) }
+    {
+        let answer = write(&mut self.disk, &mut self.opened, call, view, out, err);
+        as_fault(answer, IoFault::WriteFault)
+    }
+
+    /// Answers a call of the program by the definition of the system.
+    ///
+    /// `source` is the program's input, of which at most 4,096 bytes are read ahead; `out` and `err` are its output and error output. It
+    /// takes no memory.
+    ///
+    /// # Errors
+    ///
+    /// `ReadFault` where the source failed in this call, and `WriteFault` where a sink did. Then the sinks have front parts of what the
+    /// call writes.
+    pub fn serve<M: View, S: Source, O: Sink, E: Sink>(
+        &mut self,
+        call: &Call,
+        view: &mut M,
+        source: &mut S,
+        out: &mut O,
+        err: &mut E,
+    ) -> Result<i32, IoFault>
+        ensures served { Serves M.put_at (λ s. unix s (asked call.now (M.memory (M.content view.old)))) (asked call.now (M.memory (M.content view.old))).room (parts self.old (S.rest source.old) (O.taken out.old) (E.taken err.old)) (parts self.new (S.rest source.new) (O.taken out.new) (E.taken err.new)) (M.content view.old) (M.content view.new) result }
+        ensures causes { Causes (counted (S.faults source.old) (O.faults out.old) (E.faults err.old)) (counted (S.faults source.new) (O.faults out.new) (E.faults err.new)) result }
+        ensures none_falls { NoneFalls (counted (S.faults source.old) (O.faults out.old) (E.faults err.old)) (counted (S.faults source.new) (O.faults out.new) (E.faults err.new)) }
+    {
+        match call.number {
+            0 => self.serve_begin(call, view),
+            4 => self.serve_read(call, view, source),
+            5 => self.serve_write(call, view, out, err),
+            8 => self.serve_status(call, view),
+            _ => self.serve_quiet(call, view),
+        }
+    }
+}

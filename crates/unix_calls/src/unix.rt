@@ -1,0 +1,97 @@
+ghost use Rattle.std.specs.Prelude.{◌≡◌, ◌≤◌, ◌<◌, ◌++◌, ◌∷◌, [], ℕ, List, Option, Some, IfOk, OnOk, OnErr, Ok, Err, length, ◌≢◌, false};
+ghost use Rattle.unix_files.specs.Files.{Files, node_named, bytes_at};
+ghost use Rattle.unix_system.specs.Calls.{block_length};
+ghost use Rattle.unix_system.specs.Unix.{blocks_needed};
+ghost use Rattle.unix_calls.specs.Held.{Held};
+ghost use Rattle.unix_calls.specs.Starting.{held_at_start, Begins, IsOpenToFiles};
+
+use crate::NoMemory;
+use crate::args::{Args, LONGEST_BLOCK};
+use crate::read_ahead::ReadAhead;
+use crate::unix_error::UnixError;
+use nv_words::Order;
+use std::alloc::Global;
+use std::marker::Model;
+use unix_files::Disk;
+use unix_system::{Heap, Opened};
+
+/// The system that answers a program's calls: files, descriptors, heap and arguments, and the input that was read ahead.
+///
+/// All memory is taken before the first call is served.
+#[derive(Drop)]
+pub struct Unix {
+    pub(crate) disk: Disk,
+    pub(crate) blocks: u32,
+    pub(crate) opened: Opened,
+    pub(crate) heap: Heap,
+    pub(crate) args: Args,
+    pub(crate) moment: u64,
+    pub(crate) order: Order,
+    pub(crate) ahead: ReadAhead,
+}
+
+impl Model for Unix {
+    ghost use Rattle.std.specs.Prelude.{◌≤◌};
+    ghost use Rattle.unix_calls.specs.Held.{Held};
+
+    ghost Value = { Held };
+
+    ghost view = { λ u. record { files = u.disk; blocks = u.blocks; opened = u.opened; heap = u.heap; args = u.args; moment = u.moment; order = u.order; ahead = u.ahead } };
+
+    ghost invariant = { λ u. (u.heap.program_break ≤ u.heap.end) × (u.heap.end ≤ 0x7FFFFFFF) };
+}
+
+impl Unix {
+    /// A system without files and arguments, with so many blocks of 4,096 bytes for files, at a moment in seconds since 1970.
+    pub fn new(alloc: Global, blocks: u32, moment: u64) -> Result<Unix, NoMemory>
+        requires { blocks ≤ 65536 }
+        ensures { IfOk result (λ unix. Begins unix blocks moment [] []) }
+    {
+        let disk = Disk::new(alloc, blocks)?;
+        Ok(Unix {
+            disk,
+            blocks,
+            opened: Opened::first(),
+            heap: no_heap(),
+            args: Args::new(alloc),
+            moment,
+            order: Order::Big,
+            ahead: ReadAhead::new(),
+        })
+    }
+
+    /// Adds an argument. It changes nothing where it answers an error.
+    ///
+    /// # Errors
+    ///
+    /// `ArgsTooLong` where the argument block would have more than 4,096 bytes, and `NoMemory`.
+    pub fn add_arg(&mut self, text: &str) -> Result<(), UnixError>
+        ensures added { (blocks moment : ℕ) (files : List (List ℕ × List ℕ)) (args : List (List ℕ)) → Begins self.old blocks moment files args → OnOk result (Begins self.new blocks moment files (args ++ text.now ∷ [])) }
+        ensures unchanged { OnErr result (self.new ≡ self.old) }
+        ensures fits { OnOk result (block_length (self.old.args ++ text.now ∷ []) ≤ 4096) }
+        ensures too_long { (n : ℕ) → result ≡ Err (UnixError.ArgsTooLong n) → (n ≡ block_length (self.old.args ++ text.now ∷ [])) × (4096 < n) }
+        ensures no_file_error { (n : ℕ) → result ≢ Err (UnixError.FilesTooLarge n) }
+    {
+        let bytes = text.as_bytes();
+        let block = self.args.block_with(bytes);
+        if block > LONGEST_BLOCK as u64 {
+            return Err(UnixError::ArgsTooLong(block));
+        }
+        match self.args.push(bytes) {
+            Ok(()) => Ok(()),
+            Err(_) => Err(UnixError::NoMemory),
+        }
+    }
+}
+
+/// The heap before the program began.
+fn no_heap() -> Heap
+    ensures { result ≡ record { begun = false; start = 0; end = 0; program_break = 0 } }
+{
+    Heap {
+        begun: false,
+        start: 0,
+        end: 0,
+        program_break: 0,
+    }
+}

@@ -1,0 +1,7 @@
+pub mod ChainLemmas
+pub mod LaidLemmas
+pub mod WriteLemmas
+pub mod AppendLemmas
+pub mod CutLemmas
+pub mod FileLemmas
+pub mod DiskLemmas

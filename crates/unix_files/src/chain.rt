@@ -1,0 +1,194 @@
+//! The blocks of one file: each names the one that follows it.
+
+ghost use Rattle.std.specs.Prelude.{◌≡◌, ◌≢◌, ℕ, ◌+◌, ◌<◌, ◌≤◌, ◌%◌, ◌++◌, ◌∷◌, [], take};
+ghost use Rattle.unix_files.specs.Files.{blocks_for};
+ghost use Rattle.block_pool.specs.Blocks.{IsUsed, IsSound, block_at, free_count};
+ghost use Rattle.unix_files.specs.Stored.{empty_chain, blocks_in, block_after, looked_up, file_bytes, IsChain, Changes, begun};
+
+use block_pool::Blocks;
+
+/// The bytes in a block.
+pub const BLOCK: u32 = 4096;
+
+/// Where the bytes of a file stand. Of an empty file only the length is looked at.
+#[derive(Clone, Copy, Debug, PartialEq, Eq)]
+pub struct Chain {
+    /// The block of the first bytes.
+    pub first: u32,
+    /// The block of the last bytes.
+    pub last: u32,
+    /// The block that was looked at last, and which one of the chain it is, counted from 0.
+    pub near: u32,
+    pub near_index: u32,
+    /// The bytes of the file.
+    pub size: u32,
+}
+
+impl Chain {
+    pub fn empty() -> Chain
+        ensures { result ≡ empty_chain }
+    {
+        Chain {
+            first: 0,
+            last: 0,
+            near: 0,
+            near_index: 0,
+            size: 0,
+        }
+    }
+
+    /// The chain's block with this number, from 0.
+    pub fn block(&self, pool: &Blocks, index: u32) -> u32
+        requires whole { IsChain pool.now self.now }
+        requires within { index < blocks_in self.now }
+        ensures { result ≡ block_after pool.now self.now.first index }
+    {
+        if self.near_index <= index {
+            walk(pool, self.near, index - self.near_index)
+        } else {
+            walk(pool, self.first, index)
+        }
+    }
+
+    /// The chain that has looked up its block with this number, from 0.
+    pub fn at(&self, pool: &Blocks, index: u32) -> Chain
+        requires whole { IsChain pool.now self.now }
+        requires within { index < blocks_in self.now }
+        ensures { result ≡ looked_up pool.now self.now index }
+    {
+        Chain {
+            near: self.block(pool, index),
+            near_index: index,
+            ..*self
+        }
+    }
+}
+
+/// The block that comes so many after another one.
+fn walk(pool: &Blocks, from: u32, steps: u32) -> u32
+    requires { (k : ℕ) → k < steps → IsUsed pool.now (block_after pool.now from k) }
+    ensures { result ≡ block_after pool.now from steps }
+{
+    let mut block = from;
+    for _ in 0..steps {
+        block = pool.next(block).unwrap_or(0);
+    }
+    block
+}
+
+/// A chain of one block, which is the file's first, with one byte.
+fn begun(block: u32) -> Chain
+    ensures { result ≡ begun block }
+{
+    Chain {
+        first: block,
+        last: block,
+        near: block,
+        near_index: 0,
+        size: 1,
+    }
+}
+
+/// The chain with one more byte.
+pub(crate) fn appended(pool: &mut Blocks, chain: Chain, v: u8) -> Chain
+    requires sound { IsSound pool.old }
+    requires whole { IsChain pool.old chain }
+    requires small { chain.size < 0x7FFFFFFF }
+    requires room { blocks_for (chain.size + 1) ≤ blocks_for chain.size + free_count pool.old }
+    ensures changes { Changes pool.old pool.new chain result }
+    ensures bytes { file_bytes pool.new result ≡ file_bytes pool.old chain ++ v ∷ [] }
+{
+    if chain.size % BLOCK == 0 {
+        with_block(pool, chain, v)
+    } else {
+        pool.write(chain.last, chain.size % BLOCK, v);
+        Chain {
+            size: chain.size + 1,
+            ..chain
+        }
+    }
+}
+
+/// The chain, whose blocks are full, with one more block and a byte in it.
+fn with_block(pool: &mut Blocks, chain: Chain, v: u8) -> Chain
+    requires sound { IsSound pool.old }
+    requires whole { IsChain pool.old chain }
+    requires small { chain.size < 0x7FFFFFFF }
+    requires full { chain.size % 4096 ≡ 0 }
+    requires room { 1 ≤ free_count pool.old }
+    ensures changes { Changes pool.old pool.new chain result }
+    ensures bytes { file_bytes pool.new result ≡ file_bytes pool.old chain ++ v ∷ [] }
+{
+    let Ok(block) = pool.take() else {
+        unreachable!()
+    };
+    pool.write(block, 0, v);
+    if chain.size == 0 {
+        return begun(block);
+    }
+    pool.set_next(chain.last, Some(block));
+    Chain {
+        first: chain.first,
+        last: block,
+        near: block,
+        near_index: chain.size / BLOCK,
+        size: chain.size + 1,
+    }
+}
+
+/// How many blocks so many bytes need.
+pub fn blocks_for(size: u32) -> u32
+    ensures { result ≡ blocks_for size }
+{
+    if size % BLOCK == 0 {
+        size / BLOCK
+    } else {
+        size / BLOCK + 1
+    }
+}
+
+/// The chain with fewer bytes. The blocks that it no longer needs are given back.
+pub(crate) fn shortened(pool: &mut Blocks, chain: Chain, size: u32) -> Chain
+    requires sound { IsSound pool.old }
+    requires whole { IsChain pool.old chain }
+    requires fewer { size ≤ chain.size }
+    ensures changes { Changes pool.old pool.new chain result }
+    ensures bytes { file_bytes pool.new result ≡ take size (file_bytes pool.old chain) }
+{
+    let kept = blocks_for(size);
+    let surplus = blocks_for(chain.size) - kept;
+    if surplus == 0 {
+        return Chain { size, ..chain };
+    }
+    let last = if kept == 0 {
+        0
+    } else {
+        chain.block(pool, kept - 1)
+    };
+    let first = chain.block(pool, kept);
+    release(pool, first, surplus);
+    Chain {
+        first: chain.first,
+        last,
+        near: chain.first,
+        near_index: 0,
+        size,
+    }
+}
+
+/// Gives back so many blocks, each of which names the next one.
+fn release(pool: &mut Blocks, first: u32, count: u32)
+    requires sound { IsSound pool.old }
+    requires used { (k : ℕ) → k < count → IsUsed pool.old (block_after pool.old first k) }
+    requires once { (k j : ℕ) → k < count → j < count → block_after pool.old first k ≡ block_after pool.old first j → k ≡ j }
+    ensures sound { IsSound pool.new }
+    ensures others { (b : ℕ) → ((k : ℕ) → k < count → block_after pool.old first k ≢ b) → block_at pool.new b ≡ block_at pool.old b }
+    ensures free { free_count pool.new ≡ free_count pool.old + count }
+{
+    let mut block = first;
+    for _ in 0..count {
+        let next = pool.next(block).unwrap_or(0);
+        pool.give(block);
+        block = next;
+    }
+}

@@ -1,0 +1,149 @@
+ghost use Rattle.std.specs.Prelude.{◌≡◌, ◌<◌, ◌≤◌, ◌+◌, ◌-◌, ◌++◌, ◌∷◌, [], length, take, replicate, IfOk, vec_len, slice_index, slice_set};
+ghost use Rattle.unix_files.specs.Files.{blocks_for};
+ghost use Rattle.unix_files.specs.Stored.{file_at, with_file, chain_at, overwritten};
+
+use crate::chain::{BLOCK, Chain, appended, shortened};
+use block_pool::Blocks;
+use std::alloc::{AllocError, Global};
+use std::marker::Model;
+
+/// The allocator had no room.
+pub type NoMemory = AllocError;
+
+/// How many files there are at most.
+pub const NODES: usize = 256;
+
+/// The bytes of files, by the numbers of the files from 0 to 255, in blocks of 4,096 bytes. All memory is taken by `new`.
+#[derive(Drop)]
+pub struct Store {
+    pool: Blocks,
+    chains: Vec<Chain>,
+}
+
+impl Model for Store {
+    ghost use Rattle.unix_files.specs.Stored.{Contents, contents_of, IsLaid};
+
+    ghost Value = { Contents };
+
+    ghost view = { λ s. contents_of s.pool s.chains.items };
+
+    ghost invariant = { λ s. IsLaid s.pool s.chains.items };
+}
+
+impl Store {
+    /// Empty files over so many free blocks, at most 65,536.
+    pub fn new(alloc: Global, blocks: u32) -> Result<Store, NoMemory>
+        requires { blocks ≤ 65536 }
+        ensures { IfOk result (λ store. store ≡ record { files = replicate 256 []; free = blocks }) }
+    {
+        let pool = Blocks::new(alloc, blocks)?;
+        let chains = vec![in alloc; Chain::empty(); NODES]?;
+        Ok(Store { pool, chains })
+    }
+
+    /// How many blocks are free.
+    pub fn free(&self) -> u32
+        ensures { result ≡ self.now.free }
+    {
+        self.pool.free()
+    }
+
+    /// The bytes of a file.
+    pub fn size(&self, n: usize) -> u32
+        requires { n < length self.now.files }
+        ensures { result ≡ length (file_at self.now n) }
+    {
+        chain_of(&self.chains, n).size
+    }
+
+    /// The byte of a file at a place.
+    pub fn byte(&mut self, n: usize, at: u32) -> u8
+        requires file { n < length self.old.files }
+        requires within { at < length (file_at self.old n) }
+        ensures value { result ≡ slice_index (file_at self.old n) at }
+        ensures same { self.new ≡ self.old }
+    {
+        let chain = chain_of(&self.chains, n).at(&self.pool, at / BLOCK);
+        self.chains[n] = chain;
+        self.pool.read(chain.near, at % BLOCK)
+    }
+
+    /// Writes the byte of a file at a place.
+    pub fn put(&mut self, n: usize, at: u32, v: u8)
+        requires file { n < length self.old.files }
+        requires within { at < length (file_at self.old n) }
+        ensures { self.new ≡ with_file self.old n (slice_set (file_at self.old n) at v) }
+    {
+        let chain = chain_of(&self.chains, n).at(&self.pool, at / BLOCK);
+        self.chains[n] = chain;
+        self.pool.write(chain.near, at % BLOCK, v);
+    }
+
+    /// Puts a byte behind the others of a file, for which there is room.
+    pub fn push(&mut self, n: usize, v: u8)
+        requires file { n < length self.old.files }
+        requires small { length (file_at self.old n) < 0x7FFFFFFF }
+        requires room { blocks_for (length (file_at self.old n) + 1) ≤ blocks_for (length (file_at self.old n)) + self.old.free }
+        ensures { self.new ≡ with_file self.old n (file_at self.old n ++ v ∷ []) }
+    {
+        let chain = chain_of(&self.chains, n);
+        self.chains[n] = appended(&mut self.pool, chain, v);
+    }
+
+    /// Takes the bytes of a file away from a place on.
+    pub fn cut(&mut self, n: usize, size: u32)
+        requires file { n < length self.old.files }
+        requires within { size ≤ length (file_at self.old n) }
+        ensures { self.new ≡ with_file self.old n (take size (file_at self.old n)) }
+    {
+        let chain = chain_of(&self.chains, n);
+        self.chains[n] = shortened(&mut self.pool, chain, size);
+    }
+
+    /// Puts zeros behind the bytes of a file until it has `size`.
+    pub fn extend(&mut self, n: usize, size: u32)
+        requires file { n < length self.old.files }
+        requires small { size ≤ 0x7FFFFFFF }
+        requires room { blocks_for size ≤ blocks_for (length (file_at self.old n)) + self.old.free }
+        ensures { self.new ≡ with_file self.old n (file_at self.old n ++ replicate (size - length (file_at self.old n)) 0) }
+    {
+        for _ in self.size(n)..size {
+            self.push(n, 0);
+        }
+    }
+
+    /// Writes a byte over the one at a place, or behind the last one.
+    fn write_byte(&mut self, n: usize, at: u32, v: u8)
+        requires file { n < length self.old.files }
+        requires within { at ≤ length (file_at self.old n) }
+        requires small { at < 0x7FFFFFFF }
+        requires room { blocks_for (at + 1) ≤ blocks_for (length (file_at self.old n)) + self.old.free }
+        ensures { self.new ≡ with_file self.old n (overwritten (file_at self.old n) at (v ∷ [])) }
+    {
+        if at < self.size(n) {
+            self.put(n, at, v);
+        } else {
+            self.push(n, v);
+        }
+    }
+
+    /// Writes bytes over those of a file from a place on, and behind the last one where they go past it.
+    pub fn write(&mut self, n: usize, place: u32, bytes: &[u8])
+        requires file { n < length self.old.files }
+        requires within { place ≤ length (file_at self.old n) }
+        requires small { place + length bytes.now ≤ 0x7FFFFFFF }
+        requires room { blocks_for (place + length bytes.now) ≤ blocks_for (length (file_at self.old n)) + self.old.free }
+        ensures { self.new ≡ with_file self.old n (overwritten (file_at self.old n) place bytes.now) }
+    {
+        for (i, b) in bytes.iter().enumerate() {
+            self.write_byte(n, place + i as u32, *b);
+        }
+    }
+}
+
+fn chain_of(chains: &Vec<Chain>, n: usize) -> Chain
+    requires { n < vec_len chains.now }
+    ensures { result ≡ chain_at chains.now.items n }
+{
+    chains[n]
+}

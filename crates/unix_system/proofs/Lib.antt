@@ -1,0 +1,5 @@
+pub mod Examples
+pub mod PathLemmas
+pub mod ReadLemmas
+pub mod RoomLemmas
+pub mod WriteLemmas

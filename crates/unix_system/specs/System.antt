@@ -1,0 +1,36 @@
+-- The state of the system that answers a program's calls, as plain data.
+use Rattle.std.specs.Prelude.{ℕ, List}
+use Rattle.unix_files.specs.Files.{Files}
+use Rattle.nv_words.specs.declared.order.Order.{Order}
+use Rattle.unix_system.specs.declared.opened.Opened.{Opened}
+use Rattle.unix_system.specs.declared.heap.Heap.{Heap}
+
+-- What is left of input, and what was written to output and to error output.
+pub record Console : Type 0 where
+  pub rest : List ℕ
+  pub output : List ℕ
+  pub error_output : List ℕ
+
+-- The files, what is open, the console, the heap, the arguments, the moment in seconds since 1970, and the order of the bytes of
+-- words.
+pub record System : Type 0 where
+  pub files : Files
+  pub opened : Opened
+  pub console : Console
+  pub heap : Heap
+  pub args : List (List ℕ)
+  pub moment : ℕ
+  pub order : Order
+
+-- A system with other files and descriptors, and one with another heap.
+abbrev pub with_tables : System → Files → Opened → System
+with_tables s files opened = record { files = files; opened = opened; console = s.console; heap = s.heap; args = s.args; moment = s.moment; order = s.order }
+
+abbrev pub with_heap : System → Heap → System
+with_heap s heap = record { files = s.files; opened = s.opened; console = s.console; heap = heap; args = s.args; moment = s.moment; order = s.order }
+
+abbrev pub with_console : System → Console → System
+with_console s console = record { files = s.files; opened = s.opened; console = console; heap = s.heap; args = s.args; moment = s.moment; order = s.order }
+
+abbrev pub with_order : System → Order → System
+with_order s order = record { files = s.files; opened = s.opened; console = s.console; heap = s.heap; args = s.args; moment = s.moment; order = order }
