@@ -32,44 +32,44 @@ unsaid (Some files) F' words R O O' E E' ended answer e comes took = record {
   says = (same_files F', refl, refl, inr (refl, rw (sym e) took));
 }
 
+absurd_bool : true ≡ false → ⊥
+absurd_bool e = cc
+
 -- an answer that is no stop is none of these
 is_no_stop : (d stopped : Done) → is_stop d ≡ false → is_stop stopped ≡ true → d ≢ stopped
 is_no_stop d stopped p q e = absurd_bool (sym (ap is_stop e ∙ q) ∙ p)
 
-absurd_bool : true ≡ false → ⊥
-absurd_bool e = absurd e
-
 pub shelf_said : (ended : Result Done Stop) → IfOk ended (λ d. is_stop d ≡ false) → done_of ended ≡ done.ShelfFault → IsTrue (shelf_stopped ended)
-shelf_said (Ok d) no e = absurd (is_no_stop d done.ShelfFault no refl e)
-shelf_said (Err stop.ReadFault) no e = absurd e
-shelf_said (Err stop.WriteFault) no e = absurd e
-shelf_said (Err stop.ShelfFault) no e = refl
-shelf_said (Err stop.NoMemory) no e = absurd e
+shelf_said (Ok d) off e = absurd (is_no_stop d done.ShelfFault off refl e)
+shelf_said (Err stop.ReadFault) off e = cc
+shelf_said (Err stop.WriteFault) off e = cc
+shelf_said (Err stop.ShelfFault) off e = refl
+shelf_said (Err stop.NoMemory) off e = cc
 
 pub write_said : (ended : Result Done Stop) → IfOk ended (λ d. is_stop d ≡ false) → done_of ended ≡ done.WriteFault → IsTrue (write_stopped ended)
-write_said (Ok d) no e = absurd (is_no_stop d done.WriteFault no refl e)
-write_said (Err stop.ReadFault) no e = absurd e
-write_said (Err stop.WriteFault) no e = refl
-write_said (Err stop.ShelfFault) no e = absurd e
-write_said (Err stop.NoMemory) no e = absurd e
+write_said (Ok d) off e = absurd (is_no_stop d done.WriteFault off refl e)
+write_said (Err stop.ReadFault) off e = cc
+write_said (Err stop.WriteFault) off e = refl
+write_said (Err stop.ShelfFault) off e = cc
+write_said (Err stop.NoMemory) off e = cc
 
 pub read_said : (ended : Result Done Stop) → IfOk ended (λ d. is_stop d ≡ false) → done_of ended ≡ done.ReadFault → IsTrue (read_stopped ended)
-read_said (Ok d) no e = absurd (is_no_stop d done.ReadFault no refl e)
-read_said (Err stop.ReadFault) no e = refl
-read_said (Err stop.WriteFault) no e = absurd e
-read_said (Err stop.ShelfFault) no e = absurd e
-read_said (Err stop.NoMemory) no e = absurd e
+read_said (Ok d) off e = absurd (is_no_stop d done.ReadFault off refl e)
+read_said (Err stop.ReadFault) off e = refl
+read_said (Err stop.WriteFault) off e = cc
+read_said (Err stop.ShelfFault) off e = cc
+read_said (Err stop.NoMemory) off e = cc
 
 pub no_shelf_said : (ended : Result Done Stop) → done_of ended ≢ done.ShelfFault → shelf_stopped ended ≡ false
-no_shelf_said (Ok d) no = refl
-no_shelf_said (Err stop.ReadFault) no = refl
-no_shelf_said (Err stop.WriteFault) no = refl
-no_shelf_said (Err stop.ShelfFault) no = absurd (no refl)
-no_shelf_said (Err stop.NoMemory) no = refl
+no_shelf_said (Ok d) off = refl
+no_shelf_said (Err stop.ReadFault) off = refl
+no_shelf_said (Err stop.WriteFault) off = refl
+no_shelf_said (Err stop.ShelfFault) off = absurd (off refl)
+no_shelf_said (Err stop.NoMemory) off = refl
 
 pub no_write_said : (ended : Result Done Stop) → done_of ended ≢ done.WriteFault → write_stopped ended ≡ false
-no_write_said (Ok d) no = refl
-no_write_said (Err stop.ReadFault) no = refl
-no_write_said (Err stop.WriteFault) no = absurd (no refl)
-no_write_said (Err stop.ShelfFault) no = refl
-no_write_said (Err stop.NoMemory) no = refl
+no_write_said (Ok d) off = refl
+no_write_said (Err stop.ReadFault) off = refl
+no_write_said (Err stop.WriteFault) off = absurd (off refl)
+no_write_said (Err stop.ShelfFault) off = refl
+no_write_said (Err stop.NoMemory) off = refl

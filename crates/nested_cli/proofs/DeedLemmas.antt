@@ -16,6 +16,13 @@ use Rattle.elf_reader.specs.declared.range.Range.{Range}
 use Rattle.elf_reader.specs.Area.{area}
 use Rattle.elf_reader.specs.declared.elf_error.ElfError.{ElfError}
 use Rattle.elf_reader.specs.declared.elf_error.ElfError.TheVariants.{Refused}
+use Rattle.elf_reader.specs.declared.elf_error.ElfError.TheVariants as elf
+use Rattle.elf_image.specs.declared.image_error.ImageError.{ImageError}
+use Rattle.elf_image.specs.declared.image_error.ImageError.TheVariants as image
+use Rattle.elf_image.specs.Answer.{IsAnswerTo}
+use Rattle.command_words.specs.declared.words_error.WordsError.{WordsError}
+use Rattle.command_words.specs.declared.words_error.WordsError.TheVariants as words_error
+use Rattle.nested_cli.specs.Refusals.{EndsElf, EndsImage, EndsWords, usage_number}
 use Rattle.elf_reader.specs.Fault.{IsAnswer}
 use Rattle.elf_reader.specs.Fault.{elf_fault, IsRunsOf}
 use Rattle.elf_image.specs.Refusals.{image_fault}
@@ -23,7 +30,7 @@ use Rattle.elf_image.specs.Start.{Source, image_of}
 use Rattle.command_words.specs.Meaning.{command_of}
 use Rattle.command_words.specs.declared.command.Command.{Command}
 use Rattle.command_words.specs.declared.usage.Usage.{Usage}
-use Rattle.nested_cli.specs.Commands.{IsDue, IsDueOf, usage_number}
+use Rattle.nested_cli.specs.Commands.{IsDue, IsDueOf}
 use Rattle.nested_cli.specs.Listing.{source, listed, due_by, due_of_runs, IsDueOfListed}
 use Rattle.nested_cli.specs.declared.done.Done.TheVariants.{ElfRefused}
 use Rattle.nested_cli.specs.Deeds.{World, Deed, prepares, stores, prints, plays, Due, Stays, LosesRead, LosesFront, DoesDeed, StopsStore, StopsDeed, DoesAll, StopsIn, Works, StopsEarly, Comes, world, answers}
@@ -174,8 +181,14 @@ listed_now file runs w v ended accepted are_runs comes = due_as _ (IsDueOfListed
 pub listed_file : (file this : List ℕ) (runs : List Range) (w v : World) (ended : Result Done Stop) → elf_fault file ≡ None → IsRunsOf (area file) runs → this ≡ file → Comes (λ due. due ≡ due_of_runs this runs) w v ended → Comes (IsDueOfListed file) w v ended
 listed_file file this runs w v ended accepted are_runs same comes = subst (λ f. Comes (λ due. due ≡ due_of_runs f runs) w v ended → Comes (IsDueOfListed file) w v ended) (sym same) (listed_now file runs w v ended accepted are_runs) comes
 
-pub refused_file : (file : List ℕ) (f : ElfFault) (error : ElfError) (w : World) → error ≡ Refused f → IsAnswer (elf_fault file) error → Comes (IsDueOfListed file) w w (Ok (ElfRefused f))
-refused_file file f error w is answer = let refused : elf_fault file ≡ Some f = subst (IsAnswer (elf_fault file)) is answer in answers_due (IsDueOfListed file) (ElfRefused f) w (rw refused refl)
+pub refused_file : (file : List ℕ) (error : ElfError) (ended : Result Done Stop) (w : World) → IsAnswer (elf_fault file) error → EndsElf error ended → Comes (IsDueOfListed file) w w ended
+refused_file file (Refused f) ended w answer ends = rw ends (answers_due (IsDueOfListed file) (ElfRefused f) w (rw answer refl))
+refused_file file elf.NoMemory ended w answer ends = rw ends (stops_early (IsDueOfListed file) w NoMemory (inr refl))
+
+-- a program without an image
+pub refused_runs : (file : List ℕ) (runs : List Range) (error : ImageError) (ended : Result Done Stop) (w : World) → IsAnswerTo file runs 256 64 error → EndsImage error ended → Comes (λ due. due ≡ due_of_runs file runs) w w ended
+refused_runs file runs (image.Refused f) ended w answer ends = rw ends (answers_due (λ due. due ≡ due_of_runs file runs) (Done.ImageRefused f) w (rw answer refl))
+refused_runs file runs image.NoMemory ended w answer ends = rw ends (stops_early (λ due. due ≡ due_of_runs file runs) w NoMemory (inr refl))
 
 -- one deed before others
 pub works_more : (deed : Deed) (deeds : List Deed) (answer : Done) (w u v : World) (ended : Result Done Stop) → DoesDeed deed w u → Works (record { deeds = deeds; answer = answer }) u v ended → Works (record { deeds = deed ∷ deeds; answer = answer }) w v ended
@@ -187,9 +200,10 @@ pub performed : (c : Command) (words : List (List ℕ)) (F : Option Files) (w v 
 performed c words None w v ended e h = tt
 performed c words (Some files) w v ended e h = due_as (IsDueOf c files) (IsDue words files) w v ended (λ due d. rw e d) h
 
-pub misused : (fault : Usage) (words : List (List ℕ)) (F : Option Files) (w : World) → command_of words ≡ Err fault → IfSome F (λ files. Comes (IsDue words files) w w (Ok (Done.Usage (usage_number fault))))
-misused fault words None w e = tt
-misused fault words (Some files) w e = answers_due (IsDue words files) (Done.Usage (usage_number fault)) w (rw e refl)
+pub misused : (error : WordsError) (ended : Result Done Stop) (words : List (List ℕ)) (F : Option Files) (w : World) → ((fault : Usage) → error ≡ words_error.Usage fault → command_of words ≡ Err fault) → EndsWords error ended → IfSome F (λ files. Comes (IsDue words files) w w ended)
+misused error ended words None w e ends = tt
+misused (words_error.Usage fault) ended words (Some files) w e ends = rw ends (answers_due (IsDue words files) (Done.Usage (usage_number fault)) w (rw (e fault refl) refl))
+misused words_error.NoMemory ended words (Some files) w e ends = rw ends (stops_early (IsDue words files) w NoMemory (inr refl))
 
 -- a file is stored and a text printed
 pub stored_and_printed : (F F' : Option Files) (rest O O' err : Option (List ℕ)) (name bytes text : List ℕ) (answer : Done) → SetsFile F F' name bytes → Appends O O' text → Works (record { deeds = stores name bytes ∷ prints text ∷ []; answer = answer }) (world F rest O err) (world F' rest O' err) (Ok answer)
@@ -199,3 +213,8 @@ stored_and_printed F F' rest O O' err name bytes text answer p q =
 pub stored_and_stopped : (F F' : Option Files) (rest O O' err : Option (List ℕ)) (name bytes text : List ℕ) (answer : Done) → SetsFile F F' name bytes → AppendsPart O O' text → Works (record { deeds = stores name bytes ∷ prints text ∷ []; answer = answer }) (world F rest O err) (world F' rest O' err) (Err WriteFault)
 stored_and_stopped F F' rest O O' err name bytes text answer p q =
     works_more (stores name bytes) (prints text ∷ []) answer (world F rest O err) (world F' rest O err) (world F' rest O' err) (Err WriteFault) (p, refl, refl, refl) (print_stopped F' rest O O' err text answer WriteFault q (inl refl))
+
+-- a command that is not built
+pub unbuilt : (F : Option Files) (w : World) → IfSome F (λ files. Comes (λ due. due ≡ answers Done.NotBuilt) w w (Ok Done.NotBuilt))
+unbuilt None w = tt
+unbuilt (Some files) w = answers_due (λ due. due ≡ answers Done.NotBuilt) Done.NotBuilt w refl

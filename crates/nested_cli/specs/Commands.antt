@@ -6,22 +6,17 @@ use Rattle.command_words.specs.Meaning.{command_of}
 use Rattle.command_words.specs.declared.command.Command.{Command}
 use Rattle.command_words.specs.declared.command.Command.TheVariants as command
 use Rattle.command_words.specs.declared.usage.Usage.{Usage}
-use Rattle.command_words.specs.declared.usage.Usage.TheVariants.{NoCommand, NotLawful}
 use Rattle.nv_outside.specs.Files.{Files, SameFiles}
 use Rattle.nv_outside.specs.Gains.{AppendsPart}
 use Rattle.nested_cli.specs.declared.done.Done.{Done}
 use Rattle.nested_cli.specs.declared.done.Done.TheVariants as done
 use Rattle.nested_cli.specs.declared.stop.Stop.{Stop}
 use Rattle.nested_cli.specs.Line.{line_of}
+use Rattle.nested_cli.specs.Refusals.{usage_number}
 use Rattle.nested_cli.specs.Deeds.{World, Due, Comes, answers, done_of}
 use Rattle.nested_cli.specs.Listing.{IsDueOfList}
 use Rattle.nested_cli.specs.Straight.{IsDueOfGo}
 use Rattle.nested_cli.specs.Assembly.{IsDueOfAsm}
-
--- the number of what is wrong with the words
-abbrev pub usage_number : Usage → ℕ
-usage_number NoCommand = 1
-usage_number NotLawful = 2
 
 -- what a command is to do
 abbrev pub IsDueOf : Command → Files → Due → Type 0

@@ -9,6 +9,7 @@ mod line;
 mod list;
 mod load;
 mod program;
+mod refusals;
 mod stop;
 mod store;
 #[cfg(test)]

@@ -16,9 +16,10 @@ use crate::done::Done;
 use crate::hexadecimal::hexadecimal;
 use crate::line::write_pieces;
 use crate::load::load;
+use crate::refusals::{refused_elf, refused_image};
 use crate::stop::Stop;
-use elf_image::{Image, ImageError, image};
-use elf_reader::{Elf, ElfError, Range, read_elf};
+use elf_image::{Image, image};
+use elf_reader::{Elf, Range, read_elf};
 use mips_decode::{decode, print_inst};
 use nv_outside::{Failed, Shelf, Sink};
 use std::alloc::Global;
@@ -60,8 +61,7 @@ fn list_file<O: Sink>(alloc: Global, file: &[u8], out: &mut O) -> Result<Done, S
 {
     match read_elf(alloc, file) {
         Ok(elf) => list_elf(alloc, &elf, out),
-        Err(ElfError::Refused(fault)) => Ok(Done::ElfRefused(fault)),
-        Err(ElfError::NoMemory) => Err(Stop::NoMemory),
+        Err(error) => refused_elf(error),
     }
 }
 
@@ -79,8 +79,7 @@ fn list_elf<O: Sink>(alloc: Global, elf: &Elf<'_>, out: &mut O) -> Result<Done, 
 {
     match image(alloc, elf, HEAP_PAGES, STACK_PAGES) {
         Ok(image) => list_image(alloc, &image, elf.code.as_slice(), out),
-        Err(ImageError::Refused(fault)) => Ok(Done::ImageRefused(fault)),
-        Err(ImageError::NoMemory) => Err(Stop::NoMemory),
+        Err(error) => refused_image(error),
     }
 }
 

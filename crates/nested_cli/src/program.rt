@@ -1,7 +1,7 @@
 ghost use Rattle.std.specs.Prelude.{◌≡◌, ◌≢◌, ◌⊎◌, ℕ, List, Option, IfOk, IfSome, false};
 ghost use Rattle.nv_outside.specs.Faults.{CountsFailure, Rose};
 ghost use Rattle.nested_cli.specs.Counts.{is_stop, read_stopped, shelf_stopped, write_stopped};
-ghost use Rattle.nested_cli.specs.Commands.{Does, IsDue, IsDueOf, usage_number};
+ghost use Rattle.nested_cli.specs.Commands.{Does, IsDue, IsDueOf};
 ghost use Rattle.nested_cli.specs.Deeds.{Comes, done_of, world};
 ghost use Rattle.command_words.specs.Word.{texts};
 
@@ -10,8 +10,9 @@ use crate::done::Done;
 use crate::go::go;
 use crate::line::write_line;
 use crate::list::list;
+use crate::refusals::refused_words;
 use crate::stop::Stop;
-use command_words::{Command, Usage, WordsError, read_words};
+use command_words::{Command, read_words};
 use nv_outside::{Failed, Shelf, Sink, Source};
 use std::alloc::Global;
 
@@ -74,8 +75,7 @@ fn perform<H: Shelf, O: Sink>(
 {
     match read_words(alloc, words) {
         Ok(command) => perform_command(alloc, &command, shelf, out),
-        Err(WordsError::Usage(usage)) => Ok(Done::Usage(usage_number(usage))),
-        Err(WordsError::NoMemory) => Err(Stop::NoMemory),
+        Err(error) => refused_words(error),
     }
 }
 
@@ -103,20 +103,10 @@ fn perform_command<H: Shelf, O: Sink>(
             shelf,
             out,
         ),
-        Command::Translate { .. }
-        | Command::Interp { .. }
-        | Command::Run { .. }
-        | Command::Verify { .. }
-        | Command::Make { .. } => Ok(Done::NotBuilt),
-    }
-}
-
-/// The number of what is wrong with the words.
-fn usage_number(usage: Usage) -> u32
-    ensures { result ≡ usage_number usage }
-{
-    match usage {
-        Usage::NoCommand => 1,
-        Usage::NotLawful => 2,
+        Command::Translate { .. } => Ok(Done::NotBuilt),
+        Command::Interp { .. } => Ok(Done::NotBuilt),
+        Command::Run { .. } => Ok(Done::NotBuilt),
+        Command::Verify { .. } => Ok(Done::NotBuilt),
+        Command::Make { .. } => Ok(Done::NotBuilt),
     }
 }

@@ -1,4 +1,10 @@
 use Rattle.nested_cli.proofs.line.write_line.Goals as goal
 
 pub returns-in-Usage-clause-ok : goal.returns-in-Usage-clause-ok
-returns-in-Usage-clause-ok g c = rw (c.in-Usage.is, ← c.decimal.ensures) c.write_pieces.ensures.ok
+returns-in-Usage-clause-ok g c = rw (c.in-Usage.is, ← c.from.ensures) c.write_number.ensures.ok
+
+pub returns-in-ArgsTooLong-clause-ok : goal.returns-in-ArgsTooLong-clause-ok
+returns-in-ArgsTooLong-clause-ok g c = rw c.in-ArgsTooLong.is c.write_number-in-ArgsTooLong.ensures.ok
+
+pub returns-in-FilesTooLarge-clause-ok : goal.returns-in-FilesTooLarge-clause-ok
+returns-in-FilesTooLarge-clause-ok g c = rw c.in-FilesTooLarge.is c.write_number-in-FilesTooLarge.ensures.ok

@@ -1,9 +1,18 @@
 use Rattle.std.proofs.Common.{Err, ap, ◌∙◌}
+use Rattle.command_words.specs.Word.{texts}
+use Rattle.nested_cli.specs.Deeds.{world}
 use Rattle.nested_cli.proofs.DeedLemmas.{performed, misused}
 use Rattle.nested_cli.proofs.program.perform.Goals as goal
 
 pub returns-in-Ok-clause-comes : goal.returns-in-Ok-clause-comes
-returns-in-Ok-clause-comes g c = λ rest err. performed _ _ _ _ _ _ c.in-Ok.ensures.ok (c.perform_command.ensures.comes rest err)
+returns-in-Ok-clause-comes g c = λ rest err.
+    performed _ (texts c.args.words.now) (g.H.Shelf.files c.args.shelf.now)
+    (world (g.H.Shelf.files c.args.shelf.now) rest (g.O.Sink.taken c.args.out.now) err)
+    (world (g.H.Shelf.files c.perform_command.new.shelf) rest (g.O.Sink.taken c.perform_command.new.out) err)
+    c.perform_command.result c.in-Ok.ensures.ok (c.perform_command.ensures.comes rest err)
 
-pub returns-in-Err-Usage-clause-comes : goal.returns-in-Err-Usage-clause-comes
-returns-in-Err-Usage-clause-comes g c = λ rest err. rw c.usage_number.ensures (misused c.in-Err-Usage.usage _ _ _ (c.read_words.ensures.usage c.in-Err-Usage.usage (c.in-Err-Usage.is ∙ ap Err c.in-Err-Usage.field-0-is)))
+pub returns-in-Err-clause-comes : goal.returns-in-Err-clause-comes
+returns-in-Err-clause-comes g c = λ rest err.
+    misused _ _ (texts c.args.words.now) (g.H.Shelf.files c.args.shelf.now)
+    (world (g.H.Shelf.files c.args.shelf.now) rest (g.O.Sink.taken c.args.out.now) err)
+    (λ fault e. c.read_words.ensures.usage fault (c.in-Err.is ∙ ap Err e)) c.refused_words.ensures
