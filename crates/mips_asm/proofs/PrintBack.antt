@@ -1,11 +1,10 @@
 -- The text of each instruction assembles to its word.
-use Rattle.std.proofs.Common.{◌≡◌, ℕ, ◌+◌, ◌%◌, ◌/◌, ◌^◌, ◌<◌, ◌++◌, Bool, true, false, cond, List, [], ◌∷◌, map, arith, refl, ap, sym, ◌∙◌, subst, Option, Some, None, Result, Ok, Err}
+use Rattle.std.proofs.Common.{◌≡◌, ℕ, ◌^◌, ◌<◌, ◌++◌, true, false, cond, List, [], ◌∷◌, map, arith, refl, ap, ◌∙◌, subst, Some, Result, Ok}
 use Rattle.std.specs.Prelude.{◌==◌, ◌||◌, find, slice_index, codes}
 use Rattle.std.specs.Fmt.{decimal, signed_decimal}
-use Rattle.asm_lines.specs.Lexical.{lines_of}
-use Rattle.asm_lines.specs.Lines.{Instruction, Word, line_of}
+use Rattle.asm_lines.specs.Lines.{line_of}
 use Rattle.asm_lines.specs.Mnemonics.{mnemonic_text}
-use Rattle.asm_lines.specs.Operands.{amount, both, branch_to, code, immediate, in_memory, jump_to, number, one, register, target}
+use Rattle.asm_lines.specs.Operands.{amount, both, branch_to, code, immediate, in_memory, jump_to, one, register, target}
 use Rattle.asm_lines.specs.declared.mnemonic.Mnemonic.{Mnemonic}
 use Rattle.asm_lines.specs.declared.mnemonic.Mnemonic.TheVariants as mnemonic
 use Rattle.nv_words.specs.Words.{IsWord}
@@ -18,7 +17,6 @@ use Rattle.mips_decode.specs.Targets.{branch_target, jump_target, signed_imm}
 use Rattle.mips_decode.specs.Text.{hex_text, text_of}
 use Rattle.mips_decode.proofs.Backwards.{word_of-inst}
 use Rattle.mips_asm.specs.Instructions.{all_values, forms, instruction}
-use Rattle.mips_asm.specs.Program.{parsed, word_value}
 use Rattle.mips_asm.proofs.PrintLines.{AreOperands, Assembles, assembles_instruction, assembles_word, is_operand, joined_operands, line_of_words, lines_of_words, operands_of_joined}
 use Rattle.mips_asm.proofs.PrintMnemonics.{mnemonic_plain, mnemonic_word}
 use Rattle.mips_asm.proofs.PrintValues.{branch_operand, decimal_operand, hex_number, hex_operand, jump_operand, memory_operand, memory_text, printed_branch, printed_jump, printed_memory, printed_number, printed_register, printed_signed, printed_unsigned, register_operand, signed_operand}

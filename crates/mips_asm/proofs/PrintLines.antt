@@ -1,9 +1,9 @@
 -- Lines of a word and operands.
-use Rattle.std.proofs.Common.{◌≡◌, ℕ, ◌++◌, Bool, true, false, cond, List, [], ◌∷◌, map, append_assoc, refl, ap, sym, ◌∙◌, Option, Some, None, Result, Ok, Err}
+use Rattle.std.proofs.Common.{◌≡◌, ℕ, ◌++◌, Bool, true, false, cond, List, [], ◌∷◌, map, append_assoc, refl, ap, sym, ◌∙◌, Some, None, Ok}
 use Rattle.std.specs.Prelude.{◌==◌, ◌&&◌, slice_index}
 use Rattle.std.specs.List.{slice_split, onto_first}
-use Rattle.asm_lines.specs.Lexical.{after_word, all, bare_line, before, first_word, from, is_blank, is_dark, is_name, lines_of, operands_of, trimmed, up_to_last}
-use Rattle.asm_lines.specs.Lines.{Line, Word, Instruction, bare_line_is, by_label, by_word, label_of, line_of}
+use Rattle.asm_lines.specs.Lexical.{after_word, all, bare_line, before, from, is_blank, is_dark, is_name, lines_of, operands_of, trimmed, up_to_last}
+use Rattle.asm_lines.specs.Lines.{Word, Instruction, bare_line_is, by_label, by_word, label_of, line_of}
 use Rattle.asm_lines.specs.declared.mnemonic.Mnemonic.{Mnemonic}
 use Rattle.asm_lines.proofs.LexicalLemmas.{name_before_end, up_to_dark}
 use Rattle.mips_decode.specs.Encoding.{word_of}

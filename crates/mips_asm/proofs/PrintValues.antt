@@ -1,13 +1,12 @@
 -- What printed operands stand for.
-use Rattle.std.proofs.Common.{◌≡◌, ℕ, pos, negsuc, ◌+◌, ◌-◌, ◌*◌, ◌/◌, ◌%◌, ◌^◌, ◌<◌, ◌≤◌, ◌++◌, Bool, true, false, cond, List, [], ◌∷◌, length, get_or, take, drop, replicate, suc, zero, append_assoc, length-append, arith, refl, ap, sym, ◌∙◌, subst, Option, Some, None, Result, Ok, Err}
+use Rattle.std.proofs.Common.{◌≡◌, ℕ, pos, negsuc, ◌+◌, ◌-◌, ◌*◌, ◌/◌, ◌%◌, ◌^◌, ◌<◌, ◌≤◌, ◌++◌, Bool, true, false, cond, List, [], ◌∷◌, length, get_or, take, drop, replicate, suc, zero, append_assoc, length-append, arith, refl, ap, sym, ◌∙◌, Some, None, Result, Ok, Err}
 use Rattle.std.specs.Prelude.{◌==◌, ◌&&◌, nat_le, nat_lt, option_map, ◌-ℤ◌}
 use Rattle.std.specs.Fmt.{decimal, signed_decimal, digits}
 use Rattle.std.specs.Char as char
 use Rattle.std.specs.Str.Parse.{AllDigits, IsNumeral, digits_value, digits_value_after}
 use Rattle.std.proofs.lemmas.Fmt.{decimal_is_IsNumeral, digits_is_IsNumeral, decimal_digit, first_decimal}
 use Rattle.asm_lines.specs.Lexical.{all}
-use Rattle.asm_lines.specs.Numbers.{below_32, digit_value, digits_after, digits_number, has_leading_zero, hexadecimal_or_decimal, is_between, low_bits, number_of, register_of}
-use Rattle.asm_lines.specs.declared.number.Number.{Number}
+use Rattle.asm_lines.specs.Numbers.{below_32, digit_value, digits_after, digits_number, has_leading_zero, hexadecimal_or_decimal, number_of}
 use Rattle.asm_lines.specs.Operands.{around, both, branch_to, immediate, in_memory, last_opening, later, one, in_range, jump_to, number, numbered, or_kind, register, target}
 use Rattle.mips_decode.specs.Text.{hex_text}
 use Rattle.mips_decode.specs.Targets.{branch_target, jump_target, signed_imm}
