@@ -1,5 +1,9 @@
 pub mod Counting
-pub mod Floats
+pub mod FloatLemmas
 pub mod Accepted
 pub mod TableLemmas
+pub mod MarkLemmas
+pub mod PieceLemmas
+pub mod StoreLemmas
+pub mod LoaderLemmas
 mod Examples
