@@ -6,4 +6,6 @@ pub mod MarkLemmas
 pub mod PieceLemmas
 pub mod StoreLemmas
 pub mod LoaderLemmas
+pub mod RunsLemmas
+pub mod MappedLemmas
 mod Examples

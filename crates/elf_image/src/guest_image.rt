@@ -5,6 +5,7 @@ ghost use Rattle.elf_reader.specs.Segments.{live};
 ghost use Rattle.elf_reader.specs.Area.{area, has_address};
 ghost use Rattle.elf_reader.specs.Fault.{IsRunsOf};
 ghost use Rattle.elf_image.specs.Content.{stored_word, is_filled_page};
+ghost use Rattle.elf_image.specs.Pages.{pages_below, count_below};
 ghost use Rattle.elf_image.specs.Refusals.{layout_fault};
 ghost use Rattle.elf_image.specs.Start.{image_of, readable, writable};
 
@@ -131,7 +132,8 @@ impl Image {
     /// How many pages can be read.
     #[tactic(auto, unfolding(crate::specs::Start::image_of))]
     pub fn mapped(&self) -> u32
-        ensures { result ≡ (image_of self.now).mapped }
+        ensures sum { result ≡ (image_of self.now).mapped }
+        ensures count { result ≡ count_below (readable self.now) pages_below }
     {
         self.mapped
     }

@@ -13,12 +13,14 @@ mod loader;
 mod page_marks;
 mod page_table;
 mod pages;
+mod runs;
 mod store;
 
 pub use guest_image::Image;
 pub use image_error::ImageError;
 pub use image_fault::ImageFault;
 pub use loader::image;
+pub use runs::runs_are_one;
 
 #[cfg(test)]
 mod tests;
