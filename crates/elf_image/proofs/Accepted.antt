@@ -1,6 +1,6 @@
 -- What follows of a file that passed every check of its headers.
 use Rattle.std.proofs.Common.{◌≡◌, ℕ, ◌≤◌, Bool, true, false, nat_lt, List, [], ◌∷◌, length, get_or, filter, Option, Some, None, refl, inl, inr, arith, position, subst, sym}
-use Rattle.std.specs.List.{All, position_or_len}
+use Rattle.std.specs.List.{All, AllPairs, position_or_len}
 use Rattle.std.specs.Option.{option_or}
 use Rattle.std.proofs.lemmas.Bool.{cases_Bool, ltb-false}
 use Rattle.std.proofs.lemmas.Bool.Decides.{nat_tests}
@@ -10,12 +10,13 @@ use Rattle.elf_reader.specs.declared.elf_fault.ElfFault.{ElfFault}
 use Rattle.elf_reader.specs.declared.segment.Segment.{Segment}
 use Rattle.elf_reader.specs.declared.program_header.ProgramHeader.{ProgramHeader}
 use Rattle.elf_reader.specs.Check.{fails_at, first_fault}
-use Rattle.elf_reader.specs.Segments.{program_headers, live, is_live, is_too_high, segment_end, segment_fault, is_dynamic, is_outside, is_oversized, overlap_from, is_writable_text}
+use Rattle.elf_reader.specs.Segments.{program_headers, live, is_live, is_too_high, segment_end, segment_fault, is_dynamic, is_outside, is_oversized, overlap_from, is_writable_text, IsApart}
 use Rattle.elf_reader.specs.Header.{identity_fault, program_table_fault}
 use Rattle.elf_reader.specs.Sections.{section_table_fault, section_fault, section_headers}
 use Rattle.elf_reader.specs.Area.{area_fault, code_ranges}
 use Rattle.elf_reader.specs.Fault.{elf_fault, IsSound}
 use Rattle.elf_reader.proofs.FaultLemmas.{segments_sound}
+use Rattle.elf_reader.proofs.PassedLemmas.{segments_apart}
 
 -- where none of two checks fails, neither does
 or_none : (a b : Option ElfFault) → option_or a b ≡ None → (a ≡ None) × (b ≡ None)
@@ -77,3 +78,8 @@ pub sound_of : (file : List ℕ) (segments : List Segment) → elf_fault file �
 unfolding live
 sound_of file segments accepted are =
     segments_sound (length file) (program_headers file) segments (segments_pass file accepted) are
+
+pub apart_of : (file : List ℕ) (segments : List Segment) → elf_fault file ≡ None → segments ≡ live file → AllPairs IsApart segments
+unfolding live
+apart_of file segments accepted are =
+    segments_apart (length file) (program_headers file) segments (segments_pass file accepted) are

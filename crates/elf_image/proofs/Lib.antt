@@ -1,6 +1,12 @@
 pub mod Counting
-pub mod Floats
+pub mod FloatLemmas
 pub mod Accepted
 pub mod TableLemmas
+pub mod MarkLemmas
+pub mod PieceLemmas
+pub mod StoreLemmas
+pub mod LoaderLemmas
+pub mod RunsLemmas
+pub mod MappedLemmas
 pub mod ImageLaws
 mod Examples

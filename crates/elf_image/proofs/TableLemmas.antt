@@ -1,21 +1,19 @@
 -- The table of pages, made page by page.
-use Rattle.std.proofs.Common.{◌≡◌, ℕ, zero, suc, ◌+◌, ◌-◌, ◌*◌, ◌/◌, ◌%◌, ◌^◌, ◌<◌, ◌≤◌, Bool, true, false, ◌&&◌, not, ◌==◌, nat_lt, nat_le, cond, max, min, List, [], ◌∷◌, ◌++◌, length, get_or, take, drop, find, is_some, Option, Some, None, refl, sym, ap, ◌∙◌, ◌⊎◌, inl, inr, arith, length-append}
+use Rattle.std.proofs.Common.{◌≡◌, ℕ, zero, suc, ◌+◌, ◌-◌, ◌*◌, ◌/◌, ◌%◌, ◌^◌, ◌<◌, ◌≤◌, Bool, true, false, ◌&&◌, not, ◌==◌, nat_lt, nat_le, cond, max, min, List, [], ◌∷◌, length, get_or, take, drop, find, is_some, Option, Some, None, refl, sym, ap, ◌∙◌, inl, inr, arith}
 use Rattle.std.specs.List.{All}
 use Rattle.std.specs.Option.{option_or, option_map_or}
-use Rattle.std.proofs.Math.ListN.{get_or-append}
-use Rattle.std.proofs.Math.Seq.{get_or-append_seam}
-use Rattle.std.proofs.lemmas.List.{get_or-append_right, get_or-take, get_or-drop}
-use Rattle.std.proofs.lemmas.List.Folds.{list_any_at, list_any_none}
-use Rattle.std.proofs.lemmas.Bool.{cases_Bool, cases_lt}
+use Rattle.std.proofs.lemmas.List.{get_or-take, get_or-drop}
+use Rattle.std.proofs.lemmas.List.Folds.{list_any_at}
+use Rattle.std.proofs.lemmas.Bool.{cases_Bool, cases_lt, cases_eq}
 use Rattle.std.proofs.lemmas.Bool.Decides.{nat_tests}
 use Rattle.elf_reader.specs.declared.segment.Segment.{Segment}
 use Rattle.elf_reader.specs.Check.{least_below}
 use Rattle.elf_reader.specs.Fault.{IsSound}
-use Rattle.elf_image.specs.Pages.{is_on_page, is_segment_page}
+use Rattle.elf_image.specs.Pages.{is_on_page, is_segment_page, count_below}
 use Rattle.elf_image.specs.Content.{is_in_file_part, file_byte, stored_byte, stored_word, is_filled_page}
-use Rattle.elf_image.specs.PageTable.{table_word, table_byte}
+use Rattle.elf_image.specs.PageTable.{marked, number_of, table_word, table_byte}
 use Rattle.nv_words.specs.Words.{word_of_bytes, lane_of_word}
-use Rattle.nv_words.proofs.LaneLemmas.{lane_of_word-of_bytes, below_four}
+use Rattle.nv_words.proofs.LaneLemmas.{lane_of_word-of_bytes, below_four, same_lanes}
 
 find_none : {X : Type 0} (p : X → Bool) (xs : List X) → All (λ x. p x ≡ false) xs → find p xs ≡ None
 find_none p [] none = refl
@@ -61,7 +59,7 @@ here_none : (b : Bool) (n : ℕ) → cond b (Some n) None ≡ None → b ≡ fal
 here_none true n e = absurd (cc)
 here_none false n e = refl
 
-least_all : (test : ℕ → Bool) (n : ℕ) → least_below test n ≡ None → (k : ℕ) → k < n → test k ≡ false
+pub least_all : (test : ℕ → Bool) (n : ℕ) → least_below test n ≡ None → (k : ℕ) → k < n → test k ≡ false
 unfolding least_below
 least_all test zero none k within = absurd (omega (arith, within))
 least_all test (suc n) none k within =
@@ -88,95 +86,6 @@ not_filled len file segments page at sound off here =
       | inr out ↦ not_stored len file segments at sound (ap (is_segment_page segments) here ∙ out)
     ]
 
--- a page more leaves those before it
-index_old : (index stored : List ℕ) (x k : ℕ) → k / 1024 < length index
-    → table_word (index ++ x ∷ []) stored k ≡ table_word index stored k
-unfolding table_word
-index_old index stored x k lt = rw (get_or-append index (x ∷ []) 0 (k / 1024) lt) refl
-
-stored_old : (index stored more : List ℕ) (count k : ℕ) → length stored ≡ 1024 * count → get_or index (k / 1024) 0 ≤ count
-    → table_word index (stored ++ more) k ≡ table_word index stored k
-unfolding table_word
-stored_old index stored more count k size few = within (get_or index (k / 1024) 0) few
-  where
-    within : (p : ℕ) → p ≤ count
-        → cond (p == 0) 0 (get_or (stored ++ more) (1024 * (p - 1) + k % 1024) 0) ≡ cond (p == 0) 0 (get_or stored (1024 * (p - 1) + k % 1024) 0)
-    within zero le = refl
-    within (suc p) le =
-        let lt : 1024 * (suc p - 1) + k % 1024 < length stored = omega (arith, size, le) in
-        rw (get_or-append stored more 0 (1024 * (suc p - 1) + k % 1024) lt) refl
-
-index_new : (index stored : List ℕ) (x k : ℕ) → k / 1024 ≡ length index
-    → table_word (index ++ x ∷ []) stored k ≡ cond (x == 0) 0 (get_or stored (1024 * (x - 1) + k % 1024) 0)
-unfolding table_word
-index_new index stored x k here =
-    let seam = ap (λ i. get_or (index ++ x ∷ []) i 0) here ∙ get_or-append_seam index x [] 0 in
-    rw seam refl
-
-split : (a p : ℕ) → a < p + 1 → (a < p) ⊎ (a ≡ p)
-split a p h = grind arith
-
--- one more page that is all zero
-pub zero_more : (index index' stored : List ℕ) (page : ℕ) (word : ℕ → ℕ) → length index ≡ page → index' ≡ index ++ 0 ∷ []
-    → ((k : ℕ) → k / 1024 < page → table_word index stored k ≡ word k)
-    → ((k : ℕ) → k / 1024 ≡ page → word k ≡ 0)
-    → (k : ℕ) → k / 1024 < page + 1 → table_word index' stored k ≡ word k
-zero_more index index' stored page word pages pushed before here k below =
-    ap (λ i. table_word i stored k) pushed ∙
-    elim (split (k / 1024) page below) [
-      | inl lt ↦ index_old index stored 0 k (omega (arith, lt, pages)) ∙ before k lt
-      | inr same ↦ index_new index stored 0 k (same ∙ sym pages) ∙ sym (here k same)
-    ]
-
--- one more page that is stored
-pub page_more : (index index' stored stored' words : List ℕ) (page count : ℕ) (word : ℕ → ℕ) → length index ≡ page → index' ≡ index ++ (count + 1) ∷ []
-    → length stored ≡ 1024 * count → stored' ≡ stored ++ words
-    → ((p : ℕ) → get_or index p 0 ≤ count)
-    → ((k : ℕ) → k < 1024 → get_or words k 0 ≡ word (1024 * page + k))
-    → ((k : ℕ) → k / 1024 < page → table_word index stored k ≡ word k)
-    → (k : ℕ) → k / 1024 < page + 1 → table_word index' stored' k ≡ word k
-page_more index index' stored stored' words page count word pages pushed size extended places here before k below =
-    ap (λ i. table_word i stored' k) pushed ∙
-    ap (λ s. table_word (index ++ (count + 1) ∷ []) s k) extended ∙
-    elim (split (k / 1024) page below) [
-      | inl lt ↦ index_old index (stored ++ words) (count + 1) k (omega (arith, lt, pages))
-          ∙ stored_old index stored words count k size (places (k / 1024)) ∙ before k lt
-      | inr same ↦ index_new index (stored ++ words) (count + 1) k (same ∙ sym pages)
-          ∙ new (k % 1024) (omega arith)
-          ∙ here (k % 1024) (omega arith)
-          ∙ ap word (let place : 1024 * page + k % 1024 ≡ k = omega (arith, same) in place)
-    ]
-  where
-    new : (k : ℕ) → k < 1024 → cond (count + 1 == 0) 0 (get_or (stored ++ words) (1024 * (count + 1 - 1) + k) 0) ≡ get_or words k 0
-    new k lt =
-        let some : (count + 1 == 0) ≡ false = grind (arith, nat_tests) in
-        let left : 1024 * count ≤ 1024 * (count + 1 - 1) + k = omega arith in
-        let place : 1024 * (count + 1 - 1) + k - 1024 * count ≡ k = omega arith in
-        rw some (get_or-append_right stored words (1024 * count) (1024 * (count + 1 - 1) + k) 0 size left ∙ ap (λ i. get_or words i 0) place)
-
-places_more : (index : List ℕ) (x n : ℕ) → ((p : ℕ) → get_or index p 0 ≤ n) → x ≤ n → (p : ℕ) → get_or (index ++ x ∷ []) p 0 ≤ n
-places_more [] x n all le zero = le
-places_more [] x n all le (suc p) = omega arith
-places_more (y ∷ index) x n all le zero = all 0
-places_more (y ∷ index) x n all le (suc p) = places_more index x n (λ q. all (suc q)) le p
-
-pub places_pushed : (index index' : List ℕ) (x n m : ℕ) → index' ≡ index ++ x ∷ [] → ((p : ℕ) → get_or index p 0 ≤ n) → n ≤ m → x ≤ m
-    → (p : ℕ) → get_or index' p 0 ≤ m
-places_pushed index index' x n m pushed all le new p =
-    let more = places_more index x m (λ q. let old = all q in omega (arith, old, le)) new p in
-    let same = ap (λ i. get_or i p 0) pushed in
-    omega (arith, more, same)
-
-past_index : (index : List ℕ) (p : ℕ) → length index ≤ p → get_or index p 0 ≡ 0
-past_index [] p past = refl
-past_index (x ∷ index) zero past = absurd (omega (arith, past))
-past_index (x ∷ index) (suc p) past = past_index index p (omega (arith, past))
-
--- past the last page everything is zero
-pub table_past : (index stored : List ℕ) (k : ℕ) → length index ≤ k / 1024 → table_word index stored k ≡ 0
-unfolding table_word
-table_past index stored k past = rw (past_index index (k / 1024) past) refl
-
 word_cong : (a b c d a' b' c' d' : ℕ) → a ≡ a' → b ≡ b' → c ≡ c' → d ≡ d' → word_of_bytes a b c d ≡ word_of_bytes a' b' c' d'
 word_cong a b c d a' b' c' d' p q r s = cc
 
@@ -198,79 +107,6 @@ lane_of_stored file segments fits at i lt =
     below_four (λ i. lane_of_word (word_of_bytes (stored_byte file segments at) (stored_byte file segments (at + 1)) (stored_byte file segments (at + 2)) (stored_byte file segments (at + 3))) i ≡ stored_byte file segments (at + i))
     (lanes.0 ∙ ap (stored_byte file segments) (let e : at ≡ at + 0 = omega arith in e)) lanes.1 lanes.2 lanes.3 i lt
 
--- a word of zeros
-zero_word : (file : List ℕ) (segments : List Segment) (k : ℕ) → ((at : ℕ) → at / 4096 ≡ k / 1024 → stored_byte file segments at ≡ 0) → stored_word file segments (4 * k) ≡ 0
-unfolding stored_word
-zero_word file segments k zeros =
-    word_cong _ _ _ _ 0 0 0 0 (zeros (4 * k) (omega arith)) (zeros (4 * k + 1) (omega arith)) (zeros (4 * k + 2) (omega arith)) (zeros (4 * k + 3) (omega arith))
-
-pub not_filled_word : (len : ℕ) (file : List ℕ) (segments : List Segment) (page k : ℕ) → All (IsSound len) segments
-    → is_filled_page file segments page ≡ false → k / 1024 ≡ page → stored_word file segments (4 * k) ≡ 0
-not_filled_word len file segments page k sound off here =
-    zero_word file segments k (λ at same. not_filled len file segments page at sound off (same ∙ here))
-
-low_page : (p v m : ℕ) → v + m ≤ 0x7F00_0000 → 524288 ≤ p → nat_lt (max v (4096 * p)) (min (v + m) (4096 * p + 4096)) ≡ false
-low_page p v m low past = grind (arith, nat_tests)
-
-no_segment : (len : ℕ) (segments : List Segment) (p : ℕ) → All (IsSound len) segments → 524288 ≤ p → is_segment_page segments p ≡ false
-unfolding is_segment_page
-no_segment len segments p sound past =
-    list_any_none (is_on_page p) segments
-    (λ k d within. low_page p (get_or segments k d).vaddr (get_or segments k d).memsz (sound k d within).low past)
-
--- after the last page all words are right
-pub all_words : (len : ℕ) (file : List ℕ) (segments : List Segment) (index stored : List ℕ) (page : ℕ) → All (IsSound len) segments
-    → length index ≡ page → 524288 ≤ page
-    → ((k : ℕ) → k / 1024 < page → table_word index stored k ≡ stored_word file segments (4 * k))
-    → (k : ℕ) → table_word index stored k ≡ stored_word file segments (4 * k)
-all_words len file segments index stored page sound pages all before k =
-    elim (cases_lt (k / 1024) page) [
-      | inl lt ↦ before k lt
-      | inr ge ↦ table_past index stored k (omega (arith, ge, pages))
-          ∙ sym (zero_word file segments k (λ at here. not_stored len file segments at sound (no_segment len segments (at / 4096) sound (omega (arith, ge, all, here)))))
-    ]
-
--- where the words are right, so are the bytes
-pub all_bytes : (file : List ℕ) (segments : List Segment) (index stored : List ℕ) → ((i : ℕ) → get_or file i 0 < 2 ^ 8)
-    → ((k : ℕ) → table_word index stored k ≡ stored_word file segments (4 * k))
-    → (at : ℕ) → table_byte index stored at ≡ stored_byte file segments at
-all_bytes file segments index stored fits words at =
-    ap (λ w. lane_of_word w (at % 4)) (words (at / 4)) ∙ lane_of_stored file segments fits (4 * (at / 4)) (at % 4) (omega arith)
-    ∙ ap (stored_byte file segments) (let place : 4 * (at / 4) + at % 4 ≡ at = omega arith in place)
-
-pub pushed_length : (xs ys : List ℕ) (x n : ℕ) → length xs ≡ n → ys ≡ xs ++ x ∷ [] → length ys ≡ n + 1
-pushed_length xs ys x n before pushed = omega (arith, length-append {A = ℕ}, ap length pushed, before)
-
-pub joined_length : (xs ys more : List ℕ) (count : ℕ) → length xs ≡ 1024 * count → ys ≡ xs ++ more → length more ≡ 1024
-    → length ys ≡ 1024 * (count + 1)
-joined_length xs ys more count before joined page = omega (arith, length-append {A = ℕ}, ap length joined, before, page)
-
--- the index of a page is not 0 where it is filled
-pub filled_more : (index index' : List ℕ) (x page : ℕ) (test : ℕ → Bool) → length index ≡ page → index' ≡ index ++ x ∷ []
-    → ((p : ℕ) → p < page → not (get_or index p 0 == 0) ≡ test p)
-    → not (x == 0) ≡ test page
-    → (p : ℕ) → p < page + 1 → not (get_or index' p 0 == 0) ≡ test p
-filled_more index index' x page test pages pushed before here p below =
-    ap (λ i. not (get_or i p 0 == 0)) pushed ∙
-    elim (split p page below) [
-      | inl lt ↦ ap (λ n. not (n == 0)) (get_or-append index (x ∷ []) 0 p (omega (arith, lt, pages))) ∙ before p lt
-      | inr same ↦ ap (λ n. not (n == 0)) (ap (λ i. get_or (index ++ x ∷ []) i 0) (same ∙ sym pages) ∙ get_or-append_seam index x [] 0) ∙ here ∙ ap test (sym same)
-    ]
-
-unfilled : (file : List ℕ) (segments : List Segment) (page : ℕ) → is_segment_page segments page ≡ false → is_filled_page file segments page ≡ false
-unfolding is_filled_page
-unfilled file segments page off = rw off refl
-
-pub all_filled : (len : ℕ) (file : List ℕ) (segments : List Segment) (index : List ℕ) (page : ℕ) → All (IsSound len) segments
-    → length index ≡ page → 524288 ≤ page
-    → ((p : ℕ) → p < page → not (get_or index p 0 == 0) ≡ is_filled_page file segments p)
-    → (p : ℕ) → not (get_or index p 0 == 0) ≡ is_filled_page file segments p
-all_filled len file segments index page sound pages all before p =
-    elim (cases_lt p page) [
-      | inl lt ↦ before p lt
-      | inr ge ↦ ap (λ n. not (n == 0)) (past_index index p (omega (arith, ge, pages))) ∙ sym (unfilled file segments p (no_segment len segments p sound (omega (arith, ge, all))))
-    ]
-
 -- the words of a page that is stored
 pub page_at : (index stored : List ℕ) (page place n k : ℕ) → get_or index page 0 ≡ place → (place ≡ 0 → ⊥) → n ≡ 1024 → k < 1024
     → get_or (take n (drop (1024 * (place - 1)) stored)) k 0 ≡ table_word index stored (1024 * page + k)
@@ -282,14 +118,94 @@ page_at index stored page place n k is filled size lt =
     rw here (rw rest (rw is (rw some
     (get_or-take n (drop (1024 * (place - 1)) stored) k 0 (omega (arith, lt, size)) ∙ get_or-drop (1024 * (place - 1)) stored k 0))))
 
--- the word at an address that is a multiple of 4
-pub word_at : (w at : ℕ) (i s index stored file : List ℕ) (segments : List Segment) → w ≡ table_word i s (at / 4) → i ≡ index → s ≡ stored → at % 4 ≡ 0
-    → ((k : ℕ) → table_word index stored k ≡ stored_word file segments (4 * k)) → w ≡ stored_word file segments at
-word_at w at i s index stored file segments is same_index same_stored even words =
-    is ∙ ap (λ x. table_word x s (at / 4)) same_index ∙ ap (λ x. table_word index x (at / 4)) same_stored ∙ words (at / 4)
-    ∙ ap (stored_word file segments) (let place : 4 * (at / 4) ≡ at = omega (arith, even) in place)
+zero_or_not : (file : List ℕ) (n : ℕ) → not (n == 0) ≡ false → n ≡ 0
+zero_or_not file n e = is_zero n e
 
-pub page_words : (file : List ℕ) (segments : List Segment) (words : List ℕ) (page : ℕ)
-    → ((k : ℕ) → k < 1024 → get_or words k 0 ≡ stored_word file segments (4096 * page + 4 * k))
-    → (k : ℕ) → k < 1024 → get_or words k 0 ≡ stored_word file segments (4 * (1024 * page + k))
-page_words file segments words page are k lt = are k lt ∙ ap (stored_word file segments) (let place : 4096 * page + 4 * k ≡ 4 * (1024 * page + k) = omega arith in place)
+number_test : (test : ℕ → Bool) (p : ℕ) → not (number_of test p == 0) ≡ test p
+number_test test p =
+    elim (cases_Bool (test p)) [
+      | inl on ↦ rw on (more (count_below test p))
+      | inr off ↦ rw off refl
+    ]
+  where
+    more : (n : ℕ) → not (n + 1 == 0) ≡ true
+    more n = grind (arith, nat_tests)
+
+-- the pages with an index are those that are filled
+pub index_filled : (file : List ℕ) (segments : List Segment) (index : List ℕ) (marks : List Bool)
+    → ((p : ℕ) → get_or index p 0 ≡ number_of (marked marks) p) → ((p : ℕ) → marked marks p ≡ is_filled_page file segments p)
+    → (p : ℕ) → not (get_or index p 0 == 0) ≡ is_filled_page file segments p
+index_filled file segments index marks numbers filled p =
+    ap (λ n. not (n == 0)) (numbers p) ∙ number_test (marked marks) p ∙ filled p
+
+zero_entry : (index stored : List ℕ) (k : ℕ) → get_or index (k / 1024) 0 ≡ 0 → table_word index stored k ≡ 0
+unfolding table_word
+zero_entry index stored k none = rw none refl
+
+-- the byte at each address
+pub all_bytes : (len : ℕ) (file : List ℕ) (segments : List Segment) (index stored : List ℕ) → All (IsSound len) segments
+    → ((p : ℕ) → not (get_or index p 0 == 0) ≡ is_filled_page file segments p)
+    → ((at : ℕ) → (get_or index (at / 4096) 0 ≡ 0 → ⊥) → table_byte index stored at ≡ stored_byte file segments at)
+    → (at : ℕ) → table_byte index stored at ≡ stored_byte file segments at
+all_bytes len file segments index stored sound filled bytes at =
+    elim (cases_eq (get_or index (at / 4096) 0) 0) [
+      | inr some ↦ bytes at some
+      | inl none ↦
+          let off : is_filled_page file segments (at / 4096) ≡ false = sym (filled (at / 4096)) ∙ ap (λ n. not (n == 0)) none in
+          let place : at / 4 / 1024 ≡ at / 4096 = omega arith in
+          ap (λ w. lane_of_word w (at % 4)) (zero_entry index stored (at / 4) (ap (λ p. get_or index p 0) place ∙ none)) ∙ nil (at % 4)
+          ∙ sym (not_filled len file segments (at / 4096) at sound off refl)
+    ]
+  where
+    zero_lane : (e : ℕ) → 0 / 2 ^ e % 2 ^ 8 ≡ 0
+    zero_lane e = omega arith
+
+    nil : (i : ℕ) → lane_of_word 0 i ≡ 0
+    nil i = zero_lane (24 - 8 * i)
+
+table_word-lt : (index stored : List ℕ) (k : ℕ) → ((i : ℕ) → get_or stored i 0 < 2 ^ 32) → table_word index stored k < 2 ^ 32
+unfolding table_word
+table_word-lt index stored k fits = go (get_or index (k / 1024) 0)
+  where
+    go : (p : ℕ) → cond (p == 0) 0 (get_or stored (1024 * (p - 1) + k % 1024) 0) < 2 ^ 32
+    go p =
+        elim (cases_eq p 0) [
+          | inl none ↦ let test : (p == 0) ≡ true = grind (arith, nat_tests) in rw test (omega arith)
+          | inr some ↦ let test : (p == 0) ≡ false = grind (arith, nat_tests) in rw test (fits _)
+        ]
+
+word_lt : (a b c d : ℕ) → a < 2 ^ 8 → b < 2 ^ 8 → c < 2 ^ 8 → d < 2 ^ 8 → word_of_bytes a b c d < 2 ^ 32
+word_lt a b c d ha hb hc hd = omega (arith, ha, hb, hc, hd)
+
+stored_word-lt : (file : List ℕ) (segments : List Segment) (at : ℕ) → ((i : ℕ) → get_or file i 0 < 2 ^ 8) → stored_word file segments at < 2 ^ 32
+unfolding stored_word
+stored_word-lt file segments at fits =
+    word_lt _ _ _ _ (stored_byte-lt file segments at fits) (stored_byte-lt file segments (at + 1) fits) (stored_byte-lt file segments (at + 2) fits) (stored_byte-lt file segments (at + 3) fits)
+
+-- where the bytes are right, so are the words
+pub all_words : (file : List ℕ) (segments : List Segment) (index stored : List ℕ) → ((i : ℕ) → get_or file i 0 < 2 ^ 8) → ((i : ℕ) → get_or stored i 0 < 2 ^ 32)
+    → ((at : ℕ) → table_byte index stored at ≡ stored_byte file segments at)
+    → (k : ℕ) → table_word index stored k ≡ stored_word file segments (4 * k)
+all_words file segments index stored fits small bytes k =
+    same_lanes (table_word index stored k) (stored_word file segments (4 * k)) (table_word-lt index stored k small) (stored_word-lt file segments (4 * k) fits)
+    (λ i lt.
+    let place : (4 * k + i) / 4 ≡ k = omega (arith, lt) in
+    let lane : (4 * k + i) % 4 ≡ i = omega (arith, lt) in
+    ap (λ w. lane_of_word (table_word index stored w) i) (sym place) ∙ ap (λ j. lane_of_word (table_word index stored ((4 * k + i) / 4)) j) (sym lane)
+    ∙ bytes (4 * k + i) ∙ sym (lane_of_stored file segments fits (4 * k) i lt))
+
+pub word_at : (file : List ℕ) (segments : List Segment) (index stored : List ℕ) (at : ℕ) → at % 4 ≡ 0
+    → ((k : ℕ) → table_word index stored k ≡ stored_word file segments (4 * k)) → table_word index stored (at / 4) ≡ stored_word file segments at
+word_at file segments index stored at even words =
+    words (at / 4) ∙ ap (stored_word file segments) (let place : 4 * (at / 4) ≡ at = omega (arith, even) in place)
+
+-- the words of a page that is stored, in the file
+pub page_words : (file : List ℕ) (segments : List Segment) (index stored : List ℕ) (page place n k : ℕ) → get_or index page 0 ≡ place → (place ≡ 0 → ⊥) → n ≡ 1024 → k < 1024
+    → ((k : ℕ) → table_word index stored k ≡ stored_word file segments (4 * k))
+    → get_or (take n (drop (1024 * (place - 1)) stored)) k 0 ≡ stored_word file segments (4096 * page + 4 * k)
+page_words file segments index stored page place n k is some size lt words =
+    page_at index stored page place n k is some size lt ∙ words (1024 * page + k)
+    ∙ ap (stored_word file segments) (let at : 4 * (1024 * page + k) ≡ 4096 * page + 4 * k = omega arith in at)
+
+pub is_stored : (n : ℕ) → (n ≡ 0 → ⊥) → not (n == 0) ≡ true
+is_stored n some = grind (arith, nat_tests)

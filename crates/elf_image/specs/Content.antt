@@ -33,6 +33,11 @@ is_filled_page file segments page =
     is_segment_page segments page
     && is_some (least_below (λ k. not (stored_byte file segments (4096 * page + k) == 0)) 4096)
 
+-- a page holds a byte of a segment's bytes in the file that is not 0
+unfoldable pub has_data : List ℕ → ℕ → Segment → Bool
+has_data file page s =
+    is_some (least_below (λ k. is_in_file_part (4096 * page + k) s && not (file_byte file (4096 * page + k) s == 0)) 4096)
+
 -- a word with a primary opcode of the floating-point unit
 abbrev pub is_float : ℕ → Bool
 is_float word = op_of word == 0x11 || op_of word == 0x31 || op_of word == 0x39

@@ -1,8 +1,21 @@
--- The words of memory as an image keeps them: those of the pages that are not all zero, and for each page which of these it is.
-use Rattle.std.specs.Prelude.{ℕ, ◌+◌, ◌-◌, ◌*◌, ◌/◌, ◌%◌, ◌==◌, if◌then◌else◌, List, slice_index}
+-- What an image keeps of the segments' pages: marks, and the words of the pages that are not all zero.
+use Rattle.std.specs.Prelude.{ℕ, ◌+◌, ◌-◌, ◌*◌, ◌/◌, ◌%◌, ◌==◌, Bool, false, if◌then◌else◌, List, slice_index, slice_index_or}
+use Rattle.elf_image.specs.Pages.{count_below}
 use Rattle.nv_words.specs.Words.{lane_of_word}
 
--- the k-th word: a page with index 0 is all zero, one with index n is the n-th of those stored
+-- a page is marked; none past the end of the marks is
+abbrev pub marked : List Bool → ℕ → Bool
+marked marks page = slice_index_or marks page false
+
+-- the pages that pass a test are numbered from 1 on, and the others have the number 0
+abbrev pub number_of : (ℕ → Bool) → ℕ → ℕ
+number_of test page = if test page then count_below test page + 1 else 0
+
+-- the byte at a place of words, each of four bytes, the most significant first
+abbrev pub byte_in : List ℕ → ℕ → ℕ
+byte_in words at = lane_of_word (slice_index words (at / 4)) (at % 4)
+
+-- the k-th word of memory: a page with index 0 is all zero, one with index n is the n-th of those stored
 unfoldable pub table_word : List ℕ → List ℕ → ℕ → ℕ
 table_word index stored k =
     let place = slice_index index (k / 1024) in

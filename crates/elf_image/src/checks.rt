@@ -1,39 +1,21 @@
-//! The checks that a file's image passes, made in a fixed order.
-ghost use Rattle.std.specs.Prelude.{◌≡◌, ℕ, length};
-ghost use Rattle.elf_reader.specs.Segments.{live, segment_end};
+//! The checks that a file's image passes.
+ghost use Rattle.std.specs.Prelude.{◌≡◌, ◌%◌, All, length};
 ghost use Rattle.elf_reader.specs.declared.range.Range.{Range};
-ghost use Rattle.elf_image.specs.Refusals.{IsApart, code_words, size_fault, pages_fault, data_fault, layout_fault, float_fault, image_fault};
+ghost use Rattle.elf_image.specs.Content.{is_filled_page};
+ghost use Rattle.elf_image.specs.Pages.{count_below};
+ghost use Rattle.elf_image.specs.PageTable.{marked};
+ghost use Rattle.elf_image.specs.Refusals.{IsApart, exceeds, code_words, size_fault, pages_fault, layout_fault, float_fault};
 
-use crate::content::{filled_pages, first_float, stored_word};
+use crate::floats::first_float;
 use crate::image_fault::ImageFault;
 use crate::layout::Layout;
-use elf_reader::{Range, Segment};
-
-/// The first check that fails, for a file with its live segments and the ranges of its code.
-#[tactic(auto, unfolding(crate::specs::Refusals::image_fault))]
-pub fn check_image(file: &[u8], code: &[Range], layout: &Layout<'_>) -> Option<ImageFault>
-    requires segments { layout.now.segments.now ≡ live file.now }
-    requires apart { IsApart code.now }
-    ensures { result ≡ image_fault file.now code.now layout.now.heap layout.now.stack }
-{
-    if let Some(fault) = check_sizes(file.len(), code) {
-        return Some(fault);
-    }
-    if let Some(fault) = check_pages(layout) {
-        return Some(fault);
-    }
-    if let Some(fault) = check_data(file, layout.segments) {
-        return Some(fault);
-    }
-    if let Some(fault) = check_layout(layout) {
-        return Some(fault);
-    }
-    check_float(file, layout.segments, code)
-}
+use crate::page_marks::count_marks;
+use crate::page_table::PageTable;
+use elf_reader::Range;
 
 /// The checks of the sizes of the file and of its code.
 #[tactic(auto, unfolding(crate::specs::Refusals::size_fault))]
-fn check_sizes(len: usize, code: &[Range]) -> Option<ImageFault>
+pub fn check_sizes(len: usize, code: &[Range]) -> Option<ImageFault>
     requires { IsApart code.now }
     ensures { result ≡ size_fault len code.now }
 {
@@ -65,8 +47,8 @@ fn code_words(code: &[Range]) -> u64
 }
 
 /// The check of how many pages are mapped.
-fn check_pages(layout: &Layout<'_>) -> Option<ImageFault>
-    ensures { result ≡ pages_fault layout.now.segments.now layout.now.heap layout.now.stack }
+pub fn check_pages(layout: &Layout) -> Option<ImageFault>
+    ensures { result ≡ pages_fault layout.now.segments.value.items layout.now.heap layout.now.stack }
 {
     ImageFault::above(
         ImageFault::TOO_MANY_PAGES,
@@ -76,19 +58,19 @@ fn check_pages(layout: &Layout<'_>) -> Option<ImageFault>
 }
 
 /// The check of how many pages of the segments hold a byte that is not 0.
-fn check_data(file: &[u8], segments: &[Segment]) -> Option<ImageFault>
-    ensures { result ≡ data_fault file.now segments.now }
+pub fn check_data(filled: &[bool]) -> Option<ImageFault>
+    ensures { result ≡ exceeds 5 16_384 (count_below (marked filled.now) 524288) }
 {
     ImageFault::above(
         ImageFault::TOO_MUCH_DATA,
         16_384,
-        u64::from(filled_pages(file, segments)),
+        u64::from(count_marks(filled)),
     )
 }
 
 /// The check that no page is for two things.
-fn check_layout(layout: &Layout<'_>) -> Option<ImageFault>
-    ensures { result ≡ layout_fault layout.now.segments.now layout.now.heap layout.now.stack }
+pub fn check_layout(layout: &Layout) -> Option<ImageFault>
+    ensures { result ≡ layout_fault layout.now.segments.value.items layout.now.heap layout.now.stack }
 {
     let page = layout.first_shared()?;
     Some(ImageFault {
@@ -99,13 +81,14 @@ fn check_layout(layout: &Layout<'_>) -> Option<ImageFault>
 }
 
 /// The check of the code's instructions.
-fn check_float(file: &[u8], segments: &[Segment], code: &[Range]) -> Option<ImageFault>
-    ensures { result ≡ float_fault file.now segments.now code.now }
+pub fn check_float(table: &PageTable, code: &[Range]) -> Option<ImageFault>
+    requires { All (λ r. r.first % 4 ≡ 0) code.now }
+    ensures { result ≡ float_fault table.now.file.bytes table.now.segments.value.items code.now }
 {
-    let at = first_float(file, segments, code)?;
+    let at = first_float(table, code)?;
     Some(ImageFault {
         kind: ImageFault::FLOAT_INSTRUCTION,
         number: at,
-        word: stored_word(file, segments, at),
+        word: table.word_at(at),
     })
 }

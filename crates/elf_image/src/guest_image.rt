@@ -1,34 +1,31 @@
-ghost use Rattle.std.specs.Prelude.{◌≡◌, ℕ, ◌+◌, ◌*◌, ◌/◌, ◌%◌, ◌^◌, ◌<◌, ◌≤◌, false, IfOk, IfSome, is_some, All, length, slice_index};
+ghost use Rattle.std.specs.Prelude.{◌≡◌, ℕ, ◌+◌, ◌*◌, ◌/◌, ◌%◌, ◌^◌, ◌<◌, ◌≤◌, false, None, IfOk, IfSome, is_some, length, slice_index};
 ghost use Rattle.std.specs.List.{list_any};
 ghost use Rattle.elf_reader.specs.Header.{header_of};
 ghost use Rattle.elf_reader.specs.Segments.{live};
 ghost use Rattle.elf_reader.specs.Area.{area, has_address};
-ghost use Rattle.elf_reader.specs.Fault.{IsRunsOf, IsSound};
+ghost use Rattle.elf_reader.specs.Fault.{elf_fault, IsRunsOf};
 ghost use Rattle.elf_image.specs.Content.{stored_byte, stored_word, is_filled_page};
 ghost use Rattle.nv_words.specs.Words.{lane_of_word};
-ghost use Rattle.elf_image.specs.Pages.{heap_page};
+ghost use Rattle.elf_image.specs.Pages.{pages_below, count_below};
+ghost use Rattle.elf_image.specs.Refusals.{layout_fault};
 ghost use Rattle.elf_image.specs.Start.{image_of, readable, writable};
 
 use crate::layout::Layout;
-use crate::page_table::{PageTable, page_table, table_byte, table_page, table_word};
-use elf_reader::{Elf, Range, Segment};
+use crate::page_table::PageTable;
+use elf_reader::{Elf, Range};
 use std::alloc::{AllocError, Global};
 use std::marker::Model;
 
 /// The memory and the code with which a program starts.
 ///
 /// A page has 4,096 bytes. The program's pages are those of its segments, the heap, the stack and the argument page; which
-/// pages are mapped never changes while it runs.
+/// pages are mapped never changes while it runs. Of the segments' bytes only the pages that are not all zero are kept.
 #[derive(Drop)]
 pub struct Image {
-    file: Vec<u8>,
     entry: u32,
-    segments: Vec<Segment>,
     code: Vec<Range>,
+    layout: Layout,
     table: PageTable,
-    heap_first: u32,
-    heap: u32,
-    stack: u32,
     mapped: u32,
 }
 
@@ -38,9 +35,9 @@ impl Model for Image {
 
     ghost Value = { Source };
 
-    ghost view = { λ i. record { file = i.file.items; heap = i.heap; stack = i.stack } };
+    ghost view = { λ i. record { file = i.table.file.bytes; heap = i.layout.heap; stack = i.layout.stack } };
 
-    ghost invariant = { λ i. IsKept i.file.items i.entry i.segments.items i.code.items i.table.index.items i.table.stored.items i.heap_first i.heap i.stack i.mapped };
+    ghost invariant = { λ i. IsKept i.table.file.bytes i.entry i.code.items i.layout.segments.value.items i.table.segments.value.items i.layout.heap i.layout.stack i.mapped };
 }
 
 impl Image {
@@ -48,31 +45,26 @@ impl Image {
     pub(crate) fn kept(
         alloc: Global,
         elf: &Elf<'_>,
-        layout: &Layout<'_>,
+        layout: Layout,
+        table: PageTable,
     ) -> Result<Image, AllocError>
+        requires accepted { elf_fault elf.now.file.now ≡ None }
         requires entry { elf.now.entry ≡ (header_of elf.now.file.now).e_entry }
-        requires segments { elf.now.segments.items ≡ live elf.now.file.now }
-        requires sound { All (IsSound (length elf.now.file.now)) elf.now.segments.items }
-        requires layout { layout.now.segments.now ≡ live elf.now.file.now }
         requires code { IsRunsOf (area elf.now.file.now) elf.now.code.items }
-        requires heap_end { heap_page (live elf.now.file.now) + layout.now.heap ≤ 524288 }
-        requires code_end { (at : ℕ) → 2 ^ 31 ≤ at → area elf.now.file.now at ≡ false }
-        ensures { IfOk result (λ i. i ≡ record { file = elf.now.file.now; heap = layout.now.heap; stack = layout.now.stack }) }
+        requires file { table.file.bytes ≡ elf.now.file.now }
+        requires stored { table.segments.value.items ≡ live elf.now.file.now }
+        requires laid { layout.segments.value.items ≡ live elf.now.file.now }
+        requires no_clash { layout_fault (live elf.now.file.now) layout.heap layout.stack ≡ None }
+        ensures { IfOk result (λ i. i ≡ record { file = elf.now.file.now; heap = layout.heap; stack = layout.stack }) }
     {
-        let file = elf.file.to_vec(alloc)?;
-        let segments = elf.segments.as_slice().to_vec(alloc)?;
         let code = elf.code.as_slice().to_vec(alloc)?;
-        let table = page_table(alloc, elf.file, elf.segments.as_slice())?;
+        let mapped = layout.pages();
         Ok(Image {
-            file,
             entry: elf.entry,
-            segments,
             code,
+            layout,
             table,
-            heap_first: layout.heap_first,
-            heap: layout.heap,
-            stack: layout.stack,
-            mapped: layout.pages(),
+            mapped,
         })
     }
 
@@ -97,7 +89,7 @@ impl Image {
         ensures { result ≡ (image_of self.now).code at }
     {
         if at % 4 == 0 && has_address(self.code.as_slice(), at) {
-            Some(self.stored_word(at))
+            Some(self.table.word_at(u64::from(at)))
         } else {
             None
         }
@@ -107,14 +99,14 @@ impl Image {
     pub fn readable(&self, page: u32) -> bool
         ensures { result ≡ readable self.now page }
     {
-        self.layout().is_readable(page)
+        self.layout.is_readable(page)
     }
 
     /// Whether a page can be written.
     pub fn writable(&self, page: u32) -> bool
         ensures { result ≡ writable self.now page }
     {
-        self.layout().is_writable(page)
+        self.layout.is_writable(page)
     }
 
     /// The byte at an address, where its page can be read.
@@ -123,11 +115,7 @@ impl Image {
         ensures { result ≡ (image_of self.now).memory.byte at }
     {
         if self.readable(at / 4096) {
-            Some(table_byte(
-                self.table.index.as_slice(),
-                self.table.stored.as_slice(),
-                at,
-            ))
+            Some(self.table.byte_at(at))
         } else {
             None
         }
@@ -140,17 +128,14 @@ impl Image {
         ensures words { IfSome result (λ words. (k : ℕ) → k < 1024
             → slice_index words.now k ≡ stored_word self.now.file (live self.now.file) (4096 * page + 4 * k)) }
     {
-        table_page(
-            self.table.index.as_slice(),
-            self.table.stored.as_slice(),
-            page,
-        )
+        self.table.page(page)
     }
 
     /// How many pages can be read.
     #[tactic(auto, unfolding(crate::specs::Start::image_of))]
     pub fn mapped(&self) -> u32
-        ensures { result ≡ (image_of self.now).mapped }
+        ensures sum { result ≡ (image_of self.now).mapped }
+        ensures count { result ≡ count_below (readable self.now) pages_below }
     {
         self.mapped
     }
@@ -160,7 +145,7 @@ impl Image {
     pub fn heap_start(&self) -> u32
         ensures { result ≡ (image_of self.now).heap_start }
     {
-        4096 * self.heap_first
+        4096 * self.layout.heap_first
     }
 
     /// The length of the heap in bytes.
@@ -168,7 +153,7 @@ impl Image {
     pub fn heap_bytes(&self) -> u32
         ensures { result ≡ (image_of self.now).heap_bytes }
     {
-        4096 * self.heap
+        4096 * self.layout.heap
     }
 
     /// Does nothing. It tells which bytes the words of an image are, and that its pages and its code end below 80000000
@@ -179,32 +164,7 @@ impl Image {
         ensures pages { (page : ℕ) → 524288 ≤ page → readable self.now page ≡ false }
         ensures code { (at : ℕ) → 2 ^ 31 ≤ at → area self.now.file at ≡ false }
     {
-        let _ = &self.stack;
-    }
-
-    /// The big-endian word at an address of the segments that is a multiple of 4.
-    fn stored_word(&self, at: u32) -> u32
-        requires { at % 4 ≡ 0 }
-        ensures { result ≡ stored_word self.now.file (live self.now.file) at }
-    {
-        table_word(
-            self.table.index.as_slice(),
-            self.table.stored.as_slice(),
-            at / 4,
-        )
-    }
-
-    fn layout(&self) -> Layout<'_>
-        ensures segments { result.segments.now ≡ live self.now.file }
-        ensures heap { result.heap ≡ self.now.heap }
-        ensures stack { result.stack ≡ self.now.stack }
-    {
-        Layout {
-            segments: self.segments.as_slice(),
-            heap_first: self.heap_first,
-            heap: self.heap,
-            stack: self.stack,
-        }
+        let _ = &self.mapped;
     }
 }
 

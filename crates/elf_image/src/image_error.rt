@@ -1,4 +1,8 @@
+ghost use Rattle.std.specs.Prelude.{◌≡◌};
+ghost use Rattle.elf_image.specs.declared.image_error.ImageError.TheVariants.{NoMemory};
+
 use crate::image_fault::ImageFault;
+use std::alloc::AllocError;
 use thiserror::Error;
 
 /// Why there is no image.
@@ -10,4 +14,12 @@ pub enum ImageError {
     /// There was not enough memory.
     #[error("there is not enough memory")]
     NoMemory,
+}
+
+impl From<AllocError> for ImageError {
+    ghost from_gives = { λ _ e. e ≡ NoMemory };
+
+    fn from(_e: AllocError) -> ImageError {
+        ImageError::NoMemory
+    }
 }

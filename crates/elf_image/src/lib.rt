@@ -2,19 +2,25 @@
 #![tactic(auto)]
 
 mod checks;
-mod content;
+mod contents;
+mod filled;
+mod floats;
 mod guest_image;
 mod image_error;
 mod image_fault;
 mod layout;
 mod loader;
+mod page_marks;
 mod page_table;
 mod pages;
+mod runs;
+mod store;
 
 pub use guest_image::Image;
 pub use image_error::ImageError;
 pub use image_fault::ImageFault;
 pub use loader::image;
+pub use runs::runs_are_one;
 
 #[cfg(test)]
 mod tests;

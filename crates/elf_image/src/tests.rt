@@ -2,7 +2,7 @@ ghost use Rattle.std.specs.Prelude.{◌≤◌};
 
 use crate::{Image, ImageError, ImageFault, image};
 use elf_reader::{ElfError, read_elf};
-use std::alloc::Global;
+use std::alloc::{AllocError, Global};
 use std::test::Fail;
 
 /// A program that leaves with status 7: ADDIU, ADDIU, SYSCALL.
@@ -120,6 +120,30 @@ fn reads_data_and_the_zeros_behind_it(rt: HostRuntime) -> Result<(), Fail> {
 }
 
 #[test]
+fn gives_the_words_of_pages_that_are_not_all_zero(rt: HostRuntime) -> Result<(), Fail> {
+    let image = loaded(rt.alloc(), &DATA, 1, 1)??;
+    for (page, k, want) in [
+        (0x400, 1, Some(0x2404_000F)),
+        (0x400, 3, Some(0)),
+        (0x10000, 1022, Some(0)),
+        (0x10000, 1023, Some(0x0000_1122)),
+        (0x10001, 0, Some(0x3344_0000)),
+        (0x10001, 1023, Some(0)),
+        (0x3FF, 0, None),
+        (0x10002, 0, None),
+        (0x7FFFF, 0, None),
+        (0x80000, 0, None),
+    ] {
+        let word = match image.page(page) {
+            Some(words) => words.get(k).copied(),
+            None => None,
+        };
+        assert_eq!(rt; word, want, "{page} {k}");
+    }
+    Ok(())
+}
+
+#[test]
 fn refuses_floating_point_code_alone(rt: HostRuntime) -> Result<(), Fail> {
     let image = loaded(rt.alloc(), &FLOAT_DATA, 256, 64)??;
     assert_eq!(rt; image.byte(0x0040_000C), Some(0x46));
@@ -169,5 +193,58 @@ fn refuses_too_many_pages(rt: HostRuntime) -> Result<(), Fail> {
         loaded(rt.alloc(), &EXIT_7, 32_768, 32_768)?.err(),
         Some(ImageError::Refused(fault))
     );
+    Ok(())
+}
+
+/// The words, big-endian.
+fn put(file: &mut Vec<u8>, words: &[u32]) -> Result<(), AllocError> {
+    for word in words {
+        file.extend_from_slice(&word.to_be_bytes())?;
+    }
+    Ok(())
+}
+
+/// A file of executable segments that lie 8 bytes apart and begin with the same bytes of the file.
+fn texts(alloc: Global, count: u16, bytes: u32) -> Result<Vec<u8>, AllocError> {
+    let tables = 52 + 32 * u32::from(count);
+    let mut file = Vec::new(alloc);
+    put(
+        &mut file,
+        &[0x7F45_4C46, 0x0102_0100, 0, 0, 0x0002_0008, 1, 0x0040_0000],
+    )?;
+    put(
+        &mut file,
+        &[52, 0, 0, 0x0034_0020, 0x1_0000 * u32::from(count) + 40, 0],
+    )?;
+    for k in 0..count {
+        let first = 0x0040_0000 + 8 * u32::from(k);
+        put(&mut file, &[1, tables, first, first, bytes, bytes, 5, 4])?;
+    }
+    let mut code = vec![in alloc; 0; bytes as usize]?;
+    file.append(&mut code)?;
+    Ok(file)
+}
+
+#[test]
+fn refuses_too_much_code_and_too_many_ranges(rt: HostRuntime) -> Result<(), Fail> {
+    for (segments, bytes, kind, number) in [
+        (1, 4_194_308, ImageFault::CODE_TOO_LARGE, 1_048_577),
+        (65, 4, ImageFault::TOO_MANY_RANGES, 65),
+    ] {
+        let file = texts(rt.alloc(), segments, bytes)?;
+        let fault = ImageFault {
+            kind,
+            number,
+            word: 0,
+        };
+        assert_eq!(rt;
+            loaded(rt.alloc(), file.as_slice(), 256, 64)?.err(),
+            Some(ImageError::Refused(fault))
+        );
+    }
+    for (segments, bytes) in [(1, 4_194_304), (64, 4)] {
+        let file = texts(rt.alloc(), segments, bytes)?;
+        assert!(rt; loaded(rt.alloc(), file.as_slice(), 256, 64)?.is_ok());
+    }
     Ok(())
 }

@@ -1,3 +1,4 @@
 pub mod PlaceLemmas
 pub mod AppendLemmas
 pub mod LengthLemmas
+pub mod ReadBackLemmas

@@ -2,3 +2,4 @@ pub mod Fields
 pub mod Places
 pub mod File
 pub mod Limits
+pub mod ReadBack

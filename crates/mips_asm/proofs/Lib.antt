@@ -4,3 +4,7 @@ pub mod LineCounts
 pub mod FillLemmas
 pub mod AlikeLemmas
 pub mod ProgramLemmas
+pub mod PrintLines
+pub mod PrintValues
+pub mod PrintMnemonics
+pub mod PrintBack

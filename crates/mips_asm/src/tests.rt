@@ -1,4 +1,5 @@
 use super::*;
+use std::alloc::Global;
 use std::test::Fail;
 
 /// The word at a place of a file.
@@ -7,6 +8,15 @@ fn word_of(file: &[u8], at: usize) -> u32 {
         Some([a, b, c, d]) => u32::from_be_bytes([*a, *b, *c, *d]),
         _ => 0,
     }
+}
+
+/// The file of a short text.
+fn assemble_short(alloc: Global, text: &str) -> Result<Vec<u8>, AsmError> {
+    let bytes = text.as_bytes();
+    if bytes.len() > 67_108_864 {
+        return Err(AsmError::NoMemory);
+    }
+    assemble(alloc, bytes)
 }
 
 fn refused(line: u32, kind: u32) -> Option<AsmError> {
@@ -119,16 +129,17 @@ far:\n\
         0xA60F0002, 0xAA510003, 0xAE930004, 0xBAD50005, 0x00000000,
     ];
     let file = assemble(alloc, text.as_bytes())?;
-    let mut at = 116;
-    for word in &expected {
-        assert_eq!(rt; word_of(&file, at), *word);
-        at += 4;
+    for (i, word) in expected.iter().enumerate() {
+        assert_eq!(rt;
+            word_of(&file, i.saturating_mul(4).saturating_add(116)),
+            *word
+        );
     }
     // the data: an address, a length, the first word and the last
     assert_eq!(rt; word_of(&file, 92), 0x1000_0000);
     assert_eq!(rt; word_of(&file, 100), 40008);
-    assert_eq!(rt; word_of(&file, at), 0x8000_0000);
-    assert_eq!(rt; word_of(&file, at + 40004), 0xFFFF_FFFF);
+    assert_eq!(rt; word_of(&file, 360), 0x8000_0000);
+    assert_eq!(rt; word_of(&file, 40364), 0xFFFF_FFFF);
     Ok(())
 }
 
@@ -186,7 +197,7 @@ fn refuses_faulty_lines(rt: HostRuntime) -> Result<(), Fail> {
         ("beq $1,$2,a\na:\na:\nfrob", 3, 4),
         ("j a\nb:\nb:", 1, 5),
     ] {
-        assert_eq!(rt; assemble(alloc, text.as_bytes()).err(), refused(line, kind));
+        assert_eq!(rt; assemble_short(alloc, text).err(), refused(line, kind));
     }
     Ok(())
 }
@@ -222,7 +233,7 @@ fn gives_the_words_of_lines(rt: HostRuntime) -> Result<(), Fail> {
             2,
         ),
     ] {
-        let file = assemble(alloc, text.as_bytes())?;
+        let file = assemble_short(alloc, text)?;
         assert_eq!(rt; word_of(&file, place), word);
     }
     Ok(())

@@ -1,26 +1,56 @@
-use Rattle.std.proofs.Common.{◌≤◌, length, refl, sym, ap, ◌∙◌, arith}
-use Rattle.std.specs.List.{All}
-use Rattle.elf_reader.specs.Fault.{IsSound}
-use Rattle.elf_reader.specs.Segments.{live}
-use Rattle.elf_image.specs.Pages.{heap_page}
-use Rattle.elf_image.proofs.Accepted.{low_of, sound_of}
-use Rattle.elf_image.proofs.ImageLaws.{heap_end, code_end}
+use Rattle.std.proofs.Common.{◌∙◌, sym, ap, subst}
+use Rattle.std.proofs.lemmas.Result.{err_from_is_err_and}
+use Rattle.elf_image.specs.Answer.{IsAnswerTo}
+use Rattle.elf_image.specs.Refusals.{data_fault, layout_fault}
+use Rattle.elf_image.proofs.Accepted.{sound_of, apart_of}
+use Rattle.elf_image.proofs.LoaderLemmas.{first_answer, second_answer, last_fault, last_answer, clash_none}
 use Rattle.elf_image.proofs.loader.image.Goals as goal
 
-pub heap_page-requires : goal.heap_page-requires
-heap_page-requires c = record { low = low_of c.args.elf.now.file.now c.args.elf.now.segments.items _ c.requires.accepted c.requires.segments c.as_slice-2.ensures.value }
+pub returns-in_err-layout-clause-refused : goal.returns-in_err-layout-clause-refused
+returns-in_err-layout-clause-refused c =
+    let p = err_from_is_err_and c.from_residual.result c.from_residual.ensures.1 in
+    let elf = c.args.elf.now in
+    rw (p.1) (subst (IsAnswerTo elf.file.now elf.code.items c.args.heap c.args.stack) (sym p.2)
+    (first_answer elf.file.now elf.code.items c.args.heap c.args.stack _ c.in_err-layout.ensures.refused))
 
-pub kept-requires-clause-sound : goal.kept-requires-clause-sound
-kept-requires-clause-sound c = sound_of c.args.elf.now.file.now c.args.elf.now.segments.items c.requires.accepted c.requires.segments
+pub stored_pages-requires-clause-sound : goal.stored_pages-requires-clause-sound
+stored_pages-requires-clause-sound c = sound_of c.args.elf.now.file.now c.args.elf.now.segments.items c.requires.accepted c.requires.segments
 
-pub kept-requires-clause-code_end : goal.kept-requires-clause-code_end
-kept-requires-clause-code_end c =
-    let sound : All (IsSound (length c.args.elf.now.file.now)) (live c.args.elf.now.file.now) =
-    sound_of c.args.elf.now.file.now (live c.args.elf.now.file.now) c.requires.accepted refl in
-    code_end c.args.elf.now.file.now c.requires.accepted sound
+pub stored_pages-requires-clause-apart : goal.stored_pages-requires-clause-apart
+stored_pages-requires-clause-apart c = apart_of c.args.elf.now.file.now c.args.elf.now.segments.items c.requires.accepted c.requires.segments
 
-pub kept-requires-clause-heap_end : goal.kept-requires-clause-heap_end
-kept-requires-clause-heap_end c =
-    let first : heap_page (live c.args.elf.now.file.now) ≤ 0x7F000 =
-    omega (arith, c.heap_page.ensures.bound, c.heap_page.ensures.page, ap heap_page (c.as_slice-2.ensures.value ∙ c.requires.segments)) in
-    heap_end c.args.elf.now.file.now c.as_slice-3.result.now c.args.heap c.args.stack (sym c.check_image.ensures ∙ c.in_default.is) first
+pub returns-in_err-table-clause-refused : goal.returns-in_err-table-clause-refused
+returns-in_err-table-clause-refused c =
+    let p = err_from_is_err_and c.from_residual-in_err-table.result c.from_residual-in_err-table.ensures.1 in
+    let elf = c.args.elf.now in
+    rw (p.1) (subst (IsAnswerTo elf.file.now elf.code.items c.args.heap c.args.stack) (sym p.2)
+    (second_answer elf.file.now elf.code.items elf.segments.items c.args.heap c.args.stack c.in_ok-layout.layout.heap c.in_ok-layout.layout.stack _
+    c.in_ok-layout.ensures.passed c.requires.segments c.in_ok-layout.ensures.heap c.in_ok-layout.ensures.stack c.in_err-table.ensures.refused))
+
+pub returns-in_err-refuse-clause-refused : goal.returns-in_err-refuse-clause-refused
+returns-in_err-refuse-clause-refused c =
+    let p = err_from_is_err_and c.from_residual-in_err-refuse.result c.from_residual-in_err-refuse.ensures.1 in
+    let elf = c.args.elf.now in
+    let same = c.check_float.ensures ∙ last_fault elf.file.now c.in_ok-table.table.file.bytes elf.code.items c.as_slice.result.now elf.segments.items c.in_ok-table.table.segments.value.items
+    c.args.heap c.args.stack c.in_ok-layout.layout.heap c.in_ok-layout.layout.stack
+    c.in_ok-layout.ensures.passed c.in_ok-table.ensures.passed c.requires.segments c.in_ok-layout.ensures.heap c.in_ok-layout.ensures.stack
+    c.in_ok-table.ensures.file c.in_ok-table.ensures.segments c.as_slice.ensures.value in
+    rw (p.1) (subst (IsAnswerTo elf.file.now elf.code.items c.args.heap c.args.stack) (sym p.2)
+    (last_answer elf.file.now elf.code.items c.args.heap c.args.stack c.check_float.result _ same c.in_err-refuse.ensures.refused))
+
+pub returns-clause-passed : goal.returns-clause-passed
+returns-clause-passed c =
+    let elf = c.args.elf.now in
+    let same = c.check_float.ensures ∙ last_fault elf.file.now c.in_ok-table.table.file.bytes elf.code.items c.as_slice.result.now elf.segments.items c.in_ok-table.table.segments.value.items
+    c.args.heap c.args.stack c.in_ok-layout.layout.heap c.in_ok-layout.layout.stack
+    c.in_ok-layout.ensures.passed c.in_ok-table.ensures.passed c.requires.segments c.in_ok-layout.ensures.heap c.in_ok-layout.ensures.stack
+    c.in_ok-table.ensures.file c.in_ok-table.ensures.segments c.as_slice.ensures.value in
+    sym same ∙ c.in_ok-refuse.ensures.passed
+
+pub kept-requires-clause-no_clash : goal.kept-requires-clause-no_clash
+kept-requires-clause-no_clash c =
+    let heap = c.in_ok-layout.layout.heap in
+    let stack = c.in_ok-layout.layout.stack in
+    let segments = c.args.elf.now.segments.items in
+    ap (λ s. layout_fault s heap stack) (sym c.requires.segments)
+    ∙ clash_none (data_fault c.args.elf.now.file.now segments) (layout_fault segments heap stack) c.in_ok-table.ensures.passed

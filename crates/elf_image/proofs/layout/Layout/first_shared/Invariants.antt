@@ -4,4 +4,4 @@ use Rattle.elf_image.specs.Pages.{is_shared}
 use Rattle.elf_image.proofs.layout.Layout.first_shared.Given as goal
 
 abbrev pub invariant-loop-page : goal.invariant-loop-page
-invariant-loop-page l = least_below (is_shared l.self.segments.now l.self.heap l.self.stack) l.page ≡ None
+invariant-loop-page l = least_below (is_shared l.self.segments.value.items l.self.heap l.self.stack) l.page ≡ None
