@@ -1,6 +1,9 @@
-//! Translates MIPS programs to Java class files and runs or lists them: `nested go IN`, `nested list IN`.
+//! Translates MIPS programs to Java class files and runs them; assembles and lists programs.
 #![tactic(auto)]
 
+mod answers_itself;
+
+use answers_itself::help;
 use nested_cli::nested;
 use nv_outside::{FileShelf, StdSink, StdSource};
 use std::env;
@@ -36,6 +39,9 @@ fn main(rt: HostRuntime) -> ExitCode {
     let moment = moment(&rt);
     let mut input = StdSource::new(rt.stdin().lock());
     let mut out = StdSink::new(rt.stdout().lock());
+    if let Some(status) = help(words.as_slice(), &mut out) {
+        return ExitCode::from(status);
+    }
     let mut err = StdSink::new(rt.stderr().lock());
     let mut shelf = FileShelf::new(alloc, rt, folder);
     let done = nested(

@@ -1,6 +1,7 @@
 use super::*;
 use elf_image::ImageFault;
 use elf_reader::ElfFault;
+use mips_asm::AsmFault;
 use nv_events::Fault;
 use nv_outside::{MemShelf, MemSink, MemSource};
 use std::process::Abort;
@@ -135,9 +136,13 @@ fn each_refusal_has_its_line(rt: HostRuntime) -> Result<(), Fail> {
         expect(&[], None, Done::Usage(1), "nested: usage 1\n"),
         expect(&["gone", "a"], None, Done::Usage(1), "nested: usage 1\n"),
         expect(&["go"], None, Done::Usage(2), "nested: usage 2\n"),
-        expect(&["go", ""], None, Done::Usage(2), "nested: usage 2\n"),
-        expect(&["go", "-a"], None, Done::Usage(2), "nested: usage 2\n"),
-        expect(&["go", "a", "b"], None, Done::Usage(2), "nested: usage 2\n"),
+        expect(
+            &["go", "a", "--heap", "32769"],
+            None,
+            Done::Usage(2),
+            "nested: usage 2\n",
+        ),
+        expect(&["make", "1"], None, Done::NotBuilt, "nested: not built\n"),
         expect(go, None, Done::NoInput(1), "nested: no file a\n"),
         expect(go, Some(&EXIT_7[..0]), short, "nested: elf 1 0 0\n"),
         expect(go, Some(&EXIT_7[..51]), short, "nested: elf 1 0 0\n"),
@@ -197,6 +202,49 @@ fn a_listing_has_a_line_for_each_word(rt: HostRuntime) -> Result<(), Fail> {
         check(&rt, &case)?;
     }
     Ok(())
+}
+
+#[test]
+fn a_text_is_assembled_into_a_file(rt: HostRuntime) -> Result<(), Fail> {
+    let alloc = rt.alloc();
+    let text = b"addiu $2,$0,1\naddiu $4,$0,7\nsyscall 0\n";
+    let mut words = Vec::new(alloc);
+    for word in ["asm", "a", "b"] {
+        words.push(String::from_str(alloc, word)?)?;
+    }
+    let mut shelf = MemShelf::new(alloc, Vec::new(alloc));
+    shelf.add("a", text)?;
+    let mut input = MemSource::new(Vec::new(alloc), Vec::new(alloc));
+    let mut out = MemSink::new(alloc, 200, Vec::new(alloc))?;
+    let mut err = MemSink::new(alloc, 100, Vec::new(alloc))?;
+    let done = nested(
+        alloc,
+        words.as_slice(),
+        0,
+        &mut shelf,
+        &mut input,
+        &mut out,
+        &mut err,
+    );
+    assert_eq!(rt; done, Done::Good);
+    assert_eq!(rt; out.bytes(), b"bytes 96\n".as_slice());
+    assert!(rt; shelf.get("b") == Some(EXIT_7.as_slice()));
+    Ok(())
+}
+
+#[test]
+fn a_faulty_text_is_refused(rt: HostRuntime) -> Result<(), Fail> {
+    let fault = AsmFault { line: 2, kind: 1 };
+    let text = b"addiu $2,$0,1\nfrob $1\nsyscall 0\n";
+    check(
+        &rt,
+        &expect(
+            &["asm", "a", "b"],
+            Some(text),
+            Done::AsmRefused(fault),
+            "nested: asm 2 1\n",
+        ),
+    )
 }
 
 #[test]

@@ -1,0 +1,35 @@
+//! What the program says of itself.
+use nv_outside::{Sink, write_all};
+
+/// The status where output failed.
+const WRITE_FAULT: u8 = 75;
+
+const HELP: &str = "nested: runs MIPS programs without native code
+
+    nested go IN        translates the program in the file IN, and runs its classes
+    nested list IN      prints the code of a program, a line a word
+    nested asm IN OUT   assembles the text in IN into the program OUT
+    nested --help       prints this text
+    nested --version    prints the version
+
+README.md tells more, and which commands are not built yet.
+";
+
+const VERSION: &str = "nested 0.1.0
+";
+
+/// Answers `--help` and `--version`, where one of these is the only word, with the status of the process.
+pub fn help<O: Sink>(words: &[String], out: &mut O) -> Option<u8> {
+    let [word] = words else {
+        return None;
+    };
+    let text = match word.as_str() {
+        "--help" => HELP,
+        "--version" => VERSION,
+        _ => return None,
+    };
+    match write_all(out, text.as_bytes()) {
+        Ok(()) => Some(0),
+        Err(_) => Some(WRITE_FAULT),
+    }
+}
