@@ -109,6 +109,18 @@ mapped make back f = record {
   read = λ bytes. f.read bytes >>= λ b. Ok (make b.0, b.1);
 }
 
+-- the values that parse finds; what it does not find is at fault, so many bytes before
+abbrev pub found : {A : Type 0} → ℕ → ℕ → Option A → List ℕ → Reading A
+found kind left None rest = Err (record { kind = kind; left = left })
+found kind left (Some a) rest = Ok (a, rest)
+
+abbrev pub parsed : {A B : Type 0} → ℕ → ℕ → (B → Option A) → (A → Bool) → (A → B) → Format B → Format A
+parsed kind back parse test print f = record {
+  spell = λ a. f.spell (print a);
+  fits = λ a. f.fits (print a) && test a;
+  read = λ bytes. f.read bytes >>= λ b. found kind (length bytes + back) (parse b.0) b.1;
+}
+
 -- ---- what is at fault although it can be read
 
 -- a value that was read of so many bytes and those after it; its own fault stands so many bytes behind its first one
@@ -143,10 +155,26 @@ exactly cut w kind n = mapped (λ _. tt) (λ _. Some n) (tested kind (λ m. m ==
 
 -- a value behind what is always the same, and before
 abbrev pub behind : {A : Type 0} → Format (Unit {0}) → Format A → Format A
-behind c f = mapped (λ x. x.1) (λ a. Some (tt, a)) (both c (λ _. f))
+behind c f = record {
+  spell = λ a. c.spell tt ++ f.spell a;
+  fits = λ a. c.fits tt && f.fits a;
+  read = λ bytes. c.read bytes >>= λ u. f.read u.1;
+}
 
 abbrev pub before : {A : Type 0} → Format A → Format (Unit {0}) → Format A
-before f c = mapped (λ x. x.0) (λ a. Some (a, tt)) (both f (λ _. c))
+before f c = record {
+  spell = λ a. f.spell a ++ c.spell tt;
+  fits = λ a. f.fits a && c.fits tt;
+  read = λ bytes. f.read bytes >>= λ a. c.read a.1 >>= λ u. Ok (a.0, u.1);
+}
+
+-- a value behind a number that the value determines
+abbrev pub headed : {A : Type 0} → Format ℕ → (A → ℕ) → (ℕ → Format A) → Format A
+headed n number_of f = record {
+  spell = λ a. n.spell (number_of a) ++ (f (number_of a)).spell a;
+  fits = λ a. n.fits (number_of a) && (f (number_of a)).fits a;
+  read = λ bytes. n.read bytes >>= λ x. (f x.0).read x.1;
+}
 
 -- a two's complement number
 abbrev pub fits_signed : Width → ℤ → Bool
@@ -161,7 +189,7 @@ signed cut w = mapped (cast_signed w) (bits_of w) (number cut w)
 
 -- so many values, behind their number
 abbrev pub counted : {A : Type 0} → ℕ → Width → Format A → Format (List A)
-counted cut w f = mapped (λ x. x.1) (λ xs. Some (length xs, xs)) (both (number cut w) (λ n. repeated f n))
+counted cut w f = headed (number cut w) length (repeated f)
 
 -- one of several forms, behind a byte that says which
 pub record Row (A : Type 0) : Type 0 where
@@ -173,7 +201,7 @@ form_of kind [] tag = refused kind 1
 form_of kind (row ∷ rows) tag = if row.tag == tag then row.form else form_of kind rows tag
 
 abbrev pub tagged : {A : Type 0} → ℕ → ℕ → (A → ℕ) → List (Row A) → Format A
-tagged cut kind tag_of rows = mapped (λ x. x.1) (λ a. Some (tag_of a, a)) (both (number cut w8) (form_of kind rows))
+tagged cut kind tag_of rows = headed (number cut w8) tag_of (form_of kind rows)
 
 -- ---- from the first byte to the last
 
