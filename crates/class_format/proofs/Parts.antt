@@ -77,17 +77,17 @@ before_law f c one two =
 
 -- each value has the number that it stands behind
 pub headed_law : {A : Type 0} (n : Format ℕ) (number_of : A → ℕ) (f : ℕ → Format A) → IsFormat n → ((k : ℕ) → IsFormat (f k))
-    → ((k : ℕ) (a : A) → (f k).fits a ≡ true → number_of a ≡ k) → IsFormat (headed n number_of f)
+    → ((k : ℕ) (a : A) → n.fits k ≡ true → (f k).fits a ≡ true → number_of a ≡ k) → IsFormat (headed n number_of f)
 headed_law {A} n number_of f one two is =
     reread (mapped (λ x. x.1) (λ a. Some (number_of a, a)) (both n f)) (headed n number_of f).read
     (mapped_law (λ x. x.1) (λ a. Some (number_of a, a)) (both n f) (both_law n f one two)
-      (record { back_of = λ b e. ap (λ (k : ℕ). Some (k, b.1)) (is b.0 b.1 (and_parts (n.fits b.0) ((f b.0).fits b.1) e).1); made_of = λ a b e. cc }))
+      (record { back_of = λ b e. ap (λ (k : ℕ). Some (k, b.1)) (is b.0 b.1 (and_parts (n.fits b.0) ((f b.0).fits b.1) e).0 (and_parts (n.fits b.0) ((f b.0).fits b.1) e).1); made_of = λ a b e. cc }))
     (λ bytes. second_only (n.read bytes) (λ x. (f x.0).read x.1))
 
 pub counted_law : {A : Type 0} (cut : ℕ) (w : Width) (f : Format A) → IsWide w → IsFormat f → IsFormat (counted cut w f)
 counted_law {A} cut w f wide law =
     headed_law (number cut w) (λ (xs : List A). length xs) (repeated f) (number_law cut w wide) (λ n. repeated_law f n law)
-    (λ n xs e. eqb-true _ _ (and_parts (eqb (length xs) n) _ e).0)
+    (λ n xs _ e. eqb-true _ _ (and_parts (eqb (length xs) n) _ e).0)
 
 -- ---- parsed
 
@@ -145,7 +145,7 @@ tag_is kind tag_of (row ∷ rows) is tag a e =
 
 pub tagged_law : {A : Type 0} (cut kind : ℕ) (tag_of : A → ℕ) (rows : List (Row A)) → AreRows tag_of rows → IsFormat (tagged cut kind tag_of rows)
 tagged_law cut kind tag_of rows is =
-    headed_law (number cut w8) tag_of (form_of kind rows) (number_law cut w8 wide8) (form_law kind tag_of rows is) (tag_is kind tag_of rows is)
+    headed_law (number cut w8) tag_of (form_of kind rows) (number_law cut w8 wide8) (form_law kind tag_of rows is) (λ t a _ e. tag_is kind tag_of rows is t a e)
 
 -- ---- from the first byte to the last
 

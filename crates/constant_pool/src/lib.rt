@@ -1,13 +1,27 @@
-// A library with one function.
+//! The constant pool of a class file (JVM Specification, 4.4): its entries, as they are made and as they are read.
 #![tactic(auto)]
 
-ghost use Rattle.std.specs.Prelude.{◌≡◌};
-ghost use Rattle.constant_pool.specs.Echo.{echo_of};
+mod entry;
+mod entry_check;
+mod entry_reading;
+mod error;
+mod lookups;
+mod names;
+mod partial;
+mod pool;
+mod pool_reading;
+mod step;
+mod text;
+mod text_reading;
 
-// The `ensures` clause is the contract: what `echo` returns is `echo_of` of its argument, a definition
-// in `specs/Echo.antt`, which a caller's clause can cite too.
-pub fn echo(x: usize) -> usize
-    ensures { result ≡ echo_of x }
-{
-    x
-}
+pub use class_format::ClassFault;
+pub use entry::Entry;
+pub use error::{NoMemory, PoolError, ReadError};
+pub use lookups::{class_name_of, text_of};
+pub use names::{is_class_name, is_field_descriptor, is_member_name, is_method_descriptor};
+pub use pool::Pool;
+pub use pool_reading::{entries_of, read_pool};
+pub use text::text_size;
+
+#[cfg(test)]
+mod tests;
