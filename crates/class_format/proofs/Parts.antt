@@ -81,7 +81,7 @@ pub headed_law : {A : Type 0} (n : Format ℕ) (number_of : A → ℕ) (f : ℕ 
 headed_law {A} n number_of f one two is =
     reread (mapped (λ x. x.1) (λ a. Some (number_of a, a)) (both n f)) (headed n number_of f).read
     (mapped_law (λ x. x.1) (λ a. Some (number_of a, a)) (both n f) (both_law n f one two)
-      (record { back_of = λ b e. ap (λ (k : ℕ). Some (k, b.1)) (is b.0 b.1 (and_parts (n.fits b.0) ((f b.0).fits b.1) e).0 (and_parts (n.fits b.0) ((f b.0).fits b.1) e).1); made_of = λ a b e. cc }))
+    (record { back_of = λ b e. ap (λ (k : ℕ). Some (k, b.1)) (is b.0 b.1 (and_parts (n.fits b.0) ((f b.0).fits b.1) e).0 (and_parts (n.fits b.0) ((f b.0).fits b.1) e).1); made_of = λ a b e. cc }))
     (λ bytes. second_only (n.read bytes) (λ x. (f x.0).read x.1))
 
 pub counted_law : {A : Type 0} (cut : ℕ) (w : Width) (f : Format A) → IsWide w → IsFormat f → IsFormat (counted cut w f)

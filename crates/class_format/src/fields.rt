@@ -106,6 +106,17 @@ pub fn long_of(cut: u32, bytes: &[u8]) -> Result<(u64, &[u8]), Failure>
     Ok((number, rest))
 }
 
+/// What follows a byte that can only be this one; `kind` is that of another.
+pub fn exact_byte_of(cut: u32, kind: u32, byte: u8, bytes: &[u8]) -> Result<&[u8], Failure>
+    ensures { Gives (λ x. (tt, x.now)) result ((exactly cut w8 kind byte).read bytes.now) }
+{
+    let (only, rest) = byte_of(cut, bytes)?;
+    if only != byte {
+        return Err(missed(kind, bytes));
+    }
+    Ok(rest)
+}
+
 /// What follows a number of two bytes that can only be this one; `kind` is that of another number.
 pub fn exact_half_of(cut: u32, kind: u32, number: u16, bytes: &[u8]) -> Result<&[u8], Failure>
     ensures { Gives (λ x. (tt, x.now)) result ((exactly cut w16 kind number).read bytes.now) }

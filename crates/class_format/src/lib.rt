@@ -10,8 +10,8 @@ mod sequence;
 pub use failure::Failure;
 pub use fault::ClassFault;
 pub use fields::{
-    byte_of, exact_half_of, exact_word_of, fault_of, half_of, long_of, missed, raw_of,
-    signed_byte_of, signed_half_of, signed_long_of, signed_word_of, word_of,
+    byte_of, exact_byte_of, exact_half_of, exact_word_of, fault_of, half_of, long_of, missed,
+    raw_of, signed_byte_of, signed_half_of, signed_long_of, signed_word_of, word_of,
 };
 pub use miss::Miss;
 pub use sequence::Sequence;

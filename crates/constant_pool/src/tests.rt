@@ -1,9 +1,14 @@
+ghost use Rattle.std.specs.Prelude.{◌≡◌, IfOk, false};
+ghost use Rattle.constant_pool.specs.Slots.{is_rest};
+
 use super::*;
 use class_format::Sequence;
 use std::alloc::Global;
 use std::test::Fail;
 
-fn text(alloc: Global, characters: &[u16]) -> Result<Entry, NoMemory> {
+fn text(alloc: Global, characters: &[u16]) -> Result<Entry, NoMemory>
+    ensures { IfOk result (λ e. is_rest e ≡ false) }
+{
     Ok(Entry::Utf8(Sequence::new(characters.to_vec(alloc)?)))
 }
 
