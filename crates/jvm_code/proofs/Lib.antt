@@ -1,2 +1,6 @@
 pub mod LineLemmas
 pub mod TargetLaws
+pub mod TableLaws
+pub mod SwitchLaws
+pub mod InstructionLaws
+pub mod LineLaws
