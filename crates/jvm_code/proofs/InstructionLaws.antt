@@ -1,9 +1,9 @@
 -- An instruction is a format.
-use Rattle.std.proofs.Common.{◌≡◌, ℕ, ℤ, ◌^◌, ◌%◌, ◌<◌, Bool, true, false, cond, eqb, ltb, List, [], ◌∷◌, ◌++◌, length, Option, Some, None, Result, Ok, Err, refl, sym, ap, subst, ◌∙◌, arith, lit<}
+use Rattle.std.proofs.Common.{◌≡◌, ℕ, ◌^◌, ◌%◌, ◌<◌, Bool, true, false, cond, eqb, List, [], ◌∷◌, ◌++◌, length, Option, Some, None, Ok, Err, refl, sym, ap, subst, ◌∙◌, arith, lit<}
 use Rattle.std.specs.Int.{w8, w16, to_be_bytes}
 use Rattle.std.proofs.lemmas.Bool.{eqb-true, lt-ltb, ltb-true}
 use Rattle.class_format.specs.declared.miss.Miss.{Miss}
-use Rattle.class_format.specs.Format.{Format, Reading, ◌>>=◌, missed, signed, both, exactly}
+use Rattle.class_format.specs.Format.{Format, Reading, signed}
 use Rattle.class_format.specs.Laws.{IsBytes, Begins, IsFormat}
 use Rattle.class_format.proofs.Readings.{went_on, same_value, IsBytes-rest}
 use Rattle.class_format.proofs.FieldLaws.{wide8, wide16, number_law}

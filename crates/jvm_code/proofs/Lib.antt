@@ -4,3 +4,4 @@ pub mod TableLaws
 pub mod SwitchLaws
 pub mod InstructionLaws
 pub mod LineLaws
+pub mod DecodeLemmas

@@ -1,10 +1,10 @@
 -- The lines that are read are those that the code is made of.
-use Rattle.std.proofs.Common.{◌≡◌, ℕ, zero, suc, ◌+◌, ◌-◌, ◌^◌, ◌<◌, ◌≤◌, Bool, true, false, cond, eqb, List, [], ◌∷◌, ◌++◌, length, Result, Ok, Err, refl, sym, ap, subst, ◌∙◌, arith}
+use Rattle.std.proofs.Common.{◌≡◌, ℕ, zero, suc, ◌+◌, ◌-◌, ◌<◌, ◌≤◌, true, false, cond, eqb, List, [], ◌∷◌, length, Result, Ok, Err, refl, ap, subst, ◌∙◌, arith}
 use Rattle.std.proofs.lemmas.Bool.{eqb-true}
 use Rattle.std.proofs.lemmas.List.{nil_from_length, length-append}
 use Rattle.class_format.specs.declared.miss.Miss.{Miss}
-use Rattle.class_format.specs.Format.{Format, Reading}
-use Rattle.class_format.specs.Laws.{IsBytes, Begins, IsFormat}
+use Rattle.class_format.specs.Format.{Reading}
+use Rattle.class_format.specs.Laws.{IsBytes, Begins}
 use Rattle.class_format.proofs.Readings.{same_value, IsBytes-rest}
 use Rattle.jvm_code.specs.declared.line.Line.{Line}
 use Rattle.jvm_code.specs.declared.op.Op.{Op}

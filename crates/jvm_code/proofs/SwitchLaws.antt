@@ -1,19 +1,19 @@
 -- Switches are formats.
-use Rattle.std.proofs.Common.{◌≡◌, ℕ, ℤ, pos, negsuc, suc, ◌+◌, ◌-◌, ◌^◌, ◌<◌, ◌&&◌, Bool, true, false, cond, ltb, eqb, List, [], ◌∷◌, ◌++◌, length, replicate, Option, Some, None, ◌+ℤ◌, ◌-ℤ◌, refl, sym, ap, subst, ◌∙◌, arith}
+use Rattle.std.proofs.Common.{◌≡◌, ℕ, ℤ, pos, negsuc, ◌^◌, ◌<◌, ◌&&◌, true, ltb, eqb, List, [], ◌∷◌, length, replicate, Some, ◌+ℤ◌, ◌-ℤ◌, refl, sym, ap, arith}
 use Rattle.std.specs.Int.{w32}
 use Rattle.std.proofs.lemmas.Int.{ints}
 use Rattle.std.proofs.lemmas.Bool.{and_parts, eqb-true, ltb-true}
-use Rattle.class_format.specs.Format.{Format, number, raw, both, repeated, mapped, tested, unless, is_sound, signed}
+use Rattle.class_format.specs.Format.{number, raw, both, repeated, tested, unless, is_sound, signed}
 use Rattle.class_format.specs.Laws.{IsFormat}
 use Rattle.class_format.proofs.FieldLaws.{wide32, number_law, raw_law}
 use Rattle.class_format.proofs.Signed.{signed32, signed_law}
-use Rattle.class_format.proofs.Combined.{IsMade, both_law, repeated_law, mapped_law, tested_law}
+use Rattle.class_format.proofs.Combined.{both_law, repeated_law, mapped_law, tested_law}
 use Rattle.class_format.proofs.Parts.{passes}
 use Rattle.jvm_code.specs.declared.pair.Pair.{Pair}
 use Rattle.jvm_code.specs.declared.table_switch.TableSwitch.{TableSwitch}
 use Rattle.jvm_code.specs.declared.lookup_switch.LookupSwitch.{LookupSwitch}
 use Rattle.jvm_code.specs.Targets.{cut, switch_keys, wide}
-use Rattle.jvm_code.specs.Switches.{pad_of, is_padding, keys_in, key_count, TableHead, table_count, table_head, last_key, table_switch, LookupHead, lookup_head, pair, rises, lookup_switch}
+use Rattle.jvm_code.specs.Switches.{pad_of, is_padding, keys_in, TableHead, table_count, table_head, last_key, table_switch, LookupHead, lookup_head, pair, rises, lookup_switch}
 use Rattle.jvm_code.proofs.TargetLaws.{wide_law}
 
 -- padding is zeros

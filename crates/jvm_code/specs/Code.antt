@@ -1,7 +1,10 @@
 -- JVM Specification, 4.7.3 and 4.9.1: the code of a method, instruction after instruction.
-use Rattle.std.specs.Prelude.{◌≡◌, ℕ, zero, suc, ◌+◌, ◌-◌, ◌||◌, ◌==◌, Bool, true, nat_lt, if◌then◌else◌, List, [], ◌∷◌, ◌++◌, length, map, Option, Some, None, Result, Ok, Err}
+use Rattle.std.specs.Prelude.{◌≡◌, ℕ, zero, suc, ◌+◌, ◌-◌, ◌||◌, ◌==◌, Bool, true, false, ◌<◌, slice_index_or, nat_lt, if◌then◌else◌, List, [], ◌∷◌, ◌++◌, length, map, Option, Some, None, Result, Ok, Err}
 use Rattle.std.specs.List.{list_any, list_all}
 use Rattle.class_format.specs.declared.miss.Miss.{Miss}
+use Rattle.class_format.specs.declared.failure.Failure.{Failure}
+use Rattle.class_format.specs.declared.failure.Failure.TheVariants.{Missed}
+use Rattle.class_format.specs.declared.failure.Failure.TheVariants as failures
 use Rattle.class_format.specs.Format.{Reading}
 use Rattle.jvm_code.specs.declared.line.Line.{Line}
 use Rattle.jvm_code.specs.declared.code_fault.CodeFault.{CodeFault}
@@ -75,3 +78,11 @@ code_fault code =
 abbrev pub IsAnswer : Option CodeFault → CodeError → Type 0
 IsAnswer found (Refused fault) = found ≡ Some fault
 IsAnswer found NoMemory = Unit {0}
+
+-- marks of the places below their number at which a line begins
+abbrev pub AreMarks : List Line → List Bool → Type 0
+AreMarks lines marks = (t : ℕ) → t < length marks → slice_index_or marks t false ≡ is_line lines t
+
+abbrev pub refusal_of : ℕ → Failure → CodeError
+refusal_of size (Missed miss) = Refused (record { at = size - miss.left; kind = miss.kind })
+refusal_of size failures.NoMemory = NoMemory

@@ -5,9 +5,11 @@ mod class;
 mod code_error;
 mod code_fault;
 mod code_reading;
+mod decode;
 mod instruction_reading;
 mod line;
 mod lookup_switch;
+mod marks;
 mod member;
 mod method;
 mod names;
@@ -21,6 +23,7 @@ mod table_switch;
 pub use class::Class;
 pub use code_error::CodeError;
 pub use code_fault::CodeFault;
+pub use decode::decode_ops;
 pub use line::Line;
 pub use lookup_switch::LookupSwitch;
 pub use member::Member;
@@ -43,3 +46,6 @@ pub use names::stack_name::StackName;
 pub use op::Op;
 pub use pair::Pair;
 pub use table_switch::TableSwitch;
+
+#[cfg(test)]
+mod tests;
