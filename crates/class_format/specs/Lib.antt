@@ -1,0 +1,4 @@
+pub mod Kinds
+pub mod Format
+pub mod Gives
+pub mod Laws

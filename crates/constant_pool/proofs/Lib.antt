@@ -1,0 +1,6 @@
+pub mod NameLemmas
+pub mod TextLemmas
+pub mod EntryLaws
+pub mod PoolLemmas
+pub mod ReadingLemmas
+pub mod SlotLemmas

@@ -1,0 +1,7 @@
+pub mod Text
+pub mod Names
+pub mod Parts
+pub mod Entries
+pub mod Checks
+pub mod Slots
+pub mod Answer

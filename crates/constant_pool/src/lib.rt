@@ -1,0 +1,27 @@
+//! The constant pool of a class file (JVM Specification, 4.4): its entries, as they are made and as they are read.
+#![tactic(auto)]
+
+mod entry;
+mod entry_check;
+mod entry_reading;
+mod error;
+mod lookups;
+mod names;
+mod partial;
+mod pool;
+mod pool_reading;
+mod step;
+mod text;
+mod text_reading;
+
+pub use class_format::ClassFault;
+pub use entry::Entry;
+pub use error::{NoMemory, PoolError, ReadError};
+pub use lookups::{class_name_of, text_of};
+pub use names::{is_class_name, is_field_descriptor, is_member_name, is_method_descriptor};
+pub use pool::Pool;
+pub use pool_reading::{entries_of, read_pool};
+pub use text::text_size;
+
+#[cfg(test)]
+mod tests;

@@ -1,0 +1,5 @@
+pub mod Opcodes
+pub mod Targets
+pub mod Switches
+pub mod Instructions
+pub mod Code

@@ -1,0 +1,27 @@
+ghost use Rattle.std.specs.Prelude.{◌≡◌};
+ghost use Rattle.jvm_code.specs.Opcodes.{int_arithmetic_opcode};
+
+/// Operations on two ints that always give one.
+#[derive(Clone, Copy)]
+pub enum IntArithmetic {
+    Iadd,
+    Isub,
+    Imul,
+    Iand,
+    Ior,
+    Ixor,
+}
+
+/// The opcode (JVM Specification, 6.5).
+pub fn opcode_of_int_arithmetic(name: IntArithmetic) -> u8
+    ensures { result ≡ int_arithmetic_opcode name }
+{
+    match name {
+        IntArithmetic::Iadd => 96,
+        IntArithmetic::Isub => 100,
+        IntArithmetic::Imul => 104,
+        IntArithmetic::Iand => 126,
+        IntArithmetic::Ior => 128,
+        IntArithmetic::Ixor => 130,
+    }
+}

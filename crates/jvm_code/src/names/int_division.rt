@@ -1,0 +1,19 @@
+ghost use Rattle.std.specs.Prelude.{◌≡◌};
+ghost use Rattle.jvm_code.specs.Opcodes.{int_division_opcode};
+
+/// Divisions of ints.
+#[derive(Clone, Copy)]
+pub enum IntDivision {
+    Idiv,
+    Irem,
+}
+
+/// The opcode (JVM Specification, 6.5).
+pub fn opcode_of_int_division(name: IntDivision) -> u8
+    ensures { result ≡ int_division_opcode name }
+{
+    match name {
+        IntDivision::Idiv => 108,
+        IntDivision::Irem => 112,
+    }
+}

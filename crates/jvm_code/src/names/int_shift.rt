@@ -1,0 +1,21 @@
+ghost use Rattle.std.specs.Prelude.{◌≡◌};
+ghost use Rattle.jvm_code.specs.Opcodes.{int_shift_opcode};
+
+/// Shifts of an int by an int.
+#[derive(Clone, Copy)]
+pub enum IntShift {
+    Ishl,
+    Ishr,
+    Iushr,
+}
+
+/// The opcode (JVM Specification, 6.5).
+pub fn opcode_of_int_shift(name: IntShift) -> u8
+    ensures { result ≡ int_shift_opcode name }
+{
+    match name {
+        IntShift::Ishl => 120,
+        IntShift::Ishr => 122,
+        IntShift::Iushr => 124,
+    }
+}

@@ -1,0 +1,23 @@
+ghost use Rattle.std.specs.Prelude.{◌≡◌};
+ghost use Rattle.jvm_code.specs.Opcodes.{local_name_opcode};
+
+/// Loads of a local variable and stores to one.
+#[derive(Clone, Copy)]
+pub enum LocalName {
+    Iload,
+    Aload,
+    Istore,
+    Astore,
+}
+
+/// The opcode (JVM Specification, 6.5).
+pub fn opcode_of_local_name(name: LocalName) -> u8
+    ensures { result ≡ local_name_opcode name }
+{
+    match name {
+        LocalName::Iload => 21,
+        LocalName::Aload => 25,
+        LocalName::Istore => 54,
+        LocalName::Astore => 58,
+    }
+}

@@ -1,0 +1,21 @@
+ghost use Rattle.std.specs.Prelude.{◌≡◌};
+ghost use Rattle.jvm_code.specs.Opcodes.{long_arithmetic_opcode};
+
+/// Operations on two longs that always give one.
+#[derive(Clone, Copy)]
+pub enum LongArithmetic {
+    Ladd,
+    Lmul,
+    Land,
+}
+
+/// The opcode (JVM Specification, 6.5).
+pub fn opcode_of_long_arithmetic(name: LongArithmetic) -> u8
+    ensures { result ≡ long_arithmetic_opcode name }
+{
+    match name {
+        LongArithmetic::Ladd => 97,
+        LongArithmetic::Lmul => 105,
+        LongArithmetic::Land => 127,
+    }
+}

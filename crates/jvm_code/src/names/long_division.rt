@@ -1,0 +1,19 @@
+ghost use Rattle.std.specs.Prelude.{◌≡◌};
+ghost use Rattle.jvm_code.specs.Opcodes.{long_division_opcode};
+
+/// Divisions of longs.
+#[derive(Clone, Copy)]
+pub enum LongDivision {
+    Ldiv,
+    Lrem,
+}
+
+/// The opcode (JVM Specification, 6.5).
+pub fn opcode_of_long_division(name: LongDivision) -> u8
+    ensures { result ≡ long_division_opcode name }
+{
+    match name {
+        LongDivision::Ldiv => 109,
+        LongDivision::Lrem => 113,
+    }
+}

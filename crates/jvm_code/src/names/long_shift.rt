@@ -1,0 +1,21 @@
+ghost use Rattle.std.specs.Prelude.{◌≡◌};
+ghost use Rattle.jvm_code.specs.Opcodes.{long_shift_opcode};
+
+/// Shifts of a long by an int.
+#[derive(Clone, Copy)]
+pub enum LongShift {
+    Lshl,
+    Lshr,
+    Lushr,
+}
+
+/// The opcode (JVM Specification, 6.5).
+pub fn opcode_of_long_shift(name: LongShift) -> u8
+    ensures { result ≡ long_shift_opcode name }
+{
+    match name {
+        LongShift::Lshl => 121,
+        LongShift::Lshr => 123,
+        LongShift::Lushr => 125,
+    }
+}

@@ -1,0 +1,19 @@
+ghost use Rattle.std.specs.Prelude.{◌≡◌};
+ghost use Rattle.jvm_code.specs.Opcodes.{return_name_opcode};
+
+/// Returns from a method.
+#[derive(Clone, Copy)]
+pub enum ReturnName {
+    Ireturn,
+    Return,
+}
+
+/// The opcode (JVM Specification, 6.5).
+pub fn opcode_of_return_name(name: ReturnName) -> u8
+    ensures { result ≡ return_name_opcode name }
+{
+    match name {
+        ReturnName::Ireturn => 172,
+        ReturnName::Return => 177,
+    }
+}

@@ -1,0 +1,37 @@
+ghost use Rattle.std.specs.Prelude.{◌≡◌};
+ghost use Rattle.jvm_code.specs.Opcodes.{short_opcode, first_opcode};
+
+use crate::names::local_name::LocalName;
+
+/// The local variables that an opcode can name by itself.
+#[derive(Clone, Copy)]
+pub enum ShortIndex {
+    Zero,
+    One,
+    Two,
+    Three,
+}
+
+/// The opcode of a load or store that names its local variable by itself.
+pub fn opcode_of_short(name: LocalName, index: ShortIndex) -> u8
+    ensures { result ≡ short_opcode name index }
+{
+    let first = first_of(name);
+    match index {
+        ShortIndex::Zero => first,
+        ShortIndex::One => first + 1,
+        ShortIndex::Two => first + 2,
+        ShortIndex::Three => first + 3,
+    }
+}
+
+fn first_of(name: LocalName) -> u8
+    ensures { result ≡ first_opcode name }
+{
+    match name {
+        LocalName::Iload => 26,
+        LocalName::Aload => 42,
+        LocalName::Istore => 59,
+        LocalName::Astore => 75,
+    }
+}
