@@ -5,4 +5,7 @@ pub mod Refusals
 pub mod Listing
 pub mod Straight
 pub mod Assembly
+pub mod Guest
+pub mod Sessions
+pub mod Interp
 pub mod Commands
