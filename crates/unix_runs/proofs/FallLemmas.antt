@@ -19,8 +19,8 @@ use Rattle.unix_calls.specs.Drawing.{known}
 use Rattle.unix_calls.specs.Serving.{Parts}
 use Rattle.unix_calls.proofs.DrawLemmas.{consumes-both}
 use Rattle.unix_calls.proofs.GainLemmas.{gains-both}
-use Rattle.unix_runs.specs.Playing.{Answers, Fails, Holds, Falls}
-use Rattle.unix_runs.proofs.FrameLemmas.{behind, Same, unix-framed}
+use Rattle.unix_runs.specs.Playing.{behind, Answers, Fails, Holds, Falls}
+use Rattle.unix_runs.proofs.FrameLemmas.{Same, unix-framed}
 use Rattle.unix_runs.proofs.PlayLemmas.{told-on, replies}
 
 -- The outputs of a system are those of an earlier one, and more.

@@ -1,8 +1,7 @@
 -- What was written before a call stays at the front, and does not matter to the call. A call that writes puts no bytes into memory.
-use Rattle.std.proofs.Common.{◌≡◌, ◌⊎◌, inl, inr, ℕ, ◌+◌, ◌==◌, nat_lt, nat_le, ℤ, pos, negsuc, ◌+ℤ◌, Bool, true, false, not, ◌&&◌, ◌||◌, List, [], ◌++◌, length, Option, Some, None, refl, append_assoc, if◌then◌else◌}
+use Rattle.std.proofs.Common.{zero, suc, sym, ap, ◌∙◌, ◌≡◌, ◌⊎◌, inl, inr, ℕ, ◌+◌, ◌==◌, nat_lt, nat_le, ℤ, pos, negsuc, ◌+ℤ◌, Bool, true, false, not, ◌&&◌, ◌||◌, List, [], ◌++◌, length, Option, Some, None, refl, append_assoc, if◌then◌else◌}
 use Rattle.nv_words.specs.Words.{signed_of}
 use Rattle.nv_events.specs.Question.{Question, Text, no_text, unreadable, too_long, bytes, Room}
-use Rattle.nv_events.specs.Answer.{Answer}
 use Rattle.unix_files.specs.Files.{node_named, free_node, bytes_at, has_blocks, written}
 use Rattle.unix_system.specs.declared.description.Description.{Description}
 use Rattle.unix_system.specs.declared.target.Target.{Target}
@@ -11,11 +10,12 @@ use Rattle.unix_system.specs.System.{System, with_console}
 use Rattle.unix_system.specs.Opened.{number_at, numbered_at, free_descriptor, free_places, node_of}
 use Rattle.unix_system.specs.Asked.{value_only, refused, path_error, bytes_of_text, has_room, access, creates, is_exclusive, with_bytes_of}
 use Rattle.unix_system.specs.Calls.{begin, open_file, create_file, open_present, close, read, read_target, write, write_target, write_place, file_written, lseek, seek_to, seek_base, place_of, break_at, fstat, unlink, dup, ftruncate, rename, isatty}
-use Rattle.unix_system.specs.Unix.{unix}
-
--- a system to which these were written before
-abbrev pub behind : List ℕ → List ℕ → System → System
-behind b e s = with_console s (record { rest = s.console.rest; output = b ++ s.console.output; error_output = e ++ s.console.error_output })
+use Rattle.unix_system.specs.Unix.{unix, reply, fitting}
+use Rattle.nv_events.specs.Answer.{Answer, fits}
+use Rattle.nv_events.specs.Turn.{Turn, moves, ends, leaves, asks}
+use Rattle.nv_events.specs.Run.{Run, asking, run_of}
+use Rattle.nv_events.proofs.RunLaws.{given, turned, run_of-suc}
+use Rattle.unix_runs.specs.Playing.{behind, run_behind}
 
 abbrev pub Same : System → System → Type 0
 Same s t = (t.console.output ≡ s.console.output) × (t.console.error_output ≡ s.console.error_output)
@@ -148,3 +148,24 @@ module _ (b e : List ℕ) (s : System) where
       (framed-if (q.number == 13) (quiet _ _ (refl, refl))
       (framed-if (q.number == 14) (rename-framed q.text q.second)
       (framed-if (q.number == 15) (isatty-framed q.a0) (refuses _)))))))))))))))
+
+module _ {S : Type 0} (b e : List ℕ) (go : S → System → Run S System) (h : (t : S) (l : System) → go t (behind b e l) ≡ run_behind b e (go t l)) where
+  given-behind : (f : Bool) (y : Answer × System) (q : Question) (next : Answer → S) (s : S) (k : System) → given (if f then Some (y.0, behind b e y.1) else None) q next s (behind b e k) go ≡ run_behind b e (given (if f then Some y else None) q next s k go)
+  given-behind true y q next s k = ap (asking q) (h (next y.0) y.1)
+  given-behind false y q next s k = refl
+
+  turned-behind : (x : Turn S) (s : S) (k : System) → turned reply x s (behind b e k) go ≡ run_behind b e (turned reply x s k go)
+  turned-behind (moves t) s k = h t k
+  turned-behind (ends end) s k = refl
+  turned-behind (leaves q end) s k = refl
+  turned-behind (asks q next) s k =
+      ap (λ z. given (fitting q z) q next s (behind b e k) go) (unix-framed b e k q).frame
+      ∙ given-behind (fits (unix k q).0 q) (unix k q) q next s k
+
+-- a run behind what was written before it
+pub run-behind : {S : Type 0} (turn : S → Turn S) (n : ℕ) (s : S) (k : System) (b e : List ℕ) → run_of turn reply n s (behind b e k) ≡ run_behind b e (run_of turn reply n s k)
+run-behind turn zero s k b e = refl
+run-behind turn (suc n) s k b e =
+    run_of-suc turn reply n s (behind b e k)
+    ∙ (turned-behind b e (run_of turn reply n) (λ t l. run-behind turn n t l b e) (turn s) s k
+    ∙ ap (run_behind b e) (sym (run_of-suc turn reply n s k)))

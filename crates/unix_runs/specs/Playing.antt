@@ -1,12 +1,12 @@
 -- What a run over the system did: call by call, and, where the source tells what it has left, as the run of the definition.
-use Rattle.std.specs.Prelude.{◌≡◌, ℕ, List}
+use Rattle.std.specs.Prelude.{◌≡◌, ℕ, List, ◌++◌}
 use Rattle.std.specs.Io.KnownBytes.{Consumes, Appends}
 use Rattle.nv_outside.specs.Gains.{AppendsPart}
 use Rattle.nv_events.specs.Question.{Question}
 use Rattle.nv_events.specs.Answer.{Answer}
 use Rattle.nv_events.specs.Run.{Run}
 use Rattle.nv_events.specs.declared.outcome.Outcome.{Outcome}
-use Rattle.unix_system.specs.System.{System}
+use Rattle.unix_system.specs.System.{System, with_console}
 use Rattle.unix_system.specs.Unix.{unix}
 use Rattle.unix_calls.specs.Held.{system_of}
 use Rattle.unix_calls.specs.Drawing.{known}
@@ -40,3 +40,10 @@ pub record Falls {S : Type 0} (run : Run S System) (p r : Parts) : Type 0 where
   pub consumed : Consumes p.rest r.rest got
   pub wrote : AppendsPart p.output r.output run.system.console.output
   pub wrote_error : AppendsPart p.error_output r.error_output run.system.console.error_output
+
+-- a system to which these were written before, and a run from there
+abbrev pub behind : List ℕ → List ℕ → System → System
+behind output error_output s = with_console s (record { rest = s.console.rest; output = output ++ s.console.output; error_output = error_output ++ s.console.error_output })
+
+abbrev pub run_behind : {S : Type 0} → List ℕ → List ℕ → Run S System → Run S System
+run_behind output error_output r = record { questions = r.questions; outcome = r.outcome; last = r.last; system = behind output error_output r.system }
