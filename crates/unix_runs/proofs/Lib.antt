@@ -1,0 +1,4 @@
+pub mod FallLemmas
+pub mod FrameLemmas
+pub mod LeadsLemmas
+pub mod PlayLemmas
