@@ -20,17 +20,11 @@ use Rattle.elf_reader.specs.declared.elf_error.ElfError.TheVariants as elf
 use Rattle.elf_image.specs.declared.image_error.ImageError.{ImageError}
 use Rattle.elf_image.specs.declared.image_error.ImageError.TheVariants as image
 use Rattle.elf_image.specs.Answer.{IsAnswerTo}
-use Rattle.command_words.specs.declared.words_error.WordsError.{WordsError}
-use Rattle.command_words.specs.declared.words_error.WordsError.TheVariants as words_error
-use Rattle.nested_cli.specs.Refusals.{EndsElf, EndsImage, EndsWords, usage_number}
+use Rattle.nested_cli.specs.Refusals.{EndsElf, EndsImage}
 use Rattle.elf_reader.specs.Fault.{IsAnswer}
 use Rattle.elf_reader.specs.Fault.{elf_fault, IsRunsOf}
 use Rattle.elf_image.specs.Refusals.{image_fault}
 use Rattle.elf_image.specs.Start.{Source, image_of}
-use Rattle.command_words.specs.Meaning.{command_of}
-use Rattle.command_words.specs.declared.command.Command.{Command}
-use Rattle.command_words.specs.declared.usage.Usage.{Usage}
-use Rattle.nested_cli.specs.Commands.{IsDue, IsDueOf}
 use Rattle.nested_cli.specs.Listing.{source, listed, due_by, due_of_runs, IsDueOfListed}
 use Rattle.nested_cli.specs.declared.done.Done.TheVariants.{ElfRefused}
 use Rattle.nested_cli.specs.Deeds.{World, Deed, prepares, stores, prints, plays, Due, Stays, LosesRead, LosesFront, DoesDeed, StopsStore, StopsDeed, DoesAll, StopsIn, Works, StopsEarly, Comes, world, answers}
@@ -195,16 +189,6 @@ pub works_more : (deed : Deed) (deeds : List Deed) (answer : Done) (w u v : Worl
 works_more deed deeds answer w u v (Ok d) p q = (q.0, (u, p, q.1))
 works_more deed deeds answer w u v (Err stop) p q = inr (u, p, q)
 
--- the words mean a command, or none
-pub performed : (c : Command) (words : List (List ℕ)) (F : Option Files) (w v : World) (ended : Result Done Stop) → command_of words ≡ Ok c → IfSome F (λ files. Comes (IsDueOf c files) w v ended) → IfSome F (λ files. Comes (IsDue words files) w v ended)
-performed c words None w v ended e h = tt
-performed c words (Some files) w v ended e h = due_as (IsDueOf c files) (IsDue words files) w v ended (λ due d. rw e d) h
-
-pub misused : (error : WordsError) (ended : Result Done Stop) (words : List (List ℕ)) (F : Option Files) (w : World) → ((fault : Usage) → error ≡ words_error.Usage fault → command_of words ≡ Err fault) → EndsWords error ended → IfSome F (λ files. Comes (IsDue words files) w w ended)
-misused error ended words None w e ends = tt
-misused (words_error.Usage fault) ended words (Some files) w e ends = rw ends (answers_due (IsDue words files) (Done.Usage (usage_number fault)) w (rw (e fault refl) refl))
-misused words_error.NoMemory ended words (Some files) w e ends = rw ends (stops_early (IsDue words files) w NoMemory (inr refl))
-
 -- a file is stored and a text printed
 pub stored_and_printed : (F F' : Option Files) (rest O O' err : Option (List ℕ)) (name bytes text : List ℕ) (answer : Done) → SetsFile F F' name bytes → Appends O O' text → Works (record { deeds = stores name bytes ∷ prints text ∷ []; answer = answer }) (world F rest O err) (world F' rest O' err) (Ok answer)
 stored_and_printed F F' rest O O' err name bytes text answer p q =
@@ -213,8 +197,3 @@ stored_and_printed F F' rest O O' err name bytes text answer p q =
 pub stored_and_stopped : (F F' : Option Files) (rest O O' err : Option (List ℕ)) (name bytes text : List ℕ) (answer : Done) → SetsFile F F' name bytes → AppendsPart O O' text → Works (record { deeds = stores name bytes ∷ prints text ∷ []; answer = answer }) (world F rest O err) (world F' rest O' err) (Err WriteFault)
 stored_and_stopped F F' rest O O' err name bytes text answer p q =
     works_more (stores name bytes) (prints text ∷ []) answer (world F rest O err) (world F' rest O err) (world F' rest O' err) (Err WriteFault) (p, refl, refl, refl) (print_stopped F' rest O O' err text answer WriteFault q (inl refl))
-
--- a command that is not built
-pub unbuilt : (F : Option Files) (w : World) → IfSome F (λ files. Comes (λ due. due ≡ answers Done.NotBuilt) w w (Ok Done.NotBuilt))
-unbuilt None w = tt
-unbuilt (Some files) w = answers_due (λ due. due ≡ answers Done.NotBuilt) Done.NotBuilt w refl

@@ -3,3 +3,5 @@ pub mod PieceLemmas
 pub mod ListingLemmas
 pub mod AnswerLemmas
 pub mod AssemblyLemmas
+pub mod InterpLemmas
+pub mod CommandLemmas

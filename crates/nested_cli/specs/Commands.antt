@@ -1,5 +1,5 @@
 -- What the program is to do, by its words and the files that are there, and what it leaves.
-use Rattle.std.specs.Prelude.{◌≡◌, ℕ, ◌⊎◌, List, Option, Some, None, Result, Ok, Err}
+use Rattle.std.specs.Prelude.{◌≡◌, ℕ, ◌⊎◌, List, [], Option, Some, None, IsSome, Result, Ok, Err, unwrap_or, ⊤}
 use Rattle.std.specs.Io.KnownBytes.{Appends}
 use Rattle.command_words.specs.Word.{Text}
 use Rattle.command_words.specs.Meaning.{command_of}
@@ -17,25 +17,33 @@ use Rattle.nested_cli.specs.Deeds.{World, Due, Comes, answers, done_of}
 use Rattle.nested_cli.specs.Listing.{IsDueOfList}
 use Rattle.nested_cli.specs.Straight.{IsDueOfGo}
 use Rattle.nested_cli.specs.Assembly.{IsDueOfAsm}
+use Rattle.nested_cli.specs.Interp.{IsDueOfInterp}
 
--- what a command is to do
-abbrev pub IsDueOf : Command → Files → Due → Type 0
-IsDueOf (command.Go input name pages method_bytes session) files due = IsDueOfGo input.word (files input.text) due
-IsDueOf (command.Translate input name pages method_bytes) files due = due ≡ answers done.NotBuilt
-IsDueOf (command.Interp input name pages session) files due = due ≡ answers done.NotBuilt
-IsDueOf (command.Run name words session) files due = due ≡ answers done.NotBuilt
-IsDueOf (command.Verify name) files due = due ≡ answers done.NotBuilt
-IsDueOf (command.Asm input output) files due = IsDueOfAsm input.word output (files input.text) due
-IsDueOf (command.List input) files due = IsDueOfList input.word (files input.text) due
-IsDueOf (command.Make count method_bytes) files due = due ≡ answers done.NotBuilt
+-- what a command is to do, at a moment, over these files and this input
+abbrev pub IsDueOf : Command → ℕ → Files → List ℕ → Due → Type 0
+IsDueOf (command.Go input name pages method_bytes session) moment files rest due = IsDueOfGo input.word (files input.text) due
+IsDueOf (command.Translate input name pages method_bytes) moment files rest due = due ≡ answers done.NotBuilt
+IsDueOf (command.Interp input name pages session) moment files rest due =
+    IsDueOfInterp (record { word = input.word; name = name; pages = pages; session = session; moment = moment }) files rest (files input.text) due
+IsDueOf (command.Run name words session) moment files rest due = due ≡ answers done.NotBuilt
+IsDueOf (command.Verify name) moment files rest due = due ≡ answers done.NotBuilt
+IsDueOf (command.Asm input output) moment files rest due = IsDueOfAsm input.word output (files input.text) due
+IsDueOf (command.List input) moment files rest due = IsDueOfList input.word (files input.text) due
+IsDueOf (command.Make count method_bytes) moment files rest due = due ≡ answers done.NotBuilt
 
 -- what the words ask for
-abbrev pub IsDueBy : Result Command Usage → Files → Due → Type 0
-IsDueBy (Ok c) files due = IsDueOf c files due
-IsDueBy (Err usage) files due = due ≡ answers (done.Usage (usage_number usage))
+abbrev pub IsDueBy : Result Command Usage → ℕ → Files → List ℕ → Due → Type 0
+IsDueBy (Ok c) moment files rest due = IsDueOf c moment files rest due
+IsDueBy (Err usage) moment files rest due = due ≡ answers (done.Usage (usage_number usage))
 
-abbrev pub IsDue : List Text → Files → Due → Type 0
-IsDue words files due = IsDueBy (command_of words) files due
+abbrev pub IsDue : List Text → ℕ → Files → List ℕ → Due → Type 0
+IsDue words moment files rest due = IsDueBy (command_of words) moment files rest due
+
+-- of a command that runs a guest it is known what is due where input tells what it has left
+abbrev pub Known : Result Command Usage → Option (List ℕ) → Type 0
+Known (Ok (command.Interp input name pages session)) rest = IsSome rest
+Known (Ok other) rest = ⊤
+Known (Err usage) rest = ⊤
 
 -- the answer's line is written to error output last; where that fails, the answer is a write fault
 abbrev pub Says : List ℕ → World → World → Done → Done → Type 0
@@ -44,8 +52,8 @@ Says line u v answer said =
     × (((said ≡ answer) × Appends u.err v.err line) ⊎ ((said ≡ done.WriteFault) × AppendsPart u.err v.err line))
 
 -- What a call of the program leaves, and its answer: its work, done or stopped on the way, and then the answer's line.
-pub record Does (words : List Text) (files : Files) (w v : World) (said : Done) : Type 0 where
+pub record Does (words : List Text) (moment : ℕ) (files : Files) (w v : World) (said : Done) : Type 0 where
   pub worked : World
   pub ended : Result Done Stop
-  pub comes : Comes (IsDue words files) w worked ended
+  pub comes : Known (command_of words) w.rest → Comes (IsDue words moment files (unwrap_or w.rest [])) w worked ended
   pub says : Says (line_of words (done_of ended)) worked v (done_of ended) said

@@ -1,5 +1,5 @@
 -- What making a system ready for a guest, and keeping its files, comes to.
-use Rattle.std.specs.Prelude.{◌≡◌, ℕ, ◌⊎◌, List, [], Option, Some, None, Result, Ok, Err, ⊤, false}
+use Rattle.std.specs.Prelude.{◌≡◌, ℕ, ◌≤◌, length, ◌⊎◌, List, [], Option, Some, None, Result, Ok, Err, ⊤, false}
 use Rattle.command_words.specs.Word.{Text}
 use Rattle.command_words.specs.declared.session.Session.{Session}
 use Rattle.nv_outside.specs.Files.{Files}
@@ -25,6 +25,11 @@ IsReadied files name session moment (Refused answer) =
 abbrev pub IsNoStop : Readied → Type 0
 IsNoStop (Ready unix) = ⊤
 IsNoStop (Refused answer) = is_stop answer ≡ false
+
+-- of input at most 4,096 bytes were read ahead
+abbrev pub ReadsFewAhead : Readied → Type 0
+ReadsFewAhead (Ready unix) = length unix.ahead ≤ 4096
+ReadsFewAhead (Refused answer) = ⊤
 
 -- all deeds are done, or those up to one that was stopped
 abbrev pub DoesOrStops : List Deed → World → World → Result (Unit {0}) Stop → Type 0

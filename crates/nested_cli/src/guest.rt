@@ -1,7 +1,7 @@
 use command_words::{Pages, Session};
 
 /// A guest that is to be run on the reference machine.
-#[derive(Debug)]
+#[derive(Debug, Drop)]
 pub struct Guest<'a> {
     /// The number of the word that names its file.
     pub word: u32,

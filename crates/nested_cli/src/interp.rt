@@ -1,10 +1,13 @@
-ghost use Rattle.std.specs.Prelude.{◌≡◌, ◌≤◌, ℕ, List, Option, Some, None, IfOk, IfSome, false, option_map};
+ghost use Rattle.std.specs.Prelude.{◌≡◌, ◌≤◌, ℕ, List, Option, Some, None, IfOk, IfSome, false, length, option_map};
 ghost use Rattle.command_words.specs.Limits.{ArePages, AreFileNames};
 ghost use Rattle.elf_image.specs.Refusals.{image_fault};
+ghost use Rattle.elf_image.specs.Start.{Source, image_of};
 ghost use Rattle.elf_reader.specs.Area.{area};
 ghost use Rattle.elf_reader.specs.Fault.{elf_fault, IsRunsOf};
 ghost use Rattle.elf_reader.specs.Header.{header_of};
 ghost use Rattle.elf_reader.specs.Segments.{live};
+ghost use Rattle.mips_machine.specs.Guest.{has_ended, state_of};
+ghost use Rattle.mips_machine.specs.Loading.{start_of};
 ghost use Rattle.nv_events.specs.Serving.{Counts};
 ghost use Rattle.nv_outside.specs.Faults.{CountsFailure};
 ghost use Rattle.nv_outside.specs.Files.{Files};
@@ -14,12 +17,12 @@ ghost use Rattle.nested_cli.specs.Counts.{StreamCauses, is_stop, shelf_stopped};
 ghost use Rattle.nested_cli.specs.Deeds.{Comes, Works, world};
 ghost use Rattle.nested_cli.specs.Guest.{IsDueOfSession, NamedFile, arguments_of, kept_after};
 ghost use Rattle.nested_cli.specs.Interp.{IsDueByElf, IsDueByImage, IsDueOfImage, IsDueOfInterp, plan_of};
-ghost use Rattle.nested_cli.specs.Sessions.{IsNoStop, IsReadied};
+ghost use Rattle.nested_cli.specs.Sessions.{IsNoStop, IsReadied, ReadsFewAhead};
 
 use crate::done::Done;
 use crate::guest::Guest;
 use crate::load::load;
-use crate::outcomes::{answer_of, stop_of};
+use crate::outcomes::{answer_of, stopped_by};
 use crate::readied::Readied;
 use crate::refusals::{refused_elf, refused_image};
 use crate::session::{keep, ready};
@@ -31,6 +34,7 @@ use nv_events::Outcome;
 use nv_outside::{Shelf, Sink, Source};
 use std::alloc::Global;
 use unix_calls::Unix;
+use unix_runs::laws::begins_at_start;
 use unix_runs::play;
 
 /// Loads a program, runs it on the reference machine, and keeps files of it.
@@ -50,6 +54,7 @@ pub fn interp<H: Shelf, S: Source, O: Sink, E: Sink>(
     ensures answer { IfOk result (λ d. is_stop d ≡ false) }
     ensures count { CountsFailure (shelf_stopped result) (H.faults shelf.old) (H.faults shelf.new) }
     ensures causes { StreamCauses (counted (S.faults input.old) (O.faults out.old) (E.faults err.old)) (counted (S.faults input.new) (O.faults out.new) (E.faults err.new)) result }
+    ensures err_count { E.faults err.old ≤ E.faults err.new }
 {
     match load(alloc, shelf, file) {
         Ok(found) => interp_found(alloc, guest, found, shelf, input, out, err),
@@ -74,6 +79,7 @@ fn interp_found<H: Shelf, S: Source, O: Sink, E: Sink>(
     ensures answer { IfOk result (λ d. is_stop d ≡ false) }
     ensures count { CountsFailure (shelf_stopped result) (H.faults shelf.old) (H.faults shelf.new) }
     ensures causes { StreamCauses (counted (S.faults input.old) (O.faults out.old) (E.faults err.old)) (counted (S.faults input.new) (O.faults out.new) (E.faults err.new)) result }
+    ensures err_count { E.faults err.old ≤ E.faults err.new }
 {
     match found {
         Some(file) => interp_file(alloc, guest, file.as_slice(), shelf, input, out, err),
@@ -98,6 +104,7 @@ fn interp_file<H: Shelf, S: Source, O: Sink, E: Sink>(
     ensures answer { IfOk result (λ d. is_stop d ≡ false) }
     ensures count { CountsFailure (shelf_stopped result) (H.faults shelf.old) (H.faults shelf.new) }
     ensures causes { StreamCauses (counted (S.faults input.old) (O.faults out.old) (E.faults err.old)) (counted (S.faults input.new) (O.faults out.new) (E.faults err.new)) result }
+    ensures err_count { E.faults err.old ≤ E.faults err.new }
 {
     match read_elf(alloc, file) {
         Ok(elf) => interp_elf(alloc, guest, &elf, shelf, input, out, err),
@@ -126,6 +133,7 @@ fn interp_elf<H: Shelf, S: Source, O: Sink, E: Sink>(
     ensures answer { IfOk result (λ d. is_stop d ≡ false) }
     ensures count { CountsFailure (shelf_stopped result) (H.faults shelf.old) (H.faults shelf.new) }
     ensures causes { StreamCauses (counted (S.faults input.old) (O.faults out.old) (E.faults err.old)) (counted (S.faults input.new) (O.faults out.new) (E.faults err.new)) result }
+    ensures err_count { E.faults err.old ≤ E.faults err.new }
 {
     match image(alloc, elf, guest.pages.heap, guest.pages.stack) {
         Ok(image) => interp_image(alloc, guest, &image, shelf, input, out, err),
@@ -149,6 +157,7 @@ fn interp_image<H: Shelf, S: Source, O: Sink, E: Sink>(
     ensures answer { IfOk result (λ d. is_stop d ≡ false) }
     ensures count { CountsFailure (shelf_stopped result) (H.faults shelf.old) (H.faults shelf.new) }
     ensures causes { StreamCauses (counted (S.faults input.old) (O.faults out.old) (E.faults err.old)) (counted (S.faults input.new) (O.faults out.new) (E.faults err.new)) result }
+    ensures err_count { E.faults err.old ≤ E.faults err.new }
 {
     match ready(alloc, guest.name, guest.session, guest.moment, shelf) {
         Ok(readied) => interp_readied(alloc, guest, image, readied, shelf, input, out, err),
@@ -168,10 +177,12 @@ fn interp_readied<H: Shelf, S: Source, O: Sink, E: Sink>(
     err: &mut E,
 ) -> Result<Done, Stop>
     requires no_stop { IsNoStop readied }
+    requires few { ReadsFewAhead readied }
     ensures comes { (files : Files) (rest : List ℕ) → IsReadied files guest.now.name.now guest.now.session.now guest.now.moment readied → S.rest input.old ≡ Some rest → Comes (IsDueOfSession guest.now.name.now guest.now.session.now files (IsDueOfImage (plan_of guest.now) image.now rest)) (world (H.files shelf.old) (S.rest input.old) (O.taken out.old) (E.taken err.old)) (world (H.files shelf.new) (S.rest input.new) (O.taken out.new) (E.taken err.new)) result }
     ensures answer { IfOk result (λ d. is_stop d ≡ false) }
     ensures count { CountsFailure (shelf_stopped result) (H.faults shelf.old) (H.faults shelf.new) }
     ensures causes { StreamCauses (counted (S.faults input.old) (O.faults out.old) (E.faults err.old)) (counted (S.faults input.new) (O.faults out.new) (E.faults err.new)) result }
+    ensures err_count { E.faults err.old ≤ E.faults err.new }
 {
     match readied {
         Readied::Ready(unix) => run_guest(alloc, guest, image, unix, shelf, input, out, err),
@@ -179,7 +190,7 @@ fn interp_readied<H: Shelf, S: Source, O: Sink, E: Sink>(
     }
 }
 
-/// Runs a guest over its system, and keeps files of it.
+/// Puts an image into the machine, and runs it over its system.
 fn run_guest<H: Shelf, S: Source, O: Sink, E: Sink>(
     alloc: Global,
     guest: &Guest<'_>,
@@ -190,21 +201,44 @@ fn run_guest<H: Shelf, S: Source, O: Sink, E: Sink>(
     out: &mut O,
     err: &mut E,
 ) -> Result<Done, Stop>
+    requires few { length unix.ahead ≤ 4096 }
     ensures comes { (found : List NamedFile) (rest : List ℕ) → Begins unix guest.now.session.now.disk guest.now.moment found (arguments_of guest.now.name.now guest.now.session.now) → S.rest input.old ≡ Some rest → Comes (IsDueOfImage (plan_of guest.now) image.now rest found) (world (H.files shelf.old) (S.rest input.old) (O.taken out.old) (E.taken err.old)) (world (H.files shelf.new) (S.rest input.new) (O.taken out.new) (E.taken err.new)) result }
     ensures answer { IfOk result (λ d. is_stop d ≡ false) }
     ensures count { CountsFailure (shelf_stopped result) (H.faults shelf.old) (H.faults shelf.new) }
     ensures causes { StreamCauses (counted (S.faults input.old) (O.faults out.old) (E.faults err.old)) (counted (S.faults input.new) (O.faults out.new) (E.faults err.new)) result }
+    ensures err_count { E.faults err.old ≤ E.faults err.new }
 {
-    let mut unix = unix;
     match Mips::load(alloc, image) {
-        Ok(mips) => {
-            let mut mips = mips;
-            match play(&mut mips, guest.session.steps, &mut unix, input, out, err) {
-                Ok(outcome) => keep_after(alloc, guest, outcome, &unix, shelf),
-                Err(fault) => Err(stop_of(fault)),
-            }
-        }
+        Ok(mips) => play_guest(alloc, guest, mips, unix, shelf, input, out, err),
         Err(_) => Err(Stop::NoMemory),
+    }
+}
+
+/// Runs a machine over the system of a guest, and keeps files of it.
+fn play_guest<H: Shelf, S: Source, O: Sink, E: Sink>(
+    alloc: Global,
+    guest: &Guest<'_>,
+    mips: Mips,
+    unix: Unix,
+    shelf: &mut H,
+    input: &mut S,
+    out: &mut O,
+    err: &mut E,
+) -> Result<Done, Stop>
+    requires going { has_ended mips ≡ false }
+    requires few { length unix.ahead ≤ 4096 }
+    ensures comes { (source : Source) (found : List NamedFile) (rest : List ℕ) → state_of mips ≡ start_of (image_of source) → Begins unix guest.now.session.now.disk guest.now.moment found (arguments_of guest.now.name.now guest.now.session.now) → S.rest input.old ≡ Some rest → Comes (IsDueOfImage (plan_of guest.now) source rest found) (world (H.files shelf.old) (S.rest input.old) (O.taken out.old) (E.taken err.old)) (world (H.files shelf.new) (S.rest input.new) (O.taken out.new) (E.taken err.new)) result }
+    ensures answer { IfOk result (λ d. is_stop d ≡ false) }
+    ensures count { CountsFailure (shelf_stopped result) (H.faults shelf.old) (H.faults shelf.new) }
+    ensures causes { StreamCauses (counted (S.faults input.old) (O.faults out.old) (E.faults err.old)) (counted (S.faults input.new) (O.faults out.new) (E.faults err.new)) result }
+    ensures err_count { E.faults err.old ≤ E.faults err.new }
+{
+    begins_at_start();
+    let mut mips = mips;
+    let mut unix = unix;
+    match play(&mut mips, guest.session.steps, &mut unix, input, out, err) {
+        Ok(outcome) => keep_after(alloc, guest, outcome, &unix, shelf),
+        Err(fault) => stopped_by(fault),
     }
 }
 

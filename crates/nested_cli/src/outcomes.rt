@@ -1,6 +1,8 @@
 //! What the end of a run makes of a command.
-ghost use Rattle.std.specs.Prelude.{◌≡◌, false};
-ghost use Rattle.nested_cli.specs.Counts.{is_stop};
+ghost use Rattle.std.specs.Prelude.{◌≡◌, Err, false};
+ghost use Rattle.nv_events.specs.Serving.{Causes, Counts};
+ghost use Rattle.nv_events.specs.declared.outcome.Outcome.{Outcome};
+ghost use Rattle.nested_cli.specs.Counts.{StreamCauses, is_stop, shelf_stopped};
 ghost use Rattle.nested_cli.specs.Guest.{answer_of, stop_of};
 
 use crate::done::Done;
@@ -20,12 +22,14 @@ pub fn answer_of(outcome: Outcome) -> Done
     }
 }
 
-/// How a run is stopped in which the outside failed.
-pub fn stop_of(fault: IoFault) -> Stop
-    ensures { result ≡ stop_of fault }
+/// How a command ends in whose run the outside failed.
+pub fn stopped_by(fault: IoFault) -> Result<Done, Stop>
+    ensures is { result ≡ Err (stop_of fault) }
+    ensures no_shelf { shelf_stopped result ≡ false }
+    ensures causes { (old new : Counts) → Causes {A = Outcome} old new (Err fault) → StreamCauses old new result }
 {
     match fault {
-        IoFault::ReadFault => Stop::ReadFault,
-        IoFault::WriteFault => Stop::WriteFault,
+        IoFault::ReadFault => Err(Stop::ReadFault),
+        IoFault::WriteFault => Err(Stop::WriteFault),
     }
 }

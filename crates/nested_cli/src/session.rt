@@ -5,7 +5,7 @@ ghost use Rattle.nv_outside.specs.Files.{SameFiles};
 ghost use Rattle.nested_cli.specs.Counts.{shelf_stopped};
 ghost use Rattle.nested_cli.specs.Deeds.{world};
 ghost use Rattle.nested_cli.specs.Guest.{kept};
-ghost use Rattle.nested_cli.specs.Sessions.{DoesOrStops, IsNoStop, IsReadied};
+ghost use Rattle.nested_cli.specs.Sessions.{DoesOrStops, IsNoStop, IsReadied, ReadsFewAhead};
 
 use crate::done::Done;
 use crate::load::load;
@@ -29,6 +29,7 @@ pub fn ready<H: Shelf>(
     requires names { AreFileNames session.now.with.names }
     ensures readied { IfSome (H.files shelf.old) (λ files. IfOk result (IsReadied files name.now session.now moment)) }
     ensures answer { IfOk result IsNoStop }
+    ensures few { IfOk result ReadsFewAhead }
     ensures same { SameFiles (H.files shelf.old) (H.files shelf.new) }
     ensures stop { IfErr result (λ stop. (stop ≡ Stop.ShelfFault) ⊎ (stop ≡ Stop.NoMemory)) }
     ensures count { CountsFailure (shelf_stopped result) (H.faults shelf.old) (H.faults shelf.new) }

@@ -3,7 +3,7 @@ use Rattle.nested_cli.proofs.AnswerLemmas.{said, unsaid}
 use Rattle.nested_cli.proofs.program.nested.Goals as goal
 
 pub returns-in-Ok-clause-does : goal.returns-in-Ok-clause-does
-returns-in-Ok-clause-does g c = said _ _ (texts c.args.words.now) _ _ _ _ _ c.perform.result c.answer-done.result c.answer-done.ensures (c.perform.ensures.comes _ _) c.in-Ok.ensures.ok
+returns-in-Ok-clause-does g c = said _ _ (texts c.args.words.now) c.args.moment _ _ _ _ _ _ _ c.perform.result c.answer-done.result c.answer-done.ensures c.perform.ensures.comes c.in-Ok.ensures.ok
 
 pub returns-in-Err-clause-does : goal.returns-in-Err-clause-does
-returns-in-Err-clause-does g c = unsaid _ _ (texts c.args.words.now) _ _ _ _ _ c.perform.result c.answer-done.result c.answer-done.ensures (c.perform.ensures.comes _ _) c.in-Err.ensures.err
+returns-in-Err-clause-does g c = unsaid _ _ (texts c.args.words.now) c.args.moment _ _ _ _ _ _ _ c.perform.result c.answer-done.result c.answer-done.ensures c.perform.ensures.comes c.in-Err.ensures.err

@@ -1,26 +1,23 @@
-use Rattle.nested_cli.proofs.DeedLemmas.{unbuilt}
+use Rattle.nested_cli.proofs.CommandLemmas.{unbuilt}
 use Rattle.nested_cli.proofs.program.perform_command.Goals as goal
 
 pub returns-in-Go-clause-comes : goal.returns-in-Go-clause-comes
-returns-in-Go-clause-comes g c = λ rest err. rw (c.in-Go.is, ← c.as_str.ensures) (c.go.ensures.comes rest (g.O.Sink.taken c.args.out.now) err)
+returns-in-Go-clause-comes g c = λ known. rw (c.in-Go.is, ← c.as_str.ensures) (c.go.ensures.comes (g.S.Source.rest c.args.input.now) (g.O.Sink.taken c.args.out.now) (g.E.Sink.taken c.args.err.now))
 
 pub returns-in-List-clause-comes : goal.returns-in-List-clause-comes
-returns-in-List-clause-comes g c = λ rest err. rw (c.in-List.is, ← c.as_str-in-List.ensures) (c.list.ensures.comes rest err)
+returns-in-List-clause-comes g c = λ known. rw (c.in-List.is, ← c.as_str-in-List.ensures) (c.list.ensures.comes (g.S.Source.rest c.args.input.now) (g.E.Sink.taken c.args.err.now))
 
 pub returns-in-Asm-clause-comes : goal.returns-in-Asm-clause-comes
-returns-in-Asm-clause-comes g c = λ rest err. rw (c.in-Asm.is, ← c.as_str-in-Asm.ensures, ← c.as_str-in-Asm-2.ensures) (c.asm.ensures.comes rest err)
+returns-in-Asm-clause-comes g c = λ known. rw (c.in-Asm.is, ← c.as_str-in-Asm.ensures, ← c.as_str-in-Asm-2.ensures) (c.asm.ensures.comes (g.S.Source.rest c.args.input.now) (g.E.Sink.taken c.args.err.now))
 
 pub returns-in-Translate-clause-comes : goal.returns-in-Translate-clause-comes
-returns-in-Translate-clause-comes g c = λ rest err. rw c.in-Translate.is (unbuilt _ _)
-
-pub returns-in-Interp-clause-comes : goal.returns-in-Interp-clause-comes
-returns-in-Interp-clause-comes g c = λ rest err. rw c.in-Interp.is (unbuilt _ _)
+returns-in-Translate-clause-comes g c = λ known. rw c.in-Translate.is (unbuilt _ _)
 
 pub returns-in-Run-clause-comes : goal.returns-in-Run-clause-comes
-returns-in-Run-clause-comes g c = λ rest err. rw c.in-Run.is (unbuilt _ _)
+returns-in-Run-clause-comes g c = λ known. rw c.in-Run.is (unbuilt _ _)
 
 pub returns-in-Verify-clause-comes : goal.returns-in-Verify-clause-comes
-returns-in-Verify-clause-comes g c = λ rest err. rw c.in-Verify.is (unbuilt _ _)
+returns-in-Verify-clause-comes g c = λ known. rw c.in-Verify.is (unbuilt _ _)
 
 pub returns-in-Make-clause-comes : goal.returns-in-Make-clause-comes
-returns-in-Make-clause-comes g c = λ rest err. rw c.in-Make.is (unbuilt _ _)
+returns-in-Make-clause-comes g c = λ known. rw c.in-Make.is (unbuilt _ _)

@@ -1,0 +1,57 @@
+-- What is due by the words.
+use Rattle.std.proofs.Common.{◌≡◌, ◌≢◌, ◌⊎◌, ℕ, false, List, [], Option, Some, None, IsSome, Result, Ok, Err, unwrap_or, refl, sym, ap, subst, inl, inr}
+use Rattle.std.specs.Prelude.{IfSome}
+use Rattle.command_words.specs.Meaning.{command_of}
+use Rattle.command_words.specs.declared.command.Command.{Command}
+use Rattle.command_words.specs.declared.usage.Usage.{Usage}
+use Rattle.command_words.specs.declared.words_error.WordsError.{WordsError}
+use Rattle.command_words.specs.declared.words_error.WordsError.TheVariants as words_error
+use Rattle.nv_events.specs.Serving.{Counts}
+use Rattle.nv_outside.specs.Faults.{CountsFailure}
+use Rattle.nv_outside.specs.Files.{Files}
+use Rattle.unix_calls.specs.Serving.{counted}
+use Rattle.nested_cli.specs.declared.done.Done.{Done}
+use Rattle.nested_cli.specs.declared.stop.Stop.{Stop}
+use Rattle.nested_cli.specs.declared.stop.Stop.TheVariants as stop
+use Rattle.nested_cli.specs.Commands.{IsDue, IsDueBy, IsDueOf, Known}
+use Rattle.nested_cli.specs.Counts.{StreamCauses, read_stopped, write_stopped}
+use Rattle.nested_cli.specs.Deeds.{World, Due, Comes, answers}
+use Rattle.nested_cli.specs.Refusals.{EndsWords, usage_number}
+use Rattle.nested_cli.proofs.DeedLemmas.{answers_due, stops_early}
+
+-- the words mean a command
+pub performed : (c : Command) (words : List (List ℕ)) (moment : ℕ) (told : Option (List ℕ)) (F : Option Files) (w v : World) (ended : Result Done Stop) → command_of words ≡ Ok c → (Known (Ok c) told → IfSome F (λ files. Comes (IsDueOf c moment files (unwrap_or told [])) w v ended)) → Known (command_of words) told → IfSome F (λ files. Comes (IsDue words moment files (unwrap_or told [])) w v ended)
+performed c words moment told F w v ended e h =
+    subst (λ r. Known r told → IfSome F (λ files. Comes (IsDueBy r moment files (unwrap_or told [])) w v ended)) (sym e) h
+
+-- the words mean none
+pub misused : (error : WordsError) (ended : Result Done Stop) (words : List (List ℕ)) (moment : ℕ) (rest : List ℕ) (F : Option Files) (w : World) → ((fault : Usage) → error ≡ words_error.Usage fault → command_of words ≡ Err fault) → EndsWords error ended → IfSome F (λ files. Comes (IsDue words moment files rest) w w ended)
+misused error ended words moment rest None w e ends = tt
+misused (words_error.Usage fault) ended words moment rest (Some files) w e ends =
+    rw ends (answers_due (IsDue words moment files rest) (Done.Usage (usage_number fault)) w (subst (λ r. IsDueBy r moment files rest (answers (Done.Usage (usage_number fault)))) (sym (e fault refl)) refl))
+misused words_error.NoMemory ended words moment rest (Some files) w e ends = rw ends (stops_early (IsDue words moment files rest) w stop.NoMemory (inr refl))
+
+-- a command that is not built
+pub unbuilt : (F : Option Files) (w : World) → IfSome F (λ files. Comes (λ due. due ≡ answers Done.NotBuilt) w w (Ok Done.NotBuilt))
+unbuilt None w = tt
+unbuilt (Some files) w = answers_due (λ due. due ≡ answers Done.NotBuilt) Done.NotBuilt w refl
+
+-- where input tells what it has left, that is known
+pub told_input : (told : Option (List ℕ)) (P : List ℕ → Type 0) → ((rest : List ℕ) → told ≡ Some rest → P rest) → IsSome told → P (unwrap_or told [])
+told_input None P h some = absurd (cc)
+told_input (Some rest) P h some = h rest refl
+
+-- commands that read no input and write to output alone, or to nothing
+pub output_alone : (s o o' e : ℕ) (ended : Result Done Stop) → CountsFailure (write_stopped ended) o o' → read_stopped ended ≡ false → StreamCauses (counted s o e) (counted s o' e) ended
+output_alone s o o' e (Ok d) c n = ap (λ x. counted s x e) (c.stays refl)
+output_alone s o o' e (Err stop.ReadFault) c n = absurd (cc)
+output_alone s o o' e (Err stop.WriteFault) c n = inl (c.rises refl)
+output_alone s o o' e (Err stop.ShelfFault) c n = ap (λ x. counted s x e) (c.stays refl)
+output_alone s o o' e (Err stop.NoMemory) c n = ap (λ x. counted s x e) (c.stays refl)
+
+pub no_streams : (counts : Counts) (ended : Result Done Stop) → write_stopped ended ≡ false → read_stopped ended ≡ false → StreamCauses counts counts ended
+no_streams counts (Ok d) a b = refl
+no_streams counts (Err stop.ReadFault) a b = absurd (cc)
+no_streams counts (Err stop.WriteFault) a b = absurd (cc)
+no_streams counts (Err stop.ShelfFault) a b = refl
+no_streams counts (Err stop.NoMemory) a b = refl
