@@ -1,4 +1,4 @@
-ghost use Rattle.std.specs.Prelude.{◌≡◌, ◌≢◌, ℕ, List, [], Some, Ok, IfOk, OnErr, false, true};
+ghost use Rattle.std.specs.Prelude.{◌≡◌, ◌≢◌, ◌≤◌, ℕ, List, length, [], Some, Ok, IfOk, OnErr, false, true};
 ghost use Rattle.nv_events.specs.Run.{run_of};
 ghost use Rattle.nv_events.specs.Serving.{RunsBy, Causes, NoneFalls};
 ghost use Rattle.unix_system.specs.Unix.{reply};
@@ -36,6 +36,7 @@ pub fn play<M: Machine, S: Source, O: Sink, E: Sink>(
     ensures never_waits { result ≢ Ok Outcome.Waiting }
     ensures causes { Causes (counted (S.faults input.old) (O.faults out.old) (E.faults err.old)) (counted (S.faults input.new) (O.faults out.new) (E.faults err.new)) result }
     ensures none_falls { NoneFalls (counted (S.faults input.old) (O.faults out.old) (E.faults err.old)) (counted (S.faults input.new) (O.faults out.new) (E.faults err.new)) }
+    ensures ahead { length unix.old.ahead ≤ 4096 → length unix.new.ahead ≤ 4096 }
 {
     let mut joined = join(unix, input, out, err);
     let result = run_joined(machine, steps, &mut joined);
@@ -63,6 +64,7 @@ fn run_joined<'a, M: Machine, S: Source, O: Sink, E: Sink>(
     ensures never_waits { result ≢ Ok Outcome.Waiting }
     ensures causes { Causes (counted (S.faults joined.old.source.now) (O.faults joined.old.out.now) (E.faults joined.old.err.now)) (counted (S.faults joined.new.source.now) (O.faults joined.new.out.now) (E.faults joined.new.err.now)) result }
     ensures none_falls { NoneFalls (counted (S.faults joined.old.source.now) (O.faults joined.old.out.now) (E.faults joined.old.err.now)) (counted (S.faults joined.new.source.now) (O.faults joined.new.out.now) (E.faults joined.new.err.now)) }
+    ensures ahead { length joined.old.unix.now.ahead ≤ 4096 → length joined.new.unix.now.ahead ≤ 4096 }
     ensures same_unix { joined.new.unix.ghost_name ≡ joined.old.unix.ghost_name }
     ensures same_source { joined.new.source.ghost_name ≡ joined.old.source.ghost_name }
     ensures same_out { joined.new.out.ghost_name ≡ joined.old.out.ghost_name }
