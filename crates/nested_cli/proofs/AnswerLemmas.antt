@@ -1,5 +1,5 @@
 -- The answer's line, and what an answer says of the calls that failed.
-use Rattle.std.proofs.Common.{◌≡◌, ◌≢◌, ◌⊎◌, ℕ, Bool, true, false, List, [], unwrap_or, Option, Some, None, Result, Ok, Err, IsTrue, refl, sym, ◌∙◌, ap, subst, inl, inr}
+use Rattle.std.proofs.Common.{◌≡◌, ◌≢◌, ◌≤◌, ◌⊎◌, ℕ, Bool, true, false, List, [], unwrap_or, arith, Option, Some, None, Result, Ok, Err, IsTrue, refl, sym, ◌∙◌, ap, subst, inl, inr}
 use Rattle.std.specs.Prelude.{IfSome, IfOk}
 use Rattle.std.specs.Io.KnownBytes.{Appends}
 use Rattle.nv_outside.specs.Files.{Files}
@@ -76,3 +76,7 @@ none_said old new (Err stop.ReadFault) causes a b = absurd (a refl)
 none_said old new (Err stop.WriteFault) causes a b = absurd (b refl)
 none_said old new (Err stop.ShelfFault) causes a b = causes
 none_said old new (Err stop.NoMemory) causes a b = causes
+
+-- a count that never fell, and then rose
+pub rose_after : (a b c : ℕ) → a ≤ b → Rose b c → Rose a c
+rose_after a b c h rose = grind arith

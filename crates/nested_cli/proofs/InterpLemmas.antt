@@ -13,13 +13,17 @@ use Rattle.elf_image.specs.declared.image_error.ImageError.{ImageError}
 use Rattle.elf_image.specs.declared.image_error.ImageError.TheVariants as image
 use Rattle.elf_image.specs.Answer.{IsAnswerTo}
 use Rattle.elf_image.specs.Refusals.{image_fault}
-use Rattle.elf_image.specs.Start.{Source}
-use Rattle.nv_events.specs.Run.{Run}
+use Rattle.elf_image.specs.Start.{Source, image_of}
+use Rattle.mips_decode.specs.State.{State}
+use Rattle.mips_decode.specs.Step.{turn}
+use Rattle.mips_machine.specs.Loading.{start_of}
+use Rattle.nv_events.specs.Run.{Run, run_of}
 use Rattle.nv_events.specs.declared.io_fault.IoFault.{IoFault}
 use Rattle.nv_events.specs.declared.io_fault.IoFault.TheVariants.{ReadFault, WriteFault}
 use Rattle.nv_events.specs.declared.outcome.Outcome.{Outcome}
 use Rattle.nv_outside.specs.Files.{Files, Finds, SameFiles}
 use Rattle.unix_system.specs.System.{System}
+use Rattle.unix_system.specs.Unix.{start, reply}
 use Rattle.unix_calls.specs.Serving.{Parts, parts}
 use Rattle.unix_calls.specs.Held.{Held}
 use Rattle.unix_calls.specs.Starting.{Begins}
@@ -33,7 +37,7 @@ use Rattle.nested_cli.specs.Deeds.{World, Due, Deed, plays, Stays, Works, Comes,
 use Rattle.nested_cli.specs.Refusals.{EndsElf, EndsImage}
 use Rattle.nested_cli.specs.Guest.{NamedFile, IsDueOfSession, IsDueByArgs, IsDueByFiles, arguments_of, too_long, found_for, played, kept_after, stop_of}
 use Rattle.nested_cli.specs.Sessions.{IsReadied}
-use Rattle.nested_cli.specs.Interp.{Plan, IsDueByElf, IsDueByImage, IsDueOfImage, IsDueOfInterp, source_of}
+use Rattle.nested_cli.specs.Interp.{Plan, IsDueByElf, IsDueByImage, IsDueOfImage, IsDueOfInterp, guest_run, source_of}
 use Rattle.nested_cli.proofs.DeedLemmas.{same_files, stays_then_comes, answers_due, stops_early, due_as, works_more}
 
 -- told files that stay are the same files
@@ -118,3 +122,17 @@ found_guest plan file this F input w v ended same comes = subst (λ f. IfSome F 
 pub no_guest : (plan : Plan) (F : Option Files) (input : List ℕ) (w : World) → IfSome F (λ files. Comes (IsDueOfInterp plan files input None) w w (Ok (Done.NoInput plan.word)))
 no_guest plan None input w = tt
 no_guest plan (Some files) input w = answers_due (IsDueOfInterp plan files input None) (Done.NoInput plan.word) w refl
+
+-- a guest's run that ended, and the files kept then
+pub guest_plays : (plan : Plan) (source : Source) (found : List NamedFile) (rest : List ℕ) (s now : State) (k : System) (old new : Held) (F F' : Option Files) (r r' o o' e e' : Option (List ℕ)) (outcome : Outcome) (ended : Result Done Stop) → s ≡ start_of (image_of source) → k ≡ start plan.session.disk plan.moment found (arguments_of plan.name plan.session) rest → Plays (run_of turn reply plan.session.steps s k) now (parts old r o e) (parts new r' o' e') outcome → length new.ahead ≤ 4096 → Works (kept_after outcome new.files plan.session.keep.names) (world F r' o' e') (world F' r' o' e') ended → Comes (IsDueOfImage plan source rest found) (world F r o e) (world F' r' o' e') ended
+guest_plays plan source found rest s now k old new F F' r r' o o' e e' outcome ended begins system ran few works =
+    let from : Plays (run_of turn reply plan.session.steps (start_of (image_of source)) k) now (parts old r o e) (parts new r' o' e') outcome = subst (λ x. Plays (run_of turn reply plan.session.steps x k) now (parts old r o e) (parts new r' o' e') outcome) begins ran in
+    let whole : Plays (guest_run plan source found rest) now (parts old r o e) (parts new r' o' e') outcome = subst (λ x. Plays (run_of turn reply plan.session.steps (start_of (image_of source)) x) now (parts old r o e) (parts new r' o' e') outcome) system from in
+    inr (played (guest_run plan source found rest) plan.session.keep.names, refl, played_works (guest_run plan source found rest) now old new F F' r r' o o' e e' outcome plan.session.keep.names ended whole few works)
+
+-- a guest's run in which the outside failed
+pub guest_falls : (plan : Plan) (source : Source) (found : List NamedFile) (rest : List ℕ) (s : State) (k : System) (old new : Held) (F : Option Files) (r r' o o' e e' : Option (List ℕ)) (fault : IoFault) (ended : Result Done Stop) → s ≡ start_of (image_of source) → k ≡ start plan.session.disk plan.moment found (arguments_of plan.name plan.session) rest → Falls (run_of turn reply plan.session.steps s k) (parts old r o e) (parts new r' o' e') → ended ≡ Err (stop_of fault) → Comes (IsDueOfImage plan source rest found) (world F r o e) (world F r' o' e') ended
+guest_falls plan source found rest s k old new F r r' o o' e e' fault ended begins system fell is =
+    let from : Falls (run_of turn reply plan.session.steps (start_of (image_of source)) k) (parts old r o e) (parts new r' o' e') = subst (λ x. Falls (run_of turn reply plan.session.steps x k) (parts old r o e) (parts new r' o' e')) begins fell in
+    let whole : Falls (guest_run plan source found rest) (parts old r o e) (parts new r' o' e') = subst (λ x. Falls (run_of turn reply plan.session.steps (start_of (image_of source)) x) (parts old r o e) (parts new r' o' e')) system from in
+    rw is (inr (played (guest_run plan source found rest) plan.session.keep.names, refl, fallen_works (guest_run plan source found rest) old new F r r' o o' e e' fault plan.session.keep.names whole))

@@ -5,6 +5,8 @@ mod asm;
 mod done;
 mod go;
 mod guest;
+#[cfg(test)]
+mod guest_tests;
 mod hexadecimal;
 mod interp;
 mod line;

@@ -1,4 +1,7 @@
-use Rattle.nested_cli.proofs.CommandLemmas.{unbuilt}
+use Rattle.std.specs.Prelude.{IfSome}
+use Rattle.nested_cli.specs.Deeds.{Comes, world}
+use Rattle.nested_cli.specs.Interp.{IsDueOfInterp}
+use Rattle.nested_cli.proofs.CommandLemmas.{told_input, unbuilt}
 use Rattle.nested_cli.proofs.program.perform_command.Goals as goal
 
 pub returns-in-Go-clause-comes : goal.returns-in-Go-clause-comes
@@ -21,3 +24,14 @@ returns-in-Verify-clause-comes g c = λ known. rw c.in-Verify.is (unbuilt _ _)
 
 pub returns-in-Make-clause-comes : goal.returns-in-Make-clause-comes
 returns-in-Make-clause-comes g c = λ known. rw c.in-Make.is (unbuilt _ _)
+
+pub returns-in-Interp-clause-comes : goal.returns-in-Interp-clause-comes
+returns-in-Interp-clause-comes g c =
+    rw c.in-Interp.is (λ known.
+    told_input (g.S.Source.rest c.args.input.now)
+    (λ rest. IfSome (g.H.Shelf.files c.args.shelf.now) (λ files. Comes
+    (IsDueOfInterp (record { word = c.in-Interp.file.word; name = c.in-Interp.name; pages = c.in-Interp.pages; session = c.in-Interp.session; moment = c.args.moment }) files rest (files c.in-Interp.file.text))
+    (world (g.H.Shelf.files c.args.shelf.now) (g.S.Source.rest c.args.input.now) (g.O.Sink.taken c.args.out.now) (g.E.Sink.taken c.args.err.now))
+    (world (g.H.Shelf.files c.interp.new.shelf) (g.S.Source.rest c.interp.new.input) (g.O.Sink.taken c.interp.new.out) (g.E.Sink.taken c.interp.new.err))
+    c.interp.result))
+    (λ rest told. rw (← c.as_str-in-Interp.ensures, ← c.as_str-in-Interp-2.ensures) (c.interp.ensures.comes rest told)) known)
