@@ -1,5 +1,5 @@
 -- What a command that runs a guest is to do: its arguments and files, its run, and the files that are kept.
-use Rattle.std.specs.Prelude.{◌≡◌, ℕ, nat_lt, if◌then◌else◌, List, [], ◌∷◌, ◌++◌, Option, Some, None, Result, Ok, Err}
+use Rattle.std.specs.Prelude.{◌≡◌, ℕ, nat_lt, if◌then◌else◌, List, [], ◌∷◌, ◌++◌, map, Option, Some, None, Result, Ok, Err}
 use Rattle.command_words.specs.Word.{Text}
 use Rattle.command_words.specs.declared.session.Session.{Session}
 use Rattle.nv_events.specs.declared.outcome.Outcome.{Outcome}
@@ -12,7 +12,7 @@ use Rattle.unix_system.specs.System.{System}
 use Rattle.unix_system.specs.Unix.{blocks_needed}
 use Rattle.nested_cli.specs.declared.done.Done.{Done}
 use Rattle.nested_cli.specs.declared.done.Done.TheVariants as done
-use Rattle.nested_cli.specs.Deeds.{Due, Deed, stores, plays, answers}
+use Rattle.nested_cli.specs.Deeds.{Due, Deed, prepares, stores, plays, answers}
 
 -- a file's name and bytes
 abbrev pub NamedFile : Type 0
@@ -42,13 +42,14 @@ files_for files blocks word found (name ∷ names) = elim (files name) [
 abbrev pub found_for : Files → Session → Result (List NamedFile) Done
 found_for files session = files_for files session.disk session.with.word [] session.with.names
 
+-- keeping one file of a guest, if it has one of this name
+abbrev pub keeps : GuestFiles → Text → Option ℕ → Deed
+keeps files name None = prepares
+keeps files name (Some n) = stores name (bytes_at files n)
+
 -- the files of a guest that are kept, of these names, those that it has
 abbrev pub kept : GuestFiles → List Text → List Deed
-kept files [] = []
-kept files (name ∷ names) = elim (node_named files name) [
-  | None ↦ kept files names
-  | Some n ↦ stores name (bytes_at files n) ∷ kept files names
-]
+kept files names = map (λ name. keeps files name (node_named files name)) names
 
 -- the answer of a run. A run over this system does not wait.
 abbrev pub answer_of : Outcome → Done
