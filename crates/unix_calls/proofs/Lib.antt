@@ -6,3 +6,4 @@ pub mod HeldLemmas
 pub mod JoinedLemmas
 pub mod ReadGiven
 pub mod WriteGiven
+pub mod StartLemmas

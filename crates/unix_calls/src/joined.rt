@@ -1,4 +1,4 @@
-ghost use Rattle.std.specs.Prelude.{◌≡◌, true};
+ghost use Rattle.std.specs.Prelude.{◌≡◌, ◌≤◌, true, length};
 ghost use Rattle.unix_system.specs.System.{System};
 ghost use Rattle.unix_system.specs.Unix.{unix, reply};
 ghost use Rattle.unix_calls.specs.Serving.{parts, told_by, Goes, Fell, counted, AsSome};
@@ -39,7 +39,7 @@ impl<'a, S: Source, O: Sink, E: Sink> Server for Joined<'a, S, O, E> {
 
     ghost faults = { λ j. counted (S.faults j.source.now) (O.faults j.out.now) (E.faults j.err.now) };
 
-    ghost keeps = { λ j k. (k.unix.ghost_name ≡ j.unix.ghost_name) × (k.source.ghost_name ≡ j.source.ghost_name) × (k.out.ghost_name ≡ j.out.ghost_name) × (k.err.ghost_name ≡ j.err.ghost_name) };
+    ghost keeps = { λ j k. (k.unix.ghost_name ≡ j.unix.ghost_name) × (k.source.ghost_name ≡ j.source.ghost_name) × (k.out.ghost_name ≡ j.out.ghost_name) × (k.err.ghost_name ≡ j.err.ghost_name) × (length j.unix.now.ahead ≤ 4096 → length k.unix.now.ahead ≤ 4096) };
 
     fn serve<M: View>(&mut self, call: &Call, view: &mut M) -> Result<Option<i32>, IoFault> {
         let answer = self.unix.serve(call, view, self.source, self.out, self.err);
@@ -50,9 +50,9 @@ impl<'a, S: Source, O: Sink, E: Sink> Server for Joined<'a, S, O, E> {
 
     ghost held_as_told = { λ j k q s w h. absurd h };
 
-    ghost keeps_itself = { λ j. (refl, refl, refl, refl) };
+    ghost keeps_itself = { λ j. (refl, refl, refl, refl, λ h. h) };
 
-    ghost keeps_on = { λ i j k a b. (b.0 ∙ a.0, b.1 ∙ a.1, b.2 ∙ a.2, b.3 ∙ a.3) };
+    ghost keeps_on = { λ i j k a b. (b.0 ∙ a.0, b.1 ∙ a.1, b.2 ∙ a.2, b.3 ∙ a.3, λ h. b.4 (a.4 h)) };
 }
 
 /// An answer that is there.

@@ -1,4 +1,4 @@
-ghost use Rattle.std.specs.Prelude.{◌≡◌, ◌∷◌, [], List, ℕ, is_err, MatchOption, OnOk, OnErr, ◌==◌, length};
+ghost use Rattle.std.specs.Prelude.{◌≡◌, ◌≤◌, ◌∷◌, [], List, ℕ, is_err, MatchOption, OnOk, OnErr, ◌==◌, length};
 ghost use Rattle.std.specs.Io.KnownBytes.{Consumes, Keeps, IsAtEnd};
 ghost use Rattle.nv_outside.specs.Faults.{CountsFailure};
 ghost use Rattle.unix_calls.specs.Drawing.{DrawsByte};
@@ -44,6 +44,13 @@ impl ReadAhead {
             self.fill(source)?;
         }
         Ok(self.first())
+    }
+
+    /// There are at most 4,096 bytes. It does nothing.
+    pub fn is_short(&self)
+        ensures { length self.now ≤ 4096 }
+    {
+        let _ = &self.from;
     }
 
     fn is_empty(&self) -> bool

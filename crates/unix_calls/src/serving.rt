@@ -1,6 +1,6 @@
 //! How calls are served: one method for each group of them, and the choice between the groups.
 
-ghost use Rattle.std.specs.Prelude.{◌≡◌, ◌≢◌, ◌≤◌, ℕ, List, Option};
+ghost use Rattle.std.specs.Prelude.{◌≡◌, ◌≢◌, ◌≤◌, ℕ, List, Option, length};
 ghost use Rattle.nv_events.specs.Question.{asked};
 ghost use Rattle.nv_events.specs.Serving.{Causes, NoneFalls, Counts};
 ghost use Rattle.unix_system.specs.Unix.{unix};
@@ -103,6 +103,28 @@ impl Unix {
         as_fault(answer, IoFault::WriteFault)
     }
 
+    /// The choice between the groups.
+    fn serve_call<M: View, S: Source, O: Sink, E: Sink>(
+        &mut self,
+        call: &Call,
+        view: &mut M,
+        source: &mut S,
+        out: &mut O,
+        err: &mut E,
+    ) -> Result<i32, IoFault>
+        ensures served { Serves M.put_at (λ s. unix s (asked call.now (M.memory (M.content view.old)))) (asked call.now (M.memory (M.content view.old))).room (parts self.old (S.rest source.old) (O.taken out.old) (E.taken err.old)) (parts self.new (S.rest source.new) (O.taken out.new) (E.taken err.new)) (M.content view.old) (M.content view.new) result }
+        ensures causes { Causes (counted (S.faults source.old) (O.faults out.old) (E.faults err.old)) (counted (S.faults source.new) (O.faults out.new) (E.faults err.new)) result }
+        ensures none_falls { NoneFalls (counted (S.faults source.old) (O.faults out.old) (E.faults err.old)) (counted (S.faults source.new) (O.faults out.new) (E.faults err.new)) }
+    {
+        match call.number {
+            0 => self.serve_begin(call, view),
+            4 => self.serve_read(call, view, source),
+            5 => self.serve_write(call, view, out, err),
+            8 => self.serve_status(call, view),
+            _ => self.serve_quiet(call, view),
+        }
+    }
+
     /// Answers a call of the program by the definition of the system.
     ///
     /// `source` is the program's input, of which at most 4,096 bytes are read ahead; `out` and `err` are its output and error output. It
@@ -123,13 +145,10 @@ impl Unix {
         ensures served { Serves M.put_at (λ s. unix s (asked call.now (M.memory (M.content view.old)))) (asked call.now (M.memory (M.content view.old))).room (parts self.old (S.rest source.old) (O.taken out.old) (E.taken err.old)) (parts self.new (S.rest source.new) (O.taken out.new) (E.taken err.new)) (M.content view.old) (M.content view.new) result }
         ensures causes { Causes (counted (S.faults source.old) (O.faults out.old) (E.faults err.old)) (counted (S.faults source.new) (O.faults out.new) (E.faults err.new)) result }
         ensures none_falls { NoneFalls (counted (S.faults source.old) (O.faults out.old) (E.faults err.old)) (counted (S.faults source.new) (O.faults out.new) (E.faults err.new)) }
+        ensures ahead { length self.new.ahead ≤ 4096 }
     {
-        match call.number {
-            0 => self.serve_begin(call, view),
-            4 => self.serve_read(call, view, source),
-            5 => self.serve_write(call, view, out, err),
-            8 => self.serve_status(call, view),
-            _ => self.serve_quiet(call, view),
-        }
+        let answer = self.serve_call(call, view, source, out, err);
+        self.ahead.is_short();
+        answer
     }
 }

@@ -1,5 +1,5 @@
-ghost use Rattle.std.specs.Prelude.{◌≡◌, ◌≤◌, ◌<◌, ◌++◌, ◌∷◌, [], ℕ, List, Option, Some, IfOk, OnOk, OnErr, Ok, Err, length, ◌≢◌, false};
-ghost use Rattle.unix_files.specs.Files.{Files, node_named, bytes_at};
+ghost use Rattle.std.specs.Prelude.{◌-◌, ◌≡◌, ◌≤◌, ◌<◌, ◌++◌, ◌∷◌, [], ℕ, List, Option, Some, IfOk, OnOk, OnErr, Ok, Err, length, ◌≢◌, false};
+ghost use Rattle.unix_files.specs.Files.{blocks_for};
 ghost use Rattle.unix_system.specs.Calls.{block_length};
 ghost use Rattle.unix_system.specs.Unix.{blocks_needed};
 ghost use Rattle.unix_calls.specs.Held.{Held};
@@ -38,7 +38,7 @@ impl Model for Unix {
 
     ghost view = { λ u. record { files = u.disk; blocks = u.blocks; opened = u.opened; heap = u.heap; args = u.args; moment = u.moment; order = u.order; ahead = u.ahead } };
 
-    ghost invariant = { λ u. (u.heap.program_break ≤ u.heap.end) × (u.heap.end ≤ 0x7FFFFFFF) };
+    ghost invariant = { λ u. (u.heap.program_break ≤ u.heap.end) × (u.heap.end ≤ 0x7FFFFFFF) × (u.blocks ≤ 65536) };
 }
 
 impl Unix {
@@ -58,6 +58,38 @@ impl Unix {
             order: Order::Big,
             ahead: ReadAhead::new(),
         })
+    }
+
+    /// Adds a file. It takes no memory, and changes nothing where it answers an error.
+    ///
+    /// # Errors
+    ///
+    /// `FilesTooLarge` where the files so far need more blocks with this one than there are.
+    pub fn add_file(&mut self, name: &[u8], bytes: &[u8]) -> Result<(), UnixError>
+        requires begins { IsOpenToFiles self.old }
+        requires short { length name.now ≤ 255 }
+        ensures added { (blocks moment : ℕ) (files : List (List ℕ × List ℕ)) (args : List (List ℕ)) → Begins self.old blocks moment files args → OnOk result (Begins self.new blocks moment (files ++ (name.now, bytes.now) ∷ []) args) }
+        ensures unchanged { OnErr result (self.new ≡ self.old) }
+        ensures too_large { (blocks moment : ℕ) (files : List (List ℕ × List ℕ)) (args : List (List ℕ)) → Begins self.old blocks moment files args → OnErr result ((result ≡ Err (UnixError.FilesTooLarge (blocks_needed (files ++ (name.now, bytes.now) ∷ [])))) × (blocks < blocks_needed (files ++ (name.now, bytes.now) ∷ []))) }
+    {
+        let needed = self.used_blocks() + blocks_of(bytes);
+        if needed > u64::from(self.blocks) {
+            return Err(UnixError::FilesTooLarge(needed));
+        }
+        let Some(n) = self.disk.unused() else {
+            unreachable!()
+        };
+        self.disk.set_name(n, name);
+        self.disk.write(n, 0, bytes);
+        Ok(())
+    }
+
+    /// How many blocks files use.
+    fn used_blocks(&self) -> u64
+        requires { self.now.files.free ≤ self.now.blocks }
+        ensures { result ≡ self.now.blocks - self.now.files.free }
+    {
+        u64::from(self.blocks) - u64::from(self.disk.free())
     }
 
     /// Adds an argument. It changes nothing where it answers an error.
@@ -94,4 +126,11 @@ fn no_heap() -> Heap
         end: 0,
         program_break: 0,
     }
+}
+
+/// How many blocks these bytes need.
+fn blocks_of(bytes: &[u8]) -> u64
+    ensures { result ≡ blocks_for (length bytes.now) }
+{
+    (bytes.len() as u64 + 4095) / 4096
 }

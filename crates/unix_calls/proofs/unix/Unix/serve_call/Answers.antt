@@ -1,5 +1,5 @@
 use Rattle.unix_calls.specs.Serving.{counted}
-use Rattle.unix_calls.proofs.unix.Unix.serve.Goals as goal
+use Rattle.unix_calls.proofs.unix.Unix.serve_call.Goals as goal
 
 pub returns-in-0-clause-served : goal.returns-in-0-clause-served
 returns-in-0-clause-served g c = c.serve_begin.ensures.served (g.S.Source.rest c.args.source.now) (g.O.Sink.taken c.args.out.now) (g.E.Sink.taken c.args.err.now)
