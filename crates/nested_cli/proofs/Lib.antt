@@ -3,3 +3,4 @@ pub mod PieceLemmas
 pub mod ListingLemmas
 pub mod AnswerLemmas
 pub mod AssemblyLemmas
+pub mod SessionLemmas

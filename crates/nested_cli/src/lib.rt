@@ -4,12 +4,15 @@
 mod asm;
 mod done;
 mod go;
+mod halt;
 mod hexadecimal;
 mod line;
 mod list;
 mod load;
 mod program;
+mod readied;
 mod refusals;
+mod session;
 mod stop;
 mod store;
 #[cfg(test)]
@@ -17,3 +20,4 @@ mod tests;
 
 pub use done::Done;
 pub use program::nested;
+pub use session::ready;
