@@ -55,14 +55,14 @@ abbrev failed : UnixError → Result (Unit {0}) UnixError
 failed error = Err error
 
 pub argument_refused : (error : UnixError) (old new : Held) (text : Text) (blocks moment : ℕ) (files : List NamedFile) (args : List Text) → ((n : ℕ) → failed error ≡ failed (unix.ArgsTooLong n) → (n ≡ block_length (old.args ++ text ∷ [])) × (4096 < n)) → ((n : ℕ) → failed error ≡ failed (unix.FilesTooLarge n) → ⊥) → Begins old blocks moment files args → ArgsOr blocks moment files args (text ∷ []) new (Err (halt_of error))
-argument_refused (unix.ArgsTooLong n) old new text blocks moment files args long no b =
+argument_refused (unix.ArgsTooLong n) old new text blocks moment files args long never b =
     let e : old.args ≡ args = ap (λ h. h.args) b.is in
     let p = long n refl in
     let q : n ≡ block_length (args ++ text ∷ []) = p.0 ∙ ap (λ a. block_length (a ++ text ∷ [])) e in
     let over : 4096 < block_length (args ++ text ∷ []) = subst (λ m. 4096 < m) q p.1 in
     (n, if_yes (nat_lt 4096 (block_length (args ++ text ∷ []))) (Some (block_length (args ++ text ∷ []))) None (lt-ltb 4096 (block_length (args ++ text ∷ [])) over) ∙ ap (λ m. Some m) (sym q), refl)
-argument_refused (unix.FilesTooLarge n) old new text blocks moment files args long no b = absurd (no n refl)
-argument_refused unix.NoMemory old new text blocks moment files args long no b = refl
+argument_refused (unix.FilesTooLarge n) old new text blocks moment files args long never b = absurd (never n refl)
+argument_refused unix.NoMemory old new text blocks moment files args long never b = refl
 
 -- arguments after arguments
 too_long_next : (before : List Text) (t : Text) (rest : List Text) → nat_lt 4096 (block_length (before ++ t ∷ [])) ≡ false → too_long before (t ∷ rest) ≡ too_long (before ++ t ∷ []) rest
@@ -73,19 +73,19 @@ too_long_here before t rest e = if_yes (nat_lt 4096 (block_length (before ++ t �
 
 too_long_then : (before front rest : List Text) → too_long before front ≡ None → too_long before (front ++ rest) ≡ too_long (before ++ front) rest
 too_long_then before [] rest h = ap (λ b. too_long b rest) (sym (append-nil before))
-too_long_then before (t ∷ front) rest h = go (nat_lt 4096 (block_length (before ++ t ∷ []))) refl
+too_long_then before (t ∷ front) rest h = go (nat_lt 4096 (block_length (before ++ t ∷ []))) refl (λ q. too_long_then (before ++ t ∷ []) front rest q)
   where
-    go : (b : Bool) → nat_lt 4096 (block_length (before ++ t ∷ [])) ≡ b → too_long before (t ∷ (front ++ rest)) ≡ too_long (before ++ t ∷ front) rest
-    go true e = absurd (no_option (block_length (before ++ t ∷ [])) (sym h ∙ too_long_here before t front e))
-    go false e = too_long_next before t (front ++ rest) e ∙ (too_long_then (before ++ t ∷ []) front rest (sym (too_long_next before t front e) ∙ h) ∙ ap (λ a. too_long a rest) (append_assoc before (t ∷ []) front))
+    go : (b : Bool) → nat_lt 4096 (block_length (before ++ t ∷ [])) ≡ b → (too_long (before ++ t ∷ []) front ≡ None → too_long (before ++ t ∷ []) (front ++ rest) ≡ too_long ((before ++ t ∷ []) ++ front) rest) → too_long before (t ∷ (front ++ rest)) ≡ too_long (before ++ t ∷ front) rest
+    go true e more = absurd (no_option (block_length (before ++ t ∷ [])) (sym h ∙ too_long_here before t front e))
+    go false e more = too_long_next before t (front ++ rest) e ∙ (more (sym (too_long_next before t front e) ∙ h) ∙ ap (λ a. too_long a rest) (append_assoc before (t ∷ []) front))
 
 too_long_known : (before front rest : List Text) (n : ℕ) → too_long before front ≡ Some n → too_long before (front ++ rest) ≡ Some n
 too_long_known before [] rest n h = absurd (no_option n h)
-too_long_known before (t ∷ front) rest n h = go (nat_lt 4096 (block_length (before ++ t ∷ []))) refl
+too_long_known before (t ∷ front) rest n h = go (nat_lt 4096 (block_length (before ++ t ∷ []))) refl (λ q. too_long_known (before ++ t ∷ []) front rest n q)
   where
-    go : (b : Bool) → nat_lt 4096 (block_length (before ++ t ∷ [])) ≡ b → too_long before (t ∷ (front ++ rest)) ≡ Some n
-    go true e = too_long_here before t (front ++ rest) e ∙ (sym (too_long_here before t front e) ∙ h)
-    go false e = too_long_next before t (front ++ rest) e ∙ too_long_known (before ++ t ∷ []) front rest n (sym (too_long_next before t front e) ∙ h)
+    go : (b : Bool) → nat_lt 4096 (block_length (before ++ t ∷ [])) ≡ b → (too_long (before ++ t ∷ []) front ≡ Some n → too_long (before ++ t ∷ []) (front ++ rest) ≡ Some n) → too_long before (t ∷ (front ++ rest)) ≡ Some n
+    go true e more = too_long_here before t (front ++ rest) e ∙ (sym (too_long_here before t front e) ∙ h)
+    go false e more = too_long_next before t (front ++ rest) e ∙ more (sym (too_long_next before t front e) ∙ h)
 
 args_joined : (blocks moment : ℕ) (files : List NamedFile) (args front rest : List Text) (new : Held) (r : Result (Unit {0}) Halt) → too_long args front ≡ None → ArgsOr blocks moment files (args ++ front) rest new r → ArgsOr blocks moment files args (front ++ rest) new r
 args_joined blocks moment files args front rest new (Ok done) e q = (too_long_then args front rest e ∙ q.0, subst (λ a. Begins new blocks moment files a) (append_assoc args front rest) q.1)
@@ -114,13 +114,13 @@ args_stopped name xs k old new h p =
 
 -- one file
 no_file : (f : Files) (blocks word : ℕ) (found : List NamedFile) (name : Text) (rest : List Text) → f name ≡ None → files_for f blocks word found (name ∷ rest) ≡ Err (Done.NoInput word)
-no_file f blocks word found name rest e = rw e refl
+no_file f blocks word found name rest e = rw (e, files_for) refl
 
 next_file : (f : Files) (blocks word : ℕ) (found : List NamedFile) (name : Text) (bytes : List ℕ) (rest : List Text) → f name ≡ Some bytes → nat_lt blocks (blocks_needed (found ++ (name, bytes) ∷ [])) ≡ false → files_for f blocks word found (name ∷ rest) ≡ files_for f blocks word (found ++ (name, bytes) ∷ []) rest
-next_file f blocks word found name bytes rest e t = rw e (if_no (nat_lt blocks (blocks_needed (found ++ (name, bytes) ∷ []))) (Err (Done.FilesTooLarge (blocks_needed (found ++ (name, bytes) ∷ [])))) (files_for f blocks word (found ++ (name, bytes) ∷ []) rest) t)
+next_file f blocks word found name bytes rest e t = rw (e, files_for) (if_no (nat_lt blocks (blocks_needed (found ++ (name, bytes) ∷ []))) (Err (Done.FilesTooLarge (blocks_needed (found ++ (name, bytes) ∷ [])))) (files_for f blocks word (found ++ (name, bytes) ∷ []) rest) t)
 
 full_file : (f : Files) (blocks word : ℕ) (found : List NamedFile) (name : Text) (bytes : List ℕ) (rest : List Text) → f name ≡ Some bytes → nat_lt blocks (blocks_needed (found ++ (name, bytes) ∷ [])) ≡ true → files_for f blocks word found (name ∷ rest) ≡ Err (Done.FilesTooLarge (blocks_needed (found ++ (name, bytes) ∷ [])))
-full_file f blocks word found name bytes rest e t = rw e (if_yes (nat_lt blocks (blocks_needed (found ++ (name, bytes) ∷ []))) (Err (Done.FilesTooLarge (blocks_needed (found ++ (name, bytes) ∷ [])))) (files_for f blocks word (found ++ (name, bytes) ∷ []) rest) t)
+full_file f blocks word found name bytes rest e t = rw (e, files_for) (if_yes (nat_lt blocks (blocks_needed (found ++ (name, bytes) ∷ []))) (Err (Done.FilesTooLarge (blocks_needed (found ++ (name, bytes) ∷ [])))) (files_for f blocks word (found ++ (name, bytes) ∷ []) rest) t)
 
 found_one : (shelf : Option Files) (word blocks : ℕ) (found : List NamedFile) (name bytes : List ℕ) → IfSome shelf (λ files. files name ≡ Some bytes) → blocks_needed (found ++ (name, bytes) ∷ []) ≤ blocks → IfSome shelf (λ files. files_for files blocks word found (name ∷ []) ≡ Ok (found ++ (name, bytes) ∷ []))
 found_one None word blocks found name bytes e fits = tt
@@ -151,11 +151,11 @@ files_then : (f : Files) (blocks word : ℕ) (found : List NamedFile) (front res
 files_then f blocks word found [] rest next h =
     let e : found ≡ next = cc in
     ap (λ n. files_for f blocks word n rest) e
-files_then f blocks word found (name ∷ front) rest next h = go (f name) refl
+files_then f blocks word found (name ∷ front) rest next h = go (f name) refl (λ bytes q. files_then f blocks word (found ++ (name, bytes) ∷ []) front rest next q)
   where
-    go : (o : Option (List ℕ)) → f name ≡ o → files_for f blocks word found (name ∷ (front ++ rest)) ≡ files_for f blocks word next rest
-    go None e = absurd (err_ok (Done.NoInput word) next (sym (no_file f blocks word found name front e) ∙ h))
-    go (Some bytes) e = then_file f blocks word found name bytes front rest next (nat_lt blocks (blocks_needed (found ++ (name, bytes) ∷ []))) e refl (λ q. files_then f blocks word (found ++ (name, bytes) ∷ []) front rest next q) h
+    go : (o : Option (List ℕ)) → f name ≡ o → ((bytes : List ℕ) → files_for f blocks word (found ++ (name, bytes) ∷ []) front ≡ Ok next → files_for f blocks word (found ++ (name, bytes) ∷ []) (front ++ rest) ≡ files_for f blocks word next rest) → files_for f blocks word found (name ∷ (front ++ rest)) ≡ files_for f blocks word next rest
+    go None e more = absurd (err_ok (Done.NoInput word) next (sym (no_file f blocks word found name front e) ∙ h))
+    go (Some bytes) e more = then_file f blocks word found name bytes front rest next (nat_lt blocks (blocks_needed (found ++ (name, bytes) ∷ []))) e refl (more bytes) h
 
 known_file : (f : Files) (blocks word : ℕ) (found : List NamedFile) (name : Text) (bytes : List ℕ) (front rest : List Text) (d : Done) (t : Bool) → f name ≡ Some bytes → nat_lt blocks (blocks_needed (found ++ (name, bytes) ∷ [])) ≡ t → (files_for f blocks word (found ++ (name, bytes) ∷ []) front ≡ Err d → files_for f blocks word (found ++ (name, bytes) ∷ []) (front ++ rest) ≡ Err d) → files_for f blocks word found (name ∷ front) ≡ Err d → files_for f blocks word found (name ∷ (front ++ rest)) ≡ Err d
 known_file f blocks word found name bytes front rest d true e t more h = full_file f blocks word found name bytes (front ++ rest) e t ∙ (sym (full_file f blocks word found name bytes front e t) ∙ h)
@@ -163,15 +163,15 @@ known_file f blocks word found name bytes front rest d false e t more h = next_f
 
 files_known : (f : Files) (blocks word : ℕ) (found : List NamedFile) (front rest : List Text) (d : Done) → files_for f blocks word found front ≡ Err d → files_for f blocks word found (front ++ rest) ≡ Err d
 files_known f blocks word found [] rest d h = absurd (err_ok d found (sym h))
-files_known f blocks word found (name ∷ front) rest d h = go (f name) refl
+files_known f blocks word found (name ∷ front) rest d h = go (f name) refl (λ bytes q. files_known f blocks word (found ++ (name, bytes) ∷ []) front rest d q)
   where
-    go : (o : Option (List ℕ)) → f name ≡ o → files_for f blocks word found (name ∷ (front ++ rest)) ≡ Err d
-    go None e = no_file f blocks word found name (front ++ rest) e ∙ (sym (no_file f blocks word found name front e) ∙ h)
-    go (Some bytes) e = known_file f blocks word found name bytes front rest d (nat_lt blocks (blocks_needed (found ++ (name, bytes) ∷ []))) e refl (λ q. files_known f blocks word (found ++ (name, bytes) ∷ []) front rest d q) h
+    go : (o : Option (List ℕ)) → f name ≡ o → ((bytes : List ℕ) → files_for f blocks word (found ++ (name, bytes) ∷ []) front ≡ Err d → files_for f blocks word (found ++ (name, bytes) ∷ []) (front ++ rest) ≡ Err d) → files_for f blocks word found (name ∷ (front ++ rest)) ≡ Err d
+    go None e more = no_file f blocks word found name (front ++ rest) e ∙ (sym (no_file f blocks word found name front e) ∙ h)
+    go (Some bytes) e more = known_file f blocks word found name bytes front rest d (nat_lt blocks (blocks_needed (found ++ (name, bytes) ∷ []))) e refl (more bytes) h
 
 -- the files of a shelf that has not changed
 file_same : (f f' : Files) (blocks word : ℕ) (found : List NamedFile) (name : Text) (r : Result (List NamedFile) Done) → f' name ≡ f name → files_for f' blocks word found (name ∷ []) ≡ r → files_for f blocks word found (name ∷ []) ≡ r
-file_same f f' blocks word found name r e q = rw (sym e) q
+file_same f f' blocks word found name r e q = rw (sym e, files_for) q
 
 file_from_same : (F F' : Option Files) (word blocks moment : ℕ) (found : List NamedFile) (args : List Text) (name : Text) (new : Held) (r : Result (Unit {0}) Halt) → SameFiles F F' → FilesOr F' word blocks moment found args (name ∷ []) new r → FilesOr F word blocks moment found args (name ∷ []) new r
 file_from_same None F' word blocks moment found args name new (Ok done) same q = (q.0, q.1, q.2, tt)

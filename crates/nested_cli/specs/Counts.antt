@@ -1,5 +1,6 @@
 -- Which answers say that a call of the outside failed.
-use Rattle.std.specs.Prelude.{Bool, true, false, Result, Ok, Err}
+use Rattle.std.specs.Prelude.{◌≡◌, ◌⊎◌, Bool, true, false, Result, Ok, Err}
+use Rattle.nv_events.specs.Serving.{Counts, Rose}
 use Rattle.nested_cli.specs.declared.done.Done.{Done}
 use Rattle.nested_cli.specs.declared.done.Done.TheVariants as done
 use Rattle.nested_cli.specs.declared.stop.Stop.{Stop}
@@ -54,3 +55,11 @@ is_stop done.WriteFault = true
 is_stop done.ShelfFault = true
 is_stop done.NoMemory = true
 is_stop done.NotBuilt = false
+
+-- What an end says of the counts of faults of input, output and error output: they are as before, or one of the fault's own rose.
+abbrev pub StreamCauses : Counts → Counts → Result Done Stop → Type 0
+StreamCauses old new (Ok answer) = new ≡ old
+StreamCauses old new (Err ReadFault) = Rose old.input new.input
+StreamCauses old new (Err WriteFault) = Rose old.output new.output ⊎ Rose old.error new.error
+StreamCauses old new (Err ShelfFault) = new ≡ old
+StreamCauses old new (Err NoMemory) = new ≡ old

@@ -1,6 +1,6 @@
 -- What a command is to do, deed by deed, and what is left of it where it was stopped.
-use Rattle.std.specs.Prelude.{◌≡◌, ◌≢◌, ℕ, ◌+◌, ◌≤◌, ◌⊎◌, List, [], ◌∷◌, drop, Option, Some, None, Result, Ok, Err, ⊤}
-use Rattle.std.specs.Io.KnownBytes.{Appends}
+use Rattle.std.specs.Prelude.{◌≡◌, ◌≢◌, ℕ, ◌≤◌, ◌⊎◌, List, [], ◌∷◌, ◌++◌, length, Option, Some, None, Result, Ok, Err, unwrap_or}
+use Rattle.std.specs.Io.KnownBytes.{Appends, Consumes}
 use Rattle.nv_outside.specs.Files.{Files, SameFiles, OthersStay, SetsFile}
 use Rattle.nv_outside.specs.Gains.{AppendsPart}
 use Rattle.nested_cli.specs.declared.done.Done.{Done}
@@ -24,25 +24,26 @@ pub data Deed : Type 0 where
   stores : List ℕ → List ℕ → Deed
   -- a text is written to output
   prints : List ℕ → Deed
-  -- a guest runs: it reads so many bytes of input, and writes these to output and error output
-  plays : ℕ → List ℕ → List ℕ → Deed
+  -- a guest runs: it leaves this of input, and writes these to output and error output
+  plays : List ℕ → List ℕ → List ℕ → Deed
 
 -- the deeds of a command in their order, and its answer
 pub record Due : Type 0 where
   pub deeds : List Deed
   pub answer : Done
 
--- Input lost the bytes that a guest read, and at most 4,096 more that were read ahead.
-abbrev pub LosesRead : Option (List ℕ) → Option (List ℕ) → ℕ → Type 0
-LosesRead None new n = ⊤
-LosesRead (Some old) None n = ⊥
-LosesRead (Some old) (Some new) n = (k : ℕ) × (n ≤ k) × (k ≤ n + 4096) × (new ≡ drop k old)
+-- Input lost what a guest read, and at most 4,096 bytes more that were read ahead: this is left of what it had.
+pub record LosesRead (old new : Option (List ℕ)) (left : List ℕ) : Type 0 where
+  pub got : List ℕ
+  pub ahead : List ℕ
+  pub lost : Consumes old new got
+  pub is : left ≡ ahead ++ unwrap_or new []
+  pub few : length ahead ≤ 4096
 
 -- input lost a front part
-abbrev pub LosesFront : Option (List ℕ) → Option (List ℕ) → Type 0
-LosesFront None new = ⊤
-LosesFront (Some old) None = ⊥
-LosesFront (Some old) (Some new) = (k : ℕ) × (new ≡ drop k old)
+pub record LosesFront (old new : Option (List ℕ)) : Type 0 where
+  pub got : List ℕ
+  pub lost : Consumes old new got
 
 abbrev pub Stays : World → World → Type 0
 Stays w v = SameFiles w.files v.files × (v.rest ≡ w.rest) × (v.out ≡ w.out) × (v.err ≡ w.err)
@@ -52,7 +53,7 @@ abbrev pub DoesDeed : Deed → World → World → Type 0
 DoesDeed prepares w v = Stays w v
 DoesDeed (stores name bytes) w v = SetsFile w.files v.files name bytes × (v.rest ≡ w.rest) × (v.out ≡ w.out) × (v.err ≡ w.err)
 DoesDeed (prints text) w v = SameFiles w.files v.files × (v.rest ≡ w.rest) × Appends w.out v.out text × (v.err ≡ w.err)
-DoesDeed (plays n out err) w v = SameFiles w.files v.files × LosesRead w.rest v.rest n × Appends w.out v.out out × Appends w.err v.err err
+DoesDeed (plays left out err) w v = SameFiles w.files v.files × LosesRead w.rest v.rest left × Appends w.out v.out out × Appends w.err v.err err
 
 -- Nothing is stored for want of memory; where the shelf failed, the file may hold anything.
 abbrev pub StopsStore : Option Files → Option Files → List ℕ → Stop → Type 0
@@ -66,7 +67,7 @@ StopsDeed (stores name bytes) w v stop =
 StopsDeed (prints text) w v stop =
     SameFiles w.files v.files × (v.rest ≡ w.rest) × AppendsPart w.out v.out text × (v.err ≡ w.err)
     × ((stop ≡ WriteFault) ⊎ (stop ≡ NoMemory))
-StopsDeed (plays n out err) w v stop =
+StopsDeed (plays left out err) w v stop =
     SameFiles w.files v.files × LosesFront w.rest v.rest × AppendsPart w.out v.out out × AppendsPart w.err v.err err
     × ((stop ≡ ReadFault) ⊎ (stop ≡ WriteFault))
 

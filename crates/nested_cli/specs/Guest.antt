@@ -4,6 +4,8 @@ use Rattle.command_words.specs.Word.{Text}
 use Rattle.command_words.specs.declared.session.Session.{Session}
 use Rattle.nv_events.specs.declared.outcome.Outcome.{Outcome}
 use Rattle.nv_events.specs.declared.outcome.Outcome.TheVariants.{Exited, Faulted, Trapped, Waiting, Going}
+use Rattle.nv_events.specs.declared.io_fault.IoFault.{IoFault}
+use Rattle.nv_events.specs.declared.io_fault.IoFault.TheVariants.{ReadFault, WriteFault}
 use Rattle.nv_events.specs.Run.{Run}
 use Rattle.nv_outside.specs.Files.{Files}
 use Rattle.unix_files.specs.Files.{Files as GuestFiles, bytes_at, node_named}
@@ -12,6 +14,8 @@ use Rattle.unix_system.specs.System.{System}
 use Rattle.unix_system.specs.Unix.{blocks_needed}
 use Rattle.nested_cli.specs.declared.done.Done.{Done}
 use Rattle.nested_cli.specs.declared.done.Done.TheVariants as done
+use Rattle.nested_cli.specs.declared.stop.Stop.{Stop}
+use Rattle.nested_cli.specs.declared.stop.Stop.TheVariants as stop
 use Rattle.nested_cli.specs.Deeds.{Due, Deed, prepares, stores, plays, answers}
 
 -- a file's name and bytes
@@ -58,6 +62,14 @@ answer_of (Faulted f) = done.Faulted f
 answer_of (Trapped k) = done.NotBuilt
 answer_of Waiting = done.NotBuilt
 answer_of Going = done.Spent
+
+abbrev pub stop_of : IoFault → Stop
+stop_of ReadFault = stop.ReadFault
+stop_of WriteFault = stop.WriteFault
+
+-- what is to be done after a run
+abbrev pub kept_after : Outcome → GuestFiles → List Text → Due
+kept_after outcome files keep = record { deeds = kept files keep; answer = answer_of outcome }
 
 -- a run's work: its console, then the files that are kept
 abbrev pub played : {S : Type 0} → Run S System → List Text → Due

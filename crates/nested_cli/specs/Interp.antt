@@ -17,40 +17,44 @@ use Rattle.nv_events.specs.Run.{Run, run_of}
 use Rattle.nv_outside.specs.Files.{Files}
 use Rattle.unix_system.specs.System.{System}
 use Rattle.unix_system.specs.Unix.{start, reply}
+use Rattle.nested_cli.specs.declared.guest.Guest.{Guest}
 use Rattle.nested_cli.specs.declared.done.Done.TheVariants.{NoInput, ElfRefused, ImageRefused}
 use Rattle.nested_cli.specs.Deeds.{Due, answers}
 use Rattle.nested_cli.specs.Guest.{NamedFile, IsDueOfSession, arguments_of, played}
 
--- what a command says of a guest's run
-pub record Guest : Type 0 where
+-- what the words and the clock say of a guest's run
+pub record Plan : Type 0 where
   pub word : ℕ
   pub name : Text
   pub pages : Pages
   pub session : Session
   pub moment : ℕ
 
-abbrev pub source_of : Guest → List ℕ → Source
-source_of guest file = record { file = file; heap = guest.pages.heap; stack = guest.pages.stack }
+abbrev pub plan_of : Guest → Plan
+plan_of guest = record { word = guest.word; name = guest.name.now; pages = guest.pages; session = guest.session.now; moment = guest.moment }
 
--- the guest's run from its start over these files and this input
-abbrev pub guest_run : Guest → List ℕ → List NamedFile → List ℕ → Run State System
-guest_run guest file found input = run_of turn reply guest.session.steps (start_of (image_of (source_of guest file)))
-    (start guest.session.disk guest.moment found (arguments_of guest.name guest.session) input)
+abbrev pub source_of : Plan → List ℕ → Source
+source_of plan file = record { file = file; heap = plan.pages.heap; stack = plan.pages.stack }
 
-abbrev pub IsDueOfRun : Guest → List ℕ → List ℕ → List NamedFile → Due → Type 0
-IsDueOfRun guest file input found due = due ≡ played (guest_run guest file found input) guest.session.keep.names
+-- the run of an image from its start, over these files and this input
+abbrev pub guest_run : Plan → Source → List NamedFile → List ℕ → Run State System
+guest_run plan source found input = run_of turn reply plan.session.steps (start_of (image_of source))
+    (start plan.session.disk plan.moment found (arguments_of plan.name plan.session) input)
+
+abbrev pub IsDueOfImage : Plan → Source → List ℕ → List NamedFile → Due → Type 0
+IsDueOfImage plan source input found due = due ≡ played (guest_run plan source found input) plan.session.keep.names
 
 -- by the first check that the image fails, and by the first that the file fails
-abbrev pub IsDueByImage : Option ImageFault → Guest → Files → List ℕ → List ℕ → Due → Type 0
-IsDueByImage None guest files input file due = IsDueOfSession guest.name guest.session files (IsDueOfRun guest file input) due
-IsDueByImage (Some f) guest files input file due = due ≡ answers (ImageRefused f)
+abbrev pub IsDueByImage : Option ImageFault → Plan → Files → List ℕ → List ℕ → Due → Type 0
+IsDueByImage None plan files input file due = IsDueOfSession plan.name plan.session files (IsDueOfImage plan (source_of plan file) input) due
+IsDueByImage (Some f) plan files input file due = due ≡ answers (ImageRefused f)
 
-abbrev pub IsDueByElf : Option ElfFault → Guest → Files → List ℕ → List ℕ → Due → Type 0
-IsDueByElf None guest files input file due = (runs : List Range) × IsRunsOf (area file) runs
-    × IsDueByImage (image_fault file runs guest.pages.heap guest.pages.stack) guest files input file due
-IsDueByElf (Some f) guest files input file due = due ≡ answers (ElfRefused f)
+abbrev pub IsDueByElf : Option ElfFault → Plan → Files → List ℕ → List ℕ → Due → Type 0
+IsDueByElf None plan files input file due = (runs : List Range) × IsRunsOf (area file) runs
+    × IsDueByImage (image_fault file runs plan.pages.heap plan.pages.stack) plan files input file due
+IsDueByElf (Some f) plan files input file due = due ≡ answers (ElfRefused f)
 
 -- what `interp` is to do, given the file that a word names, if it is there
-abbrev pub IsDueOfInterp : Guest → Files → List ℕ → Option (List ℕ) → Due → Type 0
-IsDueOfInterp guest files input None due = due ≡ answers (NoInput guest.word)
-IsDueOfInterp guest files input (Some file) due = IsDueByElf (elf_fault file) guest files input file due
+abbrev pub IsDueOfInterp : Plan → Files → List ℕ → Option (List ℕ) → Due → Type 0
+IsDueOfInterp plan files input None due = due ≡ answers (NoInput plan.word)
+IsDueOfInterp plan files input (Some file) due = IsDueByElf (elf_fault file) plan files input file due

@@ -1,5 +1,5 @@
 -- What making a system ready for a guest, and keeping its files, comes to.
-use Rattle.std.specs.Prelude.{◌≡◌, ℕ, ◌⊎◌, Bool, false, List, [], ◌++◌, length, Option, Some, None, Result, Ok, Err, IfSome}
+use Rattle.std.specs.Prelude.{◌≡◌, ℕ, ◌≤◌, length, ◌⊎◌, Bool, false, List, [], ◌++◌, length, Option, Some, None, Result, Ok, Err, IfSome, ⊤}
 use Rattle.command_words.specs.Word.{Text}
 use Rattle.command_words.specs.declared.session.Session.{Session}
 use Rattle.nv_outside.specs.Files.{Files}
@@ -13,7 +13,7 @@ use Rattle.nested_cli.specs.declared.halt.Halt.TheVariants as halt
 use Rattle.nested_cli.specs.declared.readied.Readied.{Readied}
 use Rattle.nested_cli.specs.declared.readied.Readied.TheVariants.{Ready, Refused}
 use Rattle.nested_cli.specs.declared.stop.Stop.{Stop}
-use Rattle.nested_cli.specs.Counts.{is_shelf_stop}
+use Rattle.nested_cli.specs.Counts.{is_shelf_stop, is_stop}
 use Rattle.nested_cli.specs.Deeds.{Deed, World, DoesAll, StopsIn}
 use Rattle.nested_cli.specs.Guest.{NamedFile, arguments_of, too_long, files_for, found_for}
 
@@ -25,6 +25,15 @@ IsReadied files name session moment (Ready unix) =
 IsReadied files name session moment (Refused answer) =
     ((n : ℕ) × (too_long [] (arguments_of name session) ≡ Some n) × (answer ≡ Done.ArgsTooLong n))
     ⊎ ((too_long [] (arguments_of name session) ≡ None) × (found_for files session ≡ Err answer))
+
+-- a refusal is no stop
+abbrev pub IsNoStop : Readied → Type 0
+IsNoStop (Ready unix) = ⊤
+IsNoStop (Refused answer) = is_stop answer ≡ false
+
+abbrev pub HasNoStop : Halt → Type 0
+HasNoStop (halt.Refused answer) = is_stop answer ≡ false
+HasNoStop (halt.Stopped stop) = ⊤
 
 -- what an argument or a file that was not added comes to
 abbrev pub halt_of : UnixError → Halt
@@ -83,6 +92,11 @@ abbrev pub IsReadiedBy : Held → Result (Unit {0}) Halt → Result Readied Stop
 IsReadiedBy unix (Ok done) result = result ≡ Ok (Ready unix)
 IsReadiedBy unix (Err (halt.Refused answer)) result = result ≡ Ok (Refused answer)
 IsReadiedBy unix (Err (halt.Stopped stop)) result = result ≡ Err stop
+
+-- of input at most 4,096 bytes were read ahead
+abbrev pub ReadsFewAhead : Readied → Type 0
+ReadsFewAhead (Ready unix) = length unix.ahead ≤ 4096
+ReadsFewAhead (Refused answer) = ⊤
 
 -- all deeds are done, or those up to one that was stopped
 abbrev pub DoesOrStops : List Deed → World → World → Result (Unit {0}) Stop → Type 0

@@ -4,11 +4,14 @@
 mod asm;
 mod done;
 mod go;
+mod guest;
 mod halt;
 mod hexadecimal;
+mod interp;
 mod line;
 mod list;
 mod load;
+mod outcomes;
 mod program;
 mod readied;
 mod refusals;
@@ -20,4 +23,3 @@ mod tests;
 
 pub use done::Done;
 pub use program::nested;
-pub use session::ready;

@@ -1,17 +1,20 @@
-ghost use Rattle.std.specs.Prelude.{◌≡◌, ◌≤◌, ◌⊎◌, ◌∷◌, [], ℕ, List, Option, IfErr, IfOk, IfSome, map, string_bytes, false, length, Some};
+ghost use Rattle.std.specs.Prelude.{◌≡◌, ◌≤◌, ◌⊎◌, ◌∷◌, [], ℕ, List, Option, IfErr, IfOk, IfSome, map, string_bytes, false, length, Some, option_map};
 ghost use Rattle.command_words.specs.Limits.{AreFileNames};
 ghost use Rattle.nv_outside.specs.Faults.{CountsFailure};
 ghost use Rattle.nv_outside.specs.Files.{Files, Finds, SameFiles};
+ghost use Rattle.unix_files.specs.Files.{Files as GuestFiles, bytes_at, node_named};
 ghost use Rattle.unix_calls.specs.Starting.{Begins, IsOpenToFiles};
 ghost use Rattle.nested_cli.specs.Counts.{shelf_stopped};
-ghost use Rattle.nested_cli.specs.Guest.{arguments_of};
-ghost use Rattle.nested_cli.specs.Sessions.{AddsArgs, AddsFiles, FilledOr, HasNoFiles, IsReadied, IsReadiedBy, halt_of, shelf_halted};
+ghost use Rattle.nested_cli.specs.Deeds.{world};
+ghost use Rattle.nested_cli.specs.Guest.{arguments_of, kept, keeps};
+ghost use Rattle.nested_cli.specs.Sessions.{AddsArgs, AddsFiles, FilledOr, HasNoFiles, DoesOrStops, HasNoStop, IsNoStop, IsReadied, IsReadiedBy, halt_of, shelf_halted};
 
 use crate::done::Done;
 use crate::halt::Halt;
 use crate::load::load;
 use crate::readied::Readied;
 use crate::stop::Stop;
+use crate::store::store;
 use command_words::Session;
 use nv_outside::Shelf;
 use std::alloc::Global;
@@ -28,6 +31,8 @@ pub fn ready<H: Shelf>(
     requires disk { session.now.disk ≤ 65536 }
     requires names { AreFileNames session.now.with.names }
     ensures readied { IfSome (H.files shelf.old) (λ files. IfOk result (IsReadied files name.now session.now moment)) }
+    ensures answer { IfOk result IsNoStop }
+    ensures few { IfOk result ReadsFewAhead }
     ensures same { SameFiles (H.files shelf.old) (H.files shelf.new) }
     ensures stop { IfErr result (λ stop. (stop ≡ Stop.ShelfFault) ⊎ (stop ≡ Stop.NoMemory)) }
     ensures count { CountsFailure (shelf_stopped result) (H.faults shelf.old) (H.faults shelf.new) }
@@ -41,7 +46,9 @@ pub fn ready<H: Shelf>(
 
 /// The answer of making a system ready, given how its filling ended.
 fn readied(unix: Unix, filled: Result<(), Halt>) -> Result<Readied, Stop>
+    requires answer { IfErr filled HasNoStop }
     ensures by { IsReadiedBy unix filled result }
+    ensures answer { IfOk result IsNoStop }
     ensures count { shelf_stopped result ≡ shelf_halted filled }
 {
     match filled {
@@ -63,6 +70,7 @@ fn fill<H: Shelf>(
     requires names { AreFileNames session.now.with.names }
     ensures filled { (blocks moment : ℕ) → Begins unix.old blocks moment [] [] → FilledOr (H.files shelf.old) session.now.with.word blocks moment (arguments_of name.now session.now) session.now.with.names unix.new result }
     ensures same { SameFiles (H.files shelf.old) (H.files shelf.new) }
+    ensures answer { IfErr result HasNoStop }
     ensures count { CountsFailure (shelf_halted result) (H.faults shelf.old) (H.faults shelf.new) }
 {
     add_arguments(unix, name, session.arguments.as_slice())?;
@@ -78,6 +86,7 @@ fn fill<H: Shelf>(
 /// Adds the arguments of a guest: its name and these texts.
 fn add_arguments(unix: &mut Unix, name: &str, texts: &[String]) -> Result<(), Halt>
     ensures adds { AddsArgs (name.now ∷ map string_bytes texts.now) unix.old unix.new result }
+    ensures answer { IfErr result HasNoStop }
     ensures no_shelf { shelf_halted result ≡ false }
 {
     add_argument(unix, name)?;
@@ -90,6 +99,7 @@ fn add_arguments(unix: &mut Unix, name: &str, texts: &[String]) -> Result<(), Ha
 /// Adds an argument.
 fn add_argument(unix: &mut Unix, text: &str) -> Result<(), Halt>
     ensures adds { AddsArgs (text.now ∷ []) unix.old unix.new result }
+    ensures answer { IfErr result HasNoStop }
     ensures no_shelf { shelf_halted result ≡ false }
 {
     match unix.add_arg(text) {
@@ -100,7 +110,8 @@ fn add_argument(unix: &mut Unix, text: &str) -> Result<(), Halt>
 
 /// What an argument or a file that was not added comes to.
 fn refused_addition(error: UnixError) -> Halt
-    ensures { result ≡ halt_of error }
+    ensures is { result ≡ halt_of error }
+    ensures answer { HasNoStop result }
 {
     match error {
         UnixError::ArgsTooLong(bytes) => Halt::Refused(Done::ArgsTooLong(bytes)),
@@ -121,6 +132,7 @@ fn add_files<H: Shelf>(
     requires names { AreFileNames (map string_bytes names.now) }
     ensures adds { AddsFiles (H.files shelf.old) word (map string_bytes names.now) unix.old unix.new result }
     ensures same { SameFiles (H.files shelf.old) (H.files shelf.new) }
+    ensures answer { IfErr result HasNoStop }
     ensures count { CountsFailure (shelf_halted result) (H.faults shelf.old) (H.faults shelf.new) }
 {
     for name in names {
@@ -141,6 +153,7 @@ fn add_file<H: Shelf>(
     requires short { length name.now ≤ 255 }
     ensures adds { AddsFiles (H.files shelf.old) word (name.now ∷ []) unix.old unix.new result }
     ensures same { SameFiles (H.files shelf.old) (H.files shelf.new) }
+    ensures answer { IfErr result HasNoStop }
     ensures count { CountsFailure (shelf_halted result) (H.faults shelf.old) (H.faults shelf.new) }
 {
     match load(alloc, shelf, name) {
@@ -154,6 +167,7 @@ fn add_found(word: u32, name: &str, found: &Option<Vec<u8>>, unix: &mut Unix) ->
     requires open { IsOpenToFiles unix.old }
     requires short { length name.now ≤ 255 }
     ensures adds { (shelf : Option Files) → Finds shelf name.now found.now → AddsFiles shelf word (name.now ∷ []) unix.old unix.new result }
+    ensures answer { IfErr result HasNoStop }
     ensures no_shelf { shelf_halted result ≡ false }
 {
     match found {
@@ -167,10 +181,61 @@ fn add_bytes(name: &str, bytes: &[u8], unix: &mut Unix) -> Result<(), Halt>
     requires open { IsOpenToFiles unix.old }
     requires short { length name.now ≤ 255 }
     ensures adds { (shelf : Option Files) (word : ℕ) → IfSome shelf (λ files. files name.now ≡ Some bytes.now) → AddsFiles shelf word (name.now ∷ []) unix.old unix.new result }
+    ensures answer { IfErr result HasNoStop }
     ensures no_shelf { shelf_halted result ≡ false }
 {
     match unix.add_file(name.as_bytes(), bytes) {
         Ok(()) => Ok(()),
         Err(error) => Err(refused_addition(error)),
+    }
+}
+
+/// Stores the files of these names that a guest has.
+pub fn keep<H: Shelf>(
+    alloc: Global,
+    unix: &Unix,
+    names: &[String],
+    shelf: &mut H,
+) -> Result<(), Stop>
+    ensures kept { (rest out err : Option (List ℕ)) → DoesOrStops (kept unix.now.files (map string_bytes names.now)) (world (H.files shelf.old) rest out err) (world (H.files shelf.new) rest out err) result }
+    ensures stop { IfErr result (λ stop. (stop ≡ Stop.ShelfFault) ⊎ (stop ≡ Stop.NoMemory)) }
+    ensures count { CountsFailure (shelf_stopped result) (H.faults shelf.old) (H.faults shelf.new) }
+{
+    for name in names {
+        keep_file(alloc, unix, name.as_str(), shelf)?;
+    }
+    Ok(())
+}
+
+/// Stores the file of this name, if a guest has one.
+fn keep_file<H: Shelf>(
+    alloc: Global,
+    unix: &Unix,
+    name: &str,
+    shelf: &mut H,
+) -> Result<(), Stop>
+    ensures kept { (rest out err : Option (List ℕ)) → DoesOrStops (keeps unix.now.files name.now (node_named unix.now.files name.now) ∷ []) (world (H.files shelf.old) rest out err) (world (H.files shelf.new) rest out err) result }
+    ensures stop { IfErr result (λ stop. (stop ≡ Stop.ShelfFault) ⊎ (stop ≡ Stop.NoMemory)) }
+    ensures count { CountsFailure (shelf_stopped result) (H.faults shelf.old) (H.faults shelf.new) }
+{
+    match unix.file(alloc, name.as_bytes()) {
+        Ok(found) => store_found(name, &found, shelf),
+        Err(_) => Err(Stop::NoMemory),
+    }
+}
+
+/// Stores what a guest has under a name.
+fn store_found<H: Shelf>(
+    name: &str,
+    found: &Option<Vec<u8>>,
+    shelf: &mut H,
+) -> Result<(), Stop>
+    ensures kept { (files : GuestFiles) (node : Option ℕ) (rest out err : Option (List ℕ)) → option_map (λ v. v.items) found.now ≡ option_map (bytes_at files) node → DoesOrStops (keeps files name.now node ∷ []) (world (H.files shelf.old) rest out err) (world (H.files shelf.new) rest out err) result }
+    ensures stop { IfErr result (λ stop. (stop ≡ Stop.ShelfFault) ⊎ (stop ≡ Stop.NoMemory)) }
+    ensures count { CountsFailure (shelf_stopped result) (H.faults shelf.old) (H.faults shelf.new) }
+{
+    match found {
+        Some(bytes) => store(shelf, name, bytes.as_slice()),
+        None => Ok(()),
     }
 }

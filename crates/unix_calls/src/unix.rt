@@ -1,5 +1,5 @@
-ghost use Rattle.std.specs.Prelude.{◌-◌, ◌≡◌, ◌≤◌, ◌<◌, ◌++◌, ◌∷◌, [], ℕ, List, Option, Some, IfOk, OnOk, OnErr, Ok, Err, length, ◌≢◌, false};
-ghost use Rattle.unix_files.specs.Files.{blocks_for};
+ghost use Rattle.std.specs.Prelude.{◌-◌, ◌≡◌, ◌≤◌, ◌<◌, ◌++◌, ◌∷◌, [], ℕ, List, Option, Some, IfOk, OnOk, OnErr, Ok, Err, length, ◌≢◌, false, option_map};
+ghost use Rattle.unix_files.specs.Files.{blocks_for, bytes_at, node_named};
 ghost use Rattle.unix_system.specs.Calls.{block_length};
 ghost use Rattle.unix_system.specs.Unix.{blocks_needed};
 ghost use Rattle.unix_calls.specs.Held.{Held};
@@ -82,6 +82,16 @@ impl Unix {
         self.disk.set_name(n, name);
         self.disk.write(n, 0, bytes);
         Ok(())
+    }
+
+    /// The bytes of the file of this name, in memory of their own. `None` exactly where there is no such file.
+    pub fn file(&self, alloc: Global, name: &[u8]) -> Result<Option<Vec<u8>>, NoMemory>
+        ensures { IfOk result (λ found. option_map (λ bytes. bytes.items) found ≡ option_map (bytes_at self.now.files) (node_named self.now.files name.now)) }
+    {
+        match self.disk.named(name) {
+            Some(n) => Ok(Some(self.disk.bytes(alloc, n)?)),
+            None => Ok(None),
+        }
     }
 
     /// How many blocks files use.

@@ -5,3 +5,4 @@ pub mod AppendLemmas
 pub mod CutLemmas
 pub mod FileLemmas
 pub mod DiskLemmas
+pub mod ReadLemmas

@@ -1,11 +1,12 @@
 //! The blocks of one file: each names the one that follows it.
 
-ghost use Rattle.std.specs.Prelude.{◌≡◌, ◌≢◌, ℕ, ◌+◌, ◌<◌, ◌≤◌, ◌%◌, ◌++◌, ◌∷◌, [], take};
+ghost use Rattle.std.specs.Prelude.{◌≡◌, ◌≢◌, ℕ, ◌+◌, ◌<◌, ◌≤◌, ◌%◌, ◌*◌, ◌++◌, ◌∷◌, [], take, IfOk};
 ghost use Rattle.unix_files.specs.Files.{blocks_for};
 ghost use Rattle.block_pool.specs.Blocks.{IsUsed, IsSound, block_at, free_count};
 ghost use Rattle.unix_files.specs.Stored.{empty_chain, blocks_in, block_after, looked_up, file_bytes, IsChain, Changes, begun};
 
 use block_pool::Blocks;
+use std::alloc::{AllocError, Global};
 
 /// The bytes in a block.
 pub const BLOCK: u32 = 4096;
@@ -61,6 +62,37 @@ impl Chain {
             near_index: index,
             ..*self
         }
+    }
+
+    /// The bytes of the file, in memory of their own.
+    pub fn bytes(&self, pool: &Blocks, alloc: Global) -> Result<Vec<u8>, AllocError>
+        requires sound { IsSound pool.now }
+        requires whole { IsChain pool.now self.now }
+        ensures { IfOk result (λ bytes. bytes.items ≡ file_bytes pool.now self.now) }
+    {
+        let mut bytes = Vec::with_capacity(alloc, self.size as usize)?;
+        let mut block = self.first;
+        for index in 0..blocks_for(self.size) {
+            let (here, _) = pool.bytes(block).split_at(bytes_in(self.size, index));
+            bytes.extend_from_slice(here)?;
+            block = pool.next(block).unwrap_or(0);
+        }
+        Ok(bytes)
+    }
+}
+
+/// How many of so many bytes stand in the block with this number, from 0.
+fn bytes_in(size: u32, index: u32) -> usize
+    requires { index < blocks_for size }
+    ensures within { result ≤ 4096 }
+    ensures end { 4096 * index + result ≤ size }
+    ensures full { result < 4096 → 4096 * index + result ≡ size }
+{
+    let rest = size - index * BLOCK;
+    if rest < BLOCK {
+        rest as usize
+    } else {
+        BLOCK as usize
     }
 }
 

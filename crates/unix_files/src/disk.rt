@@ -113,6 +113,17 @@ impl Disk {
         self.store.byte(n, at)
     }
 
+    /// The bytes of a file, in memory of their own. There are none where there is no such file.
+    pub fn bytes(&self, alloc: Global, n: usize) -> Result<Vec<u8>, NoMemory>
+        ensures { IfOk result (λ bytes. bytes.items ≡ bytes_at self.now n) }
+    {
+        if n < NODES {
+            self.store.bytes(alloc, n)
+        } else {
+            Ok(Vec::new(alloc))
+        }
+    }
+
     /// Names a file, which is made where it was not there.
     pub fn set_name(&mut self, n: usize, name: &[u8])
         requires file { n < 256 }

@@ -68,6 +68,14 @@ impl Store {
         self.pool.read(chain.near, at % BLOCK)
     }
 
+    /// The bytes of a file, in memory of their own.
+    pub fn bytes(&self, alloc: Global, n: usize) -> Result<Vec<u8>, NoMemory>
+        requires { n < length self.now.files }
+        ensures { IfOk result (λ bytes. bytes.items ≡ file_at self.now n) }
+    {
+        chain_of(&self.chains, n).bytes(&self.pool, alloc)
+    }
+
     /// Writes the byte of a file at a place.
     pub fn put(&mut self, n: usize, at: u32, v: u8)
         requires file { n < length self.old.files }

@@ -15,4 +15,4 @@ pub returns-in-Err-clause-comes : goal.returns-in-Err-clause-comes
 returns-in-Err-clause-comes g c = λ rest err.
     misused _ _ (texts c.args.words.now) (g.H.Shelf.files c.args.shelf.now)
     (world (g.H.Shelf.files c.args.shelf.now) rest (g.O.Sink.taken c.args.out.now) err)
-    (λ fault e. c.read_words.ensures.usage fault (c.in-Err.is ∙ ap Err e)) c.refused_words.ensures
+    (λ fault e. c.read_words.ensures.usage fault (c.in-Err.is ∙ ap Err e)) c.refused_words.ensures.ends
