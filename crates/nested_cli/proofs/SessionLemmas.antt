@@ -1,16 +1,22 @@
 -- How arguments and files are added, one after the other.
 use Rattle.std.proofs.Common.{◌≡◌, ◌⊎◌, ◌≤◌, ◌<◌, ◌+◌, ℕ, Bool, true, false, nat_lt, if◌then◌else◌, List, [], ◌∷◌, ◌++◌, map, length, take, drop, get_or, Option, Some, None, Result, Ok, Err, refl, sym, ◌∙◌, ap, subst, inl, inr, arith, append_assoc, append-nil, length-append}
-use Rattle.std.specs.Prelude.{IfSome, IfOk, IfErr, Vec, String, string_bytes}
+use Rattle.std.specs.Prelude.{IfSome, IfOk, IfErr, MatchResult, Vec, option_map, String, string_bytes}
 use Rattle.std.specs.declared.alloc.Global.{Global}
 use Rattle.std.proofs.lemmas.Bool.{lt-ltb, le-ltb}
-use Rattle.std.proofs.lemmas.List.{map-append, map_more, take-append-drop}
+use Rattle.std.proofs.lemmas.List.{map-append, map_more, take-append-drop, length-map, length-take-le}
+use Rattle.std.proofs.lemmas.List.Elements.{All-get_or}
+use Rattle.std.proofs.Math.Seq.{take-length}
+use Rattle.std.proofs.Math.ListN.{get_or-map}
+use Rattle.std.specs.List.{All}
+use Rattle.command_words.specs.Limits.{IsFileName}
 use Rattle.command_words.specs.Word.{Text}
 use Rattle.command_words.specs.declared.session.Session.{Session}
-use Rattle.nv_outside.specs.Files.{Files, Finds, SameFiles}
+use Rattle.nv_outside.specs.Files.{Files, Finds, SameFiles, SetsFile}
+use Rattle.unix_files.specs.Files.{Files as GuestFiles, bytes_at, node_named}
 use Rattle.unix_system.specs.Calls.{block_length}
 use Rattle.unix_system.specs.Unix.{blocks_needed}
 use Rattle.unix_calls.specs.Held.{Held}
-use Rattle.unix_calls.specs.Starting.{Begins}
+use Rattle.unix_calls.specs.Starting.{Begins, IsOpenToFiles}
 use Rattle.unix_calls.specs.declared.unix_error.UnixError.{UnixError}
 use Rattle.unix_calls.specs.declared.unix_error.UnixError.TheVariants as unix
 use Rattle.nested_cli.specs.declared.done.Done.{Done}
@@ -19,9 +25,10 @@ use Rattle.nested_cli.specs.declared.halt.Halt.{Halt}
 use Rattle.nested_cli.specs.declared.halt.Halt.TheVariants as halt
 use Rattle.nested_cli.specs.declared.readied.Readied.{Readied}
 use Rattle.nested_cli.specs.declared.stop.Stop.{Stop}
-use Rattle.nested_cli.specs.Guest.{NamedFile, arguments_of, too_long, files_for}
-use Rattle.nested_cli.specs.Sessions.{AddsArgs, AddsFiles, ArgsOr, FilesOr, FilledOr, IsReadied, IsReadiedBy, halt_of}
-use Rattle.nested_cli.proofs.DeedLemmas.{found_some}
+use Rattle.nested_cli.specs.Deeds.{Deed, stores, World, world, StopsStore, StopsDeed, DoesAll, StopsIn}
+use Rattle.nested_cli.specs.Guest.{NamedFile, arguments_of, too_long, files_for, keeps, kept}
+use Rattle.nested_cli.specs.Sessions.{HasNoFiles, AddsArgs, AddsFiles, ArgsOr, FilesOr, FilledOr, IsReadied, IsReadiedBy, ReadsFewAhead, DoesOrStops, halt_of}
+use Rattle.nested_cli.proofs.DeedLemmas.{found_some, same_files, stays, stays_then_works}
 
 no_option : (n : ℕ) → None ≡ Some n → ⊥
 no_option n e = cc
@@ -42,6 +49,9 @@ texts_next xs i x bytes h is eq = map_more string_bytes xs i x h ∙ ap (λ b. m
 pub texts_split : (xs : List (String Global)) (k : ℕ) → map string_bytes (take k xs) ++ map string_bytes (drop k xs) ≡ map string_bytes xs
 texts_split xs k = sym (map-append string_bytes (take k xs) (drop k xs)) ∙ ap (map string_bytes) (take-append-drop k xs)
 
+pub texts_whole : (xs : List (String Global)) (i : ℕ) → i ≡ length xs → map string_bytes (take i xs) ≡ map string_bytes xs
+texts_whole xs i e = ap (λ k. map string_bytes (take k xs)) e ∙ ap (map string_bytes) (take-length xs)
+
 -- one argument
 fits_none : (args : List Text) (text : Text) → block_length (args ++ text ∷ []) ≤ 4096 → too_long args (text ∷ []) ≡ None
 fits_none args text h = if_no (nat_lt 4096 (block_length (args ++ text ∷ []))) (Some (block_length (args ++ text ∷ []))) None (le-ltb 4096 (block_length (args ++ text ∷ [])) h)
@@ -51,7 +61,7 @@ argument_added old new text blocks moment files args h b b' =
     let e : old.args ≡ args = ap (λ h. h.args) b.is in
     (fits_none args text (subst (λ a. block_length (a ++ text ∷ []) ≤ 4096) e h), b')
 
-abbrev failed : UnixError → Result (Unit {0}) UnixError
+abbrev pub failed : UnixError → Result (Unit {0}) UnixError
 failed error = Err error
 
 pub argument_refused : (error : UnixError) (old new : Held) (text : Text) (blocks moment : ℕ) (files : List NamedFile) (args : List Text) → ((n : ℕ) → failed error ≡ failed (unix.ArgsTooLong n) → (n ≡ block_length (old.args ++ text ∷ [])) × (4096 < n)) → ((n : ℕ) → failed error ≡ failed (unix.FilesTooLarge n) → ⊥) → Begins old blocks moment files args → ArgsOr blocks moment files args (text ∷ []) new (Err (halt_of error))
@@ -97,7 +107,7 @@ args_then front rest old mid new done r p q = λ blocks moment files args b.
     let one = p blocks moment files args b in
     args_joined blocks moment files args front rest new r one.0 (q blocks moment files (args ++ front) one.1)
 
-args_known : (front rest : List Text) (old new : Held) (h : Halt) → AddsArgs front old new (Err h) → AddsArgs (front ++ rest) old new (Err h)
+pub args_known : (front rest : List Text) (old new : Held) (h : Halt) → AddsArgs front old new (Err h) → AddsArgs (front ++ rest) old new (Err h)
 args_known front rest old new (halt.Refused answer) p = λ blocks moment files args b.
     let one = p blocks moment files args b in
     (one.0, too_long_known args front rest one.0 one.1, one.2)
@@ -210,6 +220,22 @@ files_stopped F word xs k old new (halt.Refused answer) p =
     subst (λ ts. AddsFiles F word ts old new (Err (halt.Refused answer))) (texts_split xs k) (λ blocks moment found args b. known_found F word blocks found (map string_bytes (take k xs)) (map string_bytes (drop k xs)) answer (p blocks moment found args b))
 files_stopped F word xs k old new (halt.Stopped stop) p = p
 
+pub open_more : (F : Option Files) (word : ℕ) (xs : List (String Global)) (i : ℕ) (old now : Held) (done : Unit {0}) → i < length xs → length (map string_bytes xs) ≤ 64 → HasNoFiles old → AddsFiles F word (map string_bytes (take i xs)) old now (Ok done) → IsOpenToFiles now
+open_more F word xs i old now done h few new p =
+    let one = p new.blocks new.moment [] new.args new.begins in
+    let n : length one.0 ≡ length (map string_bytes (take i xs)) = one.1 in
+    let m : length (map string_bytes (take i xs)) ≡ length (take i xs) = length-map (take i xs) string_bytes in
+    let k : length (take i xs) ≡ i = length-take-le i xs (omega arith) in
+    let all : length (map string_bytes xs) ≡ length xs = length-map xs string_bytes in
+    record { blocks = new.blocks; moment = new.moment; files = one.0; args = new.args; begins = one.2; few = omega arith }
+
+pub short_name : (xs : List (String Global)) (i : ℕ) (x : String Global) → i < length xs → x ≡ get_or xs i x → All IsFileName (map string_bytes xs) → length (string_bytes x) ≤ 255
+short_name xs i x h is each =
+    let all : length (map string_bytes xs) ≡ length xs = length-map xs string_bytes in
+    let named : IsFileName (get_or (map string_bytes xs) i (string_bytes x)) = All-get_or IsFileName (map string_bytes xs) i (string_bytes x) (omega arith) each in
+    let e : get_or (map string_bytes xs) i (string_bytes x) ≡ string_bytes x = get_or-map string_bytes xs i x ∙ ap string_bytes (sym is) in
+    (subst IsFileName e named).short
+
 -- arguments, then files
 pub fill_halted : (F : Option Files) (word blocks moment : ℕ) (texts names : List Text) (new : Held) (h : Halt) → ArgsOr blocks moment [] [] texts new (Err h) → FilledOr F word blocks moment texts names new (Err h)
 fill_halted F word blocks moment texts names new (halt.Refused answer) q = inl q
@@ -223,6 +249,11 @@ fill_done F word blocks moment texts names mid new r p q = by r (q blocks moment
     by (Err (halt.Refused answer)) q = inr (p.0, q)
     by (Err (halt.Stopped stop)) q = q
 
+-- the arguments and the names as their slices have them
+pub filled_as : (F : Option Files) (word blocks moment : ℕ) (name : Text) (texts texts' names names' : List Text) (new : Held) (r : Result (Unit {0}) Halt) → texts ≡ texts' → names ≡ names' → FilledOr F word blocks moment (name ∷ texts) names new r → FilledOr F word blocks moment (name ∷ texts') names' new r
+filled_as F word blocks moment name texts texts' names names' new r e e' q =
+    subst (λ ts. FilledOr F word blocks moment (name ∷ ts) names' new r) e (subst (λ ns. FilledOr F word blocks moment (name ∷ texts) ns new r) e' q)
+
 -- the system or the answer of a session
 pub session_readied : (F : Option Files) (name : Text) (session : Session) (moment : ℕ) (unix : Held) (filled : Result (Unit {0}) Halt) (result : Result Readied Stop) → FilledOr F session.with.word session.disk moment (arguments_of name session) session.with.names unix filled → IsReadiedBy unix filled result → IfSome F (λ files. IfOk result (IsReadied files name session moment))
 session_readied None name session moment unix filled result q e = tt
@@ -234,3 +265,63 @@ pub session_stopped : (F : Option Files) (word blocks moment : ℕ) (texts names
 session_stopped F word blocks moment texts names unix (Ok done) result q e = rw e tt
 session_stopped F word blocks moment texts names unix (Err (halt.Refused answer)) result q e = rw e tt
 session_stopped F word blocks moment texts names unix (Err (halt.Stopped stop)) result q e = rw e q
+
+pub session_few : (F : Option Files) (word blocks moment : ℕ) (texts names : List Text) (unix : Held) (filled : Result (Unit {0}) Halt) (result : Result Readied Stop) → FilledOr F word blocks moment texts names unix filled → IsReadiedBy unix filled result → IfOk result ReadsFewAhead
+session_few F word blocks moment texts names unix (Ok done) result q e =
+    let a : unix.ahead ≡ [] = ap (λ h. h.ahead) q.2.is in
+    let n : length unix.ahead ≡ 0 = ap length a in
+    rw e (omega arith)
+session_few F word blocks moment texts names unix (Err (halt.Refused answer)) result q e = rw e tt
+session_few F word blocks moment texts names unix (Err (halt.Stopped stop)) result q e = rw e tt
+
+-- deeds after deeds
+deeds_then : (ds es : List Deed) (w u v : World) (r : Result (Unit {0}) Stop) → DoesAll ds w u → DoesOrStops es u v r → DoesOrStops (ds ++ es) w v r
+deeds_then [] es w u v (Ok d) p q = (stays_then_works (record { deeds = es; answer = Done.Good }) w u v (Ok Done.Good) p (refl, q)).1
+deeds_then [] es w u v (Err stop) p q = stays_then_works (record { deeds = es; answer = Done.Good }) w u v (Err stop) p q
+deeds_then (deed ∷ ds) es w u v (Ok d) p q = (p.0, p.1, deeds_then ds es p.0 u v (Ok d) p.2 q)
+deeds_then (deed ∷ ds) es w u v (Err stop) p q = inr (p.0, p.1, deeds_then ds es p.0 u v (Err stop) p.2 q)
+
+deeds_known : (ds es : List Deed) (w v : World) (stop : Stop) → StopsIn ds w v stop → StopsIn (ds ++ es) w v stop
+deeds_known [] es w v stop p = absurd p
+deeds_known (deed ∷ ds) es w v stop (inl p) = inl p
+deeds_known (deed ∷ ds) es w v stop (inr p) = inr (p.0, p.1, deeds_known ds es p.0 v stop p.2)
+
+-- one file is kept
+none_some : {A : Type 0} (a : A) → None ≡ Some a → ⊥
+none_some a e = cc
+
+keep_stopped : (files : GuestFiles) (name : Text) (node : Option ℕ) (w : World) → StopsDeed (keeps files name node) w w Stop.NoMemory
+keep_stopped files name None w = (stays w, inr refl)
+keep_stopped files name (Some n) w = (inl (same_files w.files, refl), refl, refl, refl)
+
+pub keep_no_memory : (files : GuestFiles) (name : Text) (node : Option ℕ) (w : World) → StopsIn (keeps files name node ∷ []) w w Stop.NoMemory
+keep_no_memory files name node w = inl (keep_stopped files name node w)
+
+store_ends : (F F' : Option Files) (rest out err : Option (List ℕ)) (name bytes : List ℕ) (r : Result (Unit {0}) Stop) → MatchResult r (λ _. SetsFile F F' name bytes) (λ stop. StopsStore F F' name stop) → DoesOrStops (stores name bytes ∷ []) (world F rest out err) (world F' rest out err) r
+store_ends F F' rest out err name bytes (Ok d) p = (world F' rest out err, (p, refl, refl, refl), stays (world F' rest out err))
+store_ends F F' rest out err name bytes (Err stop) p = inl (p, refl, refl, refl)
+
+pub keep_some : (files : GuestFiles) (node : Option ℕ) (F F' : Option Files) (rest out err : Option (List ℕ)) (name : List ℕ) (found : Option (Vec ℕ Global)) (v : Vec ℕ Global) (bytes : List ℕ) (r : Result (Unit {0}) Stop) → found ≡ Some v → bytes ≡ v.items → option_map (λ v. v.items) found ≡ option_map (bytes_at files) node → MatchResult r (λ _. SetsFile F F' name bytes) (λ stop. StopsStore F F' name stop) → DoesOrStops (keeps files name node ∷ []) (world F rest out err) (world F' rest out err) r
+keep_some files None F F' rest out err name found v bytes r some is e p = absurd (none_some v.items (sym e ∙ ap (option_map (λ v. v.items)) some))
+keep_some files (Some n) F F' rest out err name found v bytes r some is e p =
+    let q : Some v.items ≡ Some (bytes_at files n) = sym (ap (option_map (λ v. v.items)) some) ∙ e in
+    let same : v.items ≡ bytes_at files n = cc in
+    subst (λ b. DoesOrStops (stores name b ∷ []) (world F rest out err) (world F' rest out err) r) (is ∙ same) (store_ends F F' rest out err name bytes r p)
+
+pub keep_none : (files : GuestFiles) (node : Option ℕ) (w : World) (name : List ℕ) (found : Option (Vec ℕ Global)) (done : Unit {0}) → found ≡ None → option_map (λ v. v.items) found ≡ option_map (bytes_at files) node → DoesOrStops (keeps files name node ∷ []) w w (Ok done)
+keep_none files None w name found done none e = (w, stays w, stays w)
+keep_none files (Some n) w name found done none e = absurd (none_some (bytes_at files n) (sym (ap (option_map (λ v. v.items)) none) ∙ e))
+
+-- a file of a list of names is kept after those before it
+abbrev keep_named : GuestFiles → Text → Deed
+keep_named files name = keeps files name (node_named files name)
+
+pub keep_more : (files : GuestFiles) (xs : List (String Global)) (i : ℕ) (x : String Global) (bytes : List ℕ) (w u v : World) (r : Result (Unit {0}) Stop) → i < length xs → x ≡ get_or xs i x → bytes ≡ string_bytes x → DoesAll (kept files (map string_bytes (take i xs))) w u → DoesOrStops (keep_named files bytes ∷ []) u v r → DoesOrStops (kept files (map string_bytes (take (i + 1) xs))) w v r
+keep_more files xs i x bytes w u v r h is eq p q =
+    let e : map (keep_named files) (map string_bytes (take i xs) ++ bytes ∷ []) ≡ map (keep_named files) (map string_bytes (take i xs)) ++ keep_named files bytes ∷ [] = map-append (keep_named files) (map string_bytes (take i xs)) (bytes ∷ []) in
+    subst (λ ts. DoesOrStops (kept files ts) w v r) (sym (texts_next xs i x bytes h is eq)) (subst (λ ds. DoesOrStops ds w v r) (sym e) (deeds_then (kept files (map string_bytes (take i xs))) (keep_named files bytes ∷ []) w u v r p q))
+
+pub keep_stops : (files : GuestFiles) (xs : List (String Global)) (k : ℕ) (w v : World) (stop : Stop) → StopsIn (kept files (map string_bytes (take k xs))) w v stop → StopsIn (kept files (map string_bytes xs)) w v stop
+keep_stops files xs k w v stop p =
+    let e : map (keep_named files) (map string_bytes (take k xs) ++ map string_bytes (drop k xs)) ≡ map (keep_named files) (map string_bytes (take k xs)) ++ map (keep_named files) (map string_bytes (drop k xs)) = map-append (keep_named files) (map string_bytes (take k xs)) (map string_bytes (drop k xs)) in
+    subst (λ ts. StopsIn (kept files ts) w v stop) (texts_split xs k) (subst (λ ds. StopsIn ds w v stop) (sym e) (deeds_known (kept files (map string_bytes (take k xs))) (kept files (map string_bytes (drop k xs))) w v stop p))

@@ -7,7 +7,7 @@ ghost use Rattle.unix_calls.specs.Starting.{Begins, IsOpenToFiles};
 ghost use Rattle.nested_cli.specs.Counts.{shelf_stopped};
 ghost use Rattle.nested_cli.specs.Deeds.{world};
 ghost use Rattle.nested_cli.specs.Guest.{arguments_of, kept, keeps};
-ghost use Rattle.nested_cli.specs.Sessions.{AddsArgs, AddsFiles, FilledOr, HasNoFiles, DoesOrStops, HasNoStop, IsNoStop, IsReadied, IsReadiedBy, halt_of, shelf_halted};
+ghost use Rattle.nested_cli.specs.Sessions.{AddsArgs, AddsFiles, FilledOr, HasNoFiles, DoesOrStops, HasNoStop, IsNoStop, IsReadied, IsReadiedBy, ReadsFewAhead, halt_of, shelf_halted};
 
 use crate::done::Done;
 use crate::halt::Halt;

@@ -7,4 +7,4 @@ returns-in-Ok-clause-adds c = λ blocks moment files args b.
 
 pub returns-in-Err-clause-adds : goal.returns-in-Err-clause-adds
 returns-in-Err-clause-adds c = λ blocks moment files args b.
-    rw c.refused_addition.ensures (argument_refused c.in-Err.error c.args.unix.now c.add_arg.new.self c.args.text.now blocks moment files args c.in-Err.ensures.too_long c.in-Err.ensures.no_file_error b)
+    rw c.refused_addition.ensures.is (argument_refused c.in-Err.error c.args.unix.now c.add_arg.new.self c.args.text.now blocks moment files args c.in-Err.ensures.too_long c.in-Err.ensures.no_file_error b)
