@@ -5,3 +5,4 @@ pub mod AnswerLemmas
 pub mod AssemblyLemmas
 pub mod InterpLemmas
 pub mod CommandLemmas
+pub mod SessionLemmas

@@ -7,6 +7,7 @@ mod go;
 mod guest;
 #[cfg(test)]
 mod guest_tests;
+mod halt;
 mod hexadecimal;
 mod interp;
 mod line;

@@ -1,18 +1,21 @@
-ghost use Rattle.std.specs.Prelude.{◌≡◌, ◌≤◌, ◌⊎◌, ℕ, List, Option, IfErr, IfOk, IfSome, map, string_bytes};
+ghost use Rattle.std.specs.Prelude.{◌≡◌, ◌≤◌, ◌⊎◌, ◌∷◌, [], ℕ, List, Option, IfErr, IfOk, IfSome, map, string_bytes, false, length, Some, option_map};
 ghost use Rattle.command_words.specs.Limits.{AreFileNames};
 ghost use Rattle.nv_outside.specs.Faults.{CountsFailure};
-ghost use Rattle.nv_outside.specs.Files.{SameFiles};
+ghost use Rattle.nv_outside.specs.Files.{Files, Finds, SameFiles};
+ghost use Rattle.unix_files.specs.Files.{Files as GuestFiles, bytes_at, node_named};
+ghost use Rattle.unix_calls.specs.Starting.{Begins, IsOpenToFiles};
 ghost use Rattle.nested_cli.specs.Counts.{shelf_stopped};
 ghost use Rattle.nested_cli.specs.Deeds.{world};
-ghost use Rattle.nested_cli.specs.Guest.{kept};
-ghost use Rattle.nested_cli.specs.Sessions.{DoesOrStops, IsNoStop, IsReadied, ReadsFewAhead};
+ghost use Rattle.nested_cli.specs.Guest.{arguments_of, kept, keeps};
+ghost use Rattle.nested_cli.specs.Sessions.{AddsArgs, AddsFiles, FilledOr, HasNoFiles, DoesOrStops, HasNoStop, IsNoStop, IsReadied, IsReadiedBy, ReadsFewAhead, halt_of, shelf_halted};
 
 use crate::done::Done;
+use crate::halt::Halt;
 use crate::load::load;
 use crate::readied::Readied;
 use crate::stop::Stop;
 use crate::store::store;
-use command_words::{NameList, Session};
+use command_words::Session;
 use nv_outside::Shelf;
 use std::alloc::Global;
 use unix_calls::{Unix, UnixError};
@@ -34,7 +37,157 @@ pub fn ready<H: Shelf>(
     ensures stop { IfErr result (λ stop. (stop ≡ Stop.ShelfFault) ⊎ (stop ≡ Stop.NoMemory)) }
     ensures count { CountsFailure (shelf_stopped result) (H.faults shelf.old) (H.faults shelf.new) }
 {
-    Err(Stop::NoMemory)
+    let Ok(mut unix) = Unix::new(alloc, session.disk, moment) else {
+        return Err(Stop::NoMemory);
+    };
+    let filled = fill(alloc, name, session, shelf, &mut unix);
+    readied(unix, filled)
+}
+
+/// The answer of making a system ready, given how its filling ended.
+fn readied(unix: Unix, filled: Result<(), Halt>) -> Result<Readied, Stop>
+    requires answer { IfErr filled HasNoStop }
+    ensures by { IsReadiedBy unix filled result }
+    ensures answer { IfOk result IsNoStop }
+    ensures count { shelf_stopped result ≡ shelf_halted filled }
+{
+    match filled {
+        Ok(()) => Ok(Readied::Ready(unix)),
+        Err(Halt::Refused(answer)) => Ok(Readied::Refused(answer)),
+        Err(Halt::Stopped(stop)) => Err(stop),
+    }
+}
+
+/// Fills a new system with a guest's arguments and files.
+fn fill<H: Shelf>(
+    alloc: Global,
+    name: &str,
+    session: &Session,
+    shelf: &mut H,
+    unix: &mut Unix,
+) -> Result<(), Halt>
+    requires new { HasNoFiles unix.old }
+    requires names { AreFileNames session.now.with.names }
+    ensures filled { (blocks moment : ℕ) → Begins unix.old blocks moment [] [] → FilledOr (H.files shelf.old) session.now.with.word blocks moment (arguments_of name.now session.now) session.now.with.names unix.new result }
+    ensures same { SameFiles (H.files shelf.old) (H.files shelf.new) }
+    ensures answer { IfErr result HasNoStop }
+    ensures count { CountsFailure (shelf_halted result) (H.faults shelf.old) (H.faults shelf.new) }
+{
+    add_arguments(unix, name, session.arguments.as_slice())?;
+    add_files(
+        alloc,
+        session.with.word,
+        session.with.names.as_slice(),
+        shelf,
+        unix,
+    )
+}
+
+/// Adds the arguments of a guest: its name and these texts.
+fn add_arguments(unix: &mut Unix, name: &str, texts: &[String]) -> Result<(), Halt>
+    ensures adds { AddsArgs (name.now ∷ map string_bytes texts.now) unix.old unix.new result }
+    ensures answer { IfErr result HasNoStop }
+    ensures no_shelf { shelf_halted result ≡ false }
+{
+    add_argument(unix, name)?;
+    for text in texts {
+        add_argument(unix, text.as_str())?;
+    }
+    Ok(())
+}
+
+/// Adds an argument.
+fn add_argument(unix: &mut Unix, text: &str) -> Result<(), Halt>
+    ensures adds { AddsArgs (text.now ∷ []) unix.old unix.new result }
+    ensures answer { IfErr result HasNoStop }
+    ensures no_shelf { shelf_halted result ≡ false }
+{
+    match unix.add_arg(text) {
+        Ok(()) => Ok(()),
+        Err(error) => Err(refused_addition(error)),
+    }
+}
+
+/// What an argument or a file that was not added comes to.
+fn refused_addition(error: UnixError) -> Halt
+    ensures is { result ≡ halt_of error }
+    ensures answer { HasNoStop result }
+{
+    match error {
+        UnixError::ArgsTooLong(bytes) => Halt::Refused(Done::ArgsTooLong(bytes)),
+        UnixError::FilesTooLarge(blocks) => Halt::Refused(Done::FilesTooLarge(blocks)),
+        UnixError::NoMemory => Halt::Stopped(Stop::NoMemory),
+    }
+}
+
+/// Loads the files that a guest finds, one after the other, and adds them. `word` is the word that names them.
+fn add_files<H: Shelf>(
+    alloc: Global,
+    word: u32,
+    names: &[String],
+    shelf: &mut H,
+    unix: &mut Unix,
+) -> Result<(), Halt>
+    requires new { HasNoFiles unix.old }
+    requires names { AreFileNames (map string_bytes names.now) }
+    ensures adds { AddsFiles (H.files shelf.old) word (map string_bytes names.now) unix.old unix.new result }
+    ensures same { SameFiles (H.files shelf.old) (H.files shelf.new) }
+    ensures answer { IfErr result HasNoStop }
+    ensures count { CountsFailure (shelf_halted result) (H.faults shelf.old) (H.faults shelf.new) }
+{
+    for name in names {
+        add_file(alloc, word, name.as_str(), shelf, unix)?;
+    }
+    Ok(())
+}
+
+/// Loads a file and adds it.
+fn add_file<H: Shelf>(
+    alloc: Global,
+    word: u32,
+    name: &str,
+    shelf: &mut H,
+    unix: &mut Unix,
+) -> Result<(), Halt>
+    requires open { IsOpenToFiles unix.old }
+    requires short { length name.now ≤ 255 }
+    ensures adds { AddsFiles (H.files shelf.old) word (name.now ∷ []) unix.old unix.new result }
+    ensures same { SameFiles (H.files shelf.old) (H.files shelf.new) }
+    ensures answer { IfErr result HasNoStop }
+    ensures count { CountsFailure (shelf_halted result) (H.faults shelf.old) (H.faults shelf.new) }
+{
+    match load(alloc, shelf, name) {
+        Ok(found) => add_found(word, name, &found, unix),
+        Err(stop) => Err(Halt::Stopped(stop)),
+    }
+}
+
+/// Adds what was found under a name.
+fn add_found(word: u32, name: &str, found: &Option<Vec<u8>>, unix: &mut Unix) -> Result<(), Halt>
+    requires open { IsOpenToFiles unix.old }
+    requires short { length name.now ≤ 255 }
+    ensures adds { (shelf : Option Files) → Finds shelf name.now found.now → AddsFiles shelf word (name.now ∷ []) unix.old unix.new result }
+    ensures answer { IfErr result HasNoStop }
+    ensures no_shelf { shelf_halted result ≡ false }
+{
+    match found {
+        Some(bytes) => add_bytes(name, bytes.as_slice(), unix),
+        None => Err(Halt::Refused(Done::NoInput(word))),
+    }
+}
+
+/// Adds a file of this name and these bytes.
+fn add_bytes(name: &str, bytes: &[u8], unix: &mut Unix) -> Result<(), Halt>
+    requires open { IsOpenToFiles unix.old }
+    requires short { length name.now ≤ 255 }
+    ensures adds { (shelf : Option Files) (word : ℕ) → IfSome shelf (λ files. files name.now ≡ Some bytes.now) → AddsFiles shelf word (name.now ∷ []) unix.old unix.new result }
+    ensures answer { IfErr result HasNoStop }
+    ensures no_shelf { shelf_halted result ≡ false }
+{
+    match unix.add_file(name.as_bytes(), bytes) {
+        Ok(()) => Ok(()),
+        Err(error) => Err(refused_addition(error)),
+    }
 }
 
 /// Stores the files of these names that a guest has.
@@ -48,6 +201,41 @@ pub fn keep<H: Shelf>(
     ensures stop { IfErr result (λ stop. (stop ≡ Stop.ShelfFault) ⊎ (stop ≡ Stop.NoMemory)) }
     ensures count { CountsFailure (shelf_stopped result) (H.faults shelf.old) (H.faults shelf.new) }
 {
-    let _ = names;
-    Err(Stop::NoMemory)
+    for name in names {
+        keep_file(alloc, unix, name.as_str(), shelf)?;
+    }
+    Ok(())
+}
+
+/// Stores the file of this name, if a guest has one.
+fn keep_file<H: Shelf>(
+    alloc: Global,
+    unix: &Unix,
+    name: &str,
+    shelf: &mut H,
+) -> Result<(), Stop>
+    ensures kept { (rest out err : Option (List ℕ)) → DoesOrStops (keeps unix.now.files name.now (node_named unix.now.files name.now) ∷ []) (world (H.files shelf.old) rest out err) (world (H.files shelf.new) rest out err) result }
+    ensures stop { IfErr result (λ stop. (stop ≡ Stop.ShelfFault) ⊎ (stop ≡ Stop.NoMemory)) }
+    ensures count { CountsFailure (shelf_stopped result) (H.faults shelf.old) (H.faults shelf.new) }
+{
+    match unix.file(alloc, name.as_bytes()) {
+        Ok(found) => store_found(name, &found, shelf),
+        Err(_) => Err(Stop::NoMemory),
+    }
+}
+
+/// Stores what a guest has under a name.
+fn store_found<H: Shelf>(
+    name: &str,
+    found: &Option<Vec<u8>>,
+    shelf: &mut H,
+) -> Result<(), Stop>
+    ensures kept { (files : GuestFiles) (node : Option ℕ) (rest out err : Option (List ℕ)) → option_map (λ v. v.items) found.now ≡ option_map (bytes_at files) node → DoesOrStops (keeps files name.now node ∷ []) (world (H.files shelf.old) rest out err) (world (H.files shelf.new) rest out err) result }
+    ensures stop { IfErr result (λ stop. (stop ≡ Stop.ShelfFault) ⊎ (stop ≡ Stop.NoMemory)) }
+    ensures count { CountsFailure (shelf_stopped result) (H.faults shelf.old) (H.faults shelf.new) }
+{
+    match found {
+        Some(bytes) => store(shelf, name, bytes.as_slice()),
+        None => Ok(()),
+    }
 }

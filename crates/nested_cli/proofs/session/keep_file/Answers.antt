@@ -1,0 +1,16 @@
+use Rattle.std.proofs.Common.{◌≡◌}
+use Rattle.std.specs.Prelude.{option_map}
+use Rattle.unix_files.specs.Files.{bytes_at, node_named}
+use Rattle.nested_cli.specs.Deeds.{world}
+use Rattle.nested_cli.proofs.SessionLemmas.{keep_no_memory}
+use Rattle.nested_cli.proofs.session.keep_file.Goals as goal
+
+pub returns-in-Ok-clause-kept : goal.returns-in-Ok-clause-kept
+returns-in-Ok-clause-kept g c = λ rest out err.
+    let files = c.args.unix.now.files in
+    c.store_found.ensures.kept files (node_named files c.args.name.now) rest out err (rw (← c.as_bytes.ensures.value) c.in-Ok.ensures)
+
+pub returns-in-Err-clause-kept : goal.returns-in-Err-clause-kept
+returns-in-Err-clause-kept g c = λ rest out err.
+    let files = c.args.unix.now.files in
+    keep_no_memory files c.args.name.now (node_named files c.args.name.now) (world (g.H.Shelf.files c.args.shelf.now) rest out err)
