@@ -18,6 +18,7 @@ const STORE: &[u8] =
     b".data\nname:\n.word 0x66000000\n.text\nlui $4,%hi(name)\naddiu $4,$4,%lo(name)\naddiu $5,$0,0x201\naddiu $2,$0,2\nsyscall 0\naddu $4,$2,$0\nlui $5,0x7FFF\nori $5,$5,0xF008\naddiu $6,$0,4\naddiu $2,$0,5\nsyscall 0\naddu $4,$2,$0\naddiu $2,$0,1\nsyscall 0\n";
 
 /// What a guest's run left: the answer, output, error output, and the file `f`.
+#[derive(Drop)]
 struct Left {
     done: Done,
     out: Vec<u8>,
@@ -97,7 +98,7 @@ fn a_guest_reads_a_line(rt: HostRuntime) -> Result<(), Fail> {
 fn a_guest_keeps_its_file(rt: HostRuntime) -> Result<(), Fail> {
     let kept = run(&rt, STORE, &["interp", "a", "--keep", "f"], b"", 0)?;
     assert_eq!(rt; kept.done, Done::Exited(4));
-    assert!(rt; matches!(&kept.kept, Some(bytes) if bytes.as_slice() == b"Main"));
+    assert!(rt; matches!(&kept.kept, Some(bytes) if bytes.as_slice() == b"Main".as_slice()));
     let full = run(
         &rt,
         STORE,
