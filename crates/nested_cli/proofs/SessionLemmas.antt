@@ -20,7 +20,6 @@ use Rattle.unix_calls.specs.Starting.{Begins, IsOpenToFiles}
 use Rattle.unix_calls.specs.declared.unix_error.UnixError.{UnixError}
 use Rattle.unix_calls.specs.declared.unix_error.UnixError.TheVariants as unix
 use Rattle.nested_cli.specs.declared.done.Done.{Done}
-use Rattle.nested_cli.specs.declared.done.Done.TheVariants as done
 use Rattle.nested_cli.specs.declared.halt.Halt.{Halt}
 use Rattle.nested_cli.specs.declared.halt.Halt.TheVariants as halt
 use Rattle.nested_cli.specs.declared.readied.Readied.{Readied}
@@ -212,8 +211,8 @@ known_found (Some f) word blocks found front rest d e = files_known f blocks wor
 pub files_more : (F F' : Option Files) (word : ℕ) (xs : List (String Global)) (i : ℕ) (x : String Global) (bytes : List ℕ) (old mid new : Held) (done : Unit {0}) (r : Result (Unit {0}) Halt) → i < length xs → x ≡ get_or xs i x → bytes ≡ string_bytes x → SameFiles F F' → AddsFiles F word (map string_bytes (take i xs)) old mid (Ok done) → AddsFiles F' word (bytes ∷ []) mid new r → AddsFiles F word (map string_bytes (take (i + 1) xs)) old new r
 files_more F F' word xs i x bytes old mid new done r h is eq same p q =
     subst (λ ts. AddsFiles F word ts old new r) (sym (texts_next xs i x bytes h is eq)) (λ blocks moment found args b.
-      let one = p blocks moment found args b in
-      files_joined F word blocks moment found args (map string_bytes (take i xs)) (bytes ∷ []) one.0 new r one.1 one.3 (file_from_same F F' word blocks moment (found ++ one.0) args bytes new r same (q blocks moment (found ++ one.0) args one.2)))
+    let one = p blocks moment found args b in
+    files_joined F word blocks moment found args (map string_bytes (take i xs)) (bytes ∷ []) one.0 new r one.1 one.3 (file_from_same F F' word blocks moment (found ++ one.0) args bytes new r same (q blocks moment (found ++ one.0) args one.2)))
 
 pub files_stopped : (F : Option Files) (word : ℕ) (xs : List (String Global)) (k : ℕ) (old new : Held) (h : Halt) → AddsFiles F word (map string_bytes (take k xs)) old new (Err h) → AddsFiles F word (map string_bytes xs) old new (Err h)
 files_stopped F word xs k old new (halt.Refused answer) p =

@@ -208,12 +208,7 @@ pub fn keep<H: Shelf>(
 }
 
 /// Stores the file of this name, if a guest has one.
-fn keep_file<H: Shelf>(
-    alloc: Global,
-    unix: &Unix,
-    name: &str,
-    shelf: &mut H,
-) -> Result<(), Stop>
+fn keep_file<H: Shelf>(alloc: Global, unix: &Unix, name: &str, shelf: &mut H) -> Result<(), Stop>
     ensures kept { (rest out err : Option (List ℕ)) → DoesOrStops (keeps unix.now.files name.now (node_named unix.now.files name.now) ∷ []) (world (H.files shelf.old) rest out err) (world (H.files shelf.new) rest out err) result }
     ensures stop { IfErr result (λ stop. (stop ≡ Stop.ShelfFault) ⊎ (stop ≡ Stop.NoMemory)) }
     ensures count { CountsFailure (shelf_stopped result) (H.faults shelf.old) (H.faults shelf.new) }
@@ -225,11 +220,7 @@ fn keep_file<H: Shelf>(
 }
 
 /// Stores what a guest has under a name.
-fn store_found<H: Shelf>(
-    name: &str,
-    found: &Option<Vec<u8>>,
-    shelf: &mut H,
-) -> Result<(), Stop>
+fn store_found<H: Shelf>(name: &str, found: &Option<Vec<u8>>, shelf: &mut H) -> Result<(), Stop>
     ensures kept { (files : GuestFiles) (node : Option ℕ) (rest out err : Option (List ℕ)) → option_map (λ v. v.items) found.now ≡ option_map (bytes_at files) node → DoesOrStops (keeps files name.now node ∷ []) (world (H.files shelf.old) rest out err) (world (H.files shelf.new) rest out err) result }
     ensures stop { IfErr result (λ stop. (stop ≡ Stop.ShelfFault) ⊎ (stop ≡ Stop.NoMemory)) }
     ensures count { CountsFailure (shelf_stopped result) (H.faults shelf.old) (H.faults shelf.new) }

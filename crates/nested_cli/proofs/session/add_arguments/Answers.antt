@@ -20,8 +20,8 @@ returns-in_err-add_argument-2-clause-adds c =
     let p = err_from_is_err_and c.from_residual-in_err-add_argument-2.result c.from_residual-in_err-add_argument-2.ensures.1 in
     let h = c.in_err-add_argument-2.field-0.0 in
     rw (p.1, p.2) (args_stopped c.args.name.now c.args.texts.now (c.loop-text.text-index + 1) c.args.unix.now c.add_argument-in-loop-text.new.unix h
-      (args_more c.args.name.now c.args.texts.now c.loop-text.text-index c.text-item.result c.as_str.result.now c.args.unix.now c.loop-text.unix c.add_argument-in-loop-text.new.unix tt (Err h)
-      c.loop-text-test.true c.text-item.is c.as_str.ensures.value c.loop-text.invariant c.in_err-add_argument-2.ensures.adds))
+    (args_more c.args.name.now c.args.texts.now c.loop-text.text-index c.text-item.result c.as_str.result.now c.args.unix.now c.loop-text.unix c.add_argument-in-loop-text.new.unix tt (Err h)
+    c.loop-text-test.true c.text-item.is c.as_str.ensures.value c.loop-text.invariant c.in_err-add_argument-2.ensures.adds))
 
 pub returns-clause-adds : goal.returns-clause-adds
 returns-clause-adds c =

@@ -12,7 +12,7 @@ returns-in_err-add_arguments-clause-filled g c = λ blocks moment b.
     let s = c.args.session.now in
     let texts = map string_bytes c.as_slice.result.now in
     rw (p.1, p.2) (filled_as F s.with.word blocks moment c.args.name.now texts s.arguments s.with.names s.with.names c.add_arguments.new.unix (Err h) c.as_slice.ensures (refl {a = s.with.names})
-      (fill_halted F s.with.word blocks moment (c.args.name.now ∷ texts) s.with.names c.add_arguments.new.unix h (c.in_err-add_arguments.ensures.adds blocks moment [] [] b)))
+    (fill_halted F s.with.word blocks moment (c.args.name.now ∷ texts) s.with.names c.add_arguments.new.unix h (c.in_err-add_arguments.ensures.adds blocks moment [] [] b)))
 
 pub add_files-requires-clause-new : goal.add_files-requires-clause-new
 add_files-requires-clause-new g c =
