@@ -20,7 +20,6 @@ use Rattle.unix_calls.specs.Starting.{Begins, IsOpenToFiles}
 use Rattle.unix_calls.specs.declared.unix_error.UnixError.{UnixError}
 use Rattle.unix_calls.specs.declared.unix_error.UnixError.TheVariants as unix
 use Rattle.nested_cli.specs.declared.done.Done.{Done}
-use Rattle.nested_cli.specs.declared.done.Done.TheVariants as done
 use Rattle.nested_cli.specs.declared.halt.Halt.{Halt}
 use Rattle.nested_cli.specs.declared.halt.Halt.TheVariants as halt
 use Rattle.nested_cli.specs.declared.readied.Readied.{Readied}

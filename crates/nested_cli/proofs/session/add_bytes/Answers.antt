@@ -1,4 +1,4 @@
-use Rattle.std.proofs.Common.{◌≡◌, [], ◌∷◌, ◌++◌, ◌<◌, Err, subst}
+use Rattle.std.proofs.Common.{◌≡◌, [], ◌∷◌, ◌++◌, ◌<◌, subst}
 use Rattle.unix_system.specs.Unix.{blocks_needed}
 use Rattle.unix_calls.specs.declared.unix_error.UnixError.TheVariants.{FilesTooLarge}
 use Rattle.unix_calls.specs.Starting.{Begins}

@@ -1,6 +1,4 @@
-use Rattle.std.proofs.Common.{◌≡◌}
-use Rattle.std.specs.Prelude.{option_map}
-use Rattle.unix_files.specs.Files.{bytes_at, node_named}
+use Rattle.unix_files.specs.Files.{node_named}
 use Rattle.nested_cli.specs.Deeds.{world}
 use Rattle.nested_cli.proofs.SessionLemmas.{keep_no_memory}
 use Rattle.nested_cli.proofs.session.keep_file.Goals as goal
