@@ -10,6 +10,8 @@ mod joined;
 mod quiet;
 mod read_ahead;
 mod serving;
+#[cfg(test)]
+mod tests;
 mod text;
 mod unix;
 mod unix_error;
