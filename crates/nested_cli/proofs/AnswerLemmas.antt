@@ -1,5 +1,5 @@
 -- The answer's line, and what an answer says of the calls that failed.
-use Rattle.std.proofs.Common.{◌≡◌, ◌≢◌, ◌≤◌, ◌⊎◌, ℕ, Bool, true, false, List, [], unwrap_or, arith, Option, Some, None, Result, Ok, Err, IsTrue, refl, sym, ◌∙◌, ap, subst, inl, inr}
+use Rattle.std.proofs.Common.{◌≡◌, ◌≢◌, ◌≤◌, ◌⊎◌, ℕ, true, false, List, [], unwrap_or, arith, Option, Some, None, Result, Ok, Err, IsTrue, refl, sym, ◌∙◌, ap, inl, inr}
 use Rattle.std.specs.Prelude.{IfSome, IfOk}
 use Rattle.std.specs.Io.KnownBytes.{Appends}
 use Rattle.nv_outside.specs.Files.{Files}
@@ -11,9 +11,9 @@ use Rattle.nested_cli.specs.declared.stop.Stop.TheVariants as stop
 use Rattle.command_words.specs.Meaning.{command_of}
 use Rattle.nv_events.specs.Serving.{Counts, Rose}
 use Rattle.nested_cli.specs.Counts.{StreamCauses, is_stop, shelf_stopped}
-use Rattle.nested_cli.specs.Deeds.{World, Comes, world, done_of}
+use Rattle.nested_cli.specs.Deeds.{Comes, world, done_of}
 use Rattle.nested_cli.specs.Line.{line_of}
-use Rattle.nested_cli.specs.Commands.{IsDue, Does, Known, Says}
+use Rattle.nested_cli.specs.Commands.{IsDue, Does, Known}
 use Rattle.nested_cli.proofs.DeedLemmas.{same_files}
 
 pub said : (F F' : Option Files) (words : List (List ℕ)) (moment : ℕ) (R R' O O' E E1 E' : Option (List ℕ)) (ended : Result Done Stop) (answer : Done) → answer ≡ done_of ended → (Known (command_of words) R → IfSome F (λ files. Comes (IsDue words moment files (unwrap_or R [])) (world F R O E) (world F' R' O' E1) ended)) → Appends E1 E' (line_of words answer) → IfSome F (λ files. Does words moment files (world F R O E) (world F' R' O' E') answer)

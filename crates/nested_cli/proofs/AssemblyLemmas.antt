@@ -1,5 +1,5 @@
 -- What is due of a text.
-use Rattle.std.proofs.Common.{◌≡◌, ℕ, ◌<◌, ◌≤◌, true, false, List, length, Option, Some, None, Result, Ok, Err, refl, sym, subst, inr}
+use Rattle.std.proofs.Common.{◌≡◌, ℕ, ◌<◌, ◌≤◌, List, length, Some, None, Result, Ok, refl, sym, subst, inr}
 use Rattle.std.proofs.lemmas.Bool.{lt-ltb, le-ltb}
 use Rattle.mips_asm.specs.declared.asm_fault.AsmFault.{AsmFault}
 use Rattle.mips_asm.specs.declared.asm_error.AsmError.{AsmError}
@@ -12,7 +12,7 @@ use Rattle.nested_cli.specs.declared.done.Done.TheVariants.{AsmRefused}
 use Rattle.nested_cli.specs.declared.stop.Stop.{Stop}
 use Rattle.nested_cli.specs.Deeds.{World, Due, Works, Comes, answers}
 use Rattle.nested_cli.specs.Assembly.{IsDueByLength, IsDueByLine, IsDueOfText, assembled, refused}
-use Rattle.nested_cli.proofs.DeedLemmas.{answers_due, due_as}
+use Rattle.nested_cli.proofs.DeedLemmas.{answers_due}
 
 pub too_long : (text output : List ℕ) (w : World) → 67108864 < length text → Comes (IsDueOfText text output) w w (Ok (AsmRefused (record { line = 0; kind = 3 })))
 too_long text output w h = answers_due (IsDueOfText text output) (AsmRefused (record { line = 0; kind = 3 })) w (subst (λ b. IsDueByLength b text output (refused 0 3)) (sym (lt-ltb 67108864 (length text) h)) refl)

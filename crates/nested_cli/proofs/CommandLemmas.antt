@@ -1,5 +1,5 @@
 -- What is due by the words.
-use Rattle.std.proofs.Common.{◌≡◌, ◌≢◌, ◌⊎◌, ℕ, false, List, [], Option, Some, None, IsSome, Result, Ok, Err, unwrap_or, refl, sym, ap, subst, inl, inr}
+use Rattle.std.proofs.Common.{◌≡◌, ℕ, false, List, [], Option, Some, None, IsSome, Result, Ok, Err, unwrap_or, refl, sym, ap, subst, inl, inr}
 use Rattle.std.specs.Prelude.{IfSome}
 use Rattle.command_words.specs.Meaning.{command_of}
 use Rattle.command_words.specs.declared.command.Command.{Command}
@@ -15,7 +15,7 @@ use Rattle.nested_cli.specs.declared.stop.Stop.{Stop}
 use Rattle.nested_cli.specs.declared.stop.Stop.TheVariants as stop
 use Rattle.nested_cli.specs.Commands.{IsDue, IsDueBy, IsDueOf, Known}
 use Rattle.nested_cli.specs.Counts.{StreamCauses, read_stopped, write_stopped}
-use Rattle.nested_cli.specs.Deeds.{World, Due, Comes, answers}
+use Rattle.nested_cli.specs.Deeds.{World, Comes, answers}
 use Rattle.nested_cli.specs.Refusals.{EndsWords, usage_number}
 use Rattle.nested_cli.proofs.DeedLemmas.{answers_due, stops_early}
 

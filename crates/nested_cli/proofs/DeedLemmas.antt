@@ -1,5 +1,5 @@
 -- How deeds follow one another.
-use Rattle.std.proofs.Common.{◌≡◌, ◌⊎◌, ℕ, List, [], ◌∷◌, drop, Option, Some, None, option_map, Result, Ok, Err, refl, sym, ◌∙◌, ap, subst, inl, inr}
+use Rattle.std.proofs.Common.{◌≡◌, ◌⊎◌, ℕ, List, [], ◌∷◌, Option, Some, None, option_map, Result, Ok, Err, refl, sym, ◌∙◌, ap, subst, inl, inr}
 use Rattle.std.specs.Prelude.{IfSome, IfOk, IfErr, Vec}
 use Rattle.std.specs.declared.alloc.Global.{Global}
 use Rattle.std.specs.Io.KnownBytes.{Appends}
@@ -9,9 +9,8 @@ use Rattle.nv_outside.specs.declared.shelf_error.ShelfError.TheVariants.{Failed}
 use Rattle.nv_outside.specs.Gains.{AppendsPart}
 use Rattle.nested_cli.specs.declared.done.Done.{Done}
 use Rattle.nested_cli.specs.declared.stop.Stop.{Stop}
-use Rattle.nested_cli.specs.declared.stop.Stop.TheVariants.{ReadFault, WriteFault, ShelfFault, NoMemory}
+use Rattle.nested_cli.specs.declared.stop.Stop.TheVariants.{WriteFault, ShelfFault, NoMemory}
 use Rattle.nested_cli.specs.Straight.{IsRunEnd, RunsClass, main_class}
-use Rattle.elf_reader.specs.declared.elf_fault.ElfFault.{ElfFault}
 use Rattle.elf_reader.specs.declared.range.Range.{Range}
 use Rattle.elf_reader.specs.Area.{area}
 use Rattle.elf_reader.specs.declared.elf_error.ElfError.{ElfError}
@@ -27,7 +26,7 @@ use Rattle.elf_image.specs.Refusals.{image_fault}
 use Rattle.elf_image.specs.Start.{Source, image_of}
 use Rattle.nested_cli.specs.Listing.{source, listed, due_by, due_of_runs, IsDueOfListed}
 use Rattle.nested_cli.specs.declared.done.Done.TheVariants.{ElfRefused}
-use Rattle.nested_cli.specs.Deeds.{World, Deed, prepares, stores, prints, plays, Due, Stays, LosesRead, LosesFront, DoesDeed, StopsStore, StopsDeed, DoesAll, StopsIn, Works, StopsEarly, Comes, world, answers}
+use Rattle.nested_cli.specs.Deeds.{World, Deed, prepares, stores, prints, plays, Due, Stays, DoesDeed, StopsStore, StopsDeed, DoesAll, StopsIn, Works, Comes, world, answers}
 
 pub same_files : (files : Option Files) → SameFiles files files
 same_files None = tt

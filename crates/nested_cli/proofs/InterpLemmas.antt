@@ -1,8 +1,7 @@
 -- What is due of a guest's run, stage by stage.
-use Rattle.std.proofs.Common.{◌≡◌, ◌⊎◌, ℕ, ◌≤◌, List, [], ◌∷◌, ◌++◌, length, Option, Some, None, option_map, Result, Ok, Err, refl, sym, ◌∙◌, ap, subst, inl, inr}
-use Rattle.std.specs.Prelude.{IfSome, IfOk, IfErr, Vec}
+use Rattle.std.proofs.Common.{◌≡◌, ℕ, ◌≤◌, List, length, Option, Some, None, option_map, Result, Ok, Err, refl, sym, ap, subst, inl, inr}
+use Rattle.std.specs.Prelude.{IfSome, IfOk, Vec}
 use Rattle.std.specs.declared.alloc.Global.{Global}
-use Rattle.std.specs.Io.KnownBytes.{Appends}
 use Rattle.command_words.specs.declared.session.Session.{Session}
 use Rattle.elf_reader.specs.declared.elf_error.ElfError.{ElfError}
 use Rattle.elf_reader.specs.declared.elf_error.ElfError.TheVariants as elf
@@ -24,7 +23,7 @@ use Rattle.nv_events.specs.declared.outcome.Outcome.{Outcome}
 use Rattle.nv_outside.specs.Files.{Files, Finds, SameFiles}
 use Rattle.unix_system.specs.System.{System}
 use Rattle.unix_system.specs.Unix.{start, reply}
-use Rattle.unix_calls.specs.Serving.{Parts, parts}
+use Rattle.unix_calls.specs.Serving.{parts}
 use Rattle.unix_calls.specs.Held.{Held}
 use Rattle.unix_calls.specs.Starting.{Begins}
 use Rattle.unix_runs.specs.Playing.{Plays, Falls}
@@ -33,9 +32,9 @@ use Rattle.nested_cli.specs.declared.stop.Stop.{Stop}
 use Rattle.nested_cli.specs.declared.stop.Stop.TheVariants as stop
 use Rattle.nested_cli.specs.declared.readied.Readied.{Readied}
 use Rattle.nested_cli.specs.declared.readied.Readied.TheVariants.{Ready, Refused}
-use Rattle.nested_cli.specs.Deeds.{World, Due, Deed, plays, Stays, Works, Comes, world, answers}
+use Rattle.nested_cli.specs.Deeds.{World, Due, plays, Works, Comes, world, answers}
 use Rattle.nested_cli.specs.Refusals.{EndsElf, EndsImage}
-use Rattle.nested_cli.specs.Guest.{NamedFile, IsDueOfSession, IsDueByArgs, IsDueByFiles, arguments_of, too_long, found_for, played, kept_after, stop_of}
+use Rattle.nested_cli.specs.Guest.{NamedFile, IsDueOfSession, IsDueByArgs, IsDueByFiles, arguments_of, found_for, played, kept_after, stop_of}
 use Rattle.nested_cli.specs.Sessions.{IsReadied}
 use Rattle.nested_cli.specs.Interp.{Plan, IsDueByElf, IsDueByImage, IsDueOfImage, IsDueOfInterp, guest_run, source_of}
 use Rattle.nested_cli.proofs.DeedLemmas.{same_files, stays_then_comes, answers_due, stops_early, due_as, works_more}

@@ -1,6 +1,5 @@
 -- What `asm` is to do.
 use Rattle.std.specs.Prelude.{◌≡◌, ℕ, nat_lt, Bool, true, false, List, [], ◌∷◌, Option, Some, None, codes, length}
-use Rattle.mips_asm.specs.declared.asm_fault.AsmFault.{AsmFault}
 use Rattle.mips_asm.specs.File.{IsAssembled}
 use Rattle.mips_asm.specs.Program.{asm_fault}
 use Rattle.nested_cli.specs.declared.done.Done.TheVariants.{Good, NoInput, AsmRefused}

@@ -1,5 +1,5 @@
 -- What the program is to do, by its words and the files that are there, and what it leaves.
-use Rattle.std.specs.Prelude.{◌≡◌, ℕ, ◌⊎◌, List, [], Option, Some, None, IsSome, Result, Ok, Err, unwrap_or, ⊤}
+use Rattle.std.specs.Prelude.{◌≡◌, ℕ, ◌⊎◌, List, [], Option, IsSome, Result, Ok, Err, unwrap_or, ⊤}
 use Rattle.std.specs.Io.KnownBytes.{Appends}
 use Rattle.command_words.specs.Word.{Text}
 use Rattle.command_words.specs.Meaning.{command_of}

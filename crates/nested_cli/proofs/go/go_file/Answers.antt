@@ -1,5 +1,4 @@
-use Rattle.std.proofs.Common.{rules, Ok, refl, inl, inr}
-use Rattle.nested_cli.specs.Deeds.{world}
+use Rattle.std.proofs.Common.{rules, refl, inl, inr}
 use Rattle.nested_cli.specs.Straight.{IsDueOfBytes, RunsClass, header_fault}
 use Rattle.nested_cli.specs.declared.done.Done.TheVariants.{ElfRefused, NotBuilt}
 use Rattle.nested_cli.proofs.DeedLemmas.{answers_due, due_as}

@@ -1,4 +1,3 @@
-use Rattle.std.proofs.Common.{refl, Some}
 use Rattle.nested_cli.specs.Deeds.{world}
 use Rattle.nested_cli.specs.Interp.{plan_of}
 use Rattle.nested_cli.proofs.InterpLemmas.{found_guest, no_guest}

@@ -1,7 +1,6 @@
 use Rattle.std.proofs.Common.{false, refl, ◌∙◌}
 use Rattle.std.proofs.lemmas.Result.{err_from_is_err_and}
 use Rattle.elf_image.specs.Start.{image_of}
-use Rattle.nested_cli.specs.Listing.{runs_lines}
 use Rattle.nested_cli.proofs.ListingLemmas.{Leads-more, Leads-part, runs_next}
 use Rattle.nested_cli.proofs.list.write_runs.Goals as goal
 
