@@ -1,5 +1,5 @@
 -- A class file is a format.
-use Rattle.std.proofs.Common.{◌≡◌, ℕ, ◌+◌, true, eqb, List, length, Option, Some, Ok, refl, sym, ap, ◌∙◌}
+use Rattle.std.proofs.Common.{◌≡◌, ℕ, ◌+◌, true, eqb, List, length, Option, Some, None, Ok, refl, sym, ap, ◌∙◌}
 use Rattle.std.specs.Prelude.{not}
 use Rattle.std.specs.Int.{w16, w32}
 use Rattle.std.proofs.lemmas.Bool.{and_parts, eqb-true}
@@ -20,7 +20,7 @@ use Rattle.jvm_code.specs.declared.member.Member.{Member}
 use Rattle.jvm_code.specs.Code.{code_fault, is_bad_length}
 use Rattle.class_file.specs.Named.{fault_here, slot_of, text_slot, this_slot, super_slot, is_object, is_own_descriptor, code_name_slot}
 use Rattle.class_file.specs.Members.{public_static, attributes, field, CodeHead, code_length, code_head, fault_of_code, code_bytes, code_attribute, MethodParts, method_made, method_parts, method}
-use Rattle.class_file.specs.ClassFile.{preamble, class_flags, no_interfaces, class_slots, members, class_made, class_parts, class, Spells}
+use Rattle.class_file.specs.ClassFile.{preamble, class_flags, no_interfaces, class_slots, members, class_made, class_parts, class, Spells, class_fault}
 
 some_same : {A : Type 0} (x y : A) → Some x ≡ Some y → x ≡ y
 some_same x y e = cc
@@ -167,3 +167,11 @@ read_spelled bytes c h e = whole_taken class trailing bytes c class_law h e
 
 pub same_class : (bytes : List ℕ) (c d : Class) → Spells bytes c → Spells bytes d → d ≡ c
 same_class bytes c d first second = same_value {E = Miss} d c (sym (spelled_read bytes d second) ∙ spelled_read bytes c first)
+
+-- bytes that spell a class are at no fault
+pub no_fault : (bytes : List ℕ) (c : Class) → Spells bytes c → class_fault bytes ≡ None
+no_fault bytes c spells = rw (spelled_read bytes c spells) refl
+
+-- what was read of them is that class
+pub same_read : (bytes : List ℕ) (c d : Class) → Spells bytes c → whole class trailing bytes ≡ Ok d → d ≡ c
+same_read bytes c d spells e = same_value {E = Miss} d c (sym e ∙ spelled_read bytes c spells)
