@@ -7,6 +7,7 @@ use Rattle.class_format.specs.Gives.{Fails}
 use Rattle.class_format.specs.Laws.{IsBytes}
 use Rattle.jvm_code.specs.declared.line.Line.{Line}
 use Rattle.jvm_code.specs.Code.{Lines, LinesFrom, lines_from, code_fault, is_bad_length, target_fault, IsAnswer, refusal_of}
+use Rattle.jvm_code.specs.Writing.{AreCode}
 use Rattle.jvm_code.proofs.LineLaws.{lines_are}
 
 pub fault_of_lines : (code : List ℕ) (lines : List Line) → is_bad_length (length code) ≡ false → lines_from (length code) (length code) code ≡ Ok lines → code_fault code ≡ target_fault lines lines
@@ -28,3 +29,6 @@ good_length n e = let p = or_parts (eqb n 0) (ltb 65535 n) e in ltb-false _ _ p.
 -- the lines that were kept
 pub kept_lines : (code : List ℕ) (lines kept : List Line) → Lines code lines → kept ≡ lines → Lines code kept
 kept_lines code lines kept are same = subst (λ (ls : List Line). Lines code ls) (sym same) are
+
+pub kept_code : (lines kept : List Line) → kept ≡ lines → AreCode lines → AreCode kept
+kept_code lines kept same are = subst (λ (ls : List Line). AreCode ls) (sym same) are

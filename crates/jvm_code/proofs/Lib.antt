@@ -5,3 +5,6 @@ pub mod SwitchLaws
 pub mod InstructionLaws
 pub mod LineLaws
 pub mod DecodeLemmas
+pub mod WritingLemmas
+pub mod SizeLemmas
+pub mod ReadBack

@@ -3,3 +3,4 @@ pub mod Targets
 pub mod Switches
 pub mod Instructions
 pub mod Code
+pub mod Writing

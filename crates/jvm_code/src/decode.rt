@@ -1,6 +1,8 @@
 //! Code from bytes, with what is wrong.
-ghost use Rattle.std.specs.Prelude.{◌≡◌, ◌≤◌, None, IfOk, OnOk, IfErr, length};
+ghost use Rattle.std.specs.Prelude.{◌≡◌, ◌≤◌, List, None, IfOk, OnOk, IfErr, length};
+ghost use Rattle.jvm_code.specs.declared.line.Line.{Line};
 ghost use Rattle.jvm_code.specs.Code as format;
+ghost use Rattle.jvm_code.specs.Writing.{AreCode};
 
 use crate::code_error::CodeError;
 use crate::code_fault::CodeFault;
@@ -15,7 +17,7 @@ const MAX_CODE: usize = 65_535;
 
 const LENGTH: u32 = 5;
 
-/// The lines of code.
+/// The lines of code, of which [`encode_ops`](crate::encode_ops) makes it again.
 ///
 /// # Errors
 ///
@@ -24,6 +26,8 @@ pub fn decode_ops(alloc: Global, code: &[u8]) -> Result<Vec<Line>, CodeError>
     ensures refused { IfErr result (format.IsAnswer (format.code_fault code.now)) }
     ensures accepted { OnOk result (format.code_fault code.now ≡ None) }
     ensures lines { IfOk result (λ lines. format.Lines code.now lines.items) }
+    ensures only_lines { IfOk result (λ lines. (others : List Line) → format.Lines code.now others → others ≡ lines.items) }
+    ensures code { IfOk result (λ lines. AreCode lines.items) }
 {
     if is_bad_length(code.len()) {
         return Err(CodeError::Refused(CodeFault {

@@ -60,7 +60,8 @@ fn is_table_head(padding: &[u8], low: i32, high: i32) -> bool
     is_padding(padding) && 0 < key_count(low, high)
 }
 
-fn pad_of(at: u32) -> usize
+/// The number of padding bytes behind a switch's opcode at a place.
+pub fn pad_of(at: u32) -> usize
     ensures { result ≡ format.pad_of at }
 {
     3 - (at % 4) as usize

@@ -64,3 +64,39 @@ fn names_the_instruction_at_fault(rt: HostRuntime) {
         );
     }
 }
+
+#[test]
+fn makes_the_bytes_again(rt: HostRuntime) -> Result<(), Fail> {
+    for code in [
+        [0x03, 0x03, 0x6C, 0x57, 0xB1].as_slice(),
+        // bipush -2, istore 4, iinc 4 by -1, iload 4, ifne to 4, return.
+        [
+            0x10, 0xFE, 0x36, 0x04, 0x84, 0x04, 0xFF, 0x15, 0x04, 0x9A, 0xFF, 0xFB, 0xB1,
+        ]
+        .as_slice(),
+        // goto_w to 5, sipush -2, newarray of ints, ldc2_w of slot 258.
+        [
+            0xC8, 0x00, 0x00, 0x00, 0x05, 0x11, 0xFF, 0xFE, 0xBC, 0x0A, 0x14, 0x01, 0x02,
+        ]
+        .as_slice(),
+        // iconst_m1, tableswitch of -1 and 0.
+        [
+            0x02, 0xAA, 0, 0, 0, 0, 0, 23, 0xFF, 0xFF, 0xFF, 0xFF, 0, 0, 0, 0, 0, 0, 0, 23, 0xFF,
+            0xFF, 0xFF, 0xFF, 0xB1,
+        ]
+        .as_slice(),
+        // lookupswitch of -1 and 7.
+        [
+            0xAB, 0, 0, 0, 0, 0, 0, 28, 0, 0, 0, 2, 0xFF, 0xFF, 0xFF, 0xFF, 0, 0, 0, 0, 0, 0, 0, 7,
+            0, 0, 0, 28, 0xB1,
+        ]
+        .as_slice(),
+    ] {
+        let lines = decode_ops(rt.alloc(), code)
+            .ok()
+            .ok_or("the code is sound")?;
+        let again = encode_ops(rt.alloc(), &lines)?;
+        assert_eq!(rt; again.as_slice(), code);
+    }
+    Ok(())
+}

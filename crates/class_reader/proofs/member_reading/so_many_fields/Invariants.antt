@@ -1,0 +1,12 @@
+use Rattle.std.proofs.Common.{◌≡◌}
+use Rattle.class_format.specs.Format.{chain_reading, repeated}
+use Rattle.class_format.proofs.Loops.{with_front}
+use Rattle.class_file.specs.Members.{field}
+use Rattle.class_reader.proofs.member_reading.so_many_fields.Given as goal
+
+abbrev pub invariant-loop-to_come : goal.invariant-loop-to_come
+invariant-loop-to_come l =
+    with_front l.fields.items (chain_reading {S = Unit {0}} (λ _ _. field l.pool) (λ s _. s) tt l.to_come l.rest) ≡ (repeated (field l.pool) l.count).read l.bytes
+
+abbrev pub decreases-loop-to_come : goal.decreases-loop-to_come
+decreases-loop-to_come l = l.to_come

@@ -1,0 +1,106 @@
+-- What is written.
+use Rattle.std.proofs.Common.{◌≡◌, ℕ, ℤ, ◌%◌, ◌^◌, ◌<◌, ◌&&◌, Bool, true, false, cond, ltb, eqb, List, ◌++◌, length, replicate, Option, Some, None, refl, subst, arith, append_assoc}
+use Rattle.std.specs.Int.{Width, w16, w32, byte_len, to_be_bytes, cast_signed, cast_unsigned}
+use Rattle.std.proofs.lemmas.Bool.{and_parts, ltb-true, lt-ltb}
+use Rattle.std.proofs.lemmas.Bool.Decides.{nat_tests}
+use Rattle.class_format.specs.Format.{number, repeated, tested, signed, spelled_by, fits_by, fits_signed, chain_spelling, unless, is_sound}
+use Rattle.class_format.proofs.FieldLaws.{IsWide}
+use Rattle.class_format.proofs.Signed.{signed32}
+use Rattle.jvm_code.specs.declared.pair.Pair.{Pair}
+use Rattle.jvm_code.specs.declared.table_switch.TableSwitch.{TableSwitch}
+use Rattle.jvm_code.specs.declared.lookup_switch.LookupSwitch.{LookupSwitch}
+use Rattle.jvm_code.specs.Targets.{cut, switch_keys, offset_to, near_bits, near, wide}
+use Rattle.jvm_code.specs.Switches.{pad_of, is_padding, last_key, TableHead, table_head, table_count, LookupHead, lookup_head, pair, rises, table_switch, lookup_switch}
+
+-- a number that was mapped has the bytes of its width
+pub mapped_length : (cut : ℕ) (w : Width) → IsWide w → (o : Option ℕ) → fits_by (number cut w) o ≡ true → length (spelled_by (number cut w) o) ≡ byte_len w
+mapped_length cut w wide None e = absurd cc
+mapped_length cut w wide (Some n) e = wide.len n
+
+-- ---- two's complement numbers
+
+spelled_bits : (cut : ℕ) (w : Width) (b : Bool) (n : ℕ) → b ≡ true → spelled_by (number cut w) (cond b (Some n) None) ≡ to_be_bytes w n
+spelled_bits cut w b n e = rw e refl
+
+pub signed_spelling : (cut : ℕ) (w : Width) (z : ℤ) → fits_signed w z ≡ true → (signed cut w).spell z ≡ to_be_bytes w (cast_unsigned w z)
+signed_spelling cut w z e = spelled_bits cut w (fits_signed w z) (cast_unsigned w z) e
+
+-- ---- targets
+
+pub wide_spelling : (at target : ℕ) → target < 2 ^ 32 → (wide at).spell target ≡ to_be_bytes w32 (offset_to at target)
+wide_spelling at target lt = spelled_bits cut w32 (ltb target (2 ^ 32)) (offset_to at target) (lt-ltb _ _ lt)
+
+near_bits_are : (offset : ℕ) → offset < 2 ^ 32 → fits_by (number cut w16) (near_bits offset) ≡ true → near_bits offset ≡ Some (offset % 2 ^ 16)
+near_bits_are offset lt e = grind (arith, nat_tests)
+
+pub near_spelling : (at target : ℕ) → at < 2 ^ 16 → target < 2 ^ 32 → (near at).fits target ≡ true → (near at).spell target ≡ to_be_bytes w16 (offset_to at target % 2 ^ 16)
+near_spelling at target low lt e =
+    let below : ltb target (2 ^ 32) ≡ true = lt-ltb _ _ lt in
+    let P : Bool → Type 0 = λ b. fits_by (number cut w16) (cond b (near_bits (offset_to at target)) None) ≡ true in
+    let bits : near_bits (offset_to at target) ≡ Some (offset_to at target % 2 ^ 16) = near_bits_are (offset_to at target) (omega arith) (subst P below e) in
+    rw (below, bits) refl
+
+-- ---- switches
+
+fits_bits : (cut : ℕ) (w : Width) (b : Bool) (n : ℕ) → fits_by (number cut w) (cond b (Some n) None) ≡ true → b ≡ true
+fits_bits cut w true n e = refl
+fits_bits cut w false n e = absurd cc
+
+signed_fits : (cut : ℕ) (w : Width) (z : ℤ) → (signed cut w).fits z ≡ true → fits_signed w z ≡ true
+signed_fits cut w z e = fits_bits cut w (fits_signed w z) (cast_unsigned w z) e
+
+abbrev targets_spelling : ℕ → List ℕ → List ℕ
+targets_spelling at targets = chain_spelling {S = Unit {0}} (λ _ _. wide at) (λ s _. s) tt targets
+
+abbrev pairs_spelling : ℕ → List Pair → List ℕ
+pairs_spelling at pairs = chain_spelling {S = Unit {0}} (λ _ _. pair at) (λ s _. s) tt pairs
+
+pub last_key_fits : (at : ℕ) (s : TableSwitch) → (table_switch at).fits s ≡ true → fits_signed w32 (last_key s) ≡ true
+unfolding table_switch
+last_key_fits at s e =
+    let head : TableHead = (replicate (pad_of at) 0, (s.default, (s.low, last_key s))) in
+    let p = and_parts ((table_head at).fits head) ((repeated (wide at) (table_count head)).fits s.targets) e in
+    let q = and_parts _ (is_sound (unless switch_keys (is_padding head.0 && ltb 0 (table_count head)))) p.0 in
+    let r = and_parts (eqb (length head.0) (pad_of at)) _ q.0 in
+    let t = and_parts ((wide at).fits s.default) _ r.1 in
+    let u = and_parts ((signed cut w32).fits s.low) ((signed cut w32).fits (last_key s)) t.1 in
+    signed_fits cut w32 (last_key s) u.1
+
+few_pairs : (at : ℕ) (s : LookupSwitch) → (lookup_switch at).fits s ≡ true → length s.pairs < 2 ^ 32
+unfolding lookup_switch
+few_pairs at s e =
+    let head : LookupHead = (replicate (pad_of at) 0, (s.default, length s.pairs)) in
+    let p = and_parts ((lookup_head at).fits head) ((tested switch_keys rises (repeated (pair at) (length s.pairs))).fits s.pairs) e in
+    let q = and_parts _ (is_sound (unless switch_keys (is_padding head.0 && ltb (length s.pairs) (2 ^ 31)))) p.0 in
+    let r = and_parts (eqb (length head.0) (pad_of at)) _ q.0 in
+    let t = and_parts ((wide at).fits s.default) _ r.1 in
+    ltb-true _ _ t.1
+
+pub few_pairs_of : (at : ℕ) (s : LookupSwitch) (pairs : List Pair) → pairs ≡ s.pairs → (lookup_switch at).fits s ≡ true → length pairs < 2 ^ 32
+few_pairs_of at s pairs is e = rw is (few_pairs at s e)
+
+-- a field of a switch that is read
+pub low_again : (at : ℕ) (s : TableSwitch) → (table_switch at).fits s ≡ true → cast_signed w32 (cast_unsigned w32 s.low) ≡ s.low
+unfolding table_switch
+low_again at s e =
+    let head : TableHead = (replicate (pad_of at) 0, (s.default, (s.low, last_key s))) in
+    let p = and_parts ((table_head at).fits head) ((repeated (wide at) (table_count head)).fits s.targets) e in
+    let q = and_parts _ (is_sound (unless switch_keys (is_padding head.0 && ltb 0 (table_count head)))) p.0 in
+    let r = and_parts (eqb (length head.0) (pad_of at)) _ q.0 in
+    let t = and_parts ((wide at).fits s.default) _ r.1 in
+    let u = and_parts ((signed cut w32).fits s.low) ((signed cut w32).fits (last_key s)) t.1 in
+    signed32.again s.low (signed_fits cut w32 s.low u.0)
+
+-- a number that was computed is passed on
+pub last_again : (at : ℕ) (s : TableSwitch) (last : ℤ) → last ≡ last_key s → (table_switch at).fits s ≡ true → cast_signed w32 (cast_unsigned w32 last) ≡ last_key s
+last_again at s last is e = rw is (signed32.again (last_key s) (last_key_fits at s e))
+
+pub table_spelled : (at : ℕ) (s : TableSwitch) (low last : ℤ) (old a b c d new : List ℕ) → low ≡ s.low → last ≡ last_key s → a ≡ old ++ replicate (pad_of at) 0 → b ≡ a ++ (wide at).spell s.default
+    → c ≡ b ++ (signed cut w32).spell low → d ≡ c ++ (signed cut w32).spell last → new ≡ d ++ targets_spelling at s.targets → new ≡ old ++ (table_switch at).spell s
+unfolding table_switch
+table_spelled at s low last old a b c d new least is one two three four five = rw (five, four, three, two, one, least, is) (simp append_assoc refl)
+
+pub lookup_spelled : (at : ℕ) (s : LookupSwitch) (pairs : List Pair) (old a b c new : List ℕ) → pairs ≡ s.pairs → a ≡ old ++ replicate (pad_of at) 0 → b ≡ a ++ (wide at).spell s.default
+    → c ≡ b ++ to_be_bytes w32 (length pairs) → new ≡ c ++ pairs_spelling at pairs → new ≡ old ++ (lookup_switch at).spell s
+unfolding lookup_switch
+lookup_spelled at s pairs old a b c new is one two three four = rw (four, three, two, one, is) (simp append_assoc refl)
