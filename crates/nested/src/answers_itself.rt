@@ -6,7 +6,9 @@ const WRITE_FAULT: u8 = 75;
 
 const HELP: &str = "nested: runs MIPS programs without native code
 
-    nested go IN        translates the program in the file IN, and runs its classes
+    nested interp IN [--steps N] [--heap N] [--stack N] [--disk N] [--with NAMES] [--keep NAMES] [--name NAME] [-- ARGS]
+                        runs the program in the file IN
+    nested go IN        translates a straight program, and runs its class
     nested list IN      prints the code of a program, a line a word
     nested asm IN OUT   assembles the text in IN into the program OUT
     nested --help       prints this text
