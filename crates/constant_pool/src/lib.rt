@@ -21,7 +21,7 @@ pub use lookups::{class_name_of, text_of};
 pub use names::{is_class_name, is_field_descriptor, is_member_name, is_method_descriptor};
 pub use pool::Pool;
 pub use pool_reading::{entries_of, read_pool};
-pub use text::text_size;
+pub use text::{append_text, text_size};
 
 #[cfg(test)]
 mod tests;

@@ -1,0 +1,2 @@
+pub mod MethodLemmas
+pub mod Spelled
