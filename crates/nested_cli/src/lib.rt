@@ -5,8 +5,6 @@ mod asm;
 mod done;
 mod go;
 mod guest;
-#[cfg(test)]
-mod guest_tests;
 mod halt;
 mod hexadecimal;
 mod interp;
@@ -20,8 +18,6 @@ mod refusals;
 mod session;
 mod stop;
 mod store;
-#[cfg(test)]
-mod tests;
 
 pub use done::Done;
 pub use program::nested;
