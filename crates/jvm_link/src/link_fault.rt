@@ -1,0 +1,24 @@
+use std::alloc::AllocError;
+
+/// Want of memory.
+pub type NoMemory = AllocError;
+
+/// What is wrong with classes that do not link.
+#[derive(Clone, Copy)]
+pub struct LinkFault {
+    /// 1 a class has the name of an earlier or known one, or has two fields or two methods of equal name and descriptor; 2 no class,
+    /// 3 no field, 4 no method of that name; 5 the name is there with other descriptors alone; 6 the first class has no method
+    /// `run()V`; 7 there are more than 1,024 classes.
+    pub kind: u32,
+    /// The number of the class at fault, from 0.
+    pub class: u32,
+    /// The slot of its pool at fault, or 0.
+    pub slot: u32,
+}
+
+/// Why classes were not linked.
+#[derive(Drop)]
+pub enum LinkError {
+    Refused(LinkFault),
+    NoMemory,
+}
