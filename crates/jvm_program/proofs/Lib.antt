@@ -1,1 +1,3 @@
 mod Examples
+pub mod Moving
+pub mod Stretches

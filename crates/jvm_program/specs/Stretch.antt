@@ -1,12 +1,14 @@
 -- Stretches of code: instructions that are run by themselves, at offsets from their own start, and that stand in a method.
-use Rattle.std.specs.Prelude.{◌≡◌, ℕ, zero, suc, ◌+◌, List, [], ◌∷◌, map, slice_get, Option, Some, None, option_map, option_and_then, All}
+use Rattle.std.specs.Prelude.{◌≡◌, ℕ, zero, suc, ◌+◌, List, [], ◌∷◌, map, slice_get, Option, Some, None, option_map, option_and_then}
 use Rattle.nv_events.specs.Turn.{Turn, moves, ends, leaves, asks}
 use Rattle.jvm_code.specs.declared.pair.Pair.{Pair}
 use Rattle.jvm_program.specs.declared.linked_line.LinkedLine.{LinkedLine}
 use Rattle.jvm_program.specs.declared.instruction.Instruction.{Instruction}
 use Rattle.jvm_program.specs.declared.instruction.Instruction.TheVariants.{Branch, TableSwitch, LookupSwitch}
 use Rattle.jvm_program.specs.Program.{Program, line_in, line_at, targets_of}
+use Rattle.jvm_program.specs.Values.{Value}
 use Rattle.jvm_program.specs.Effect.{Workspace, Effect, goes_on, jumps, enters, gives, asks_host, faults, traps, wrong, effect}
+use Rattle.jvm_program.specs.Step.{entered}
 
 -- ---- turns that only move
 
@@ -68,4 +70,30 @@ moved_line by l = record { at = by + l.at; next = by + l.next; instruction = mov
 
 -- a method has the lines from an offset on
 abbrev pub StandsAt : Program → ℕ → ℕ → List LinkedLine → Type 0
-StandsAt program m by lines = All (λ (l : LinkedLine). line_at program m (by + l.at) ≡ Some (moved_line by l)) lines
+StandsAt program m by [] = Unit {0}
+StandsAt program m by (l ∷ lines) = (line_at program m (by + l.at) ≡ Some (moved_line by l)) × StandsAt program m by lines
+
+-- ---- calls
+
+-- what the body of a called method begins with
+abbrev pub body_workspace : List Value → Workspace → Workspace
+body_workspace given w = record { locals = (entered 0 given).locals; operands = []; fields = w.fields; heap = w.heap }
+
+-- what the caller goes on with
+abbrev pub caller_workspace : Option Value → Workspace → Workspace → Workspace
+caller_workspace None w back = record { locals = w.locals; operands = w.operands; fields = back.fields; heap = back.heap }
+caller_workspace (Some v) w back = record { locals = w.locals; operands = v ∷ w.operands; fields = back.fields; heap = back.heap }
+
+-- A line calls a method with arguments; the method's lines lead from their start to a return after so many instructions.
+pub record CallsAndReturns (program : Program) (words m : ℕ) (line : LinkedLine) (w : Workspace) (n : ℕ) (result : Option Value) (caller back : Workspace) : Type 0 where
+  pub stands : line_at program m line.at ≡ Some line
+  pub callee : ℕ
+  pub given : List Value
+  pub calls : effect program words line.instruction w ≡ enters callee given caller
+  pub body : List LinkedLine
+  pub body_stands : StandsAt program callee 0 body
+  pub end_at : Point
+  pub runs : stretch program words body n 0 (body_workspace given caller) ≡ Some end_at
+  pub last : LinkedLine
+  pub last_is : line_in body end_at.at ≡ Some last
+  pub returns : effect program words last.instruction end_at.workspace ≡ gives result back

@@ -8,6 +8,7 @@ mod instruction;
 mod kind;
 mod linked_line;
 mod linked_method;
+pub mod laws;
 mod local_kind;
 
 pub use array_kind::ArrayKind;

@@ -1,0 +1,40 @@
+-- An instruction whose targets are moved has the effect that it had, and its targets are the moved ones.
+use Rattle.std.proofs.Common.{◌≡◌, ℕ, suc, ◌+◌, ℤ, ◌-ℤ◌, List, [], ◌∷◌, map, length, slice_get, if◌then◌else◌, Bool, true, false, Option, Some, None, option_map, refl, ap, sym, ◌∙◌}
+use Rattle.std.proofs.lemmas.List.{length-map}
+use Rattle.std.proofs.lemmas.Option.{slice_get-map}
+use Rattle.nv_words.specs.Words.{signed_of}
+use Rattle.jvm_code.specs.declared.pair.Pair.{Pair}
+use Rattle.jvm_program.specs.declared.instruction.Instruction.{Instruction}
+use Rattle.jvm_program.specs.declared.instruction.Instruction.TheVariants.{Branch, TableSwitch, LookupSwitch}
+use Rattle.jvm_program.specs.Program.{Program, targets_of}
+use Rattle.jvm_program.specs.Effect.{Workspace, Effect, jumps, popping_int, with_operands, table_target, lookup_target, same, effect}
+use Rattle.jvm_program.specs.Stretch.{moved_instruction}
+
+-- a pair with its target moved
+abbrev moved_pair : ℕ → Pair → Pair
+moved_pair by p = record { key = p.key; target = by + p.target }
+
+lookup-moved : (by : ℕ) (pairs : List Pair) (key : ℤ) (number : ℕ) → lookup_target (map (moved_pair by) pairs) key number ≡ lookup_target pairs key number
+lookup-moved by [] key number = refl
+lookup-moved by (p ∷ pairs) key number =
+    ap (λ n. if same p.key key then number else n) (lookup-moved by pairs key (suc number))
+
+pub effect-moved : (program : Program) (words by : ℕ) (instruction : Instruction) (w : Workspace) → effect program words (moved_instruction by instruction) w ≡ effect program words instruction w
+effect-moved program words by (TableSwitch s) w =
+    ap (λ count. popping_int w.operands (λ n rest. jumps (table_target (signed_of n -ℤ s.low) count) (with_operands w rest))) (length-map s.targets (λ t. by + t))
+effect-moved program words by (LookupSwitch s) w =
+    λ i. popping_int w.operands (λ n rest. jumps (lookup-moved by s.pairs (signed_of n) 1 i) (with_operands w rest))
+effect-moved program words by _ w = refl
+
+targets-of-pairs : (by : ℕ) (pairs : List Pair) → map (λ (p : Pair). p.target) (map (moved_pair by) pairs) ≡ map (λ t. by + t) (map (λ (p : Pair). p.target) pairs)
+targets-of-pairs by [] = refl
+targets-of-pairs by (p ∷ pairs) = ap (λ ts. (by + p.target) ∷ ts) (targets-of-pairs by pairs)
+
+pub targets-moved : (by : ℕ) (instruction : Instruction) → targets_of (moved_instruction by instruction) ≡ map (λ t. by + t) (targets_of instruction)
+targets-moved by (LookupSwitch s) = ap (λ ts. (by + s.default) ∷ ts) (targets-of-pairs by s.pairs)
+targets-moved by _ = refl
+
+pub target-moved : (by : ℕ) (instruction : Instruction) (k : ℕ) → slice_get (targets_of (moved_instruction by instruction)) k ≡ option_map (λ t. by + t) (slice_get (targets_of instruction) k)
+target-moved by instruction k =
+    ap (λ ts. slice_get ts k) (targets-moved by instruction)
+    ∙ slice_get-map (λ t. by + t) (targets_of instruction) k
