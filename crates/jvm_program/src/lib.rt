@@ -6,10 +6,11 @@ mod array_kind;
 mod constant;
 mod instruction;
 mod kind;
+pub mod laws;
 mod linked_line;
 mod linked_method;
-pub mod laws;
 mod local_kind;
+mod value;
 
 pub use array_kind::ArrayKind;
 pub use constant::Constant;
@@ -18,3 +19,4 @@ pub use kind::Kind;
 pub use linked_line::LinkedLine;
 pub use linked_method::LinkedMethod;
 pub use local_kind::LocalKind;
+pub use value::Value;
