@@ -1,3 +1,4 @@
 pub mod KindLaws
 pub mod HeapLaws
 pub mod ShuffleLaws
+pub mod EffectLaws
