@@ -92,10 +92,6 @@ Conform-entry heap (k ∷ kinds) (v ∷ values) (suc i) c = Conform-entry heap k
 
 -- ---- longs, of which each counts as two operands
 
-pub is_top : Kind → Bool
-is_top Top = true
-is_top _ = false
-
 pub no_top-parts : (k : Kind) (kinds : List Kind) → no_top (k ∷ kinds) ≡ true → (k ≢ Top) × (no_top kinds ≡ true)
 no_top-parts Top kinds h = absurd (true≢false (sym h))
 no_top-parts _ kinds h = ((λ e. cc), h)

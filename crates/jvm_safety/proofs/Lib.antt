@@ -4,3 +4,4 @@ pub mod ShuffleLaws
 pub mod EffectLaws
 pub mod StepLaws
 pub mod RunSafety
+pub mod OperandLaws

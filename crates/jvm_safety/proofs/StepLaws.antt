@@ -76,7 +76,7 @@ entered_safe program heap m method arguments is typed c =
 
 -- ---- where an instruction may go
 
-if_all : {A : Type 0} (P : A → Type 0) (b : Bool) (x : A) (xs : List A) → All P (if b then x ∷ xs else xs) → (b ≡ true → P x) × All P xs
+pub if_all : {A : Type 0} (P : A → Type 0) (b : Bool) (x : A) (xs : List A) → All P (if b then x ∷ xs else xs) → (b ≡ true → P x) × All P xs
 if_all P true x xs h = (λ e. h 0 x (omega arith), λ k d l. h (suc k) d (omega arith))
 if_all P false x xs h = (λ e. absurd (true≢false (sym e)), h)
 
@@ -199,6 +199,15 @@ module _ (program : Program) (words : ℕ) (typed : AllTyped program) (linked : 
 
   pub safe_turn : (s : State) → IsSafe program s → TurnIsSafe program (turn program words s)
   safe_turn s safe = frames_turn s s.frames safe.heap safe.fields safe.frames safe.few
+
+pub moved_state_safe : (program : Program) (words : ℕ) (s t : State) → AllTyped program → IsLinked program → IsSafe program s → turn program words s ≡ moves t → IsSafe program t
+moved_state_safe program words s t typed linked safe e = subst (TurnIsSafe program) e (safe_turn program words typed linked s safe)
+
+pub answered_state_safe : (program : Program) (words : ℕ) (s : State) (q : Question) (next : Answer → State) → AllTyped program → IsLinked program → IsSafe program s → turn program words s ≡ asks q next → (a : Answer) → IsSafe program (next a)
+answered_state_safe program words s q next typed linked safe e = subst (TurnIsSafe program) e (safe_turn program words typed linked s safe)
+
+pub never_stuck : (program : Program) (words : ℕ) (s : State) → AllTyped program → IsLinked program → IsSafe program s → turn program words s ≢ stuck
+never_stuck program words s typed linked safe e = subst (TurnIsSafe program) e (safe_turn program words typed linked s safe) refl
 
 -- ---- the start
 
