@@ -1,12 +1,12 @@
 -- Heaps that grow, and whose arrays' elements are written: what a value is of, it stays of.
-use Rattle.std.proofs.Common.{◌≡◌, ◌≢◌, ℕ, zero, suc, ◌+◌, ◌%◌, ◌<◌, ◌≤◌, ◌==◌, Bool, true, false, if◌then◌else◌, List, [], ◌∷◌, Option, Some, None, refl, sym, ap, subst, ◌∙◌, true≢false, arith}
-use Rattle.std.proofs.lemmas.Bool.Decides.{eqb_tells, nat_tests}
+use Rattle.std.proofs.Common.{◌≡◌, ℕ, ◌+◌, ◌%◌, ◌<◌, ◌≤◌, ◌==◌, Bool, true, false, if◌then◌else◌, List, [], ◌∷◌, Option, Some, None, refl, sym, ap, ◌∙◌, true≢false, arith}
+use Rattle.std.proofs.lemmas.Bool.Decides.{nat_tests}
 use Rattle.nv_events.specs.Memory.{patched}
 use Rattle.jvm_program.specs.declared.array_kind.ArrayKind.{ArrayKind}
 use Rattle.jvm_program.specs.declared.array_kind.ArrayKind.TheVariants as array_kinds
 use Rattle.jvm_program.specs.declared.kind.Kind.{Kind}
 use Rattle.jvm_program.specs.declared.kind.Kind.TheVariants.{Top, Int, Long, Null, Ints, Pages, Text}
-use Rattle.jvm_program.specs.Values.{Value, unset, int, long, null, array, text, Array, ints, pages, Heap, no_arrays, array_length, is_ints, is_pages, new_array, with_new, set_int, set_page, with_int, with_page, conforms}
+use Rattle.jvm_program.specs.Values.{Value, array, Array, ints, pages, Heap, no_arrays, array_length, is_ints, is_pages, new_array, with_new, set_int, set_page, with_int, with_page, conforms}
 use Rattle.jvm_program.specs.HostMemory.{HostMemory, Cell, cell_of, with_cell, with_byte}
 use Rattle.jvm_program.specs.Program.{Program}
 use Rattle.jvm_safety.specs.Safety.{Conform, HeapIsSafe, FieldsAreSafe}

@@ -1,9 +1,9 @@
 -- Values along types, and along heaps that grow.
-use Rattle.std.proofs.Common.{◌≡◌, ◌≢◌, ℕ, zero, suc, ◌+◌, ◌<◌, ◌≤◌, ◌==◌, ◌&&◌, Bool, true, false, not, if◌then◌else◌, List, [], ◌∷◌, ◌++◌, length, drop, Option, Some, None, option_map, slice_get, slice_index_or, IsSome, refl, sym, ap, subst, ◌∙◌, true≢false, arith}
+use Rattle.std.proofs.Common.{◌≡◌, ◌≢◌, ℕ, zero, suc, ◌+◌, ◌≤◌, ◌&&◌, Bool, true, false, if◌then◌else◌, List, [], ◌∷◌, ◌++◌, drop, Option, Some, None, slice_index_or, refl, sym, ap, subst, ◌∙◌, true≢false, arith}
 use Rattle.jvm_program.specs.declared.kind.Kind.{Kind}
 use Rattle.jvm_program.specs.declared.kind.Kind.TheVariants.{Top, Int, Long, Null, Ints, Pages, Text}
-use Rattle.jvm_program.specs.Values.{Value, unset, int, long, null, array, text, Array, ints, pages, Heap, is_int, is_long, is_null, is_ints, is_pages, is_ints_reference, is_pages_reference, is_text_reference, conforms}
-use Rattle.jvm_program.specs.Typing.{TypeFrame, below, same_kind, Below, stack_below, is_long_kind, no_top, slots_of, taken}
+use Rattle.jvm_program.specs.Values.{Value, unset, long, null, Heap, is_long, is_null, is_ints_reference, is_pages_reference, is_text_reference, conforms}
+use Rattle.jvm_program.specs.Typing.{below, stack_below, is_long_kind, no_top, slots_of, taken}
 use Rattle.jvm_safety.specs.Safety.{Conform, slots_in}
 
 -- ---- along types

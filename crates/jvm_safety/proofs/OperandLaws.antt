@@ -1,13 +1,13 @@
 -- What the instruction of a safe state finds.
-use Rattle.std.proofs.Common.{◌≡◌, ◌≢◌, ℕ, zero, suc, ◌+◌, ◌<◌, ◌≤◌, Bool, true, false, if◌then◌else◌, List, [], ◌∷◌, ◌++◌, length, All, Option, Some, None, IsSome, is_some, refl, sym, ap, subst, ◌∙◌, true≢false, arith}
+use Rattle.std.proofs.Common.{◌≡◌, ◌≢◌, ℕ, ◌+◌, ◌≤◌, Bool, true, false, if◌then◌else◌, List, [], ◌∷◌, ◌++◌, All, Some, is_some, refl, sym, ap, subst, ◌∙◌, true≢false, arith}
 use Rattle.jvm_program.specs.declared.kind.Kind.{Kind}
-use Rattle.jvm_program.specs.declared.kind.Kind.TheVariants.{Top, Int, Long, Null, Ints, Pages, Text}
+use Rattle.jvm_program.specs.declared.kind.Kind.TheVariants.{Top, Int}
 use Rattle.jvm_program.specs.declared.local_kind.LocalKind.{LocalKind}
 use Rattle.jvm_program.specs.declared.linked_line.LinkedLine.{LinkedLine}
 use Rattle.jvm_program.specs.declared.linked_method.LinkedMethod.{LinkedMethod}
 use Rattle.jvm_program.specs.declared.instruction.Instruction.{Instruction}
-use Rattle.jvm_program.specs.Values.{Value, Heap, is_long, conforms}
-use Rattle.jvm_program.specs.Shuffles.{Shuffle, shuffled}
+use Rattle.jvm_program.specs.Values.{Value, Heap, conforms}
+use Rattle.jvm_program.specs.Shuffles.{shuffled}
 use Rattle.jvm_program.specs.Program.{Program, targets_of, falls_through, successors}
 use Rattle.jvm_program.specs.Effect.{Effect, goes_on, jumps, enters, gives, asks_host, faults, traps, wrong, effect, moves}
 use Rattle.jvm_program.specs.Step.{Frame, State, with_result, workspace_of}
@@ -16,7 +16,8 @@ use Rattle.jvm_program.specs.Typing.{TypeFrame, TypeEffect, exchanges, takes_ref
 use Rattle.jvm_safety.specs.Safety.{Conform, FrameIsSafe, given, CallerIsSafe, FramesAreSafe, IsSafe, Begin, OnTop, OperandsFit, slots_in, LeavesWithin, InstructionFits}
 use Rattle.jvm_safety.proofs.KindLaws.{and_parts, tested, some_same, Conform-taken, no_top-parts, slots_agree}
 use Rattle.jvm_safety.proofs.ShuffleLaws.{shuffled_conform}
-use Rattle.jvm_safety.proofs.EffectLaws.{Stands, Fits, Leaves, on, to, into, back, out, faulted, trapped, mapped, is_reference_of, Conform-one, int_of, moves_of, array_of, effect_leaves}
+use Rattle.jvm_safety.proofs.TakingLaws.{Stands, Leaves, on, to, into, out, mapped}
+use Rattle.jvm_safety.proofs.EffectLaws.{is_reference_of, Conform-one, int_of, moves_of, array_of, effect_leaves}
 use Rattle.jvm_safety.proofs.StepLaws.{if_all}
 
 -- ---- operands

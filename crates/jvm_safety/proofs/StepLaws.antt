@@ -1,28 +1,28 @@
 -- Steps of safe states.
-use Rattle.std.proofs.Common.{◌≡◌, ◌≢◌, ℕ, zero, suc, ◌+◌, ◌<◌, ◌≤◌, ◌==◌, nat_lt, ℤ, pos, Bool, true, false, if◌then◌else◌, List, [], ◌∷◌, ◌++◌, length, All, get_or, Option, Some, None, option_and_then, slice_get, slice_index_or, refl, sym, ap, subst, ◌∙◌, true≢false, arith}
+use Rattle.std.proofs.Common.{◌≡◌, ◌≢◌, ℕ, suc, ◌<◌, ◌≤◌, ◌==◌, nat_lt, Bool, true, false, if◌then◌else◌, List, [], ◌∷◌, ◌++◌, length, All, get_or, Option, Some, None, option_and_then, slice_get, slice_index_or, refl, sym, ap, subst, ◌∙◌, true≢false, arith}
 use Rattle.std.proofs.lemmas.Bool.Decides.{nat_tests}
 use Rattle.std.proofs.lemmas.Option.{slice_get-get_or}
 use Rattle.nv_words.specs.Words.{signed_of}
 use Rattle.nv_events.specs.declared.call.Call.{Call}
 use Rattle.nv_events.specs.Question.{Question}
 use Rattle.nv_events.specs.Answer.{Answer, answered, room_place}
-use Rattle.nv_events.specs.Turn.{Turn, moves, ends, leaves, asks, End, exit, «fault», trap}
+use Rattle.nv_events.specs.Turn.{Turn, moves, ends, leaves, asks, exit, trap}
 use Rattle.jvm_program.specs.declared.kind.Kind.{Kind}
 use Rattle.jvm_program.specs.declared.kind.Kind.TheVariants.{Top, Int, Long, Null, Ints, Pages, Text}
 use Rattle.jvm_program.specs.declared.linked_line.LinkedLine.{LinkedLine}
 use Rattle.jvm_program.specs.declared.linked_method.LinkedMethod.{LinkedMethod}
-use Rattle.jvm_program.specs.declared.instruction.Instruction.{Instruction}
 use Rattle.jvm_program.specs.Values.{Value, unset, int, Heap, no_arrays, zero_of, conforms}
 use Rattle.jvm_program.specs.Words.{wrapped}
 use Rattle.jvm_program.specs.HostMemory.{HostMemory, with_byte}
 use Rattle.jvm_program.specs.Program.{Program, line_in, line_at, targets_of, falls_through, successors}
 use Rattle.jvm_program.specs.Effect.{Workspace, Effect, goes_on, jumps, enters, gives, asks_host, faults, traps, wrong, frames_trap, effect}
-use Rattle.jvm_program.specs.Step.{Frame, State, field_zero, entered, start, workspace_of, placed, stuck, jumped, called, with_result, returned_to, host_question, after_host, asked_host, turn_by, executed, turn_of, turn}
-use Rattle.jvm_program.specs.Typing.{TypeFrame, Below, slots_of, given_by, with_stack, applied, type_effect, Frames, Receives, Follows, entry_frame, IsTyping, Typed, AllTyped, NamesField, GivesAs, IsLinked}
-use Rattle.jvm_safety.specs.Safety.{Conform, HeapIsSafe, FieldsAreSafe, FrameIsSafe, given, CallerIsSafe, gives_int_of, CallersAreSafe, FramesAreSafe, IsSafe}
+use Rattle.jvm_program.specs.Step.{Frame, State, field_zero, entered, start, workspace_of, placed, stuck, jumped, called, with_result, returned_to, host_question, after_host, turn_by, executed, turn_of, turn}
+use Rattle.jvm_program.specs.Typing.{TypeFrame, slots_of, given_by, with_stack, Frames, Receives, entry_frame, IsTyping, Typed, AllTyped, GivesAs, IsLinked}
+use Rattle.jvm_safety.specs.Safety.{Conform, HeapIsSafe, FieldsAreSafe, FrameIsSafe, given, gives_int_of, CallersAreSafe, FramesAreSafe, IsSafe}
 use Rattle.jvm_safety.proofs.KindLaws.{conforms_above, Conform-above, Conform-entry, slots_above}
 use Rattle.jvm_safety.proofs.HeapLaws.{Keeps, Continues, conforms_kept, Conform-kept, fields_kept, no_arrays_safe, continues_on, continues_patched}
-use Rattle.jvm_safety.proofs.EffectLaws.{Stands, Fits, Leaves, on, to, into, back, out, faulted, trapped, effect_leaves}
+use Rattle.jvm_safety.proofs.TakingLaws.{Stands, Fits, Leaves, on, to, into, back, out, faulted, trapped}
+use Rattle.jvm_safety.proofs.EffectLaws.{effect_leaves}
 
 -- ---- turns
 
@@ -133,6 +133,7 @@ module _ (program : Program) (before : Heap) (m : ℕ) (method : LinkedMethod) (
     where
       state : State
       state = record { fields = w.fields; heap = w.heap; frames = entered callee passed ∷ (placed m line.next w others).frames }
+
       safe : length (placed m line.next w others).frames < 64 → IsSafe program state
       safe small = record {
         heap = h.heap.safe;
@@ -140,6 +141,7 @@ module _ (program : Program) (before : Heap) (m : ℕ) (method : LinkedMethod) (
         frames = (entered_safe program w.heap callee target passed there (typed callee target there) (Conform-kept before w.heap h.heap.keeps target.parameters passed c), (λ n. subst (λ o. FrameIsSafe program w.heap (with_result (given (gives_int_of o) n) (record { method = m; at = line.next; locals = w.locals; operands = w.operands }))) (sym there) (waiting_safe target.gives_int w kinds n e (next_is falls) h), callers_kept program before w.heap (gives_int_of (program.method m)) others h.heap.keeps callers));
         few = small;
       }
+
       by_test : (b : Bool) → nat_lt (length (placed m line.next w others).frames) 64 ≡ b → TurnIsSafe program (if b then moves state else ends (trap frames_trap))
       by_test true t = safe (grind (arith, nat_tests))
       by_test false t = λ z. cc
@@ -150,9 +152,11 @@ module _ (program : Program) (before : Heap) (m : ℕ) (method : LinkedMethod) (
     where
       memory : HostMemory
       memory = record { heap = w.heap; readable = readable; writable = writable }
+
       asked_safe : (b : Bool) → ((a : Answer) → IsSafe program (placed m line.next (after_host call memory w a) others)) → TurnIsSafe program (if b then leaves (host_question call memory) (exit (signed_of call.a0)) else asks (host_question call memory) (λ answer. placed m line.next (after_host call memory w answer) others))
       asked_safe true k = λ z. cc
       asked_safe false k = k
+
       after_answer : (answer : Answer) → Fits program before behind (after_host call memory w answer)
       after_answer answer =
           let question = host_question call memory in
