@@ -272,9 +272,20 @@ NamesField program (Get f kind) = program.field f ≡ Some kind
 NamesField program (Put f kind) = program.field f ≡ Some kind
 NamesField program _ = Unit {0}
 
--- what linking promises: an instruction names a field with the field's type, and the first method takes and gives nothing
+-- a return gives an int where its method does
+abbrev pub returns_int : ReturnName → Bool
+returns_int returns.Ireturn = true
+returns_int returns.Return = false
+
+abbrev pub GivesAs : LinkedMethod → Instruction → Type 0
+GivesAs method (Return name) = returns_int name ≡ method.gives_int
+GivesAs method _ = Unit {0}
+
+-- what linking promises: an instruction names a field with the field's type, a return is of its method's kind, and the first method
+-- takes and gives nothing
 pub record IsLinked (program : Program) : Type 0 where
   pub fields : (m : ℕ) (method : LinkedMethod) (at : ℕ) (line : LinkedLine) → program.method m ≡ Some method → line_in method.lines at ≡ Some line → NamesField program line.instruction
+  pub returns : (m : ℕ) (method : LinkedMethod) (at : ℕ) (line : LinkedLine) → program.method m ≡ Some method → line_in method.lines at ≡ Some line → GivesAs method line.instruction
   pub first : LinkedMethod
   pub first_is : program.method program.first ≡ Some first
   pub takes_nothing : first.parameters ≡ []
