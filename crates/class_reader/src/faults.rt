@@ -5,7 +5,7 @@ ghost use Rattle.constant_pool.specs.Checks.{text_fault};
 ghost use Rattle.class_file.specs.Named as format;
 
 use class_format::ClassFault;
-use constant_pool::{is_class_name, is_field_descriptor, is_member_name, is_method_descriptor};
+use constant_pool::{is_class_name, is_field_descriptor, is_method_descriptor};
 
 /// The descriptor of `String.charAt`, `(I)C`.
 const CHARACTER_AT: [u16; 4] = [40, 73, 41, 67];
@@ -17,16 +17,6 @@ const CODE: [u16; 4] = [67, 111, 100, 101];
 const OBJECT: [u16; 16] = [
     106, 97, 118, 97, 47, 108, 97, 110, 103, 47, 79, 98, 106, 101, 99, 116,
 ];
-
-/// Of the name of a field or method.
-pub fn name_fault(text: Option<&[u16]>) -> Option<u32>
-    ensures { result ≡ text_fault profile.is_member_name (option_map (λ x. x.now) text.entry) }
-{
-    match text {
-        None => Some(ClassFault::INDEX),
-        Some(name) => utf8_unless(is_member_name(name)),
-    }
-}
 
 /// Of a field's descriptor.
 pub fn field_descriptor_fault(text: Option<&[u16]>) -> Option<u32>

@@ -12,4 +12,6 @@ pub use constant_pool::{ClassFault, ReadError};
 pub use read::read_class;
 
 #[cfg(test)]
+mod javac_tests;
+#[cfg(test)]
 mod tests;

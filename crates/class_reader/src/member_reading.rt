@@ -8,7 +8,7 @@ ghost use Rattle.class_file.specs.Members as format;
 use crate::code_reading::{code_attribute_of, no_attributes};
 use crate::slots::{code_name_of, field_descriptor_of, name_of, own_descriptor_of};
 use class_format::{ClassFault, Failure, Sequence, exact_half_of, half_of};
-use constant_pool::Entry;
+use constant_pool::Slots;
 use jvm_code::{Member, Method};
 use std::alloc::Global;
 
@@ -18,7 +18,7 @@ const FLAGS: u16 = 9;
 /// The fields, behind their number.
 pub fn fields_of<'a>(
     alloc: Global,
-    pool: &[Entry],
+    pool: &Slots,
     bytes: &'a [u8],
 ) -> Result<(Vec<Member>, &'a [u8]), Failure>
     ensures { Gives (λ x. (x.0.items, x.1.now)) result ((counted 3 w16 (format.field pool.now)).read bytes.now) }
@@ -29,7 +29,7 @@ pub fn fields_of<'a>(
 
 fn so_many_fields<'a>(
     alloc: Global,
-    pool: &[Entry],
+    pool: &Slots,
     count: u16,
     bytes: &'a [u8],
 ) -> Result<(Vec<Member>, &'a [u8]), Failure>
@@ -48,7 +48,7 @@ fn so_many_fields<'a>(
 }
 
 #[tactic(auto, unfolding(class_file::specs::Members::field))]
-fn field_of<'a>(pool: &[Entry], bytes: &'a [u8]) -> Result<(Member, &'a [u8]), Failure>
+fn field_of<'a>(pool: &Slots, bytes: &'a [u8]) -> Result<(Member, &'a [u8]), Failure>
     ensures { Gives (λ x. (x.0, x.1.now)) result ((format.field pool.now).read bytes.now) }
 {
     let rest = flags_of(bytes)?;
@@ -67,7 +67,7 @@ fn flags_of(bytes: &[u8]) -> Result<&[u8], Failure>
 /// The methods, behind their number.
 pub fn methods_of<'a>(
     alloc: Global,
-    pool: &[Entry],
+    pool: &Slots,
     bytes: &'a [u8],
 ) -> Result<(Vec<Method>, &'a [u8]), Failure>
     ensures { Gives (λ x. (x.0.items, x.1.now)) result ((counted 3 w16 (format.method pool.now)).read bytes.now) }
@@ -78,7 +78,7 @@ pub fn methods_of<'a>(
 
 fn so_many_methods<'a>(
     alloc: Global,
-    pool: &[Entry],
+    pool: &Slots,
     count: u16,
     bytes: &'a [u8],
 ) -> Result<(Vec<Method>, &'a [u8]), Failure>
@@ -99,7 +99,7 @@ fn so_many_methods<'a>(
 #[tactic(auto, unfolding(class_file::specs::Members::method))]
 fn method_of<'a>(
     alloc: Global,
-    pool: &[Entry],
+    pool: &Slots,
     bytes: &'a [u8],
 ) -> Result<(Method, &'a [u8]), Failure>
     ensures { Gives (λ x. (x.0, x.1.now)) result ((format.method pool.now).read bytes.now) }

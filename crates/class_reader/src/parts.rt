@@ -7,7 +7,7 @@ use crate::code_reading::no_attributes;
 use crate::member_reading::{fields_of, methods_of};
 use crate::slots::{super_of, this_of};
 use class_format::{ClassFault, Failure, Sequence, exact_half_of, exact_word_of};
-use constant_pool::{Entry, entries_of};
+use constant_pool::{Slots, entries_of};
 use jvm_code::{Class, Member, Method};
 use std::alloc::Global;
 
@@ -31,7 +31,7 @@ pub fn class_of(alloc: Global, bytes: &[u8]) -> Result<(Class, &[u8]), Failure>
     let ((fields, methods), rest) = members_of(alloc, &pool, rest)?;
     Ok((
         Class {
-            pool: Sequence::new(pool),
+            pool: Sequence::new(pool.into_entries()),
             this_class,
             super_class,
             fields: Sequence::new(fields),
@@ -51,7 +51,7 @@ fn behind_preamble(bytes: &[u8]) -> Result<&[u8], Failure>
 }
 
 #[tactic(auto, unfolding(class_file::specs::ClassFile::class_slots))]
-fn class_slots_of<'a>(pool: &[Entry], bytes: &'a [u8]) -> Result<((u16, u16), &'a [u8]), Failure>
+fn class_slots_of<'a>(pool: &Slots, bytes: &'a [u8]) -> Result<((u16, u16), &'a [u8]), Failure>
     ensures { Gives (λ x. (x.0, x.1.now)) result ((format.class_slots pool.now).read bytes.now) }
 {
     let rest = exact_half_of(ClassFault::CUT, ClassFault::FLAGS, FLAGS, bytes)?;
@@ -64,7 +64,7 @@ fn class_slots_of<'a>(pool: &[Entry], bytes: &'a [u8]) -> Result<((u16, u16), &'
 #[tactic(auto, unfolding(class_file::specs::ClassFile::members))]
 fn members_of<'a>(
     alloc: Global,
-    pool: &[Entry],
+    pool: &Slots,
     bytes: &'a [u8],
 ) -> Result<((Vec<Member>, Vec<Method>), &'a [u8]), Failure>
     ensures { Gives (λ x. ((x.0.0.items, x.0.1.items), x.1.now)) result ((format.members pool.now).read bytes.now) }

@@ -6,63 +6,57 @@ ghost use Rattle.constant_pool.specs.Names as profile;
 ghost use Rattle.class_file.specs.Named as format;
 
 use crate::faults::{
-    code_name_fault, field_descriptor_fault, is_object, name_fault, own_descriptor_fault,
-    this_fault,
+    code_name_fault, field_descriptor_fault, is_object, own_descriptor_fault, this_fault,
 };
 use class_format::{ClassFault, Failure, half_of, missed};
-use constant_pool::{Entry, class_name_of, text_of};
+use constant_pool::Slots;
 
 /// The slot of the name of a field or method.
-pub fn name_of<'a>(pool: &[Entry], bytes: &'a [u8]) -> Result<(u16, &'a [u8]), Failure>
+pub fn name_of<'a>(pool: &Slots, bytes: &'a [u8]) -> Result<(u16, &'a [u8]), Failure>
     ensures { Gives (λ x. (x.0, x.1.now)) result ((format.text_slot pool.now profile.is_member_name).read bytes.now) }
 {
     let (slot, rest) = half_of(ClassFault::CUT, bytes)?;
-    settled_slot(slot, rest, bytes, name_fault(text_of(pool, slot)))
+    settled_slot(slot, rest, bytes, pool.member_name_fault(slot))
 }
 
 /// The slot of a field's descriptor.
-pub fn field_descriptor_of<'a>(pool: &[Entry], bytes: &'a [u8]) -> Result<(u16, &'a [u8]), Failure>
+pub fn field_descriptor_of<'a>(pool: &Slots, bytes: &'a [u8]) -> Result<(u16, &'a [u8]), Failure>
     ensures { Gives (λ x. (x.0, x.1.now)) result ((format.text_slot pool.now profile.is_field_descriptor).read bytes.now) }
 {
     let (slot, rest) = half_of(ClassFault::CUT, bytes)?;
-    settled_slot(
-        slot,
-        rest,
-        bytes,
-        field_descriptor_fault(text_of(pool, slot)),
-    )
+    settled_slot(slot, rest, bytes, field_descriptor_fault(pool.text(slot)))
 }
 
 /// The slot of a method's descriptor.
-pub fn own_descriptor_of<'a>(pool: &[Entry], bytes: &'a [u8]) -> Result<(u16, &'a [u8]), Failure>
+pub fn own_descriptor_of<'a>(pool: &Slots, bytes: &'a [u8]) -> Result<(u16, &'a [u8]), Failure>
     ensures { Gives (λ x. (x.0, x.1.now)) result ((format.text_slot pool.now format.is_own_descriptor).read bytes.now) }
 {
     let (slot, rest) = half_of(ClassFault::CUT, bytes)?;
-    settled_slot(slot, rest, bytes, own_descriptor_fault(text_of(pool, slot)))
+    settled_slot(slot, rest, bytes, own_descriptor_fault(pool.text(slot)))
 }
 
 /// The slot of the name of the attribute with a method's code.
-pub fn code_name_of<'a>(pool: &[Entry], bytes: &'a [u8]) -> Result<(u16, &'a [u8]), Failure>
+pub fn code_name_of<'a>(pool: &Slots, bytes: &'a [u8]) -> Result<(u16, &'a [u8]), Failure>
     ensures { Gives (λ x. (x.0, x.1.now)) result ((format.code_name_slot pool.now).read bytes.now) }
 {
     let (slot, rest) = half_of(ClassFault::CUT, bytes)?;
-    settled_slot(slot, rest, bytes, code_name_fault(text_of(pool, slot)))
+    settled_slot(slot, rest, bytes, code_name_fault(pool.text(slot)))
 }
 
 /// The slot of the class itself.
-pub fn this_of<'a>(pool: &[Entry], bytes: &'a [u8]) -> Result<(u16, &'a [u8]), Failure>
+pub fn this_of<'a>(pool: &Slots, bytes: &'a [u8]) -> Result<(u16, &'a [u8]), Failure>
     ensures { Gives (λ x. (x.0, x.1.now)) result ((format.this_slot pool.now).read bytes.now) }
 {
     let (slot, rest) = half_of(ClassFault::CUT, bytes)?;
-    settled_slot(slot, rest, bytes, this_fault(class_name_of(pool, slot)))
+    settled_slot(slot, rest, bytes, this_fault(pool.class_name(slot)))
 }
 
 /// The slot of the class above it.
-pub fn super_of<'a>(pool: &[Entry], bytes: &'a [u8]) -> Result<(u16, &'a [u8]), Failure>
+pub fn super_of<'a>(pool: &Slots, bytes: &'a [u8]) -> Result<(u16, &'a [u8]), Failure>
     ensures { Gives (λ x. (x.0, x.1.now)) result ((format.super_slot pool.now).read bytes.now) }
 {
     let (slot, rest) = half_of(ClassFault::CUT, bytes)?;
-    if !is_object(class_name_of(pool, slot)) {
+    if !is_object(pool.class_name(slot)) {
         return Err(missed(ClassFault::INDEX, bytes));
     }
     Ok((slot, rest))

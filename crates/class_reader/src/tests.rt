@@ -87,3 +87,16 @@ fn is_no_class_with_a_byte_less_or_more(rt: HostRuntime) -> Result<(), Fail> {
     );
     Ok(())
 }
+
+#[test]
+fn is_cut_where_any_bytes_are_missing(rt: HostRuntime) {
+    for length in 0..MAIN.len() {
+        let (front, _) = MAIN.split_at(length);
+        match read_class(rt.alloc(), front) {
+            Err(ReadError::Refused(fault)) => {
+                assert_eq!(rt; fault.kind, ClassFault::CUT, "{length}")
+            }
+            _ => assert!(rt; false, "{length}"),
+        }
+    }
+}

@@ -1,4 +1,5 @@
 pub mod NameLemmas
+pub mod FormLemmas
 pub mod TextLemmas
 pub mod EntryLaws
 pub mod PoolLemmas

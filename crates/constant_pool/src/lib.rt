@@ -5,11 +5,13 @@ mod entry;
 mod entry_check;
 mod entry_reading;
 mod error;
+mod form;
 mod lookups;
 mod names;
 mod partial;
 mod pool;
 mod pool_reading;
+mod slots;
 mod step;
 mod text;
 mod text_reading;
@@ -17,10 +19,11 @@ mod text_reading;
 pub use class_format::ClassFault;
 pub use entry::Entry;
 pub use error::{NoMemory, PoolError, ReadError};
-pub use lookups::{class_name_of, text_of};
+pub use lookups::text_of;
 pub use names::{is_class_name, is_field_descriptor, is_member_name, is_method_descriptor};
 pub use pool::Pool;
 pub use pool_reading::{entries_of, read_pool};
+pub use slots::Slots;
 pub use text::{append_text, text_size};
 
 #[cfg(test)]

@@ -12,14 +12,15 @@ use crate::entry::Entry;
 use crate::entry_check::entry_fault;
 use crate::entry_reading::slot_of;
 use crate::error::ReadError;
+use crate::slots::Slots;
 use crate::text::text_size;
 use class_format::{ClassFault, Failure, Miss, fault_of, half_of, missed};
 use std::alloc::Global;
 
 /// The pool at the front, and what follows it.
 #[tactic(auto, unfolding(crate::specs::Checks::pool))]
-pub fn entries_of(alloc: Global, bytes: &[u8]) -> Result<(Vec<Entry>, &[u8]), Failure>
-    ensures { Gives (λ x. (x.0.items, x.1.now)) result (checks.pool.read bytes.now) }
+pub fn entries_of(alloc: Global, bytes: &[u8]) -> Result<(Slots, &[u8]), Failure>
+    ensures { Gives (λ x. (x.0, x.1.now)) result (checks.pool.read bytes.now) }
 {
     let (count, rest) = half_of(ClassFault::CUT, bytes)?;
     if count == 0 {
@@ -28,14 +29,15 @@ pub fn entries_of(alloc: Global, bytes: &[u8]) -> Result<(Vec<Entry>, &[u8]), Fa
     sound_slots_of(alloc, count - 1, rest)
 }
 
-fn sound_slots_of(alloc: Global, count: u16, bytes: &[u8]) -> Result<(Vec<Entry>, &[u8]), Failure>
-    ensures { Gives (λ x. (x.0.items, x.1.now)) result ((checked (λ entries. checks.entries_fault entries entries 0) (format.slots count)).read bytes.now) }
+fn sound_slots_of(alloc: Global, count: u16, bytes: &[u8]) -> Result<(Slots, &[u8]), Failure>
+    ensures { Gives (λ x. (x.0, x.1.now)) result ((checked (λ entries. checks.entries_fault entries entries 0) (format.slots count)).read bytes.now) }
 {
     let (entries, rest) = slots_of(alloc, count, bytes)?;
-    if let Some(miss) = entries_miss(&entries, bytes.len()) {
+    let slots = Slots::new(alloc, entries)?;
+    if let Some(miss) = entries_miss(&slots, bytes.len()) {
         return Err(Failure::Missed(miss));
     }
-    Ok((entries, rest))
+    Ok((slots, rest))
 }
 
 fn slots_of(alloc: Global, count: u16, bytes: &[u8]) -> Result<(Vec<Entry>, &[u8]), Failure>
@@ -62,13 +64,13 @@ pub fn is_long(entry: &Entry) -> bool
 }
 
 // The first entry at fault, where so many bytes are left at the first one's tag.
-fn entries_miss(entries: &[Entry], size: usize) -> Option<Miss>
-    ensures { result ≡ missed_by size (checks.entries_fault entries.now entries.now 0) }
+fn entries_miss(pool: &Slots, size: usize) -> Option<Miss>
+    ensures { result ≡ missed_by size (checks.entries_fault pool.now pool.now 0) }
 {
     let mut left = size;
-    let mut rest = entries;
+    let mut rest = pool.as_slice();
     while let Some((entry, others)) = rest.split_first() {
-        if let Some(kind) = entry_fault(entries, entry) {
+        if let Some(kind) = entry_fault(pool, entry) {
             return Some(Miss { kind, left });
         }
         left = left.saturating_sub(slot_size(entry));
@@ -106,7 +108,7 @@ pub fn read_pool(alloc: Global, b: &[u8], at: usize) -> Result<(Vec<Entry>, usiz
 {
     let bytes = from_place(b, at);
     match entries_of(alloc, bytes) {
-        Ok((entries, rest)) => Ok((entries, at + (bytes.len() - rest.len()))),
+        Ok((slots, rest)) => Ok((slots.into_entries(), at + (bytes.len() - rest.len()))),
         Err(failure) => Err(refusal(at, bytes.len(), failure)),
     }
 }

@@ -1,0 +1,85 @@
+-- What a text can be is what a look at it would tell.
+use Rattle.std.proofs.Common.{◌≡◌, ℕ, ◌-◌, ◌&&◌, Bool, true, false, List, Option, Some, None, refl}
+use Rattle.std.specs.Prelude.{◌==◌, ◌||◌, if◌then◌else◌, slice_get, map, option_map}
+use Rattle.std.specs.Option.{option_and_then}
+use Rattle.std.proofs.lemmas.Option.{slice_get-map}
+use Rattle.constant_pool.specs.declared.entry.Entry.{Entry}
+use Rattle.constant_pool.specs.declared.entry.Entry.TheVariants.{Utf8, Integer, Long, LongRest, ClassName, Text, FieldRef, MethodRef, NameAnd}
+use Rattle.constant_pool.specs.declared.form.Form.{Form}
+use Rattle.constant_pool.specs.Names.{is_member_name, is_class_name, is_array_name, is_field_descriptor, is_method_descriptor}
+use Rattle.constant_pool.specs.Entries.{utf8_of}
+use Rattle.constant_pool.specs.Checks.{entry_at, text_at, text_fault, pair_fault}
+use Rattle.constant_pool.specs.Forms.{form_of, form_at, form_fault, least_kind}
+
+-- ---- the form in a slot is that of the entry there
+
+joined : (o : Option Entry) → option_and_then (λ form. form) (option_map form_of o) ≡ option_and_then form_of o
+joined None = refl
+joined (Some e) = refl
+
+in_place : (pool : List Entry) (k : ℕ) → option_and_then (λ form. form) (slice_get (map form_of pool) k) ≡ option_and_then form_of (slice_get pool k)
+in_place pool k = rw (slice_get-map form_of pool k) (joined (slice_get pool k))
+
+form_at-map : (pool : List Entry) (n : ℕ) → form_at (map form_of pool) n ≡ option_and_then form_of (entry_at pool n)
+form_at-map pool n =
+    elim (n == 0) as (λ v. (if v then None else option_and_then (λ form. form) (slice_get (map form_of pool) (n - 1)))
+    ≡ option_and_then form_of (if v then None else slice_get pool (n - 1))) [ true ↦ refl | false ↦ in_place pool (n - 1) ]
+
+-- ---- what is wrong with a name
+
+class_names : (o : Option Entry) → form_fault (λ f. f.class_name) (option_and_then form_of o)
+    ≡ text_fault (λ cs. is_class_name cs || is_array_name cs) (option_and_then utf8_of o)
+class_names None = refl
+class_names (Some (Utf8 x)) = refl
+class_names (Some (Integer x)) = refl
+class_names (Some (Long x)) = refl
+class_names (Some LongRest) = refl
+class_names (Some (ClassName x)) = refl
+class_names (Some (Text x)) = refl
+class_names (Some (FieldRef x y)) = refl
+class_names (Some (MethodRef x y)) = refl
+class_names (Some (NameAnd x y)) = refl
+
+member_names : (o : Option Entry) → form_fault (λ f. f.member_name) (option_and_then form_of o)
+    ≡ text_fault is_member_name (option_and_then utf8_of o)
+member_names None = refl
+member_names (Some (Utf8 x)) = refl
+member_names (Some (Integer x)) = refl
+member_names (Some (Long x)) = refl
+member_names (Some LongRest) = refl
+member_names (Some (ClassName x)) = refl
+member_names (Some (Text x)) = refl
+member_names (Some (FieldRef x y)) = refl
+member_names (Some (MethodRef x y)) = refl
+member_names (Some (NameAnd x y)) = refl
+
+pub class_name_fault_is : (pool : List Entry) (forms : List (Option Form)) (n : ℕ) → forms ≡ map form_of pool
+    → form_fault (λ f. f.class_name) (form_at forms n) ≡ text_fault (λ cs. is_class_name cs || is_array_name cs) (text_at pool n)
+class_name_fault_is pool forms n same = rw same (rw (form_at-map pool n) (class_names (entry_at pool n)))
+
+pub member_name_fault_is : (pool : List Entry) (forms : List (Option Form)) (n : ℕ) → forms ≡ map form_of pool
+    → form_fault (λ f. f.member_name) (form_at forms n) ≡ text_fault is_member_name (text_at pool n)
+member_name_fault_is pool forms n same = rw same (rw (form_at-map pool n) (member_names (entry_at pool n)))
+
+-- ---- a name and a descriptor
+
+no_name : (b : Bool) → Some 5 ≡ least_kind (Some 5) (if b then None else Some 6)
+no_name true = refl
+no_name false = refl
+
+no_descriptor : (a : Bool) → Some 5 ≡ least_kind (if a then None else Some 6) (Some 5)
+no_descriptor true = refl
+no_descriptor false = refl
+
+both_there : (a b : Bool) → (if a && b then None else Some 6) ≡ least_kind (if a then None else Some 6) (if b then None else Some 6)
+both_there true true = refl
+both_there true false = refl
+both_there false true = refl
+both_there false false = refl
+
+pub pair_fault_is : (name descriptor : Option (List ℕ)) → pair_fault name descriptor
+    ≡ least_kind (text_fault is_member_name name) (text_fault (λ cs. is_field_descriptor cs || is_method_descriptor cs) descriptor)
+pair_fault_is None None = refl
+pair_fault_is None (Some d) = no_name (is_field_descriptor d || is_method_descriptor d)
+pair_fault_is (Some n) None = no_descriptor (is_member_name n)
+pair_fault_is (Some n) (Some d) = both_there (is_member_name n) (is_field_descriptor d || is_method_descriptor d)

@@ -1,0 +1,27 @@
+-- What the texts of a pool can be, slot by slot.
+use Rattle.std.specs.Prelude.{ℕ, min, ◌-◌, ◌||◌, ◌==◌, Bool, if◌then◌else◌, List, slice_get, Option, Some, None}
+use Rattle.std.specs.Option.{option_and_then}
+use Rattle.class_format.specs.Kinds.{index, utf8}
+use Rattle.constant_pool.specs.declared.entry.Entry.{Entry}
+use Rattle.constant_pool.specs.declared.entry.Entry.TheVariants.{Utf8}
+use Rattle.constant_pool.specs.declared.form.Form.{Form}
+use Rattle.constant_pool.specs.Names.{is_member_name, is_class_name, is_array_name}
+
+abbrev pub form_of : Entry → Option Form
+form_of (Utf8 cs) = Some (record { class_name = is_class_name cs || is_array_name cs; member_name = is_member_name cs })
+form_of _ = None
+
+-- the form in a slot; slots are counted from 1
+abbrev pub form_at : List (Option Form) → ℕ → Option Form
+form_at forms n = if n == 0 then None else option_and_then (λ form. form) (slice_get forms (n - 1))
+
+-- the kind of what is wrong with a text of a form
+abbrev pub form_fault : (Form → Bool) → Option Form → Option ℕ
+form_fault test None = Some index
+form_fault test (Some form) = if test form then None else Some utf8
+
+-- the kind that is first of two
+abbrev pub least_kind : Option ℕ → Option ℕ → Option ℕ
+least_kind None kind = kind
+least_kind (Some kind) None = Some kind
+least_kind (Some first) (Some second) = Some (min first second)
