@@ -24,7 +24,9 @@ use Rattle.jvm_program.specs.declared.linked_method.LinkedMethod.{LinkedMethod}
 use Rattle.jvm_program.specs.declared.instruction.Instruction.{Instruction}
 use Rattle.jvm_program.specs.declared.instruction.Instruction.TheVariants as instructions
 use Rattle.jvm_program.specs.Values as values
-use Rattle.jvm_program.specs.Values.{Value, unset, int, long, null, array, text, ints, pages, Heap, reference, array_length, is_int, is_long, is_ints, is_pages, is_null, is_ints_reference, is_pages_reference, is_text_reference, new_array, with_new, with_int, with_page, conforms}
+use Rattle.jvm_program.specs.Values.{ints, pages, Heap, reference, array_length, is_int, is_long, is_ints, is_pages, is_null, is_ints_reference, is_pages_reference, is_text_reference, new_array, with_new, with_int, with_page, conforms}
+use Rattle.jvm_program.specs.declared.value.Value.{Value}
+use Rattle.jvm_program.specs.declared.value.Value.TheVariants.{Unset as unset, Int as int, Long as long, Null as null, Array as array, Text as text}
 use Rattle.jvm_program.specs.Words.{int_result, int_quotient, int_shifted, long_result, long_quotient, long_shifted, long_order}
 use Rattle.jvm_program.specs.Shuffles.{Shuffle, forms_of, shuffled}
 use Rattle.jvm_program.specs.Program.{Program, targets_of, falls_through}

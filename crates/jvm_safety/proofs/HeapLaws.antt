@@ -6,7 +6,9 @@ use Rattle.jvm_program.specs.declared.array_kind.ArrayKind.{ArrayKind}
 use Rattle.jvm_program.specs.declared.array_kind.ArrayKind.TheVariants as array_kinds
 use Rattle.jvm_program.specs.declared.kind.Kind.{Kind}
 use Rattle.jvm_program.specs.declared.kind.Kind.TheVariants.{Top, Int, Long, Null, Ints, Pages, Text}
-use Rattle.jvm_program.specs.Values.{Value, array, Array, ints, pages, Heap, no_arrays, array_length, is_ints, is_pages, new_array, with_new, set_int, set_page, with_int, with_page, conforms}
+use Rattle.jvm_program.specs.Values.{Array, ints, pages, Heap, no_arrays, array_length, is_ints, is_pages, new_array, with_new, set_int, set_page, with_int, with_page, conforms}
+use Rattle.jvm_program.specs.declared.value.Value.{Value}
+use Rattle.jvm_program.specs.declared.value.Value.TheVariants.{Array as array}
 use Rattle.jvm_program.specs.HostMemory.{HostMemory, Cell, cell_of, with_cell, with_byte}
 use Rattle.jvm_program.specs.Program.{Program}
 use Rattle.jvm_safety.specs.Safety.{Conform, HeapIsSafe, FieldsAreSafe}

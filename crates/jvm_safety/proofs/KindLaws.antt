@@ -2,7 +2,9 @@
 use Rattle.std.proofs.Common.{◌≡◌, ◌≢◌, ℕ, zero, suc, ◌+◌, ◌≤◌, ◌&&◌, Bool, true, false, if◌then◌else◌, List, [], ◌∷◌, ◌++◌, drop, Option, Some, None, slice_index_or, refl, sym, ap, subst, ◌∙◌, true≢false, arith}
 use Rattle.jvm_program.specs.declared.kind.Kind.{Kind}
 use Rattle.jvm_program.specs.declared.kind.Kind.TheVariants.{Top, Int, Long, Null, Ints, Pages, Text}
-use Rattle.jvm_program.specs.Values.{Value, unset, long, null, Heap, is_long, is_null, is_ints_reference, is_pages_reference, is_text_reference, conforms}
+use Rattle.jvm_program.specs.Values.{Heap, is_long, is_null, is_ints_reference, is_pages_reference, is_text_reference, conforms}
+use Rattle.jvm_program.specs.declared.value.Value.{Value}
+use Rattle.jvm_program.specs.declared.value.Value.TheVariants.{Unset as unset, Long as long, Null as null}
 use Rattle.jvm_program.specs.Typing.{below, stack_below, is_long_kind, no_top, slots_of, taken}
 use Rattle.jvm_safety.specs.Safety.{Conform, slots_in}
 

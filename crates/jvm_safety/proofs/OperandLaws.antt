@@ -6,7 +6,8 @@ use Rattle.jvm_program.specs.declared.local_kind.LocalKind.{LocalKind}
 use Rattle.jvm_program.specs.declared.linked_line.LinkedLine.{LinkedLine}
 use Rattle.jvm_program.specs.declared.linked_method.LinkedMethod.{LinkedMethod}
 use Rattle.jvm_program.specs.declared.instruction.Instruction.{Instruction}
-use Rattle.jvm_program.specs.Values.{Value, Heap, conforms}
+use Rattle.jvm_program.specs.Values.{Heap, conforms}
+use Rattle.jvm_program.specs.declared.value.Value.{Value}
 use Rattle.jvm_program.specs.Shuffles.{shuffled}
 use Rattle.jvm_program.specs.Program.{Program, targets_of, falls_through, successors}
 use Rattle.jvm_program.specs.Effect.{Effect, goes_on, jumps, enters, gives, asks_host, faults, traps, wrong, effect, moves}

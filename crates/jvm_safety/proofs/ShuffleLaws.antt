@@ -1,7 +1,8 @@
 -- The instructions that move operands: what they do to types they do to values of these types.
 use Rattle.std.proofs.Common.{◌≡◌, ℕ, zero, suc, ◌&&◌, Bool, true, false, not, if◌then◌else◌, List, [], ◌∷◌, ◌++◌, length, drop, Option, Some, None, slice_get, refl, sym, ap, subst, ◌∙◌, true≢false}
 use Rattle.jvm_program.specs.declared.kind.Kind.{Kind}
-use Rattle.jvm_program.specs.Values.{Value, Heap, is_long}
+use Rattle.jvm_program.specs.Values.{Heap, is_long}
+use Rattle.jvm_program.specs.declared.value.Value.{Value}
 use Rattle.jvm_program.specs.Shuffles.{Shuffle, fits_longs, item_before, picked, shuffled}
 use Rattle.jvm_program.specs.Typing.{is_long_kind, no_top}
 use Rattle.jvm_safety.specs.Safety.{Conform}

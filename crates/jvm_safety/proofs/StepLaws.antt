@@ -11,7 +11,9 @@ use Rattle.jvm_program.specs.declared.kind.Kind.{Kind}
 use Rattle.jvm_program.specs.declared.kind.Kind.TheVariants.{Top, Int, Long, Null, Ints, Pages, Text}
 use Rattle.jvm_program.specs.declared.linked_line.LinkedLine.{LinkedLine}
 use Rattle.jvm_program.specs.declared.linked_method.LinkedMethod.{LinkedMethod}
-use Rattle.jvm_program.specs.Values.{Value, unset, int, Heap, no_arrays, zero_of, conforms}
+use Rattle.jvm_program.specs.Values.{Heap, no_arrays, zero_of, conforms}
+use Rattle.jvm_program.specs.declared.value.Value.{Value}
+use Rattle.jvm_program.specs.declared.value.Value.TheVariants.{Unset as unset, Int as int}
 use Rattle.jvm_program.specs.Words.{wrapped}
 use Rattle.jvm_program.specs.HostMemory.{HostMemory, with_byte}
 use Rattle.jvm_program.specs.Program.{Program, line_in, line_at, targets_of, falls_through, successors}

@@ -8,7 +8,9 @@ use Rattle.jvm_program.specs.declared.kind.Kind.TheVariants.{Int, Long}
 use Rattle.jvm_program.specs.declared.linked_method.LinkedMethod.{LinkedMethod}
 use Rattle.jvm_program.specs.declared.instruction.Instruction.{Instruction}
 use Rattle.jvm_program.specs.Values as values
-use Rattle.jvm_program.specs.Values.{Value, unset, int, long, null, array, text, ints, pages, Heap, reference, array_length, is_int, is_long, is_ints, is_pages, is_null, is_ints_reference, is_pages_reference, is_text_reference, new_array, with_new, with_int, with_page, conforms}
+use Rattle.jvm_program.specs.Values.{ints, pages, Heap, reference, array_length, is_int, is_long, is_ints, is_pages, is_null, is_ints_reference, is_pages_reference, is_text_reference, new_array, with_new, with_int, with_page, conforms}
+use Rattle.jvm_program.specs.declared.value.Value.{Value}
+use Rattle.jvm_program.specs.declared.value.Value.TheVariants.{Unset as unset, Int as int, Long as long, Null as null, Array as array, Text as text}
 use Rattle.jvm_program.specs.Program.{Program, targets_of, falls_through}
 use Rattle.jvm_program.specs.Effect as effects
 use Rattle.jvm_program.specs.Effect.{Workspace, Effect, goes_on, jumps, enters, gives, asks_host, faults, traps, wrong, with_operands, with_heap, pushes, popping, as_int, as_long, popping_int, popping_long, popping_ints, popping_longs, as_array, as_ints, as_pages, as_element, constant_value, is_reference, moves, with_local, divides, converts, within, accesses, allocates, pushes_length, measures, as_text, character, chooses, compares, tests, as_nullness, tests_null, branches, table_target, lookup_target, same, with_field, puts, last_first, arguments, calls, as_table, calls_host, faults_host, returned, moved, effect}

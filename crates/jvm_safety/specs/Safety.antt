@@ -3,7 +3,9 @@ use Rattle.std.specs.Prelude.{◌≡◌, ◌≢◌, ℕ, ◌+◌, ◌<◌, ◌�
 use Rattle.jvm_program.specs.declared.kind.Kind.{Kind}
 use Rattle.jvm_program.specs.declared.linked_line.LinkedLine.{LinkedLine}
 use Rattle.jvm_program.specs.declared.linked_method.LinkedMethod.{LinkedMethod}
-use Rattle.jvm_program.specs.Values.{Value, int, null, array, pages, Heap, is_int, is_long, is_ints, conforms}
+use Rattle.jvm_program.specs.Values.{pages, Heap, is_int, is_long, is_ints, conforms}
+use Rattle.jvm_program.specs.declared.value.Value.{Value}
+use Rattle.jvm_program.specs.declared.value.Value.TheVariants.{Int as int, Null as null, Array as array}
 use Rattle.jvm_program.specs.Shuffles.{shuffled}
 use Rattle.jvm_program.specs.Program.{Program, line_in}
 use Rattle.jvm_program.specs.Effect.{Effect, goes_on, jumps, enters, gives, asks_host, faults, traps, wrong, is_reference, moves, effect}
