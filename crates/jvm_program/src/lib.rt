@@ -6,9 +6,9 @@ mod array_kind;
 mod constant;
 mod instruction;
 mod kind;
+pub mod laws;
 mod linked_line;
 mod linked_method;
-pub mod laws;
 mod local_kind;
 
 pub use array_kind::ArrayKind;
