@@ -1,0 +1,32 @@
+-- The code of some units, from the offset 0 on.
+use Rattle.std.specs.Prelude.{ℕ, ◌+◌, ◌==◌, if◌then◌else◌, List, [], ◌∷◌}
+use Rattle.jvm_code.specs.declared.names.int_arithmetic.IntArithmetic.TheVariants.{Iadd}
+use Rattle.jvm_program.specs.declared.constant.Constant.TheVariants as constants
+use Rattle.jvm_program.specs.declared.kind.Kind.TheVariants as kinds
+use Rattle.jvm_program.specs.declared.linked_line.LinkedLine.{LinkedLine}
+use Rattle.jvm_program.specs.declared.instruction.Instruction.{Instruction}
+use Rattle.jvm_program.specs.declared.instruction.Instruction.TheVariants.{Push, Get, Put, IntArithmetic}
+use Rattle.mips_decode.specs.Targets.{extended_imm}
+use Rattle.guest_match.specs.Match.{register_field}
+
+-- an instruction and where it stands
+abbrev pub line : ℕ → ℕ → Instruction → LinkedLine
+line at next instruction = record { at = at; next = next; instruction = instruction }
+
+abbrev pub push_int : ℕ → Instruction
+push_int n = Push (constants.Int n)
+
+-- a register's word is pushed, 0 for register 0; both forms have three bytes
+abbrev pub get_register : ℕ → Instruction
+get_register r = if r == 0 then push_int 0 else Get (register_field r) kinds.Int
+
+abbrev pub put_register : ℕ → Instruction
+put_register r = Put (register_field r) kinds.Int
+
+abbrev pub addiu_code : ℕ → ℕ → ℕ → List LinkedLine
+addiu_code rs rt imm =
+    line 0 3 (get_register rs)
+    ∷ line 3 6 (push_int (extended_imm imm))
+    ∷ line 6 7 (IntArithmetic Iadd)
+    ∷ line 7 10 (put_register rt)
+    ∷ []
