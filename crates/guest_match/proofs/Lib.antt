@@ -1,3 +1,4 @@
 pub mod Registers
 pub mod Guest
-pub mod Addiu
+pub mod Results
+pub mod Plain

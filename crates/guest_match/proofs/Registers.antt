@@ -1,5 +1,5 @@
 -- Registers that are read and written through fields.
-use Rattle.std.proofs.Common.{◌≡◌, ℕ, ◌-◌, ◌==◌, ◌<◌, ◌≤◌, ◌^◌, ◌&&◌, nat_lt, Bool, true, false, if◌then◌else◌, ◌⊎◌, inl, inr, refl, ap, sym, ◌∙◌, arith, lit<, lit≤}
+use Rattle.std.proofs.Common.{◌≡◌, ℕ, ◌-◌, ◌==◌, ◌<◌, ◌≤◌, ◌^◌, ◌&&◌, nat_lt, Bool, true, false, ◌∷◌, if◌then◌else◌, ◌⊎◌, inl, inr, refl, ap, sym, ◌∙◌, arith, lit<, lit≤}
 use Rattle.std.proofs.lemmas.Bool.{lt-ltb, eq-eqb, ne_eqb, cases_eq, eqb-true, eqb-false}
 use Rattle.nv_words.specs.Words.{IsWord}
 use Rattle.nv_events.specs.Memory.{Memory}
@@ -7,7 +7,7 @@ use Rattle.jvm_program.specs.declared.kind.Kind.TheVariants as kinds
 use Rattle.jvm_program.specs.declared.instruction.Instruction.TheVariants.{Get}
 use Rattle.jvm_program.specs.Values.{Value, int, Heap}
 use Rattle.jvm_program.specs.Program.{Program}
-use Rattle.jvm_program.specs.Effect.{Workspace, effect, pushes, goes_on}
+use Rattle.jvm_program.specs.Effect.{Workspace, effect, pushes, with_operands}
 use Rattle.guest_match.specs.Match.{Holds, register_field}
 use Rattle.guest_match.specs.Code.{get_register, push_int}
 
@@ -23,6 +23,10 @@ IsWord-word {registers = registers} h r below = by_test (r == 0) refl
     by_test false e = let ne = eqb-false r 0 e in h.register_word r (omega arith) below
 
 -- ---- read
+
+-- the workspace with an int pushed
+abbrev pub pushed : Workspace → ℕ → Workspace
+pushed w n = with_operands w (int n ∷ w.operands)
 
 got : (program : Program) (words r : ℕ) (v : Workspace) (registers : ℕ → ℕ) (b : Bool) → (b ≡ false → v.fields (register_field r) ≡ int (registers r)) → effect program words (if b then push_int 0 else Get (register_field r) kinds.Int) v ≡ pushes v (int (if b then 0 else registers r)) v.operands
 got program words r v registers true is = refl

@@ -1,11 +1,14 @@
 -- The code of some units, from the offset 0 on.
-use Rattle.std.specs.Prelude.{ℕ, ◌+◌, ◌==◌, if◌then◌else◌, List, [], ◌∷◌}
+use Rattle.std.specs.Prelude.{ℕ, ◌==◌, int_lt, if◌then◌else◌, List, [], ◌∷◌}
+use Rattle.nv_words.specs.Words.{signed_of}
 use Rattle.jvm_code.specs.declared.names.int_arithmetic.IntArithmetic.TheVariants.{Iadd}
+use Rattle.jvm_code.specs.declared.names.branch_name.BranchName.TheVariants.{IfIcmplt, Goto}
 use Rattle.jvm_program.specs.declared.constant.Constant.TheVariants as constants
 use Rattle.jvm_program.specs.declared.kind.Kind.TheVariants as kinds
 use Rattle.jvm_program.specs.declared.linked_line.LinkedLine.{LinkedLine}
 use Rattle.jvm_program.specs.declared.instruction.Instruction.{Instruction}
-use Rattle.jvm_program.specs.declared.instruction.Instruction.TheVariants.{Push, Get, Put, IntArithmetic}
+use Rattle.jvm_program.specs.declared.instruction.Instruction.TheVariants.{Push, Get, Put, IntArithmetic, Branch}
+use Rattle.mips_decode.specs.State.{State, register}
 use Rattle.mips_decode.specs.Targets.{extended_imm}
 use Rattle.guest_match.specs.Match.{register_field}
 
@@ -30,3 +33,18 @@ addiu_code rs rt imm =
     ∷ line 6 7 (IntArithmetic Iadd)
     ∷ line 7 10 (put_register rt)
     ∷ []
+
+-- SLT: 1 where rs is less than rt, with signs, else 0
+abbrev pub slt_code : ℕ → ℕ → ℕ → List LinkedLine
+slt_code rs rt rd =
+    line 0 3 (get_register rs)
+    ∷ line 3 6 (get_register rt)
+    ∷ line 6 9 (Branch IfIcmplt 15)
+    ∷ line 9 12 (push_int 0)
+    ∷ line 12 15 (Branch Goto 18)
+    ∷ line 15 18 (push_int 1)
+    ∷ line 18 21 (put_register rd)
+    ∷ []
+
+abbrev pub slt_count : State → ℕ → ℕ → ℕ
+slt_count s rs rt = if int_lt (signed_of (register s rs)) (signed_of (register s rt)) then 5 else 6

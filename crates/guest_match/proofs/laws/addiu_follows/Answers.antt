@@ -1,4 +1,4 @@
-use Rattle.guest_match.proofs.Addiu.{addiu-leads}
+use Rattle.guest_match.proofs.Plain.{addiu-leads}
 use Rattle.guest_match.proofs.laws.addiu_follows.Goals as goal
 
 pub returns : goal.returns
