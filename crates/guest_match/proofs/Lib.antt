@@ -1,4 +1,6 @@
 pub mod Registers
+pub mod Signs
 pub mod Guest
 pub mod Results
 pub mod Plain
+pub mod Branches

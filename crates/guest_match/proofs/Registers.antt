@@ -8,7 +8,7 @@ use Rattle.jvm_program.specs.declared.instruction.Instruction.TheVariants.{Get}
 use Rattle.jvm_program.specs.Values.{Value, int, Heap}
 use Rattle.jvm_program.specs.Program.{Program}
 use Rattle.jvm_program.specs.Effect.{Workspace, effect, pushes, with_operands}
-use Rattle.guest_match.specs.Match.{Holds, register_field}
+use Rattle.guest_match.specs.Match.{Holds, register_field, pc_field}
 use Rattle.guest_match.specs.Code.{get_register, push_int}
 
 -- the word of a register, 0 for register 0
@@ -71,3 +71,28 @@ Holds-written {fields} {registers = registers} h r v pos below word = record {
   writable_is = other-field fields r 35 (int v) below pos (lit≤ tt) ∙ h.writable_is;
   memory_held = h.memory_held;
 }
+
+-- ---- field pc
+
+before-pc : (r : ℕ) (u v : Value) → r < 32 → (if register_field r == pc_field then u else v) ≡ v
+before-pc r u v below = ap (λ b. if b then u else v) (ne_eqb (register_field r) pc_field (λ e. omega arith))
+
+pub Holds-pc : {fields : ℕ → Value} {heap : Heap} {registers : ℕ → ℕ} {hi lo : ℕ} {memory : Memory} → Holds fields heap registers hi lo memory → (v : ℕ) → Holds (λ g. if g == pc_field then int v else fields g) heap registers hi lo memory
+Holds-pc {fields} h v = record {
+  register_is = λ r pos below. before-pc r (int v) (fields (register_field r)) below ∙ h.register_is r pos below;
+  register_word = h.register_word;
+  hi_is = h.hi_is;
+  hi_word = h.hi_word;
+  lo_is = h.lo_is;
+  lo_word = h.lo_word;
+  pc = v;
+  pc_is = refl;
+  readable = h.readable;
+  readable_is = h.readable_is;
+  writable = h.writable;
+  writable_is = h.writable_is;
+  memory_held = h.memory_held;
+}
+
+pub pc-kept : (fields : ℕ → Value) (r : ℕ) (v : Value) → 0 < r → r < 32 → (if pc_field == register_field r then v else fields pc_field) ≡ fields pc_field
+pc-kept fields r v pos below = other-field fields r pc_field v below pos (lit≤ tt)

@@ -1,16 +1,16 @@
 -- The code of some units, from the offset 0 on.
-use Rattle.std.specs.Prelude.{ℕ, ◌==◌, int_lt, if◌then◌else◌, List, [], ◌∷◌}
+use Rattle.std.specs.Prelude.{ℕ, ◌+◌, ◌==◌, int_lt, if◌then◌else◌, List, [], ◌∷◌}
 use Rattle.nv_words.specs.Words.{signed_of}
 use Rattle.jvm_code.specs.declared.names.int_arithmetic.IntArithmetic.TheVariants.{Iadd}
-use Rattle.jvm_code.specs.declared.names.branch_name.BranchName.TheVariants.{IfIcmplt, Goto}
+use Rattle.jvm_code.specs.declared.names.branch_name.BranchName.TheVariants.{IfIcmpeq, IfIcmplt, Goto}
 use Rattle.jvm_program.specs.declared.constant.Constant.TheVariants as constants
 use Rattle.jvm_program.specs.declared.kind.Kind.TheVariants as kinds
 use Rattle.jvm_program.specs.declared.linked_line.LinkedLine.{LinkedLine}
 use Rattle.jvm_program.specs.declared.instruction.Instruction.{Instruction}
 use Rattle.jvm_program.specs.declared.instruction.Instruction.TheVariants.{Push, Get, Put, IntArithmetic, Branch}
 use Rattle.mips_decode.specs.State.{State, register}
-use Rattle.mips_decode.specs.Targets.{extended_imm}
-use Rattle.guest_match.specs.Match.{register_field}
+use Rattle.mips_decode.specs.Targets.{extended_imm, branch_target}
+use Rattle.guest_match.specs.Match.{register_field, pc_field}
 
 -- an instruction and where it stands
 abbrev pub line : ℕ → ℕ → Instruction → LinkedLine
@@ -48,3 +48,25 @@ slt_code rs rt rd =
 
 abbrev pub slt_count : State → ℕ → ℕ → ℕ
 slt_count s rs rt = if int_lt (signed_of (register s rs)) (signed_of (register s rt)) then 5 else 6
+
+abbrev pub put_pc : Instruction
+put_pc = Put pc_field kinds.Int
+
+-- BEQ at an address, with ADDIU in its delay slot: the registers are compared first, and field pc gets where the guest goes
+abbrev pub beq_addiu_code : ℕ → ℕ → ℕ → ℕ → ℕ → ℕ → ℕ → List LinkedLine
+beq_addiu_code at rs rt imm slot_rs slot_rt slot_imm =
+    line 0 3 (get_register rs)
+    ∷ line 3 6 (get_register rt)
+    ∷ line 6 9 (Branch IfIcmpeq 15)
+    ∷ line 9 12 (push_int (at + 8))
+    ∷ line 12 15 (Branch Goto 18)
+    ∷ line 15 18 (push_int (branch_target at imm))
+    ∷ line 18 21 put_pc
+    ∷ line 21 24 (get_register slot_rs)
+    ∷ line 24 27 (push_int (extended_imm slot_imm))
+    ∷ line 27 28 (IntArithmetic Iadd)
+    ∷ line 28 31 (put_register slot_rt)
+    ∷ []
+
+abbrev pub beq_addiu_count : State → ℕ → ℕ → ℕ
+beq_addiu_count s rs rt = if register s rs == register s rt then 9 else 10
