@@ -4,3 +4,5 @@ pub mod Guest
 pub mod Results
 pub mod Plain
 pub mod Branches
+pub mod Pages
+pub mod Stores
