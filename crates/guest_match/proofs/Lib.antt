@@ -6,3 +6,4 @@ pub mod Plain
 pub mod Branches
 pub mod Pages
 pub mod Stores
+pub mod Patches
