@@ -7,3 +7,5 @@ pub mod Branches
 pub mod Pages
 pub mod Stores
 pub mod Patches
+pub mod Machine
+pub mod Syscall

@@ -8,7 +8,7 @@ use Rattle.jvm_program.specs.declared.instruction.Instruction.TheVariants.{Get}
 use Rattle.jvm_program.specs.Values.{Value, int, Heap}
 use Rattle.jvm_program.specs.Program.{Program}
 use Rattle.jvm_program.specs.Effect.{Workspace, effect, pushes, with_operands}
-use Rattle.guest_match.specs.Match.{Holds, register_field, pc_field}
+use Rattle.guest_match.specs.Match.{Holds, HoldsMemory, register_field, pc_field}
 use Rattle.guest_match.specs.Code.{get_register, push_int}
 
 -- the word of a register, 0 for register 0
@@ -96,3 +96,22 @@ Holds-pc {fields} h v = record {
 
 pub pc-kept : (fields : ℕ → Value) (r : ℕ) (v : Value) → 0 < r → r < 32 → (if pc_field == register_field r then v else fields pc_field) ≡ fields pc_field
 pc-kept fields r v pos below = other-field fields r pc_field v below pos (lit≤ tt)
+
+-- ---- memory
+
+pub Holds-memory : {fields : ℕ → Value} {heap : Heap} {registers : ℕ → ℕ} {hi lo : ℕ} {memory : Memory} (h : Holds fields heap registers hi lo memory) (now : Heap) (after : Memory) → HoldsMemory now h.readable h.writable after → Holds fields now registers hi lo after
+Holds-memory h now after held = record {
+  register_is = h.register_is;
+  register_word = h.register_word;
+  hi_is = h.hi_is;
+  hi_word = h.hi_word;
+  lo_is = h.lo_is;
+  lo_word = h.lo_word;
+  pc = h.pc;
+  pc_is = h.pc_is;
+  readable = h.readable;
+  readable_is = h.readable_is;
+  writable = h.writable;
+  writable_is = h.writable_is;
+  memory_held = held;
+}

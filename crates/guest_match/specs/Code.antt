@@ -7,10 +7,10 @@ use Rattle.jvm_program.specs.declared.constant.Constant.TheVariants as constants
 use Rattle.jvm_program.specs.declared.kind.Kind.TheVariants as kinds
 use Rattle.jvm_program.specs.declared.linked_line.LinkedLine.{LinkedLine}
 use Rattle.jvm_program.specs.declared.instruction.Instruction.{Instruction}
-use Rattle.jvm_program.specs.declared.instruction.Instruction.TheVariants.{Push, Get, Put, IntArithmetic, Branch}
+use Rattle.jvm_program.specs.declared.instruction.Instruction.TheVariants.{Push, Get, Put, IntArithmetic, Branch, CallHost}
 use Rattle.mips_decode.specs.State.{State, register}
 use Rattle.mips_decode.specs.Targets.{extended_imm, branch_target}
-use Rattle.guest_match.specs.Match.{register_field, pc_field}
+use Rattle.guest_match.specs.Match.{register_field, pc_field, readable_field, writable_field}
 
 -- an instruction and where it stands
 abbrev pub line : ℕ → ℕ → Instruction → LinkedLine
@@ -70,3 +70,23 @@ beq_addiu_code at rs rt imm slot_rs slot_rt slot_imm =
 
 abbrev pub beq_addiu_count : State → ℕ → ℕ → ℕ
 beq_addiu_count s rs rt = if register s rs == register s rt then 9 else 10
+
+abbrev pub get_readable : Instruction
+get_readable = Get readable_field kinds.Pages
+
+abbrev pub get_writable : Instruction
+get_writable = Get writable_field kinds.Pages
+
+-- SYSCALL: the tables, r2 and r4 to r7 are pushed, and the answer goes to r2
+abbrev pub syscall_code : List LinkedLine
+syscall_code =
+    line 0 3 get_readable
+    ∷ line 3 6 get_writable
+    ∷ line 6 9 (get_register 2)
+    ∷ line 9 12 (get_register 4)
+    ∷ line 12 15 (get_register 5)
+    ∷ line 15 18 (get_register 6)
+    ∷ line 18 21 (get_register 7)
+    ∷ line 21 24 CallHost
+    ∷ line 24 27 (put_register 2)
+    ∷ []

@@ -1,12 +1,17 @@
 -- How code of the class machine follows the guest.
-use Rattle.std.specs.Prelude.{◌≡◌, ℕ, ◌%◌, List, Some}
+use Rattle.std.specs.Prelude.{◌≡◌, ℕ, ◌+◌, ◌%◌, List, Some, IsTrue}
+use Rattle.nv_events.specs.Answer.{Answer, fits}
+use Rattle.nv_events.specs.Turn.{Turn, moves, ends, leaves, asks}
 use Rattle.jvm_program.specs.declared.linked_line.LinkedLine.{LinkedLine}
-use Rattle.jvm_program.specs.Values.{int}
+use Rattle.jvm_program.specs.Values.{Value, int}
 use Rattle.jvm_program.specs.Program.{Program}
 use Rattle.jvm_program.specs.Effect.{Workspace}
-use Rattle.jvm_program.specs.Stretch.{Point, stretch}
+use Rattle.jvm_program.specs.Step as machine
+use Rattle.jvm_program.specs.Step.{Frame, placed}
+use Rattle.jvm_program.specs.Stretch.{Point, stretch, advanced}
 use Rattle.mips_decode.specs.Table.{inst}
 use Rattle.mips_decode.specs.State.{State}
+use Rattle.mips_decode.specs.Step as guest
 use Rattle.mips_decode.specs.declared.inst.Inst.{Inst}
 use Rattle.guest_match.specs.Match.{Matches, pc_field}
 
@@ -28,3 +33,26 @@ pub record LeadsTo (program : Program) (words : ℕ) (lines : List LinkedLine) (
 pub record BranchesTo (program : Program) (words : ℕ) (lines : List LinkedLine) (n size : ℕ) (w : Workspace) (t : State) : Type 0 where
   pub leads : LeadsTo program words lines n size w t
   pub goes : leads.after.fields pc_field ≡ int t.pc
+
+-- ---- in a method
+
+-- So many turns that only move lead to an offset of the method, with these operands, and to what matches the guest's state.
+pub record Arrives (program : Program) (words m at n : ℕ) (operands : List Value) (others : List Frame) (x : machine.State) (t : State) : Type 0 where
+  pub after : Workspace
+  pub runs : advanced (machine.turn program words) n x ≡ Some (placed m at after others)
+  pub operands_are : after.operands ≡ operands
+  pub matches : Matches after.fields after.heap t
+
+-- Both machines end alike, or ask the same and arrive by each answer that fits.
+abbrev pub TurnsAlike : Program → ℕ → ℕ → ℕ → ℕ → List Value → List Frame → Turn machine.State → Turn State → Type 0
+TurnsAlike program words m at n operands others (ends e) (ends f) = e ≡ f
+TurnsAlike program words m at n operands others (leaves q e) (leaves r f) = (q ≡ r) × (e ≡ f)
+TurnsAlike program words m at n operands others (asks q next) (asks r more) =
+    (q ≡ r) × ((answer : Answer) → IsTrue (fits answer q) → Arrives program words m at n operands others (next answer) (more answer))
+TurnsAlike program words m at n operands others _ _ = ⊥
+
+-- So many turns lead from the code's start to one that is like the guest's; after an answer it is so many more to the code's end.
+pub record StopsAlike (program : Program) (words m by size n more : ℕ) (w : Workspace) (others : List Frame) (s : State) : Type 0 where
+  pub before : machine.State
+  pub runs : advanced (machine.turn program words) n (placed m by w others) ≡ Some before
+  pub alike : TurnsAlike program words m (by + size) more w.operands others (machine.turn program words before) (guest.turn s)

@@ -1,19 +1,21 @@
 //! What code follows. Each call here does nothing: its contract is the law.
 
-ghost use Rattle.std.specs.Prelude.{◌≡◌, ℕ, ◌+◌, ◌^◌, ◌<◌, Some};
+ghost use Rattle.std.specs.Prelude.{◌≡◌, ℕ, ◌+◌, ◌^◌, ◌<◌, List, Some};
 ghost use Rattle.nv_events.specs.Turn.{moves};
 ghost use Rattle.jvm_program.specs.Program.{Program};
 ghost use Rattle.jvm_program.specs.Effect.{Workspace};
+ghost use Rattle.jvm_program.specs.Step.{Frame};
+ghost use Rattle.jvm_program.specs.Stretch.{StandsAt};
 ghost use Rattle.mips_decode.specs.Table.{inst};
 ghost use Rattle.mips_decode.specs.State.{State};
 ghost use Rattle.mips_decode.specs.Step.{turn};
-ghost use Rattle.mips_decode.specs.declared.inst.Inst.TheVariants.{Arithmetic, ArithmeticImmediate, BranchEqual};
+ghost use Rattle.mips_decode.specs.declared.inst.Inst.TheVariants.{Arithmetic, ArithmeticImmediate, BranchEqual, Syscall};
 ghost use Rattle.mips_decode.specs.declared.names.arithmetic_immediate_name.ArithmeticImmediateName.TheVariants.{Addiu};
 ghost use Rattle.mips_decode.specs.declared.names.arithmetic_name.ArithmeticName.TheVariants.{Slt};
 ghost use Rattle.mips_decode.specs.declared.names.branch_equal_name.BranchEqualName.TheVariants.{Beq};
 ghost use Rattle.guest_match.specs.Match.{Matches};
-ghost use Rattle.guest_match.specs.Code.{addiu_code, slt_code, slt_count, beq_addiu_code, beq_addiu_count};
-ghost use Rattle.guest_match.specs.Follows.{StandsBefore, LeadsTo, BranchesTo};
+ghost use Rattle.guest_match.specs.Code.{addiu_code, slt_code, slt_count, beq_addiu_code, beq_addiu_count, syscall_code};
+ghost use Rattle.guest_match.specs.Follows.{StandsBefore, LeadsTo, BranchesTo, StopsAlike};
 
 /// ADDIU with a destination other than register 0: four instructions.
 pub fn addiu_follows()
@@ -28,4 +30,10 @@ pub fn slt_follows()
 /// BEQ with ADDIU in its delay slot: nine instructions where it is taken, else ten.
 pub fn beq_follows()
     ensures { (program : Program) (words at rs rt imm word slot_rs slot_rt slot_imm slot_word : ℕ) (w : Workspace) (s : State) → rs < 32 → rt < 32 → slot_rs < 32 → 0 < slot_rt → slot_rt < 32 → at + 8 < 2 ^ 32 → Matches w.fields w.heap s → StandsBefore s at word (BranchEqual Beq rs rt imm) → s.code (at + 4) ≡ Some slot_word → inst slot_word ≡ ArithmeticImmediate Addiu slot_rs slot_rt slot_imm → ((slot : State) × (t : State) × (turn s ≡ moves slot) × (turn slot ≡ moves t) × BranchesTo program words (beq_addiu_code at rs rt imm slot_rs slot_rt slot_imm) (beq_addiu_count s rs rt) 31 w t) }
+{}
+
+/// SYSCALL: seven instructions lead to Host.call, which asks what the guest asks; call 1 leaves as the guest does, and after an answer
+/// one more instruction leads to the end.
+pub fn syscall_follows()
+    ensures { (program : Program) (words m by at word code : ℕ) (w : Workspace) (others : List Frame) (s : State) → StandsAt program m by syscall_code → Matches w.fields w.heap s → StandsBefore s at word (Syscall code) → StopsAlike program words m by 27 7 1 w others s }
 {}
