@@ -9,3 +9,4 @@ pub mod Stores
 pub mod Patches
 pub mod Machine
 pub mod Syscall
+pub mod Add

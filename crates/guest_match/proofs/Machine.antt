@@ -1,6 +1,9 @@
 -- Turns of the class machine at a line of code that stands in a method.
-use Rattle.std.proofs.Common.{◌≡◌, ℕ, ◌+◌, List, ◌∷◌, Some, refl, ap, sym, ◌∙◌, arith}
-use Rattle.nv_events.specs.Turn.{Turn}
+use Rattle.std.proofs.Common.{◌≡◌, ℕ, ◌+◌, List, ◌∷◌, Some, refl, ap, subst, sym, ◌∙◌, arith}
+use Rattle.nv_events.specs.Turn.{Turn, End, ends}
+use Rattle.mips_decode.specs.State as guest
+use Rattle.guest_match.specs.Follows.{TurnsAlike}
+use Rattle.jvm_program.specs.Values.{Value}
 use Rattle.jvm_program.specs.declared.linked_line.LinkedLine.{LinkedLine}
 use Rattle.jvm_program.specs.Program.{Program, line_in}
 use Rattle.jvm_program.specs.Effect.{Workspace, effect}
@@ -20,3 +23,9 @@ stretch-starts program words m by n lines w others p stands is =
     let e : by + 0 ≡ by = omega arith in
     ap (λ a. advanced (turn program words) n (placed m a w others)) (sym e)
     ∙ stretch-stands program words m by lines others stands n 0 w p is
+
+-- both machines end
+pub ends-alike : (program : Program) (words m at n : ℕ) (operands : List Value) (others : List Frame) (x : Turn State) (y : Turn guest.State) (e : End) → x ≡ ends e → y ≡ ends e → TurnsAlike program words m at n operands others x y
+ends-alike program words m at n operands others x y e is same =
+    subst (λ (x : Turn State). TurnsAlike program words m at n operands others x y) (sym is)
+    (subst (λ (y : Turn guest.State). TurnsAlike program words m at n operands others (ends e) y) (sym same) refl)

@@ -1,14 +1,16 @@
 -- The code of some units, from the offset 0 on.
 use Rattle.std.specs.Prelude.{ℕ, ◌+◌, ◌==◌, int_lt, if◌then◌else◌, List, [], ◌∷◌}
 use Rattle.nv_words.specs.Words.{signed_of}
-use Rattle.jvm_code.specs.declared.names.int_arithmetic.IntArithmetic.TheVariants.{Iadd}
-use Rattle.jvm_code.specs.declared.names.branch_name.BranchName.TheVariants.{IfIcmpeq, IfIcmplt, Goto}
+use Rattle.jvm_code.specs.declared.names.int_arithmetic.IntArithmetic.TheVariants.{Iadd, Iand, Ixor}
+use Rattle.jvm_code.specs.declared.names.branch_name.BranchName.TheVariants.{IfIcmpeq, IfIcmplt, Iflt, Goto}
+use Rattle.jvm_code.specs.declared.names.stack_name.StackName.TheVariants.{Pop, Dup, DupX1, Swap}
 use Rattle.jvm_program.specs.declared.constant.Constant.TheVariants as constants
 use Rattle.jvm_program.specs.declared.kind.Kind.TheVariants as kinds
 use Rattle.jvm_program.specs.declared.linked_line.LinkedLine.{LinkedLine}
 use Rattle.jvm_program.specs.declared.instruction.Instruction.{Instruction}
-use Rattle.jvm_program.specs.declared.instruction.Instruction.TheVariants.{Push, Get, Put, IntArithmetic, Branch, CallHost}
+use Rattle.jvm_program.specs.declared.instruction.Instruction.TheVariants.{Push, Get, Put, IntArithmetic, Branch, CallHost, FaultHost, Stack}
 use Rattle.mips_decode.specs.State.{State, register}
+use Rattle.mips_decode.specs.Effect.{overflow_fault}
 use Rattle.mips_decode.specs.Targets.{extended_imm, branch_target}
 use Rattle.guest_match.specs.Match.{register_field, pc_field, readable_field, writable_field}
 
@@ -89,4 +91,28 @@ syscall_code =
     ∷ line 18 21 (get_register 7)
     ∷ line 21 24 CallHost
     ∷ line 24 27 (put_register 2)
+    ∷ []
+
+-- ADD at an address: it overflows where the sum has another sign than both summands, and the fault then has the word
+abbrev pub add_code : ℕ → ℕ → ℕ → ℕ → ℕ → List LinkedLine
+add_code at word rs rt rd =
+    line 0 3 (get_register rs)
+    ∷ line 3 6 (get_register rt)
+    ∷ line 6 7 (IntArithmetic Iadd)
+    ∷ line 7 8 (Stack Dup)
+    ∷ line 8 11 (get_register rs)
+    ∷ line 11 12 (IntArithmetic Ixor)
+    ∷ line 12 13 (Stack Swap)
+    ∷ line 13 14 (Stack DupX1)
+    ∷ line 14 17 (get_register rt)
+    ∷ line 17 18 (IntArithmetic Ixor)
+    ∷ line 18 19 (IntArithmetic Iand)
+    ∷ line 19 22 (Branch Iflt 28)
+    ∷ line 22 25 (put_register rd)
+    ∷ line 25 28 (Branch Goto 41)
+    ∷ line 28 29 (Stack Pop)
+    ∷ line 29 32 (push_int overflow_fault)
+    ∷ line 32 35 (push_int at)
+    ∷ line 35 38 (push_int word)
+    ∷ line 38 41 FaultHost
     ∷ []

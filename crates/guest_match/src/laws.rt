@@ -1,20 +1,21 @@
 //! What code follows. Each call here does nothing: its contract is the law.
 
-ghost use Rattle.std.specs.Prelude.{◌≡◌, ℕ, ◌+◌, ◌^◌, ◌<◌, List, Some};
+ghost use Rattle.std.specs.Prelude.{◌≡◌, ℕ, ◌+◌, ◌^◌, ◌<◌, List, Some, None};
 ghost use Rattle.nv_events.specs.Turn.{moves};
 ghost use Rattle.jvm_program.specs.Program.{Program};
 ghost use Rattle.jvm_program.specs.Effect.{Workspace};
 ghost use Rattle.jvm_program.specs.Step.{Frame};
 ghost use Rattle.jvm_program.specs.Stretch.{StandsAt};
 ghost use Rattle.mips_decode.specs.Table.{inst};
-ghost use Rattle.mips_decode.specs.State.{State};
+ghost use Rattle.mips_decode.specs.State.{State, register};
+ghost use Rattle.mips_decode.specs.Arithmetic.{arithmetic_result};
 ghost use Rattle.mips_decode.specs.Step.{turn};
 ghost use Rattle.mips_decode.specs.declared.inst.Inst.TheVariants.{Arithmetic, ArithmeticImmediate, BranchEqual, Syscall};
 ghost use Rattle.mips_decode.specs.declared.names.arithmetic_immediate_name.ArithmeticImmediateName.TheVariants.{Addiu};
-ghost use Rattle.mips_decode.specs.declared.names.arithmetic_name.ArithmeticName.TheVariants.{Slt};
+ghost use Rattle.mips_decode.specs.declared.names.arithmetic_name.ArithmeticName.TheVariants.{Add, Slt};
 ghost use Rattle.mips_decode.specs.declared.names.branch_equal_name.BranchEqualName.TheVariants.{Beq};
 ghost use Rattle.guest_match.specs.Match.{Matches};
-ghost use Rattle.guest_match.specs.Code.{addiu_code, slt_code, slt_count, beq_addiu_code, beq_addiu_count, syscall_code};
+ghost use Rattle.guest_match.specs.Code.{addiu_code, slt_code, slt_count, beq_addiu_code, beq_addiu_count, syscall_code, add_code};
 ghost use Rattle.guest_match.specs.Follows.{StandsBefore, LeadsTo, BranchesTo, StopsAlike};
 
 /// ADDIU with a destination other than register 0: four instructions.
@@ -36,4 +37,11 @@ pub fn beq_follows()
 /// one more instruction leads to the end.
 pub fn syscall_follows()
     ensures { (program : Program) (words m by at word code : ℕ) (w : Workspace) (others : List Frame) (s : State) → StandsAt program m by syscall_code → Matches w.fields w.heap s → StandsBefore s at word (Syscall code) → StopsAlike program words m by 27 7 1 w others s }
+{}
+
+/// ADD with a destination other than register 0: fourteen instructions give the sum; where it overflows, sixteen lead to Host.fault,
+/// which ends as the guest does.
+pub fn add_follows()
+    ensures sums { (program : Program) (words rs rt rd sum at word : ℕ) (w : Workspace) (s : State) → rs < 32 → rt < 32 → 0 < rd → rd < 32 → Matches w.fields w.heap s → StandsBefore s at word (Arithmetic Add rs rt rd) → arithmetic_result Add (register s rs) (register s rt) ≡ Some sum → ((t : State) × (turn s ≡ moves t) × LeadsTo program words (add_code at word rs rt rd) 14 41 w t) }
+    ensures overflows { (program : Program) (words m by rs rt rd at word : ℕ) (w : Workspace) (others : List Frame) (s : State) → rs < 32 → rt < 32 → StandsAt program m by (add_code at word rs rt rd) → Matches w.fields w.heap s → StandsBefore s at word (Arithmetic Add rs rt rd) → arithmetic_result Add (register s rs) (register s rt) ≡ None → StopsAlike program words m by 41 16 0 w others s }
 {}
