@@ -1,7 +1,7 @@
 -- ADD, which may overflow.
-use Rattle.std.proofs.Common.{◌≡◌, ℕ, ◌+◌, ◌%◌, ◌^◌, ◌<◌, int_lt, pos, bit_and, bit_xor, Bool, true, false, if◌then◌else◌, List, ◌∷◌, Option, Some, None, refl, ap, subst, sym, ◌∙◌, arith}
-use Rattle.nv_words.specs.Words.{IsWord, signed_of}
-use Rattle.nv_events.specs.Turn.{Turn, moves, ends, «fault»}
+use Rattle.std.proofs.Common.{◌≡◌, ℕ, ◌+◌, ◌%◌, ◌^◌, ◌<◌, int_lt, pos, bit_and, bit_xor, Bool, true, false, if◌then◌else◌, List, ◌∷◌, Some, None, refl, ap, sym, ◌∙◌, arith}
+use Rattle.nv_words.specs.Words.{signed_of}
+use Rattle.nv_events.specs.Turn.{moves, ends, «fault»}
 use Rattle.jvm_program.specs.declared.instruction.Instruction.TheVariants.{FaultHost}
 use Rattle.jvm_program.specs.Values.{int}
 use Rattle.jvm_program.specs.Program.{Program}

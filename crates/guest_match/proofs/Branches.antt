@@ -1,5 +1,5 @@
 -- BEQ with ADDIU in its delay slot.
-use Rattle.std.proofs.Common.{◌≡◌, ℕ, ◌+◌, ◌%◌, ◌^◌, ◌==◌, ◌<◌, Bool, true, false, if◌then◌else◌, List, Some, refl, ap, sym, ◌∙◌, arith}
+use Rattle.std.proofs.Common.{◌≡◌, ℕ, ◌+◌, ◌%◌, ◌^◌, ◌==◌, ◌<◌, Bool, true, false, if◌then◌else◌, Some, refl, ap, sym, ◌∙◌, arith}
 use Rattle.nv_events.specs.Turn.{moves}
 use Rattle.nv_words.specs.Words.{signed_of}
 use Rattle.jvm_program.specs.Values.{int}
@@ -9,12 +9,12 @@ use Rattle.jvm_program.specs.Stretch.{stretch}
 use Rattle.mips_decode.specs.Table.{inst}
 use Rattle.mips_decode.specs.State.{State, register, with_register}
 use Rattle.mips_decode.specs.Branches.{taken_or_not}
-use Rattle.mips_decode.specs.Step.{turn, turn_by, advanced, into_slot}
+use Rattle.mips_decode.specs.Step.{turn, advanced, into_slot}
 use Rattle.mips_decode.specs.Targets.{extended_imm, branch_target}
 use Rattle.mips_decode.specs.declared.inst.Inst.TheVariants.{ArithmeticImmediate, BranchEqual}
 use Rattle.mips_decode.specs.declared.names.arithmetic_immediate_name.ArithmeticImmediateName.TheVariants.{Addiu}
 use Rattle.mips_decode.specs.declared.names.branch_equal_name.BranchEqualName.TheVariants.{Beq}
-use Rattle.guest_match.specs.Match.{Matches, pc_field, register_field}
+use Rattle.guest_match.specs.Match.{Matches, pc_field}
 use Rattle.guest_match.specs.Code.{beq_addiu_code, beq_addiu_count}
 use Rattle.guest_match.specs.Follows.{StandsBefore, BranchesTo}
 use Rattle.guest_match.proofs.Registers.{pushed, register-got, Holds-pc, Holds-written, IsWord-word, pc-kept}

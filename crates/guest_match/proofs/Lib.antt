@@ -5,8 +5,10 @@ pub mod Results
 pub mod Plain
 pub mod Branches
 pub mod Pages
+pub mod ReadLemmas
 pub mod Stores
 pub mod Patches
 pub mod Machine
 pub mod Syscall
 pub mod Add
+pub mod Load

@@ -1,13 +1,10 @@
 -- A word of a page is changed: the memory that is read through the tables has that word.
-use Rattle.std.proofs.Common.{◌≡◌, ℕ, ◌/◌, ◌%◌, ◌^◌, ◌==◌, ◌<◌, nat_lt, Bool, true, false, if◌then◌else◌, ◌⊎◌, inl, inr, Option, Some, None, is_some, option_map, option_and_then, refl, ap, sym, ◌∙◌, arith, lit<}
-use Rattle.std.specs.Option.{option_or}
-use Rattle.std.proofs.lemmas.Bool.{lt-ltb, eq-eqb, ne_eqb, cases_eq, ltb-true}
-use Rattle.nv_words.specs.Words.{IsWord, lane_of_word}
-use Rattle.nv_events.specs.Memory.{Memory}
+use Rattle.std.proofs.Common.{◌≡◌, ℕ, ◌/◌, ◌%◌, ◌^◌, ◌==◌, ◌<◌, nat_lt, Bool, true, false, if◌then◌else◌, ◌⊎◌, inl, inr, Option, Some, None, is_some, option_map, option_and_then, refl, ap, sym, ◌∙◌, arith}
+use Rattle.std.proofs.lemmas.Bool.{lt-ltb, eq-eqb, ne_eqb, cases_eq}
+use Rattle.nv_words.specs.Words.{lane_of_word}
 use Rattle.jvm_program.specs.Values.{Array, ints, pages, Heap, with_int, set_int}
-use Rattle.jvm_program.specs.HostMemory.{Cell, word_in, page_in, byte_of, memory_of}
-use Rattle.guest_match.specs.Match.{HoldsMemory, IsPage, page_count, host_memory}
-use Rattle.guest_match.specs.Memory.{with_word_at}
+use Rattle.jvm_program.specs.HostMemory.{Cell, word_in, page_in, byte_of}
+use Rattle.guest_match.specs.Match.{page_count}
 
 -- ---- what a table reads at an address
 

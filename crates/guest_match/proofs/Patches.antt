@@ -1,6 +1,5 @@
 -- Bytes that are put through the writable pages.
-use Rattle.std.proofs.Common.{◌≡◌, ℕ, zero, suc, ◌+◌, ◌/◌, ◌%◌, ◌^◌, ◌==◌, ◌<◌, nat_lt, nat_le, ◌&&◌, Bool, true, false, if◌then◌else◌, ◌⊎◌, inl, inr, List, [], ◌∷◌, length, Option, Some, None, is_some, IsTrue, refl, ap, subst, sym, ◌∙◌, arith}
-use Rattle.std.specs.Option.{option_or}
+use Rattle.std.proofs.Common.{◌≡◌, ℕ, zero, suc, ◌+◌, ◌/◌, ◌%◌, ◌^◌, ◌==◌, ◌<◌, nat_lt, nat_le, ◌&&◌, Bool, true, false, if◌then◌else◌, ◌⊎◌, inl, inr, List, [], ◌∷◌, length, Option, Some, None, is_some, refl, ap, subst, sym, ◌∙◌, arith}
 use Rattle.std.specs.List.{list_all}
 use Rattle.std.proofs.lemmas.Bool.{lt-ltb, eq-eqb, ne_eqb, cases_eq, ltb-true, leb-true, and_parts}
 use Rattle.nv_words.specs.Words.{IsWord, lane_of_word, word_with_lane}
@@ -9,13 +8,14 @@ use Rattle.nv_events.specs.Memory.{Memory, can_write, patched}
 use Rattle.nv_events.specs.Question.{room_at, missing, there}
 use Rattle.nv_events.specs.Answer.{fits_room, room_place}
 use Rattle.nv_events.proofs.Rooms.{can_write-front}
-use Rattle.jvm_program.specs.Values.{Array, ints, pages, Heap, with_int}
+use Rattle.jvm_program.specs.Values.{Heap, with_int}
 use Rattle.jvm_program.specs.HostMemory as host
 use Rattle.jvm_program.specs.HostMemory.{HostMemory, Cell, cell_of, page_in, byte_of, memory_of, with_cell}
 use Rattle.mips_decode.specs.Memory.{with_byte}
 use Rattle.guest_match.specs.Match.{HoldsMemory, IsPage, page_count, host_memory}
 use Rattle.guest_match.specs.Memory.{with_word_at}
-use Rattle.guest_match.proofs.Pages.{page_at, byte_in, byte_word, byte-by-table, word-read}
+use Rattle.guest_match.proofs.Pages.{byte_in, byte-by-table}
+use Rattle.guest_match.proofs.ReadLemmas.{lane-read}
 use Rattle.guest_match.proofs.Stores.{HoldsMemory-word}
 
 -- ---- the word of a byte that may be written
@@ -57,18 +57,10 @@ module _ (heap : Heap) (readable writable : ℕ) (memory : Memory) (h : HoldsMem
       simp (h.writable_there, page.1, page.2, is_page.there, lt-ltb (a / 4 % 1024) 1024 within) refl
 
   -- the other bytes of the word
-  lane-read : (x : ℕ) → x / 4 ≡ a / 4 → memory.byte x ≡ Some (lane_of_word word (x % 4))
-  unfolding word
-  lane-read x same =
-      let same_page : x / 4096 ≡ a / 4096 = omega arith in
-      let here : page_at h.readable_pages x ≡ Some page.0 =
-      ap (λ n. if nat_lt n page_count then h.readable_pages n else None) same_page
-      ∙ ap (λ b. if b then h.readable_pages (a / 4096) else None) page.1
-      ∙ h.shared (a / 4096) page.0 page.2 in
-      let below : x < 2 ^ 32 = omega (arith, in_table) in
-      sym (ap (λ (m : Memory). m.byte x) h.reads)
-      ∙ ap (λ o. option_or o (byte_of heap (Some writable) x)) (byte-by-table heap readable x h.readable_pages h.readable_there ∙ ap (λ o. byte_in heap o x) here ∙ ap (λ o. byte_word page.0 o x) is_page.there ∙ word-read page.0 x is_page.words below)
-      ∙ ap (λ n. Some (lane_of_word (is_page.words (n % 1024)) (x % 4))) same
+  lane-of : (x : ℕ) → x / 4 ≡ a / 4 → memory.byte x ≡ Some (lane_of_word word (x % 4))
+  unfolding word is_page
+  lane-of x same =
+      lane-read heap readable writable memory h a page.0 in_table (h.shared (a / 4096) page.0 page.2) x same
 
   put-byte : (b : ℕ) → b < 256 → (x : ℕ) → (with_word_at memory (a / 4) (word_with_lane word (a % 4) b)).byte x ≡ (with_byte memory a b).byte x
   unfolding word
@@ -86,7 +78,7 @@ module _ (heap : Heap) (readable writable : ℕ) (memory : Memory) (h : HoldsMem
           ∙ sym (ap (λ t. if t then Some b else memory.byte x) (eq-eqb x a e))
       by_byte same (inr ne) =
           ap Some (lane ∙ ap (λ t. if t then b else lane_of_word word (x % 4)) (ne_eqb (x % 4) (a % 4) (λ e. ne (omega arith))))
-          ∙ sym (lane-read x same)
+          ∙ sym (lane-of x same)
           ∙ sym (ap (λ t. if t then Some b else memory.byte x) (ne_eqb x a ne))
 
       by_word : (x / 4 ≡ a / 4) ⊎ (x / 4 ≡ a / 4 → ⊥) → (if x / 4 == a / 4 then Some (lane_of_word v (x % 4)) else memory.byte x) ≡ (if x == a then Some b else memory.byte x)

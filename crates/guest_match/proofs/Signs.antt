@@ -1,5 +1,5 @@
 -- Words and their two's complement numbers.
-use Rattle.std.proofs.Common.{◌≡◌, ℕ, suc, ◌+◌, ◌-◌, ◌/◌, ◌%◌, ◌^◌, ◌<◌, ◌≤◌, min, ◌==◌, ℤ, pos, negsuc, ◌+ℤ◌, int_lt, bit_and, bit_xor, nat_lt, not, Option, Bool, true, false, if◌then◌else◌, Some, None, ◌⊎◌, inl, inr, refl, ap, sym, ◌∙◌, arith}
+use Rattle.std.proofs.Common.{◌≡◌, ℕ, suc, ◌+◌, ◌-◌, ◌/◌, ◌%◌, ◌^◌, ◌<◌, ◌≤◌, min, ◌==◌, ℤ, pos, negsuc, ◌+ℤ◌, int_lt, bit_and, bit_xor, nat_lt, not, Option, true, if◌then◌else◌, Some, None, ◌⊎◌, inl, inr, refl, ap, sym, ◌∙◌, arith}
 use Rattle.std.proofs.lemmas.Int.{ints}
 use Rattle.std.proofs.lemmas.Nat.{and_le_l, xor_of_32}
 use Rattle.std.proofs.lemmas.Nat.Bits.{bit_at_and, bit_at_xor}
@@ -41,7 +41,7 @@ high-bit : (a b s : ℕ) → a < 2 ^ 32 → b < 2 ^ 32 → s < 2 ^ 32 → bit_an
 high-bit a b s ha hb hs =
     omega (arith, bit_at_and (bit_xor s a) (bit_xor s b) 31, bit_at_xor s a 31, bit_at_xor s b 31, and_le_l (bit_xor s a) (bit_xor s b), xor_of_32 s a hs ha)
 
-below-zero : (w : ℕ) → w < 2 ^ 32 → int_lt (signed_of w) (pos 0) ≡ not (nat_lt w (2 ^ 31))
+pub below-zero : (w : ℕ) → w < 2 ^ 32 → int_lt (signed_of w) (pos 0) ≡ not (nat_lt w (2 ^ 31))
 below-zero w high = grind (arith, ints)
 
 -- sums by the signs of the summands

@@ -1,18 +1,14 @@
 -- Stores of words, and bytes that are put, keep the guest's memory held.
-use Rattle.std.proofs.Common.{◌≡◌, ℕ, zero, suc, ◌+◌, ◌/◌, ◌%◌, ◌^◌, ◌==◌, ◌<◌, nat_lt, ◌&&◌, Bool, true, false, if◌then◌else◌, ◌⊎◌, inl, inr, List, [], ◌∷◌, length, Option, Some, None, is_some, refl, ap, subst, sym, ◌∙◌, arith}
+use Rattle.std.proofs.Common.{◌≡◌, ℕ, ◌/◌, ◌%◌, ◌==◌, ◌<◌, nat_lt, Bool, true, false, if◌then◌else◌, ◌⊎◌, inl, inr, Option, Some, None, is_some, refl, ap, sym, ◌∙◌, arith}
 use Rattle.std.specs.Option.{option_or}
-use Rattle.std.specs.List.{list_all}
-use Rattle.std.proofs.lemmas.Bool.{lt-ltb, eq-eqb, ne_eqb, cases_eq, ltb-true, and_parts}
-use Rattle.nv_words.specs.Words.{IsWord, lane_of_word, word_with_lane}
-use Rattle.nv_words.proofs.LaneLemmas.{lane_of_word-with_lane, IsWord-with_lane}
-use Rattle.nv_events.specs.Memory.{Memory, can_write, patched}
+use Rattle.std.proofs.lemmas.Bool.{lt-ltb, eq-eqb, ne_eqb, cases_eq}
+use Rattle.nv_words.specs.Words.{IsWord, lane_of_word}
+use Rattle.nv_events.specs.Memory.{Memory}
 use Rattle.jvm_program.specs.Values.{Array, ints, pages, Heap, with_int, set_int}
-use Rattle.jvm_program.specs.HostMemory as host
-use Rattle.jvm_program.specs.HostMemory.{Cell, cell_of, byte_of, memory_of, with_cell}
-use Rattle.mips_decode.specs.Memory.{with_byte}
-use Rattle.guest_match.specs.Match.{HoldsMemory, IsPage, page_count, host_memory}
+use Rattle.jvm_program.specs.HostMemory.{byte_of}
+use Rattle.guest_match.specs.Match.{HoldsMemory, IsPage, page_count}
 use Rattle.guest_match.specs.Memory.{with_word_at}
-use Rattle.guest_match.proofs.Pages.{page_at, byte_in, byte_word, byte-by-table, word-read, Changed, changed-page}
+use Rattle.guest_match.proofs.Pages.{page_at, byte_in, byte-by-table, Changed, changed-page}
 
 -- ---- one word
 

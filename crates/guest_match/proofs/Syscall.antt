@@ -1,11 +1,9 @@
 -- SYSCALL.
-use Rattle.std.proofs.Common.{◌≡◌, ℕ, ◌+◌, ◌%◌, ◌^◌, ◌==◌, ℤ, pos, negsuc, Bool, true, false, if◌then◌else◌, List, ◌∷◌, Some, None, IsTrue, refl, ap, subst, sym, ◌∙◌, arith, lit<}
+use Rattle.std.proofs.Common.{◌≡◌, ℕ, ◌+◌, ◌==◌, ℤ, pos, negsuc, Bool, true, false, if◌then◌else◌, List, ◌∷◌, Some, IsTrue, refl, ap, subst, sym, ◌∙◌, arith, lit<}
 use Rattle.nv_words.specs.Words.{IsWord, signed_of}
-use Rattle.nv_events.specs.declared.call.Call.{Call}
-use Rattle.nv_events.specs.Memory.{Memory}
 use Rattle.nv_events.specs.Question.{Question, asked, places_of}
 use Rattle.nv_events.specs.Answer.{Answer, fits, fits_room, answered}
-use Rattle.nv_events.specs.Turn.{Turn, End, moves, ends, leaves, asks, exit}
+use Rattle.nv_events.specs.Turn.{Turn, End, leaves, asks, exit}
 use Rattle.jvm_program.specs.declared.instruction.Instruction.TheVariants.{CallHost}
 use Rattle.jvm_program.specs.Values.{Value, int, array, Heap}
 use Rattle.jvm_program.specs.Words as machine_words
@@ -19,7 +17,7 @@ use Rattle.jvm_program.specs.Stretch.{StandsAt, stretch, moved_line}
 use Rattle.jvm_program.proofs.Stretches.{stretch-stands}
 use Rattle.mips_decode.specs.Arithmetic.{wrapped}
 use Rattle.mips_decode.specs.Memory.{with_byte}
-use Rattle.mips_decode.specs.State.{State, register}
+use Rattle.mips_decode.specs.State.{State}
 use Rattle.mips_decode.specs.Step as guest
 use Rattle.mips_decode.specs.Step.{call_of, question_of, after_call, called}
 use Rattle.mips_decode.specs.declared.inst.Inst.TheVariants.{Syscall}

@@ -2,15 +2,19 @@
 use Rattle.std.specs.Prelude.{ℕ, ◌+◌, ◌==◌, int_lt, if◌then◌else◌, List, [], ◌∷◌}
 use Rattle.nv_words.specs.Words.{signed_of}
 use Rattle.jvm_code.specs.declared.names.int_arithmetic.IntArithmetic.TheVariants.{Iadd, Iand, Ixor}
-use Rattle.jvm_code.specs.declared.names.branch_name.BranchName.TheVariants.{IfIcmpeq, IfIcmplt, Iflt, Goto}
+use Rattle.jvm_code.specs.declared.names.array_name.ArrayName.TheVariants.{Iaload, Aaload}
+use Rattle.jvm_code.specs.declared.names.int_shift.IntShift.TheVariants.{Iushr}
+use Rattle.jvm_code.specs.declared.names.return_name.ReturnName.TheVariants.{Ireturn}
+use Rattle.jvm_code.specs.declared.names.branch_name.BranchName.TheVariants.{Ifne, Iflt, IfIcmpeq, IfIcmplt, Ifnull, Goto}
 use Rattle.jvm_code.specs.declared.names.stack_name.StackName.TheVariants.{Pop, Dup, DupX1, Swap}
 use Rattle.jvm_program.specs.declared.constant.Constant.TheVariants as constants
 use Rattle.jvm_program.specs.declared.kind.Kind.TheVariants as kinds
+use Rattle.jvm_program.specs.declared.local_kind.LocalKind.TheVariants as local_kinds
 use Rattle.jvm_program.specs.declared.linked_line.LinkedLine.{LinkedLine}
 use Rattle.jvm_program.specs.declared.instruction.Instruction.{Instruction}
-use Rattle.jvm_program.specs.declared.instruction.Instruction.TheVariants.{Push, Get, Put, IntArithmetic, Branch, CallHost, FaultHost, Stack}
+use Rattle.jvm_program.specs.declared.instruction.Instruction.TheVariants.{Push, Get, Put, IntArithmetic, Branch, CallHost, FaultHost, Stack, Load, Store, Array, IntShift, Return, Call}
 use Rattle.mips_decode.specs.State.{State, register}
-use Rattle.mips_decode.specs.Effect.{overflow_fault}
+use Rattle.mips_decode.specs.Effect.{overflow_fault, read_align_fault, read_unmapped_fault}
 use Rattle.mips_decode.specs.Targets.{extended_imm, branch_target}
 use Rattle.guest_match.specs.Match.{register_field, pc_field, readable_field, writable_field}
 
@@ -115,4 +119,53 @@ add_code at word rs rt rd =
     ∷ line 32 35 (push_int at)
     ∷ line 35 38 (push_int word)
     ∷ line 38 41 FaultHost
+    ∷ []
+
+abbrev pub load_int : ℕ → Instruction
+load_int i = Load local_kinds.Int i
+
+-- The method of LW: the word at an address, or a fault at a pc. Local variable 0 is the address, 1 the pc and 2 the page.
+abbrev pub lw_method : List LinkedLine
+lw_method =
+    line 0 1 (load_int 0)
+    ∷ line 1 2 (push_int 3)
+    ∷ line 2 3 (IntArithmetic Iand)
+    ∷ line 3 6 (Branch Ifne 37)
+    ∷ line 6 7 (load_int 0)
+    ∷ line 7 10 (Branch Iflt 33)
+    ∷ line 10 13 get_readable
+    ∷ line 13 14 (load_int 0)
+    ∷ line 14 16 (push_int 12)
+    ∷ line 16 17 (IntShift Iushr)
+    ∷ line 17 18 (Array Aaload)
+    ∷ line 18 19 (Store local_kinds.Reference 2)
+    ∷ line 19 20 (Load local_kinds.Reference 2)
+    ∷ line 20 23 (Branch Ifnull 33)
+    ∷ line 23 24 (Load local_kinds.Reference 2)
+    ∷ line 24 25 (load_int 0)
+    ∷ line 25 26 (push_int 2)
+    ∷ line 26 27 (IntShift Iushr)
+    ∷ line 27 30 (push_int 1023)
+    ∷ line 30 31 (IntArithmetic Iand)
+    ∷ line 31 32 (Array Iaload)
+    ∷ line 32 33 (Return Ireturn)
+    ∷ line 33 34 (push_int read_unmapped_fault)
+    ∷ line 34 37 (Branch Goto 38)
+    ∷ line 37 38 (push_int read_align_fault)
+    ∷ line 38 39 (load_int 1)
+    ∷ line 39 40 (load_int 0)
+    ∷ line 40 43 FaultHost
+    ∷ line 43 44 (push_int 0)
+    ∷ line 44 45 (Return Ireturn)
+    ∷ []
+
+-- LW at an address
+abbrev pub lw_code : ℕ → ℕ → ℕ → ℕ → ℕ → List LinkedLine
+lw_code at helper rs rt imm =
+    line 0 3 (get_register rs)
+    ∷ line 3 6 (push_int (extended_imm imm))
+    ∷ line 6 7 (IntArithmetic Iadd)
+    ∷ line 7 10 (push_int at)
+    ∷ line 10 13 (Call helper)
+    ∷ line 13 16 (put_register rt)
     ∷ []

@@ -1,14 +1,16 @@
 -- How code of the class machine follows the guest.
 use Rattle.std.specs.Prelude.{◌≡◌, ℕ, ◌+◌, ◌%◌, List, Some, IsTrue}
 use Rattle.nv_events.specs.Answer.{Answer, fits}
-use Rattle.nv_events.specs.Turn.{Turn, moves, ends, leaves, asks}
+use Rattle.nv_events.specs.Turn.{Turn, ends, leaves, asks}
+use Rattle.jvm_program.specs.declared.kind.Kind.{Kind}
+use Rattle.jvm_program.specs.declared.linked_method.LinkedMethod.{LinkedMethod}
 use Rattle.jvm_program.specs.declared.linked_line.LinkedLine.{LinkedLine}
 use Rattle.jvm_program.specs.Values.{Value, int}
 use Rattle.jvm_program.specs.Program.{Program}
 use Rattle.jvm_program.specs.Effect.{Workspace}
 use Rattle.jvm_program.specs.Step as machine
 use Rattle.jvm_program.specs.Step.{Frame, placed}
-use Rattle.jvm_program.specs.Stretch.{Point, stretch, advanced}
+use Rattle.jvm_program.specs.Stretch.{stretch, advanced}
 use Rattle.mips_decode.specs.Table.{inst}
 use Rattle.mips_decode.specs.State.{State}
 use Rattle.mips_decode.specs.Step as guest
@@ -42,6 +44,13 @@ pub record Arrives (program : Program) (words m at n : ℕ) (operands : List Val
   pub runs : advanced (machine.turn program words) n x ≡ Some (placed m at after others)
   pub operands_are : after.operands ≡ operands
   pub matches : Matches after.fields after.heap t
+
+-- A method has these parameters and these lines.
+pub record HasMethod (program : Program) (m : ℕ) (parameters : List Kind) (lines : List LinkedLine) : Type 0 where
+  pub method : LinkedMethod
+  pub there : program.method m ≡ Some method
+  pub parameters_are : method.parameters ≡ parameters
+  pub lines_are : method.lines ≡ lines
 
 -- Both machines end alike, or ask the same and arrive by each answer that fits.
 abbrev pub TurnsAlike : Program → ℕ → ℕ → ℕ → ℕ → List Value → List Frame → Turn machine.State → Turn State → Type 0

@@ -1,22 +1,25 @@
 //! What code follows. Each call here does nothing: its contract is the law.
 
-ghost use Rattle.std.specs.Prelude.{◌≡◌, ℕ, ◌+◌, ◌^◌, ◌<◌, List, Some, None};
+ghost use Rattle.std.specs.Prelude.{◌≡◌, ℕ, ◌+◌, ◌^◌, ◌<◌, ◌≤◌, ◌⊎◌, List, [], ◌∷◌, length, Some, None};
 ghost use Rattle.nv_events.specs.Turn.{moves};
 ghost use Rattle.jvm_program.specs.Program.{Program};
 ghost use Rattle.jvm_program.specs.Effect.{Workspace};
-ghost use Rattle.jvm_program.specs.Step.{Frame};
+ghost use Rattle.jvm_program.specs.Step.{Frame, placed};
 ghost use Rattle.jvm_program.specs.Stretch.{StandsAt};
 ghost use Rattle.mips_decode.specs.Table.{inst};
 ghost use Rattle.mips_decode.specs.State.{State, register};
 ghost use Rattle.mips_decode.specs.Arithmetic.{arithmetic_result};
 ghost use Rattle.mips_decode.specs.Step.{turn};
-ghost use Rattle.mips_decode.specs.declared.inst.Inst.TheVariants.{Arithmetic, ArithmeticImmediate, BranchEqual, Syscall};
+ghost use Rattle.mips_decode.specs.declared.inst.Inst.TheVariants.{Arithmetic, ArithmeticImmediate, BranchEqual, Syscall, Load};
 ghost use Rattle.mips_decode.specs.declared.names.arithmetic_immediate_name.ArithmeticImmediateName.TheVariants.{Addiu};
 ghost use Rattle.mips_decode.specs.declared.names.arithmetic_name.ArithmeticName.TheVariants.{Add, Slt};
 ghost use Rattle.mips_decode.specs.declared.names.branch_equal_name.BranchEqualName.TheVariants.{Beq};
+ghost use Rattle.mips_decode.specs.declared.names.load_name.LoadName.TheVariants.{Lw};
+ghost use Rattle.nv_words.specs.declared.order.Order.TheVariants.{Big};
+ghost use Rattle.jvm_program.specs.declared.kind.Kind.TheVariants as kinds;
 ghost use Rattle.guest_match.specs.Match.{Matches};
-ghost use Rattle.guest_match.specs.Code.{addiu_code, slt_code, slt_count, beq_addiu_code, beq_addiu_count, syscall_code, add_code};
-ghost use Rattle.guest_match.specs.Follows.{StandsBefore, LeadsTo, BranchesTo, StopsAlike};
+ghost use Rattle.guest_match.specs.Code.{addiu_code, slt_code, slt_count, beq_addiu_code, beq_addiu_count, syscall_code, add_code, lw_code, lw_method};
+ghost use Rattle.guest_match.specs.Follows.{StandsBefore, LeadsTo, BranchesTo, Arrives, StopsAlike, HasMethod};
 
 /// ADDIU with a destination other than register 0: four instructions.
 pub fn addiu_follows()
@@ -44,4 +47,10 @@ pub fn syscall_follows()
 pub fn add_follows()
     ensures sums { (program : Program) (words rs rt rd sum at word : ℕ) (w : Workspace) (s : State) → rs < 32 → rt < 32 → 0 < rd → rd < 32 → Matches w.fields w.heap s → StandsBefore s at word (Arithmetic Add rs rt rd) → arithmetic_result Add (register s rs) (register s rt) ≡ Some sum → ((t : State) × (turn s ≡ moves t) × LeadsTo program words (add_code at word rs rt rd) 14 41 w t) }
     ensures overflows { (program : Program) (words m by rs rt rd at word : ℕ) (w : Workspace) (others : List Frame) (s : State) → rs < 32 → rt < 32 → StandsAt program m by (add_code at word rs rt rd) → Matches w.fields w.heap s → StandsBefore s at word (Arithmetic Add rs rt rd) → arithmetic_result Add (register s rs) (register s rt) ≡ None → StopsAlike program words m by 41 16 0 w others s }
+{}
+
+/// LW with a destination other than register 0, in big-endian order, by its method: 28 instructions give the word; where it faults, at
+/// most 23 lead to Host.fault, which ends as the guest does.
+pub fn lw_follows()
+    ensures { (program : Program) (words m by helper rs rt imm at word : ℕ) (w : Workspace) (others : List Frame) (s : State) → rs < 32 → 0 < rt → rt < 32 → length others < 63 → s.order ≡ Big → HasMethod program helper (kinds.Int ∷ kinds.Int ∷ []) lw_method → StandsAt program m by (lw_code at helper rs rt imm) → Matches w.fields w.heap s → StandsBefore s at word (Load Lw rs rt imm) → (((t : State) × (turn s ≡ moves t) × Arrives program words m (by + 16) 28 w.operands others (placed m by w others) t) ⊎ ((n : ℕ) × (n ≤ 23) × StopsAlike program words m by 16 n 0 w others s)) }
 {}
