@@ -3,7 +3,7 @@ use Rattle.std.proofs.Common.{◌≡◌, ℕ, ◌+◌, ◌%◌, ◌^◌, ◌<◌
 use Rattle.nv_words.specs.Words.{signed_of}
 use Rattle.nv_events.specs.Turn.{moves, ends, «fault»}
 use Rattle.jvm_program.specs.declared.instruction.Instruction.TheVariants.{FaultHost}
-use Rattle.jvm_program.specs.Values.{int}
+use Rattle.jvm_program.specs.declared.value.Value.TheVariants.{Int as int}
 use Rattle.jvm_program.specs.Program.{Program}
 use Rattle.jvm_program.specs.Effect.{Workspace, with_operands}
 use Rattle.jvm_program.specs.Step as machine

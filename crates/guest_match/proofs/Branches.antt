@@ -2,7 +2,7 @@
 use Rattle.std.proofs.Common.{◌≡◌, ℕ, ◌+◌, ◌%◌, ◌^◌, ◌==◌, ◌<◌, Bool, true, false, if◌then◌else◌, Some, refl, ap, sym, ◌∙◌, arith}
 use Rattle.nv_events.specs.Turn.{moves}
 use Rattle.nv_words.specs.Words.{signed_of}
-use Rattle.jvm_program.specs.Values.{int}
+use Rattle.jvm_program.specs.declared.value.Value.TheVariants.{Int as int}
 use Rattle.jvm_program.specs.Program.{Program}
 use Rattle.jvm_program.specs.Effect.{Workspace, same}
 use Rattle.jvm_program.specs.Stretch.{stretch}

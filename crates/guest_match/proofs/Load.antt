@@ -10,7 +10,8 @@ use Rattle.nv_events.specs.Turn.{End, moves, ends, «fault»}
 use Rattle.jvm_program.specs.declared.kind.Kind.TheVariants as kinds
 use Rattle.jvm_program.specs.declared.instruction.Instruction.TheVariants.{FaultHost, Call, Return}
 use Rattle.jvm_code.specs.declared.names.return_name.ReturnName.TheVariants.{Ireturn}
-use Rattle.jvm_program.specs.Values.{Value, int, null, array}
+use Rattle.jvm_program.specs.declared.value.Value.{Value}
+use Rattle.jvm_program.specs.declared.value.Value.TheVariants.{Int as int, Null as null, Array as array}
 use Rattle.jvm_program.specs.Program.{Program, line_in, line_at}
 use Rattle.jvm_program.specs.Effect.{Workspace, effect, enters, same, with_operands}
 use Rattle.jvm_program.specs.Step as machine

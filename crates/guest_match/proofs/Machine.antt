@@ -3,7 +3,7 @@ use Rattle.std.proofs.Common.{◌≡◌, ℕ, suc, ◌+◌, ◌<◌, if◌then�
 use Rattle.nv_events.specs.Turn.{Turn, End, ends, moves, trap}
 use Rattle.mips_decode.specs.State as guest
 use Rattle.guest_match.specs.Follows.{TurnsAlike, HasMethod}
-use Rattle.jvm_program.specs.Values.{Value}
+use Rattle.jvm_program.specs.declared.value.Value.{Value}
 use Rattle.std.proofs.lemmas.Bool.{lt-ltb}
 use Rattle.jvm_program.specs.declared.kind.Kind.{Kind}
 use Rattle.jvm_program.specs.declared.linked_method.LinkedMethod.{LinkedMethod}

@@ -5,7 +5,9 @@ use Rattle.nv_words.specs.Words.{IsWord}
 use Rattle.nv_events.specs.Memory.{Memory}
 use Rattle.jvm_program.specs.declared.kind.Kind.TheVariants as kinds
 use Rattle.jvm_program.specs.declared.instruction.Instruction.TheVariants.{Get}
-use Rattle.jvm_program.specs.Values.{Value, int, Heap}
+use Rattle.jvm_program.specs.Values.{Heap}
+use Rattle.jvm_program.specs.declared.value.Value.{Value}
+use Rattle.jvm_program.specs.declared.value.Value.TheVariants.{Int as int}
 use Rattle.jvm_program.specs.Program.{Program}
 use Rattle.jvm_program.specs.Effect.{Workspace, effect, pushes, with_operands}
 use Rattle.guest_match.specs.Match.{Holds, HoldsMemory, register_field, pc_field}

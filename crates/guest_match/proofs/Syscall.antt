@@ -5,7 +5,9 @@ use Rattle.nv_events.specs.Question.{Question, asked, places_of}
 use Rattle.nv_events.specs.Answer.{Answer, fits, fits_room, answered}
 use Rattle.nv_events.specs.Turn.{Turn, End, leaves, asks, exit}
 use Rattle.jvm_program.specs.declared.instruction.Instruction.TheVariants.{CallHost}
-use Rattle.jvm_program.specs.Values.{Value, int, array, Heap}
+use Rattle.jvm_program.specs.Values.{Heap}
+use Rattle.jvm_program.specs.declared.value.Value.{Value}
+use Rattle.jvm_program.specs.declared.value.Value.TheVariants.{Int as int, Array as array}
 use Rattle.jvm_program.specs.Words as machine_words
 use Rattle.jvm_program.specs.HostMemory as host
 use Rattle.jvm_program.specs.HostMemory.{HostMemory}

@@ -5,7 +5,8 @@ use Rattle.nv_events.specs.Turn.{Turn, ends, leaves, asks}
 use Rattle.jvm_program.specs.declared.kind.Kind.{Kind}
 use Rattle.jvm_program.specs.declared.linked_method.LinkedMethod.{LinkedMethod}
 use Rattle.jvm_program.specs.declared.linked_line.LinkedLine.{LinkedLine}
-use Rattle.jvm_program.specs.Values.{Value, int}
+use Rattle.jvm_program.specs.declared.value.Value.{Value}
+use Rattle.jvm_program.specs.declared.value.Value.TheVariants.{Int as int}
 use Rattle.jvm_program.specs.Program.{Program}
 use Rattle.jvm_program.specs.Effect.{Workspace}
 use Rattle.jvm_program.specs.Step as machine

@@ -2,7 +2,9 @@
 use Rattle.std.specs.Prelude.{◌≡◌, ℕ, ◌-◌, ◌<◌, true, Option, Some, None}
 use Rattle.nv_words.specs.Words.{IsWord}
 use Rattle.nv_events.specs.Memory.{Memory}
-use Rattle.jvm_program.specs.Values.{Value, int, array, ints, pages, Heap}
+use Rattle.jvm_program.specs.Values.{ints, pages, Heap}
+use Rattle.jvm_program.specs.declared.value.Value.{Value}
+use Rattle.jvm_program.specs.declared.value.Value.TheVariants.{Int as int, Array as array}
 use Rattle.jvm_program.specs.HostMemory.{HostMemory, memory_of}
 use Rattle.mips_decode.specs.State.{State}
 
