@@ -2,8 +2,13 @@
 //! work on these alone (2.11). Only `new` takes memory.
 #![tactic(auto)]
 
+mod computing;
+mod int_words;
 mod locals;
+mod long_words;
 mod operands;
+mod trap;
 
 pub use locals::Locals;
 pub use operands::{NoMemory, Operands};
+pub use trap::Trap;
