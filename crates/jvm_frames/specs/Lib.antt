@@ -1,0 +1,4 @@
+pub mod Stack
+pub mod Variables
+pub mod Trap
+pub mod Forms

@@ -1,0 +1,14 @@
+//! The frames of the class machine, with their operand stacks and local variables (JVM Specification, 2.6), and the instructions that
+//! work on these alone (2.11). Only `new` takes memory.
+#![tactic(auto)]
+
+mod computing;
+mod int_words;
+mod locals;
+mod long_words;
+mod operands;
+mod trap;
+
+pub use locals::Locals;
+pub use operands::{NoMemory, Operands};
+pub use trap::Trap;
