@@ -1,0 +1,2 @@
+pub mod HeapLaws
+pub mod AccessLaws
