@@ -1,3 +1,4 @@
+mod Computations
 mod Examples
 pub mod Moving
 pub mod Stretches

@@ -1,0 +1,4 @@
+pub mod Match
+pub mod Memory
+pub mod Code
+pub mod Follows

@@ -1,0 +1,77 @@
+-- When the fields and the arrays of the class machine hold the state of the guest.
+use Rattle.std.specs.Prelude.{◌≡◌, ℕ, ◌-◌, ◌<◌, true, Option, Some, None}
+use Rattle.nv_words.specs.Words.{IsWord}
+use Rattle.nv_events.specs.Memory.{Memory}
+use Rattle.jvm_program.specs.Values.{Value, int, array, ints, pages, Heap}
+use Rattle.jvm_program.specs.HostMemory.{HostMemory, memory_of}
+use Rattle.mips_decode.specs.State.{State}
+
+-- ---- fields: r1 to r31 are in fields 0 to 30
+
+abbrev pub register_field : ℕ → ℕ
+register_field r = r - 1
+
+abbrev pub hi_field : ℕ
+hi_field = 31
+
+abbrev pub lo_field : ℕ
+lo_field = 32
+
+abbrev pub pc_field : ℕ
+pc_field = 33
+
+abbrev pub readable_field : ℕ
+readable_field = 34
+
+abbrev pub writable_field : ℕ
+writable_field = 35
+
+-- ---- memory: the pages below address 80000000, by two tables
+
+abbrev pub page_count : ℕ
+page_count = 524288
+
+abbrev pub host_memory : Heap → ℕ → ℕ → HostMemory
+host_memory heap readable writable = record { heap = heap; readable = Some readable; writable = Some writable }
+
+-- An array is a page: 1,024 words.
+pub record IsPage (heap : Heap) (p : ℕ) : Type 0 where
+  pub words : ℕ → ℕ
+  pub there : heap.array_at p ≡ Some (ints 1024 words)
+  pub are_words : (i : ℕ) → IsWord (words i)
+
+-- Two arrays are the tables of pages: each page is an array of its own, one that may be written is the same in both, and what is
+-- read through them is the guest's memory.
+pub record HoldsMemory (heap : Heap) (readable writable : ℕ) (memory : Memory) : Type 0 where
+  pub readable_pages : ℕ → Option ℕ
+  pub writable_pages : ℕ → Option ℕ
+  pub readable_there : heap.array_at readable ≡ Some (pages page_count readable_pages)
+  pub writable_there : heap.array_at writable ≡ Some (pages page_count writable_pages)
+  pub whole : (n p : ℕ) → readable_pages n ≡ Some p → IsPage heap p
+  pub apart : (n k p : ℕ) → readable_pages n ≡ Some p → readable_pages k ≡ Some p → n ≡ k
+  pub shared : (n p : ℕ) → writable_pages n ≡ Some p → readable_pages n ≡ Some p
+  pub reads : memory_of (host_memory heap readable writable) ≡ memory
+
+-- ---- the state
+
+-- What does not depend on where the guest stands.
+pub record Holds (fields : ℕ → Value) (heap : Heap) (registers : ℕ → ℕ) (hi lo : ℕ) (memory : Memory) : Type 0 where
+  pub register_is : (r : ℕ) → 0 < r → r < 32 → fields (register_field r) ≡ int (registers r)
+  pub register_word : (r : ℕ) → 0 < r → r < 32 → IsWord (registers r)
+  pub hi_is : fields hi_field ≡ int hi
+  pub hi_word : IsWord hi
+  pub lo_is : fields lo_field ≡ int lo
+  pub lo_word : IsWord lo
+  pub pc : ℕ
+  pub pc_is : fields pc_field ≡ int pc
+  pub readable : ℕ
+  pub readable_is : fields readable_field ≡ array readable
+  pub writable : ℕ
+  pub writable_is : fields writable_field ≡ array writable
+  pub memory_held : HoldsMemory heap readable writable memory
+
+-- The fields and arrays match a guest that has begun and whose next instruction is in no delay slot.
+pub record Matches (fields : ℕ → Value) (heap : Heap) (s : State) : Type 0 where
+  pub begun : s.begun ≡ true
+  pub pending : s.pending ≡ None
+  pub held : Holds fields heap s.registers s.hi s.lo s.memory
