@@ -2,3 +2,5 @@ pub mod Stack
 pub mod Variables
 pub mod Trap
 pub mod Forms
+pub mod Frames
+pub mod Waiting
