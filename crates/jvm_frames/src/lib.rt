@@ -2,6 +2,7 @@
 //! work on these alone (2.11). Only `new` takes memory.
 #![tactic(auto)]
 
+mod branching;
 mod callee;
 mod computing;
 mod frame;

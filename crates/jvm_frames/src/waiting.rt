@@ -41,7 +41,7 @@ impl Waiting {
         ensures { IfOk result (λ waiting. waiting ≡ record { frames = []; locals_limit = locals_limit; operands_limit = operands_limit }) }
     {
         let mut frames = Vec::with_capacity(alloc, 63)?;
-        for _ in 0..63 {
+        for _ in 0..63usize {
             frames.push(Frame::new(alloc, locals_limit, operands_limit)?)?;
         }
         Ok(Waiting {
