@@ -12,6 +12,7 @@ mod locals;
 mod long_words;
 mod operands;
 mod shuffling;
+mod switching;
 mod trap;
 mod waiting;
 
@@ -20,5 +21,6 @@ pub use frame::Frame;
 pub use frames::Frames;
 pub use locals::Locals;
 pub use operands::{NoMemory, Operands};
+pub use switching::keys_rise;
 pub use trap::Trap;
 pub use waiting::Waiting;
