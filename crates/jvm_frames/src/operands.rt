@@ -1,4 +1,4 @@
-ghost use Rattle.std.specs.Prelude.{◌≡◌, ℕ, ◌+◌, ◌<◌, ◌≤◌, true, List, [], ◌∷◌, length, drop, slice_index_or, IfOk, IsTrue};
+ghost use Rattle.std.specs.Prelude.{◌≡◌, ℕ, ◌+◌, ◌<◌, ◌≤◌, true, List, [], ◌∷◌, length, take, drop, reverse, slice_index_or, IfOk, IsTrue};
 ghost use Rattle.jvm_program.specs.declared.value.Value.TheVariants.{Unset as unset, Int as int, Long as long};
 ghost use Rattle.jvm_program.specs.Values.{is_int, is_long};
 ghost use Rattle.jvm_frames.specs.Stack.{with_items, on_top};
@@ -82,5 +82,23 @@ impl Operands {
         ensures { result ≡ slice_index_or self.now.items k unset }
     {
         self.slots[self.top - 1 - k]
+    }
+
+    /// The uppermost operands, the top one last.
+    #[inline]
+    pub(crate) fn uppermost(&self, count: usize) -> &[Value]
+        requires { count ≤ length self.now.items }
+        ensures { result.now ≡ reverse (take count self.now.items) }
+    {
+        &self.slots[self.top - count..self.top]
+    }
+
+    /// Drops the uppermost operands.
+    #[inline]
+    pub(crate) fn drop_top(&mut self, count: usize)
+        requires { count ≤ length self.old.items }
+        ensures { self.new ≡ with_items self.old (drop count self.old.items) }
+    {
+        self.top -= count;
     }
 }
