@@ -71,7 +71,7 @@ heap_put_page arrays p i element b is e within =
 
 -- ---- a new array
 
-zero_read : (n k : ℕ) → slice_index (replicate n 0) k ≡ 0
+pub zero_read : (n k : ℕ) → slice_index (replicate n 0) k ≡ 0
 zero_read zero k = refl
 zero_read (suc n) zero = refl
 zero_read (suc n) (suc k) = zero_read n k

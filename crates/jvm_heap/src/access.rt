@@ -1,11 +1,12 @@
 //! The instructions on arrays. Where one traps, operands and arrays are as they were.
-ghost use Rattle.std.specs.Prelude.{◌≡◌, ◌∷◌, [], IsTrue, OnOk, OnErr, IfErr};
+ghost use Rattle.std.specs.Prelude.{◌≡◌, ◌∷◌, [], ℕ, Option, IsTrue, OnOk, OnErr, IfErr};
 ghost use Rattle.jvm_code.specs.declared.names.array_name.ArrayName.TheVariants.{Iaload, Aaload, Iastore, Aastore};
 ghost use Rattle.jvm_program.specs.declared.instruction.Instruction.TheVariants as instructions;
 ghost use Rattle.jvm_program.specs.Values.{is_int, is_ints_reference, is_pages_reference, reference as reference_to};
 ghost use Rattle.jvm_frames.specs.Stack.{on_top};
 ghost use Rattle.jvm_frames.specs.Trap.{trap_kind};
 ghost use Rattle.jvm_heap.specs.Regions.{heap_of, is_array_reference, place_of, element_word, kind_of as region_kind};
+ghost use Rattle.jvm_heap.specs.Heaps.{IsSafe};
 ghost use Rattle.jvm_heap.specs.HeapForms.{Does, Traps};
 
 use int_region::{Place, Region};
@@ -67,6 +68,7 @@ pub fn store_int(operands: &mut Operands, region: &mut Region) -> Result<(), Tra
     ensures unchanged { OnErr result ((operands.new ≡ operands.old) × (region.new ≡ region.old)) }
     ensures limit { operands.new.limit ≡ operands.old.limit }
     ensures size { region.new.size ≡ region.old.size }
+    ensures safe { (readable writable : Option ℕ) → IsSafe region.old readable writable → IsSafe region.new readable writable }
 {
     let n = operands.pop_int();
     let i = operands.pop_int();
@@ -104,17 +106,14 @@ pub fn measure(operands: &mut Operands, region: &Region) -> Result<(), Trap>
 
 /// `newarray` of ints and `anewarray`.
 #[inline]
-pub fn new_array(
-    operands: &mut Operands,
-    region: &mut Region,
-    kind: ArrayKind,
-) -> Result<(), Trap>
+pub fn new_array(operands: &mut Operands, region: &mut Region, kind: ArrayKind) -> Result<(), Trap>
     requires { IsTrue (on_top (is_int ∷ []) operands.old.items) }
     ensures ok { OnOk result (Does region.old.size (instructions.NewArray kind) operands.old.items (heap_of region.old.arrays) operands.new.items (heap_of region.new.arrays)) }
     ensures err { IfErr result (λ trap. Traps region.old.size (instructions.NewArray kind) operands.old.items (heap_of region.old.arrays) (trap_kind trap)) }
     ensures unchanged { OnErr result ((operands.new ≡ operands.old) × (region.new ≡ region.old)) }
     ensures limit { operands.new.limit ≡ operands.old.limit }
     ensures size { region.new.size ≡ region.old.size }
+    ensures safe { (readable writable : Option ℕ) → IsSafe region.old readable writable → IsSafe region.new readable writable }
 {
     let size = operands.pop_int();
     if size >= 0x8000_0000 {
@@ -164,6 +163,7 @@ pub fn store_page(operands: &mut Operands, region: &mut Region) -> Result<(), Tr
     ensures unchanged { OnErr result ((operands.new ≡ operands.old) × (region.new ≡ region.old)) }
     ensures limit { operands.new.limit ≡ operands.old.limit }
     ensures size { region.new.size ≡ region.old.size }
+    ensures safe { (readable writable : Option ℕ) → IsSafe region.old readable writable → IsSafe region.new readable writable }
 {
     let page = operands.pop();
     let i = operands.pop_int();

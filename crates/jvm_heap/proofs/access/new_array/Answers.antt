@@ -8,6 +8,7 @@ use Rattle.int_region.specs.Arrays.{Block, Contents, used_by, zeros}
 use Rattle.jvm_heap.specs.Regions.{heap_of, kind_of}
 use Rattle.jvm_heap.specs.HeapForms.{Does}
 use Rattle.jvm_heap.proofs.AccessLaws.{allocated, does_by}
+use Rattle.jvm_heap.proofs.SafetyLaws.{safe_new}
 use Rattle.jvm_heap.proofs.access.new_array.Goals as goal
 
 room : (words used size : ℕ) → (words < used + (size + 2) → false ≡ true) → used + size + 2 ≤ words
@@ -35,3 +36,7 @@ returns-in-Ok-clause-ok c =
     (ap (λ s. s.items) c.push-in-Ok.ensures)
     known.place
     (ap (λ (r : Contents). r.arrays) known.added ∙ ap (λ k. c.args.region.now.arrays ++ zeros k c.pop_int-size.result ∷ []) c.kind_of.ensures)
+
+pub returns-in-Ok-clause-safe : goal.returns-in-Ok-clause-safe
+returns-in-Ok-clause-safe c readable writable safe =
+    safe_new c.args.region.now c.array.new.self readable writable c.kind_of.result c.pop_int-size.result safe c.array.ensures.sound (ap (λ (r : Contents). r.arrays) (c.in-Ok.ensures).added)

@@ -1,4 +1,4 @@
-use Rattle.std.proofs.Common.{◌≡◌, ℕ, ◌+◌, ◌<◌, ◌≤◌, ◌%◌, ◌^◌, ◌&&◌, ◌∷◌, [], List, IsSome, slice_index_or, length, subst, ap, sym, ◌∙◌, true, false, Bool, ◌==◌, if◌then◌else◌, Option, Some, None, option_map, refl, arith}
+use Rattle.std.proofs.Common.{◌≡◌, ◌≢◌, ℕ, ◌+◌, ◌-◌, ◌<◌, ◌≤◌, ◌%◌, ◌^◌, ◌&&◌, ◌∷◌, [], List, IsSome, slice_index_or, length, subst, ap, sym, ◌∙◌, true, false, Bool, ◌==◌, if◌then◌else◌, Option, Some, None, option_map, refl, arith}
 use Rattle.jvm_code.specs.declared.names.array_name.ArrayName.TheVariants.{Aastore}
 use Rattle.jvm_program.specs.declared.instruction.Instruction.TheVariants as instructions
 use Rattle.jvm_program.specs.declared.value.Value.{Value}
@@ -6,7 +6,9 @@ use Rattle.jvm_program.specs.declared.value.Value.TheVariants.{Unset as unset, I
 use Rattle.jvm_program.specs.Values.{is_int, is_ints_reference, is_pages_reference}
 use Rattle.jvm_frames.specs.Stack.{on_top}
 use Rattle.int_region.specs.Arrays.{Block, Contents, IsSound, used_by, array_at, IsLive, with_value, with_element, values_at, kind_at, kind_in}
-use Rattle.int_region.proofs.ArrayLemmas.{used_by-with_value, array_at-with_value, live_within}
+use Rattle.int_region.proofs.ArrayLemmas.{used_by-with_value, array_at-with_value, live_within, there}
+use Rattle.jvm_heap.specs.Heaps.{IsSafe, StandsAt}
+use Rattle.jvm_heap.proofs.SafetyLaws.{safe_put}
 use Rattle.jvm_heap.specs.Regions.{heap_of, element_word}
 use Rattle.jvm_heap.specs.HeapForms.{Does}
 use Rattle.jvm_heap.proofs.AccessLaws.{null_stored, page_stored, does_by, ints_at, pages_at, values_of, PagesAt, IntsAt}
@@ -80,5 +82,44 @@ returns-clause-ok c =
     c.in-Array.is
     c.requires
     (subst (λ m. c.pop_int-i.result < m) c.len.ensures c.if-len-i.false)
+    c.element.ensures
+    (ap (λ (r : Contents). r.arrays) c.put.ensures.changed)
+
+-- what is stored is null or an array of ints
+element_stands : (arrays : List Block) (page : Value) (rest : List Value) (i place : ℕ) → used_by arrays ≤ 68288580 → tests arrays (page ∷ int i ∷ array place ∷ rest) ≡ true → element_word page ≢ 0 → StandsAt arrays (element_word page - 1) 0
+element_stands arrays null rest i place small fits some = absurd (some refl)
+element_stands arrays (array q) rest i place small fits some =
+    let page : IntsAt arrays q = ints_at arrays q (first (is_ints_reference (heap_of arrays) (array q)) (is_pages_reference (heap_of arrays) (array place) && true) fits) in
+    let live : IsLive arrays q = subst (λ (o : Option Block). IsSome o) (sym page.there) refl in
+    let bound : q + 2 ≤ 68288580 = omega (arith, small, live_within arrays q live) in
+    let back : q ≡ (q + 1) % 2 ^ 32 - 1 = omega (arith, word_is q bound) in
+    subst (λ n. StandsAt arrays n 0) back (record { block = page.block; there = page.there; kind_is = page.kind })
+element_stands arrays unset rest i place small fits some = absurd (some refl)
+element_stands arrays (int n) rest i place small fits some = absurd (some refl)
+element_stands arrays (long n) rest i place small fits some = absurd (some refl)
+element_stands arrays (text k n) rest i place small fits some = absurd (some refl)
+
+safe_page : (region after : Contents) (readable writable : Option ℕ) (p i v : ℕ) (page top w : Value) (old one two rest : List Value) → IsSafe region readable writable → IsSound after → i < length (values_at region.arrays p) → old ≡ page ∷ one → one ≡ int i ∷ two → two ≡ w ∷ rest → top ≡ slice_index_or two 0 unset → top ≡ array p → tests region.arrays old ≡ true → v ≡ element_word page → after.arrays ≡ with_value region.arrays p i v → IsSafe after readable writable
+safe_page region after readable writable p i v page top w old one two rest safe sound h e f g peeked is fits word made =
+    let uppermost : w ≡ array p = ap (λ items. slice_index_or items 0 unset) (sym g) ∙ sym peeked ∙ is in
+    let all : old ≡ page ∷ int i ∷ array p ∷ rest = e ∙ ap (λ items. page ∷ items) (f ∙ ap (λ items. int i ∷ items) (g ∙ ap (λ u. u ∷ rest) uppermost)) in
+    let small : used_by region.arrays ≤ 68288580 = omega (arith, safe.sound.within, safe.sound.few) in
+    let stands : v ≢ 0 → StandsAt region.arrays (v - 1) 0 = λ some. subst (λ n. StandsAt region.arrays (n - 1) 0) (sym word) (element_stands region.arrays page rest i p small (ap (tests region.arrays) (sym all) ∙ fits) (λ z. some (word ∙ z))) in
+    let fits_all : tests region.arrays (page ∷ int i ∷ array p ∷ rest) ≡ true = ap (tests region.arrays) (sym all) ∙ fits in
+    let table : PagesAt region.arrays p = pages_at region.arrays p (safe.sound.kinds p) (second (is_ints_reference (heap_of region.arrays) page) (is_pages_reference (heap_of region.arrays) (array p) && true) fits_all) in
+    let live : IsLive region.arrays p = subst (λ (o : Option Block). IsSome o) (sym table.there) refl in
+    safe_put region after readable writable p i v (record { kind = kind_at region.arrays p; values = values_at region.arrays p }) safe sound made (there region.arrays p live) h
+    (λ kind. stands)
+
+pub returns-clause-safe : goal.returns-clause-safe
+returns-clause-safe c readable writable safe =
+    safe_page c.args.region.now c.put.new.self readable writable c.in-Array.place c.pop_int-i.result c.element.result c.pop-page.result c.peek.result c.pop.result c.args.operands.now.items c.pop-page.new.self.items c.pop_int-i.new.self.items c.pop.new.self.items safe c.put.ensures.sound
+    (subst (λ m. c.pop_int-i.result < m) c.len.ensures c.if-len-i.false)
+    c.pop-page.ensures.popped
+    c.pop_int-i.ensures.popped
+    c.pop.ensures.popped
+    c.peek.ensures
+    c.in-Array.is
+    c.requires
     c.element.ensures
     (ap (λ (r : Contents). r.arrays) c.put.ensures.changed)
