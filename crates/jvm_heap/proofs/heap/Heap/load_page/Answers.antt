@@ -1,0 +1,8 @@
+use Rattle.std.proofs.Common.{sym}
+use Rattle.jvm_heap.proofs.heap.Heap.load_page.Goals as goal
+
+pub returns-clause-ok : goal.returns-clause-ok
+returns-clause-ok c = rw (sym c.self.view_is) c.load_page.ensures.ok
+
+pub returns-clause-err : goal.returns-clause-err
+returns-clause-err c = rw (sym c.self.view_is) c.load_page.ensures.err

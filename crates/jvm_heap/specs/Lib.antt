@@ -1,0 +1,4 @@
+pub mod Regions
+pub mod HeapForms
+pub mod Heaps
+pub mod Viewing

@@ -1,0 +1,91 @@
+//! The instructions on the arrays of a program.
+ghost use Rattle.std.specs.Prelude.{◌≡◌, ◌∷◌, [], IsTrue, OnOk, OnErr, IfErr};
+ghost use Rattle.jvm_code.specs.declared.names.array_name.ArrayName.TheVariants.{Iaload, Aaload, Iastore, Aastore};
+ghost use Rattle.jvm_program.specs.declared.instruction.Instruction.TheVariants as instructions;
+ghost use Rattle.jvm_program.specs.Values.{is_int, is_ints_reference, is_pages_reference};
+ghost use Rattle.jvm_frames.specs.Stack.{on_top};
+ghost use Rattle.jvm_frames.specs.Trap.{trap_kind};
+ghost use Rattle.jvm_heap.specs.Regions.{heap_of, is_array_reference};
+ghost use Rattle.jvm_heap.specs.HeapForms.{Does, Traps};
+
+use crate::access;
+use crate::heap::Heap;
+use jvm_frames::{Operands, Trap};
+use jvm_program::ArrayKind;
+
+impl Heap {
+    /// `iaload`.
+    #[inline]
+    pub fn load_int(&self, operands: &mut Operands) -> Result<(), Trap>
+        requires { IsTrue (on_top (is_int ∷ is_ints_reference (heap_of self.now.region.arrays) ∷ []) operands.old.items) }
+        ensures ok { OnOk result (Does self.now.region.size (instructions.Array Iaload) operands.old.items (heap_of self.now.region.arrays) operands.new.items (heap_of self.now.region.arrays)) }
+        ensures err { IfErr result (λ trap. Traps self.now.region.size (instructions.Array Iaload) operands.old.items (heap_of self.now.region.arrays) (trap_kind trap)) }
+        ensures unchanged { OnErr result (operands.new ≡ operands.old) }
+        ensures limit { operands.new.limit ≡ operands.old.limit }
+    {
+        access::load_int(operands, &self.region)
+    }
+
+    /// `aaload`.
+    #[inline]
+    pub fn load_page(&self, operands: &mut Operands) -> Result<(), Trap>
+        requires { IsTrue (on_top (is_int ∷ is_pages_reference (heap_of self.now.region.arrays) ∷ []) operands.old.items) }
+        ensures ok { OnOk result (Does self.now.region.size (instructions.Array Aaload) operands.old.items (heap_of self.now.region.arrays) operands.new.items (heap_of self.now.region.arrays)) }
+        ensures err { IfErr result (λ trap. Traps self.now.region.size (instructions.Array Aaload) operands.old.items (heap_of self.now.region.arrays) (trap_kind trap)) }
+        ensures unchanged { OnErr result (operands.new ≡ operands.old) }
+        ensures limit { operands.new.limit ≡ operands.old.limit }
+    {
+        access::load_page(operands, &self.region)
+    }
+
+    /// `arraylength`.
+    #[inline]
+    pub fn measure(&self, operands: &mut Operands) -> Result<(), Trap>
+        requires { IsTrue (on_top (is_array_reference self.now.region.arrays ∷ []) operands.old.items) }
+        ensures ok { OnOk result (Does self.now.region.size instructions.ArrayLength operands.old.items (heap_of self.now.region.arrays) operands.new.items (heap_of self.now.region.arrays)) }
+        ensures err { IfErr result (λ trap. Traps self.now.region.size instructions.ArrayLength operands.old.items (heap_of self.now.region.arrays) (trap_kind trap)) }
+        ensures unchanged { OnErr result (operands.new ≡ operands.old) }
+        ensures limit { operands.new.limit ≡ operands.old.limit }
+    {
+        access::measure(operands, &self.region)
+    }
+
+    /// `iastore`.
+    #[inline]
+    pub fn store_int(&mut self, operands: &mut Operands) -> Result<(), Trap>
+        requires { IsTrue (on_top (is_int ∷ is_int ∷ is_ints_reference (heap_of self.old.region.arrays) ∷ []) operands.old.items) }
+        ensures ok { OnOk result (Does self.old.region.size (instructions.Array Iastore) operands.old.items (heap_of self.old.region.arrays) operands.new.items (heap_of self.new.region.arrays)) }
+        ensures err { IfErr result (λ trap. Traps self.old.region.size (instructions.Array Iastore) operands.old.items (heap_of self.old.region.arrays) (trap_kind trap)) }
+        ensures unchanged { OnErr result ((operands.new ≡ operands.old) × (self.new ≡ self.old)) }
+        ensures limit { operands.new.limit ≡ operands.old.limit }
+        ensures size { self.new.region.size ≡ self.old.region.size }
+    {
+        access::store_int(operands, &mut self.region)
+    }
+
+    /// `aastore`.
+    #[inline]
+    pub fn store_page(&mut self, operands: &mut Operands) -> Result<(), Trap>
+        requires { IsTrue (on_top (is_ints_reference (heap_of self.old.region.arrays) ∷ is_int ∷ is_pages_reference (heap_of self.old.region.arrays) ∷ []) operands.old.items) }
+        ensures ok { OnOk result (Does self.old.region.size (instructions.Array Aastore) operands.old.items (heap_of self.old.region.arrays) operands.new.items (heap_of self.new.region.arrays)) }
+        ensures err { IfErr result (λ trap. Traps self.old.region.size (instructions.Array Aastore) operands.old.items (heap_of self.old.region.arrays) (trap_kind trap)) }
+        ensures unchanged { OnErr result ((operands.new ≡ operands.old) × (self.new ≡ self.old)) }
+        ensures limit { operands.new.limit ≡ operands.old.limit }
+        ensures size { self.new.region.size ≡ self.old.region.size }
+    {
+        access::store_page(operands, &mut self.region)
+    }
+
+    /// `newarray` of ints and `anewarray`.
+    #[inline]
+    pub fn new_array(&mut self, operands: &mut Operands, kind: ArrayKind) -> Result<(), Trap>
+        requires { IsTrue (on_top (is_int ∷ []) operands.old.items) }
+        ensures ok { OnOk result (Does self.old.region.size (instructions.NewArray kind) operands.old.items (heap_of self.old.region.arrays) operands.new.items (heap_of self.new.region.arrays)) }
+        ensures err { IfErr result (λ trap. Traps self.old.region.size (instructions.NewArray kind) operands.old.items (heap_of self.old.region.arrays) (trap_kind trap)) }
+        ensures unchanged { OnErr result ((operands.new ≡ operands.old) × (self.new ≡ self.old)) }
+        ensures limit { operands.new.limit ≡ operands.old.limit }
+        ensures size { self.new.region.size ≡ self.old.region.size }
+    {
+        access::new_array(operands, &mut self.region, kind)
+    }
+}
