@@ -1,5 +1,5 @@
 -- The number of a key among keys that rise.
-use Rattle.std.proofs.Common.{◌≡◌, ℕ, zero, suc, ◌+◌, ◌<◌, ◌≤◌, Bool, true, false, if◌then◌else◌, List, [], ◌∷◌, length, get_or, refl, ap, sym, ◌∙◌, arith, ◌⊎◌, inl, inr,  ℤ, pos, negsuc, ◌≢◌}
+use Rattle.std.proofs.Common.{◌≡◌, ℕ, zero, suc, ◌+◌, ◌<◌, ◌≤◌, Bool, true, false, if◌then◌else◌, List, [], ◌∷◌, length, get_or, refl, ap, sym, ◌∙◌, arith, ◌⊎◌, inl, inr, ℤ, pos, negsuc, ◌≢◌}
 use Rattle.std.specs.Prelude.{int_lt, ◌&&◌}
 use Rattle.std.specs.List.Sorted.{IsNonDecreasingBy, IsPartitionPoint}
 use Rattle.std.specs.Ordering.{int_cmp, ordering_index}
@@ -64,8 +64,8 @@ index_below a b key h = grind (arith, ints)
 index_rises : (key : ℤ) (keys : List ℤ) → rise keys ≡ true → IsNonDecreasingBy (λ y. ordering_index (int_cmp y key)) keys
 index_rises key keys h i j d le l =
     elim (cases_lt i j) [
-      inl p ↦ index_below (get_or keys i d) (get_or keys j d) key (rises_at keys i j d h p l)
-    | inr p ↦ let e : i ≡ j = omega arith in rw e (omega arith)
+      | inl p ↦ index_below (get_or keys i d) (get_or keys j d) key (rises_at keys i j d h p l)
+      | inr p ↦ let e : i ≡ j = omega arith in rw e (omega arith)
     ]
 
 -- ---- the number
@@ -101,6 +101,6 @@ missing keys key sought place same_key h parts =
     (λ k d l e.
     let equal : int_cmp (get_or keys k d) sought ≡ Equal = compared_equal (get_or keys k d) sought (e ∙ sym same_key) in
     elim (cases_lt k place) [
-      inl p ↦ let less : int_cmp (get_or keys k d) sought ≡ Less = halves.0 k d (omega arith) p in cc (sym equal ∙ less)
-    | inr p ↦ let greater : int_cmp (get_or keys k d) sought ≡ Greater = halves.1 k d p l in cc (sym equal ∙ greater)
+      | inl p ↦ let less : int_cmp (get_or keys k d) sought ≡ Less = halves.0 k d (omega arith) p in cc (sym equal ∙ less)
+      | inr p ↦ let greater : int_cmp (get_or keys k d) sought ≡ Greater = halves.1 k d p l in cc (sym equal ∙ greater)
     ]))

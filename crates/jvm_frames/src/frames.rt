@@ -1,6 +1,7 @@
-ghost use Rattle.std.specs.Prelude.{◌≡◌, ℕ, ◌<◌, ◌≤◌, ◌↔◌, ◌∷◌, [], List, Option, IfOk, IsTrue, IsFalse, length};
+ghost use Rattle.std.specs.Prelude.{◌≡◌, ℕ, ◌<◌, ◌≤◌, ◌↔◌, ◌∷◌, [], List, Option, IfOk, IsTrue, IsFalse, length, drop};
 ghost use Rattle.jvm_program.specs.Step as definition;
 ghost use Rattle.jvm_frames.specs.Frames.{HasRoom, given, entered, waiting_at, frame_at};
+ghost use Rattle.jvm_frames.specs.Forms.{Enters};
 
 use crate::callee::Callee;
 use crate::frame::Frame;
@@ -70,6 +71,7 @@ impl Frames {
         ensures entered { self.new.current ≡ entered callee (given callee.parameters self.old.current) self.old.waiting.locals_limit self.old.waiting.operands_limit }
         ensures waits { self.new.waiting ≡ with_frames self.old.waiting (waiting_at return_at callee.parameters self.old.current ∷ self.old.waiting.frames) }
         ensures definition { frame_at 0 self.new.current ≡ definition.entered callee.method (given callee.parameters self.old.current) }
+        ensures enters { Enters callee.method callee.parameters self.old.current.operands.items (given callee.parameters self.old.current) (drop callee.parameters self.old.current.operands.items) }
     {
         self.waiting.call(&mut self.current, callee, return_at);
     }
@@ -82,6 +84,7 @@ impl Frames {
         requires operand { CanTake value self.old.waiting.frames }
         ensures answer { IsTrue result ↔ (0 < length self.old.waiting.frames) }
         ensures back { (f : Kept) (others : List Kept) → self.old.waiting.frames ≡ f ∷ others → (self.new.current ≡ with_result value f) × (self.new.waiting ≡ with_frames self.old.waiting others) }
+        ensures definition { (offset : ℕ) (f : Kept) (others : List Kept) → self.old.waiting.frames ≡ f ∷ others → frame_at offset self.new.current ≡ definition.with_result value (frame_at offset f) }
         ensures unchanged { IsFalse result → self.new ≡ self.old }
         ensures limits { HasRoom self.new.waiting.locals_limit self.new.waiting.operands_limit self.new.current }
     {

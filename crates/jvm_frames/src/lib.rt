@@ -24,3 +24,6 @@ pub use operands::{NoMemory, Operands};
 pub use switching::keys_rise;
 pub use trap::Trap;
 pub use waiting::Waiting;
+
+#[cfg(test)]
+mod tests;

@@ -1,7 +1,6 @@
-ghost use Rattle.std.specs.Prelude.{◌≡◌, ℕ, ◌+◌, ◌<◌, ◌≤◌, true, List, [], ◌∷◌, length, take, drop, reverse, slice_index_or, IfOk, IsTrue};
-ghost use Rattle.jvm_program.specs.declared.value.Value.TheVariants.{Unset as unset, Int as int, Long as long};
-ghost use Rattle.jvm_program.specs.Values.{is_int, is_long};
-ghost use Rattle.jvm_frames.specs.Stack.{with_items, on_top};
+ghost use Rattle.std.specs.Prelude.{◌≡◌, ℕ, ◌+◌, ◌<◌, ◌≤◌, ◌↔◌, List, [], ◌∷◌, length, take, drop, reverse, slice_index_or, IfOk, IsTrue};
+ghost use Rattle.jvm_program.specs.declared.value.Value.TheVariants.{Unset as unset};
+ghost use Rattle.jvm_frames.specs.Stack.{with_items};
 
 use jvm_program::Value;
 use std::alloc::{AllocError, Global};
@@ -53,6 +52,13 @@ impl Operands {
         ensures room { result ≤ self.now.limit }
     {
         self.top
+    }
+
+    #[inline]
+    pub fn is_empty(&self) -> bool
+        ensures { IsTrue result ↔ (length self.now.items ≡ 0) }
+    {
+        self.top == 0
     }
 
     #[inline]
