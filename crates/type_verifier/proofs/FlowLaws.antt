@@ -258,3 +258,6 @@ still-from method f targets frames after good all = record { each = λ others ty
 
 pub all-from : (method : LinkedMethod) (f : TypeFrame) (targets : List ℕ) (frames after : Slots) → StillBelow method f targets frames after → AllStayBelow method f targets frames true after
 all-from method f targets frames after all = record { each = λ others typed under r. (refl, all.each others typed under r) }
+
+pub still-nothing : (method : LinkedMethod) (f : TypeFrame) (targets : List ℕ) (frames : Slots) → StillBelow method f targets frames frames
+still-nothing method f targets frames = record { each = λ others typed under r. under }

@@ -21,3 +21,6 @@ pub use verified::Verified;
 pub use verification::verify;
 pub use verify_error::{NoMemory, VerifyError, VerifyFault};
 
+
+#[cfg(test)]
+mod tests;
