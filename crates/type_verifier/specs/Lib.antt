@@ -1,0 +1,5 @@
+pub mod Refusal
+pub mod Joins
+pub mod Frames
+pub mod Actions
+pub mod Flow
