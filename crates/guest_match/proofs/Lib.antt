@@ -1,3 +1,4 @@
+mod Examples
 pub mod Registers
 pub mod Signs
 pub mod Guest
