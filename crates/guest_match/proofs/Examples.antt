@@ -2,11 +2,10 @@
 use Rattle.std.proofs.Common.{◌≡◌, ℕ, ◌+◌, ◌-◌, ◌*◌, ◌%◌, ◌^◌, ◌==◌, ◌<◌, nat_lt, Bool, true, false, if◌then◌else◌, Option, Some, None, refl, ap, sym, ◌∙◌, arith, lit<}
 use Rattle.std.proofs.lemmas.Bool.{eqb-true, lt-ltb}
 use Rattle.nv_words.specs.declared.order.Order.TheVariants.{Big}
-use Rattle.nv_words.specs.Words.{lane_of_word}
 use Rattle.jvm_program.specs.Values.{Value, int, array, unset, ints, pages, Heap}
 use Rattle.jvm_program.specs.HostMemory.{memory_of}
 use Rattle.mips_decode.specs.State.{State}
-use Rattle.guest_match.specs.Match.{Matches, Holds, HoldsMemory, IsPage, page_count, host_memory}
+use Rattle.guest_match.specs.Match.{Matches, HoldsMemory, page_count, host_memory}
 
 -- page 7 is the array at place 900
 abbrev one_page : ℕ → Option ℕ

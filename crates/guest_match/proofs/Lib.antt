@@ -13,3 +13,4 @@ pub mod Machine
 pub mod Syscall
 pub mod Add
 pub mod Load
+pub mod Slots

@@ -18,7 +18,9 @@ ghost use Rattle.mips_decode.specs.declared.names.load_name.LoadName.TheVariants
 ghost use Rattle.nv_words.specs.declared.order.Order.TheVariants.{Big};
 ghost use Rattle.jvm_program.specs.declared.kind.Kind.TheVariants as kinds;
 ghost use Rattle.guest_match.specs.Match.{Matches};
-ghost use Rattle.guest_match.specs.Code.{addiu_code, slt_code, slt_count, beq_addiu_code, beq_addiu_count, syscall_code, add_code, lw_code, lw_method};
+ghost use Rattle.guest_match.specs.Code.{addiu_code, slt_code, slt_count, beq_addiu_code, beq_addiu_count, beq_head, syscall_code, add_code, lw_code, lw_method};
+ghost use Rattle.mips_decode.specs.declared.inst.Inst.{Inst};
+ghost use Rattle.guest_match.specs.Steps.{StepsAs, FollowsTurn};
 ghost use Rattle.guest_match.specs.Follows.{StandsBefore, LeadsTo, BranchesTo, Arrives, StopsAlike, HasMethod};
 
 /// ADDIU with a destination other than register 0: four instructions.
@@ -53,4 +55,15 @@ pub fn add_follows()
 /// most 23 lead to Host.fault, which ends as the guest does.
 pub fn lw_follows()
     ensures { (program : Program) (words m by helper rs rt imm at word : ℕ) (w : Workspace) (others : List Frame) (s : State) → rs < 32 → 0 < rt → rt < 32 → length others < 63 → s.order ≡ Big → HasMethod program helper (kinds.Int ∷ kinds.Int ∷ []) lw_method → StandsAt program m by (lw_code at helper rs rt imm) → Matches w.fields w.heap s → StandsBefore s at word (Load Lw rs rt imm) → (((t : State) × (turn s ≡ moves t) × Arrives program words m (by + 16) 28 w.operands others (placed m by w others) t) ⊎ ((n : ℕ) × (n ≤ 23) × StopsAlike program words m by 16 n 0 w others s)) }
+{}
+
+/// ADDIU and ADD with a destination other than register 0 follow their instruction in every state, also in a delay slot.
+pub fn instructions_are_followed()
+    ensures addiu { (program : Program) (words m by rs rt imm word : ℕ) (others : List Frame) (s : State) → rs < 32 → 0 < rt → rt < 32 → StandsAt program m by (addiu_code rs rt imm) → StepsAs program words m by 10 4 others word (ArithmeticImmediate Addiu rs rt imm) s }
+    ensures add { (program : Program) (words m by at rs rt rd word : ℕ) (others : List Frame) (s : State) → rs < 32 → rt < 32 → 0 < rd → rd < 32 → s.pc ≡ at → StandsAt program m by (add_code at word rs rt rd) → StepsAs program words m by 41 16 others word (Arithmetic Add rs rt rd) s }
+{}
+
+/// BEQ with any instruction in its delay slot that code behind it follows: six instructions more.
+pub fn branch_follows()
+    ensures { (program : Program) (words m by size most at rs rt imm word slot_word : ℕ) (slot_inst : Inst) (w : Workspace) (others : List Frame) (s : State) → rs < 32 → rt < 32 → at + 8 < 2 ^ 32 → Matches w.fields w.heap s → StandsBefore s at word (BranchEqual Beq rs rt imm) → s.code (at + 4) ≡ Some slot_word → inst slot_word ≡ slot_inst → StandsAt program m by (beq_head at rs rt imm) → ((slot : State) → turn s ≡ moves slot → StepsAs program words m (by + 21) size most others slot_word slot_inst slot) → ((slot : State) × (turn s ≡ moves slot) × FollowsTurn program words m (by + 21 + size) (6 + most) w others (placed m by w others) (turn slot)) }
 {}
