@@ -23,7 +23,7 @@ use Rattle.guest_match.proofs.Signs.{same-signed}
 use Rattle.guest_match.proofs.Guest.{turn-at, branch-turn}
 
 -- the workspace with an address in field pc
-abbrev with_pc : Workspace → ℕ → Workspace
+abbrev pub with_pc : Workspace → ℕ → Workspace
 with_pc w p = record {
   locals = w.locals;
   operands = w.operands;
@@ -31,8 +31,12 @@ with_pc w p = record {
   heap = w.heap;
 }
 
-abbrev goes_to : ℕ → ℕ → Bool → ℕ
+abbrev pub goes_to : ℕ → ℕ → Bool → ℕ
 goes_to at imm taken = if taken then branch_target at imm else at + 8
+
+pub goes-to : (at imm : ℕ) (b : Bool) (s : State) → s.pc ≡ at → at + 8 < 2 ^ 32 → goes_to at imm b ≡ taken_or_not s b imm
+goes-to at imm true s pc fits = ap (λ p. branch_target p imm) (sym pc)
+goes-to at imm false s pc fits = omega (arith, pc)
 
 beq-runs : (program : Program) (words at rs rt imm slot_rs slot_rt slot_imm : ℕ) (w : Workspace) (s : State) → rs < 32 → rt < 32 → slot_rs < 32 → Matches w.fields w.heap s → (b : Bool) → same (signed_of (register s rs)) (signed_of (register s rt)) ≡ b → stretch program words (beq_addiu_code at rs rt imm slot_rs slot_rt slot_imm) (if b then 9 else 10) 0 w ≡ Some (record { at = 31; workspace = with_result (with_pc w (goes_to at imm b)) slot_rt ((register s slot_rs + extended_imm slot_imm) % 2 ^ 32) })
 beq-runs program words at rs rt imm slot_rs slot_rt slot_imm w s first second third m true e =
@@ -50,7 +54,7 @@ beq-leads program words at rs rt imm word slot_rs slot_rt slot_imm slot_word w s
     let low : (at + 4) % 2 ^ 32 ≡ at + 4 = omega arith in
     let slot_here : StandsBefore slot (at + 4) slot_word (ArithmeticImmediate Addiu slot_rs slot_rt slot_imm) = record { pc = ap (λ p. p % 2 ^ 32) next ∙ low; aligned = omega (arith, here.aligned); there = there; means = means } in
     let agrees = same-signed (register s rs) (register s rt) (IsWord-word m.held rs first) (IsWord-word m.held rt second) in
-    let address : goes_to at imm taken ≡ goal = arrives at imm taken s here.pc fits in (
+    let address : goes_to at imm taken ≡ goal = goes-to at imm taken s here.pc fits in (
       slot,
       advanced (with_register slot slot_rt sum),
       branch-turn s at word (BranchEqual Beq rs rt imm) s goal m.begun m.pending here refl,
@@ -65,7 +69,3 @@ beq-leads program words at rs rt imm word slot_rs slot_rt slot_imm slot_word w s
         goes = pc-kept (with_pc w (goes_to at imm taken)).fields slot_rt (int sum) pos below ∙ ap int address;
       },
     )
-  where
-    arrives : (at imm : ℕ) (b : Bool) (s : State) → s.pc ≡ at → at + 8 < 2 ^ 32 → goes_to at imm b ≡ taken_or_not s b imm
-    arrives at imm true s pc fits = ap (λ p. branch_target p imm) (sym pc)
-    arrives at imm false s pc fits = omega (arith, pc)

@@ -1,3 +1,4 @@
+mod Examples
 pub mod Registers
 pub mod Signs
 pub mod Guest
@@ -12,3 +13,4 @@ pub mod Machine
 pub mod Syscall
 pub mod Add
 pub mod Load
+pub mod Slots

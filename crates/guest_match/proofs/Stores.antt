@@ -1,11 +1,14 @@
 -- Stores of words, and bytes that are put, keep the guest's memory held.
-use Rattle.std.proofs.Common.{◌≡◌, ℕ, ◌/◌, ◌%◌, ◌==◌, ◌<◌, nat_lt, Bool, true, false, if◌then◌else◌, ◌⊎◌, inl, inr, Option, Some, None, is_some, refl, ap, sym, ◌∙◌, arith}
+use Rattle.std.proofs.Common.{◌≡◌, ℕ, ◌+◌, ◌/◌, ◌%◌, ◌==◌, ◌<◌, nat_lt, Bool, true, false, if◌then◌else◌, ◌⊎◌, inl, inr, Option, Some, None, is_some, refl, ap, sym, ◌∙◌, arith}
 use Rattle.std.specs.Option.{option_or}
 use Rattle.std.proofs.lemmas.Bool.{lt-ltb, eq-eqb, ne_eqb, cases_eq}
 use Rattle.nv_words.specs.Words.{IsWord, lane_of_word}
 use Rattle.nv_events.specs.Memory.{Memory}
 use Rattle.jvm_program.specs.Values.{Array, ints, pages, Heap, with_int, set_int}
 use Rattle.jvm_program.specs.HostMemory.{byte_of}
+use Rattle.nv_words.specs.declared.order.Order.TheVariants.{Big}
+use Rattle.nv_words.proofs.LaneLemmas.{below_four}
+use Rattle.mips_decode.specs.Memory.{with_word}
 use Rattle.guest_match.specs.Match.{HoldsMemory, IsPage, page_count}
 use Rattle.guest_match.specs.Memory.{with_word_at}
 use Rattle.guest_match.proofs.Pages.{page_at, byte_in, byte-by-table, Changed, changed-page}
@@ -117,3 +120,33 @@ module _ (heap : Heap) (readable writable : ℕ) (memory : Memory) (h : HoldsMem
     shared = h.shared;
     reads = λ j. record { byte = λ a. bytes-are a j; writable = λ a. writes-are a j };
   }
+
+-- ---- SW
+
+-- a word that the guest stores at a multiple of 4 is the word there
+pub with_word-at : (m : Memory) (a w : ℕ) → a % 4 ≡ 0 → with_word Big m a w ≡ with_word_at m (a / 4) w
+with_word-at m a w aligned = λ i. record m { byte = λ x. byte-is x i }
+  where
+    inside : (x : ℕ) (j : ℕ) → j < 4 → x ≡ a + j → (with_word Big m a w).byte x ≡ Some (lane_of_word w j)
+    inside x j below is =
+        ap (with_word Big m a w).byte is
+        ∙ below_four (λ j. (with_word Big m a w).byte (a + j) ≡ Some (lane_of_word w j))
+        (simp (ne_eqb (a + 0) (a + 3) (λ e. omega arith), ne_eqb (a + 0) (a + 2) (λ e. omega arith), ne_eqb (a + 0) (a + 1) (λ e. omega arith), eq-eqb (a + 0) a (omega arith)) refl)
+        (simp (ne_eqb (a + 1) (a + 3) (λ e. omega arith), ne_eqb (a + 1) (a + 2) (λ e. omega arith), eq-eqb (a + 1) (a + 1) refl) refl)
+        (simp (ne_eqb (a + 2) (a + 3) (λ e. omega arith), eq-eqb (a + 2) (a + 2) refl) refl)
+        (simp (eq-eqb (a + 3) (a + 3) refl) refl) j below
+
+    outside : (x : ℕ) → (x / 4 ≡ a / 4 → ⊥) → (with_word Big m a w).byte x ≡ m.byte x
+    outside x ne =
+        simp (ne_eqb x (a + 3) (λ e. ne (omega arith)), ne_eqb x (a + 2) (λ e. ne (omega arith)), ne_eqb x (a + 1) (λ e. ne (omega arith)), ne_eqb x a (λ e. ne (omega arith))) refl
+
+    by_word : (x : ℕ) → (x / 4 ≡ a / 4) ⊎ (x / 4 ≡ a / 4 → ⊥) → (with_word Big m a w).byte x ≡ (if x / 4 == a / 4 then Some (lane_of_word w (x % 4)) else m.byte x)
+    by_word x (inl same) =
+        inside x (x % 4) (omega arith) (omega arith)
+        ∙ sym (ap (λ b. if b then Some (lane_of_word w (x % 4)) else m.byte x) (eq-eqb (x / 4) (a / 4) same))
+    by_word x (inr ne) =
+        outside x ne
+        ∙ sym (ap (λ b. if b then Some (lane_of_word w (x % 4)) else m.byte x) (ne_eqb (x / 4) (a / 4) ne))
+
+    byte-is : (x : ℕ) → (with_word Big m a w).byte x ≡ (with_word_at m (a / 4) w).byte x
+    byte-is x = by_word x (cases_eq (x / 4) (a / 4))

@@ -74,6 +74,18 @@ beq_addiu_code at rs rt imm slot_rs slot_rt slot_imm =
     ∷ line 28 31 (put_register slot_rt)
     ∷ []
 
+-- BEQ at an address before the code of its delay slot: the registers are compared, and field pc gets where the guest goes
+abbrev pub beq_head : ℕ → ℕ → ℕ → ℕ → List LinkedLine
+beq_head at rs rt imm =
+    line 0 3 (get_register rs)
+    ∷ line 3 6 (get_register rt)
+    ∷ line 6 9 (Branch IfIcmpeq 15)
+    ∷ line 9 12 (push_int (at + 8))
+    ∷ line 12 15 (Branch Goto 18)
+    ∷ line 15 18 (push_int (branch_target at imm))
+    ∷ line 18 21 put_pc
+    ∷ []
+
 abbrev pub beq_addiu_count : State → ℕ → ℕ → ℕ
 beq_addiu_count s rs rt = if register s rs == register s rt then 9 else 10
 

@@ -1,6 +1,6 @@
 //! What code follows. Each call here does nothing: its contract is the law.
 
-ghost use Rattle.std.specs.Prelude.{◌≡◌, ℕ, ◌+◌, ◌^◌, ◌<◌, ◌≤◌, ◌⊎◌, List, [], ◌∷◌, length, Some, None};
+ghost use Rattle.std.specs.Prelude.{◌≡◌, ℕ, ◌+◌, ◌/◌, ◌%◌, ◌^◌, ◌<◌, ◌≤◌, ◌⊎◌, List, [], ◌∷◌, length, nat_lt, IsTrue, Some, None};
 ghost use Rattle.nv_events.specs.Turn.{moves};
 ghost use Rattle.jvm_program.specs.Program.{Program};
 ghost use Rattle.jvm_program.specs.Effect.{Workspace};
@@ -17,9 +17,26 @@ ghost use Rattle.mips_decode.specs.declared.names.branch_equal_name.BranchEqualN
 ghost use Rattle.mips_decode.specs.declared.names.load_name.LoadName.TheVariants.{Lw};
 ghost use Rattle.nv_words.specs.declared.order.Order.TheVariants.{Big};
 ghost use Rattle.jvm_program.specs.declared.kind.Kind.TheVariants as kinds;
-ghost use Rattle.guest_match.specs.Match.{Matches};
-ghost use Rattle.guest_match.specs.Code.{addiu_code, slt_code, slt_count, beq_addiu_code, beq_addiu_count, syscall_code, add_code, lw_code, lw_method};
+ghost use Rattle.std.specs.List.{list_all};
+ghost use Rattle.nv_words.specs.Words.{IsWord};
+ghost use Rattle.nv_events.specs.Memory.{Memory, can_write, patched};
+ghost use Rattle.jvm_program.specs.Values.{Heap, with_int};
+ghost use Rattle.jvm_program.specs.HostMemory as host;
+ghost use Rattle.mips_decode.specs.Memory.{with_byte, with_word};
+ghost use Rattle.guest_match.specs.Memory.{with_word_at};
+ghost use Rattle.guest_match.specs.Match.{Matches, HoldsMemory, page_count, host_memory};
+ghost use Rattle.guest_match.specs.Code.{addiu_code, slt_code, slt_count, beq_addiu_code, beq_addiu_count, beq_head, syscall_code, add_code, lw_code, lw_method};
+ghost use Rattle.mips_decode.specs.declared.inst.Inst.{Inst};
+ghost use Rattle.guest_match.specs.Steps.{StepsAs, FollowsTurn};
 ghost use Rattle.guest_match.specs.Follows.{StandsBefore, LeadsTo, BranchesTo, Arrives, StopsAlike, HasMethod};
+
+/// A word stored through the page that may be written, and bytes put one after the other where each may be written, keep the memory
+/// held.
+pub fn memory_stays_held()
+    ensures words { (heap : Heap) (readable writable : ℕ) (memory : Memory) (h : HoldsMemory heap readable writable memory) (k p v : ℕ) → k / 1024 < page_count → h.writable_pages (k / 1024) ≡ Some p → IsWord v → HoldsMemory (with_int heap p (k % 1024) v) readable writable (with_word_at memory k v) }
+    ensures patches { (patch : List ℕ) (heap : Heap) (readable writable : ℕ) (memory : Memory) (a : ℕ) → HoldsMemory heap readable writable memory → IsTrue (list_all (λ b. nat_lt b 256) patch) → IsTrue (can_write memory a (length patch)) → HoldsMemory (patched host.with_byte (host_memory heap readable writable) a patch).heap readable writable (patched with_byte memory a patch) }
+    ensures stores { (m : Memory) (a w : ℕ) → a % 4 ≡ 0 → with_word Big m a w ≡ with_word_at m (a / 4) w }
+{}
 
 /// ADDIU with a destination other than register 0: four instructions.
 pub fn addiu_follows()
@@ -53,4 +70,15 @@ pub fn add_follows()
 /// most 23 lead to Host.fault, which ends as the guest does.
 pub fn lw_follows()
     ensures { (program : Program) (words m by helper rs rt imm at word : ℕ) (w : Workspace) (others : List Frame) (s : State) → rs < 32 → 0 < rt → rt < 32 → length others < 63 → s.order ≡ Big → HasMethod program helper (kinds.Int ∷ kinds.Int ∷ []) lw_method → StandsAt program m by (lw_code at helper rs rt imm) → Matches w.fields w.heap s → StandsBefore s at word (Load Lw rs rt imm) → (((t : State) × (turn s ≡ moves t) × Arrives program words m (by + 16) 28 w.operands others (placed m by w others) t) ⊎ ((n : ℕ) × (n ≤ 23) × StopsAlike program words m by 16 n 0 w others s)) }
+{}
+
+/// ADDIU and ADD with a destination other than register 0 follow their instruction in every state, also in a delay slot.
+pub fn instructions_are_followed()
+    ensures addiu { (program : Program) (words m by rs rt imm word : ℕ) (others : List Frame) (s : State) → rs < 32 → 0 < rt → rt < 32 → StandsAt program m by (addiu_code rs rt imm) → StepsAs program words m by 10 4 others word (ArithmeticImmediate Addiu rs rt imm) s }
+    ensures add { (program : Program) (words m by at rs rt rd word : ℕ) (others : List Frame) (s : State) → rs < 32 → rt < 32 → 0 < rd → rd < 32 → s.pc ≡ at → StandsAt program m by (add_code at word rs rt rd) → StepsAs program words m by 41 16 others word (Arithmetic Add rs rt rd) s }
+{}
+
+/// BEQ with any instruction in its delay slot that code behind it follows: six instructions more.
+pub fn branch_follows()
+    ensures { (program : Program) (words m by size most at rs rt imm word slot_word : ℕ) (slot_inst : Inst) (w : Workspace) (others : List Frame) (s : State) → rs < 32 → rt < 32 → at + 8 < 2 ^ 32 → Matches w.fields w.heap s → StandsBefore s at word (BranchEqual Beq rs rt imm) → s.code (at + 4) ≡ Some slot_word → inst slot_word ≡ slot_inst → StandsAt program m by (beq_head at rs rt imm) → ((slot : State) → turn s ≡ moves slot → StepsAs program words m (by + 21) size most others slot_word slot_inst slot) → ((slot : State) × (turn s ≡ moves slot) × FollowsTurn program words m (by + 21 + size) (6 + most) w others (placed m by w others) (turn slot)) }
 {}
