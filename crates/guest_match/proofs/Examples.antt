@@ -2,7 +2,9 @@
 use Rattle.std.proofs.Common.{◌≡◌, ℕ, ◌+◌, ◌-◌, ◌*◌, ◌%◌, ◌^◌, ◌==◌, ◌<◌, nat_lt, Bool, true, false, if◌then◌else◌, Option, Some, None, refl, ap, sym, ◌∙◌, arith, lit<}
 use Rattle.std.proofs.lemmas.Bool.{eqb-true, lt-ltb}
 use Rattle.nv_words.specs.declared.order.Order.TheVariants.{Big}
-use Rattle.jvm_program.specs.Values.{Value, int, array, unset, ints, pages, Heap}
+use Rattle.jvm_program.specs.Values.{ints, pages, Heap}
+use Rattle.jvm_program.specs.declared.value.Value.{Value}
+use Rattle.jvm_program.specs.declared.value.Value.TheVariants.{Int as int, Array as array, Unset as unset}
 use Rattle.jvm_program.specs.HostMemory.{memory_of}
 use Rattle.mips_decode.specs.State.{State}
 use Rattle.guest_match.specs.Match.{Matches, HoldsMemory, page_count, host_memory}

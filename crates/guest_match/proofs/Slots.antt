@@ -2,7 +2,7 @@
 use Rattle.std.proofs.Common.{◌≡◌, ℕ, ◌+◌, ◌%◌, ◌^◌, ◌==◌, ◌<◌, ◌≤◌, Bool, true, false, if◌then◌else◌, List, Some, unwrap_or, refl, ap, subst, sym, ◌∙◌, arith, lit≤}
 use Rattle.nv_words.specs.Words.{signed_of}
 use Rattle.nv_events.specs.Turn.{Turn, moves}
-use Rattle.jvm_program.specs.Values.{int}
+use Rattle.jvm_program.specs.declared.value.Value.TheVariants.{Int as int}
 use Rattle.jvm_program.specs.Program.{Program}
 use Rattle.jvm_program.specs.Effect.{Workspace, same}
 use Rattle.jvm_program.specs.Step as machine

@@ -1,7 +1,7 @@
 -- Code that follows one instruction of the guest, alone or in a delay slot.
 use Rattle.std.specs.Prelude.{◌≡◌, ℕ, ◌+◌, ◌≤◌, List, Some}
 use Rattle.nv_events.specs.Turn.{Turn, moves, ends, «fault»}
-use Rattle.jvm_program.specs.Values.{int}
+use Rattle.jvm_program.specs.declared.value.Value.TheVariants.{Int as int}
 use Rattle.jvm_program.specs.Program.{Program}
 use Rattle.jvm_program.specs.Effect.{Workspace}
 use Rattle.jvm_program.specs.Step as machine

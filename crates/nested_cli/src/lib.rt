@@ -5,6 +5,8 @@ mod asm;
 mod done;
 mod go;
 mod guest;
+#[cfg(test)]
+mod guest_tests;
 mod halt;
 mod hexadecimal;
 mod interp;
@@ -18,6 +20,8 @@ mod refusals;
 mod session;
 mod stop;
 mod store;
+#[cfg(test)]
+mod tests;
 
 pub use done::Done;
 pub use program::nested;
