@@ -7,3 +7,6 @@ mod heap;
 mod instructions;
 
 pub use heap::Heap;
+
+#[cfg(test)]
+mod tests;
