@@ -1,10 +1,9 @@
 -- Arguments are taken from the last one on.
-use Rattle.std.proofs.Common.{◌≡◌, ℕ, ◌+◌, ◌≤◌, Bool, true, false, List, [], ◌∷◌, ◌++◌, length, refl, sym, ap, subst, ◌∙◌, Option, Some, None, arith}
+use Rattle.std.proofs.Common.{◌≡◌, ◌≤◌, Bool, true, false, List, [], ◌∷◌, ◌++◌, length, refl, ap, ◌∙◌, Option, Some, None, arith}
 use Rattle.std.specs.Prelude.{if◌then◌else◌, is_some}
 use Rattle.std.proofs.lemmas.Bool.{cond-true, cond-false, false≢true}
 use Rattle.std.proofs.lemmas.List.{nil_from_length}
 use Rattle.jvm_program.specs.declared.kind.Kind.{Kind}
-use Rattle.jvm_program.specs.declared.kind.Kind.TheVariants.{Long}
 use Rattle.jvm_program.specs.Effect.{last_first}
 use Rattle.jvm_program.specs.Typing.{below, taken, slots_of, is_long_kind}
 

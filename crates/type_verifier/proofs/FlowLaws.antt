@@ -1,18 +1,18 @@
 -- Frames that rise, and work that waits.
-use Rattle.std.proofs.Common.{◌≡◌, ◌≢◌, ℕ, zero, suc, ◌+◌, ◌*◌, ◌<◌, ◌≤◌, Bool, true, false, ◌||◌, List, [], ◌∷◌, ◌++◌, length, get_or, set, take, refl, sym, ap, subst, ◌∙◌, Option, Some, None, arith, ⊎_elim, ◌⊎◌, inl, inr}
-use Rattle.std.specs.Prelude.{option_map, slice_index_or, if◌then◌else◌, nat_lt, nat_eq, All, is_some}
-use Rattle.std.proofs.lemmas.Bool.{or_parts, or_from, or_cases, false≢true, true≢false, cases_eq, cases_Bool, eqb-true, eq-eqb, ne_eqb, ltb-true, lt-ltb, ltb-false}
+use Rattle.std.proofs.Common.{◌≡◌, ℕ, zero, suc, ◌+◌, ◌<◌, ◌≤◌, Bool, true, false, ◌||◌, List, [], ◌∷◌, ◌++◌, length, get_or, set, take, refl, sym, ap, subst, ◌∙◌, Option, Some, None, arith, ⊎_elim}
+use Rattle.std.specs.Prelude.{option_map, if◌then◌else◌, nat_lt, nat_eq, All}
+use Rattle.std.proofs.lemmas.Bool.{or_parts, or_cases, true≢false, cases_eq, eqb-true, eq-eqb, ltb-true, lt-ltb}
 use Rattle.std.proofs.lemmas.List.{get_or-set_same, get_or-set_other, length-set, length-append}
 use Rattle.std.proofs.lemmas.List.Elements.{All-more}
 use Rattle.std.proofs.lemmas.Option.{same_Some, none-some}
 use Rattle.jvm_program.specs.declared.linked_line.LinkedLine.{LinkedLine}
 use Rattle.jvm_program.specs.declared.linked_method.LinkedMethod.{LinkedMethod}
-use Rattle.jvm_program.specs.Program.{Program, line_in, successors}
-use Rattle.jvm_program.specs.Typing.{TypeFrame, Below, Frames, Follows, Receives, IsTypingTo, no_top}
+use Rattle.jvm_program.specs.Program.{line_in}
+use Rattle.jvm_program.specs.Typing.{TypeFrame, Below, Frames, Receives}
 use Rattle.type_verifier.specs.declared.frame.Frame.{Frame}
 use Rattle.type_verifier.specs.Refusal.{AreBelow}
 use Rattle.type_verifier.specs.Frames.{type_frame, frame_at, IsSized, IsFormed, IsAbove, IsStill, IsJoin, weight}
-use Rattle.type_verifier.specs.Flow.{has, AreFormed, heights, energy, Rises, Waits, Moves, Flows, FlowsToAll, HaveOperands, StaysBelow, AllStayBelow, RuleHolds, Visits, KeepsBelow, Keeps, Settles, Rests}
+use Rattle.type_verifier.specs.Flow.{has, AreFormed, heights, Rises, Waits, Moves, Flows, FlowsToAll, HaveOperands, StaysBelow, AllStayBelow}
 use Rattle.type_verifier.proofs.JoinLaws.{Below-refl, Below-trans}
 use Rattle.type_verifier.proofs.StackLaws.{option_map_some}
 
@@ -49,9 +49,9 @@ pub Rises-trans : (frames then' after : Slots) → Rises frames then' → Rises 
 Rises-trans frames then' after p q = record {
   size = q.size ∙ p.size;
   above = λ at f e.
-    let g = p.above at f e in
-    let h = q.above at g.0 g.1 in
-    (h.0, h.1, Below-trans f g.0 h.0 g.2 h.2);
+      let g = p.above at f e in
+      let h = q.above at g.0 g.1 in
+      (h.0, h.1, Below-trans f g.0 h.0 g.2 h.2);
 }
 
 pub Moves-refl : (l s limit : ℕ) (frames : Slots) (work : List ℕ) → Moves l s limit frames work frames work
@@ -117,10 +117,10 @@ with-waits limit work to w = by-test (nat_lt to limit) refl
     by-test : (b : Bool) → nat_lt to limit ≡ b → Waits limit (if b then work ++ to ∷ [] else work)
     by-test true e = record {
       each = λ x h.
-        ⊎_elim
-        (λ p. w.each x p)
-        (λ p. let same : to ≡ x = eqb-true to x p in let less = ltb-true to limit e in omega (arith, same, less))
-        (or_cases (has work x) (nat_eq to x) (sym (has-push work to x) ∙ h));
+          ⊎_elim
+          (λ p. w.each x p)
+          (λ p. let same : to ≡ x = eqb-true to x p in let less = ltb-true to limit e in omega (arith, same, less))
+          (or_cases (has work x) (nat_eq to x) (sym (has-push work to x) ∙ h));
     }
     by-test false e = w
 
@@ -138,24 +138,24 @@ module _ (l s limit : ℕ) (frames : Slots) (work : List ℕ) (f h : Frame) (to 
   put-rises = record {
     size = length-set frames to (Some h);
     above = λ at g e.
-      ⊎_elim
-      (λ here.
+        ⊎_elim
+        (λ here.
         let o = frame_at-some frames at g e in
         let old : get_or frames to None ≡ Some o.0 = ap (λ k. get_or frames k None) (sym here) ∙ o.1 in
         (type_frame h, frame_at-is put at h (set-here frames to h inside at here), subst (λ x. Below x (type_frame h)) o.2 (j.above_old o.0 old)))
-      (λ there. (g, ap (option_map type_frame) (set-there frames to h inside at there) ∙ e, Below-refl g))
-      (cases_eq at to);
+        (λ there. (g, ap (option_map type_frame) (set-there frames to h inside at there) ∙ e, Below-refl g))
+        (cases_eq at to);
   }
 
   put-formed : AreFormed l s put
   put-formed = record {
     each = λ at g e.
-      ⊎_elim
-      (λ here.
+        ⊎_elim
+        (λ here.
         let same : h ≡ g = same_Some h g (sym (set-here frames to h inside at here) ∙ e) in
         subst (λ x. IsFormed l s x) same (j.formed l s (λ o old. all.each to o old) new))
-      (λ there. all.each at g (sym (set-there frames to h inside at there) ∙ e))
-      (cases_eq at to);
+        (λ there. all.each at g (sym (set-there frames to h inside at there) ∙ e))
+        (cases_eq at to);
   }
 
   pub put-moves : Moves l s limit frames work put (work_with limit work to)
@@ -163,10 +163,10 @@ module _ (l s limit : ℕ) (frames : Slots) (work : List ℕ) (f h : Frame) (to 
     rises = put-rises;
     same_work = λ x e. has-with limit work to x e;
     same_frame = λ x less e.
-      ⊎_elim
-      (λ here. absurd (has-new limit work to (omega (arith, here, less)) (subst (λ k. has (work_with limit work to) k ≡ false) here e)))
-      (λ there. set-there frames to h inside x there)
-      (cases_eq x to);
+        ⊎_elim
+        (λ here. absurd (has-new limit work to (omega (arith, here, less)) (subst (λ k. has (work_with limit work to) k ≡ false) here e)))
+        (λ there. set-there frames to h inside x there)
+        (cases_eq x to);
     formed = λ _. put-formed;
     waits = λ w. with-waits limit work to w;
     falls = omega (arith, heights-set l s frames to (Some h) inside, j.falls l s new, with-length limit work to);
@@ -176,8 +176,8 @@ set-below : (frames : Slots) (f h : Frame) (to : ℕ) (inside : to < length fram
 set-below frames f h to inside others u under is above at g e =
     ⊎_elim
     (λ here.
-      let same : type_frame h ≡ g = same_Some (type_frame h) g (sym (frame_at-is (set frames to (Some h)) at h (set-here frames to h inside at here)) ∙ e) in
-      (u, ap others here ∙ is, subst (λ x. Below x u) same above))
+    let same : type_frame h ≡ g = same_Some (type_frame h) g (sym (frame_at-is (set frames to (Some h)) at h (set-here frames to h inside at here)) ∙ e) in
+    (u, ap others here ∙ is, subst (λ x. Below x u) same above))
     (λ there. under at g (sym (ap (option_map type_frame) (set-there frames to h inside at there)) ∙ e))
     (cases_eq at to)
 
@@ -188,16 +188,16 @@ above-both : (method : LinkedMethod) (frames : Slots) (f : Frame) (to : ℕ) (ot
 above-both method frames f to others u typed under is above = record {
   operands = typed.each to u is;
   above_old = λ g e.
-    let r = under to (type_frame g) (frame_at-is frames to g e) in
-    subst (λ x. Below (type_frame g) x) (same_Some r.0 u (sym r.1 ∙ is)) r.2;
+      let r = under to (type_frame g) (frame_at-is frames to g e) in
+      subst (λ x. Below (type_frame g) x) (same_Some r.0 u (sym r.1 ∙ is)) r.2;
   above_new = above;
 }
 
 pub changed-below : (method : LinkedMethod) (frames : Slots) (f h : Frame) (to : ℕ) → to < length frames → IsJoin (get_or frames to None) f h → StaysBelow method (type_frame f) to frames true (set frames to (Some h))
 changed-below method frames f h to inside j = record {
   each = λ others typed under r.
-    let both = above-both method frames f to others r.1 typed under r.3 r.4 in
-    (refl, set-below frames f h to inside others r.1 under r.3 (j.least r.1 both));
+      let both = above-both method frames f to others r.1 typed under r.3 r.4 in
+      (refl, set-below frames f h to inside others r.1 under r.3 (j.least r.1 both));
 }
 
 pub refused-below : (method : LinkedMethod) (frames after : Slots) (f : Frame) (to : ℕ) → ((u : TypeFrame) → IsAbove (get_or frames to None) f u → ⊥) → StaysBelow method (type_frame f) to frames false after
@@ -244,8 +244,8 @@ pub more-flows : (method : LinkedMethod) (limit : ℕ) (f : TypeFrame) (targets 
 more-flows method limit f targets i to frames work then' more after later inside is all one = record {
   moves = Moves-trans method.locals method.stack limit frames work then' more after later all.moves one.moves;
   received = All-more (Receives method (frame_at after) f) targets i 0 inside
-    (λ k d h. received-rises method then' after f (get_or (take i targets) k d) one.moves.rises (all.received k d h))
-    (subst (Receives method (frame_at after) f) is one.received);
+      (λ k d h. received-rises method then' after f (get_or (take i targets) k d) one.moves.rises (all.received k d h))
+      (subst (Receives method (frame_at after) f) is one.received);
 }
 
 pub more-below : (method : LinkedMethod) (f : TypeFrame) (targets : List ℕ) (i to : ℕ) (frames then' after : Slots) (good : Bool) → i < length targets → to ≡ get_or targets i 0 → StillBelow method f targets frames then' → StaysBelow method f to then' good after → AllStayBelow method f targets frames good after

@@ -1,15 +1,15 @@
 -- The least frame above two.
-use Rattle.std.proofs.Common.{◌≡◌, ℕ, zero, suc, ◌+◌, ◌*◌, ◌<◌, ◌≤◌, Bool, true, false, ◌&&◌, not, List, [], ◌∷◌, ◌++◌, length, refl, sym, ap, subst, ◌∙◌, Option, Some, None, arith}
+use Rattle.std.proofs.Common.{◌≡◌, ℕ, zero, suc, ◌+◌, ◌*◌, ◌<◌, ◌≤◌, Bool, true, false, List, [], ◌∷◌, length, refl, sym, ap, subst, ◌∙◌, Option, Some, None, arith}
 use Rattle.std.specs.Prelude.{option_map, slice_index_or, if◌then◌else◌}
-use Rattle.std.proofs.lemmas.Bool.{and_parts, and_from, and_cases, false≢true, true≢false, cases_Bool}
+use Rattle.std.proofs.lemmas.Bool.{and_parts, and_from, and_cases, false≢true, true≢false}
 use Rattle.std.proofs.Common.{⊎_elim, ◌⊎◌}
 use Rattle.std.proofs.lemmas.Option.{same_Some, none-some}
 use Rattle.jvm_program.specs.declared.kind.Kind.{Kind}
-use Rattle.jvm_program.specs.declared.kind.Kind.TheVariants.{Top, Int, Long, Null, Ints, Pages, Text}
+use Rattle.jvm_program.specs.declared.kind.Kind.TheVariants.{Top}
 use Rattle.jvm_program.specs.Typing.{TypeFrame, Below, below, stack_below, no_top}
 use Rattle.type_verifier.specs.declared.frame.Frame.{Frame}
-use Rattle.type_verifier.specs.Frames.{type_frame, IsSized, IsFormed, IsAbove, IsJoin, weight}
-use Rattle.type_verifier.specs.Joins.{is_top, joined, joined_stacks, joined_locals, with_operand, rank, ranks, locals_below, first_local, other_locals, frame_below}
+use Rattle.type_verifier.specs.Frames.{type_frame, IsAbove, IsJoin}
+use Rattle.type_verifier.specs.Joins.{is_top, joined, joined_stacks, joined_locals, with_operand, ranks, locals_below, first_local, other_locals, frame_below}
 use Rattle.type_verifier.proofs.KindLaws.{below-refl, below-trans, below-top, joined-left, joined-right, joined-least, top-below, rank-joined, rank-falls, top-left, top-right, rank-above, rank-two}
 use Rattle.type_verifier.proofs.StackLaws.{no_top-head, no_top-tail, no_top-cons, option_map_some}
 
@@ -196,27 +196,27 @@ IsJoin-from g f h new s l =
     let j = Joined-from g.stack f.stack h.stack s in
     let at : (i : ℕ) → joined (local g.locals i) (local f.locals i) ≡ local h.locals i = λ i. sym (joined-local g.locals f.locals i) ∙ ap (λ x. local x i) (sym l) in
     record {
-  above_old = λ o e. let p = same_frame g o e in subst (λ o. Below (type_frame o) (type_frame h)) p (record {
-    locals = λ i. subst (λ k. below (local g.locals i) k ≡ true) (at i) (joined-left (local g.locals i) (local f.locals i));
-    stack = joined-above j;
-  });
-  above_new = record {
-    locals = λ i. subst (λ k. below (local f.locals i) k ≡ true) (at i) (joined-right (local g.locals i) (local f.locals i));
-    stack = joined-beside j;
-  };
-  least = λ u a. record {
-    locals = λ i. subst (λ k. below k (u.locals i) ≡ true) (at i) (joined-least (local g.locals i) (local f.locals i) (u.locals i) ((a.above_old g refl).locals i) (a.above_new.locals i));
-    stack = stack-least g.stack f.stack h.stack u.stack s (joined-some g.stack f.stack u.stack a.operands (a.above_old g refl).stack a.above_new.stack);
-  };
-  formed = λ locals stack old new. record {
-    sized = record {
-      locals_fit = let o = (old g refl).sized in omega (arith, o.locals_fit, joined_locals-length g.locals f.locals, ap length l);
-      stack_fits = let o = (old g refl).sized in omega (arith, o.stack_fits, joined-length j);
-    };
-    operands = joined-no_top j;
-  };
-  falls = λ locals stack new'. falls-either g f h j l (and_cases (stack_below f.stack g.stack) (locals_below f.locals g.locals) new);
-}
+      above_old = λ o e. let p = same_frame g o e in subst (λ o. Below (type_frame o) (type_frame h)) p (record {
+        locals = λ i. subst (λ k. below (local g.locals i) k ≡ true) (at i) (joined-left (local g.locals i) (local f.locals i));
+        stack = joined-above j;
+      });
+      above_new = record {
+        locals = λ i. subst (λ k. below (local f.locals i) k ≡ true) (at i) (joined-right (local g.locals i) (local f.locals i));
+        stack = joined-beside j;
+      };
+      least = λ u a. record {
+        locals = λ i. subst (λ k. below k (u.locals i) ≡ true) (at i) (joined-least (local g.locals i) (local f.locals i) (u.locals i) ((a.above_old g refl).locals i) (a.above_new.locals i));
+        stack = stack-least g.stack f.stack h.stack u.stack s (joined-some g.stack f.stack u.stack a.operands (a.above_old g refl).stack a.above_new.stack);
+      };
+      formed = λ locals stack old new. record {
+        sized = record {
+          locals_fit = let o = (old g refl).sized in omega (arith, o.locals_fit, joined_locals-length g.locals f.locals, ap length l);
+          stack_fits = let o = (old g refl).sized in omega (arith, o.stack_fits, joined-length j);
+        };
+        operands = joined-no_top j;
+      };
+      falls = λ locals stack new'. falls-either g f h j l (and_cases (stack_below f.stack g.stack) (locals_below f.locals g.locals) new);
+    }
 
 -- a first frame, whose operands have types
 pub IsJoin-first : (f : Frame) → no_top f.stack ≡ true → IsJoin None f f

@@ -1,5 +1,5 @@
 -- Laws of types, by trying all of them.
-use Rattle.std.proofs.Common.{◌≡◌, ◌≢◌, ℕ, ◌<◌, ◌≤◌, Bool, true, false, ◌&&◌, not, refl, ltb, leb}
+use Rattle.std.proofs.Common.{◌≡◌, ◌<◌, ◌≤◌, Bool, true, false, ◌&&◌, not, refl, ltb, leb}
 use Rattle.std.proofs.lemmas.Bool.{and_parts, false≢true, true≢false, ltb-true, leb-true}
 use Rattle.std.specs.Bool.{beq}
 use Rattle.jvm_program.specs.declared.kind.Kind.{Kind}

@@ -1,19 +1,19 @@
 -- Frames come to rest.
-use Rattle.std.proofs.Common.{◌≡◌, ℕ, zero, suc, ◌+◌, ◌*◌, ◌<◌, ◌≤◌, Bool, true, false, ◌||◌, List, [], ◌∷◌, ◌++◌, length, get_or, set, replicate, refl, sym, ap, subst, ◌∙◌, Option, Some, None, arith, ⊎_elim, ◌⊎◌}
+use Rattle.std.proofs.Common.{◌≡◌, ℕ, suc, ◌<◌, ◌≤◌, Bool, true, false, ◌||◌, List, [], ◌∷◌, ◌++◌, length, get_or, set, replicate, refl, sym, ap, subst, ◌∙◌, Option, Some, None, arith, ⊎_elim}
 use Rattle.std.specs.Prelude.{option_map, option_and_then, slice_get, All, nat_eq}
-use Rattle.std.proofs.lemmas.Bool.{or_parts, or_from, false≢true, true≢false, cases_eq, cases_lt, eq-eqb, ne_eqb, eqb-true}
+use Rattle.std.proofs.lemmas.Bool.{false≢true, true≢false, cases_eq, cases_lt, eq-eqb, ne_eqb, eqb-true}
 use Rattle.std.proofs.lemmas.List.{get_or-set_same, get_or-set_other, get_or_past, length-append, length-replicate}
 use Rattle.std.proofs.lemmas.Option.{same_Some, none-some}
 use Rattle.jvm_program.specs.declared.linked_line.LinkedLine.{LinkedLine}
 use Rattle.jvm_program.specs.declared.linked_method.LinkedMethod.{LinkedMethod}
 use Rattle.jvm_program.specs.Program.{Program, line_in, successors}
-use Rattle.jvm_program.specs.Typing.{TypeFrame, Below, Frames, Follows, Receives, IsTypingTo, IsTyping, entry_frame, no_top}
+use Rattle.jvm_program.specs.Typing.{TypeFrame, Below, Frames, Follows, Receives, IsTypingTo, entry_frame, no_top}
 use Rattle.type_verifier.specs.declared.frame.Frame.{Frame}
 use Rattle.type_verifier.specs.Actions.{Enters}
 use Rattle.type_verifier.specs.Refusal.{AreBelow, FailsAt, LeastTyping}
 use Rattle.type_verifier.specs.Frames.{type_frame, frame_at, entry_of, IsFormed}
-use Rattle.type_verifier.specs.Flow.{has, AreFormed, energy, Rises, Waits, Moves, FlowsToAll, HaveOperands, AllStayBelow, RuleHolds, Visits, KeepsBelow, Keeps, Settles, Rests, IsTable}
-use Rattle.type_verifier.proofs.JoinLaws.{Below-refl, Below-trans}
+use Rattle.type_verifier.specs.Flow.{has, energy, Rises, Waits, FlowsToAll, HaveOperands, AllStayBelow, RuleHolds, Visits, KeepsBelow, Keeps, Settles, Rests, IsTable}
+use Rattle.type_verifier.proofs.JoinLaws.{Below-refl}
 use Rattle.type_verifier.proofs.FlowLaws.{Slots, Rises-refl, Rises-trans, Moves-refl, has-push, frame_at-some, frame_at-is, received-rises}
 use Rattle.type_verifier.proofs.TableLaws.{none-of}
 use Rattle.type_verifier.proofs.StepLaws.{typing-step}
@@ -24,11 +24,11 @@ pub visited : (program : Program) (method : LinkedMethod) (limit at : ℕ) (line
 visited program method limit at line f b frames work after later line-is frame-is enters all = record {
   moves = all.moves;
   rule = λ line' f' l e.
-    let same-line : line ≡ line' = same_Some line line' (sym line-is ∙ l) in
-    let same-frame : f ≡ f' = same_Some f f' (sym frame-is ∙ e) in
-    subst (λ x. Follows program method (frame_at after) x f') same-line
-    (subst (λ x. Follows program method (frame_at after) line x) same-frame
-    (record { local = enters.local; behind = b; fits = enters.fits; within = enters.within; goes_on = all.received }));
+      let same-line : line ≡ line' = same_Some line line' (sym line-is ∙ l) in
+      let same-frame : f ≡ f' = same_Some f f' (sym frame-is ∙ e) in
+      subst (λ x. Follows program method (frame_at after) x f') same-line
+      (subst (λ x. Follows program method (frame_at after) line x) same-frame
+      (record { local = enters.local; behind = b; fits = enters.fits; within = enters.within; goes_on = all.received }));
 }
 
 pub visited-nothing : (program : Program) (method : LinkedMethod) (limit at : ℕ) (frames : Slots) (work : List ℕ) → RuleHolds program method frames frames at → Visits program method limit at frames work frames work
@@ -49,18 +49,18 @@ operands-of program method others last typing = record { each = λ at f e. typin
 pub visited-below : (program : Program) (method : LinkedMethod) (limit at : ℕ) (line : LinkedLine) (f b : TypeFrame) (frames : Slots) (good : Bool) (after : Slots) → at < limit → line_in method.lines at ≡ Some line → frame_at frames at ≡ Some f → Enters program method line.instruction f b → AllStayBelow method b (successors line) frames good after → KeepsBelow program method limit frames good after
 visited-below program method limit at line f b frames good after admitted line-is frame-is enters all = record {
   each = λ others last to typing under.
-    let g = under at f frame-is in
-    let step = typing-step program method others last at line f g.0 typing (omega (arith, admitted, to)) line-is g.1 g.2 in
-    let same : step.0 ≡ b = same_Some step.0 b (sym (step.1).fits ∙ enters.fits) in
-    all.each others (operands-of program method others last typing) under (subst (λ x. All (Receives method others x) (successors line)) same step.2);
+      let g = under at f frame-is in
+      let step = typing-step program method others last at line f g.0 typing (omega (arith, admitted, to)) line-is g.1 g.2 in
+      let same : step.0 ≡ b = same_Some step.0 b (sym (step.1).fits ∙ enters.fits) in
+      all.each others (operands-of program method others last typing) under (subst (λ x. All (Receives method others x) (successors line)) same step.2);
 }
 
 pub refused-visit : (program : Program) (method : LinkedMethod) (limit at : ℕ) (line : LinkedLine) (f : TypeFrame) (frames after : Slots) → at < limit → line_in method.lines at ≡ Some line → frame_at frames at ≡ Some f → ((b : TypeFrame) → Enters program method line.instruction f b → ⊥) → KeepsBelow program method limit frames false after
 refused-visit program method limit at line f frames after admitted line-is frame-is refuse = record {
   each = λ others last to typing under.
-    let g = under at f frame-is in
-    let step = typing-step program method others last at line f g.0 typing (omega (arith, admitted, to)) line-is g.1 g.2 in
-    absurd (refuse step.0 step.1);
+      let g = under at f frame-is in
+      let step = typing-step program method others last at line f g.0 typing (omega (arith, admitted, to)) line-is g.1 g.2 in
+      absurd (refuse step.0 step.1);
 }
 
 -- ---- instructions are looked at until no work waits
@@ -115,14 +115,14 @@ settled-more program method limit at first frames work before after later e s v 
     formed = v.moves.formed s.keeps.formed;
     waits = v.moves.waits (fewer-wait limit work before at e s.keeps.waits);
     rules = λ x less idle line f l is.
-      let still = v.moves.same_frame x less idle in
-      let was : frame_at frames x ≡ Some f = sym (ap (option_map type_frame) still) ∙ is in
-      ⊎_elim
-      (λ here. v.rule line f (subst (λ y. line_in method.lines y ≡ Some line) here l) (subst (λ y. frame_at frames y ≡ Some f) here was))
-      (λ there.
+        let still = v.moves.same_frame x less idle in
+        let was : frame_at frames x ≡ Some f = sym (ap (option_map type_frame) still) ∙ is in
+        ⊎_elim
+        (λ here. v.rule line f (subst (λ y. line_in method.lines y ≡ Some line) here l) (subst (λ y. frame_at frames y ≡ Some f) here was))
+        (λ there.
         let before-idle : has before x ≡ false = ap (λ y. has y x) e ∙ (has-push work at x ∙ or-none (has work x) (nat_eq at x) (v.moves.same_work x idle) (ne_eqb at x (λ q. there (sym q)))) in
         follows-rises program method frames after line f v.moves.rises (s.keeps.rules x less before-idle line f l was))
-      (cases_eq x at);
+        (cases_eq x at);
   };
   below = λ others last to typing under. (k.each others last to typing (s.below others last to typing under)).1;
 }
@@ -160,8 +160,8 @@ admitted program method at frames work e keeps = record {
   formed = keeps.formed;
   waits = record { each = λ x h. let same : at ≡ x = one-has at x (ap (λ y. has y x) (sym e) ∙ h) in omega (arith, same) };
   rules = λ x less idle.
-    let other : at ≡ x → ⊥ = λ q. true≢false (sym (ap (λ y. has y x) e ∙ has-one at x q) ∙ idle) in
-    keeps.rules x (omega (arith, other, less)) refl;
+      let other : at ≡ x → ⊥ = λ q. true≢false (sym (ap (λ y. has y x) e ∙ has-one at x q) ∙ idle) in
+      keeps.rules x (omega (arith, other, less)) refl;
 }
 
 -- ---- frames at rest
@@ -251,11 +251,11 @@ first-rests program method line size frames line-is fits inside e = record {
     rules = λ x less. absurd (omega arith);
   };
   least = λ others last to typing at f is.
-    let o = frame_at-some frames at f is in
-    let only = only-frame method size frames inside e at o.0 o.1 in
-    let r = typing.entry in
-    let same : entry_frame method ≡ f = ap type_frame only.1 ∙ o.2 in
-    (r.1, ap others only.0 ∙ r.3, subst (λ x. Below x r.1) same r.4);
+      let o = frame_at-some frames at f is in
+      let only = only-frame method size frames inside e at o.0 o.1 in
+      let r = typing.entry in
+      let same : entry_frame method ≡ f = ap type_frame only.1 ∙ o.2 in
+      (r.1, ap others only.0 ∙ r.3, subst (λ x. Below x r.1) same r.4);
 }
 
 -- ---- a start that no frames keep

@@ -1,14 +1,14 @@
 -- Operands below others, of the same size, and what is taken from them.
-use Rattle.std.proofs.Common.{◌≡◌, ℕ, zero, suc, ◌+◌, ◌≤◌, Bool, true, false, ◌&&◌, not, List, [], ◌∷◌, ◌++◌, length, drop, refl, sym, ap, subst, ◌∙◌, Option, Some, None, arith}
+use Rattle.std.proofs.Common.{◌≡◌, ℕ, zero, suc, ◌+◌, Bool, true, false, ◌&&◌, not, List, [], ◌∷◌, ◌++◌, length, drop, refl, ap, subst, ◌∙◌, Option, Some, None}
 use Rattle.std.specs.Prelude.{option_map, slice_get, if◌then◌else◌}
-use Rattle.std.proofs.lemmas.Bool.{and_parts, and_from, false≢true, true≢false, cases_Bool}
+use Rattle.std.proofs.lemmas.Bool.{and_parts, and_from, false≢true, true≢false}
 use Rattle.std.proofs.lemmas.Option.{same_Some}
 use Rattle.jvm_program.specs.declared.kind.Kind.{Kind}
 use Rattle.jvm_program.specs.declared.kind.Kind.TheVariants.{Top, Int, Long, Null, Ints, Pages, Text}
 use Rattle.jvm_program.specs.Shuffles.{Shuffle, fits_longs, picked, item_before, shuffled}
 use Rattle.jvm_program.specs.Typing.{below, stack_below, no_top, slots_of, is_long_kind, taken, taken_one}
-use Rattle.type_verifier.specs.Joins.{is_top, joined, joined_stacks, with_operand, ranks, rank}
-use Rattle.type_verifier.proofs.KindLaws.{below-refl, below-trans, joined-left, joined-right, joined-least, top-below, rank-joined, rank-falls, long-below, GoesDown}
+use Rattle.type_verifier.specs.Joins.{is_top}
+use Rattle.type_verifier.proofs.KindLaws.{below-refl, below-trans, long-below, GoesDown}
 
 -- ---- operands with types
 

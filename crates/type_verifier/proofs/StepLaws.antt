@@ -1,7 +1,6 @@
 -- An instruction does more of what it does to a frame to one above it.
-use Rattle.std.proofs.Common.{◌≡◌, ℕ, zero, suc, ◌<◌, ◌≤◌, Bool, true, false, List, [], ◌∷◌, ◌++◌, length, refl, sym, ap, subst, ◌∙◌, Option, Some, None, arith, get_or}
+use Rattle.std.proofs.Common.{◌≡◌, ℕ, ◌≤◌, Bool, true, false, List, ◌∷◌, ◌++◌, refl, sym, ap, subst, ◌∙◌, Option, Some, None, arith, get_or}
 use Rattle.std.specs.Prelude.{option_map, if◌then◌else◌, nat_eq, All}
-use Rattle.std.proofs.lemmas.Bool.{false≢true, true≢false, cases_Bool}
 use Rattle.std.proofs.lemmas.Option.{same_Some}
 use Rattle.jvm_program.specs.declared.kind.Kind.{Kind}
 use Rattle.jvm_program.specs.declared.kind.Kind.TheVariants.{Int}
@@ -10,10 +9,10 @@ use Rattle.jvm_program.specs.declared.linked_line.LinkedLine.{LinkedLine}
 use Rattle.jvm_program.specs.declared.linked_method.LinkedMethod.{LinkedMethod}
 use Rattle.jvm_program.specs.Program.{Program, line_in, successors}
 use Rattle.jvm_program.specs.Shuffles.{shuffled}
-use Rattle.jvm_program.specs.Typing.{TypeFrame, Below, below, TypeEffect, exchanges, takes_reference, takes_array, loads, stores, increments, shuffles, never, type_effect, applied, with_stack, with_local_kind, taken, taken_one, stored, moves_kind, is_reference_kind, is_array_kind, is_long_kind, same_kind, slots_of, Frames, Follows, Receives, IsTypingTo, no_top}
+use Rattle.jvm_program.specs.Typing.{TypeFrame, Below, below, TypeEffect, exchanges, takes_reference, takes_array, loads, stores, increments, shuffles, never, type_effect, applied, with_stack, with_local_kind, taken, taken_one, stored, moves_kind, is_reference_kind, is_array_kind, is_long_kind, same_kind, Frames, Receives, IsTypingTo}
 use Rattle.type_verifier.specs.Actions.{Enters}
 use Rattle.type_verifier.proofs.KindLaws.{below-refl, reference-below, array-below, moves-below, int-below, moved-long}
-use Rattle.type_verifier.proofs.StackLaws.{Fits, none, one, Fits-refl, Fits-from, below-from, Fits-append, Fits-slots, if_some, if-true, option_map_some, taken-below, taken_one-below, shuffled-below}
+use Rattle.type_verifier.proofs.StackLaws.{Fits, none, one, Fits-from, below-from, Fits-append, Fits-slots, if_some, if-true, option_map_some, taken-below, taken_one-below, shuffled-below}
 use Rattle.type_verifier.proofs.JoinLaws.{Below-trans}
 
 pub record FitsFrame (f g : TypeFrame) : Type 0 where
@@ -81,7 +80,8 @@ pub typing-step : (program : Program) (method : LinkedMethod) (others : Frames) 
 typing-step program method others last at line f g typing admitted is there under =
     let rule = typing.rules at line g admitted is there in
     let fits : FitsFrame f g = record { locals = under.locals; stack = Fits-from f.stack g.stack under.stack (typing.operands at g there) } in
-    let r = applied-goes (type_effect program line.instruction) f g rule.behind fits rule.fits in
-    (r.0,
-    record { local = rule.local; fits = r.1; within = omega (arith, rule.within, Fits-slots r.2.stack) },
-    λ k d h. received-below method others r.0 rule.behind (get_or (successors line) k d) (record { locals = r.2.locals; stack = below-from r.2.stack }) (rule.goes_on k d h))
+    let r = applied-goes (type_effect program line.instruction) f g rule.behind fits rule.fits in (
+      r.0,
+      record { local = rule.local; fits = r.1; within = omega (arith, rule.within, Fits-slots r.2.stack) },
+      λ k d h. received-below method others r.0 rule.behind (get_or (successors line) k d) (record { locals = r.2.locals; stack = below-from r.2.stack }) (rule.goes_on k d h),
+    )

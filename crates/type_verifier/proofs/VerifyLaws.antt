@@ -1,5 +1,5 @@
 -- From methods by themselves to those of linked classes.
-use Rattle.std.proofs.Common.{◌≡◌, ℕ, zero, suc, ◌+◌, ◌-◌, ◌<◌, ◌≤◌, true, false, List, [], ◌∷◌, ◌++◌, length, refl, sym, ap, subst, ◌∙◌, Option, Some, None, arith}
+use Rattle.std.proofs.Common.{◌≡◌, ℕ, zero, suc, ◌+◌, ◌-◌, ◌<◌, ◌≤◌, List, [], ◌∷◌, ◌++◌, length, refl, sym, ap, subst, ◌∙◌, Some, None, arith}
 use Rattle.std.specs.Prelude.{slice_get, map}
 use Rattle.std.proofs.lemmas.List.{append_assoc, length-append, length-map}
 use Rattle.std.proofs.lemmas.Option.{slice_get_within}
@@ -8,14 +8,13 @@ use Rattle.jvm_program.specs.declared.linked_line.LinkedLine.{LinkedLine}
 use Rattle.jvm_program.specs.declared.linked_method.LinkedMethod.{LinkedMethod}
 use Rattle.jvm_program.specs.declared.instruction.Instruction.{Instruction}
 use Rattle.jvm_program.specs.declared.instruction.Instruction.TheVariants.{Call}
-use Rattle.jvm_program.specs.Program.{Program, line_in}
-use Rattle.jvm_program.specs.Typing.{TypeFrame, Frames, TypeEffect, type_effect, call_type, applied, local_within, Follows, IsTypingTo, IsTyping, Typed, AllTyped}
+use Rattle.jvm_program.specs.Program.{Program}
+use Rattle.jvm_program.specs.Typing.{TypeFrame, Frames, TypeEffect, type_effect, call_type, applied, local_within, Follows, IsTypingTo, Typed, AllTyped}
 use Rattle.jvm_link.specs.Linking.{program_of, linked_methods, methods_from, linked_method}
-use Rattle.type_verifier.specs.declared.verify_error.VerifyFault.{VerifyFault}
 use Rattle.type_verifier.specs.declared.verify_error.VerifyError.{VerifyError}
 use Rattle.type_verifier.specs.declared.verify_error.VerifyError.TheVariants.{Refused, NoMemory}
 use Rattle.type_verifier.specs.Actions.{program_over}
-use Rattle.type_verifier.specs.Refusal.{FailsAt, LeastTyping, IsVerdict, IsVerdictOf, methods_before, IsAtFault, IsRefusal, IsFirstFault, IsFault, IsPlace}
+use Rattle.type_verifier.specs.Refusal.{FailsAt, IsVerdictOf, methods_before, IsRefusal, IsFirstFault, IsFault, IsPlace}
 
 -- ---- programs with the same methods
 
@@ -123,10 +122,11 @@ pub place-from : (classes rest others : List Class) (c : Class) (number method a
 place-from classes rest others c number method at NoMemory e less l f = tt
 place-from classes rest others c number method at (Refused fault) e less l f =
     let whole : classes ≡ l.done ++ c ∷ others = l.whole ∙ ap (λ x. l.done ++ x) e in
-    let index : fault.class ≡ length l.done = omega (arith, f.0, ap length whole, ap length e, length-append l.done (c ∷ others)) in
-    ((c, ap (slice_get classes) index ∙ (ap (λ x. slice_get x (length l.done)) whole ∙ class-at l.done c others), omega (arith, f.1, less)),
-    omega (arith, ap (methods_before classes) index, ap (λ x. methods_before x (length l.done)) whole, before-is l.done (c ∷ others), l.number_is, f.1),
-    f.2)
+    let index : fault.class ≡ length l.done = omega (arith, f.0, ap length whole, ap length e, length-append l.done (c ∷ others)) in (
+      (c, ap (slice_get classes) index ∙ (ap (λ x. slice_get x (length l.done)) whole ∙ class-at l.done c others), omega (arith, f.1, less)),
+      omega (arith, ap (methods_before classes) index, ap (λ x. methods_before x (length l.done)) whole, before-is l.done (c ∷ others), l.number_is, f.1),
+      f.2,
+    )
 
 method-there : (methods : List LinkedMethod) (number : ℕ) → number < length methods → (method : LinkedMethod) × (slice_get methods number ≡ Some method)
 method-there [] number h = absurd (omega arith)
@@ -141,11 +141,11 @@ refusal-from classes methods number at (Refused fault) e first place =
     let same = same-methods classes methods e in
     let there = method-there methods number first.0 in
     record {
-  class = place.0.0;
-  class_is = place.0.1;
-  within = place.0.2;
-  method = there.0;
-  method_is = ap q.method place.1 ∙ (sym (same number) ∙ there.1);
-  fails = subst (λ n. FailsAt q there.0 n) (sym place.2) (fails-same p q same there.0 at (first.2 there.0 there.1));
-  earlier = λ m other less is. typed-same p q same other (first.1 m other (omega (arith, less, place.1)) (same m ∙ is));
-}
+      class = place.0.0;
+      class_is = place.0.1;
+      within = place.0.2;
+      method = there.0;
+      method_is = ap q.method place.1 ∙ (sym (same number) ∙ there.1);
+      fails = subst (λ n. FailsAt q there.0 n) (sym place.2) (fails-same p q same there.0 at (first.2 there.0 there.1));
+      earlier = λ m other less is. typed-same p q same other (first.1 m other (omega (arith, less, place.1)) (same m ∙ is));
+    }

@@ -1,6 +1,5 @@
 -- Frames as they are kept, the frames that they stand for, and how two of them meet.
 use Rattle.std.specs.Prelude.{◌≡◌, ℕ, suc, ◌+◌, ◌*◌, ◌<◌, ◌≤◌, true, List, [], length, slice_index_or, Option, Some, None, option_map}
-use Rattle.jvm_program.specs.declared.kind.Kind.{Kind}
 use Rattle.jvm_program.specs.declared.kind.Kind.TheVariants.{Top}
 use Rattle.jvm_program.specs.declared.linked_method.LinkedMethod.{LinkedMethod}
 use Rattle.jvm_program.specs.Typing.{TypeFrame, Below, no_top}

@@ -1,7 +1,7 @@
 -- The least type above two (JVM Specification, 4.10.2.2), and the operands and local variables so.
 use Rattle.std.specs.Prelude.{ℕ, ◌+◌, ◌&&◌, Bool, true, false, if◌then◌else◌, List, [], ◌∷◌, length, drop, Option, Some, None, option_map}
 use Rattle.jvm_program.specs.declared.kind.Kind.{Kind}
-use Rattle.jvm_program.specs.declared.kind.Kind.TheVariants.{Top, Int, Long, Null, Ints, Pages, Text}
+use Rattle.jvm_program.specs.declared.kind.Kind.TheVariants.{Top, Null}
 use Rattle.jvm_program.specs.Shuffles.{fits_longs}
 use Rattle.jvm_program.specs.Typing.{below, stack_below, is_long_kind}
 

@@ -10,6 +10,7 @@ use jvm_code::{ArrayName, BranchName, Conversion, ReturnName};
 use jvm_program::{ArrayKind, Constant, Instruction, Kind};
 
 const INT: Option<Kind> = Some(Kind::Int);
+
 const LONG: Option<Kind> = Some(Kind::Long);
 
 /// The action of an instruction.

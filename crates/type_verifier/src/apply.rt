@@ -58,7 +58,11 @@ fn called(alloc: Global, method: &LinkedMethod, frame: &Frame) -> Result<Option<
     ensures fits { IfOk result (λ o. option_map type_frame o ≡ typing.applied (typing.call_type (Some method.now)) (type_frame frame.now)) }
     ensures sized { IfOk result (λ o. IfSome o (λ f. f.locals ≡ frame.now.locals)) }
 {
-    let given = if method.gives_int { Some(Kind::Int) } else { None };
+    let given = if method.gives_int {
+        Some(Kind::Int)
+    } else {
+        None
+    };
     let below = taken_arguments(method.parameters.as_slice(), frame.stack.as_slice());
     pushed(alloc, frame, given, below)
 }

@@ -58,7 +58,9 @@ impl Code<'_> {
             return Ok(None);
         }
         match applied(alloc, self.methods, &action, frame)? {
-            Some(behind) if has_room(behind.stack.as_slice(), self.method.stack) => Ok(Some(behind)),
+            Some(behind) if has_room(behind.stack.as_slice(), self.method.stack) => Ok(Some(
+                behind,
+            )),
             _ => Ok(None),
         }
     }

@@ -11,16 +11,15 @@ mod kinds;
 mod meet;
 mod meeting;
 mod method;
-mod successors;
 mod shuffle;
-mod verified;
+mod successors;
 mod verification;
+mod verified;
 mod verify_error;
 
-pub use verified::Verified;
 pub use verification::verify;
+pub use verified::Verified;
 pub use verify_error::{NoMemory, VerifyError, VerifyFault};
-
 
 #[cfg(test)]
 mod tests;

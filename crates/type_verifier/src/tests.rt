@@ -95,7 +95,13 @@ fn diamond(
     other: Instruction,
     then: Vec<Instruction>,
 ) -> Result<Option<u32>, AllocError> {
-    let mut lines = vec![in alloc; int(), go(BranchName::Ifeq, 4), one, go(BranchName::Goto, 5), other]?;
+    let mut lines = vec![in alloc;
+        int(),
+        go(BranchName::Ifeq, 4),
+        one,
+        go(BranchName::Goto, 5),
+        other,
+    ]?;
     for instruction in then {
         lines.push(instruction)?;
     }
@@ -106,17 +112,43 @@ fn diamond(
 fn references_meet(rt: HostRuntime) -> Result<(), Fail> {
     let a = rt.alloc();
     let pop = StackName::Pop;
-    let ints = vec![in a; int(), Instruction::Array(ArrayName::Iaload), moves(pop), end()]?;
+    let ints = vec![in a;
+        int(),
+        Instruction::Array(ArrayName::Iaload),
+        moves(pop),
+        end(),
+    ]?;
     assert_eq!(rt; diamond(a, null(), load(0), ints)?, None, "null and ints");
-    let pages = vec![in a; int(), Instruction::Array(ArrayName::Aaload), moves(pop), end()]?;
+    let pages = vec![in a;
+        int(),
+        Instruction::Array(ArrayName::Aaload),
+        moves(pop),
+        end(),
+    ]?;
     assert_eq!(rt; diamond(a, load(1), null(), pages)?, None, "null and pages");
     let text = vec![in a; Instruction::Length, moves(pop), end()]?;
     assert_eq!(rt; diamond(a, null(), load(2), text)?, None, "null and a text");
     let arrays = vec![in a; Instruction::ArrayLength, moves(pop), end()]?;
-    assert_eq!(rt; diamond(a, load(0), load(1), arrays)?, Some(4), "two kinds of arrays");
+    assert_eq!(rt;
+        diamond(a, load(0), load(1), arrays)?,
+        Some(4),
+        "two kinds of arrays"
+    );
     let int_or_null = vec![in a; moves(pop), end()]?;
-    assert_eq!(rt; diamond(a, int(), null(), int_or_null)?, Some(4), "an int and null");
-    let page = vec![in a; null(), int(), Instruction::Array(ArrayName::Aaload), int(), Instruction::Array(ArrayName::Iaload), moves(pop), end()]?;
+    assert_eq!(rt;
+        diamond(a, int(), null(), int_or_null)?,
+        Some(4),
+        "an int and null"
+    );
+    let page = vec![in a;
+        null(),
+        int(),
+        Instruction::Array(ArrayName::Aaload),
+        int(),
+        Instruction::Array(ArrayName::Iaload),
+        moves(pop),
+        end(),
+    ]?;
     assert_eq!(rt; verdict(a, &[], page)?, None, "a page of null");
     Ok(())
 }
@@ -127,14 +159,46 @@ fn an_int_and_an_array_meet(rt: HostRuntime) -> Result<(), Fail> {
     let a = rt.alloc();
     let array = Instruction::NewArray(ArrayKind::Ints);
     let lines = vec![in a;
-        LinkedLine { at: 0, next: 1, instruction: int() },
-        LinkedLine { at: 1, next: 4, instruction: go(BranchName::Ifeq, 8) },
-        LinkedLine { at: 4, next: 5, instruction: int() },
-        LinkedLine { at: 5, next: 8, instruction: go(BranchName::Goto, 11) },
-        LinkedLine { at: 8, next: 9, instruction: int() },
-        LinkedLine { at: 9, next: 11, instruction: array },
-        LinkedLine { at: 11, next: 12, instruction: moves(StackName::Pop) },
-        LinkedLine { at: 12, next: 13, instruction: end() },
+        LinkedLine {
+            at: 0,
+            next: 1,
+            instruction: int()
+        },
+        LinkedLine {
+            at: 1,
+            next: 4,
+            instruction: go(BranchName::Ifeq, 8)
+        },
+        LinkedLine {
+            at: 4,
+            next: 5,
+            instruction: int()
+        },
+        LinkedLine {
+            at: 5,
+            next: 8,
+            instruction: go(BranchName::Goto, 11)
+        },
+        LinkedLine {
+            at: 8,
+            next: 9,
+            instruction: int()
+        },
+        LinkedLine {
+            at: 9,
+            next: 11,
+            instruction: array
+        },
+        LinkedLine {
+            at: 11,
+            next: 12,
+            instruction: moves(StackName::Pop)
+        },
+        LinkedLine {
+            at: 12,
+            next: 13,
+            instruction: end()
+        },
     ]?;
     assert_eq!(rt; verdict_on(a, &[], 1, 0, lines)?, Some(9));
     Ok(())
@@ -142,7 +206,17 @@ fn an_int_and_an_array_meet(rt: HostRuntime) -> Result<(), Fail> {
 
 // Two ways to offset 6, on which local variable 2 has one kind of array or another.
 fn arrays_in_a_local(alloc: Global, then: Instruction) -> Result<Option<u32>, AllocError> {
-    let lines = vec![in alloc; int(), go(BranchName::Ifeq, 5), load(0), store(2), go(BranchName::Goto, 7), load(1), store(2), then, end()]?;
+    let lines = vec![in alloc;
+        int(),
+        go(BranchName::Ifeq, 5),
+        load(0),
+        store(2),
+        go(BranchName::Goto, 7),
+        load(1),
+        store(2),
+        then,
+        end(),
+    ]?;
     verdict(alloc, REFERENCES, lines)
 }
 
@@ -153,12 +227,30 @@ fn locals_meet(rt: HostRuntime) -> Result<(), Fail> {
     assert_eq!(rt; arrays_in_a_local(a, load(2))?, Some(7), "used");
     let read = || Instruction::Load(LocalKind::Int, 0);
     let pop = StackName::Pop;
-    let clobbered = vec![in a; int(), go(BranchName::Ifeq, 4), null(), store(0), read(), moves(pop), end()]?;
+    let clobbered = vec![in a;
+        int(),
+        go(BranchName::Ifeq, 4),
+        null(),
+        store(0),
+        read(),
+        moves(pop),
+        end(),
+    ]?;
     assert_eq!(rt; verdict(a, &[Kind::Int], clobbered)?, Some(4), "on one way");
-    let back = vec![in a; read(), moves(pop), null(), store(0), go(BranchName::Goto, 0)]?;
+    let back = vec![in a;
+        read(),
+        moves(pop),
+        null(),
+        store(0),
+        go(BranchName::Goto, 0),
+    ]?;
     assert_eq!(rt; verdict(a, &[Kind::Int], back)?, Some(4), "on the way back");
     let crowd = vec![in a; end()]?;
-    assert_eq!(rt; verdict(a, &[Kind::Int, Kind::Int, Kind::Int, Kind::Int], crowd)?, Some(0), "too many");
+    assert_eq!(rt;
+        verdict(a, &[Kind::Int, Kind::Int, Kind::Int, Kind::Int], crowd)?,
+        Some(0),
+        "too many"
+    );
     Ok(())
 }
 
@@ -169,17 +261,47 @@ fn operands_have_sizes(rt: HostRuntime) -> Result<(), Fail> {
     assert_eq!(rt; verdict(a, &[], half)?, Some(1), "half a long");
     let both = vec![in a; long(), moves(StackName::Pop2), end()]?;
     assert_eq!(rt; verdict(a, &[], both)?, None, "a whole one");
-    let copy = vec![in a; int(), long(), moves(StackName::Dup2), moves(StackName::Pop2), moves(StackName::Pop2), moves(StackName::Pop), end()]?;
-    assert_eq!(rt; verdict_within(a, &[], 5, 0, copy)?, None, "a long is copied");
+    let copy = vec![in a;
+        int(),
+        long(),
+        moves(StackName::Dup2),
+        moves(StackName::Pop2),
+        moves(StackName::Pop2),
+        moves(StackName::Pop),
+        end(),
+    ]?;
+    assert_eq!(rt;
+        verdict_within(a, &[], 5, 0, copy)?,
+        None,
+        "a long is copied"
+    );
     let mixed = vec![in a; long(), int(), moves(StackName::Dup2), end()]?;
-    assert_eq!(rt; verdict_within(a, &[], 5, 0, mixed)?, Some(2), "an int over a long");
+    assert_eq!(rt;
+        verdict_within(a, &[], 5, 0, mixed)?,
+        Some(2),
+        "an int over a long"
+    );
     let sum = || -> Result<Vec<Instruction>, AllocError> {
-        vec![in a; int(), int(), Instruction::IntArithmetic(IntArithmetic::Iadd), moves(StackName::Pop), end()]
+        Ok(vec![in a;
+            int(),
+            int(),
+            Instruction::IntArithmetic(IntArithmetic::Iadd),
+            moves(StackName::Pop),
+            end(),
+        ]?)
     };
     assert_eq!(rt; verdict_within(a, &[], 2, 0, sum()?)?, None, "room for two");
-    assert_eq!(rt; verdict_within(a, &[], 1, 0, sum()?)?, Some(1), "room for one");
+    assert_eq!(rt;
+        verdict_within(a, &[], 1, 0, sum()?)?,
+        Some(1),
+        "room for one"
+    );
     let wide = vec![in a; long(), moves(StackName::Pop2), end()]?;
-    assert_eq!(rt; verdict_within(a, &[], 1, 0, wide)?, Some(0), "a long needs two");
+    assert_eq!(rt;
+        verdict_within(a, &[], 1, 0, wide)?,
+        Some(0),
+        "a long needs two"
+    );
     Ok(())
 }
 
@@ -198,14 +320,38 @@ fn switched(alloc: Global, target: u32, then: Instruction) -> Result<Option<u32>
 fn control_flows(rt: HostRuntime) -> Result<(), Fail> {
     let a = rt.alloc();
     assert_eq!(rt; switched(a, 3, Instruction::Nop)?, None, "a switch");
-    assert_eq!(rt; switched(a, 4, Instruction::Nop)?, Some(1), "an arm that leads nowhere");
-    assert_eq!(rt; switched(a, 3, int())?, Some(2), "an arm without the operand of the other");
+    assert_eq!(rt;
+        switched(a, 4, Instruction::Nop)?,
+        Some(1),
+        "an arm that leads nowhere"
+    );
+    assert_eq!(rt;
+        switched(a, 3, int())?,
+        Some(2),
+        "an arm without the operand of the other"
+    );
     let dead = vec![in a; end(), moves(StackName::Pop), moves(StackName::Pop)]?;
     assert_eq!(rt; verdict(a, &[], dead)?, None, "dead code");
-    let later = vec![in a; go(BranchName::Goto, 3), moves(StackName::Pop), end(), int(), go(BranchName::Goto, 1)]?;
+    let later = vec![in a;
+        go(BranchName::Goto, 3),
+        moves(StackName::Pop),
+        end(),
+        int(),
+        go(BranchName::Goto, 1),
+    ]?;
     assert_eq!(rt; verdict(a, &[], later)?, None, "reached from behind");
-    let wrong = vec![in a; go(BranchName::Goto, 3), moves(StackName::Pop2), end(), int(), go(BranchName::Goto, 1)]?;
-    assert_eq!(rt; verdict(a, &[], wrong)?, Some(4), "reached from behind with an int");
+    let wrong = vec![in a;
+        go(BranchName::Goto, 3),
+        moves(StackName::Pop2),
+        end(),
+        int(),
+        go(BranchName::Goto, 1),
+    ]?;
+    assert_eq!(rt;
+        verdict(a, &[], wrong)?,
+        Some(4),
+        "reached from behind with an int"
+    );
     let round = vec![in a; Instruction::Nop, go(BranchName::Goto, 0)]?;
     assert_eq!(rt; verdict(a, &[], round)?, None, "for ever");
     let off = vec![in a; int(), moves(StackName::Pop)]?;

@@ -27,10 +27,7 @@ pub fn verify(alloc: Global, linked: Linked) -> Result<Verified, VerifyError>
 }
 
 // The number of the first method that has no typing, with its offset at fault.
-fn first_fault(
-    alloc: Global,
-    methods: &[LinkedMethod],
-) -> Result<Option<(usize, u32)>, NoMemory>
+fn first_fault(alloc: Global, methods: &[LinkedMethod]) -> Result<Option<(usize, u32)>, NoMemory>
     ensures { IfOk result (IsFirstFault (program_over methods.now) (length methods.now)) }
 {
     for number in 0..methods.len() {

@@ -1,4 +1,4 @@
-use Rattle.std.proofs.Common.{◌≡◌, [], ◌∷◌, ◌++◌, None, ap, sym, ◌∙◌, true, false}
+use Rattle.std.proofs.Common.{◌≡◌, [], ◌∷◌, ◌++◌, sym, ◌∙◌, true, false}
 use Rattle.jvm_program.specs.Typing.{below}
 use Rattle.type_verifier.proofs.CallLaws.{no-argument, other-argument, next-argument}
 use Rattle.type_verifier.proofs.apply.taken_arguments.Goals as goal

@@ -1,4 +1,4 @@
-use Rattle.std.proofs.Common.{◌≡◌, sym, ap, ◌∙◌, true, false}
+use Rattle.std.proofs.Common.{sym, ap, ◌∙◌}
 use Rattle.jvm_program.specs.Typing.{no_top}
 use Rattle.type_verifier.specs.declared.frame.Frame.{Frame}
 use Rattle.type_verifier.proofs.JoinLaws.{IsJoin-copy, refused-first}

@@ -1,6 +1,6 @@
-use Rattle.std.proofs.Common.{◌≡◌, sym, ap, ◌∙◌, Some, None}
+use Rattle.std.proofs.Common.{sym, ap, ◌∙◌, Some, None}
 use Rattle.type_verifier.specs.declared.frame.Frame.{Frame}
-use Rattle.type_verifier.specs.Joins.{joined_stacks, joined_locals}
+use Rattle.type_verifier.specs.Joins.{joined_locals}
 use Rattle.type_verifier.proofs.JoinLaws.{IsJoin-from, joined-of, refused-join}
 use Rattle.type_verifier.proofs.meet.joined_frame.Goals as goal
 

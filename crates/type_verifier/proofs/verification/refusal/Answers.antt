@@ -1,4 +1,4 @@
-use Rattle.std.proofs.Common.{◌≡◌, ◌<◌, ◌≤◌, ◌-◌, length, subst, sym, ap, arith}
+use Rattle.std.proofs.Common.{◌<◌, ◌≤◌, ◌-◌, length, subst, sym, ap, arith}
 use Rattle.type_verifier.proofs.VerifyLaws.{IsLooking, first-look, next-look, place-from}
 use Rattle.type_verifier.proofs.verification.refusal.Goals as goal
 

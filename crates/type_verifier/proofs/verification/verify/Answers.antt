@@ -1,6 +1,3 @@
-use Rattle.std.proofs.Common.{◌≡◌, length, subst, Some, None}
-use Rattle.type_verifier.specs.Actions.{program_over}
-use Rattle.type_verifier.specs.Refusal.{IsFirstFault, IsPlace}
 use Rattle.type_verifier.proofs.VerifyLaws.{all-typed, refusal-from}
 use Rattle.type_verifier.proofs.verification.verify.Goals as goal
 

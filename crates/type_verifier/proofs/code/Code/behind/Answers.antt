@@ -1,4 +1,4 @@
-use Rattle.std.proofs.Common.{◌≤◌, refl, ap, subst, arith}
+use Rattle.std.proofs.Common.{◌≤◌, refl, subst, arith}
 use Rattle.jvm_program.specs.Typing.{slots_of}
 use Rattle.type_verifier.specs.Actions.{program_over}
 use Rattle.type_verifier.proofs.CallLaws.{length-slots}
@@ -13,6 +13,6 @@ returns-in-Some-clause-sized c new =
     let room : slots_of c.as_slice.result.now ≤ most = c.if-has_room.ensures.0 refl in
     let fits : slots_of b.stack ≤ most = subst (λ x. slots_of x ≤ most) c.as_slice.ensures room in
     record {
-  locals_fit = s c.args.self.now.method.now.locals new.locals_fit within;
-  stack_fits = omega (arith, length-slots b.stack, fits);
-}
+      locals_fit = s c.args.self.now.method.now.locals new.locals_fit within;
+      stack_fits = omega (arith, length-slots b.stack, fits);
+    }

@@ -1,4 +1,4 @@
-use Rattle.std.proofs.Common.{◌≡◌, ℕ, suc, ◌≤◌, length, subst, sym, false, true, add-one, arith}
+use Rattle.std.proofs.Common.{suc, subst, sym, add-one, arith}
 use Rattle.type_verifier.specs.Actions.{program_over}
 use Rattle.type_verifier.specs.Flow.{KeepsBelow}
 use Rattle.type_verifier.proofs.SettleLaws.{IsAdmitting, next-admitted, fails-at, typed-all, table-ends}

@@ -1,10 +1,9 @@
-use Rattle.std.proofs.Common.{◌≡◌, ◌<◌, get_or, set, length, subst, sym, ◌∙◌, true, false, Some, None, Option, arith}
+use Rattle.std.proofs.Common.{◌≡◌, ◌<◌, get_or, set, length, subst, sym, ◌∙◌, true, Some, None, arith}
 use Rattle.std.proofs.lemmas.List.{get_or_read}
-use Rattle.type_verifier.specs.declared.frame.Frame.{Frame}
 use Rattle.type_verifier.specs.Flow.{Flows, StaysBelow}
 use Rattle.type_verifier.specs.Frames.{type_frame, IsStill, IsJoin, IsAbove}
 use Rattle.type_verifier.proofs.CallLaws.{some-there}
-use Rattle.type_verifier.proofs.FlowLaws.{still-flows, changed-flows, changed-below, refused-below, work_with}
+use Rattle.type_verifier.proofs.FlowLaws.{still-flows, changed-flows, changed-below, refused-below}
 use Rattle.type_verifier.proofs.flow.Flow.flow.Goals as goal
 
 pub returns-in-Unchanged-clause-flows : goal.returns-in-Unchanged-clause-flows

@@ -6,9 +6,10 @@ use Rattle.type_verifier.proofs.flow.Flow.flow_to_all.Goals as goal
 pub loop-target-init : goal.loop-target-init
 loop-target-init c =
     let a = c.args in
-    let frames = a.self.now.frames.items in
-    (no-flows a.code.now.method.now a.limit (type_frame a.frame.now) frames a.self.now.work.items,
-    still-nothing a.code.now.method.now (type_frame a.frame.now) a.targets.now frames)
+    let frames = a.self.now.frames.items in (
+      no-flows a.code.now.method.now a.limit (type_frame a.frame.now) frames a.self.now.work.items,
+      still-nothing a.code.now.method.now (type_frame a.frame.now) a.targets.now frames,
+    )
 
 pub loop-target-preserved : goal.loop-target-preserved
 loop-target-preserved c =
@@ -20,7 +21,8 @@ loop-target-preserved c =
     let frames = a.self.now.frames.items in
     let then' = c.loop-target.self in
     let after = c.flow.new.self in
-    let inv = c.loop-target.invariant in
-    (more-flows m a.limit f a.targets.now i to frames a.self.now.work.items then'.frames.items then'.work.items after.frames.items after.work.items c.loop-target-test.true refl inv.0 (c.in_ok-flow.ensures.flows c.if-not-branch.false),
-    still-from m f a.targets.now frames after.frames.items c.in_ok-flow.field-0
-    (more-below m f a.targets.now i to frames then'.frames.items after.frames.items c.in_ok-flow.field-0 c.loop-target-test.true refl inv.1 c.in_ok-flow.ensures.below))
+    let inv = c.loop-target.invariant in (
+      more-flows m a.limit f a.targets.now i to frames a.self.now.work.items then'.frames.items then'.work.items after.frames.items after.work.items c.loop-target-test.true refl inv.0 (c.in_ok-flow.ensures.flows c.if-not-branch.false),
+      still-from m f a.targets.now frames after.frames.items c.in_ok-flow.field-0
+          (more-below m f a.targets.now i to frames then'.frames.items after.frames.items c.in_ok-flow.field-0 c.loop-target-test.true refl inv.1 c.in_ok-flow.ensures.below),
+    )

@@ -1,4 +1,4 @@
-use Rattle.std.proofs.Common.{take, true}
+use Rattle.std.proofs.Common.{take}
 use Rattle.type_verifier.specs.Flow.{FlowsToAll}
 use Rattle.type_verifier.specs.Frames.{type_frame}
 use Rattle.type_verifier.proofs.FlowLaws.{StillBelow}

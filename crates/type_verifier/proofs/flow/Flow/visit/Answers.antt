@@ -1,4 +1,4 @@
-use Rattle.std.proofs.Common.{◌≡◌, ◌<◌, get_or, length, subst, sym, ap, ◌∙◌, Some, None, Option, arith, true, Bool}
+use Rattle.std.proofs.Common.{◌≡◌, ◌<◌, get_or, length, subst, sym, ◌∙◌, Some, None, arith, true, Bool}
 use Rattle.std.proofs.lemmas.List.{get_or_read}
 use Rattle.std.proofs.lemmas.Result.{IfOk-weaker}
 use Rattle.jvm_program.specs.Program.{successors}
@@ -58,8 +58,8 @@ returns-clause-visits c =
     let Q : Bool → Type 0 = λ good. good ≡ true → Visits p m a.limit a.at frames work after.frames.items after.work.items in
     IfOk-weaker c.flow_to_all.result P Q
     (λ good flows is.
-      visited p m a.limit a.at line (type_frame f) (type_frame b) frames work after.frames.items after.work.items (sym c.in-Some.ensures.found) (frame_at-is frames a.at f here) enters
-      (subst (λ x. FlowsToAll m a.limit (type_frame b) x frames work after.frames.items after.work.items) targets (flows is)))
+    visited p m a.limit a.at line (type_frame f) (type_frame b) frames work after.frames.items after.work.items (sym c.in-Some.ensures.found) (frame_at-is frames a.at f here) enters
+    (subst (λ x. FlowsToAll m a.limit (type_frame b) x frames work after.frames.items after.work.items) targets (flows is)))
     c.flow_to_all.ensures.flows
 
 pub returns-clause-below : goal.returns-clause-below
@@ -78,6 +78,6 @@ returns-clause-below c =
     let targets : c.deref.result.now ≡ successors line = c.deref.ensures.value ∙ c.in_ok-targets.ensures in
     IfOk-weaker c.flow_to_all.result (λ good. AllStayBelow m (type_frame b) c.deref.result.now frames good after) (λ good. KeepsBelow p m a.limit frames good after)
     (λ good all.
-      visited-below p m a.limit a.at line (type_frame f) (type_frame b) frames good after c.requires.admitted (sym c.in-Some.ensures.found) (frame_at-is frames a.at f here) enters
-      (subst (λ x. AllStayBelow m (type_frame b) x frames good after) targets all))
+    visited-below p m a.limit a.at line (type_frame f) (type_frame b) frames good after c.requires.admitted (sym c.in-Some.ensures.found) (frame_at-is frames a.at f here) enters
+    (subst (λ x. AllStayBelow m (type_frame b) x frames good after) targets all))
     c.flow_to_all.ensures.below
