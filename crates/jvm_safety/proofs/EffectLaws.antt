@@ -24,16 +24,16 @@ use Rattle.jvm_program.specs.declared.linked_method.LinkedMethod.{LinkedMethod}
 use Rattle.jvm_program.specs.declared.instruction.Instruction.{Instruction}
 use Rattle.jvm_program.specs.declared.instruction.Instruction.TheVariants as instructions
 use Rattle.jvm_program.specs.Values as values
-use Rattle.jvm_program.specs.Values.{ints, pages, Heap, reference, array_length, is_int, is_long, is_ints, is_pages, is_null, is_ints_reference, is_pages_reference, is_text_reference, new_array, with_new, with_int, with_page, conforms}
+use Rattle.jvm_program.specs.Values.{ints, pages, Heap, reference, array_length, is_int, is_long, is_ints, is_pages, is_ints_reference, new_array, with_new, with_int, with_page, conforms}
 use Rattle.jvm_program.specs.declared.value.Value.{Value}
 use Rattle.jvm_program.specs.declared.value.Value.TheVariants.{Unset as unset, Int as int, Long as long, Null as null, Array as array, Text as text}
 use Rattle.jvm_program.specs.Words.{int_result, int_quotient, int_shifted, long_result, long_quotient, long_shifted, long_order}
 use Rattle.jvm_program.specs.Shuffles.{Shuffle, forms_of, shuffled}
 use Rattle.jvm_program.specs.Program.{Program, targets_of, falls_through}
 use Rattle.jvm_program.specs.Effect as effects
-use Rattle.jvm_program.specs.Effect.{Workspace, Effect, goes_on, jumps, enters, gives, asks_host, faults, traps, wrong, with_operands, with_heap, pushes, popping, as_int, as_long, popping_int, popping_long, popping_ints, popping_longs, as_array, as_ints, as_pages, as_element, constant_value, is_reference, moves, with_local, divides, converts, within, accesses, allocates, pushes_length, measures, as_text, character, chooses, compares, tests, as_nullness, tests_null, branches, table_target, lookup_target, same, with_field, puts, last_first, arguments, calls, as_table, calls_host, faults_host, returned, moved, effect}
+use Rattle.jvm_program.specs.Effect.{Workspace, Effect, goes_on, jumps, with_operands, pushes, popping_int, constant_value, is_reference, moves, converts, accesses, allocates, measures, character, chooses, compares, tests, tests_null, branches, table_target, lookup_target, same, puts, last_first, arguments, calls, calls_host, faults_host, returned, moved, effect}
 use Rattle.jvm_program.specs.Typing as types
-use Rattle.jvm_program.specs.Typing.{TypeFrame, TypeEffect, same_kind, is_reference_kind, exchanges, takes_reference, takes_array, shuffles, never, constant_kind, access_type, conversion_type, branch_type, given_by, call_type, return_type, array_type, type_effect, with_stack, with_local_kind, taken, taken_one, is_array_kind, moves_kind, stored, applied, NamesField, GivesAs, no_top, is_long_kind}
+use Rattle.jvm_program.specs.Typing.{TypeFrame, same_kind, is_reference_kind, exchanges, takes_reference, takes_array, shuffles, constant_kind, access_type, conversion_type, branch_type, given_by, call_type, return_type, array_type, type_effect, with_stack, with_local_kind, taken, taken_one, is_array_kind, moves_kind, stored, applied, NamesField, no_top, is_long_kind}
 use Rattle.jvm_safety.specs.Safety.{Conform, FieldsAreSafe, given, is_array_reference}
 use Rattle.jvm_safety.proofs.KindLaws.{tested, some_same, Conform-taken}
 use Rattle.jvm_safety.proofs.HeapLaws.{Conform-kept, continues_itself, continues_new, continues_int, continues_page}

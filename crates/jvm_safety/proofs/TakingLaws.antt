@@ -8,12 +8,11 @@ use Rattle.jvm_program.specs.declared.kind.Kind.TheVariants.{Int, Long}
 use Rattle.jvm_program.specs.declared.linked_method.LinkedMethod.{LinkedMethod}
 use Rattle.jvm_program.specs.declared.instruction.Instruction.{Instruction}
 use Rattle.jvm_program.specs.Values as values
-use Rattle.jvm_program.specs.Values.{ints, pages, Heap, reference, array_length, is_int, is_long, is_ints, is_pages, is_null, is_ints_reference, is_pages_reference, is_text_reference, new_array, with_new, with_int, with_page, conforms}
+use Rattle.jvm_program.specs.Values.{ints, pages, Heap, reference, is_int, is_long, is_ints, is_pages, is_ints_reference, is_pages_reference, is_text_reference, conforms}
 use Rattle.jvm_program.specs.declared.value.Value.{Value}
 use Rattle.jvm_program.specs.declared.value.Value.TheVariants.{Unset as unset, Int as int, Long as long, Null as null, Array as array, Text as text}
 use Rattle.jvm_program.specs.Program.{Program, targets_of, falls_through}
-use Rattle.jvm_program.specs.Effect as effects
-use Rattle.jvm_program.specs.Effect.{Workspace, Effect, goes_on, jumps, enters, gives, asks_host, faults, traps, wrong, with_operands, with_heap, pushes, popping, as_int, as_long, popping_int, popping_long, popping_ints, popping_longs, as_array, as_ints, as_pages, as_element, constant_value, is_reference, moves, with_local, divides, converts, within, accesses, allocates, pushes_length, measures, as_text, character, chooses, compares, tests, as_nullness, tests_null, branches, table_target, lookup_target, same, with_field, puts, last_first, arguments, calls, as_table, calls_host, faults_host, returned, moved, effect}
+use Rattle.jvm_program.specs.Effect.{Workspace, Effect, goes_on, jumps, enters, gives, asks_host, faults, traps, index_trap, with_operands, with_heap, popping, as_int, as_long, popping_int, popping_long, popping_ints, popping_longs, as_array, as_element, is_reference, within, as_text, as_nullness, as_table}
 use Rattle.jvm_program.specs.Typing.{TypeFrame, exchanges, given_by, with_stack, taken, applied, GivesAs}
 use Rattle.jvm_safety.specs.Safety.{Conform, HeapIsSafe, FieldsAreSafe, given, is_array_reference}
 use Rattle.jvm_safety.proofs.KindLaws.{some_same, Conform-taken}
@@ -151,7 +150,7 @@ module _ {program : Program} {before : Heap} {by : Instruction} {g : TypeFrame} 
   pub on_within : (e : Effect) (i size : ℕ) → (i < size → Leaves program before by g e) → Leaves program before by g (within i size e)
   on_within e i size h = by_test (nat_lt i size) refl
     where
-      by_test : (b : Bool) → nat_lt i size ≡ b → Leaves program before by g (if b then e else traps effects.index_trap)
+      by_test : (b : Bool) → nat_lt i size ≡ b → Leaves program before by g (if b then e else traps index_trap)
       by_test true t = h (grind (arith, nat_tests))
       by_test false t = trapped (λ z. omega arith)
 
