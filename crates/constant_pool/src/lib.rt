@@ -19,8 +19,11 @@ mod text_reading;
 pub use class_format::ClassFault;
 pub use entry::Entry;
 pub use error::{NoMemory, PoolError, ReadError};
-pub use lookups::text_of;
-pub use names::{is_class_name, is_field_descriptor, is_member_name, is_method_descriptor};
+pub use lookups::{class_name_of, entry_of, text_of};
+pub use names::{
+    after_field, is_array_name, is_class_name, is_field_descriptor, is_member_name,
+    is_method_descriptor,
+};
 pub use pool::Pool;
 pub use pool_reading::{entries_of, read_pool};
 pub use slots::Slots;

@@ -122,9 +122,9 @@ fn after_parameters(text: &[u16]) -> Option<&[u16]>
     after(rest, &[41])
 }
 
-// What follows a field descriptor at the front.
+/// What follows a field descriptor at the front of a text; None exactly where none stands there.
 #[tactic(auto, unfolding(crate::specs::Names::after_field))]
-fn after_field(text: &[u16]) -> Option<&[u16]>
+pub fn after_field(text: &[u16]) -> Option<&[u16]>
     ensures { option_map (λ x. x.now) result ≡ profile.after_field text.now }
 {
     if let Some(rest) = after(text, &[73]) {

@@ -59,10 +59,15 @@ front_kind cs =
     else if starts_with nat_eq cs (codes "[[I") then kinds.Pages
     else kinds.Text
 
+-- the type of a parameter and those of the others, if there is one
+abbrev pub then_kinds : (List ℕ → List Kind) → Kind → Option (List ℕ) → List Kind
+then_kinds others kind None = []
+then_kinds others kind (Some rest) = kind ∷ others rest
+
 -- the types of at most so many parameters, and the first one's before the others
-abbrev pub parameters_from : ℕ → List ℕ → List Kind
+unfoldable pub parameters_from : ℕ → List ℕ → List Kind
 parameters_from zero cs = []
-parameters_from (suc n) cs = elim (after_field cs) [ None ↦ [] | Some rest ↦ front_kind cs ∷ parameters_from n rest ]
+parameters_from (suc n) cs = then_kinds (parameters_from n) (front_kind cs) (after_field cs)
 
 abbrev pub parameters_of : List ℕ → List Kind
 parameters_of [] = []
@@ -99,21 +104,25 @@ abbrev pub call_of : Option ℕ → Instruction
 call_of None = instructions.Wrong
 call_of (Some n) = instructions.Call n
 
+-- a method of the host
+abbrev pub host_method : Signature → Instruction
+host_method s =
+    if same_signature s host_call_signature then instructions.CallHost
+    else if same_signature s host_fault_signature then instructions.FaultHost else instructions.Wrong
+
 -- a call of a method of the classes, or of the host
 abbrev pub static_call : List Class → Reference → Instruction
-static_call classes r =
-    if same_text r.class_name host_name
-    then if same_signature r.signature host_call_signature then instructions.CallHost
-    else if same_signature r.signature host_fault_signature then instructions.FaultHost else instructions.Wrong
-    else call_of (method_number classes r)
+static_call classes r = if same_text r.class_name host_name then host_method r.signature else call_of (method_number classes r)
+
+-- a method of strings
+abbrev pub string_method : Signature → Instruction
+string_method s =
+    if same_signature s length_signature then instructions.Length
+    else if same_signature s char_at_signature then instructions.CharAt else instructions.Wrong
 
 -- a call of a method of strings
 abbrev pub string_call : Reference → Instruction
-string_call r =
-    if same_text r.class_name string_name
-    then if same_signature r.signature length_signature then instructions.Length
-    else if same_signature r.signature char_at_signature then instructions.CharAt else instructions.Wrong
-    else instructions.Wrong
+string_call r = if same_text r.class_name string_name then string_method r.signature else instructions.Wrong
 
 abbrev pub call_instruction : (Reference → Instruction) → Class → Option Entry → Instruction
 call_instruction call c (Some (entries.MethodRef class name)) = call (reference (class_name_at c class) (signature_at c name))

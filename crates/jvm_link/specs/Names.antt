@@ -98,14 +98,16 @@ is_named name c = same_text name (own_name c)
 abbrev pub has_class : List Class → List ℕ → Bool
 has_class classes name = list_any (is_named name) classes
 
--- the fields and methods of the classes of a name, of which there is one at most
+-- the members of the class of a name, of which there is one at most, and others where there is none
+abbrev pub members_named : (Class → List Signature) → List Signature → List Class → List ℕ → List Signature
+members_named members others [] name = others
+members_named members others (c ∷ classes) name = if is_named name c then members c else members_named members others classes name
+
 abbrev pub fields_named : List Class → List ℕ → List Signature
-fields_named [] name = []
-fields_named (c ∷ classes) name = if is_named name c then fields_of c else fields_named classes name
+fields_named classes name = members_named fields_of [] classes name
 
 abbrev pub methods_named : List Class → List ℕ → List Signature
-methods_named [] name = known_methods name
-methods_named (c ∷ classes) name = if is_named name c then methods_of c else methods_named classes name
+methods_named classes name = members_named methods_of (known_methods name) classes name
 
 -- ---- fields and methods by their numbers, class by class
 

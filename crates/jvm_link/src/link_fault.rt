@@ -22,3 +22,14 @@ pub enum LinkError {
     Refused(LinkFault),
     NoMemory,
 }
+
+impl From<AllocError> for LinkError {
+    ghost use Rattle.std.specs.Prelude.{◌≡◌};
+    ghost use Rattle.jvm_link.specs.declared.link_fault.LinkError.TheVariants.{NoMemory};
+
+    ghost from_gives = { λ _ e. e ≡ NoMemory };
+
+    fn from(_error: AllocError) -> LinkError {
+        LinkError::NoMemory
+    }
+}

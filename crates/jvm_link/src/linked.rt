@@ -1,7 +1,9 @@
-ghost use Rattle.std.specs.Prelude.{◌≡◌, Option, None};
+ghost use Rattle.std.specs.Prelude.{◌≡◌, Option, None, All};
+ghost use Rattle.jvm_link.specs.Kept.{IsClass};
 ghost use Rattle.jvm_link.specs.Faults.{link_fault};
 ghost use Rattle.jvm_link.specs.Linking.{field_kinds, linked_methods, first_method};
 
+use crate::lookups::text_of;
 use class_format::Sequence;
 use jvm_code::Class;
 use jvm_program::{Kind, LinkedMethod};
@@ -16,8 +18,38 @@ pub struct Linked {
     pub methods: Sequence<LinkedMethod>,
     /// The number of the method `run()V` of the first class.
     pub first: u32,
+    pub ghost kept: { All IsClass classes },
     pub ghost faultless: { link_fault classes ≡ None },
     pub ghost fields_are: { fields ≡ field_kinds classes },
     pub ghost methods_are: { methods ≡ linked_methods classes },
     pub ghost first_is: { first ≡ first_method classes },
+}
+
+impl Linked {
+    ghost use Rattle.std.specs.Prelude.{length, slice_get};
+    ghost use Rattle.jvm_link.specs.Linking.{program_of};
+
+    /// A character of a text, by the number of its class, its slot and its place; None exactly where the text ends before. It takes
+    /// no memory.
+    pub fn character(&self, class: u16, slot: u16, i: u32) -> Option<u16>
+        ensures { result ≡ slice_get ((program_of self.now.classes).characters class slot) i }
+    {
+        self.characters(class, slot).get(i as usize).copied()
+    }
+
+    /// The number of characters of a text, by the number of its class and its slot. It takes no memory.
+    pub fn characters_len(&self, class: u16, slot: u16) -> u32
+        ensures { result ≡ length ((program_of self.now.classes).characters class slot) }
+    {
+        self.characters(class, slot).len() as u32
+    }
+
+    fn characters(&self, class: u16, slot: u16) -> &[u16]
+        ensures { result.now ≡ (program_of self.now.classes).characters class slot }
+    {
+        match self.classes.as_slice().get(class as usize) {
+            Some(class) => text_of(class, slot),
+            None => &[],
+        }
+    }
 }

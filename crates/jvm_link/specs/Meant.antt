@@ -1,0 +1,8 @@
+-- Classes of which no name stands twice, and in which each name means something.
+use Rattle.std.specs.Prelude.{◌≡◌, List, [], None}
+use Rattle.jvm_code.specs.declared.class.Class.{Class}
+use Rattle.jvm_link.specs.Faults.{twice_fault, references_fault}
+
+pub record IsMeant (classes : List Class) : Type 0 where
+  pub once : twice_fault [] 0 classes ≡ None
+  pub there : references_fault classes 0 classes ≡ None

@@ -1,0 +1,123 @@
+//! Methods with their code.
+ghost use Rattle.std.specs.Prelude.{◌≡◌, ◌≤◌, ◌<◌, ◌++◌, ◌+◌, map, IfOk, OnOk, None, length};
+ghost use Rattle.jvm_code.specs.Code.{code_fault};
+ghost use Rattle.jvm_code.specs.Writing.{AreLaid, size_at};
+ghost use Rattle.jvm_link.specs.Linking as linking;
+ghost use Rattle.jvm_link.specs.Keys.{IsNumbered, classes_in};
+
+use crate::instructions::linked_instruction;
+use crate::kinds::{gives_int, parameters_of};
+use crate::link_fault::NoMemory;
+use crate::lookups::text_of;
+use crate::names::Names;
+use crate::numbered_class::NumberedClass;
+use class_format::Sequence;
+use jvm_code::{Line, Method, decode_ops, size};
+use jvm_program::{LinkedLine, LinkedMethod};
+use std::alloc::{AllocError, Global};
+
+/// The methods of all classes, class by class.
+pub fn linked_methods(alloc: Global, names: &Names) -> Result<Vec<LinkedMethod>, NoMemory>
+    requires { length names.now.numbered.classes.items ≤ 1024 }
+    ensures { IfOk result (λ methods. methods.items ≡ linking.linked_methods (classes_in names.now.numbered.classes.items)) }
+{
+    let mut methods = Vec::new(alloc);
+    for (number, class) in names.numbered.classes.iter().enumerate() {
+        push_methods(alloc, &mut methods, names, number as u16, class)?;
+    }
+    Ok(methods)
+}
+
+// Adds the methods of a class with a number.
+fn push_methods(
+    alloc: Global,
+    methods: &mut Vec<LinkedMethod>,
+    names: &Names,
+    number: u16,
+    class: &NumberedClass,
+) -> Result<(), NoMemory>
+    requires { IsNumbered names.now.numbered.texts.keys class.now }
+    ensures { OnOk result (methods.new.items ≡ methods.old.items ++ map (linking.linked_method (classes_in names.now.numbered.classes.items) number class.now.class.now) class.now.class.now.methods) }
+{
+    for method in class.class.methods.as_slice() {
+        let linked = linked_method(alloc, names, number, class, method)?;
+        methods.push(linked)?;
+    }
+    Ok(())
+}
+
+#[tactic(auto, unfolding(crate::specs::Linking::linked_method))]
+fn linked_method(
+    alloc: Global,
+    names: &Names,
+    number: u16,
+    class: &NumberedClass,
+    method: &Method,
+) -> Result<LinkedMethod, NoMemory>
+    requires numbered { IsNumbered names.now.numbered.texts.keys class.now }
+    requires sound { code_fault method.now.code ≡ None }
+    ensures { IfOk result (λ linked. linked ≡ linking.linked_method (classes_in names.now.numbered.classes.items) number class.now.class.now method.now) }
+{
+    let descriptor = text_of(class.class, method.desc);
+    let gives_int = gives_int(descriptor);
+    let parameters = parameters_of(alloc, descriptor)?;
+    let code = lines_of(alloc, method.code.as_slice())?;
+    let lines = linked_lines(alloc, names, number, class, gives_int, code)?;
+    Ok(LinkedMethod {
+        parameters: Sequence::new(parameters),
+        gives_int,
+        stack: method.stack,
+        locals: method.locals,
+        lines: Sequence::new(lines),
+    })
+}
+
+// The lines of code without a fault.
+fn lines_of(alloc: Global, code: &[u8]) -> Result<Vec<Line>, NoMemory>
+    requires { code_fault code.now ≡ None }
+    ensures lines { IfOk result (λ lines. lines.items ≡ linking.lines_of code.now) }
+    ensures laid { IfOk result (λ lines. AreLaid 0 lines.items) }
+{
+    match decode_ops(alloc, code) {
+        Ok(lines) => Ok(lines),
+        Err(_) => Err(AllocError),
+    }
+}
+
+fn linked_lines(
+    alloc: Global,
+    names: &Names,
+    number: u16,
+    class: &NumberedClass,
+    gives: bool,
+    lines: Vec<Line>,
+) -> Result<Vec<LinkedLine>, NoMemory>
+    requires numbered { IsNumbered names.now.numbered.texts.keys class.now }
+    requires laid { AreLaid 0 lines.items }
+    ensures { IfOk result (λ linked. linked.items ≡ map (linking.linked_line (classes_in names.now.numbered.classes.items) number class.now.class.now gives) lines.items) }
+{
+    let mut linked = Vec::new(alloc);
+    for line in lines {
+        linked.push(linked_line(names, number, class, gives, line))?;
+    }
+    Ok(linked)
+}
+
+fn linked_line(
+    names: &Names,
+    number: u16,
+    class: &NumberedClass,
+    gives: bool,
+    line: Line,
+) -> LinkedLine
+    requires numbered { IsNumbered names.now.numbered.texts.keys class.now }
+    requires within { line.at + size_at line.at line.op ≤ 65535 }
+    ensures { result ≡ linking.linked_line (classes_in names.now.numbered.classes.items) number class.now.class.now gives line }
+{
+    let next = line.at + size(&line.op, line.at);
+    LinkedLine {
+        at: line.at,
+        next,
+        instruction: linked_instruction(names, number, class, gives, line.op),
+    }
+}
