@@ -164,6 +164,7 @@ before_more texts are names after before is x numbered made = λ n text h.
     or_of : (a b : Bool) → cond a true b ≡ (a || b)
     or_of true b = refl
     or_of false b = refl
+
     turned : (n : ℕ) → nat_eq (own_number x) n ≡ nat_eq n (own_number x)
     turned n = nat_eq_equiv.symm (own_number x) n
 

@@ -32,6 +32,7 @@ use Rattle.jvm_program.specs.Typing.{NamesField, IsLinked}
 use Rattle.jvm_link.specs.Names.{text_of, class_name_at, own_name, Signature, signature, same_signature, signature_at, Reference, reference, same_reference, field_signature, method_signature, methods_of, all_fields, all_methods, field_number, method_number, string_name, host_name, length_signature, char_at_signature, host_call_signature, host_fault_signature}
 use Rattle.jvm_link.specs.Faults.{run_signature, has_run, no_run, at_class, link_fault}
 use Rattle.jvm_link.specs.Linking.{kind_of, parameters_from, parameters_of, gives_int, field_kind, field_kinds, field_of, field_instruction, call_of, host_method, static_call, string_method, string_call, call_instruction, word_constant, long_constant, array_instruction, pool_instruction, local_instruction, return_instruction, linked_instruction, linked_line, lines_of, linked_method, methods_from, linked_methods, first_method, program_of}
+use Rattle.jvm_link.proofs.ReturnLaws.{returns_are}
 use Rattle.jvm_link.proofs.PlaceLemmas.{position-cons}
 use Rattle.jvm_link.proofs.RunLemmas.{run_found, run_there}
 
@@ -317,6 +318,7 @@ linked_if cs h =
     let first = first_is cs h in
     record {
       fields = λ m method at line is there. one_named cs (linked_methods cs) (all_methods_named cs 0 cs) m method is at line there;
+      returns = λ m method at line is there. returns_are cs m method is at line there;
       first = first.method;
       first_is = first.is;
       takes_nothing = first.takes_nothing;

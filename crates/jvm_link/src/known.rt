@@ -15,22 +15,28 @@ const STRING: [u16; 16] = [
 ];
 
 /// `nestedvm/Host`.
-const HOST: [u16; 13] = [110, 101, 115, 116, 101, 100, 118, 109, 47, 72, 111, 115, 116];
+const HOST: [u16; 13] = [
+    110, 101, 115, 116, 101, 100, 118, 109, 47, 72, 111, 115, 116,
+];
 
 /// `length` and `()I`.
 const LENGTH: [u16; 6] = [108, 101, 110, 103, 116, 104];
+
 const LENGTH_DESCRIPTOR: [u16; 3] = [40, 41, 73];
 
 /// `charAt` and `(I)C`.
 const CHAR_AT: [u16; 6] = [99, 104, 97, 114, 65, 116];
+
 const CHAR_AT_DESCRIPTOR: [u16; 4] = [40, 73, 41, 67];
 
 /// `call` and `([[I[[IIIIII)I`.
 const CALL: [u16; 4] = [99, 97, 108, 108];
+
 const CALL_DESCRIPTOR: [u16; 14] = [40, 91, 91, 73, 91, 91, 73, 73, 73, 73, 73, 73, 41, 73];
 
 /// `fault` and `(III)V`.
 const FAULT: [u16; 5] = [102, 97, 117, 108, 116];
+
 const FAULT_DESCRIPTOR: [u16; 6] = [40, 73, 73, 73, 41, 86];
 
 /// Whether a class of this name is known.

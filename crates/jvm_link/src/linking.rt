@@ -35,6 +35,7 @@ pub fn link(alloc: Global, classes: Vec<Class, Global>) -> Result<Linked, LinkEr
     ensures linked { IfOk result (λ linked. linked.classes ≡ classes.items) }
     ensures refused { IfErr result (IsAnswer (link_fault classes.items)) }
     ensures well_linked { IfOk result (λ linked. IsLinked (linking.program_of linked.classes)) }
+    ensures laid { IfOk result (λ linked. All linking.IsLaid linked.methods) }
 {
     if classes.len() > CLASSES {
         return Err(LinkError::Refused(LinkFault {
@@ -67,6 +68,7 @@ fn program_of(alloc: Global, classes: &[Class]) -> Result<LinkedProgram, LinkErr
     ensures faultless { OnOk result (link_fault classes.now ≡ None) }
     ensures fields { IfOk result (λ program. program.fields ≡ linking.field_kinds classes.now) }
     ensures methods { IfOk result (λ program. program.methods ≡ linking.linked_methods classes.now) }
+    ensures laid { IfOk result (λ program. All linking.IsLaid program.methods) }
     ensures first { IfOk result (λ program. program.first ≡ linking.first_method classes.now) }
 {
     let names = names_of(alloc, classes)?;
@@ -74,11 +76,7 @@ fn program_of(alloc: Global, classes: &[Class]) -> Result<LinkedProgram, LinkErr
 }
 
 // What classes are linked to, whose names mean something.
-fn program_by(
-    alloc: Global,
-    names: &Names,
-    classes: &[Class],
-) -> Result<LinkedProgram, LinkError>
+fn program_by(alloc: Global, names: &Names, classes: &[Class]) -> Result<LinkedProgram, LinkError>
     requires kept { All IsClass classes.now }
     requires few { length classes.now ≤ 1024 }
     requires meant { IsMeant classes.now }
@@ -87,6 +85,7 @@ fn program_by(
     ensures faultless { OnOk result (link_fault classes.now ≡ None) }
     ensures fields { IfOk result (λ program. program.fields ≡ linking.field_kinds classes.now) }
     ensures methods { IfOk result (λ program. program.methods ≡ linking.linked_methods classes.now) }
+    ensures laid { IfOk result (λ program. All linking.IsLaid program.methods) }
     ensures first { IfOk result (λ program. program.first ≡ linking.first_method classes.now) }
 {
     let first = first_of(classes)?;

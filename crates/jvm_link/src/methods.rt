@@ -1,8 +1,10 @@
 //! Methods with their code.
-ghost use Rattle.std.specs.Prelude.{◌≡◌, ◌≤◌, ◌<◌, ◌++◌, ◌+◌, map, IfOk, OnOk, None, length};
+ghost use Rattle.std.specs.Prelude.{◌≡◌, ◌≤◌, ◌<◌, ◌++◌, ◌+◌, map, IfOk, OnOk, None, length, All};
 ghost use Rattle.jvm_code.specs.Code.{code_fault};
 ghost use Rattle.jvm_code.specs.Writing.{AreLaid, size_at};
+ghost use Rattle.jvm_program.specs.Program.{LaidFrom};
 ghost use Rattle.jvm_link.specs.Linking as linking;
+ghost use Rattle.jvm_link.specs.Linking.{IsLaid};
 ghost use Rattle.jvm_link.specs.Keys.{IsNumbered, classes_in};
 
 use crate::instructions::linked_instruction;
@@ -19,7 +21,8 @@ use std::alloc::{AllocError, Global};
 /// The methods of all classes, class by class.
 pub fn linked_methods(alloc: Global, names: &Names) -> Result<Vec<LinkedMethod>, NoMemory>
     requires { length names.now.numbered.classes.items ≤ 1024 }
-    ensures { IfOk result (λ methods. methods.items ≡ linking.linked_methods (classes_in names.now.numbered.classes.items)) }
+    ensures methods { IfOk result (λ methods. methods.items ≡ linking.linked_methods (classes_in names.now.numbered.classes.items)) }
+    ensures laid { IfOk result (λ methods. All IsLaid methods.items) }
 {
     let mut methods = Vec::new(alloc);
     for (number, class) in names.numbered.classes.iter().enumerate() {
@@ -36,8 +39,10 @@ fn push_methods(
     number: u16,
     class: &NumberedClass,
 ) -> Result<(), NoMemory>
-    requires { IsNumbered names.now.numbered.texts.keys class.now }
-    ensures { OnOk result (methods.new.items ≡ methods.old.items ++ map (linking.linked_method (classes_in names.now.numbered.classes.items) number class.now.class.now) class.now.class.now.methods) }
+    requires numbered { IsNumbered names.now.numbered.texts.keys class.now }
+    requires laid { All IsLaid methods.old.items }
+    ensures methods { OnOk result (methods.new.items ≡ methods.old.items ++ map (linking.linked_method (classes_in names.now.numbered.classes.items) number class.now.class.now) class.now.class.now.methods) }
+    ensures laid { OnOk result (All IsLaid methods.new.items) }
 {
     for method in class.class.methods.as_slice() {
         let linked = linked_method(alloc, names, number, class, method)?;
@@ -56,7 +61,8 @@ fn linked_method(
 ) -> Result<LinkedMethod, NoMemory>
     requires numbered { IsNumbered names.now.numbered.texts.keys class.now }
     requires sound { code_fault method.now.code ≡ None }
-    ensures { IfOk result (λ linked. linked ≡ linking.linked_method (classes_in names.now.numbered.classes.items) number class.now.class.now method.now) }
+    ensures method { IfOk result (λ linked. linked ≡ linking.linked_method (classes_in names.now.numbered.classes.items) number class.now.class.now method.now) }
+    ensures laid { IfOk result IsLaid }
 {
     let descriptor = text_of(class.class, method.desc);
     let gives_int = gives_int(descriptor);
@@ -94,7 +100,8 @@ fn linked_lines(
 ) -> Result<Vec<LinkedLine>, NoMemory>
     requires numbered { IsNumbered names.now.numbered.texts.keys class.now }
     requires laid { AreLaid 0 lines.items }
-    ensures { IfOk result (λ linked. linked.items ≡ map (linking.linked_line (classes_in names.now.numbered.classes.items) number class.now.class.now gives) lines.items) }
+    ensures lines { IfOk result (λ linked. linked.items ≡ map (linking.linked_line (classes_in names.now.numbered.classes.items) number class.now.class.now gives) lines.items) }
+    ensures laid { IfOk result (λ linked. LaidFrom 0 linked.items) }
 {
     let mut linked = Vec::new(alloc);
     for line in lines {

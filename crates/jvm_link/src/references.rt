@@ -59,10 +59,7 @@ fn class_fault(names: &Names, class: &NumberedClass, name: u16) -> Option<u32>
     ensures { result ≡ (if faults.is_class (classes_in names.now.numbered.classes.items) (words.text_of class.now.class.now name) then None else Some faults.no_class) }
 {
     let text = text_of(class.class, name);
-    if is_array_name(text)
-        || is_known(text)
-        || names.class_names.contains(&class.number(name))
-    {
+    if is_array_name(text) || is_known(text) || names.class_names.contains(&class.number(name)) {
         None
     } else {
         Some(2)

@@ -1,4 +1,4 @@
-use Rattle.std.proofs.Common.{◌≡◌, ◌+◌, List, length, subst, sym, arith}
+use Rattle.std.proofs.Common.{◌≡◌, ◌+◌, List, length, map, subst, sym, arith}
 use Rattle.std.proofs.lemmas.List.{nil_from_length}
 use Rattle.jvm_code.specs.declared.line.Line.{Line}
 use Rattle.std.specs.Vec.Iter.{into_iter_items}
@@ -6,6 +6,9 @@ use Rattle.jvm_code.specs.Writing.{AreLaid, size_at}
 use Rattle.jvm_link.specs.Keys.{classes_in}
 use Rattle.jvm_link.specs.Linking.{linked_line}
 use Rattle.jvm_link.proofs.MethodLemmas.{laid_first, map_begins, map_goes, map_ends}
+use Rattle.jvm_program.specs.declared.linked_line.LinkedLine.{LinkedLine}
+use Rattle.jvm_program.specs.Program.{LaidFrom}
+use Rattle.jvm_link.proofs.LaidLemmas.{laid_lines}
 use Rattle.jvm_link.proofs.methods.linked_lines.Goals as goal
 
 pub loop-line-init : goal.loop-line-init
@@ -38,9 +41,18 @@ loop-line-preserved c =
           (into_iter_items c.loop-line.line-iterator) (into_iter_items c.next.new.self) c.in-Some.line c.linked_line.result _ c.in-Some.ensures.steps.0 c.linked_line.ensures c.in_ok-push.ensures.items v.all;
     }
 
-pub returns : goal.returns
-returns c =
+pub returns-clause-lines : goal.returns-clause-lines
+returns-clause-lines c =
     let left = into_iter_items c.loop-line.line-iterator in
     let none : length left ≡ 0 = omega (arith, c.loop-line.line-iterator.rest.ok.0, c.in-None.ensures.steps.0) in
     map_ends (linked_line (classes_in c.args.names.now.numbered.classes.items) c.args.number c.args.class.now.class.now c.args.gives) c.loop-line.linked.items left _
     (nil_from_length left none) c.loop-line.invariant.all
+
+pub returns-clause-laid : goal.returns-clause-laid
+returns-clause-laid c =
+    let classes = classes_in c.args.names.now.numbered.classes.items in
+    let lines = map (linked_line classes c.args.number c.args.class.now.class.now c.args.gives) c.args.lines.items in
+    let left = into_iter_items c.loop-line.line-iterator in
+    let none : length left ≡ 0 = omega (arith, c.loop-line.line-iterator.rest.ok.0, c.in-None.ensures.steps.0) in
+    let same : c.loop-line.linked.items ≡ lines = map_ends (linked_line classes c.args.number c.args.class.now.class.now c.args.gives) c.loop-line.linked.items left lines (nil_from_length left none) c.loop-line.invariant.all in
+    subst (λ (ls : List LinkedLine). LaidFrom 0 ls) (sym same) (laid_lines classes c.args.number c.args.class.now.class.now c.args.gives c.args.lines.items 0 c.requires.laid)

@@ -1,9 +1,12 @@
 use Rattle.std.proofs.Common.{◌≡◌, ◌++◌, drop}
-use Rattle.jvm_link.specs.Linking.{methods_from, linked_methods}
+use Rattle.std.specs.List.{All}
+use Rattle.jvm_link.specs.Linking.{IsLaid, methods_from, linked_methods}
 use Rattle.jvm_link.specs.Keys.{classes_in}
 use Rattle.jvm_link.proofs.methods.linked_methods.Given as goal
 
 abbrev pub invariant-loop-number : goal.invariant-loop-number
-invariant-loop-number l =
-    l.methods.items ++ methods_from (classes_in l.names.numbered.classes.items) l.number (classes_in (drop l.number l.names.numbered.classes.items))
-    ≡ linked_methods (classes_in l.names.numbered.classes.items)
+invariant-loop-number l = record {
+  methods : l.methods.items ++ methods_from (classes_in l.names.numbered.classes.items) l.number (classes_in (drop l.number l.names.numbered.classes.items))
+      ≡ linked_methods (classes_in l.names.numbered.classes.items);
+  laid : All IsLaid l.methods.items;
+}
