@@ -20,9 +20,7 @@ impl PartialEq for Key {
     ghost laws = { Prim.search (comparing, rules) };
 
     fn eq(&self, other: &Key) -> bool {
-        self.class == other.class
-            && self.name == other.name
-            && self.descriptor == other.descriptor
+        self.class == other.class && self.name == other.name && self.descriptor == other.descriptor
     }
 }
 

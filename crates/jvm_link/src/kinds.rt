@@ -10,7 +10,9 @@ use std::alloc::Global;
 
 /// `I`, `[I` and `[[I`.
 const INT: [u16; 1] = [73];
+
 const INTS: [u16; 2] = [91, 73];
+
 const PAGES: [u16; 3] = [91, 91, 73];
 
 /// The type that a field descriptor names.

@@ -4,6 +4,8 @@ ghost use Rattle.constant_pool.specs.Names.{same_text};
 ghost use Rattle.jvm_link.specs.Names as names;
 ghost use Rattle.jvm_link.specs.Faults.{member_fault, no_method};
 
+use crate::link_fault::LinkFault;
+
 /// `java/lang/Object`.
 const OBJECT: [u16; 16] = [
     106, 97, 118, 97, 47, 108, 97, 110, 103, 47, 79, 98, 106, 101, 99, 116,
@@ -15,22 +17,28 @@ const STRING: [u16; 16] = [
 ];
 
 /// `nestedvm/Host`.
-const HOST: [u16; 13] = [110, 101, 115, 116, 101, 100, 118, 109, 47, 72, 111, 115, 116];
+const HOST: [u16; 13] = [
+    110, 101, 115, 116, 101, 100, 118, 109, 47, 72, 111, 115, 116,
+];
 
 /// `length` and `()I`.
 const LENGTH: [u16; 6] = [108, 101, 110, 103, 116, 104];
+
 const LENGTH_DESCRIPTOR: [u16; 3] = [40, 41, 73];
 
 /// `charAt` and `(I)C`.
 const CHAR_AT: [u16; 6] = [99, 104, 97, 114, 65, 116];
+
 const CHAR_AT_DESCRIPTOR: [u16; 4] = [40, 73, 41, 67];
 
 /// `call` and `([[I[[IIIIII)I`.
 const CALL: [u16; 4] = [99, 97, 108, 108];
+
 const CALL_DESCRIPTOR: [u16; 14] = [40, 91, 91, 73, 91, 91, 73, 73, 73, 73, 73, 73, 41, 73];
 
 /// `fault` and `(III)V`.
 const FAULT: [u16; 5] = [102, 97, 117, 108, 116];
+
 const FAULT_DESCRIPTOR: [u16; 6] = [40, 73, 73, 73, 41, 86];
 
 /// Whether a class of this name is known.
@@ -91,7 +99,7 @@ pub fn known_method_fault(class: &[u16], name: &[u16], descriptor: &[u16]) -> Op
     } else if is_host(class) {
         host_method_fault(name, descriptor)
     } else {
-        Some(4)
+        Some(LinkFault::NO_METHOD)
     }
 }
 
@@ -101,9 +109,9 @@ fn string_method_fault(name: &[u16], descriptor: &[u16]) -> Option<u32>
     if is_length(name, descriptor) || is_char_at(name, descriptor) {
         None
     } else if name == LENGTH.as_slice() || name == CHAR_AT.as_slice() {
-        Some(5)
+        Some(LinkFault::OTHER_DESCRIPTORS)
     } else {
-        Some(4)
+        Some(LinkFault::NO_METHOD)
     }
 }
 
@@ -113,8 +121,8 @@ fn host_method_fault(name: &[u16], descriptor: &[u16]) -> Option<u32>
     if is_host_call(name, descriptor) || is_host_fault(name, descriptor) {
         None
     } else if name == CALL.as_slice() || name == FAULT.as_slice() {
-        Some(5)
+        Some(LinkFault::OTHER_DESCRIPTORS)
     } else {
-        Some(4)
+        Some(LinkFault::NO_METHOD)
     }
 }

@@ -38,7 +38,7 @@ pub fn link(alloc: Global, classes: Vec<Class, Global>) -> Result<Linked, LinkEr
 {
     if classes.len() > CLASSES {
         return Err(LinkError::Refused(LinkFault {
-            kind: 7,
+            kind: LinkFault::TOO_MANY,
             class: 1024,
             slot: 0,
         }));
@@ -74,11 +74,7 @@ fn program_of(alloc: Global, classes: &[Class]) -> Result<LinkedProgram, LinkErr
 }
 
 // What classes are linked to, whose names mean something.
-fn program_by(
-    alloc: Global,
-    names: &Names,
-    classes: &[Class],
-) -> Result<LinkedProgram, LinkError>
+fn program_by(alloc: Global, names: &Names, classes: &[Class]) -> Result<LinkedProgram, LinkError>
     requires kept { All IsClass classes.now }
     requires few { length classes.now ≤ 1024 }
     requires meant { IsMeant classes.now }
@@ -130,7 +126,7 @@ fn first_of(classes: &[Class]) -> Result<u32, LinkError>
     match first_method(classes) {
         Some(first) => Ok(first),
         None => Err(LinkError::Refused(LinkFault {
-            kind: 6,
+            kind: LinkFault::NO_RUN,
             class: 0,
             slot: 0,
         })),

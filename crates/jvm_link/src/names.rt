@@ -61,10 +61,7 @@ impl<'a> Names<'a> {
     }
 }
 
-fn class_names_of(
-    alloc: Global,
-    classes: &[NumberedClass],
-) -> Result<IndexSet<usize>, NoMemory>
+fn class_names_of(alloc: Global, classes: &[NumberedClass]) -> Result<IndexSet<usize>, NoMemory>
     ensures { IfOk result (λ names. (n : ℕ) → list_any (nat_eq n) names.keys ≡ list_any (nat_eq n) (map own_number classes.now)) }
 {
     let mut names = IndexSet::new(alloc);

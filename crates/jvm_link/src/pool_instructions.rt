@@ -72,12 +72,7 @@ fn field(names: &Names, class: &NumberedClass, slot: u16) -> Option<(u32, Kind)>
     }
 }
 
-fn typed_field(
-    names: &Names,
-    class: &NumberedClass,
-    owner: u16,
-    name: u16,
-) -> Option<(u32, Kind)>
+fn typed_field(names: &Names, class: &NumberedClass, owner: u16, name: u16) -> Option<(u32, Kind)>
     requires { IsNumbered names.now.numbered.texts.keys class.now }
     ensures { (make : ℕ → Kind → Instruction) → linking.field_of make (words.field_number (classes_in names.now.numbered.classes.items) (words.reference (words.class_name_at class.now.class.now owner) (words.signature_at class.now.class.now name))) (words.signature_at class.now.class.now name) ≡ field_made make result }
 {

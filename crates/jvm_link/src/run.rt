@@ -12,6 +12,7 @@ use jvm_code::{Class, Method};
 
 /// `run` and `()V`.
 const RUN: [u16; 3] = [114, 117, 110];
+
 const RUN_DESCRIPTOR: [u16; 3] = [40, 41, 86];
 
 /// The number of the method `run()V` of the first class; None exactly where it has none.

@@ -21,7 +21,7 @@ pub fn twice_fault(alloc: Global, numbered: &Numbered) -> Result<Option<LinkFaul
     for (number, class) in numbered.classes.iter().enumerate() {
         if is_twice(alloc, &names, class)? {
             return Ok(Some(LinkFault {
-                kind: 1,
+                kind: LinkFault::TWICE,
                 class: number as u32,
                 slot: 0,
             }));
@@ -32,11 +32,7 @@ pub fn twice_fault(alloc: Global, numbered: &Numbered) -> Result<Option<LinkFaul
 }
 
 // Whether a class has one of these names or that of a known class, or two equal members.
-fn is_twice(
-    alloc: Global,
-    names: &IndexSet<usize>,
-    class: &NumberedClass,
-) -> Result<bool, NoMemory>
+fn is_twice(alloc: Global, names: &IndexSet<usize>, class: &NumberedClass) -> Result<bool, NoMemory>
     ensures { IfOk result (λ twice. twice ≡ is_twice_by names.now.keys class.now) }
 {
     if names.contains(&class.own_number()) {
