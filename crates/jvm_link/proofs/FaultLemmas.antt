@@ -8,18 +8,17 @@ use Rattle.std.specs.List.{AllZip, All, list_any, flat_map}
 use Rattle.std.proofs.lemmas.Cmp.{nat_eq_equiv}
 use Rattle.std.proofs.lemmas.Bool.{or_parts, or_right, or_from, true≢false}
 use Rattle.std.proofs.lemmas.List.Folds.{list_any-append}
-use Rattle.std.proofs.lemmas.List.Elements.{All-head, All-tail}
 use Rattle.std.proofs.lemmas.Slice.Eq.{bytes_eq-Decides}
 use Rattle.constant_pool.specs.Names.{same_text}
 use Rattle.jvm_code.specs.declared.class.Class.{Class}
 use Rattle.jvm_link.specs.declared.key.Key.{Key}
 use Rattle.jvm_link.specs.declared.link_fault.LinkFault.{LinkFault}
 use Rattle.jvm_link.specs.declared.numbered_class.NumberedClass.{NumberedClass}
-use Rattle.jvm_link.specs.Names.{class_name_at, signature_at, own_name, Signature, same_signature, Reference, reference, same_reference, fields_of, methods_of, all_fields, all_methods, has_class, is_named, is_known, has_signature, has_name, members_named, fields_named, methods_named, known_methods, field_number, method_number}
+use Rattle.jvm_link.specs.Names.{class_name_at, signature_at, own_name, Signature, same_signature, Reference, reference, same_reference, fields_of, methods_of, has_class, is_known, members_named, fields_named, methods_named, known_methods, field_number, method_number}
 use Rattle.jvm_link.specs.Faults.{other_descriptors, no_field, no_method, twice, at_class, member_fault, has_equal, is_twice, twice_fault}
 use Rattle.jvm_link.specs.Numbers.{IsNumber, AreTexts}
-use Rattle.jvm_link.specs.Keys.{class_number_at, key_at, IsNumbered, classes_in, same_key, same_name, IsKey, own_number, field_keys, method_keys, has_equal_keys, is_twice_by, key_fault, Knows}
-use Rattle.jvm_link.proofs.NumberLemmas.{same_number, same_text-refl, map-more}
+use Rattle.jvm_link.specs.Keys.{class_number_at, key_at, IsNumbered, classes_in, same_key, same_name, IsKey, own_number, field_keys, method_keys, is_twice_by, key_fault, Knows}
+use Rattle.jvm_link.proofs.NumberLemmas.{same_number, map-more}
 use Rattle.jvm_link.proofs.PlaceLemmas.{any_alike, position_alike}
 use Rattle.jvm_link.proofs.KeyLemmas.{key_is, same_reference_by, same_name_by, class_is, fields_are, methods_are, equal_is, all_fields_are, all_methods_are, class_found}
 

@@ -1,6 +1,6 @@
 -- Keys stand for references.
-use Rattle.std.proofs.Common.{◌≡◌, ℕ, zero, suc, ◌+◌, ◌-◌, ◌<◌, Bool, true, false, cond, eqb, ◌&&◌, ◌||◌, List, [], ◌∷◌, ◌++◌, length, get_or, map, Option, Some, None, refl, sym, ap, subst, ◌∙◌, arith, position}
-use Rattle.std.specs.Prelude.{nat_eq, unwrap_or, option_and_then, slice_get}
+use Rattle.std.proofs.Common.{◌≡◌, ℕ, ◌+◌, ◌<◌, ◌&&◌, ◌||◌, List, [], ◌∷◌, ◌++◌, length, get_or, map, Option, Some, None, refl, sym, ap, subst, ◌∙◌}
+use Rattle.std.specs.Prelude.{nat_eq, unwrap_or, option_and_then}
 use Rattle.std.specs.List.{AllZip, All, AllByRecursion, list_any, flat_map}
 use Rattle.std.proofs.lemmas.List.Elements.{recursion_from_All, All-same, All-push, All-get_or}
 use Rattle.std.proofs.lemmas.List.{map-append, take_more}
@@ -9,18 +9,18 @@ use Rattle.constant_pool.specs.declared.entry.Entry.{Entry}
 use Rattle.constant_pool.specs.declared.entry.Entry.TheVariants.{Utf8, Integer, Long, LongRest, ClassName, Text, FieldRef, MethodRef, NameAnd}
 use Rattle.constant_pool.specs.Names.{same_text}
 use Rattle.constant_pool.specs.Entries.{class_of, name_of}
-use Rattle.constant_pool.specs.Checks.{entry_at, text_at, class_text_at}
+use Rattle.constant_pool.specs.Checks.{entry_at, text_at}
 use Rattle.jvm_code.specs.declared.class.Class.{Class}
 use Rattle.jvm_code.specs.declared.member.Member.{Member}
 use Rattle.jvm_code.specs.declared.method.Method.{Method}
 use Rattle.jvm_link.specs.declared.key.Key.{Key}
 use Rattle.jvm_link.specs.declared.numbered_class.NumberedClass.{NumberedClass}
-use Rattle.jvm_link.specs.Names.{text_of, class_name_at, own_name, Signature, signature, same_signature, signature_of, signature_at, Reference, reference, same_reference, field_signature, method_signature, fields_of, methods_of, all_fields, all_methods, has_class, is_named, has_signature}
+use Rattle.jvm_link.specs.Names.{text_of, class_name_at, own_name, Signature, signature, same_signature, signature_of, signature_at, Reference, reference, same_reference, field_signature, method_signature, fields_of, methods_of, all_fields, all_methods, has_class}
 use Rattle.jvm_link.specs.Faults.{has_equal}
 use Rattle.jvm_link.specs.Numbers.{IsNumber, AreTexts, Keeps, number_at}
 use Rattle.jvm_link.specs.Keys.{IsNumbered, classes_in, same_key, same_name, IsKey, class_number, pair_numbers, class_number_at, key_at, own_number, own_key, field_keys, method_keys, has_equal_keys}
 use Rattle.jvm_link.proofs.NumberLemmas.{same_number, same_text-refl}
-use Rattle.jvm_link.proofs.PlaceLemmas.{any_alike, position_alike, AllZip-append, AllZip-map}
+use Rattle.jvm_link.proofs.PlaceLemmas.{any_alike, AllZip-append, AllZip-map}
 
 module _ (texts : List (List ℕ)) (are : AreTexts texts) where
   pub same_reference_by : (k l : Key) (r q : Reference) → IsKey texts k r → IsKey texts l q → same_key k l ≡ same_reference r q

@@ -1,8 +1,7 @@
 -- What linking promises of a program.
-use Rattle.std.proofs.Common.{◌≡◌, ℕ, zero, suc, ◌+◌, ◌<◌, ◌&&◌, Bool, true, false, cond, eqb, List, [], ◌∷◌, ◌++◌, map, length, Option, Some, None, is_some, refl, sym, ap, subst, ◌∙◌, position, slice_get, arith}
-use Rattle.std.specs.Prelude.{codes, option_map, unwrap_or}
-use Rattle.std.specs.List.{flat_map, AllByRecursion}
-use Rattle.std.specs.Option.{option_or}
+use Rattle.std.proofs.Common.{◌≡◌, ℕ, zero, suc, ◌+◌, Bool, true, false, cond, eqb, List, [], ◌∷◌, ◌++◌, map, Option, Some, None, is_some, refl, sym, ap, subst, ◌∙◌, position, slice_get, arith}
+use Rattle.std.specs.Prelude.{codes, option_map}
+use Rattle.std.specs.List.{AllByRecursion}
 use Rattle.std.proofs.lemmas.Bool.{and_parts}
 use Rattle.std.proofs.lemmas.List.{map-append}
 use Rattle.std.proofs.lemmas.Slice.Eq.{bytes_eq-Decides}
@@ -27,11 +26,11 @@ use Rattle.jvm_program.specs.declared.linked_line.LinkedLine.{LinkedLine}
 use Rattle.jvm_program.specs.declared.linked_method.LinkedMethod.{LinkedMethod}
 use Rattle.jvm_program.specs.declared.instruction.Instruction.{Instruction}
 use Rattle.jvm_program.specs.declared.instruction.Instruction.TheVariants.{Wrong, Get, Put}
-use Rattle.jvm_program.specs.Program.{Program, line_in}
+use Rattle.jvm_program.specs.Program.{line_in}
 use Rattle.jvm_program.specs.Typing.{NamesField, IsLinked}
-use Rattle.jvm_link.specs.Names.{text_of, class_name_at, own_name, Signature, signature, same_signature, signature_at, Reference, reference, same_reference, field_signature, method_signature, methods_of, all_fields, all_methods, field_number, method_number, string_name, host_name, length_signature, char_at_signature, host_call_signature, host_fault_signature}
-use Rattle.jvm_link.specs.Faults.{run_signature, has_run, no_run, at_class, link_fault}
-use Rattle.jvm_link.specs.Linking.{kind_of, parameters_from, parameters_of, gives_int, field_kind, field_kinds, field_of, field_instruction, call_of, host_method, static_call, string_method, string_call, call_instruction, word_constant, long_constant, array_instruction, pool_instruction, local_instruction, return_instruction, linked_instruction, linked_line, lines_of, linked_method, methods_from, linked_methods, first_method, program_of}
+use Rattle.jvm_link.specs.Names.{text_of, class_name_at, own_name, Signature, same_signature, signature_at, Reference, reference, same_reference, field_signature, method_signature, all_fields, field_number, method_number, string_name, host_name, length_signature, char_at_signature, host_call_signature, host_fault_signature}
+use Rattle.jvm_link.specs.Faults.{run_signature, has_run}
+use Rattle.jvm_link.specs.Linking.{kind_of, parameters_from, parameters_of, gives_int, field_kind, field_kinds, field_of, field_instruction, call_of, host_method, static_call, string_method, string_call, call_instruction, word_constant, long_constant, pool_instruction, local_instruction, return_instruction, linked_instruction, linked_line, lines_of, linked_method, methods_from, linked_methods, first_method, program_of}
 use Rattle.jvm_link.proofs.ReturnLaws.{returns_are}
 use Rattle.jvm_link.proofs.PlaceLemmas.{position-cons}
 use Rattle.jvm_link.proofs.RunLemmas.{run_found, run_there}

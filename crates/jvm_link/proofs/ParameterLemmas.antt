@@ -1,5 +1,5 @@
 -- The types of parameters, one after the other.
-use Rattle.std.proofs.Common.{◌≡◌, ℕ, suc, List, [], ◌∷◌, ◌++◌, Option, Some, None, refl, sym, ap, ◌∙◌, append_assoc, append-nil}
+use Rattle.std.proofs.Common.{◌≡◌, ℕ, suc, List, [], ◌∷◌, ◌++◌, Some, None, sym, ap, ◌∙◌, append_assoc, append-nil}
 use Rattle.constant_pool.specs.Names.{after_field}
 use Rattle.jvm_program.specs.declared.kind.Kind.{Kind}
 use Rattle.jvm_link.specs.Linking.{front_kind, then_kinds, parameters_from}

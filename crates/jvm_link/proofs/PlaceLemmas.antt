@@ -1,5 +1,5 @@
 -- The first place of what passes a test.
-use Rattle.std.proofs.Common.{◌≡◌, ℕ, suc, ◌+◌, ◌<◌, Bool, true, false, cond, not, ltb, ◌||◌, List, [], ◌∷◌, ◌++◌, length, Option, Some, None, is_some, refl, sym, ap, ◌∙◌, arith, position, map}
+use Rattle.std.proofs.Common.{◌≡◌, ℕ, suc, ◌+◌, Bool, true, false, cond, not, ltb, ◌||◌, List, [], ◌∷◌, ◌++◌, length, Option, Some, None, is_some, refl, sym, ap, ◌∙◌, arith, position, map}
 use Rattle.std.specs.Prelude.{option_map}
 use Rattle.std.specs.List.{AllZip, list_any, position_or_len}
 use Rattle.std.specs.Option.{option_or}

@@ -1,5 +1,5 @@
 -- The method with which a program begins.
-use Rattle.std.proofs.Common.{◌≡◌, ℕ, ◌<◌, ◌&&◌, Bool, true, false, List, [], ◌∷◌, ◌++◌, map, length, Option, Some, None, is_some, refl, sym, ap, subst, ◌∙◌, position, ◌+◌, arith}
+use Rattle.std.proofs.Common.{◌≡◌, ℕ, ◌<◌, ◌&&◌, Bool, List, [], ◌∷◌, map, length, Some, is_some, refl, sym, ap, subst, ◌∙◌, position, ◌+◌, arith}
 use Rattle.std.specs.Prelude.{unwrap_or, option_map}
 use Rattle.std.specs.List.{AllZip, All}
 use Rattle.std.specs.Option.{option_or}
@@ -8,7 +8,7 @@ use Rattle.std.proofs.lemmas.List.Quantifiers.{position-Some}
 use Rattle.jvm_code.specs.declared.class.Class.{Class}
 use Rattle.jvm_code.specs.declared.method.Method.{Method}
 use Rattle.jvm_link.specs.Kept.{IsClass}
-use Rattle.jvm_link.specs.Names.{own_name, Signature, same_signature, Reference, reference, same_reference, method_signature, methods_of, all_methods, method_number}
+use Rattle.jvm_link.specs.Names.{own_name, Signature, same_signature, reference, same_reference, method_signature, methods_of, all_methods, method_number}
 use Rattle.jvm_link.specs.Faults.{run_signature, has_run}
 use Rattle.jvm_link.specs.Linking.{first_method}
 use Rattle.jvm_link.proofs.NumberLemmas.{same_text-refl}

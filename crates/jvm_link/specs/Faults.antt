@@ -1,15 +1,15 @@
 -- What is wrong with classes that do not link: the first fault, by class and then by slot.
-use Rattle.std.specs.Prelude.{◌≡◌, ℕ, suc, ◌&&◌, ◌||◌, Bool, true, false, not, nat_lt, if◌then◌else◌, List, [], ◌∷◌, length, codes, Option, Some, None, unwrap_or}
+use Rattle.std.specs.Prelude.{◌≡◌, ℕ, suc, ◌||◌, Bool, false, nat_lt, if◌then◌else◌, List, [], ◌∷◌, length, codes, Option, Some, None}
 use Rattle.std.specs.List.{list_any}
 use Rattle.std.specs.Option.{option_or}
 use Rattle.constant_pool.specs.declared.entry.Entry.{Entry}
-use Rattle.constant_pool.specs.declared.entry.Entry.TheVariants.{Utf8, Integer, Long, LongRest, ClassName, Text, FieldRef, MethodRef, NameAnd}
+use Rattle.constant_pool.specs.declared.entry.Entry.TheVariants.{ClassName, FieldRef, MethodRef}
 use Rattle.constant_pool.specs.Names.{same_text, is_array_name}
 use Rattle.jvm_code.specs.declared.class.Class.{Class}
 use Rattle.jvm_link.specs.declared.link_fault.LinkFault.{LinkFault}
 use Rattle.jvm_link.specs.declared.link_fault.LinkError.{LinkError}
 use Rattle.jvm_link.specs.declared.link_fault.LinkError.TheVariants.{Refused, NoMemory}
-use Rattle.jvm_link.specs.Names.{Signature, signature, text_of, own_name, fields_of, methods_of, same_signature, has_signature, has_name, signature_at, class_name_at, is_known, has_class, fields_named, methods_named}
+use Rattle.jvm_link.specs.Names.{Signature, signature, text_of, own_name, fields_of, methods_of, has_signature, has_name, signature_at, class_name_at, is_known, has_class, fields_named, methods_named}
 
 abbrev pub twice : ℕ
 twice = 1

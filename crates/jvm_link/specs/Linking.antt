@@ -1,5 +1,5 @@
 -- The program that classes are: their fields and methods, numbered class by class, and instructions with what they name.
-use Rattle.std.specs.Prelude.{◌≡◌, ℕ, zero, suc, ◌+◌, ◌-◌, ◌^◌, ◌==◌, nat_eq, ℤ, Bool, true, false, not, if◌then◌else◌, List, [], ◌∷◌, ◌++◌, map, length, position, flat_map, codes, slice_get, slice_index, Option, Some, None, Result, Ok, Err, unwrap_or, option_map, option_and_then}
+use Rattle.std.specs.Prelude.{◌≡◌, ℕ, zero, suc, ◌+◌, ◌-◌, ◌^◌, ◌==◌, nat_eq, ℤ, Bool, if◌then◌else◌, List, [], ◌∷◌, ◌++◌, map, length, flat_map, codes, slice_get, slice_index, Option, Some, None, Result, Ok, Err, unwrap_or, option_map}
 use Rattle.std.specs.List.{starts_with}
 use Rattle.std.specs.Int.{w64, cast_unsigned}
 use Rattle.nv_words.specs.Words.{unsigned_of}
@@ -7,7 +7,7 @@ use Rattle.class_format.specs.declared.miss.Miss.{Miss}
 use Rattle.constant_pool.specs.declared.entry.Entry.{Entry}
 use Rattle.constant_pool.specs.declared.entry.Entry.TheVariants as entries
 use Rattle.constant_pool.specs.Names.{same_text, after_field}
-use Rattle.constant_pool.specs.Checks.{entry_at, class_text_at}
+use Rattle.constant_pool.specs.Checks.{entry_at}
 use Rattle.jvm_code.specs.declared.class.Class.{Class}
 use Rattle.jvm_code.specs.declared.member.Member.{Member}
 use Rattle.jvm_code.specs.declared.method.Method.{Method}
@@ -25,7 +25,7 @@ use Rattle.jvm_code.specs.declared.names.pool_name.PoolName.TheVariants.{LdcW, L
 use Rattle.jvm_code.specs.declared.names.return_name.ReturnName.{ReturnName}
 use Rattle.jvm_code.specs.declared.names.return_name.ReturnName.TheVariants as returns
 use Rattle.jvm_code.specs.declared.names.branch_name.BranchName.TheVariants.{Goto}
-use Rattle.jvm_code.specs.Code.{lines_from, code_fault}
+use Rattle.jvm_code.specs.Code.{lines_from}
 use Rattle.jvm_code.specs.Writing.{size_at}
 use Rattle.jvm_program.specs.declared.kind.Kind.{Kind}
 use Rattle.jvm_program.specs.declared.kind.Kind.TheVariants as kinds
@@ -38,7 +38,6 @@ use Rattle.jvm_program.specs.declared.instruction.Instruction.{Instruction}
 use Rattle.jvm_program.specs.declared.instruction.Instruction.TheVariants as instructions
 use Rattle.jvm_program.specs.Program.{Program, LaidFrom}
 use Rattle.jvm_program.specs.Typing.{AllTyped}
-use Rattle.jvm_link.specs.declared.link_fault.LinkFault.{LinkFault}
 use Rattle.jvm_link.specs.Names.{Signature, same_signature, Reference, reference, text_of, class_name_at, own_name, signature_at, string_name, host_name, length_signature, char_at_signature, host_call_signature, host_fault_signature, field_number, method_number}
 use Rattle.jvm_link.specs.Faults.{run_signature, link_fault}
 

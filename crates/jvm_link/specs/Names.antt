@@ -1,7 +1,6 @@
 -- JVM Specification, 5.4.3: what the names in a class mean.
-use Rattle.std.specs.Prelude.{ℕ, ◌&&◌, ◌||◌, Bool, true, false, if◌then◌else◌, List, [], ◌∷◌, ◌++◌, map, position, flat_map, codes, Option, Some, None, unwrap_or, option_and_then}
+use Rattle.std.specs.Prelude.{ℕ, ◌&&◌, ◌||◌, Bool, if◌then◌else◌, List, [], ◌∷◌, map, position, flat_map, codes, Option, Some, None, unwrap_or, option_and_then}
 use Rattle.std.specs.List.{list_any}
-use Rattle.constant_pool.specs.declared.entry.Entry.{Entry}
 use Rattle.constant_pool.specs.Names.{same_text}
 use Rattle.constant_pool.specs.Entries.{name_of}
 use Rattle.constant_pool.specs.Checks.{entry_at, text_at, class_text_at}

@@ -1,5 +1,5 @@
 -- Texts by their numbers: two numbers are the same where the texts are.
-use Rattle.std.specs.Prelude.{◌≡◌, ℕ, ◌-◌, ◌==◌, nat_eq, if◌then◌else◌, List, [], slice_get, slice_index, Option, Some}
+use Rattle.std.specs.Prelude.{◌≡◌, ℕ, ◌-◌, ◌==◌, nat_eq, if◌then◌else◌, List, [], slice_get, slice_index, Some}
 use Rattle.std.specs.List.{IsDistinct}
 use Rattle.std.specs.Cmp.Lexicographic.{pointwise}
 use Rattle.constant_pool.specs.declared.entry.Entry.{Entry}

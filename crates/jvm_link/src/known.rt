@@ -4,6 +4,8 @@ ghost use Rattle.constant_pool.specs.Names.{same_text};
 ghost use Rattle.jvm_link.specs.Names as names;
 ghost use Rattle.jvm_link.specs.Faults.{member_fault, no_method};
 
+use crate::link_fault::LinkFault;
+
 /// `java/lang/Object`.
 const OBJECT: [u16; 16] = [
     106, 97, 118, 97, 47, 108, 97, 110, 103, 47, 79, 98, 106, 101, 99, 116,
@@ -97,7 +99,7 @@ pub fn known_method_fault(class: &[u16], name: &[u16], descriptor: &[u16]) -> Op
     } else if is_host(class) {
         host_method_fault(name, descriptor)
     } else {
-        Some(4)
+        Some(LinkFault::NO_METHOD)
     }
 }
 
@@ -107,9 +109,9 @@ fn string_method_fault(name: &[u16], descriptor: &[u16]) -> Option<u32>
     if is_length(name, descriptor) || is_char_at(name, descriptor) {
         None
     } else if name == LENGTH.as_slice() || name == CHAR_AT.as_slice() {
-        Some(5)
+        Some(LinkFault::OTHER_DESCRIPTORS)
     } else {
-        Some(4)
+        Some(LinkFault::NO_METHOD)
     }
 }
 
@@ -119,8 +121,8 @@ fn host_method_fault(name: &[u16], descriptor: &[u16]) -> Option<u32>
     if is_host_call(name, descriptor) || is_host_fault(name, descriptor) {
         None
     } else if name == CALL.as_slice() || name == FAULT.as_slice() {
-        Some(5)
+        Some(LinkFault::OTHER_DESCRIPTORS)
     } else {
-        Some(4)
+        Some(LinkFault::NO_METHOD)
     }
 }

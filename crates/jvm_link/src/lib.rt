@@ -26,3 +26,6 @@ mod twice;
 pub use link_fault::{LinkError, LinkFault, NoMemory};
 pub use linked::Linked;
 pub use linking::link;
+
+#[cfg(test)]
+mod tests;

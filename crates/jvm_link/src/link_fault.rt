@@ -16,6 +16,23 @@ pub struct LinkFault {
     pub slot: u32,
 }
 
+impl LinkFault {
+    /// A class has the name of an earlier or known one, or two equal members.
+    pub const TWICE: u32 = 1;
+    /// There is no such class.
+    pub const NO_CLASS: u32 = 2;
+    /// There is no such field.
+    pub const NO_FIELD: u32 = 3;
+    /// There is no such method.
+    pub const NO_METHOD: u32 = 4;
+    /// The name is there with other descriptors alone.
+    pub const OTHER_DESCRIPTORS: u32 = 5;
+    /// The first class has no method `run()V`.
+    pub const NO_RUN: u32 = 6;
+    /// There are more than 1,024 classes.
+    pub const TOO_MANY: u32 = 7;
+}
+
 /// Why classes were not linked.
 #[derive(Drop)]
 pub enum LinkError {

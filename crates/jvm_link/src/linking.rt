@@ -39,7 +39,7 @@ pub fn link(alloc: Global, classes: Vec<Class, Global>) -> Result<Linked, LinkEr
 {
     if classes.len() > CLASSES {
         return Err(LinkError::Refused(LinkFault {
-            kind: 7,
+            kind: LinkFault::TOO_MANY,
             class: 1024,
             slot: 0,
         }));
@@ -129,7 +129,7 @@ fn first_of(classes: &[Class]) -> Result<u32, LinkError>
     match first_method(classes) {
         Some(first) => Ok(first),
         None => Err(LinkError::Refused(LinkFault {
-            kind: 6,
+            kind: LinkFault::NO_RUN,
             class: 0,
             slot: 0,
         })),

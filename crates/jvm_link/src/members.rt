@@ -4,7 +4,7 @@ ghost use Rattle.jvm_link.specs.Keys.{same_key, same_name, key_fault};
 ghost use Rattle.jvm_link.specs.MemberMap.{IsMemberMap};
 
 use crate::key::Key;
-use crate::link_fault::NoMemory;
+use crate::link_fault::{LinkFault, NoMemory};
 use indexmap::IndexMap;
 use std::alloc::Global;
 use std::marker::Model;
@@ -53,7 +53,7 @@ impl Members {
         if self.has(key) {
             None
         } else if self.has_name(key) {
-            Some(5)
+            Some(LinkFault::OTHER_DESCRIPTORS)
         } else {
             Some(missing)
         }

@@ -62,7 +62,7 @@ fn class_fault(names: &Names, class: &NumberedClass, name: u16) -> Option<u32>
     if is_array_name(text) || is_known(text) || names.class_names.contains(&class.number(name)) {
         None
     } else {
-        Some(2)
+        Some(LinkFault::NO_CLASS)
     }
 }
 
@@ -70,7 +70,9 @@ fn field_fault(names: &Names, class: &NumberedClass, owner: u16, name: u16) -> O
     requires { IsNumbered names.now.numbered.texts.keys class.now }
     ensures { result ≡ faults.member_fault faults.no_field (words.fields_named (classes_in names.now.numbered.classes.items) (words.class_name_at class.now.class.now owner)) (words.signature_at class.now.class.now name) }
 {
-    names.fields.fault(3, &class.key(owner, name))
+    names
+        .fields
+        .fault(LinkFault::NO_FIELD, &class.key(owner, name))
 }
 
 fn method_fault(names: &Names, class: &NumberedClass, owner: u16, name: u16) -> Option<u32>
@@ -78,7 +80,9 @@ fn method_fault(names: &Names, class: &NumberedClass, owner: u16, name: u16) -> 
     ensures { result ≡ faults.member_fault faults.no_method (words.methods_named (classes_in names.now.numbered.classes.items) (words.class_name_at class.now.class.now owner)) (words.signature_at class.now.class.now name) }
 {
     if names.class_names.contains(&class.class_number(owner)) {
-        names.methods.fault(4, &class.key(owner, name))
+        names
+            .methods
+            .fault(LinkFault::NO_METHOD, &class.key(owner, name))
     } else {
         let (method, descriptor) = signature_at(class.class, name);
         known_method_fault(class_name_at(class.class, owner), method, descriptor)

@@ -21,7 +21,7 @@ pub fn twice_fault(alloc: Global, numbered: &Numbered) -> Result<Option<LinkFaul
     for (number, class) in numbered.classes.iter().enumerate() {
         if is_twice(alloc, &names, class)? {
             return Ok(Some(LinkFault {
-                kind: 1,
+                kind: LinkFault::TWICE,
                 class: number as u32,
                 slot: 0,
             }));

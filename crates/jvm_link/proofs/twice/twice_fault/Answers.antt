@@ -1,4 +1,4 @@
-use Rattle.std.proofs.Common.{◌≡◌, ◌∙◌, [], ◌∷◌, sym, refl, true, false}
+use Rattle.std.proofs.Common.{◌≡◌, ◌∙◌, [], ◌∷◌, sym, true, false}
 use Rattle.jvm_link.specs.Names.{own_name}
 use Rattle.jvm_link.specs.Faults.{twice_fault, is_twice}
 use Rattle.jvm_link.specs.Keys.{classes_in}
