@@ -1,6 +1,6 @@
 -- The number of a key among keys that rise.
-use Rattle.std.proofs.Common.{◌≡◌, ℕ, zero, suc, ◌+◌, ◌<◌, ◌≤◌, Bool, true, false, if◌then◌else◌, List, [], ◌∷◌, length, get_or, refl, ap, sym, ◌∙◌, arith, inl, inr, ℤ, pos, negsuc, ◌≢◌}
-use Rattle.std.specs.Prelude.{int_lt, ◌&&◌}
+use Rattle.std.proofs.Common.{◌≡◌, ℕ, zero, suc, ◌+◌, ◌<◌, ◌≤◌, true, false, if◌then◌else◌, List, [], ◌∷◌, length, get_or, refl, ap, sym, ◌∙◌, arith, inl, inr, ℤ, pos, negsuc, ◌≢◌}
+use Rattle.std.specs.Prelude.{int_lt}
 use Rattle.std.specs.List.Sorted.{IsNonDecreasingBy, IsPartitionPoint}
 use Rattle.std.specs.Ordering.{int_cmp, ordering_index}
 use Rattle.std.specs.declared.cmp.Ordering.TheVariants.{Less, Equal, Greater}
@@ -8,6 +8,7 @@ use Rattle.std.proofs.lemmas.Bool.{ne_eqb, cases_lt}
 use Rattle.std.proofs.lemmas.Map.Lookups.{exact_signed}
 use Rattle.std.proofs.lemmas.Int.{ints}
 use Rattle.jvm_code.specs.declared.pair.Pair.{Pair}
+use Rattle.jvm_frames.proofs.TestLemmas.{both}
 use Rattle.jvm_program.specs.Effect.{same, lookup_target}
 use Rattle.jvm_frames.specs.Keys.{keys_of, rise, rise_from, number_of}
 
@@ -31,10 +32,6 @@ below_trans : (a b c : ℤ) → int_lt a b ≡ true → int_lt b c ≡ true → 
 below_trans a b c p q = grind (arith, ints)
 
 -- ---- keys that rise
-
-both : (a b : Bool) → a && b ≡ true → (a ≡ true) × (b ≡ true)
-both true b h = (refl, h)
-both false b h = absurd (cc)
 
 rise_behind : (first : ℤ) (keys : List ℤ) → rise_from first keys ≡ true → rise keys ≡ true
 rise_behind first [] h = refl

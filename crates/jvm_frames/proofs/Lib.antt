@@ -1,3 +1,4 @@
+pub mod TestLemmas
 pub mod StackLemmas
 pub mod FrameLemmas
 pub mod KeyLemmas
