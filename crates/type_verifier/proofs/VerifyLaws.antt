@@ -14,7 +14,7 @@ use Rattle.jvm_link.specs.Linking.{program_of, linked_methods, methods_from, lin
 use Rattle.type_verifier.specs.declared.verify_error.VerifyError.{VerifyError}
 use Rattle.type_verifier.specs.declared.verify_error.VerifyError.TheVariants.{Refused, NoMemory}
 use Rattle.type_verifier.specs.Actions.{program_over}
-use Rattle.type_verifier.specs.Refusal.{FailsAt, IsVerdictOf, methods_before, IsRefusal, IsFirstFault, IsFault, IsPlace}
+use Rattle.type_verifier.specs.Refusal.{FailsAt, LeastTyping, AllLeastTyped, methods_before, IsRefusal, IsFirstFault, IsFault, IsPlace}
 
 -- ---- programs with the same methods
 
@@ -40,8 +40,15 @@ module _ (p q : Program) (same : (m : ℕ) → p.method m ≡ q.method m) where
     rules = λ at line f to l e. follows-same method frames line f (t.rules at line f to l e);
   }
 
-  pub typed-same : (method : LinkedMethod) → Typed p method → Typed q method
-  typed-same method t = (t.0, λ last. typing-same method t.0 last (t.1 last))
+pub typed-same : (p q : Program) (same : (m : ℕ) → p.method m ≡ q.method m) (method : LinkedMethod) → LeastTyping p method → Typed q method
+typed-same p q same method l = (l.frames, λ last. typing-same p q same method l.frames last (l.typing last))
+
+pub least-same : (p q : Program) (same : (m : ℕ) → p.method m ≡ q.method m) (method : LinkedMethod) → LeastTyping p method → LeastTyping q method
+least-same p q same method l = record {
+  frames = l.frames;
+  typing = λ last. typing-same p q same method l.frames last (l.typing last);
+  least = λ others t. l.least others (λ last. typing-same q p (λ m. sym (same m)) method others last (t last));
+}
 
 pub fails-same : (p q : Program) (same : (m : ℕ) → p.method m ≡ q.method m) (method : LinkedMethod) (at : ℕ) → FailsAt p method at → FailsAt q method at
 fails-same p q same method at f = record {
@@ -54,19 +61,14 @@ same-methods classes methods e m = ap (λ x. slice_get x m) e
 
 -- ---- all methods
 
-pub no-fault-yet : (methods : List LinkedMethod) (m : ℕ) (method : LinkedMethod) → m < 0 → (program_over methods).method m ≡ Some method → Typed (program_over methods) method
-no-fault-yet methods m method less e = absurd (omega arith)
-
-pub typed-verdict : (program : Program) (number m : ℕ) (method : LinkedMethod) → m ≡ number → IsVerdictOf program number None → program.method m ≡ Some method → Typed program method
-typed-verdict program number m method same verdict e =
-    let l = verdict method (ap program.method (sym same) ∙ e) in
-    (l.frames, l.typing)
-
-pub all-typed : (classes : List Class) (methods : List LinkedMethod) → methods ≡ linked_methods classes → IsFirstFault (program_over methods) (length methods) None → AllTyped (program_of classes)
-all-typed classes methods e all m method is =
+pub all-least : (classes : List Class) (methods : List LinkedMethod) → methods ≡ linked_methods classes → IsFirstFault (program_over methods) (length methods) None → AllLeastTyped (program_of classes)
+all-least classes methods e all m method is =
     let same = same-methods classes methods e in
     let there : slice_get methods m ≡ Some method = same m ∙ is in
-    typed-same (program_over methods) (program_of classes) same method (all m method (slice_get_within methods m method there) there)
+    least-same (program_over methods) (program_of classes) same method (all m method (slice_get_within methods m method there) there)
+
+pub all-typed : (program : Program) → AllLeastTyped program → AllTyped program
+all-typed program all m method is = let l = all m method is in (l.frames, l.typing)
 
 -- ---- the method at fault
 

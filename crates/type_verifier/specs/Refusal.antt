@@ -32,6 +32,11 @@ abbrev pub IsVerdict : Program → LinkedMethod → Option ℕ → Type 0
 IsVerdict program method None = LeastTyping program method
 IsVerdict program method (Some at) = FailsAt program method at
 
+-- each method of a program has a least typing
+abbrev pub AllLeastTyped : Program → Type 0
+AllLeastTyped program =
+    (m : ℕ) (method : LinkedMethod) → program.method m ≡ Some method → LeastTyping program method
+
 -- the method with a number
 abbrev pub IsVerdictOf : Program → ℕ → Option ℕ → Type 0
 IsVerdictOf program number verdict =
@@ -63,10 +68,10 @@ IsRefusal classes NoMemory = Unit {0}
 -- all of so many methods are typed, or there is a first one that is not
 abbrev pub IsFirstFault : Program → ℕ → Option (ℕ × ℕ) → Type 0
 IsFirstFault program count None =
-    (m : ℕ) (method : LinkedMethod) → m < count → program.method m ≡ Some method → Typed program method
+    (m : ℕ) (method : LinkedMethod) → m < count → program.method m ≡ Some method → LeastTyping program method
 IsFirstFault program count (Some fault) =
     (fault.0 < count)
-    × ((m : ℕ) (method : LinkedMethod) → m < fault.0 → program.method m ≡ Some method → Typed program method)
+    × ((m : ℕ) (method : LinkedMethod) → m < fault.0 → program.method m ≡ Some method → LeastTyping program method)
     × ((method : LinkedMethod) → program.method fault.0 ≡ Some method → FailsAt program method fault.1)
 
 -- a fault names this class, method and offset
