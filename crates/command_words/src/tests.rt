@@ -141,6 +141,28 @@ fn takes_each_end_of_each_range(rt: HostRuntime) {
 }
 
 #[test]
+fn lists_of_names_have_limits(rt: HostRuntime) -> Result<(), Fail> {
+    let alloc = rt.alloc();
+    let refused = Some(WordsError::Usage(Usage::NotLawful));
+    let mut names = String::from_str(alloc, "interp|a|--keep=n1")?;
+    for i in 2..65 {
+        let name = format!(in alloc; ",n{i}")?;
+        names.push_str(&name)?;
+    }
+    assert_eq!(rt; fault(alloc, &names)?, None);
+    names.push_str(",n65")?;
+    assert_eq!(rt; fault(alloc, &names)?, refused);
+    let mut name = String::from_str(alloc, "interp|a|--with|")?;
+    for _ in 0..255 {
+        name.push('x')?;
+    }
+    assert_eq!(rt; fault(alloc, &name)?, None);
+    name.push('x')?;
+    assert_eq!(rt; fault(alloc, &name)?, refused);
+    Ok(())
+}
+
+#[test]
 fn reads_the_command(rt: HostRuntime) {
     for (row, want) in [
         (

@@ -109,7 +109,7 @@ impl Machine {
 }
 
 /// A call's number, its three words and its answer.
-const STEPS: [(u32, u32, u32, u32, i32); 54] = [
+const STEPS: [(u32, u32, u32, u32, i32); 59] = [
     (0, 0, 0x2000, 0x100, 1),
     (0, 0, 0x2000, 0x100, -22),
     (7, 16, 0, 0, 0x2000),
@@ -148,13 +148,20 @@ const STEPS: [(u32, u32, u32, u32, i32); 54] = [
     (3, 4, 0, 0, -9),
     (2, 4104, 0x20A, 0, 3),
     (5, 3, 0, 4090, 4090),
-    (6, 3, 0, 0, 0),
+    // behind the end, where bytes are put at the end all the same
+    (6, 3, 6000, 0, 6000),
     (5, 3, 0, 6, 6),
     (6, 3, 0, 2, 4096),
+    // a name that another file has
+    (2, 4096, 0x200, 0, 4),
+    (3, 4, 0, 0, 0),
     (14, 4104, 4096, 0, 0),
     (2, 4104, 0, 0, -2),
     (2, 4096, 0, 0, 4),
+    (6, 4, 0, 2, 4096),
     (11, 3, 10, 0, 0),
+    (11, 3, 20, 0, 0),
+    (6, 3, 0, 2, 20),
     (11, 3, 5000, 0, -28),
     (8, 3, 6000, 0, 0),
     (15, 0, 0, 0, 1),
@@ -179,7 +186,7 @@ fn calls_answer_in_their_order(rt: HostRuntime) -> Result<(), Fail> {
         assert_eq!(rt; answer, Ok(value), "call {number} with {a0}, {a1}, {a2}");
     }
     assert_eq!(rt; machine.out.bytes(), b"cd".as_slice());
-    assert_eq!(rt; machine.cells.bytes[6007], 10);
+    assert_eq!(rt; machine.cells.bytes[6007], 20);
     Ok(())
 }
 
