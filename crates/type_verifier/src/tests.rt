@@ -359,3 +359,24 @@ fn control_flows(rt: HostRuntime) -> Result<(), Fail> {
     assert_eq!(rt; verdict(a, &[], vec![in a]?)?, Some(0), "no instruction");
     Ok(())
 }
+
+// The longest code there is, but for its last instruction.
+fn nops(alloc: Global) -> Result<Vec<Instruction>, AllocError> {
+    let mut instructions = Vec::new(alloc);
+    for _ in 0..65_534 {
+        instructions.push(Instruction::Nop)?;
+    }
+    Ok(instructions)
+}
+
+#[test]
+fn the_longest_code_is_verified(rt: HostRuntime) -> Result<(), Fail> {
+    let a = rt.alloc();
+    let mut sound = nops(a)?;
+    sound.push(end())?;
+    assert_eq!(rt; verdict_within(a, &[], 0, 65_535, sound)?, None);
+    let mut faulty = nops(a)?;
+    faulty.push(moves(StackName::Pop))?;
+    assert_eq!(rt; verdict_within(a, &[], 0, 65_535, faulty)?, Some(65_534));
+    Ok(())
+}
