@@ -9,7 +9,7 @@ use Rattle.jvm_program.specs.declared.linked_method.LinkedMethod.{LinkedMethod}
 use Rattle.jvm_program.specs.declared.instruction.Instruction.{Instruction}
 use Rattle.jvm_program.specs.declared.instruction.Instruction.TheVariants.{Call}
 use Rattle.jvm_program.specs.Program.{Program}
-use Rattle.jvm_program.specs.Typing.{TypeFrame, Frames, TypeEffect, type_effect, call_type, applied, local_within, Follows, IsTypingTo, Typed, AllTyped}
+use Rattle.jvm_program.specs.Typing.{TypeFrame, Frames, TypeEffect, type_effect, call_type, applied, local_within, Follows, IsTypingTo, Typed}
 use Rattle.jvm_link.specs.Linking.{program_of, linked_methods, methods_from, linked_method}
 use Rattle.type_verifier.specs.declared.verify_error.VerifyError.{VerifyError}
 use Rattle.type_verifier.specs.declared.verify_error.VerifyError.TheVariants.{Refused, NoMemory}
@@ -66,9 +66,6 @@ all-least classes methods e all m method is =
     let same = same-methods classes methods e in
     let there : slice_get methods m ≡ Some method = same m ∙ is in
     least-same (program_over methods) (program_of classes) same method (all m method (slice_get_within methods m method there) there)
-
-pub all-typed : (program : Program) → AllLeastTyped program → AllTyped program
-all-typed program all m method is = let l = all m method is in (l.frames, l.typing)
 
 -- ---- the method at fault
 

