@@ -4,3 +4,4 @@ pub mod Frames
 pub mod Actions
 pub mod Flow
 pub mod Unique
+pub mod Soundness

@@ -1,7 +1,8 @@
 //! Whether all methods of linked classes are typed (JVM Specification, 4.10).
 ghost use Rattle.std.specs.Prelude.{◌≡◌, ◌<◌, IfOk, IfErr, length};
-ghost use Rattle.jvm_link.specs.Linking.{linked_methods};
+ghost use Rattle.jvm_link.specs.Linking.{linked_methods, program_of};
 ghost use Rattle.type_verifier.specs.Actions.{program_over};
+ghost use Rattle.type_verifier.specs.Soundness.{NeverStuck};
 ghost use Rattle.type_verifier.specs.Refusal.{IsRefusal, IsFirstFault, IsFault, IsPlace};
 
 use crate::method::check_method;
@@ -13,9 +14,11 @@ use jvm_program::LinkedMethod;
 use std::alloc::Global;
 
 /// Linked classes, verified; or the first method that has no typing, with the least offset up to which it has none.
+/// No run of classes that are verified comes to a step that no rule gives.
 pub fn verify(alloc: Global, linked: Linked) -> Result<Verified, VerifyError>
     ensures verified { IfOk result (λ v. v.linked ≡ linked) }
     ensures refused { IfErr result (IsRefusal linked.classes) }
+    ensures sound { IfOk result (λ v. NeverStuck (program_of v.linked.classes)) }
 {
     match first_fault(alloc, linked.methods.as_slice()) {
         Ok(None) => Ok(Verified { linked }),
