@@ -44,7 +44,7 @@ first_below first (key ∷ keys) (suc i) d h l =
     let parts = both (int_lt first key) (rise_from key keys) h in
     below_trans first key (get_or keys i d) parts.0 (first_below key keys i d parts.1 (omega arith))
 
-rises_at : (keys : List ℤ) (i j : ℕ) (d : ℤ) → rise keys ≡ true → i < j → j < length keys → int_lt (get_or keys i d) (get_or keys j d) ≡ true
+pub rises_at : (keys : List ℤ) (i j : ℕ) (d : ℤ) → rise keys ≡ true → i < j → j < length keys → int_lt (get_or keys i d) (get_or keys j d) ≡ true
 rises_at [] i j d h p l = absurd (omega arith)
 rises_at (key ∷ keys) zero zero d h p l = absurd (omega arith)
 rises_at (key ∷ keys) (suc i) zero d h p l = absurd (omega arith)
@@ -66,13 +66,13 @@ index_rises key keys h i j d le l =
 
 -- ---- the number
 
-absent : (keys : List ℤ) (key : ℤ) (number : ℕ) → ((k : ℕ) (d : ℤ) → k < length keys → get_or keys k d ≢ key) → number_of keys key number ≡ 0
+pub absent : (keys : List ℤ) (key : ℤ) (number : ℕ) → ((k : ℕ) (d : ℤ) → k < length keys → get_or keys k d ≢ key) → number_of keys key number ≡ 0
 absent [] key number h = refl
 absent (k ∷ keys) key number h =
     let other : same k key ≡ false = not_same k key (h 0 k (omega arith)) in
     rw other (absent keys key (suc number) (λ i d l. h (suc i) d (omega arith)))
 
-found_at : (keys : List ℤ) (key : ℤ) (number i : ℕ) (d : ℤ) → rise keys ≡ true → i < length keys → get_or keys i d ≡ key → i + number ≡ number_of keys key number
+pub found_at : (keys : List ℤ) (key : ℤ) (number i : ℕ) (d : ℤ) → rise keys ≡ true → i < length keys → get_or keys i d ≡ key → i + number ≡ number_of keys key number
 found_at [] key number i d h l e = absurd (omega arith)
 found_at (k ∷ keys) key number zero d h l e =
     let is_key : same k key ≡ true = rw e (same_self key) in

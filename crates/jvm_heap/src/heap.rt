@@ -1,5 +1,5 @@
 ghost use Rattle.std.specs.Prelude.{◌≡◌, ◌≤◌, ◌∷◌, [], ℕ, None, IfOk, IsTrue, OnOk, OnErr, IfErr};
-ghost use Rattle.jvm_program.specs.HostMemory.{HostMemory, memory_of, with_byte, byte_of};
+ghost use Rattle.jvm_program.specs.HostMemory.{memory_of, byte_of};
 ghost use Rattle.jvm_heap.specs.Regions.{heap_of};
 ghost use Rattle.jvm_heap.specs.Viewing.{written_is_readable, memory_ends, readable_stays, writable_stays};
 
@@ -95,15 +95,15 @@ impl Heap {
 }
 
 impl View for Heap {
-    ghost use Rattle.jvm_heap.specs.Heaps.{host_memory};
+    ghost use Rattle.jvm_heap.specs.Heaps.{Seen, seen, with_seen_byte};
 
-    ghost Content = { HostMemory };
+    ghost Content = { Seen };
 
-    ghost content = { host_memory };
+    ghost content = { seen };
 
-    ghost memory = { memory_of };
+    ghost memory = { λ c. memory_of c.memory };
 
-    ghost put_at = { with_byte };
+    ghost put_at = { with_seen_byte };
 
     fn byte(&self, at: u32) -> Option<u8> {
         match self.byte_through(self.readable, at) {
@@ -127,11 +127,11 @@ impl View for Heap {
         }
     }
 
-    ghost written_is_readable = { written_is_readable };
+    ghost written_is_readable = { λ c. written_is_readable c.memory };
 
-    ghost ends = { memory_ends };
+    ghost ends = { λ c. memory_ends c.memory };
 
-    ghost readable_stays = { readable_stays };
+    ghost readable_stays = { λ c. readable_stays c.memory };
 
-    ghost writable_stays = { writable_stays };
+    ghost writable_stays = { λ c. writable_stays c.memory };
 }

@@ -4,7 +4,7 @@ use Rattle.int_region.specs.Arrays.{Block, Contents, array_at, values_at, values
 use Rattle.jvm_program.specs.Values.{Heap, with_int}
 use Rattle.jvm_program.specs.HostMemory.{HostMemory, Cell, cell_of, with_cell, with_byte}
 use Rattle.jvm_heap.specs.Regions.{heap_of}
-use Rattle.jvm_heap.specs.Heaps.{StandsAt, IsSafe, Held, host_memory}
+use Rattle.jvm_heap.specs.Heaps.{StandsAt, IsSafe, Held, Seen, host_memory, seen, with_seen_byte}
 use Rattle.jvm_heap.proofs.HeapLaws.{heap_put_int}
 use Rattle.jvm_heap.proofs.SafetyLaws.{safe_put}
 use Rattle.jvm_heap.proofs.heap.HeapView.put.Goals as goal
@@ -28,7 +28,13 @@ pub invariant_of-self : goal.invariant_of-self
 invariant_of-self c =
     kept c.self.inside.region c.put.new.self c.self.inside.readable c.self.inside.writable c.in-Some.cell.place c.in-Some.cell.index c.with_lane-word.result c.self.invariant c.put.ensures.sound c.in-Some.ensures.live c.in-Some.ensures.within c.put.ensures.changed
 
+put_seen : (region after : Contents) (readable writable : Option ℕ) (at b p i w v : ℕ) → StandsAt region.arrays p 0 → i < length (values_at region.arrays p) → after ≡ record { size = region.size; arrays = with_value region.arrays p i v } → Some (record { place = p; index = i; word = w }) ≡ cell_of (heap_of region.arrays) writable at → v ≡ word_with_lane w (at % 4) b → seen (record { region = after; readable = readable; writable = writable }) ≡ with_seen_byte (seen (record { region = region; readable = readable; writable = writable })) at b
+put_seen region after readable writable at b p i w v s h made cell word =
+    let memory = put region after readable writable at b p i w v s h made cell word in
+    let size : after.size ≡ region.size = ap (λ (r : Contents). r.size) made in
+    λ j. record { memory = memory j; size = size j }
+
 pub returns-in-Some-clause-after : goal.returns-in-Some-clause-after
 returns-in-Some-clause-after c =
-    put c.self.inside.region c.put.new.self c.self.inside.readable c.self.inside.writable c.args.at c.args.b c.in-Some.cell.place c.in-Some.cell.index c.in-Some.cell.word c.with_lane-word.result c.in-Some.ensures.live c.in-Some.ensures.within c.put.ensures.changed c.in-Some.ensures.found c.with_lane-word.ensures.value
-    ∙ ap (λ (h : Held). with_byte (host_memory h) c.args.at c.args.b) c.self.view_is
+    put_seen c.self.inside.region c.put.new.self c.self.inside.readable c.self.inside.writable c.args.at c.args.b c.in-Some.cell.place c.in-Some.cell.index c.in-Some.cell.word c.with_lane-word.result c.in-Some.ensures.live c.in-Some.ensures.within c.put.ensures.changed c.in-Some.ensures.found c.with_lane-word.ensures.value
+    ∙ ap (λ (h : Held). with_seen_byte (seen h) c.args.at c.args.b) c.self.view_is

@@ -1,0 +1,3 @@
+pub mod Workings
+pub mod Ready
+pub mod Executes
