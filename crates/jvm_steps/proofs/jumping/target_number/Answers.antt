@@ -7,7 +7,6 @@ use Rattle.jvm_code.specs.declared.pair.Pair.{Pair}
 use Rattle.jvm_steps.proofs.Places.{found_number, missing_number, same_key, not_below, below_other, above_other, before_all, behind_all, middle_within}
 use Rattle.jvm_steps.proofs.jumping.target_number.Goals as goal
 
-
 pub returns-then-here-key-clause-number : goal.returns-then-here-key-clause-number
 returns-then-here-key-clause-number c =
     let m = c.loop-low.low + (c.loop-low.high - c.loop-low.low) / 2 in
