@@ -1,6 +1,7 @@
 -- How a set goes on, and how files follow one another.
-use Rattle.std.proofs.Common.{◌≡◌, ◌∙◌, ℕ, suc, ◌+◌, ◌-◌, ◌<◌, ◌≤◌, List, [], ◌∷◌, ◌++◌, length, Option, Some, None, option_map, Result, Ok, Err, Vec, Global, refl, sym, ap, subst, arith}
+use Rattle.std.proofs.Common.{◌≡◌, ◌∙◌, ℕ, suc, ◌+◌, ◌-◌, ◌<◌, ◌≤◌, List, [], ◌∷◌, ◌++◌, length, Option, Some, None, option_map, Result, Ok, Err, Vec, Global, IfOk, length-append, refl, sym, ap, subst, arith}
 use Rattle.std.specs.List.{All}
+use Rattle.std.proofs.lemmas.List.Elements.{All-push, All-same}
 use Rattle.nv_outside.specs.Files.{Files, Finds, SameFiles}
 use Rattle.class_format.specs.declared.fault.ClassFault.{ClassFault}
 use Rattle.jvm_code.specs.declared.class.Class.{Class}
@@ -74,3 +75,17 @@ set_grows files k classes more q mid new bytes c all lt is found read once asked
   where
     n : ℕ
     n = 1025 - (k + 1)
+
+-- files that are as before are still told
+pub told_same : (files : Files) (told now : Option Files) → told ≡ Some files → SameFiles told now → now ≡ Some files
+told_same files None now is same = absurd cc
+told_same files (Some f) None is same = absurd same
+told_same files (Some f) (Some g) is same = let e : g ≡ f = (λ i name. same name i) in ap Some e ∙ is
+
+-- ---- a class more
+
+pub one_class_more : (classes more : List Class) (c : Class) (k : ℕ) → length classes ≡ k → more ≡ classes ++ c ∷ [] → length more ≡ k + 1
+one_class_more classes more c k numbered is = ap length is ∙ omega (arith, length-append classes (c ∷ []))
+
+pub kept_more : (classes more : List Class) (c : Class) (read : Result Class ClassFault) → All IsClass classes → IfOk read IsClass → read ≡ Ok c → more ≡ classes ++ c ∷ [] → All IsClass more
+kept_more classes more c read kept class_kept is more_is = All-same IsClass more (classes ++ c ∷ []) more_is (All-push IsClass classes c kept (subst (λ r. IfOk r IsClass) is class_kept))

@@ -20,6 +20,12 @@ returns-then-is_some-clause-found g c = λ files told.
     ∙ file_asked files (g.H.Shelf.files c.args.shelf.now) (g.H.Shelf.files c.loop-self.shelf) keys i c.index.result.now c.as_str-name.result.now c.in_ok-found.found told c.loop-self.invariant.same c.in_ok-found.ensures.found c.as_str-name.ensures.value c.index.ensures c.loop-self.invariant.once
     ∙ found_some (queue (i + 1) (texts keys)) c.in_ok-found.found (next files (take (i + 1) (texts keys)) (drop (i + 1) (texts keys))) (sym c.is_some.ensures ∙ c.if-is_some.true)
 
+pub returns-then-is_some-clause-once : goal.returns-then-is_some-clause-once
+returns-then-is_some-clause-once g c =
+    let keys = c.loop-self.self-inside.names.keys in
+    let i = c.loop-self.self-inside.asked in
+    (once_more (texts keys) i _ (text_at keys i c.index.result.now c.index.ensures) c.loop-self.invariant.once).1
+
 pub loop-self-preserved : goal.loop-self-preserved
 loop-self-preserved g c =
     let keys = c.loop-self.self-inside.names.keys in
