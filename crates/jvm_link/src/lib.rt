@@ -23,6 +23,7 @@ mod run;
 mod texts;
 mod twice;
 
+pub use known::is_known;
 pub use link_fault::{LinkError, LinkFault, NoMemory};
 pub use linked::Linked;
 pub use linking::link;

@@ -1,0 +1,4 @@
+pub mod WaitingLemmas
+pub mod QueueLemmas
+pub mod EntryLemmas
+pub mod SetLemmas

@@ -1,0 +1,91 @@
+-- How a set goes on, and how files follow one another.
+use Rattle.std.proofs.Common.{◌≡◌, ◌∙◌, ℕ, suc, ◌+◌, ◌-◌, ◌<◌, ◌≤◌, List, [], ◌∷◌, ◌++◌, length, Option, Some, None, option_map, Result, Ok, Err, Vec, Global, IfOk, length-append, refl, sym, ap, subst, arith}
+use Rattle.std.specs.List.{All}
+use Rattle.std.proofs.lemmas.List.Elements.{All-push, All-same}
+use Rattle.nv_outside.specs.Files.{Files, Finds, SameFiles}
+use Rattle.class_format.specs.declared.fault.ClassFault.{ClassFault}
+use Rattle.jvm_code.specs.declared.class.Class.{Class}
+use Rattle.jvm_link.specs.Kept.{IsClass}
+use Rattle.class_set.specs.declared.loaded.Loaded.{Loaded}
+use Rattle.class_set.specs.declared.loaded.Loaded.TheVariants.{Faulty}
+use Rattle.class_set.specs.ClassSets.{names_asked, class_in, next, set_of, grown}
+use Rattle.class_set.specs.Kept.{IsKept}
+use Rattle.class_set.specs.Waiting.{fresh, Queue, IsOnce, file_found}
+use Rattle.class_set.proofs.WaitingLemmas.{grown-zero, grown-none, grown-fault, grown-class, grown-once}
+
+pub same_files : (files : Option Files) → SameFiles files files
+same_files None = tt
+same_files (Some f) = λ name. refl
+
+pub same_then_same : (a b c : Option Files) → SameFiles a b → SameFiles b c → SameFiles a c
+same_then_same None b c p q = tt
+same_then_same (Some a) None c p q = absurd p
+same_then_same (Some a) (Some b) None p q = absurd q
+same_then_same (Some a) (Some b) (Some c) p q = λ name. q name ∙ p name
+
+-- what was found under a name is what the files have there
+pub found_there : (files : Files) (told now : Option Files) (name : List ℕ) (found : Option (Vec ℕ Global)) → told ≡ Some files → SameFiles told now → Finds now name found → files name ≡ option_map (λ v. v.items) found
+found_there files None now name found is same finds = absurd cc
+found_there files (Some f) None name found is same finds = absurd same
+found_there files (Some f) (Some g) name found is same finds =
+    let e : files ≡ f = cc in
+    rw e (sym (finds ∙ same name))
+
+-- ---- a set that goes on
+
+pub kept_set : (classes : List Class) → All IsClass classes → IsKept (set_of classes)
+kept_set [] kept = tt
+kept_set (c ∷ classes) kept = kept
+
+pub kept_loaded : (loaded : Loaded) (classes : List Class) → loaded ≡ set_of classes → All IsClass classes → IsKept loaded
+kept_loaded loaded classes is kept = subst IsKept (sym is) (kept_set classes kept)
+
+one_more : (k : ℕ) → k < 1025 → 1025 - k ≡ suc (1025 - (k + 1))
+one_more k lt = omega arith
+
+-- the set at a number, whose end is the whole set
+abbrev pub SetIs : Files → ℕ → List Class → Queue → Loaded → Type 0
+SetIs files k classes q all = grown files (1025 - k) classes q.asked q.waiting ≡ all
+
+turn : (files : Files) (k : ℕ) (classes : List Class) (q : Queue) (all : Loaded) → k < 1025 → SetIs files k classes q all → grown files (suc (1025 - (k + 1))) classes q.asked q.waiting ≡ all
+turn files k classes q all lt is = ap (λ n. grown files n classes q.asked q.waiting) (sym (one_more k lt)) ∙ is
+
+pub set_ends : (files : Files) (k : ℕ) (classes : List Class) (q : Queue) (all : Loaded) → k < 1025 → SetIs files k classes q all → next files q.asked q.waiting ≡ None → set_of classes ≡ all
+set_ends files k classes q all lt is none = sym (grown-none files (1025 - (k + 1)) classes q.asked q.waiting none) ∙ turn files k classes q all lt is
+
+pub set_full : (files : Files) (k : ℕ) (classes : List Class) (q : Queue) (all : Loaded) → 1025 ≤ k → SetIs files k classes q all → set_of classes ≡ all
+set_full files k classes q all le is =
+    let e : 0 ≡ 1025 - k = omega arith in
+    sym (grown-zero files classes q.asked q.waiting) ∙ ap (λ n. grown files n classes q.asked q.waiting) e ∙ is
+
+pub set_faulty : (files : Files) (k : ℕ) (classes : List Class) (q new : Queue) (bytes : Vec ℕ Global) (fault : ClassFault) (all : Loaded) → k < 1025 → length classes ≡ k → SetIs files k classes q all → next files q.asked q.waiting ≡ Some (file_found new bytes) → class_in bytes.items ≡ Err fault → Faulty k fault ≡ all
+set_faulty files k classes q new bytes fault all lt numbered is found read =
+    ap (λ n. Faulty n fault) (sym numbered)
+    ∙ sym (grown-fault files (1025 - (k + 1)) classes q.asked q.waiting (file_found new bytes) fault found read)
+    ∙ turn files k classes q all lt is
+
+pub set_grows : (files : Files) (k : ℕ) (classes more : List Class) (q mid new : Queue) (bytes : Vec ℕ Global) (c : Class) (all : Loaded) → k < 1025 → SetIs files k classes q all → next files q.asked q.waiting ≡ Some (file_found mid bytes) → class_in bytes.items ≡ Ok c → IsOnce mid → new.asked ≡ mid.asked → new.waiting ≡ mid.waiting ++ fresh (mid.asked ++ mid.waiting) (names_asked c) → more ≡ classes ++ c ∷ [] → SetIs files (k + 1) more new all
+set_grows files k classes more q mid new bytes c all lt is found read once asked waiting more_is =
+    ap (λ cs. grown files n cs new.asked new.waiting) more_is
+    ∙ ap (λ a. grown files n (classes ++ c ∷ []) a new.waiting) asked
+    ∙ ap (λ w. grown files n (classes ++ c ∷ []) mid.asked w) waiting
+    ∙ grown-once files n (classes ++ c ∷ []) mid.asked mid.waiting (names_asked c) once
+    ∙ sym (grown-class files n classes q.asked q.waiting (file_found mid bytes) c found read)
+    ∙ turn files k classes q all lt is
+  where
+    n : ℕ
+    n = 1025 - (k + 1)
+
+-- files that are as before are still told
+pub told_same : (files : Files) (told now : Option Files) → told ≡ Some files → SameFiles told now → now ≡ Some files
+told_same files None now is same = absurd cc
+told_same files (Some f) None is same = absurd same
+told_same files (Some f) (Some g) is same = let e : g ≡ f = (λ i name. same name i) in ap Some e ∙ is
+
+-- ---- a class more
+
+pub one_class_more : (classes more : List Class) (c : Class) (k : ℕ) → length classes ≡ k → more ≡ classes ++ c ∷ [] → length more ≡ k + 1
+one_class_more classes more c k numbered is = ap length is ∙ omega (arith, length-append classes (c ∷ []))
+
+pub kept_more : (classes more : List Class) (c : Class) (read : Result Class ClassFault) → All IsClass classes → IfOk read IsClass → read ≡ Ok c → more ≡ classes ++ c ∷ [] → All IsClass more
+kept_more classes more c read kept class_kept is more_is = All-same IsClass more (classes ++ c ∷ []) more_is (All-push IsClass classes c kept (subst (λ r. IfOk r IsClass) is class_kept))

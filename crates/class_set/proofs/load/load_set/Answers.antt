@@ -1,0 +1,68 @@
+use Rattle.std.proofs.Common.{◌≡◌, ◌∙◌, false, option_map, refl, sym, ap}
+use Rattle.class_set.specs.ClassSets.{class_set, class_in}
+use Rattle.class_set.specs.Waiting.{file_found}
+use Rattle.class_set.proofs.SetLemmas.{same_then_same, told_same, kept_loaded, set_ends, set_full, set_faulty, set_grows, one_class_more, kept_more}
+use Rattle.class_set.proofs.load.load_set.Goals as goal
+
+pub returns-in_err-bytes-clause-same : goal.returns-in_err-bytes-clause-same
+returns-in_err-bytes-clause-same g c = same_then_same (g.H.Shelf.files c.args.shelf.now) (g.H.Shelf.files c.loop-number.shelf) (g.H.Shelf.files c.next_file.new.shelf) c.loop-number.invariant.same c.next_file.ensures.same
+
+pub returns-in_err-class-clause-same : goal.returns-in_err-class-clause-same
+returns-in_err-class-clause-same g c = same_then_same (g.H.Shelf.files c.args.shelf.now) (g.H.Shelf.files c.loop-number.shelf) (g.H.Shelf.files c.next_file.new.shelf) c.loop-number.invariant.same c.next_file.ensures.same
+
+pub returns-in_err-add-in-Ok-clause-same : goal.returns-in_err-add-in-Ok-clause-same
+returns-in_err-add-in-Ok-clause-same g c = same_then_same (g.H.Shelf.files c.args.shelf.now) (g.H.Shelf.files c.loop-number.shelf) (g.H.Shelf.files c.next_file.new.shelf) c.loop-number.invariant.same c.next_file.ensures.same
+
+pub returns-in_err-push-in-Ok-clause-same : goal.returns-in_err-push-in-Ok-clause-same
+returns-in_err-push-in-Ok-clause-same g c = same_then_same (g.H.Shelf.files c.args.shelf.now) (g.H.Shelf.files c.loop-number.shelf) (g.H.Shelf.files c.next_file.new.shelf) c.loop-number.invariant.same c.next_file.ensures.same
+
+pub returns-in-Err-clause-same : goal.returns-in-Err-clause-same
+returns-in-Err-clause-same g c = same_then_same (g.H.Shelf.files c.args.shelf.now) (g.H.Shelf.files c.loop-number.shelf) (g.H.Shelf.files c.next_file.new.shelf) c.loop-number.invariant.same c.next_file.ensures.same
+
+pub returns-in_default-clause-same : goal.returns-in_default-clause-same
+returns-in_default-clause-same g c = same_then_same (g.H.Shelf.files c.args.shelf.now) (g.H.Shelf.files c.loop-number.shelf) (g.H.Shelf.files c.next_file.new.shelf) c.loop-number.invariant.same c.next_file.ensures.same
+
+pub returns-in_default-clause-kept : goal.returns-in_default-clause-kept
+returns-in_default-clause-kept g c = kept_loaded c.set_of.result c.loop-number.classes.items c.set_of.ensures c.loop-number.invariant.kept
+
+pub returns-in_default-clause-loaded : goal.returns-in_default-clause-loaded
+returns-in_default-clause-loaded g c = λ files told.
+    let now = told_same files (g.H.Shelf.files c.args.shelf.now) (g.H.Shelf.files c.loop-number.shelf) told c.loop-number.invariant.same in
+    c.set_of.ensures
+    ∙ set_ends files c.loop-number.number c.loop-number.classes.items c.loop-number.names (class_set files c.args.name.now) c.loop-number-test.true (c.loop-number.invariant.goes_on files told)
+    (c.in_ok-bytes.ensures.found files now ∙ ap (option_map (file_found c.next_file.new.self)) c.in_default.is)
+
+pub returns-in-Err-clause-loaded : goal.returns-in-Err-clause-loaded
+returns-in-Err-clause-loaded g c = λ files told.
+    let now = told_same files (g.H.Shelf.files c.args.shelf.now) (g.H.Shelf.files c.loop-number.shelf) told c.loop-number.invariant.same in
+    set_faulty files c.loop-number.number c.loop-number.classes.items c.loop-number.names c.next_file.new.self c.in-Some.bytes c.in-Err.fault (class_set files c.args.name.now)
+    c.loop-number-test.true c.loop-number.invariant.numbered (c.loop-number.invariant.goes_on files told)
+    (c.in_ok-bytes.ensures.found files now ∙ ap (option_map (file_found c.next_file.new.self)) c.in-Some.is)
+    (ap class_in (sym c.as_slice.ensures.value) ∙ sym c.in_ok-class.ensures.is ∙ c.in-Err.is)
+
+pub loop-number-preserved : goal.loop-number-preserved
+loop-number-preserved g c =
+    let classes = c.loop-number.classes.items in
+    let more = c.push.new.classes.items in
+    let class = c.in-Ok.class in
+    record {
+      numbered = one_class_more classes more class c.loop-number.number c.loop-number.invariant.numbered c.in_ok-push-in-Ok.ensures;
+      kept = kept_more classes more class c.in_ok-class.field-0 c.loop-number.invariant.kept c.in_ok-class.ensures.kept c.in-Ok.is c.in_ok-push-in-Ok.ensures;
+      same = same_then_same (g.H.Shelf.files c.args.shelf.now) (g.H.Shelf.files c.loop-number.shelf) (g.H.Shelf.files c.next_file.new.shelf) c.loop-number.invariant.same c.next_file.ensures.same;
+      faults = c.in_ok-bytes.ensures.count.stays (refl {a = false}) ∙ c.loop-number.invariant.faults;
+      goes_on = λ files told.
+          let now = told_same files (g.H.Shelf.files c.args.shelf.now) (g.H.Shelf.files c.loop-number.shelf) told c.loop-number.invariant.same in
+          set_grows files c.loop-number.number classes more c.loop-number.names c.next_file.new.self c.add.new.self c.in-Some.bytes class (class_set files c.args.name.now)
+          c.loop-number-test.true (c.loop-number.invariant.goes_on files told)
+          (c.in_ok-bytes.ensures.found files now ∙ ap (option_map (file_found c.next_file.new.self)) c.in-Some.is)
+          (ap class_in (sym c.as_slice.ensures.value) ∙ sym c.in_ok-class.ensures.is ∙ c.in-Ok.is)
+          c.next_file.ensures.once c.in_ok-add-in-Ok.ensures.asked c.in_ok-add-in-Ok.ensures.waiting c.in_ok-push-in-Ok.ensures;
+    }
+
+pub returns-clause-loaded : goal.returns-clause-loaded
+returns-clause-loaded g c = λ files told.
+    c.set_of-2.ensures
+    ∙ set_full files c.loop-number.number c.loop-number.classes.items c.loop-number.names (class_set files c.args.name.now) c.loop-number-test.false (c.loop-number.invariant.goes_on files told)
+
+pub returns-clause-kept : goal.returns-clause-kept
+returns-clause-kept g c = kept_loaded c.set_of-2.result c.loop-number.classes.items c.set_of-2.ensures c.loop-number.invariant.kept

@@ -1,0 +1,17 @@
+use Rattle.std.proofs.Common.{◌≡◌, ◌-◌, ◌≤◌, length, take, drop, Some}
+use Rattle.nv_outside.specs.Files.{Files, SameFiles}
+use Rattle.class_set.specs.ClassSets.{next}
+use Rattle.class_set.specs.Waiting.{texts, queue, IsOnce}
+use Rattle.class_set.proofs.names.Names.next_file.Given as goal
+
+abbrev pub invariant-loop-self : goal.invariant-loop-self
+invariant-loop-self g l = record {
+  within : l.self-inside.asked ≤ length l.self-inside.names.keys;
+  once : IsOnce (queue l.self-inside.asked (texts l.self-inside.names.keys));
+  same : SameFiles (g.H.Shelf.files l.initial.shelf) (g.H.Shelf.files l.shelf);
+  faults : g.H.Shelf.faults l.shelf ≡ g.H.Shelf.faults l.initial.shelf;
+  skipped : (files : Files) → g.H.Shelf.files l.initial.shelf ≡ Some files → next files l.fn.self.asked l.fn.self.waiting ≡ next files (take l.self-inside.asked (texts l.self-inside.names.keys)) (drop l.self-inside.asked (texts l.self-inside.names.keys));
+}
+
+abbrev pub decreases-loop-self : goal.decreases-loop-self
+decreases-loop-self g l = length l.self-inside.names.keys - l.self-inside.asked

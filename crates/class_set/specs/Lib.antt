@@ -1,0 +1,3 @@
+pub mod ClassSets
+pub mod Waiting
+pub mod Kept

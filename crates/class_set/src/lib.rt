@@ -1,0 +1,15 @@
+//! The classes that a command works on (JVM Specification, 5.3): a class is loaded by its name, and then those that loaded classes
+//! name.
+#![tactic(auto)]
+
+mod asked;
+mod load;
+mod loaded;
+mod names;
+mod reading;
+
+pub use load::load_set;
+pub use loaded::Loaded;
+
+#[cfg(test)]
+mod tests;
