@@ -1,5 +1,5 @@
 -- The entries of a class that keeps the rules of the format, and the names in them.
-use Rattle.std.proofs.Common.{◌≡◌, ℕ, ◌+◌, ◌-◌, ◌<◌, ◌≤◌, Bool, true, false, cond, ◌&&◌, ◌||◌, eqb, List, [], ◌∷◌, length, Option, Some, None, get_or, refl, sym, subst, arith, inl, inr, lit<}
+use Rattle.std.proofs.Common.{◌≡◌, ℕ, ◌+◌, ◌-◌, ◌<◌, Bool, true, false, cond, ◌&&◌, ◌||◌, eqb, List, [], ◌∷◌, length, Option, Some, None, get_or, refl, sym, subst, arith, inl, inr, lit<}
 use Rattle.std.specs.Prelude.{nat_le, not}
 use Rattle.std.specs.List.{All, AllByRecursion}
 use Rattle.std.specs.Int.{w16}
@@ -37,6 +37,7 @@ each_sound entries (e ∷ es) at sound = by (λ at h. each_sound entries es at h
   where
     Each : List Entry → Type 0
     Each xs = AllByRecursion (λ (x : Entry). entry_fault entries x ≡ None) xs
+
     by : ((at : ℕ) → is_sound (entries_fault entries es at) ≡ true → Each es) → (fault : Option ℕ) → entry_fault entries e ≡ fault → is_sound (fault_or at fault (entries_fault entries es (at + slot_size e))) ≡ true → (entry_fault entries e ≡ None) × Each es
     by others None is sound = (is, others (at + slot_size e) sound)
     by others (Some kind) is sound = absurd cc
@@ -49,21 +50,22 @@ kept_entries c kept = All-from_recursion (λ (e : Entry). entry_fault c.pool e �
 
 plain_character : (c : ℕ) → is_part_character c ≡ true → c < 128
 plain_character c e = elim (or_cases _ (eqb c 36) e) [
-    inl four ↦ elim (or_cases _ (eqb c 95) four) [
-        inl three ↦ elim (or_cases _ (nat_le 48 c && nat_le c 57) three) [
-            inl two ↦ elim (or_cases (nat_le 97 c && nat_le c 122) (nat_le 65 c && nat_le c 90) two) [
-                inl small ↦ below 97 122 small (lit< tt)
-                | inr capital ↦ below 65 90 capital (lit< tt)
-            ]
-            | inr digit ↦ below 48 57 digit (lit< tt)
-        ]
-        | inr is ↦ exactly 95 is (lit< tt)
+  | inl four ↦ elim (or_cases _ (eqb c 95) four) [
+    | inl three ↦ elim (or_cases _ (nat_le 48 c && nat_le c 57) three) [
+      | inl two ↦ elim (or_cases (nat_le 97 c && nat_le c 122) (nat_le 65 c && nat_le c 90) two) [
+        | inl small ↦ below 97 122 small (lit< tt)
+        | inr capital ↦ below 65 90 capital (lit< tt)
+      ]
+      | inr digit ↦ below 48 57 digit (lit< tt)
     ]
-    | inr is ↦ exactly 36 is (lit< tt)
+    | inr is ↦ exactly 95 is (lit< tt)
+  ]
+  | inr is ↦ exactly 36 is (lit< tt)
 ]
   where
     below : (a b : ℕ) → (nat_le a c && nat_le c b) ≡ true → b < 128 → c < 128
     below a b h small = omega (arith, leb-true c b (and_parts (nat_le a c) (nat_le c b) h).1)
+
     exactly : (a : ℕ) → eqb c a ≡ true → a < 128 → c < 128
     exactly a h small = omega (arith, eqb-true c a h)
 
@@ -73,6 +75,7 @@ plain_from inside (c ∷ cs) e = by (λ b h. plain_from b cs h) (eqb c 47) refl 
   where
     Plain : Type 0
     Plain = (b : Bool) → is_name_from b cs ≡ true → AllByRecursion (λ d. d < 128) cs
+
     by : Plain → (b : Bool) → eqb c 47 ≡ b → cond b (inside && is_name_from false cs) (is_part_character c && is_name_from true cs) ≡ true → (c < 128) × AllByRecursion (λ d. d < 128) cs
     by others true is e = let p = and_parts inside (is_name_from false cs) e in let same : c ≡ 47 = eqb-true c 47 is in (omega arith, others false p.1)
     by others false is e = let p = and_parts (is_part_character c) (is_name_from true cs) e in (plain_character c p.0, others true p.1)
@@ -91,6 +94,7 @@ plain_named entries e slot name sound is at has = plain_name name (by (is_class_
   where
     fault : text_fault (λ cs. is_class_name cs || is_array_name cs) (Some name) ≡ None
     fault = subst (λ t. text_fault (λ cs. is_class_name cs || is_array_name cs) t ≡ None) at (class_fault entries slot (subst (λ x. entry_fault entries x ≡ None) is sound))
+
     by : (own array known : Bool) → ◌≡◌ {A = Option ℕ} (cond (own || array) None (Some utf8)) None → not (array || known) ≡ true → own ≡ true
     by true array known h g = refl
     by false true known h g = cc

@@ -1,5 +1,5 @@
 -- How a queue of names moves on.
-use Rattle.std.proofs.Common.{◌≡◌, ℕ, suc, ◌+◌, ◌<◌, ◌≤◌, Bool, true, false, cond, List, [], ◌∷◌, ◌++◌, length, map, take, drop, Option, Some, None, option_map, String, Global, string_bytes, refl, sym, ap, ◌∙◌, subst, append_assoc, append-nil, get_or, arith}
+use Rattle.std.proofs.Common.{◌≡◌, ℕ, ◌+◌, ◌<◌, ◌≤◌, Bool, true, false, cond, List, [], ◌∷◌, ◌++◌, length, take, drop, Option, Some, None, option_map, String, Global, string_bytes, refl, sym, ap, ◌∙◌, subst, append_assoc, append-nil, get_or, arith}
 use Rattle.std.specs.Prelude.{◌||◌, slice_get, is_some, flat_map, Vec}
 use Rattle.std.specs.List.{list_any}
 use Rattle.std.specs.String.{string_eq}
@@ -80,6 +80,7 @@ inserted names name = subst P (sym (among_texts name names)) (by (is_among (text
   where
     P : Bool → Type 0
     P b = texts (cond b names (names ++ name ∷ [])) ≡ texts names ++ fresh (texts names) (string_bytes name ∷ [])
+
     by : (b : Bool) → texts (cond b names (names ++ name ∷ [])) ≡ texts names ++ cond b [] (string_bytes name ∷ [])
     by true = sym (append-nil (texts names))
     by false = map-append string_bytes names (name ∷ [])
@@ -104,10 +105,13 @@ queue_with i old names new le once is = record { asked = front; waiting = back; 
   where
     front : take i new ≡ take i old
     front = ap (take i) is ∙ take-append-le i old (fresh old names) le
+
     back : drop i new ≡ drop i old ++ fresh (take i old ++ drop i old) names
     back = ap (drop i) is ∙ drop-append-le i old (fresh old names) le ∙ ap (λ l. drop i old ++ fresh l names) (sym (take-append-drop i old))
+
     all : Names
     all = take i old ++ drop i old
+
     same : IsOnce (queue i new)
     same =
         ap (λ l. fresh l (drop i new)) front ∙ ap (fresh (take i old)) back
@@ -127,5 +131,5 @@ entry_added pool i e asked waiting mid new names lt at is first second =
     let P : Entry → Type 0 = λ x. take (i + 1) pool ≡ take i pool ++ x ∷ [] in
     let taken : take (i + 1) pool ≡ take i pool ++ e ∷ [] = subst P (sym at) (take_more pool i e lt) in
     let more : flat_map (asked_in pool) (take (i + 1) pool) ≡ flat_map (asked_in pool) (take i pool) ++ names =
-        ap (flat_map (asked_in pool)) taken ∙ sym (flat_map_more (asked_in pool) [] (take i pool) e) ∙ ap (λ l. flat_map (asked_in pool) (take i pool) ++ l) is in
+    ap (flat_map (asked_in pool)) taken ∙ sym (flat_map_more (asked_in pool) [] (take i pool) e) ∙ ap (λ l. flat_map (asked_in pool) (take i pool) ++ l) is in
     added_more asked waiting mid new (flat_map (asked_in pool) (take i pool)) names first second ∙ ap (λ l. waiting ++ fresh (asked ++ waiting) l) (sym more)

@@ -19,6 +19,7 @@ fresh-append known (n ∷ ns) ms = by (fresh-append known ns ms) (fresh-append (
   where
     more : Names
     more = known ++ n ∷ []
+
     by : fresh known (ns ++ ms) ≡ fresh known ns ++ fresh (known ++ fresh known ns) ms
         → fresh more (ns ++ ms) ≡ fresh more ns ++ fresh (more ++ fresh more ns) ms
         → (b : Bool) → cond b (fresh known (ns ++ ms)) (n ∷ fresh more (ns ++ ms)) ≡ cond b (fresh known ns) (n ∷ fresh more ns) ++ fresh (known ++ cond b (fresh known ns) (n ∷ fresh more ns)) ms
@@ -31,6 +32,7 @@ fresh-fresh known (n ∷ ns) = by (fresh-fresh known ns) (fresh-fresh (known ++ 
   where
     more : Names
     more = known ++ n ∷ []
+
     by : fresh known (fresh known ns) ≡ fresh known ns → fresh more (fresh more ns) ≡ fresh more ns
         → (b : Bool) → is_among known n ≡ b → fresh known (cond b (fresh known ns) (n ∷ fresh more ns)) ≡ cond b (fresh known ns) (n ∷ fresh more ns)
     by old new true e = old
@@ -65,10 +67,12 @@ next-fresh files asked (n ∷ ns) = by (next-fresh files asked ns) (next-fresh f
   where
     more : Names
     more = asked ++ n ∷ []
+
     found : next files more (fresh more ns) ≡ option_map refreshed (next files more ns)
         → (file : Option (List ℕ)) → found_or file more (fresh more ns) (next files more (fresh more ns)) ≡ option_map refreshed (found_or file more ns (next files more ns))
     found new None = new
     found new (Some bytes) = refl
+
     by : next files asked (fresh asked ns) ≡ option_map refreshed (next files asked ns)
         → next files more (fresh more ns) ≡ option_map refreshed (next files more ns)
         → (b : Bool) → is_among asked n ≡ b → next files asked (cond b (fresh asked ns) (n ∷ fresh more ns)) ≡ option_map refreshed (cond b (next files asked ns) (found_or (files (file_of n)) more ns (next files more ns)))
@@ -89,14 +93,17 @@ grown-fresh files (suc n) classes asked ns =
   where
     after : Found → Loaded
     after found = with_class (length classes) (λ c. grown files n (classes ++ c ∷ []) found.asked (found.waiting ++ names_asked c)) (class_in found.bytes)
+
     Same : Type 0
     Same = (cs : List Class) (names ms : Names) → grown files n cs names (fresh names ms) ≡ grown files n cs names ms
+
     same : Same → (f : Found) (read : Result Class ClassFault) → with_class (length classes) (λ c. grown files n (classes ++ c ∷ []) f.asked (fresh f.asked f.waiting ++ names_asked c)) read ≡ with_class (length classes) (λ c. grown files n (classes ++ c ∷ []) f.asked (f.waiting ++ names_asked c)) read
     same others f (Err fault) = refl
     same others f (Ok c) =
         sym (others (classes ++ c ∷ []) f.asked (fresh f.asked f.waiting ++ names_asked c))
         ∙ ap (grown files n (classes ++ c ∷ []) f.asked) (fresh-more f.asked f.waiting (names_asked c))
         ∙ others (classes ++ c ∷ []) f.asked (f.waiting ++ names_asked c)
+
     by : Same → (found : Option Found) → with_file (set_of classes) after (option_map refreshed found) ≡ with_file (set_of classes) after found
     by others None = refl
     by others (Some f) = same others f (class_in f.bytes)
@@ -110,6 +117,7 @@ grown-once files n classes asked waiting names once =
   where
     split : (ms : Names) → fresh asked (waiting ++ ms) ≡ waiting ++ fresh (asked ++ waiting) ms
     split ms = fresh-append asked waiting ms ∙ ap (λ l. l ++ fresh (asked ++ l) ms) once
+
     same : fresh asked (waiting ++ fresh (asked ++ waiting) names) ≡ fresh asked (waiting ++ names)
     same = split (fresh (asked ++ waiting) names) ∙ ap (λ l. waiting ++ l) (fresh-fresh (asked ++ waiting) names) ∙ sym (split names)
 

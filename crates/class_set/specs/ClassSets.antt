@@ -87,8 +87,8 @@ grown files zero classes asked waiting = set_of classes
 grown files (suc n) classes asked waiting =
     with_file (set_of classes)
     (λ found. with_class (length classes)
-        (λ c. grown files n (classes ++ c ∷ []) found.asked (found.waiting ++ names_asked c))
-        (class_in found.bytes))
+    (λ c. grown files n (classes ++ c ∷ []) found.asked (found.waiting ++ names_asked c))
+    (class_in found.bytes))
     (next files asked waiting)
 
 -- The set of a name: it ends with the 1,025th class, which is one more than a program can have.

@@ -1,5 +1,5 @@
 -- Names that were asked for and that wait, each once.
-use Rattle.std.specs.Prelude.{◌≡◌, ℕ, if◌then◌else◌, List, [], ◌∷◌, ◌++◌, map, take, drop, String, string_bytes, Vec, Option, Some, None, option_map}
+use Rattle.std.specs.Prelude.{◌≡◌, ℕ, if◌then◌else◌, List, [], ◌∷◌, ◌++◌, map, take, drop, String, string_bytes, Vec, Option, Some, option_map}
 use Rattle.std.specs.declared.alloc.Global.{Global}
 use Rattle.nv_outside.specs.Files.{Files}
 use Rattle.class_set.specs.ClassSets.{is_among, Found, next}

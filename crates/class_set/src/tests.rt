@@ -8,7 +8,7 @@ use std::test::Fail;
 
 /// A file of a class with a method `run()V`.
 #[derive(Clone, Copy)]
-struct File<'a> {
+struct Source<'a> {
     file: &'a str,
     /// The name that the class gives itself.
     own: &'a str,
@@ -18,8 +18,8 @@ struct File<'a> {
     missing: usize,
 }
 
-fn file<'a>(file: &'a str, own: &'a str, named: &'a [&'a str]) -> File<'a> {
-    File {
+fn stored<'a>(file: &'a str, own: &'a str, named: &'a [&'a str]) -> Source<'a> {
+    Source {
         file,
         own,
         named,
@@ -27,8 +27,8 @@ fn file<'a>(file: &'a str, own: &'a str, named: &'a [&'a str]) -> File<'a> {
     }
 }
 
-fn cut<'a>(name: &'a str, missing: usize) -> File<'a> {
-    File {
+fn cut<'a>(name: &'a str, missing: usize) -> Source<'a> {
+    Source {
         file: name,
         own: "Cut",
         named: &[],
@@ -76,11 +76,13 @@ fn class_bytes(alloc: Global, own: &str, named: &[&str]) -> Result<Vec<u8>, Fail
     bytes.extend_from_slice(pool.as_slice())?;
     bytes.extend_from_slice(&[0, 0x31, 0, 2, 0, 4, 0, 0, 0, 0, 0, 1])?;
     bytes.extend_from_slice(&[0, 9, 0, 5, 0, 6, 0, 1, 0, 7, 0, 0, 0, 0x11, 0, 2])?;
-    bytes.extend_from_slice(&[0, 0, 0, 0, 0, 5, 3, 0x6C, 0x57, 0xB1, 0xB1, 0, 0, 0, 0, 0, 0])?;
+    bytes.extend_from_slice(&[
+        0, 0, 0, 0, 0, 5, 3, 0x6C, 0x57, 0xB1, 0xB1, 0, 0, 0, 0, 0, 0,
+    ])?;
     Ok(bytes)
 }
 
-fn shelf_with(alloc: Global, files: &[File], fails: Vec<u64>) -> Result<MemShelf, Fail> {
+fn shelf_with(alloc: Global, files: &[Source], fails: Vec<u64>) -> Result<MemShelf, Fail> {
     let mut shelf = MemShelf::new(alloc, fails);
     for f in files {
         let mut bytes = class_bytes(alloc, f.own, f.named)?;
@@ -104,7 +106,7 @@ fn names_of(alloc: Global, classes: &Sequence<Class>) -> Result<String, Fail> {
 }
 
 /// What loading the set of `Main` comes to, as a text.
-fn loaded(alloc: Global, files: &[File], fails: Vec<u64>) -> Result<String, Fail> {
+fn loaded(alloc: Global, files: &[Source], fails: Vec<u64>) -> Result<String, Fail> {
     let mut shelf = shelf_with(alloc, files, fails)?;
     match load_set(alloc, &mut shelf, "Main") {
         Ok(Loaded::NoFile) => Ok(String::from_str(alloc, "no file")?),
@@ -120,61 +122,75 @@ fn loaded(alloc: Global, files: &[File], fails: Vec<u64>) -> Result<String, Fail
 }
 
 #[test]
-fn a_set_has_its_classes_in_order(rt: HostRuntime) -> Result<(), Fail> {
+fn classes_that_name_one_another_stand_in_the_order_of_their_entries(
+    rt: HostRuntime,
+) -> Result<(), Fail> {
     let alloc = rt.alloc();
-    let main = file("Main.class", "Main", &["B", "A", "Main"]);
-    let rows = [
-        // classes that name one another
-        (
-            [
-                file("A.class", "A", &["Main", "B"]),
-                file("B.class", "B", &["A", "C"]),
-                file("C.class", "C", &["Main", "A"]),
-                main,
-            ]
-            .as_slice(),
-            " Main B A C",
-        ),
-        // a class that gives itself another name is known by its file
-        (
-            [file("A.class", "B", &["Other"]), main, file("Other.class", "A", &[])].as_slice(),
-            " Main B A",
-        ),
-        // arrays, known classes and files of no class are not asked for, and a missing class is left out
-        (
-            [
-                file("A.class", "A", &["[I", "Missing", "[[I", "nestedvm/Host", "java/lang/String", "p/C"]),
-                cut("[I.class", 50),
-                cut("[[I.class", 50),
-                cut("java/lang/Object.class", 50),
-                cut("java/lang/String.class", 50),
-                cut("nestedvm/Host.class", 50),
-                cut("Missing", 50),
-                file("p/C.class", "p/C", &[]),
-                main,
-            ]
-            .as_slice(),
-            " Main A p/C",
-        ),
+    let files = [
+        stored("A.class", "A", &["Main", "B"]),
+        stored("B.class", "B", &["A", "C"]),
+        stored("C.class", "C", &["Main", "A"]),
+        stored("Main.class", "Main", &["B", "A", "Main"]),
     ];
-    for (files, expected) in rows.iter() {
-        let found = loaded(alloc, *files, Vec::new(alloc))?;
-        assert_eq!(rt; found.as_str(), *expected);
-    }
+    let found = loaded(alloc, &files, Vec::new(alloc))?;
+    assert_eq!(rt; found.as_str(), " Main B A C");
+    Ok(())
+}
+
+#[test]
+fn a_class_is_known_by_its_file(rt: HostRuntime) -> Result<(), Fail> {
+    let alloc = rt.alloc();
+    let files = [
+        stored("A.class", "B", &["Other"]),
+        stored("Other.class", "A", &[]),
+        stored("Main.class", "Main", &["B", "A"]),
+    ];
+    let found = loaded(alloc, &files, Vec::new(alloc))?;
+    assert_eq!(rt; found.as_str(), " Main B A");
+    Ok(())
+}
+
+#[test]
+fn arrays_and_known_classes_are_not_asked_for(rt: HostRuntime) -> Result<(), Fail> {
+    let alloc = rt.alloc();
+    let named = [
+        "[I",
+        "Missing",
+        "[[I",
+        "nestedvm/Host",
+        "java/lang/String",
+        "p/C",
+    ];
+    let files = [
+        stored("Main.class", "Main", &named),
+        cut("[I.class", 50),
+        cut("[[I.class", 50),
+        cut("java/lang/Object.class", 50),
+        cut("java/lang/String.class", 50),
+        cut("nestedvm/Host.class", 50),
+        cut("Missing", 50),
+        stored("p/C.class", "p/C", &[]),
+    ];
+    let found = loaded(alloc, &files, Vec::new(alloc))?;
+    assert_eq!(rt; found.as_str(), " Main p/C");
     Ok(())
 }
 
 #[test]
 fn a_set_ends_at_its_first_fault(rt: HostRuntime) -> Result<(), Fail> {
     let alloc = rt.alloc();
-    let main = file("Main.class", "Main", &["B", "A"]);
-    let a = file("A.class", "A", &[]);
+    let main = stored("Main.class", "Main", &["B", "A"]);
+    let a = stored("A.class", "A", &[]);
+    let no_main = [a];
+    let both = [main, a];
+    let first = [cut("Main.class", 1), cut("A.class", 1)];
+    let second = [main, cut("A.class", 1)];
     let rows = [
-        ([a].as_slice(), 0u64, "no file"),
-        ([main, a].as_slice(), 2, "failed"),
-        ([main, a].as_slice(), 4, " Main A"),
-        ([cut("Main.class", 1), cut("A.class", 1)].as_slice(), 0, "class 0 kind 3 at 103"),
-        ([main, cut("A.class", 1)].as_slice(), 0, "class 1 kind 3 at 103"),
+        (no_main.as_slice(), 0u64, "no file"),
+        (both.as_slice(), 2, "failed"),
+        (both.as_slice(), 4, " Main A"),
+        (first.as_slice(), 0, "class 0 kind 3 at 103"),
+        (second.as_slice(), 0, "class 1 kind 3 at 103"),
     ];
     for (files, fails, expected) in rows.iter() {
         let found = loaded(alloc, *files, vec![in alloc; *fails]?)?;

@@ -1,4 +1,4 @@
-use Rattle.std.proofs.Common.{◌≡◌, ◌∙◌, ap, sym, option_map}
+use Rattle.std.proofs.Common.{◌∙◌, ap, sym, option_map}
 use Rattle.class_set.proofs.EntryLemmas.{plain_named}
 use Rattle.class_set.proofs.asked.asked_name.Goals as goal
 

@@ -1,4 +1,4 @@
-use Rattle.std.proofs.Common.{◌≡◌, ◌∙◌, false, option_map, refl, sym, ap}
+use Rattle.std.proofs.Common.{◌∙◌, false, option_map, refl, sym, ap}
 use Rattle.class_set.specs.ClassSets.{class_set, class_in}
 use Rattle.class_set.specs.Waiting.{file_found}
 use Rattle.class_set.proofs.SetLemmas.{same_then_same, told_same, kept_loaded, set_ends, set_full, set_faulty, set_grows, one_class_more, kept_more}

@@ -1,4 +1,4 @@
-use Rattle.std.proofs.Common.{◌≡◌, ap, sym, length}
+use Rattle.std.proofs.Common.{ap, sym, length}
 use Rattle.class_file.proofs.ClassLaws.{spelled_read}
 use Rattle.class_set.specs.ClassSets.{class_or_fault}
 use Rattle.class_set.proofs.reading.class_of.Goals as goal

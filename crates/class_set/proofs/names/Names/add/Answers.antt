@@ -1,4 +1,4 @@
-use Rattle.std.proofs.Common.{◌≡◌, ◌∙◌, ◌++◌, List, ℕ, [], ◌∷◌, string_bytes, sym, ap, append-nil}
+use Rattle.std.proofs.Common.{◌∙◌, ◌++◌, [], ◌∷◌, string_bytes, sym, ap, append-nil}
 use Rattle.class_set.specs.Waiting.{Queue, fresh}
 use Rattle.class_set.proofs.EntryLemmas.{kept_entry}
 use Rattle.class_set.proofs.QueueLemmas.{entry_added}
@@ -15,20 +15,20 @@ loop-entry-preserved c =
     let old = c.args.self.now in
     let mid = c.loop-entry.self in
     elim c.match-asked_name.branch [
-        in-Some+in_ok-plain_text+in_ok-insert w ↦
-            let text = string_bytes w.in_ok-plain_text.field-0 in
-            record {
-              stays = ap (λ (q : Queue). q.asked) w.self-is ∙ w.in_ok-insert.ensures.asked ∙ c.loop-entry.invariant.stays;
-              added = ap (λ (q : Queue). q.waiting) w.self-is
-                  ∙ entry_added pool i c.entry-item.result old.asked old.waiting mid.waiting w.insert.new.self.waiting (text ∷ []) c.loop-entry-test.true c.entry-item.is
-                  (sym w.in-Some.ensures.name ∙ ap (λ t. t ∷ []) (sym w.in_ok-plain_text.ensures)) c.loop-entry.invariant.added
-                  (w.in_ok-insert.ensures.waiting ∙ ap (λ a. mid.waiting ++ fresh (a ++ mid.waiting) (text ∷ [])) c.loop-entry.invariant.stays);
-            }
-        | in_default w ↦
-            record {
-              stays = ap (λ (q : Queue). q.asked) w.self-is ∙ c.loop-entry.invariant.stays;
-              added = ap (λ (q : Queue). q.waiting) w.self-is
-                  ∙ entry_added pool i c.entry-item.result old.asked old.waiting mid.waiting mid.waiting [] c.loop-entry-test.true c.entry-item.is
-                  (sym w.in_default.ensures.name) c.loop-entry.invariant.added (sym (append-nil mid.waiting));
-            }
+      | in-Some+in_ok-plain_text+in_ok-insert w ↦
+          let text = string_bytes w.in_ok-plain_text.field-0 in
+          record {
+            stays = ap (λ (q : Queue). q.asked) w.self-is ∙ w.in_ok-insert.ensures.asked ∙ c.loop-entry.invariant.stays;
+            added = ap (λ (q : Queue). q.waiting) w.self-is
+                ∙ entry_added pool i c.entry-item.result old.asked old.waiting mid.waiting w.insert.new.self.waiting (text ∷ []) c.loop-entry-test.true c.entry-item.is
+                (sym w.in-Some.ensures.name ∙ ap (λ t. t ∷ []) (sym w.in_ok-plain_text.ensures)) c.loop-entry.invariant.added
+                (w.in_ok-insert.ensures.waiting ∙ ap (λ a. mid.waiting ++ fresh (a ++ mid.waiting) (text ∷ [])) c.loop-entry.invariant.stays);
+          }
+      | in_default w ↦
+          record {
+            stays = ap (λ (q : Queue). q.asked) w.self-is ∙ c.loop-entry.invariant.stays;
+            added = ap (λ (q : Queue). q.waiting) w.self-is
+                ∙ entry_added pool i c.entry-item.result old.asked old.waiting mid.waiting mid.waiting [] c.loop-entry-test.true c.entry-item.is
+                (sym w.in_default.ensures.name) c.loop-entry.invariant.added (sym (append-nil mid.waiting));
+          }
     ]

@@ -1,4 +1,4 @@
-use Rattle.std.proofs.Common.{◌≡◌, ◌++◌, ◌∷◌, [], drop, length, string_bytes, subst, arith}
+use Rattle.std.proofs.Common.{◌≡◌, ◌++◌, ◌∷◌, [], drop, string_bytes, subst, arith}
 use Rattle.class_set.specs.Waiting.{texts, fresh, Queue}
 use Rattle.class_set.proofs.QueueLemmas.{IsQueueWith, inserted_queue}
 use Rattle.class_set.proofs.names.Names.insert.Goals as goal

@@ -1,6 +1,5 @@
-use Rattle.std.proofs.Common.{◌≡◌, ◌∙◌, ◌+◌, false, refl, sym, arith, option_map, take, drop, Some}
-use Rattle.nv_outside.specs.Files.{Files}
-use Rattle.class_set.specs.ClassSets.{next, found_or}
+use Rattle.std.proofs.Common.{◌∙◌, ◌+◌, false, refl, sym, arith, take, drop}
+use Rattle.class_set.specs.ClassSets.{next}
 use Rattle.class_set.specs.Waiting.{texts, queue}
 use Rattle.class_set.proofs.SetLemmas.{same_then_same}
 use Rattle.class_set.proofs.QueueLemmas.{once_more, asked_all, text_at, file_asked, found_some, found_none}
