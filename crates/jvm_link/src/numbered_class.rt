@@ -16,8 +16,9 @@ pub struct NumberedClass<'a> {
 
 impl NumberedClass<'_> {
     ghost use Rattle.std.specs.Prelude.{◌≡◌, ◌++◌, OnOk};
+    ghost use Rattle.constant_pool.specs.Checks.{entry_at};
     ghost use Rattle.jvm_link.specs.Numbers.{number_at};
-    ghost use Rattle.jvm_link.specs.Keys.{class_number_at, own_number, key_at, own_key, field_keys, method_keys};
+    ghost use Rattle.jvm_link.specs.Keys.{class_number_at, pair_numbers, own_number, key_at, own_key, field_keys, method_keys};
 
     /// The number of the text in a slot.
     pub fn number(&self, slot: u16) -> usize
@@ -72,9 +73,6 @@ impl NumberedClass<'_> {
             _ => (0, 0),
         }
     }
-
-    ghost use Rattle.constant_pool.specs.Checks.{entry_at};
-    ghost use Rattle.jvm_link.specs.Keys.{pair_numbers};
 
     /// The key of a member of the class itself, by the slots of its name and descriptor.
     pub fn own_key(&self, name: u16, descriptor: u16) -> Key
