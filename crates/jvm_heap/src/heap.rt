@@ -1,4 +1,5 @@
 ghost use Rattle.std.specs.Prelude.{◌≡◌, ◌≤◌, ◌∷◌, [], ℕ, None, IfOk, IsTrue, OnOk, OnErr, IfErr};
+ghost use Rattle.jvm_program.specs.Values.{is_pages_reference, reference};
 ghost use Rattle.jvm_program.specs.HostMemory.{memory_of, byte_of};
 ghost use Rattle.jvm_heap.specs.Regions.{heap_of};
 ghost use Rattle.jvm_heap.specs.Viewing.{written_is_readable, memory_ends, readable_stays, writable_stays};
@@ -68,8 +69,8 @@ impl Heap {
 
     /// The arrays of pages that a call of the system may use; None for null.
     pub fn open(&mut self, readable: Option<u32>, writable: Option<u32>)
-        requires reads { IsTable self.old.region.arrays readable }
-        requires writes { IsTable self.old.region.arrays writable }
+        requires reads { IsTrue (is_pages_reference (heap_of self.old.region.arrays) (reference readable)) }
+        requires writes { IsTrue (is_pages_reference (heap_of self.old.region.arrays) (reference writable)) }
         ensures { self.new ≡ record { region = self.old.region; readable = readable; writable = writable } }
     {
         self.readable = readable;

@@ -98,6 +98,10 @@ impl Machine for Reader {
 
     ghost has_ended = { λ m. m.ended };
 
+    ghost Fixed = { Unit {0} };
+
+    ghost fixed = { λ _. tt };
+
     fn advance<V: Server>(&mut self, server: &mut V) -> Result<Option<Outcome>, IoFault> {
         match self.turns {
             0 => {

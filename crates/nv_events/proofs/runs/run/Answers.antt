@@ -17,6 +17,7 @@ loop-turn-init g c =
       faults = refl;
       ready = refl;
       keeps = g.met.V.Server.keeps_itself s;
+      fixed = refl;
     }
 
 pub loop-turn-preserved : goal.loop-turn-preserved
@@ -41,6 +42,7 @@ loop-turn-preserved g c =
       faults = ensures.causes ∙ invariant.faults;
       ready = ensures.ready_stays ∙ invariant.ready;
       keeps = g.met.V.Server.keeps_on first before after invariant.keeps ensures.keeps;
+      fixed = ensures.fixed ∙ invariant.fixed;
     }
 
 pub returns-in_err-outcome-clause-runs : goal.returns-in_err-outcome-clause-runs

@@ -16,4 +16,5 @@ invariant-loop-turn g l =
       faults : V.faults l.server ≡ V.faults l.initial.server;
       ready : V.ready l.server ≡ V.ready l.initial.server;
       keeps : V.keeps l.initial.server l.server;
+      fixed : M.fixed l.machine ≡ M.fixed l.initial.machine;
     }
