@@ -4,7 +4,7 @@ use std::alloc::AllocError;
 pub type NoMemory = AllocError;
 
 /// What is wrong with classes that do not link.
-#[derive(Clone, Copy)]
+#[derive(Clone, Copy, Debug, PartialEq, Eq)]
 pub struct LinkFault {
     /// 1 a class has the name of an earlier or known one, or has two fields or two methods of equal name and descriptor; 2 no class,
     /// 3 no field, 4 no method of that name; 5 the name is there with other descriptors alone; 6 the first class has no method

@@ -4,7 +4,7 @@ use std::alloc::AllocError;
 pub type NoMemory = AllocError;
 
 /// A method that has no typing (JVM Specification, 4.10).
-#[derive(Clone, Copy)]
+#[derive(Clone, Copy, Debug, PartialEq, Eq)]
 pub struct VerifyFault {
     /// The number of its class, from 0.
     pub class: u32,
