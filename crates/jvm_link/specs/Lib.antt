@@ -7,3 +7,4 @@ pub mod Keys
 pub mod MemberMap
 pub mod Fields
 pub mod Meant
+pub mod Order

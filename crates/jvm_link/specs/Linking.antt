@@ -36,7 +36,7 @@ use Rattle.jvm_program.specs.declared.linked_line.LinkedLine.{LinkedLine}
 use Rattle.jvm_program.specs.declared.linked_method.LinkedMethod.{LinkedMethod}
 use Rattle.jvm_program.specs.declared.instruction.Instruction.{Instruction}
 use Rattle.jvm_program.specs.declared.instruction.Instruction.TheVariants as instructions
-use Rattle.jvm_program.specs.Program.{Program, LaidFrom}
+use Rattle.jvm_program.specs.Program.{Program}
 use Rattle.jvm_program.specs.Typing.{AllTyped}
 use Rattle.jvm_link.specs.Names.{Signature, same_signature, Reference, reference, text_of, class_name_at, own_name, signature_at, string_name, host_name, length_signature, char_at_signature, host_call_signature, host_fault_signature, field_number, method_number}
 use Rattle.jvm_link.specs.Faults.{run_signature, link_fault}
@@ -237,10 +237,6 @@ linked_method classes number c m = record {
   locals = m.locals;
   lines = map (linked_line classes number c (gives_int (text_of c m.desc))) (lines_of m.code);
 }
-
--- the lines of a method stand one after the other
-abbrev pub IsLaid : LinkedMethod → Type 0
-IsLaid m = LaidFrom 0 m.lines
 
 -- the methods of classes from a number on, of all classes
 abbrev pub methods_from : List Class → ℕ → List Class → List LinkedMethod

@@ -2,6 +2,7 @@ ghost use Rattle.std.specs.Prelude.{◌≡◌, Option, None, All};
 ghost use Rattle.jvm_link.specs.Kept.{IsClass};
 ghost use Rattle.jvm_link.specs.Faults.{link_fault};
 ghost use Rattle.jvm_link.specs.Linking.{field_kinds, linked_methods, first_method};
+ghost use Rattle.jvm_link.specs.Order.{IsInOrder, AllInOrder-prop};
 
 use crate::lookups::text_of;
 use class_format::Sequence;
@@ -23,6 +24,7 @@ pub struct Linked {
     pub ghost fields_are: { fields ≡ field_kinds classes },
     pub ghost methods_are: { methods ≡ linked_methods classes },
     pub ghost first_is: { first ≡ first_method classes },
+    pub ghost in_order: { All IsInOrder methods } by { AllInOrder-prop methods },
 }
 
 impl Linked {

@@ -4,6 +4,7 @@ ghost use Rattle.jvm_program.specs.Typing.{IsLinked};
 ghost use Rattle.jvm_link.specs.Kept.{IsClass};
 ghost use Rattle.jvm_link.specs.Faults.{IsAnswer, link_fault};
 ghost use Rattle.jvm_link.specs.Linking as linking;
+ghost use Rattle.jvm_link.specs.Order.{IsInOrder};
 ghost use Rattle.jvm_link.specs.Keys.{classes_in};
 ghost use Rattle.jvm_link.specs.Meant.{IsMeant};
 
@@ -35,7 +36,7 @@ pub fn link(alloc: Global, classes: Vec<Class, Global>) -> Result<Linked, LinkEr
     ensures linked { IfOk result (λ linked. linked.classes ≡ classes.items) }
     ensures refused { IfErr result (IsAnswer (link_fault classes.items)) }
     ensures well_linked { IfOk result (λ linked. IsLinked (linking.program_of linked.classes)) }
-    ensures laid { IfOk result (λ linked. All linking.IsLaid linked.methods) }
+    ensures laid { IfOk result (λ linked. All IsInOrder linked.methods) }
 {
     if classes.len() > CLASSES {
         return Err(LinkError::Refused(LinkFault {
@@ -68,7 +69,7 @@ fn program_of(alloc: Global, classes: &[Class]) -> Result<LinkedProgram, LinkErr
     ensures faultless { OnOk result (link_fault classes.now ≡ None) }
     ensures fields { IfOk result (λ program. program.fields ≡ linking.field_kinds classes.now) }
     ensures methods { IfOk result (λ program. program.methods ≡ linking.linked_methods classes.now) }
-    ensures laid { IfOk result (λ program. All linking.IsLaid program.methods) }
+    ensures laid { IfOk result (λ program. All IsInOrder program.methods) }
     ensures first { IfOk result (λ program. program.first ≡ linking.first_method classes.now) }
 {
     let names = names_of(alloc, classes)?;
@@ -85,7 +86,7 @@ fn program_by(alloc: Global, names: &Names, classes: &[Class]) -> Result<LinkedP
     ensures faultless { OnOk result (link_fault classes.now ≡ None) }
     ensures fields { IfOk result (λ program. program.fields ≡ linking.field_kinds classes.now) }
     ensures methods { IfOk result (λ program. program.methods ≡ linking.linked_methods classes.now) }
-    ensures laid { IfOk result (λ program. All linking.IsLaid program.methods) }
+    ensures laid { IfOk result (λ program. All IsInOrder program.methods) }
     ensures first { IfOk result (λ program. program.first ≡ linking.first_method classes.now) }
 {
     let first = first_of(classes)?;

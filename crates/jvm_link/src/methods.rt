@@ -2,9 +2,8 @@
 ghost use Rattle.std.specs.Prelude.{◌≡◌, ◌≤◌, ◌<◌, ◌++◌, ◌+◌, map, IfOk, OnOk, None, length, All};
 ghost use Rattle.jvm_code.specs.Code.{code_fault};
 ghost use Rattle.jvm_code.specs.Writing.{AreLaid, size_at};
-ghost use Rattle.jvm_program.specs.Program.{LaidFrom};
 ghost use Rattle.jvm_link.specs.Linking as linking;
-ghost use Rattle.jvm_link.specs.Linking.{IsLaid};
+ghost use Rattle.jvm_link.specs.Order.{AreInOrder, IsInOrder};
 ghost use Rattle.jvm_link.specs.Keys.{IsNumbered, classes_in};
 
 use crate::instructions::linked_instruction;
@@ -22,7 +21,7 @@ use std::alloc::{AllocError, Global};
 pub fn linked_methods(alloc: Global, names: &Names) -> Result<Vec<LinkedMethod>, NoMemory>
     requires { length names.now.numbered.classes.items ≤ 1024 }
     ensures methods { IfOk result (λ methods. methods.items ≡ linking.linked_methods (classes_in names.now.numbered.classes.items)) }
-    ensures laid { IfOk result (λ methods. All IsLaid methods.items) }
+    ensures laid { IfOk result (λ methods. All IsInOrder methods.items) }
 {
     let mut methods = Vec::new(alloc);
     for (number, class) in names.numbered.classes.iter().enumerate() {
@@ -40,9 +39,9 @@ fn push_methods(
     class: &NumberedClass,
 ) -> Result<(), NoMemory>
     requires numbered { IsNumbered names.now.numbered.texts.keys class.now }
-    requires laid { All IsLaid methods.old.items }
+    requires laid { All IsInOrder methods.old.items }
     ensures methods { OnOk result (methods.new.items ≡ methods.old.items ++ map (linking.linked_method (classes_in names.now.numbered.classes.items) number class.now.class.now) class.now.class.now.methods) }
-    ensures laid { OnOk result (All IsLaid methods.new.items) }
+    ensures laid { OnOk result (All IsInOrder methods.new.items) }
 {
     for method in class.class.methods.as_slice() {
         let linked = linked_method(alloc, names, number, class, method)?;
@@ -62,7 +61,7 @@ fn linked_method(
     requires numbered { IsNumbered names.now.numbered.texts.keys class.now }
     requires sound { code_fault method.now.code ≡ None }
     ensures method { IfOk result (λ linked. linked ≡ linking.linked_method (classes_in names.now.numbered.classes.items) number class.now.class.now method.now) }
-    ensures laid { IfOk result IsLaid }
+    ensures laid { IfOk result IsInOrder }
 {
     let descriptor = text_of(class.class, method.desc);
     let gives_int = gives_int(descriptor);
@@ -101,7 +100,7 @@ fn linked_lines(
     requires numbered { IsNumbered names.now.numbered.texts.keys class.now }
     requires laid { AreLaid 0 lines.items }
     ensures lines { IfOk result (λ linked. linked.items ≡ map (linking.linked_line (classes_in names.now.numbered.classes.items) number class.now.class.now gives) lines.items) }
-    ensures laid { IfOk result (λ linked. LaidFrom 0 linked.items) }
+    ensures laid { IfOk result (λ linked. AreInOrder linked.items) }
 {
     let mut linked = Vec::new(alloc);
     for line in lines {

@@ -7,8 +7,8 @@ use Rattle.jvm_link.specs.Keys.{classes_in}
 use Rattle.jvm_link.specs.Linking.{linked_line}
 use Rattle.jvm_link.proofs.MethodLemmas.{laid_first, map_begins, map_goes, map_ends}
 use Rattle.jvm_program.specs.declared.linked_line.LinkedLine.{LinkedLine}
-use Rattle.jvm_program.specs.Program.{LaidFrom}
-use Rattle.jvm_link.proofs.LaidLemmas.{laid_lines}
+use Rattle.jvm_link.specs.Order.{AreInOrder}
+use Rattle.jvm_link.proofs.LaidLemmas.{lines_in_order}
 use Rattle.jvm_link.proofs.methods.linked_lines.Goals as goal
 
 pub loop-line-init : goal.loop-line-init
@@ -55,4 +55,4 @@ returns-clause-laid c =
     let left = into_iter_items c.loop-line.line-iterator in
     let none : length left ≡ 0 = omega (arith, c.loop-line.line-iterator.rest.ok.0, c.in-None.ensures.steps.0) in
     let same : c.loop-line.linked.items ≡ lines = map_ends (linked_line classes c.args.number c.args.class.now.class.now c.args.gives) c.loop-line.linked.items left lines (nil_from_length left none) c.loop-line.invariant.all in
-    subst (λ (ls : List LinkedLine). LaidFrom 0 ls) (sym same) (laid_lines classes c.args.number c.args.class.now.class.now c.args.gives c.args.lines.items 0 c.requires.laid)
+    subst (λ (ls : List LinkedLine). AreInOrder ls) (sym same) (lines_in_order classes c.args.number c.args.class.now.class.now c.args.gives c.args.lines.items c.requires.laid)

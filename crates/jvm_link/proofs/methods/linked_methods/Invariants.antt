@@ -1,6 +1,7 @@
 use Rattle.std.proofs.Common.{◌≡◌, ◌++◌, drop}
 use Rattle.std.specs.List.{All}
-use Rattle.jvm_link.specs.Linking.{IsLaid, methods_from, linked_methods}
+use Rattle.jvm_link.specs.Linking.{methods_from, linked_methods}
+use Rattle.jvm_link.specs.Order.{IsInOrder}
 use Rattle.jvm_link.specs.Keys.{classes_in}
 use Rattle.jvm_link.proofs.methods.linked_methods.Given as goal
 
@@ -8,5 +9,5 @@ abbrev pub invariant-loop-number : goal.invariant-loop-number
 invariant-loop-number l = record {
   methods : l.methods.items ++ methods_from (classes_in l.names.numbered.classes.items) l.number (classes_in (drop l.number l.names.numbered.classes.items))
       ≡ linked_methods (classes_in l.names.numbered.classes.items);
-  laid : All IsLaid l.methods.items;
+  laid : All IsInOrder l.methods.items;
 }

@@ -1,0 +1,45 @@
+-- The lines of linked methods: they stand one after the other, and the keys of each switch rise.
+use Rattle.std.specs.Prelude.{◌≡◌, ℕ, true, List, [], ◌∷◌, All, slice_index_or}
+use Rattle.std.specs.List.{AllByRecursion}
+use Rattle.std.proofs.Props.{props}
+use mathlib.Core.HLevel.{Π_prop, Unit-prop}
+use Rattle.jvm_code.specs.Switches.{rises}
+use Rattle.jvm_program.specs.declared.instruction.Instruction.{Instruction}
+use Rattle.jvm_program.specs.declared.instruction.Instruction.TheVariants.{LookupSwitch}
+use Rattle.jvm_program.specs.declared.linked_line.LinkedLine.{LinkedLine}
+use Rattle.jvm_program.specs.declared.linked_method.LinkedMethod.{LinkedMethod}
+use Rattle.jvm_program.specs.Program.{LaidFrom}
+
+-- the keys of a switch rise
+abbrev pub KeysRise : Instruction → Type 0
+KeysRise (LookupSwitch s) = rises s.pairs ≡ true
+KeysRise _ = Unit {0}
+
+abbrev pub LineRises : LinkedLine → Type 0
+LineRises l = KeysRise l.instruction
+
+abbrev pub AreInOrder : List LinkedLine → Type 0
+AreInOrder lines = LaidFrom 0 lines × AllByRecursion LineRises lines
+
+abbrev pub IsInOrder : LinkedMethod → Type 0
+IsInOrder m = AreInOrder m.lines
+
+-- ---- that they are so holds in one way
+
+LaidFrom-prop : (at : ℕ) (lines : List LinkedLine) → IsProp (LaidFrom at lines)
+LaidFrom-prop at [] = Unit-prop
+LaidFrom-prop at (l ∷ lines) = hlevel (props, LaidFrom-prop l.next lines)
+
+KeysRise-prop : (i : Instruction) → IsProp (KeysRise i)
+KeysRise-prop (LookupSwitch s) = hlevel props
+KeysRise-prop _ = Unit-prop
+
+AllRise-prop : (lines : List LinkedLine) → IsProp (AllByRecursion LineRises lines)
+AllRise-prop [] = Unit-prop
+AllRise-prop (l ∷ lines) = hlevel (props, KeysRise-prop l.instruction, AllRise-prop lines)
+
+IsInOrder-prop : (m : LinkedMethod) → IsProp (IsInOrder m)
+IsInOrder-prop m = hlevel (props, LaidFrom-prop 0 m.lines, AllRise-prop m.lines)
+
+pub AllInOrder-prop : (ms : List LinkedMethod) → IsProp (All IsInOrder ms)
+AllInOrder-prop ms = Π_prop (λ k. Π_prop (λ d. Π_prop (λ _. IsInOrder-prop (slice_index_or ms k d))))
