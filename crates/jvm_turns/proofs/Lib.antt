@@ -5,3 +5,4 @@ pub mod Taking
 pub mod Calls
 pub mod Returns
 pub mod Hosts
+pub mod Starting
