@@ -1,0 +1,4 @@
+pub mod Rooms
+pub mod Loading
+pub mod Unique
+pub mod Machine

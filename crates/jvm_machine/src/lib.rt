@@ -1,14 +1,12 @@
-//! Runs class files on a small machine of its own.
+//! The class machine (JVM Specification, 2.5, 2.6 and 2.11): runs linked and verified classes over a server that answers their calls.
 #![tactic(auto)]
 
-mod bytes;
-mod class_file;
-mod frame;
-mod pool;
-mod stop;
-mod straight;
+mod jvm;
+mod loading;
+mod room;
 
-pub use straight::run_straight;
+pub use jvm::Jvm;
+pub use loading::NoMemory;
 
 #[cfg(test)]
 mod tests;

@@ -1,6 +1,7 @@
 ghost use Rattle.std.specs.Prelude.{◌≡◌, ◌≤◌, ℕ, ℤ, ◌⊎◌, List, Option, IfSome, IfOk, IfErr, vec_len, false};
 ghost use Rattle.nv_events.specs.declared.fault.Fault.{Fault};
 ghost use Rattle.nv_outside.specs.Faults.{CountsFailure};
+ghost use Rattle.jvm_link.specs.Kept.{IsClass};
 ghost use Rattle.nested_cli.specs.Counts.{is_stop, read_stopped, shelf_stopped, write_stopped};
 ghost use Rattle.nested_cli.specs.Deeds.{Comes, world};
 ghost use Rattle.nested_cli.specs.Straight.{IsDueOfBytes, IsDueOfGo, RunsClass, IsRunEnd, header_fault};
@@ -8,15 +9,25 @@ ghost use Rattle.nested_cli.specs.Straight.{IsDueOfBytes, IsDueOfGo, RunsClass, 
 use crate::done::Done;
 use crate::load::load;
 use crate::stop::Stop;
+use class_reader::{ReadError, read_class};
 use elf_reader::{ElfFault, Thin, ThinError, read_thin};
-use jvm_machine::run_straight;
-use nv_events::Outcome;
+use jvm_code::Class;
+use jvm_link::{LinkError, Linked, link};
+use jvm_machine::Jvm;
+use nv_events::{Outcome, Scripted};
 use nv_outside::{Shelf, ShelfError};
 use nv_translate::straight_class;
 use std::alloc::Global;
+use type_verifier::{Verified, VerifyError, verify};
 
 /// The file of the class that a straight program becomes.
 const MAIN_CLASS: &str = "Main.class";
+
+/// The words of the region in which a straight class runs, which makes no array.
+const WORDS: u64 = 64;
+
+/// More instructions than a straight class has.
+const STEPS: u64 = 65_536;
 
 /// Loads a program, translates it, stores its class, and runs the class.
 pub fn go<H: Shelf>(alloc: Global, word: u32, name: &str, shelf: &mut H) -> Result<Done, Stop>
@@ -87,15 +98,59 @@ fn go_class<H: Shelf>(alloc: Global, class: &[u8], shelf: &mut H) -> Result<Done
     }
 }
 
-/// Runs a class. A straight program is not waited for, and a straight class has no loops and no traps.
+/// Reads a class back, and runs it. What is refused on the way is not built.
 fn run_class(alloc: Global, class: &[u8]) -> Result<Done, Stop>
     ensures ends { IfOk result IsRunEnd }
     ensures stop { IfErr result (λ stop. stop ≡ Stop.NoMemory) }
 {
-    match run_straight(alloc, class) {
+    match read_class(alloc, class) {
+        Ok(class) => link_class(alloc, class),
+        Err(ReadError::Refused(_)) => Ok(Done::NotBuilt),
+        Err(ReadError::NoMemory) => Err(Stop::NoMemory),
+    }
+}
+
+/// Links, verifies and runs a class.
+fn link_class(alloc: Global, class: Class) -> Result<Done, Stop>
+    requires { IsClass class }
+    ensures ends { IfOk result IsRunEnd }
+    ensures stop { IfErr result (λ stop. stop ≡ Stop.NoMemory) }
+{
+    let Ok(classes) = vec![in alloc; class] else {
+        return Err(Stop::NoMemory);
+    };
+    match link(alloc, classes) {
+        Ok(linked) => verify_class(alloc, linked),
+        Err(LinkError::Refused(_)) => Ok(Done::NotBuilt),
+        Err(LinkError::NoMemory) => Err(Stop::NoMemory),
+    }
+}
+
+/// Verifies and runs a linked class.
+fn verify_class(alloc: Global, linked: Linked) -> Result<Done, Stop>
+    ensures ends { IfOk result IsRunEnd }
+    ensures stop { IfErr result (λ stop. stop ≡ Stop.NoMemory) }
+{
+    match verify(alloc, linked) {
+        Ok(verified) => run_verified(alloc, verified),
+        Err(VerifyError::Refused(_)) => Ok(Done::NotBuilt),
+        Err(VerifyError::NoMemory) => Err(Stop::NoMemory),
+    }
+}
+
+/// Runs a verified class over a system without answers. A straight program makes no call but the one by which it leaves, and a
+/// straight class has no loops.
+fn run_verified(alloc: Global, verified: Verified) -> Result<Done, Stop>
+    ensures ends { IfOk result IsRunEnd }
+    ensures stop { IfErr result (λ stop. stop ≡ Stop.NoMemory) }
+{
+    let Ok(mut jvm) = Jvm::load(alloc, verified, WORDS) else {
+        return Err(Stop::NoMemory);
+    };
+    let mut silent = Scripted::new(Vec::new(alloc));
+    match jvm.run(STEPS, &mut silent) {
         Ok(Outcome::Exited(status)) => Ok(Done::Exited(status)),
         Ok(Outcome::Faulted(fault)) => Ok(Done::Faulted(fault)),
-        Ok(Outcome::Trapped(_) | Outcome::Waiting | Outcome::Going) => Ok(Done::NotBuilt),
-        Err(_) => Err(Stop::NoMemory),
+        Ok(Outcome::Trapped(_) | Outcome::Waiting | Outcome::Going) | Err(_) => Ok(Done::NotBuilt),
     }
 }

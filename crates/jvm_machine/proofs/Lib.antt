@@ -1,0 +1,4 @@
+pub mod LoadLemmas
+pub mod BeginLemmas
+pub mod OpeningLemmas
+pub mod TurnLemmas

@@ -1,0 +1,9 @@
+use Rattle.std.proofs.Common.{◌≡◌, ℕ, ◌<◌, ◌≤◌, slice_get, Some}
+use Rattle.jvm_program.specs.declared.linked_method.LinkedMethod.{LinkedMethod}
+use Rattle.jvm_machine.proofs.room.room_for.Given as goal
+
+abbrev pub invariant-loop-method : goal.invariant-loop-method
+invariant-loop-method l = record {
+  locals : (k : ℕ) (method : LinkedMethod) → k < l.method-index → slice_get l.methods k ≡ Some method → method.locals ≤ l.locals;
+  operands : (k : ℕ) (method : LinkedMethod) → k < l.method-index → slice_get l.methods k ≡ Some method → method.stack ≤ l.operands;
+}
