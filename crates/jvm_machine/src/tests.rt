@@ -33,7 +33,7 @@ const EXIT: [u8; 13] = [
 
 /// The file of that class with this code, which has eight operands and four local variables at most.
 fn class_of(alloc: Global, code: &[u8]) -> Result<Vec<u8>, AllocError> {
-    let size = code.len() as u32 % 65536;
+    let size = (code.len() % 65_536) as u32;
     let mut class = HEAD.to_vec(alloc)?;
     class.extend_from_slice(&(size + 12).to_be_bytes())?;
     class.extend_from_slice(&[0, 8, 0, 4])?;
