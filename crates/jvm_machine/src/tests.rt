@@ -1,4 +1,7 @@
 //! Classes that run, and what their machines come to.
+ghost use Rattle.std.specs.Prelude.{◌≡◌, IfOk, IfSome, false};
+ghost use Rattle.jvm_machine.specs.Machine.{has_ended};
+
 use crate::Jvm;
 use class_set::{Loaded, load_set};
 use jvm_link::link;
@@ -44,7 +47,9 @@ fn class_of(alloc: Global, code: &[u8]) -> Result<Vec<u8>, AllocError> {
 }
 
 /// The machine of that class, in a region of 5,000 words; None where the class is refused.
-fn machine(alloc: Global, code: &[u8]) -> Result<Option<Jvm>, AllocError> {
+fn machine(alloc: Global, code: &[u8]) -> Result<Option<Jvm>, AllocError>
+    ensures { IfOk result (λ found. IfSome found (λ jvm. has_ended jvm ≡ false)) }
+{
     let mut shelf = MemShelf::new(alloc, Vec::new(alloc));
     shelf.add("Main.class", class_of(alloc, code)?.as_slice())?;
     let Ok(Loaded::Classes(classes)) = load_set(alloc, &mut shelf, "Main") else {
@@ -90,7 +95,11 @@ fn a_run_goes_on_where_the_last_one_stopped(rt: HostRuntime) -> Result<(), Fail>
     let code = [
         0x01, 0x01, 0x10, 0x0C, 0x03, 0x03, 0x03, 0x03, 0xB8, 0x00, 0x0D, 0x57, 0xB1,
     ];
-    let mut jvm = machine(alloc, &code)?.ok_or("refused")?;
+    let found = machine(alloc, &code)?;
+    assert!(rt; found.is_some());
+    let Some(mut jvm) = found else {
+        return Ok(());
+    };
     let mut silent = Scripted::new(Vec::new(alloc));
     assert_eq!(rt; jvm.run(7, &mut silent), Ok(Outcome::Going));
     assert_eq!(rt; jvm.run(0, &mut silent), Ok(Outcome::Going));
