@@ -32,6 +32,10 @@ pub same_files : (files : Option Files) → SameFiles files files
 same_files None = tt
 same_files (Some f) = λ name. refl
 
+-- told files that stay are the same files
+pub same_map : (f g : Files) → ((name : List ℕ) → g name ≡ f name) → g ≡ f
+same_map f g h = λ i name. h name i
+
 pub stays : (w : World) → Stays w w
 stays w = (same_files w.files, refl, refl, refl)
 

@@ -3,6 +3,8 @@ pub mod PieceLemmas
 pub mod ListingLemmas
 pub mod AnswerLemmas
 pub mod AssemblyLemmas
+pub mod PlayLemmas
 pub mod InterpLemmas
+pub mod ClassLemmas
 pub mod CommandLemmas
 pub mod SessionLemmas

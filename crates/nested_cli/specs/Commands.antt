@@ -18,6 +18,7 @@ use Rattle.nested_cli.specs.Listing.{IsDueOfList}
 use Rattle.nested_cli.specs.Straight.{IsDueOfGo}
 use Rattle.nested_cli.specs.Assembly.{IsDueOfAsm}
 use Rattle.nested_cli.specs.Interp.{IsDueOfInterp}
+use Rattle.nested_cli.specs.Classes.{IsDueOfVerify, IsDueOfRun}
 
 -- what a command is to do, at a moment, over these files and this input
 abbrev pub IsDueOf : Command → ℕ → Files → List ℕ → Due → Type 0
@@ -25,8 +26,8 @@ IsDueOf (command.Go input name pages method_bytes session) moment files rest due
 IsDueOf (command.Translate input name pages method_bytes) moment files rest due = due ≡ answers done.NotBuilt
 IsDueOf (command.Interp input name pages session) moment files rest due =
     IsDueOfInterp (record { word = input.word; name = name; pages = pages; session = session; moment = moment }) files rest (files input.text) due
-IsDueOf (command.Run name words session) moment files rest due = due ≡ answers done.NotBuilt
-IsDueOf (command.Verify name) moment files rest due = due ≡ answers done.NotBuilt
+IsDueOf (command.Run name words session) moment files rest due = IsDueOfRun name.word name.text words session moment rest files due
+IsDueOf (command.Verify name) moment files rest due = IsDueOfVerify name.word name.text files due
 IsDueOf (command.Asm input output) moment files rest due = IsDueOfAsm input.word output (files input.text) due
 IsDueOf (command.List input) moment files rest due = IsDueOfList input.word (files input.text) due
 IsDueOf (command.Make count method_bytes) moment files rest due = due ≡ answers done.NotBuilt
@@ -39,9 +40,10 @@ IsDueBy (Err usage) moment files rest due = due ≡ answers (done.Usage (usage_n
 abbrev pub IsDue : List Text → ℕ → Files → List ℕ → Due → Type 0
 IsDue words moment files rest due = IsDueBy (command_of words) moment files rest due
 
--- of a command that runs a guest it is known what is due where input tells what it has left
+-- of a command that runs a guest or classes it is known what is due where input tells what it has left
 abbrev pub Known : Result Command Usage → Option (List ℕ) → Type 0
 Known (Ok (command.Interp input name pages session)) rest = IsSome rest
+Known (Ok (command.Run name words session)) rest = IsSome rest
 Known (Ok other) rest = ⊤
 Known (Err usage) rest = ⊤
 

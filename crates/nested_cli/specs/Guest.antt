@@ -6,12 +6,13 @@ use Rattle.nv_events.specs.declared.outcome.Outcome.{Outcome}
 use Rattle.nv_events.specs.declared.outcome.Outcome.TheVariants.{Exited, Faulted, Trapped, Waiting, Going}
 use Rattle.nv_events.specs.declared.io_fault.IoFault.{IoFault}
 use Rattle.nv_events.specs.declared.io_fault.IoFault.TheVariants.{ReadFault, WriteFault}
-use Rattle.nv_events.specs.Run.{Run}
+use Rattle.nv_events.specs.Run.{Run, run_of}
+use Rattle.nv_events.specs.Turn.{Turn}
 use Rattle.nv_outside.specs.Files.{Files}
 use Rattle.unix_files.specs.Files.{Files as GuestFiles, bytes_at, node_named}
 use Rattle.unix_system.specs.Calls.{block_length}
 use Rattle.unix_system.specs.System.{System}
-use Rattle.unix_system.specs.Unix.{blocks_needed}
+use Rattle.unix_system.specs.Unix.{blocks_needed, start, reply}
 use Rattle.nested_cli.specs.declared.done.Done.{Done}
 use Rattle.nested_cli.specs.declared.done.Done.TheVariants as done
 use Rattle.nested_cli.specs.declared.stop.Stop.{Stop}
@@ -59,7 +60,7 @@ kept files names = map (λ name. keeps files name (node_named files name)) names
 abbrev pub answer_of : Outcome → Done
 answer_of (Exited status) = done.Exited status
 answer_of (Faulted f) = done.Faulted f
-answer_of (Trapped k) = done.NotBuilt
+answer_of (Trapped k) = done.Trapped k
 answer_of Waiting = done.NotBuilt
 answer_of Going = done.Spent
 
@@ -77,6 +78,14 @@ played run keep = record {
   deeds = plays run.system.console.rest run.system.console.output run.system.console.error_output ∷ kept run.system.files keep;
   answer = answer_of run.outcome;
 }
+
+-- the run of a machine from a state, in a session, over these files and this input
+abbrev pub session_run : {S : Type 0} → (S → Turn S) → S → Text → Session → ℕ → List ℕ → List NamedFile → Run S System
+session_run turn s name session moment input found =
+    run_of turn reply session.steps s (start session.disk moment found (arguments_of name session) input)
+
+abbrev pub IsDueOfPlay : {S : Type 0} → (S → Turn S) → S → Text → Session → ℕ → List ℕ → List NamedFile → Due → Type 0
+IsDueOfPlay turn s name session moment input found due = due ≡ played (session_run turn s name session moment input found) session.keep.names
 
 -- the arguments and the files of a session, and then a run over them and some input
 abbrev pub IsDueByFiles : Result (List NamedFile) Done → (List NamedFile → Due → Type 0) → Due → Type 0

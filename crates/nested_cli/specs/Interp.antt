@@ -10,17 +10,13 @@ use Rattle.elf_reader.specs.declared.range.Range.{Range}
 use Rattle.elf_image.specs.declared.image_fault.ImageFault.{ImageFault}
 use Rattle.elf_image.specs.Refusals.{image_fault}
 use Rattle.elf_image.specs.Start.{Source, image_of}
-use Rattle.mips_decode.specs.State.{State}
 use Rattle.mips_decode.specs.Step.{turn}
 use Rattle.mips_machine.specs.Loading.{start_of}
-use Rattle.nv_events.specs.Run.{Run, run_of}
 use Rattle.nv_outside.specs.Files.{Files}
-use Rattle.unix_system.specs.System.{System}
-use Rattle.unix_system.specs.Unix.{start, reply}
 use Rattle.nested_cli.specs.declared.guest.Guest.{Guest}
 use Rattle.nested_cli.specs.declared.done.Done.TheVariants.{NoInput, ElfRefused, ImageRefused}
 use Rattle.nested_cli.specs.Deeds.{Due, answers}
-use Rattle.nested_cli.specs.Guest.{NamedFile, IsDueOfSession, arguments_of, played}
+use Rattle.nested_cli.specs.Guest.{NamedFile, IsDueOfPlay, IsDueOfSession}
 
 -- what the words and the clock say of a guest's run
 pub record Plan : Type 0 where
@@ -31,18 +27,20 @@ pub record Plan : Type 0 where
   pub moment : ℕ
 
 abbrev pub plan_of : Guest → Plan
-plan_of guest = record { word = guest.word; name = guest.name.now; pages = guest.pages; session = guest.session.now; moment = guest.moment }
+plan_of guest = record {
+  word = guest.word;
+  name = guest.launch.name.now;
+  pages = guest.pages;
+  session = guest.launch.session.now;
+  moment = guest.launch.moment;
+}
 
 abbrev pub source_of : Plan → List ℕ → Source
 source_of plan file = record { file = file; heap = plan.pages.heap; stack = plan.pages.stack }
 
--- the run of an image from its start, over these files and this input
-abbrev pub guest_run : Plan → Source → List NamedFile → List ℕ → Run State System
-guest_run plan source found input = run_of turn reply plan.session.steps (start_of (image_of source))
-    (start plan.session.disk plan.moment found (arguments_of plan.name plan.session) input)
-
+-- the run of an image from its start, over this input and these files
 abbrev pub IsDueOfImage : Plan → Source → List ℕ → List NamedFile → Due → Type 0
-IsDueOfImage plan source input found due = due ≡ played (guest_run plan source found input) plan.session.keep.names
+IsDueOfImage plan source input = IsDueOfPlay turn (start_of (image_of source)) plan.name plan.session plan.moment input
 
 -- by the first check that the image fails, and by the first that the file fails
 abbrev pub IsDueByImage : Option ImageFault → Plan → Files → List ℕ → List ℕ → Due → Type 0

@@ -8,4 +8,5 @@ pub mod Assembly
 pub mod Guest
 pub mod Sessions
 pub mod Interp
+pub mod Classes
 pub mod Commands

@@ -4,9 +4,11 @@ use Rattle.std.specs.Int.{cast_unsigned, w32}
 use Rattle.nv_events.specs.declared.fault.Fault.{Fault}
 use Rattle.elf_reader.specs.declared.elf_fault.ElfFault.{ElfFault}
 use Rattle.elf_image.specs.declared.image_fault.ImageFault.{ImageFault}
+use Rattle.jvm_link.specs.declared.link_fault.LinkFault.{LinkFault}
 use Rattle.mips_asm.specs.declared.asm_fault.AsmFault.{AsmFault}
+use Rattle.type_verifier.specs.declared.verify_error.VerifyFault.{VerifyFault}
 use Rattle.nested_cli.specs.declared.done.Done.{Done}
-use Rattle.nested_cli.specs.declared.done.Done.TheVariants.{Good, Exited, Faulted, Usage, NoInput, ElfRefused, ImageRefused, ArgsTooLong, FilesTooLarge, AsmRefused, Spent, ReadFault, WriteFault, ShelfFault, NoMemory, NotBuilt}
+use Rattle.nested_cli.specs.declared.done.Done.TheVariants.{Good, Exited, Faulted, Usage, NoInput, ElfRefused, ImageRefused, ArgsTooLong, FilesTooLarge, AsmRefused, ClassRefused, LinkRefused, VerifyRefused, Trapped, Spent, ReadFault, WriteFault, ShelfFault, NoMemory, NotBuilt}
 
 -- the statuses of sysexits.h where one fits, and the program's own status modulo 256
 abbrev pub status_of : Done → ℕ
@@ -20,6 +22,10 @@ status_of (ImageRefused f) = 67
 status_of (ArgsTooLong n) = 68
 status_of (FilesTooLarge n) = 69
 status_of (AsmRefused f) = 73
+status_of (ClassRefused class kind at) = 70
+status_of (LinkRefused f) = 71
+status_of (VerifyRefused f) = 72
+status_of (Trapped k) = 80
 status_of Spent = 78
 status_of ReadFault = 74
 status_of WriteFault = 75
@@ -44,8 +50,18 @@ joined (piece ∷ pieces) = piece ++ joined pieces
 abbrev pub fault_line : Fault → List ℕ
 fault_line f = joined (codes "nested: fault " ∷ decimal f.kind ∷ codes " pc " ∷ hex_word f.pc ∷ codes " value " ∷ hex_word f.value ∷ codes "\n" ∷ [])
 
+-- a text and three numbers, as a line
+abbrev pub numbers_line : List ℕ → ℕ → ℕ → ℕ → List ℕ
+numbers_line text first second third = joined (text ∷ decimal first ∷ codes " " ∷ decimal second ∷ codes " " ∷ decimal third ∷ codes "\n" ∷ [])
+
 abbrev pub elf_line : ElfFault → List ℕ
-elf_line f = joined (codes "nested: elf " ∷ decimal f.kind ∷ codes " " ∷ decimal f.i ∷ codes " " ∷ decimal f.j ∷ codes "\n" ∷ [])
+elf_line f = numbers_line (codes "nested: elf ") f.kind f.i f.j
+
+abbrev pub link_line : LinkFault → List ℕ
+link_line f = numbers_line (codes "nested: link ") f.kind f.class f.slot
+
+abbrev pub verify_line : VerifyFault → List ℕ
+verify_line f = numbers_line (codes "nested: verify ") f.class f.method f.at
 
 abbrev pub image_line : ImageFault → List ℕ
 image_line f = joined (codes "nested: image " ∷ decimal f.kind ∷ codes " " ∷ decimal f.number ∷ codes " " ∷ hex_word f.word ∷ codes "\n" ∷ [])
@@ -73,6 +89,10 @@ line_of words (ImageRefused f) = image_line f
 line_of words (ArgsTooLong n) = number_line (codes "nested: arguments ") n
 line_of words (FilesTooLarge n) = number_line (codes "nested: files ") n
 line_of words (AsmRefused f) = asm_line f
+line_of words (ClassRefused class kind at) = numbers_line (codes "nested: class ") class kind at
+line_of words (LinkRefused f) = link_line f
+line_of words (VerifyRefused f) = verify_line f
+line_of words (Trapped k) = number_line (codes "nested: trap ") k
 line_of words Spent = codes "nested: spent\n"
 line_of words ReadFault = codes "nested: read fault\n"
 line_of words WriteFault = []

@@ -1,7 +1,9 @@
 use elf_image::ImageFault;
 use elf_reader::ElfFault;
+use jvm_link::LinkFault;
 use mips_asm::AsmFault;
 use nv_events::Fault;
+use type_verifier::VerifyFault;
 
 /// How a call of the program ended.
 ///
@@ -29,6 +31,21 @@ pub enum Done {
     FilesTooLarge(u64),
     /// The assembly text is faulty: its first faulty line.
     AsmRefused(AsmFault),
+    /// The bytes of a class of the set spell none.
+    ClassRefused {
+        /// The number of the class in the set, from 0.
+        class: u32,
+        /// What is wrong with its bytes, 1 to 10: a kind of `ClassFault`.
+        kind: u32,
+        /// The offset at fault, in bytes.
+        at: u32,
+    },
+    /// The classes do not link: their first fault.
+    LinkRefused(LinkFault),
+    /// A method has no typing: the first one.
+    VerifyRefused(VerifyFault),
+    /// The class machine ended in this trap.
+    Trapped(u32),
     /// The run made as many steps as it may, without an end.
     Spent,
     /// Input failed in this call.
@@ -60,6 +77,9 @@ impl Done {
             Done::ImageRefused(_) => 67,
             Done::ArgsTooLong(_) => 68,
             Done::FilesTooLarge(_) => 69,
+            Done::ClassRefused { .. } => 70,
+            Done::LinkRefused(_) => 71,
+            Done::VerifyRefused(_) => 72,
             Done::AsmRefused(_) => 73,
             Done::Spent => 78,
             Done::ReadFault => 74,
@@ -67,6 +87,7 @@ impl Done {
             Done::ShelfFault => 76,
             Done::NoMemory => 77,
             Done::Faulted(_) => 79,
+            Done::Trapped(_) => 80,
             Done::NotBuilt => 81,
         }
     }

@@ -1,41 +1,28 @@
-ghost use Rattle.std.specs.Prelude.{◌≡◌, ◌≤◌, ℕ, List, Option, Some, None, IfOk, IfSome, false, length, option_map};
+ghost use Rattle.std.specs.Prelude.{◌≡◌, ◌≤◌, ℕ, List, Option, Some, None, IfOk, IfSome, false, option_map};
 ghost use Rattle.command_words.specs.Limits.{ArePages, AreFileNames};
 ghost use Rattle.elf_image.specs.Refusals.{image_fault};
-ghost use Rattle.elf_image.specs.Start.{Source, image_of};
 ghost use Rattle.elf_reader.specs.Area.{area};
 ghost use Rattle.elf_reader.specs.Fault.{elf_fault, IsRunsOf};
 ghost use Rattle.elf_reader.specs.Header.{header_of};
 ghost use Rattle.elf_reader.specs.Segments.{live};
-ghost use Rattle.mips_machine.specs.Guest.{has_ended, state_of};
-ghost use Rattle.mips_machine.specs.Loading.{start_of};
-ghost use Rattle.nv_events.specs.Serving.{Counts};
 ghost use Rattle.nv_outside.specs.Faults.{CountsFailure};
-ghost use Rattle.nv_outside.specs.Files.{Files};
 ghost use Rattle.unix_calls.specs.Serving.{counted};
-ghost use Rattle.unix_calls.specs.Starting.{Begins};
 ghost use Rattle.nested_cli.specs.Counts.{StreamCauses, is_stop, shelf_stopped};
-ghost use Rattle.nested_cli.specs.Deeds.{Comes, Works, world};
-ghost use Rattle.nested_cli.specs.Guest.{IsDueOfSession, NamedFile, arguments_of, kept_after};
+ghost use Rattle.nested_cli.specs.Deeds.{Comes, world};
+ghost use Rattle.nested_cli.specs.Guest.{IsDueOfSession};
 ghost use Rattle.nested_cli.specs.Interp.{IsDueByElf, IsDueByImage, IsDueOfImage, IsDueOfInterp, plan_of};
-ghost use Rattle.nested_cli.specs.Sessions.{IsNoStop, IsReadied, ReadsFewAhead};
 
 use crate::done::Done;
 use crate::guest::Guest;
 use crate::load::load;
-use crate::outcomes::{answer_of, stopped_by};
-use crate::readied::Readied;
+use crate::playing::play_session;
 use crate::refusals::{refused_elf, refused_image};
-use crate::session::{keep, ready};
 use crate::stop::Stop;
 use elf_image::{Image, image};
 use elf_reader::{Elf, read_elf};
 use mips_machine::Mips;
-use nv_events::Outcome;
 use nv_outside::{Shelf, Sink, Source};
 use std::alloc::Global;
-use unix_calls::Unix;
-use unix_runs::laws::begins_at_start;
-use unix_runs::play;
 
 /// Loads a program, runs it on the reference machine, and keeps files of it.
 pub fn interp<H: Shelf, S: Source, O: Sink, E: Sink>(
@@ -48,8 +35,8 @@ pub fn interp<H: Shelf, S: Source, O: Sink, E: Sink>(
     err: &mut E,
 ) -> Result<Done, Stop>
     requires pages { ArePages guest.now.pages }
-    requires disk { guest.now.session.now.disk ≤ 65536 }
-    requires names { AreFileNames guest.now.session.now.with.names }
+    requires disk { guest.now.launch.session.now.disk ≤ 65536 }
+    requires names { AreFileNames guest.now.launch.session.now.with.names }
     ensures comes { (rest : List ℕ) → S.rest input.old ≡ Some rest → IfSome (H.files shelf.old) (λ files. Comes (IsDueOfInterp (plan_of guest.now) files rest (files file.now)) (world (H.files shelf.old) (S.rest input.old) (O.taken out.old) (E.taken err.old)) (world (H.files shelf.new) (S.rest input.new) (O.taken out.new) (E.taken err.new)) result) }
     ensures answer { IfOk result (λ d. is_stop d ≡ false) }
     ensures count { CountsFailure (shelf_stopped result) (H.faults shelf.old) (H.faults shelf.new) }
@@ -73,8 +60,8 @@ fn interp_found<H: Shelf, S: Source, O: Sink, E: Sink>(
     err: &mut E,
 ) -> Result<Done, Stop>
     requires pages { ArePages guest.now.pages }
-    requires disk { guest.now.session.now.disk ≤ 65536 }
-    requires names { AreFileNames guest.now.session.now.with.names }
+    requires disk { guest.now.launch.session.now.disk ≤ 65536 }
+    requires names { AreFileNames guest.now.launch.session.now.with.names }
     ensures comes { (rest : List ℕ) → S.rest input.old ≡ Some rest → IfSome (H.files shelf.old) (λ files. Comes (IsDueOfInterp (plan_of guest.now) files rest (option_map (λ v. v.items) found)) (world (H.files shelf.old) (S.rest input.old) (O.taken out.old) (E.taken err.old)) (world (H.files shelf.new) (S.rest input.new) (O.taken out.new) (E.taken err.new)) result) }
     ensures answer { IfOk result (λ d. is_stop d ≡ false) }
     ensures count { CountsFailure (shelf_stopped result) (H.faults shelf.old) (H.faults shelf.new) }
@@ -98,8 +85,8 @@ fn interp_file<H: Shelf, S: Source, O: Sink, E: Sink>(
     err: &mut E,
 ) -> Result<Done, Stop>
     requires pages { ArePages guest.now.pages }
-    requires disk { guest.now.session.now.disk ≤ 65536 }
-    requires names { AreFileNames guest.now.session.now.with.names }
+    requires disk { guest.now.launch.session.now.disk ≤ 65536 }
+    requires names { AreFileNames guest.now.launch.session.now.with.names }
     ensures comes { (rest : List ℕ) → S.rest input.old ≡ Some rest → IfSome (H.files shelf.old) (λ files. Comes (IsDueByElf (elf_fault file.now) (plan_of guest.now) files rest file.now) (world (H.files shelf.old) (S.rest input.old) (O.taken out.old) (E.taken err.old)) (world (H.files shelf.new) (S.rest input.new) (O.taken out.new) (E.taken err.new)) result) }
     ensures answer { IfOk result (λ d. is_stop d ≡ false) }
     ensures count { CountsFailure (shelf_stopped result) (H.faults shelf.old) (H.faults shelf.new) }
@@ -127,8 +114,8 @@ fn interp_elf<H: Shelf, S: Source, O: Sink, E: Sink>(
     requires segments { elf.now.segments.items ≡ live elf.now.file.now }
     requires code { IsRunsOf (area elf.now.file.now) elf.now.code.items }
     requires pages { ArePages guest.now.pages }
-    requires disk { guest.now.session.now.disk ≤ 65536 }
-    requires names { AreFileNames guest.now.session.now.with.names }
+    requires disk { guest.now.launch.session.now.disk ≤ 65536 }
+    requires names { AreFileNames guest.now.launch.session.now.with.names }
     ensures comes { (rest : List ℕ) → S.rest input.old ≡ Some rest → IfSome (H.files shelf.old) (λ files. Comes (IsDueByImage (image_fault elf.now.file.now elf.now.code.items guest.now.pages.heap guest.now.pages.stack) (plan_of guest.now) files rest elf.now.file.now) (world (H.files shelf.old) (S.rest input.old) (O.taken out.old) (E.taken err.old)) (world (H.files shelf.new) (S.rest input.new) (O.taken out.new) (E.taken err.new)) result) }
     ensures answer { IfOk result (λ d. is_stop d ≡ false) }
     ensures count { CountsFailure (shelf_stopped result) (H.faults shelf.old) (H.faults shelf.new) }
@@ -141,7 +128,7 @@ fn interp_elf<H: Shelf, S: Source, O: Sink, E: Sink>(
     }
 }
 
-/// Makes the system of a guest ready, and runs it.
+/// Puts an image into the machine, and runs it.
 fn interp_image<H: Shelf, S: Source, O: Sink, E: Sink>(
     alloc: Global,
     guest: &Guest<'_>,
@@ -151,112 +138,16 @@ fn interp_image<H: Shelf, S: Source, O: Sink, E: Sink>(
     out: &mut O,
     err: &mut E,
 ) -> Result<Done, Stop>
-    requires disk { guest.now.session.now.disk ≤ 65536 }
-    requires names { AreFileNames guest.now.session.now.with.names }
-    ensures comes { (rest : List ℕ) → S.rest input.old ≡ Some rest → IfSome (H.files shelf.old) (λ files. Comes (IsDueOfSession guest.now.name.now guest.now.session.now files (IsDueOfImage (plan_of guest.now) image.now rest)) (world (H.files shelf.old) (S.rest input.old) (O.taken out.old) (E.taken err.old)) (world (H.files shelf.new) (S.rest input.new) (O.taken out.new) (E.taken err.new)) result) }
-    ensures answer { IfOk result (λ d. is_stop d ≡ false) }
-    ensures count { CountsFailure (shelf_stopped result) (H.faults shelf.old) (H.faults shelf.new) }
-    ensures causes { StreamCauses (counted (S.faults input.old) (O.faults out.old) (E.faults err.old)) (counted (S.faults input.new) (O.faults out.new) (E.faults err.new)) result }
-    ensures err_count { E.faults err.old ≤ E.faults err.new }
-{
-    match ready(alloc, guest.name, guest.session, guest.moment, shelf) {
-        Ok(readied) => interp_readied(alloc, guest, image, readied, shelf, input, out, err),
-        Err(stop) => Err(stop),
-    }
-}
-
-/// Runs a guest where its system is ready.
-fn interp_readied<H: Shelf, S: Source, O: Sink, E: Sink>(
-    alloc: Global,
-    guest: &Guest<'_>,
-    image: &Image,
-    readied: Readied,
-    shelf: &mut H,
-    input: &mut S,
-    out: &mut O,
-    err: &mut E,
-) -> Result<Done, Stop>
-    requires no_stop { IsNoStop readied }
-    requires few { ReadsFewAhead readied }
-    ensures comes { (files : Files) (rest : List ℕ) → IsReadied files guest.now.name.now guest.now.session.now guest.now.moment readied → S.rest input.old ≡ Some rest → Comes (IsDueOfSession guest.now.name.now guest.now.session.now files (IsDueOfImage (plan_of guest.now) image.now rest)) (world (H.files shelf.old) (S.rest input.old) (O.taken out.old) (E.taken err.old)) (world (H.files shelf.new) (S.rest input.new) (O.taken out.new) (E.taken err.new)) result }
-    ensures answer { IfOk result (λ d. is_stop d ≡ false) }
-    ensures count { CountsFailure (shelf_stopped result) (H.faults shelf.old) (H.faults shelf.new) }
-    ensures causes { StreamCauses (counted (S.faults input.old) (O.faults out.old) (E.faults err.old)) (counted (S.faults input.new) (O.faults out.new) (E.faults err.new)) result }
-    ensures err_count { E.faults err.old ≤ E.faults err.new }
-{
-    match readied {
-        Readied::Ready(unix) => run_guest(alloc, guest, image, unix, shelf, input, out, err),
-        Readied::Refused(done) => Ok(done),
-    }
-}
-
-/// Puts an image into the machine, and runs it over its system.
-fn run_guest<H: Shelf, S: Source, O: Sink, E: Sink>(
-    alloc: Global,
-    guest: &Guest<'_>,
-    image: &Image,
-    unix: Unix,
-    shelf: &mut H,
-    input: &mut S,
-    out: &mut O,
-    err: &mut E,
-) -> Result<Done, Stop>
-    requires few { length unix.ahead ≤ 4096 }
-    ensures comes { (found : List NamedFile) (rest : List ℕ) → Begins unix guest.now.session.now.disk guest.now.moment found (arguments_of guest.now.name.now guest.now.session.now) → S.rest input.old ≡ Some rest → Comes (IsDueOfImage (plan_of guest.now) image.now rest found) (world (H.files shelf.old) (S.rest input.old) (O.taken out.old) (E.taken err.old)) (world (H.files shelf.new) (S.rest input.new) (O.taken out.new) (E.taken err.new)) result }
+    requires disk { guest.now.launch.session.now.disk ≤ 65536 }
+    requires names { AreFileNames guest.now.launch.session.now.with.names }
+    ensures comes { (rest : List ℕ) → S.rest input.old ≡ Some rest → IfSome (H.files shelf.old) (λ files. Comes (IsDueOfSession guest.now.launch.name.now guest.now.launch.session.now files (IsDueOfImage (plan_of guest.now) image.now rest)) (world (H.files shelf.old) (S.rest input.old) (O.taken out.old) (E.taken err.old)) (world (H.files shelf.new) (S.rest input.new) (O.taken out.new) (E.taken err.new)) result) }
     ensures answer { IfOk result (λ d. is_stop d ≡ false) }
     ensures count { CountsFailure (shelf_stopped result) (H.faults shelf.old) (H.faults shelf.new) }
     ensures causes { StreamCauses (counted (S.faults input.old) (O.faults out.old) (E.faults err.old)) (counted (S.faults input.new) (O.faults out.new) (E.faults err.new)) result }
     ensures err_count { E.faults err.old ≤ E.faults err.new }
 {
     match Mips::load(alloc, image) {
-        Ok(mips) => play_guest(alloc, guest, mips, unix, shelf, input, out, err),
+        Ok(mips) => play_session(alloc, &guest.launch, mips, shelf, input, out, err),
         Err(_) => Err(Stop::NoMemory),
-    }
-}
-
-/// Runs a machine over the system of a guest, and keeps files of it.
-fn play_guest<H: Shelf, S: Source, O: Sink, E: Sink>(
-    alloc: Global,
-    guest: &Guest<'_>,
-    mips: Mips,
-    unix: Unix,
-    shelf: &mut H,
-    input: &mut S,
-    out: &mut O,
-    err: &mut E,
-) -> Result<Done, Stop>
-    requires going { has_ended mips ≡ false }
-    requires few { length unix.ahead ≤ 4096 }
-    ensures comes { (source : Source) (found : List NamedFile) (rest : List ℕ) → state_of mips ≡ start_of (image_of source) → Begins unix guest.now.session.now.disk guest.now.moment found (arguments_of guest.now.name.now guest.now.session.now) → S.rest input.old ≡ Some rest → Comes (IsDueOfImage (plan_of guest.now) source rest found) (world (H.files shelf.old) (S.rest input.old) (O.taken out.old) (E.taken err.old)) (world (H.files shelf.new) (S.rest input.new) (O.taken out.new) (E.taken err.new)) result }
-    ensures answer { IfOk result (λ d. is_stop d ≡ false) }
-    ensures count { CountsFailure (shelf_stopped result) (H.faults shelf.old) (H.faults shelf.new) }
-    ensures causes { StreamCauses (counted (S.faults input.old) (O.faults out.old) (E.faults err.old)) (counted (S.faults input.new) (O.faults out.new) (E.faults err.new)) result }
-    ensures err_count { E.faults err.old ≤ E.faults err.new }
-{
-    begins_at_start();
-    let mut mips = mips;
-    let mut unix = unix;
-    match play(&mut mips, guest.session.steps, &mut unix, input, out, err) {
-        Ok(outcome) => keep_after(alloc, guest, outcome, &unix, shelf),
-        Err(fault) => stopped_by(fault),
-    }
-}
-
-/// Keeps files of a guest whose run ended, or was stopped at its bound.
-fn keep_after<H: Shelf>(
-    alloc: Global,
-    guest: &Guest<'_>,
-    outcome: Outcome,
-    unix: &Unix,
-    shelf: &mut H,
-) -> Result<Done, Stop>
-    ensures works { (rest out err : Option (List ℕ)) → Works (kept_after outcome unix.now.files guest.now.session.now.keep.names) (world (H.files shelf.old) rest out err) (world (H.files shelf.new) rest out err) result }
-    ensures answer { IfOk result (λ d. is_stop d ≡ false) }
-    ensures count { CountsFailure (shelf_stopped result) (H.faults shelf.old) (H.faults shelf.new) }
-    ensures no_stream { (counts : Counts) → StreamCauses counts counts result }
-{
-    match keep(alloc, unix, guest.session.keep.names.as_slice(), shelf) {
-        Ok(()) => Ok(answer_of(outcome)),
-        Err(stop) => Err(stop),
     }
 }

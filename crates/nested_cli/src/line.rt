@@ -2,13 +2,12 @@ ghost use Rattle.std.specs.Prelude.{◌≡◌, OnOk, OnErr, decimal, is_err, map
 ghost use Rattle.std.specs.Io.KnownBytes.{Appends};
 ghost use Rattle.nv_outside.specs.Faults.{CountsFailure};
 ghost use Rattle.nv_outside.specs.Gains.{AppendsPart};
-ghost use Rattle.nested_cli.specs.Line.{elf_line, fault_line, image_line, joined, asm_line, line_of, number_line, word_of};
+ghost use Rattle.nested_cli.specs.Line.{fault_line, image_line, joined, asm_line, line_of, number_line, numbers_line, word_of};
 ghost use Rattle.command_words.specs.Word.{texts};
 
 use crate::done::Done;
 use crate::hexadecimal::hexadecimal;
 use elf_image::ImageFault;
-use elf_reader::ElfFault;
 use itoa::Buffer;
 use mips_asm::AsmFault;
 use nv_events::Fault;
@@ -36,8 +35,20 @@ pub fn write_line<E: Sink>(err: &mut E, words: &[String], done: &Done) -> Result
             write_pieces(err, &[b"nested: no file ", name, b"\n"])
         }
         Done::Faulted(fault) => write_fault(err, fault),
-        Done::ElfRefused(fault) => write_elf_fault(err, fault),
+        Done::ElfRefused(fault) => {
+            write_numbers(err, b"nested: elf ", fault.kind, fault.i, fault.j)
+        }
         Done::ImageRefused(fault) => write_image_fault(err, fault),
+        Done::ClassRefused { class, kind, at } => {
+            write_numbers(err, b"nested: class ", class, kind, at)
+        }
+        Done::LinkRefused(fault) => {
+            write_numbers(err, b"nested: link ", fault.kind, fault.class, fault.slot)
+        }
+        Done::VerifyRefused(fault) => {
+            write_numbers(err, b"nested: verify ", fault.class, fault.method, fault.at)
+        }
+        Done::Trapped(kind) => write_number(err, b"nested: trap ", u64::from(kind)),
     }
 }
 
@@ -65,17 +76,23 @@ fn write_fault<E: Sink>(err: &mut E, fault: Fault) -> Result<(), Failed>
     )
 }
 
-/// Writes the line of a check that the file failed.
-fn write_elf_fault<E: Sink>(err: &mut E, fault: ElfFault) -> Result<(), Failed>
-    ensures ok { OnOk result (Appends (E.taken err.old) (E.taken err.new) (elf_line fault)) }
-    ensures err { OnErr result (AppendsPart (E.taken err.old) (E.taken err.new) (elf_line fault)) }
+/// Writes a text and three numbers, as a line.
+fn write_numbers<E: Sink>(
+    err: &mut E,
+    text: &[u8],
+    first: u32,
+    second: u32,
+    third: u32,
+) -> Result<(), Failed>
+    ensures ok { OnOk result (Appends (E.taken err.old) (E.taken err.new) (numbers_line text.now first second third)) }
+    ensures err { OnErr result (AppendsPart (E.taken err.old) (E.taken err.new) (numbers_line text.now first second third)) }
     ensures count { CountsFailure (is_err result) (E.faults err.old) (E.faults err.new) }
 {
-    let (mut kinds, mut is, mut js) = (Buffer::new(), Buffer::new(), Buffer::new());
-    let kind = decimal(&mut kinds, fault.kind);
-    let i = decimal(&mut is, fault.i);
-    let j = decimal(&mut js, fault.j);
-    write_pieces(err, &[b"nested: elf ", kind, b" ", i, b" ", j, b"\n"])
+    let (mut firsts, mut seconds, mut thirds) = (Buffer::new(), Buffer::new(), Buffer::new());
+    let a = decimal(&mut firsts, first);
+    let b = decimal(&mut seconds, second);
+    let c = decimal(&mut thirds, third);
+    write_pieces(err, &[text, a, b" ", b, b" ", c, b"\n"])
 }
 
 /// Writes the line of a check that the program's image failed.
@@ -124,7 +141,7 @@ fn decimal(digits: &mut Buffer, n: u32) -> &[u8]
 }
 
 /// A number of 64 bits in decimal digits.
-fn decimal_long(digits: &mut Buffer, n: u64) -> &[u8]
+pub fn decimal_long(digits: &mut Buffer, n: u64) -> &[u8]
     ensures { result.now ≡ decimal n }
 {
     digits.format(n).as_bytes()

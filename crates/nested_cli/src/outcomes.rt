@@ -17,8 +17,9 @@ pub fn answer_of(outcome: Outcome) -> Done
     match outcome {
         Outcome::Exited(status) => Done::Exited(status),
         Outcome::Faulted(fault) => Done::Faulted(fault),
+        Outcome::Trapped(kind) => Done::Trapped(kind),
         Outcome::Going => Done::Spent,
-        Outcome::Trapped(_) | Outcome::Waiting => Done::NotBuilt,
+        Outcome::Waiting => Done::NotBuilt,
     }
 }
 

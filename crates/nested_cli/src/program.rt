@@ -13,10 +13,13 @@ use crate::done::Done;
 use crate::go::go;
 use crate::guest::Guest;
 use crate::interp::interp;
+use crate::launch::Launch;
 use crate::line::write_line;
 use crate::list::list;
 use crate::refusals::refused_words;
+use crate::run::run;
 use crate::stop::Stop;
+use crate::verify::verify;
 use command_words::{Command, read_words};
 use nv_outside::{Failed, Shelf, Sink, Source};
 use std::alloc::Global;
@@ -24,8 +27,8 @@ use std::alloc::Global;
 /// The program: does what its words say, over a shelf of files, a source of input and sinks of output, and writes the answer's
 /// line to `err` last.
 ///
-/// `words` are the words after the program's name, and `moment` is the time, in seconds since 1970. So far four commands are built:
-/// `interp`, `list`, `asm`, and `go` for straight programs.
+/// `words` are the words after the program's name, and `moment` is the time, in seconds since 1970. So far six commands are built:
+/// `interp`, `list`, `asm`, `verify`, `run`, and `go` for straight programs.
 ///
 /// The answer is `WriteFault` where that last write failed, or a write to `out` or of the guest to `err`. Where a call of the outside
 /// failed, the answer is one of its faults: no failed call is passed over.
@@ -113,10 +116,12 @@ fn perform_command<H: Shelf, S: Source, O: Sink, E: Sink>(
         } => {
             let guest = Guest {
                 word: file.word,
-                name: name.as_str(),
                 pages: *pages,
-                session,
-                moment,
+                launch: Launch {
+                    name: name.as_str(),
+                    session,
+                    moment,
+                },
             };
             interp(alloc, &guest, file.text.as_str(), shelf, input, out, err)
         }
@@ -133,8 +138,19 @@ fn perform_command<H: Shelf, S: Source, O: Sink, E: Sink>(
         ),
         Command::List { input: file } => { list(alloc, file.word, file.text.as_str(), shelf, out) }
         Command::Translate { .. } => Ok(Done::NotBuilt),
-        Command::Run { .. } => Ok(Done::NotBuilt),
-        Command::Verify { .. } => Ok(Done::NotBuilt),
+        Command::Run {
+            name,
+            words,
+            session,
+        } => {
+            let launch = Launch {
+                name: name.text.as_str(),
+                session,
+                moment,
+            };
+            run(alloc, name.word, *words, &launch, shelf, input, out, err)
+        }
+        Command::Verify { name } => verify(alloc, name.word, name.text.as_str(), shelf, out),
         Command::Make { .. } => Ok(Done::NotBuilt),
     }
 }

@@ -74,13 +74,7 @@ struct Outside {
 }
 
 impl Outside {
-    fn new(alloc: Global, file: Option<&[u8]>, case: &Case<'_>) -> Result<Outside, AllocError> {
-        let mut shelf = MemShelf::new(alloc, [case.shelf_fails].to_vec(alloc)?);
-        if let Some(file) = file {
-            shelf.add("a", file)?;
-        }
-        let zeros = vec![in alloc; 0u8; 4097]?;
-        shelf.add("b", zeros.as_slice())?;
+    fn new(alloc: Global, shelf: MemShelf, case: &Case<'_>) -> Result<Outside, AllocError> {
         let typed = case.typed.as_bytes().to_vec(alloc)?;
         let input = MemSource::new(typed, [case.input_fails].to_vec(alloc)?);
         let out = MemSink::new(alloc, case.room, [case.out_fails].to_vec(alloc)?)?;
@@ -125,8 +119,24 @@ pub fn check(
     file: Option<&[u8]>,
     case: &Case<'_>,
 ) -> Result<(), Fail> {
+    let mut shelf = MemShelf::new(rt.alloc(), [case.shelf_fails].to_vec(rt.alloc())?);
+    if let Some(file) = file {
+        shelf.add("a", file)?;
+    }
+    let zeros = vec![in rt.alloc(); 0u8; 4097]?;
+    shelf.add("b", zeros.as_slice())?;
+    check_over(rt, words, shelf, case)
+}
+
+/// Calls the program with these words over a shelf.
+pub fn check_over(
+    rt: &(impl Abort + AllocGlobal),
+    words: &str,
+    shelf: MemShelf,
+    case: &Case<'_>,
+) -> Result<(), Fail> {
     let given = words_of(rt.alloc(), words)?;
-    let mut outside = Outside::new(rt.alloc(), file, case)?;
+    let mut outside = Outside::new(rt.alloc(), shelf, case)?;
     let done = outside.call(rt.alloc(), given.as_slice());
     assert_eq!(rt; done, case.done, "{words}");
     assert!(rt; outside.out.bytes() == case.printed.as_bytes(), "{words}");

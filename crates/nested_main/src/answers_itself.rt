@@ -11,6 +11,9 @@ const HELP: &str = "nested: runs MIPS programs without native code
     nested go IN        translates a straight program, and runs its class
     nested list IN      prints the code of a program, a line a word
     nested asm IN OUT   assembles the text in IN into the program OUT
+    nested verify NAME  loads, links and verifies the class NAME and those that it names
+    nested run NAME [--steps N] [--words N] [--disk N] [--with NAMES] [--keep NAMES] [-- ARGS]
+                        verifies them, and runs them
     nested --help       prints this text
     nested --version    prints the version
 

@@ -1,7 +1,11 @@
-use Rattle.nested_cli.specs.Interp.{IsDueOfImage, plan_of}
-use Rattle.nested_cli.proofs.InterpLemmas.{after_ready}
+use Rattle.nested_cli.specs.Deeds.{world}
+use Rattle.nested_cli.specs.Interp.{plan_of}
+use Rattle.nested_cli.proofs.InterpLemmas.{loaded_guest}
 use Rattle.nested_cli.proofs.interp.interp_image.Goals as goal
 
 pub returns-in-Ok-clause-comes : goal.returns-in-Ok-clause-comes
 returns-in-Ok-clause-comes g c = λ rest told.
-    after_ready c.args.guest.now.name.now c.args.guest.now.session.now c.args.guest.now.moment c.in-Ok.readied c.ready.result (IsDueOfImage (plan_of c.args.guest.now) c.args.image.now rest) _ _ _ _ _ _ _ _ _ c.interp_readied.result c.in-Ok.is c.ready.ensures.readied c.ready.ensures.same (λ files held. c.interp_readied.ensures.comes files rest held told)
+    loaded_guest (plan_of c.args.guest.now) c.args.image.now _ (g.H.Shelf.files c.args.shelf.now) rest
+    (world (g.H.Shelf.files c.args.shelf.now) (g.S.Source.rest c.args.input.now) (g.O.Sink.taken c.args.out.now) (g.E.Sink.taken c.args.err.now))
+    (world (g.H.Shelf.files c.play_session.new.shelf) (g.S.Source.rest c.play_session.new.input) (g.O.Sink.taken c.play_session.new.out) (g.E.Sink.taken c.play_session.new.err))
+    c.play_session.result c.in-Ok.ensures.state (c.play_session.ensures.comes rest told)

@@ -1,5 +1,6 @@
 use Rattle.std.specs.Prelude.{IfSome}
 use Rattle.nested_cli.specs.Deeds.{Comes, world}
+use Rattle.nested_cli.specs.Classes.{IsDueOfRun}
 use Rattle.nested_cli.specs.Interp.{IsDueOfInterp}
 use Rattle.nested_cli.proofs.CommandLemmas.{told_input, unbuilt}
 use Rattle.nested_cli.proofs.program.perform_command.Goals as goal
@@ -17,10 +18,18 @@ pub returns-in-Translate-clause-comes : goal.returns-in-Translate-clause-comes
 returns-in-Translate-clause-comes g c = λ known. rw c.in-Translate.is (unbuilt _ _)
 
 pub returns-in-Run-clause-comes : goal.returns-in-Run-clause-comes
-returns-in-Run-clause-comes g c = λ known. rw c.in-Run.is (unbuilt _ _)
+returns-in-Run-clause-comes g c =
+    rw c.in-Run.is (λ known.
+    told_input (g.S.Source.rest c.args.input.now)
+    (λ rest. IfSome (g.H.Shelf.files c.args.shelf.now) (λ files. Comes
+    (IsDueOfRun c.in-Run.name.word c.in-Run.name.text c.in-Run.words c.in-Run.session c.args.moment rest files)
+    (world (g.H.Shelf.files c.args.shelf.now) (g.S.Source.rest c.args.input.now) (g.O.Sink.taken c.args.out.now) (g.E.Sink.taken c.args.err.now))
+    (world (g.H.Shelf.files c.run.new.shelf) (g.S.Source.rest c.run.new.input) (g.O.Sink.taken c.run.new.out) (g.E.Sink.taken c.run.new.err))
+    c.run.result))
+    (λ rest told. rw (← c.as_str-in-Run.ensures) (c.run.ensures.comes rest told)) known)
 
 pub returns-in-Verify-clause-comes : goal.returns-in-Verify-clause-comes
-returns-in-Verify-clause-comes g c = λ known. rw c.in-Verify.is (unbuilt _ _)
+returns-in-Verify-clause-comes g c = λ known. rw (c.in-Verify.is, ← c.as_str-in-Verify.ensures) (c.verify.ensures.comes (g.S.Source.rest c.args.input.now) (g.E.Sink.taken c.args.err.now))
 
 pub returns-in-Make-clause-comes : goal.returns-in-Make-clause-comes
 returns-in-Make-clause-comes g c = λ known. rw c.in-Make.is (unbuilt _ _)
