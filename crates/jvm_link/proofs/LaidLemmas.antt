@@ -1,11 +1,10 @@
 -- The lines of code stand one after the other, and the keys of its switches rise.
-use Rattle.std.proofs.Common.{◌≡◌, ℕ, ◌+◌, ◌*◌, ◌<◌, Bool, List, [], ◌∷◌, map, length, refl, ap, subst, sym, ◌∙◌, arith, lit<}
+use Rattle.std.proofs.Common.{◌≡◌, ℕ, ◌+◌, ◌<◌, Bool, List, [], ◌∷◌, map, ap, subst, sym, arith, lit<}
 use Rattle.std.specs.List.{AllByRecursion}
 use Rattle.jvm_code.specs.declared.class.Class.{Class}
 use Rattle.jvm_code.specs.declared.line.Line.{Line}
 use Rattle.jvm_code.specs.declared.op.Op.{Op}
 use Rattle.jvm_code.specs.declared.op.Op.TheVariants.{TableSwitch, LookupSwitch}
-use Rattle.jvm_code.specs.Switches.{pad_of}
 use Rattle.jvm_code.specs.Writing as writing
 use Rattle.jvm_code.specs.Writing.{size_at}
 use Rattle.jvm_program.specs.Program.{LaidFrom}

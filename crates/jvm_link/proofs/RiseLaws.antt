@@ -1,6 +1,6 @@
 -- The keys of the switches of linked code rise.
-use Rattle.std.proofs.Common.{◌≡◌, ℕ, ◌&&◌, Bool, true, false, cond, eqb, List, length, replicate, Option, Some, None, refl}
-use Rattle.std.specs.Prelude.{codes, nat_lt}
+use Rattle.std.proofs.Common.{◌≡◌, ℕ, Bool, true, false, cond, List, length, replicate, Option, Some, None, refl}
+use Rattle.std.specs.Prelude.{codes}
 use Rattle.std.proofs.lemmas.Bool.{and_parts}
 use Rattle.class_format.specs.Format.{repeated, tested, unless, is_sound}
 use Rattle.constant_pool.specs.declared.entry.Entry.{Entry}
@@ -18,7 +18,7 @@ use Rattle.jvm_code.specs.declared.names.pool_name.PoolName.TheVariants.{LdcW, L
 use Rattle.jvm_code.specs.declared.names.return_name.ReturnName.{ReturnName}
 use Rattle.jvm_code.specs.declared.names.return_name.ReturnName.TheVariants as returns
 use Rattle.jvm_code.specs.Instructions.{instruction}
-use Rattle.jvm_code.specs.Switches.{pad_of, is_padding, LookupHead, lookup_head, pair, rises, lookup_switch}
+use Rattle.jvm_code.specs.Switches.{pad_of, LookupHead, lookup_head, pair, rises, lookup_switch}
 use Rattle.jvm_code.specs.Targets.{switch_keys}
 use Rattle.jvm_program.specs.declared.kind.Kind.{Kind}
 use Rattle.jvm_program.specs.declared.instruction.Instruction.{Instruction}

@@ -284,3 +284,101 @@ fn a_set_has_1024_classes_at_most(rt: HostRuntime) -> Result<(), Fail> {
     let line = "nested: link 7 1024 0\n";
     check_verify(&rt, more, link_fault(7, 1024, 0), "", line)
 }
+
+/// The entries of the method `run()V` of `Main` itself, which is in slot 9.
+const OWN_METHOD: [u8; 10] = [0x0C, 0, 5, 0, 6, 0x0A, 0, 2, 0, 8];
+
+/// Calls the program with these words over a class.
+fn check_run(
+    rt: &(impl Abort + AllocGlobal),
+    typed: &str,
+    class: &Source<'_>,
+    done: Done,
+    line: &str,
+) -> Result<(), Fail> {
+    let shelf = shelf_with(rt.alloc(), &[*class])?;
+    let ends = expect(done, line);
+    check_over(
+        rt,
+        typed,
+        shelf,
+        &Case {
+            class: true,
+            ..ends
+        },
+    )
+}
+
+#[test]
+fn a_class_runs_to_its_end(rt: HostRuntime) -> Result<(), Fail> {
+    let spent = (Done::Spent, "nested: spent\n");
+    // 1 by 0; the length of null; element 0 of none; -1 elements; no room, and room, for two words
+    for (typed, code, (done, line)) in [
+        (
+            "run|Main",
+            [4, 3, 0x6C, 0x57, 0xB1].as_slice(),
+            (Done::Trapped(4), "nested: trap 4\n"),
+        ),
+        ("run|Main|--steps|2", &[4, 3, 0x6C, 0x57, 0xB1], spent),
+        (
+            "run|Main|--steps|3",
+            &[4, 3, 0x6C, 0x57, 0xB1],
+            (Done::Trapped(4), "nested: trap 4\n"),
+        ),
+        (
+            "run|Main",
+            &[1, 0xBE, 0x57, 0xB1],
+            (Done::Trapped(1), "nested: trap 1\n"),
+        ),
+        (
+            "run|Main",
+            &[3, 0xBC, 10, 3, 0x2E, 0x57, 0xB1],
+            (Done::Trapped(2), "nested: trap 2\n"),
+        ),
+        (
+            "run|Main",
+            &[2, 0xBC, 10, 0x57, 0xB1],
+            (Done::Trapped(3), "nested: trap 3\n"),
+        ),
+        (
+            "run|Main|--words|1",
+            &[3, 0xBC, 10, 0x57, 0xB1],
+            (Done::Trapped(6), "nested: trap 6\n"),
+        ),
+        (
+            "run|Main|--words|2",
+            &[3, 0xBC, 10, 0x57, 0xB1],
+            (Done::Exited(0), ""),
+        ),
+    ] {
+        check_run(&rt, typed, &main_class(code), done, line)?;
+    }
+    // run()V calls itself
+    let own = Source {
+        entries: &OWN_METHOD,
+        more: 2,
+        ..main_class(&[0xB8, 0, 9, 0xB1])
+    };
+    check_run(
+        &rt,
+        "run|Main|--steps|63",
+        &own,
+        Done::Spent,
+        "nested: spent\n",
+    )?;
+    check_run(
+        &rt,
+        "run|Main|--steps|64",
+        &own,
+        Done::Trapped(5),
+        "nested: trap 5\n",
+    )?;
+    // a class that is not typed does not run
+    let untyped = main_class(&[3, 0x99, 0, 7, 4, 0xA7, 0, 6, 3, 0xBC, 10, 0x57, 0xB1]);
+    let fault = Done::VerifyRefused(VerifyFault {
+        class: 0,
+        method: 0,
+        at: 9,
+    });
+    check_run(&rt, "run|Main", &untyped, fault, "nested: verify 0 0 9\n")
+}
