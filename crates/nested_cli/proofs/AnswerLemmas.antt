@@ -4,17 +4,17 @@ use Rattle.std.specs.Prelude.{IfSome, IfOk}
 use Rattle.std.specs.Io.KnownBytes.{Appends}
 use Rattle.nv_outside.specs.Files.{Files}
 use Rattle.nv_outside.specs.Gains.{AppendsPart}
-use Rattle.nested_cli.specs.declared.done.Done.{Done}
-use Rattle.nested_cli.specs.declared.done.Done.TheVariants as done
-use Rattle.nested_cli.specs.declared.stop.Stop.{Stop}
-use Rattle.nested_cli.specs.declared.stop.Stop.TheVariants as stop
+use Rattle.command_deeds.specs.declared.done.Done.{Done}
+use Rattle.command_deeds.specs.declared.done.Done.TheVariants as done
+use Rattle.command_deeds.specs.declared.stop.Stop.{Stop}
+use Rattle.command_deeds.specs.declared.stop.Stop.TheVariants as stop
 use Rattle.command_words.specs.Meaning.{command_of}
 use Rattle.nv_events.specs.Serving.{Counts, Rose}
-use Rattle.nested_cli.specs.Counts.{StreamCauses, is_stop, shelf_stopped}
-use Rattle.nested_cli.specs.Deeds.{Comes, world, done_of}
-use Rattle.nested_cli.specs.Line.{line_of}
+use Rattle.command_deeds.specs.Counts.{StreamCauses, is_stop, shelf_stopped}
+use Rattle.command_deeds.specs.Deeds.{Comes, world, done_of}
+use Rattle.command_deeds.specs.Line.{line_of}
 use Rattle.nested_cli.specs.Commands.{IsDue, Does, Known}
-use Rattle.nested_cli.proofs.DeedLemmas.{same_files}
+use Rattle.command_deeds.proofs.DeedLemmas.{same_files}
 
 pub said : (F F' : Option Files) (words : List (List ℕ)) (moment : ℕ) (R R' O O' E E1 E' : Option (List ℕ)) (ended : Result Done Stop) (answer : Done) → answer ≡ done_of ended → (Known (command_of words) R → IfSome F (λ files. Comes (IsDue words moment files (unwrap_or R [])) (world F R O E) (world F' R' O' E1) ended)) → Appends E1 E' (line_of words answer) → IfSome F (λ files. Does words moment files (world F R O E) (world F' R' O' E') answer)
 said None F' words moment R R' O O' E E1 E' ended answer e comes took = tt

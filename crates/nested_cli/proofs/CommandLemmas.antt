@@ -10,14 +10,14 @@ use Rattle.nv_events.specs.Serving.{Counts}
 use Rattle.nv_outside.specs.Faults.{CountsFailure}
 use Rattle.nv_outside.specs.Files.{Files}
 use Rattle.unix_calls.specs.Serving.{counted}
-use Rattle.nested_cli.specs.declared.done.Done.{Done}
-use Rattle.nested_cli.specs.declared.stop.Stop.{Stop}
-use Rattle.nested_cli.specs.declared.stop.Stop.TheVariants as stop
+use Rattle.command_deeds.specs.declared.done.Done.{Done}
+use Rattle.command_deeds.specs.declared.stop.Stop.{Stop}
+use Rattle.command_deeds.specs.declared.stop.Stop.TheVariants as stop
 use Rattle.nested_cli.specs.Commands.{IsDue, IsDueBy, IsDueOf, Known}
-use Rattle.nested_cli.specs.Counts.{StreamCauses, read_stopped, write_stopped}
-use Rattle.nested_cli.specs.Deeds.{World, Comes, answers}
-use Rattle.nested_cli.specs.Refusals.{EndsWords, usage_number}
-use Rattle.nested_cli.proofs.DeedLemmas.{answers_due, stops_early}
+use Rattle.command_deeds.specs.Counts.{StreamCauses, read_stopped, write_stopped}
+use Rattle.command_deeds.specs.Deeds.{World, Comes, answers}
+use Rattle.nested_cli.specs.Usage.{EndsWords, usage_number}
+use Rattle.command_deeds.proofs.DeedLemmas.{answers_due, stops_early}
 
 -- the words mean a command
 pub performed : (c : Command) (words : List (List ℕ)) (moment : ℕ) (told : Option (List ℕ)) (F : Option Files) (w v : World) (ended : Result Done Stop) → command_of words ≡ Ok c → (Known (Ok c) told → IfSome F (λ files. Comes (IsDueOf c moment files (unwrap_or told [])) w v ended)) → Known (command_of words) told → IfSome F (λ files. Comes (IsDue words moment files (unwrap_or told [])) w v ended)

@@ -1,10 +1,3 @@
-pub mod DeedLemmas
-pub mod PieceLemmas
-pub mod ListingLemmas
 pub mod AnswerLemmas
-pub mod AssemblyLemmas
-pub mod PlayLemmas
-pub mod InterpLemmas
-pub mod ClassLemmas
 pub mod CommandLemmas
-pub mod SessionLemmas
+pub mod StraightLemmas

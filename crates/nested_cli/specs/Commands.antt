@@ -8,17 +8,17 @@ use Rattle.command_words.specs.declared.command.Command.TheVariants as command
 use Rattle.command_words.specs.declared.usage.Usage.{Usage}
 use Rattle.nv_outside.specs.Files.{Files, SameFiles}
 use Rattle.nv_outside.specs.Gains.{AppendsPart}
-use Rattle.nested_cli.specs.declared.done.Done.{Done}
-use Rattle.nested_cli.specs.declared.done.Done.TheVariants as done
-use Rattle.nested_cli.specs.declared.stop.Stop.{Stop}
-use Rattle.nested_cli.specs.Line.{line_of}
-use Rattle.nested_cli.specs.Refusals.{usage_number}
-use Rattle.nested_cli.specs.Deeds.{World, Due, Comes, answers, done_of}
-use Rattle.nested_cli.specs.Listing.{IsDueOfList}
+use Rattle.command_deeds.specs.declared.done.Done.{Done}
+use Rattle.command_deeds.specs.declared.done.Done.TheVariants as done
+use Rattle.command_deeds.specs.declared.stop.Stop.{Stop}
+use Rattle.command_deeds.specs.Line.{line_of}
+use Rattle.nested_cli.specs.Usage.{usage_number}
+use Rattle.command_deeds.specs.Deeds.{World, Due, Comes, answers, done_of}
+use Rattle.guest_commands.specs.Listing.{IsDueOfList}
 use Rattle.nested_cli.specs.Straight.{IsDueOfGo}
-use Rattle.nested_cli.specs.Assembly.{IsDueOfAsm}
-use Rattle.nested_cli.specs.Interp.{IsDueOfInterp}
-use Rattle.nested_cli.specs.Classes.{IsDueOfVerify, IsDueOfRun}
+use Rattle.guest_commands.specs.Assembly.{IsDueOfAsm}
+use Rattle.guest_commands.specs.Interp.{IsDueOfInterp}
+use Rattle.class_commands.specs.Classes.{IsDueOfVerify, IsDueOfRun}
 
 -- what a command is to do, at a moment, over these files and this input
 abbrev pub IsDueOf : Command → ℕ → Files → List ℕ → Due → Type 0

@@ -1,12 +1,3 @@
-pub mod Line
-pub mod Deeds
-pub mod Counts
-pub mod Refusals
-pub mod Listing
+pub mod Usage
 pub mod Straight
-pub mod Assembly
-pub mod Guest
-pub mod Sessions
-pub mod Interp
-pub mod Classes
 pub mod Commands

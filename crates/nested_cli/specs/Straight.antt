@@ -3,9 +3,9 @@ use Rattle.std.specs.Prelude.{◌≡◌, ℕ, ℤ, ◌⊎◌, List, [], ◌∷�
 use Rattle.nv_events.specs.declared.fault.Fault.{Fault}
 use Rattle.elf_reader.specs.Header.{IsTooShort, HasMagic}
 use Rattle.elf_reader.specs.declared.elf_fault.ElfFault.{ElfFault}
-use Rattle.nested_cli.specs.declared.done.Done.{Done}
-use Rattle.nested_cli.specs.declared.done.Done.TheVariants.{Exited, Faulted, NoInput, ElfRefused, NotBuilt}
-use Rattle.nested_cli.specs.Deeds.{Due, prepares, stores, answers}
+use Rattle.command_deeds.specs.declared.done.Done.{Done}
+use Rattle.command_deeds.specs.declared.done.Done.TheVariants.{Exited, Faulted, NoInput, ElfRefused, NotBuilt}
+use Rattle.command_deeds.specs.Deeds.{Due, prepares, stores, answers}
 
 -- a check of the header
 abbrev pub header_fault : ℕ → ElfFault

@@ -2,23 +2,21 @@ ghost use Rattle.std.specs.Prelude.{◌≡◌, ◌≤◌, ℕ, ℤ, ◌⊎◌, L
 ghost use Rattle.nv_events.specs.declared.fault.Fault.{Fault};
 ghost use Rattle.nv_outside.specs.Faults.{CountsFailure};
 ghost use Rattle.jvm_link.specs.Kept.{IsClass};
-ghost use Rattle.nested_cli.specs.Counts.{is_stop, read_stopped, shelf_stopped, write_stopped};
-ghost use Rattle.nested_cli.specs.Deeds.{Comes, world};
+ghost use Rattle.command_deeds.specs.Counts.{is_stop, read_stopped, shelf_stopped, write_stopped};
+ghost use Rattle.command_deeds.specs.Deeds.{Comes, world};
 ghost use Rattle.nested_cli.specs.Straight.{IsDueOfBytes, IsDueOfGo, RunsClass, IsRunEnd, header_fault};
 
-use crate::done::Done;
-use crate::load::load;
-use crate::stop::Stop;
+use class_commands::{Accepted, accept_classes};
 use class_reader::{ReadError, read_class};
+use command_deeds::{Done, Stop, load};
 use elf_reader::{ElfFault, Thin, ThinError, read_thin};
 use jvm_code::Class;
-use jvm_link::{LinkError, Linked, link};
 use jvm_machine::Jvm;
 use nv_events::{Outcome, Scripted};
 use nv_outside::{Shelf, ShelfError};
 use nv_translate::straight_class;
 use std::alloc::Global;
-use type_verifier::{Verified, VerifyError, verify};
+use type_verifier::Verified;
 
 /// The file of the class that a straight program becomes.
 const MAIN_CLASS: &str = "Main.class";
@@ -119,22 +117,10 @@ fn link_class(alloc: Global, class: Class) -> Result<Done, Stop>
     let Ok(classes) = vec![in alloc; class] else {
         return Err(Stop::NoMemory);
     };
-    match link(alloc, classes) {
-        Ok(linked) => verify_class(alloc, linked),
-        Err(LinkError::Refused(_)) => Ok(Done::NotBuilt),
-        Err(LinkError::NoMemory) => Err(Stop::NoMemory),
-    }
-}
-
-/// Verifies and runs a linked class.
-fn verify_class(alloc: Global, linked: Linked) -> Result<Done, Stop>
-    ensures ends { IfOk result IsRunEnd }
-    ensures stop { IfErr result (λ stop. stop ≡ Stop.NoMemory) }
-{
-    match verify(alloc, linked) {
-        Ok(verified) => run_verified(alloc, verified),
-        Err(VerifyError::Refused(_)) => Ok(Done::NotBuilt),
-        Err(VerifyError::NoMemory) => Err(Stop::NoMemory),
+    match accept_classes(alloc, classes) {
+        Ok(Accepted::Verified(verified)) => run_verified(alloc, verified),
+        Ok(Accepted::Refused(_)) => Ok(Done::NotBuilt),
+        Err(stop) => Err(stop),
     }
 }
 

@@ -5,22 +5,16 @@ ghost use Rattle.command_words.specs.Word.{texts};
 ghost use Rattle.nv_outside.specs.Faults.{CountsFailure, Rose};
 ghost use Rattle.unix_calls.specs.Serving.{counted};
 ghost use Rattle.nested_cli.specs.Commands.{Does, IsDue, IsDueOf, Known};
-ghost use Rattle.nested_cli.specs.Counts.{StreamCauses, is_stop, shelf_stopped};
-ghost use Rattle.nested_cli.specs.Deeds.{Comes, done_of, world};
+ghost use Rattle.command_deeds.specs.Counts.{StreamCauses, is_stop, shelf_stopped};
+ghost use Rattle.command_deeds.specs.Deeds.{Comes, done_of, world};
 
-use crate::asm::asm;
-use crate::done::Done;
 use crate::go::go;
-use crate::guest::Guest;
-use crate::interp::interp;
-use crate::launch::Launch;
-use crate::line::write_line;
-use crate::list::list;
-use crate::refusals::refused_words;
-use crate::run::run;
-use crate::stop::Stop;
-use crate::verify::verify;
+use crate::misuse::refused_words;
+use class_commands::{run, verify};
+use command_deeds::{Done, Stop, write_line};
 use command_words::{Command, read_words};
+use guest_commands::{Guest, asm, interp, list};
+use machine_launch::Launch;
 use nv_outside::{Failed, Shelf, Sink, Source};
 use std::alloc::Global;
 
@@ -117,11 +111,7 @@ fn perform_command<H: Shelf, S: Source, O: Sink, E: Sink>(
             let guest = Guest {
                 word: file.word,
                 pages: *pages,
-                launch: Launch {
-                    name: name.as_str(),
-                    session,
-                    moment,
-                },
+                launch: Launch::new(name.as_str(), session, moment),
             };
             interp(alloc, &guest, file.text.as_str(), shelf, input, out, err)
         }
@@ -137,20 +127,16 @@ fn perform_command<H: Shelf, S: Source, O: Sink, E: Sink>(
             out,
         ),
         Command::List { input: file } => { list(alloc, file.word, file.text.as_str(), shelf, out) }
-        Command::Translate { .. } => Ok(Done::NotBuilt),
         Command::Run {
             name,
             words,
             session,
         } => {
-            let launch = Launch {
-                name: name.text.as_str(),
-                session,
-                moment,
-            };
+            let launch = Launch::new(name.text.as_str(), session, moment);
             run(alloc, name.word, *words, &launch, shelf, input, out, err)
         }
         Command::Verify { name } => verify(alloc, name.word, name.text.as_str(), shelf, out),
+        Command::Translate { .. } => Ok(Done::NotBuilt),
         Command::Make { .. } => Ok(Done::NotBuilt),
     }
 }

@@ -1,7 +1,7 @@
 use Rattle.std.proofs.Common.{Ok, None, refl}
 use Rattle.nested_cli.specs.Straight.{IsDueOfGo}
-use Rattle.nested_cli.specs.declared.done.Done.TheVariants.{NoInput}
-use Rattle.nested_cli.proofs.DeedLemmas.{after_found, after_load, answers_due, found_none}
+use Rattle.command_deeds.specs.declared.done.Done.TheVariants.{NoInput}
+use Rattle.command_deeds.proofs.DeedLemmas.{after_found, after_load, answers_due, found_none}
 use Rattle.nested_cli.proofs.go.go.Goals as goal
 
 pub returns-in-Ok-Some-clause-comes : goal.returns-in-Ok-Some-clause-comes

@@ -1,4 +1,4 @@
-use Rattle.nested_cli.proofs.DeedLemmas.{class_ran, class_not_stored}
+use Rattle.nested_cli.proofs.StraightLemmas.{class_ran, class_not_stored}
 use Rattle.nested_cli.proofs.go.go_class.Goals as goal
 
 pub returns-in-Ok-clause-comes : goal.returns-in-Ok-clause-comes

@@ -1,7 +1,7 @@
 use Rattle.std.proofs.Common.{rules, refl, inl, inr}
 use Rattle.nested_cli.specs.Straight.{IsDueOfBytes, RunsClass, header_fault}
-use Rattle.nested_cli.specs.declared.done.Done.TheVariants.{ElfRefused, NotBuilt}
-use Rattle.nested_cli.proofs.DeedLemmas.{answers_due, due_as}
+use Rattle.command_deeds.specs.declared.done.Done.TheVariants.{ElfRefused, NotBuilt}
+use Rattle.command_deeds.proofs.DeedLemmas.{answers_due, due_as}
 use Rattle.nested_cli.proofs.go.go_file.Goals as goal
 
 pub returns-in-Ok-clause-comes : goal.returns-in-Ok-clause-comes

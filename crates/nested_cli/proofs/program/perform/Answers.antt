@@ -1,6 +1,6 @@
 use Rattle.std.proofs.Common.{[], Err, unwrap_or, ap, ◌∙◌}
 use Rattle.command_words.specs.Word.{texts}
-use Rattle.nested_cli.specs.Deeds.{world}
+use Rattle.command_deeds.specs.Deeds.{world}
 use Rattle.nested_cli.proofs.CommandLemmas.{performed, misused}
 use Rattle.nested_cli.proofs.program.perform.Goals as goal
 

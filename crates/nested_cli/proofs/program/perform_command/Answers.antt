@@ -1,7 +1,7 @@
 use Rattle.std.specs.Prelude.{IfSome}
-use Rattle.nested_cli.specs.Deeds.{Comes, world}
-use Rattle.nested_cli.specs.Classes.{IsDueOfRun}
-use Rattle.nested_cli.specs.Interp.{IsDueOfInterp}
+use Rattle.command_deeds.specs.Deeds.{Comes, world}
+use Rattle.class_commands.specs.Classes.{IsDueOfRun}
+use Rattle.guest_commands.specs.Interp.{IsDueOfInterp}
 use Rattle.nested_cli.proofs.CommandLemmas.{told_input, unbuilt}
 use Rattle.nested_cli.proofs.program.perform_command.Goals as goal
 
@@ -26,7 +26,7 @@ returns-in-Run-clause-comes g c =
     (world (g.H.Shelf.files c.args.shelf.now) (g.S.Source.rest c.args.input.now) (g.O.Sink.taken c.args.out.now) (g.E.Sink.taken c.args.err.now))
     (world (g.H.Shelf.files c.run.new.shelf) (g.S.Source.rest c.run.new.input) (g.O.Sink.taken c.run.new.out) (g.E.Sink.taken c.run.new.err))
     c.run.result))
-    (λ rest told. rw (← c.as_str-in-Run.ensures) (c.run.ensures.comes rest told)) known)
+    (λ rest told. rw (← c.as_str-in-Run.ensures, ← c.new-launch.ensures.name, ← c.new-launch.ensures.session, ← c.new-launch.ensures.moment) (c.run.ensures.comes rest told)) known)
 
 pub returns-in-Verify-clause-comes : goal.returns-in-Verify-clause-comes
 returns-in-Verify-clause-comes g c = λ known. rw (c.in-Verify.is, ← c.as_str-in-Verify.ensures) (c.verify.ensures.comes (g.S.Source.rest c.args.input.now) (g.E.Sink.taken c.args.err.now))
@@ -43,4 +43,4 @@ returns-in-Interp-clause-comes g c =
     (world (g.H.Shelf.files c.args.shelf.now) (g.S.Source.rest c.args.input.now) (g.O.Sink.taken c.args.out.now) (g.E.Sink.taken c.args.err.now))
     (world (g.H.Shelf.files c.interp.new.shelf) (g.S.Source.rest c.interp.new.input) (g.O.Sink.taken c.interp.new.out) (g.E.Sink.taken c.interp.new.err))
     c.interp.result))
-    (λ rest told. rw (← c.as_str-in-Interp.ensures, ← c.as_str-in-Interp-2.ensures) (c.interp.ensures.comes rest told)) known)
+    (λ rest told. rw (← c.as_str-in-Interp.ensures, ← c.as_str-in-Interp-2.ensures, ← c.new.ensures.name, ← c.new.ensures.session, ← c.new.ensures.moment) (c.interp.ensures.comes rest told)) known)

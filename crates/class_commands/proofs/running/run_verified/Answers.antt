@@ -1,0 +1,15 @@
+use Rattle.std.proofs.Common.{◌∙◌, ap, subst}
+use Rattle.std.specs.Prelude.{IfSome}
+use Rattle.jvm_program.specs.Step.{loaded, loaded_turn}
+use Rattle.jvm_link.specs.Linking.{program_of}
+use Rattle.command_deeds.specs.Deeds.{Comes, world}
+use Rattle.machine_launch.specs.Runs.{IsDueOfPlay, IsDueOfSession}
+use Rattle.class_commands.proofs.running.run_verified.Goals as goal
+
+pub returns-in-Ok-clause-comes : goal.returns-in-Ok-clause-comes
+returns-in-Ok-clause-comes g c = λ rest told.
+    let launch = c.args.launch.now in
+    subst (λ s. IfSome (g.H.Shelf.files c.args.shelf.now) (λ files. Comes (IsDueOfSession launch.name.now launch.session.now files (IsDueOfPlay loaded_turn s launch.name.now launch.session.now launch.moment rest))
+    (world (g.H.Shelf.files c.args.shelf.now) (g.S.Source.rest c.args.input.now) (g.O.Sink.taken c.args.out.now) (g.E.Sink.taken c.args.err.now))
+    (world (g.H.Shelf.files c.play_session.new.shelf) (g.S.Source.rest c.play_session.new.input) (g.O.Sink.taken c.play_session.new.out) (g.E.Sink.taken c.play_session.new.err))
+    c.play_session.result)) (c.in-Ok.ensures.state ∙ ap (loaded (program_of c.args.verified.linked.classes)) c.from.ensures) (c.play_session.ensures.comes rest told)

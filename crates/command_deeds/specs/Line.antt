@@ -1,0 +1,101 @@
+-- The status of an answer, and its line on error output.
+use Rattle.std.specs.Prelude.{ℕ, ◌+◌, ◌/◌, ◌%◌, ◌^◌, ◌++◌, List, [], ◌∷◌, codes, decimal, if◌then◌else◌, nat_lt, slice_get, unwrap_or}
+use Rattle.std.specs.Int.{cast_unsigned, w32}
+use Rattle.nv_events.specs.declared.fault.Fault.{Fault}
+use Rattle.elf_reader.specs.declared.elf_fault.ElfFault.{ElfFault}
+use Rattle.elf_image.specs.declared.image_fault.ImageFault.{ImageFault}
+use Rattle.jvm_link.specs.declared.link_fault.LinkFault.{LinkFault}
+use Rattle.mips_asm.specs.declared.asm_fault.AsmFault.{AsmFault}
+use Rattle.type_verifier.specs.declared.verify_error.VerifyFault.{VerifyFault}
+use Rattle.command_deeds.specs.declared.done.Done.{Done}
+use Rattle.command_deeds.specs.declared.done.Done.TheVariants.{Good, Exited, Faulted, Usage, NoInput, ElfRefused, ImageRefused, ArgsTooLong, FilesTooLarge, AsmRefused, ClassRefused, LinkRefused, VerifyRefused, Trapped, Spent, ReadFault, WriteFault, ShelfFault, NoMemory, NotBuilt}
+
+-- the statuses of sysexits.h where one fits, and the program's own status modulo 256
+abbrev pub status_of : Done → ℕ
+status_of Good = 0
+status_of (Exited status) = cast_unsigned w32 status % 256
+status_of (Faulted f) = 79
+status_of (Usage kind) = 64
+status_of (NoInput word) = 66
+status_of (ElfRefused f) = 65
+status_of (ImageRefused f) = 67
+status_of (ArgsTooLong n) = 68
+status_of (FilesTooLarge n) = 69
+status_of (AsmRefused f) = 73
+status_of (ClassRefused class kind at) = 70
+status_of (LinkRefused f) = 71
+status_of (VerifyRefused f) = 72
+status_of (Trapped k) = 80
+status_of Spent = 78
+status_of ReadFault = 74
+status_of WriteFault = 75
+status_of ShelfFault = 76
+status_of NoMemory = 77
+status_of NotBuilt = 81
+
+-- an upper-case hexadecimal digit
+abbrev pub hex_digit : ℕ → ℕ
+hex_digit d = if nat_lt d 10 then 48 + d else 55 + d
+
+-- a word in eight of them
+unfoldable pub hex_word : ℕ → List ℕ
+hex_word w = hex_digit (w / 2 ^ 28 % 16) ∷ hex_digit (w / 2 ^ 24 % 16) ∷ hex_digit (w / 2 ^ 20 % 16) ∷ hex_digit (w / 2 ^ 16 % 16)
+    ∷ hex_digit (w / 2 ^ 12 % 16) ∷ hex_digit (w / 2 ^ 8 % 16) ∷ hex_digit (w / 2 ^ 4 % 16) ∷ hex_digit (w % 16) ∷ []
+
+-- pieces one after the other
+abbrev pub joined : List (List ℕ) → List ℕ
+joined [] = []
+joined (piece ∷ pieces) = piece ++ joined pieces
+
+abbrev pub fault_line : Fault → List ℕ
+fault_line f = joined (codes "nested: fault " ∷ decimal f.kind ∷ codes " pc " ∷ hex_word f.pc ∷ codes " value " ∷ hex_word f.value ∷ codes "\n" ∷ [])
+
+-- a text and three numbers, as a line
+abbrev pub numbers_line : List ℕ → ℕ → ℕ → ℕ → List ℕ
+numbers_line text first second third = joined (text ∷ decimal first ∷ codes " " ∷ decimal second ∷ codes " " ∷ decimal third ∷ codes "\n" ∷ [])
+
+abbrev pub elf_line : ElfFault → List ℕ
+elf_line f = numbers_line (codes "nested: elf ") f.kind f.i f.j
+
+abbrev pub link_line : LinkFault → List ℕ
+link_line f = numbers_line (codes "nested: link ") f.kind f.class f.slot
+
+abbrev pub verify_line : VerifyFault → List ℕ
+verify_line f = numbers_line (codes "nested: verify ") f.class f.method f.at
+
+abbrev pub image_line : ImageFault → List ℕ
+image_line f = joined (codes "nested: image " ∷ decimal f.kind ∷ codes " " ∷ decimal f.number ∷ codes " " ∷ hex_word f.word ∷ codes "\n" ∷ [])
+
+-- a text and a number, as a line
+abbrev pub number_line : List ℕ → ℕ → List ℕ
+number_line text n = joined (text ∷ decimal n ∷ codes "\n" ∷ [])
+
+abbrev pub asm_line : AsmFault → List ℕ
+asm_line f = joined (codes "nested: asm " ∷ decimal f.line ∷ codes " " ∷ decimal f.kind ∷ codes "\n" ∷ [])
+
+-- the word with this number, from 0
+abbrev pub word_of : List (List ℕ) → ℕ → List ℕ
+word_of words number = unwrap_or (slice_get words number) []
+
+-- the line of an answer to these words, with its end
+abbrev pub line_of : List (List ℕ) → Done → List ℕ
+line_of words Good = []
+line_of words (Exited status) = []
+line_of words (Faulted f) = fault_line f
+line_of words (Usage kind) = number_line (codes "nested: usage ") kind
+line_of words (NoInput word) = joined (codes "nested: no file " ∷ word_of words word ∷ codes "\n" ∷ [])
+line_of words (ElfRefused f) = elf_line f
+line_of words (ImageRefused f) = image_line f
+line_of words (ArgsTooLong n) = number_line (codes "nested: arguments ") n
+line_of words (FilesTooLarge n) = number_line (codes "nested: files ") n
+line_of words (AsmRefused f) = asm_line f
+line_of words (ClassRefused class kind at) = numbers_line (codes "nested: class ") class kind at
+line_of words (LinkRefused f) = link_line f
+line_of words (VerifyRefused f) = verify_line f
+line_of words (Trapped k) = number_line (codes "nested: trap ") k
+line_of words Spent = codes "nested: spent\n"
+line_of words ReadFault = codes "nested: read fault\n"
+line_of words WriteFault = []
+line_of words ShelfFault = codes "nested: shelf fault\n"
+line_of words NoMemory = codes "nested: no memory\n"
+line_of words NotBuilt = codes "nested: not built\n"

@@ -1,0 +1,15 @@
+//! What every command of the program has in common: how it ends and the line that says so, its deeds, and the loading and storing of
+//! whole files.
+#![tactic(auto)]
+
+mod digits;
+mod done;
+mod files;
+mod line;
+mod stop;
+
+pub use digits::{decimal_long, hexadecimal};
+pub use done::Done;
+pub use files::{load, store};
+pub use line::{write_line, write_number, write_pieces};
+pub use stop::Stop;

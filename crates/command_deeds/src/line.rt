@@ -1,0 +1,156 @@
+ghost use Rattle.std.specs.Prelude.{◌≡◌, OnOk, OnErr, is_err, map};
+ghost use Rattle.std.specs.Io.KnownBytes.{Appends};
+ghost use Rattle.nv_outside.specs.Faults.{CountsFailure};
+ghost use Rattle.nv_outside.specs.Gains.{AppendsPart};
+ghost use Rattle.command_deeds.specs.Line.{fault_line, image_line, joined, asm_line, line_of, number_line, numbers_line, word_of};
+ghost use Rattle.command_words.specs.Word.{texts};
+
+use crate::digits::{decimal, decimal_long, hexadecimal};
+use crate::done::Done;
+use elf_image::ImageFault;
+use itoa::Buffer;
+use mips_asm::AsmFault;
+use nv_events::Fault;
+use nv_outside::{Failed, Sink, write_all};
+
+/// Writes the line of an answer to these words. Takes no memory.
+pub fn write_line<E: Sink>(err: &mut E, words: &[String], done: &Done) -> Result<(), Failed>
+    ensures ok { OnOk result (Appends (E.taken err.old) (E.taken err.new) (line_of (texts words.now) done.now)) }
+    ensures err { OnErr result (AppendsPart (E.taken err.old) (E.taken err.new) (line_of (texts words.now) done.now)) }
+    ensures count { CountsFailure (is_err result) (E.faults err.old) (E.faults err.new) }
+{
+    match *done {
+        Done::Good | Done::Exited(_) | Done::WriteFault => Ok(()),
+        Done::ReadFault => write_all(err, b"nested: read fault\n"),
+        Done::ShelfFault => write_all(err, b"nested: shelf fault\n"),
+        Done::NoMemory => write_all(err, b"nested: no memory\n"),
+        Done::NotBuilt => write_all(err, b"nested: not built\n"),
+        Done::Usage(kind) => write_number(err, b"nested: usage ", u64::from(kind)),
+        Done::ArgsTooLong(bytes) => write_number(err, b"nested: arguments ", bytes),
+        Done::FilesTooLarge(blocks) => write_number(err, b"nested: files ", blocks),
+        Done::AsmRefused(fault) => write_asm_fault(err, fault),
+        Done::Spent => write_all(err, b"nested: spent\n"),
+        Done::NoInput(word) => {
+            let name = word_of(words, word);
+            write_pieces(err, &[b"nested: no file ", name, b"\n"])
+        }
+        Done::Faulted(fault) => write_fault(err, fault),
+        Done::ElfRefused(fault) => {
+            write_numbers(err, b"nested: elf ", fault.kind, fault.i, fault.j)
+        }
+        Done::ImageRefused(fault) => write_image_fault(err, fault),
+        Done::ClassRefused { class, kind, at } => {
+            write_numbers(err, b"nested: class ", class, kind, at)
+        }
+        Done::LinkRefused(fault) => {
+            write_numbers(err, b"nested: link ", fault.kind, fault.class, fault.slot)
+        }
+        Done::VerifyRefused(fault) => {
+            write_numbers(err, b"nested: verify ", fault.class, fault.method, fault.at)
+        }
+        Done::Trapped(kind) => write_number(err, b"nested: trap ", u64::from(kind)),
+    }
+}
+
+/// Writes the line of a fault of the guest.
+fn write_fault<E: Sink>(err: &mut E, fault: Fault) -> Result<(), Failed>
+    ensures ok { OnOk result (Appends (E.taken err.old) (E.taken err.new) (fault_line fault)) }
+    ensures err { OnErr result (AppendsPart (E.taken err.old) (E.taken err.new) (fault_line fault)) }
+    ensures count { CountsFailure (is_err result) (E.faults err.old) (E.faults err.new) }
+{
+    let mut digits = Buffer::new();
+    let kind = decimal(&mut digits, fault.kind);
+    let pc = hexadecimal(fault.pc);
+    let value = hexadecimal(fault.value);
+    write_pieces(
+        err,
+        &[
+            b"nested: fault ",
+            kind,
+            b" pc ",
+            &pc,
+            b" value ",
+            &value,
+            b"\n",
+        ],
+    )
+}
+
+/// Writes a text and three numbers, as a line.
+fn write_numbers<E: Sink>(
+    err: &mut E,
+    text: &[u8],
+    first: u32,
+    second: u32,
+    third: u32,
+) -> Result<(), Failed>
+    ensures ok { OnOk result (Appends (E.taken err.old) (E.taken err.new) (numbers_line text.now first second third)) }
+    ensures err { OnErr result (AppendsPart (E.taken err.old) (E.taken err.new) (numbers_line text.now first second third)) }
+    ensures count { CountsFailure (is_err result) (E.faults err.old) (E.faults err.new) }
+{
+    let (mut firsts, mut seconds, mut thirds) = (Buffer::new(), Buffer::new(), Buffer::new());
+    let a = decimal(&mut firsts, first);
+    let b = decimal(&mut seconds, second);
+    let c = decimal(&mut thirds, third);
+    write_pieces(err, &[text, a, b" ", b, b" ", c, b"\n"])
+}
+
+/// Writes the line of a check that the program's image failed.
+fn write_image_fault<E: Sink>(err: &mut E, fault: ImageFault) -> Result<(), Failed>
+    ensures ok { OnOk result (Appends (E.taken err.old) (E.taken err.new) (image_line fault)) }
+    ensures err { OnErr result (AppendsPart (E.taken err.old) (E.taken err.new) (image_line fault)) }
+    ensures count { CountsFailure (is_err result) (E.faults err.old) (E.faults err.new) }
+{
+    let (mut kinds, mut numbers) = (Buffer::new(), Buffer::new());
+    let kind = decimal(&mut kinds, fault.kind);
+    let number = decimal_long(&mut numbers, fault.number);
+    let word = hexadecimal(fault.word);
+    write_pieces(
+        err,
+        &[b"nested: image ", kind, b" ", number, b" ", &word, b"\n"],
+    )
+}
+
+/// Writes the line of a faulty text.
+fn write_asm_fault<E: Sink>(err: &mut E, fault: AsmFault) -> Result<(), Failed>
+    ensures ok { OnOk result (Appends (E.taken err.old) (E.taken err.new) (asm_line fault)) }
+    ensures err { OnErr result (AppendsPart (E.taken err.old) (E.taken err.new) (asm_line fault)) }
+    ensures count { CountsFailure (is_err result) (E.faults err.old) (E.faults err.new) }
+{
+    let (mut lines, mut kinds) = (Buffer::new(), Buffer::new());
+    let line = decimal(&mut lines, fault.line);
+    let kind = decimal(&mut kinds, fault.kind);
+    write_pieces(err, &[b"nested: asm ", line, b" ", kind, b"\n"])
+}
+
+/// Writes a text and a number, as a line. Takes no memory.
+pub fn write_number<E: Sink>(sink: &mut E, text: &[u8], number: u64) -> Result<(), Failed>
+    ensures ok { OnOk result (Appends (E.taken sink.old) (E.taken sink.new) (number_line text.now number)) }
+    ensures err { OnErr result (AppendsPart (E.taken sink.old) (E.taken sink.new) (number_line text.now number)) }
+    ensures count { CountsFailure (is_err result) (E.faults sink.old) (E.faults sink.new) }
+{
+    let mut digits = Buffer::new();
+    write_pieces(sink, &[text, decimal_long(&mut digits, number), b"\n"])
+}
+
+/// The bytes of a word, or none where there is no such word.
+fn word_of(words: &[String], word: u32) -> &[u8]
+    ensures { result.now ≡ word_of (texts words.now) word }
+{
+    match words.get(word as usize) {
+        Some(text) => text.as_bytes(),
+        None => b"",
+    }
+}
+
+/// Writes pieces one after the other. After a failure the sink has taken a front part of them.
+pub fn write_pieces<E: Sink>(sink: &mut E, pieces: &[&[u8]]) -> Result<(), Failed>
+    ensures ok { OnOk result (Appends (E.taken sink.old) (E.taken sink.new) (joined (map (λ p. p.now) pieces.now))) }
+    ensures err { OnErr result (AppendsPart (E.taken sink.old) (E.taken sink.new) (joined (map (λ p. p.now) pieces.now))) }
+    ensures count { CountsFailure (is_err result) (E.faults sink.old) (E.faults sink.new) }
+{
+    for piece in pieces {
+        write_all(sink, piece)?;
+    }
+    Ok(())
+}

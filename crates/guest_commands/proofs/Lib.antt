@@ -1,0 +1,4 @@
+pub mod ListingLemmas
+pub mod ListedLemmas
+pub mod AssemblyLemmas
+pub mod InterpLemmas

@@ -1,0 +1,4 @@
+pub mod Refusals
+pub mod Listing
+pub mod Assembly
+pub mod Interp

@@ -1,0 +1,13 @@
+use command_words::Pages;
+use machine_launch::Launch;
+
+/// A guest that is to be run on the reference machine.
+#[derive(Debug, Drop)]
+pub struct Guest<'a> {
+    /// The number of the word that names its file.
+    pub word: u32,
+    /// Its heap and its stack.
+    pub pages: Pages,
+    /// Its arguments, files, steps and disk.
+    pub launch: Launch<'a>,
+}

@@ -1,4 +1,0 @@
-use Rattle.nested_cli.proofs.line.write_asm_fault.Goals as goal
-
-pub returns-clause-ok : goal.returns-clause-ok
-returns-clause-ok g c = rw (← c.decimal-line.ensures, ← c.decimal-kind.ensures) c.write_pieces.ensures.ok

@@ -1,4 +1,0 @@
-use Rattle.nested_cli.proofs.line.write_numbers.Goals as goal
-
-pub returns-clause-ok : goal.returns-clause-ok
-returns-clause-ok g c = rw (← c.decimal-a.ensures, ← c.decimal-b.ensures, ← c.decimal-c.ensures) c.write_pieces.ensures.ok

@@ -1,8 +1,0 @@
-use Rattle.std.proofs.Common.{◌≡◌, ◌-◌}
-use Rattle.elf_image.specs.Start.{image_of}
-use Rattle.nested_cli.specs.Listing.{run_lines}
-use Rattle.nested_cli.proofs.ListingLemmas.{Leads}
-use Rattle.nested_cli.proofs.list.write_run.Given as goal
-
-abbrev pub invariant-loop : goal.invariant-loop
-invariant-loop g l = Leads (g.O.Sink.taken l.initial.out) (g.O.Sink.taken l.out) (run_lines ((image_of l.image).code) l.fn.run.first l.fn.run.words) (run_lines ((image_of l.image).code) l.at (l.end - l.counter)) × (g.O.Sink.faults l.out ≡ g.O.Sink.faults l.initial.out)

@@ -1,8 +1,0 @@
-use Rattle.std.proofs.Common.{◌≡◌, drop}
-use Rattle.elf_image.specs.Start.{image_of}
-use Rattle.nested_cli.specs.Listing.{runs_lines}
-use Rattle.nested_cli.proofs.ListingLemmas.{Leads}
-use Rattle.nested_cli.proofs.list.write_runs.Given as goal
-
-abbrev pub invariant-loop-run : goal.invariant-loop-run
-invariant-loop-run g l = Leads (g.O.Sink.taken l.initial.out) (g.O.Sink.taken l.out) (runs_lines ((image_of l.image).code) l.runs) (runs_lines ((image_of l.image).code) (drop l.run-index l.runs)) × (g.O.Sink.faults l.out ≡ g.O.Sink.faults l.initial.out)
