@@ -6,8 +6,8 @@ use Rattle.class_set.specs.declared.loaded.Loaded.TheVariants.{NoFile, Faulty, C
 use Rattle.command_words.specs.Word.{Text}
 use Rattle.command_words.specs.declared.session.Session.{Session}
 use Rattle.jvm_code.specs.declared.class.Class.{Class}
-use Rattle.jvm_link.specs.declared.link_fault.LinkFault.{LinkFault}
-use Rattle.jvm_link.specs.Faults.{link_fault}
+use Rattle.name_resolution.specs.declared.link_fault.LinkFault.{LinkFault}
+use Rattle.name_resolution.specs.Faults.{link_fault}
 use Rattle.jvm_link.specs.Linking.{linked_methods, program_of}
 use Rattle.jvm_program.specs.Step.{loaded, loaded_turn}
 use Rattle.jvm_program.specs.Typing.{AllTyped}

@@ -2,7 +2,7 @@ ghost use Rattle.std.specs.Prelude.{◌≡◌, ◌⊎◌, ℕ, All, IfErr, IfOk,
 ghost use Rattle.class_set.specs.ClassSets.{class_set};
 ghost use Rattle.class_set.specs.Kept.{IsKept};
 ghost use Rattle.class_set.specs.declared.loaded.Loaded.TheVariants.{Classes};
-ghost use Rattle.jvm_link.specs.Kept.{IsClass};
+ghost use Rattle.name_resolution.specs.Kept.{IsClass};
 ghost use Rattle.nv_outside.specs.Faults.{CountsFailure};
 ghost use Rattle.nv_outside.specs.Files.{SameFiles};
 ghost use Rattle.class_commands.specs.Classes.{IsAccepted, IsNoStop};

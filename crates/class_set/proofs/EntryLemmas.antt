@@ -14,8 +14,8 @@ use Rattle.constant_pool.specs.Entries.{slots}
 use Rattle.constant_pool.specs.Checks.{pool, sound_slots, text_at, text_fault, entry_fault, fault_or, slot_size, entries_fault}
 use Rattle.jvm_code.specs.declared.class.Class.{Class}
 use Rattle.class_file.specs.ClassFile.{preamble, class_slots, members, class_parts, class}
-use Rattle.jvm_link.specs.Kept.{IsClass}
-use Rattle.jvm_link.specs.Names.{is_known}
+use Rattle.name_resolution.specs.Kept.{IsClass}
+use Rattle.name_resolution.specs.Names.{is_known}
 use Rattle.class_set.specs.ClassSets.{has_file}
 
 pool_of : (c : Class) → IsClass c → pool.fits c.pool ≡ true

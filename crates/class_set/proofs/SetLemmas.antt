@@ -5,7 +5,7 @@ use Rattle.std.proofs.lemmas.List.Elements.{All-push, All-same}
 use Rattle.nv_outside.specs.Files.{Files, Finds, SameFiles}
 use Rattle.class_format.specs.declared.fault.ClassFault.{ClassFault}
 use Rattle.jvm_code.specs.declared.class.Class.{Class}
-use Rattle.jvm_link.specs.Kept.{IsClass}
+use Rattle.name_resolution.specs.Kept.{IsClass}
 use Rattle.class_set.specs.declared.loaded.Loaded.{Loaded}
 use Rattle.class_set.specs.declared.loaded.Loaded.TheVariants.{Faulty}
 use Rattle.class_set.specs.ClassSets.{names_asked, class_in, next, set_of, grown}

@@ -12,7 +12,7 @@ use Rattle.constant_pool.specs.Entries.{class_of}
 use Rattle.constant_pool.specs.Checks.{text_at}
 use Rattle.jvm_code.specs.declared.class.Class.{Class}
 use Rattle.class_file.specs.ClassFile as format
-use Rattle.jvm_link.specs.Names.{is_known}
+use Rattle.name_resolution.specs.Names.{is_known}
 use Rattle.class_set.specs.declared.loaded.Loaded.{Loaded}
 use Rattle.class_set.specs.declared.loaded.Loaded.TheVariants.{NoFile, Faulty, Classes}
 

@@ -1,6 +1,6 @@
 -- The classes of a set keep the rules of the format.
 use Rattle.std.specs.Prelude.{All}
-use Rattle.jvm_link.specs.Kept.{IsClass}
+use Rattle.name_resolution.specs.Kept.{IsClass}
 use Rattle.class_set.specs.declared.loaded.Loaded.{Loaded}
 use Rattle.class_set.specs.declared.loaded.Loaded.TheVariants.{NoFile, Faulty, Classes}
 

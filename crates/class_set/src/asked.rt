@@ -5,7 +5,7 @@ ghost use Rattle.constant_pool.specs.Checks.{entry_fault};
 ghost use Rattle.class_set.specs.ClassSets.{asked_in, has_file};
 
 use constant_pool::{Entry, is_array_name, text_of};
-use jvm_link::is_known;
+use name_resolution::is_known;
 use std::alloc::{AllocError, Global};
 
 /// The name that an entry of a pool asks for, which is ASCII; None exactly where it is no class, a type of arrays or a known class.

@@ -1,7 +1,7 @@
 ghost use Rattle.std.specs.Prelude.{◌≡◌, ◌++◌, ◌∷◌, [], IfOk, OnOk, string_bytes};
 ghost use Rattle.nv_outside.specs.Faults.{CountsFailure, shelf_failed};
 ghost use Rattle.nv_outside.specs.Files.{SameFiles};
-ghost use Rattle.jvm_link.specs.Kept.{IsClass};
+ghost use Rattle.name_resolution.specs.Kept.{IsClass};
 ghost use Rattle.class_set.specs.ClassSets.{names_asked};
 ghost use Rattle.class_set.specs.Waiting.{fresh, GivesFile, IsOnce};
 

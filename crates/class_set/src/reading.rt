@@ -2,7 +2,7 @@
 ghost use Rattle.std.specs.Prelude.{◌≡◌, IfOk};
 ghost use Rattle.nv_outside.specs.Faults.{CountsFailure, shelf_failed};
 ghost use Rattle.nv_outside.specs.Files.{Finds, SameFiles};
-ghost use Rattle.jvm_link.specs.Kept.{IsClass};
+ghost use Rattle.name_resolution.specs.Kept.{IsClass};
 ghost use Rattle.class_set.specs.ClassSets.{class_in, file_of};
 
 use class_format::ClassFault;

@@ -4,7 +4,7 @@ use Rattle.std.specs.Int.{cast_unsigned, w32}
 use Rattle.nv_events.specs.declared.fault.Fault.{Fault}
 use Rattle.elf_reader.specs.declared.elf_fault.ElfFault.{ElfFault}
 use Rattle.elf_image.specs.declared.image_fault.ImageFault.{ImageFault}
-use Rattle.jvm_link.specs.declared.link_fault.LinkFault.{LinkFault}
+use Rattle.name_resolution.specs.declared.link_fault.LinkFault.{LinkFault}
 use Rattle.mips_asm.specs.declared.asm_fault.AsmFault.{AsmFault}
 use Rattle.type_verifier.specs.declared.verify_error.VerifyFault.{VerifyFault}
 use Rattle.command_deeds.specs.declared.done.Done.{Done}

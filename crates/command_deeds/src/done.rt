@@ -1,7 +1,7 @@
 use elf_image::ImageFault;
 use elf_reader::ElfFault;
-use jvm_link::LinkFault;
 use mips_asm::AsmFault;
+use name_resolution::LinkFault;
 use nv_events::Fault;
 use type_verifier::VerifyFault;
 

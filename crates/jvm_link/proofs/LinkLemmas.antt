@@ -3,10 +3,10 @@ use Rattle.std.proofs.Common.{◌≡◌, ◌≤◌, Bool, true, false, cond, ltb
 use Rattle.std.specs.Option.{option_or}
 use Rattle.std.proofs.lemmas.Bool.{le-ltb}
 use Rattle.jvm_code.specs.declared.class.Class.{Class}
-use Rattle.jvm_link.specs.declared.link_fault.LinkFault.{LinkFault}
-use Rattle.jvm_link.specs.declared.link_fault.LinkError.{LinkError}
-use Rattle.jvm_link.specs.declared.link_fault.LinkError.TheVariants.{NoMemory}
-use Rattle.jvm_link.specs.Faults.{too_many, no_run, at_class, twice_fault, references_fault, has_run, run_fault, link_fault, IsAnswer}
+use Rattle.name_resolution.specs.declared.link_fault.LinkFault.{LinkFault}
+use Rattle.name_resolution.specs.declared.link_fault.LinkError.{LinkError}
+use Rattle.name_resolution.specs.declared.link_fault.LinkError.TheVariants.{NoMemory}
+use Rattle.name_resolution.specs.Faults.{too_many, no_run, at_class, twice_fault, references_fault, has_run, run_fault, link_fault, IsAnswer}
 use Rattle.jvm_link.specs.Meant.{IsMeant}
 
 few_fault : (cs : List Class) → length cs ≤ 1024 → link_fault cs ≡ option_or (twice_fault [] 0 cs) (option_or (references_fault cs 0 cs) (run_fault cs))

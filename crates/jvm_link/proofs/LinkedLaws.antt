@@ -28,11 +28,11 @@ use Rattle.jvm_program.specs.declared.instruction.Instruction.{Instruction}
 use Rattle.jvm_program.specs.declared.instruction.Instruction.TheVariants.{Wrong, Get, Put}
 use Rattle.jvm_program.specs.Program.{line_in}
 use Rattle.jvm_program.specs.Typing.{NamesField, IsLinked}
-use Rattle.jvm_link.specs.Names.{text_of, class_name_at, own_name, Signature, same_signature, signature_at, Reference, reference, same_reference, field_signature, method_signature, all_fields, field_number, method_number, string_name, host_name, length_signature, char_at_signature, host_call_signature, host_fault_signature}
-use Rattle.jvm_link.specs.Faults.{run_signature, has_run}
+use Rattle.name_resolution.specs.Names.{text_of, class_name_at, own_name, Signature, same_signature, signature_at, Reference, reference, same_reference, field_signature, method_signature, all_fields, field_number, method_number, string_name, host_name, length_signature, char_at_signature, host_call_signature, host_fault_signature}
+use Rattle.name_resolution.specs.Faults.{run_signature, has_run}
 use Rattle.jvm_link.specs.Linking.{kind_of, parameters_from, parameters_of, gives_int, field_kind, field_kinds, field_of, field_instruction, call_of, host_method, static_call, string_method, string_call, call_instruction, word_constant, long_constant, pool_instruction, local_instruction, return_instruction, linked_instruction, linked_line, lines_of, linked_method, methods_from, linked_methods, first_method, program_of}
 use Rattle.jvm_link.proofs.ReturnLaws.{returns_are}
-use Rattle.jvm_link.proofs.PlaceLemmas.{position-cons}
+use Rattle.name_resolution.proofs.PlaceLemmas.{position-cons}
 use Rattle.jvm_link.proofs.RunLemmas.{run_found, run_there}
 
 -- ---- what stands at the place that was found

@@ -11,12 +11,12 @@ use Rattle.jvm_code.specs.Code.{Lines, lines_from, lines_fault, code_fault, is_b
 use Rattle.jvm_code.specs.Writing.{AreLaid, size_at}
 use Rattle.jvm_code.proofs.DecodeLemmas.{lines_of_code, good_length}
 use Rattle.jvm_program.specs.declared.linked_method.LinkedMethod.{LinkedMethod}
-use Rattle.jvm_link.specs.declared.numbered_class.NumberedClass.{NumberedClass}
-use Rattle.jvm_link.specs.Kept.{IsClass}
-use Rattle.jvm_link.specs.Keys.{classes_in}
+use Rattle.name_resolution.specs.declared.numbered_class.NumberedClass.{NumberedClass}
+use Rattle.name_resolution.specs.Kept.{IsClass}
+use Rattle.name_resolution.specs.Keys.{classes_in}
 use Rattle.jvm_link.specs.Linking.{lines_read, lines_of, linked_method, methods_from}
-use Rattle.jvm_link.proofs.KeptLemmas.{kept_code}
-use Rattle.jvm_link.proofs.FaultLemmas.{one_class}
+use Rattle.name_resolution.proofs.KeptLemmas.{kept_code}
+use Rattle.name_resolution.proofs.FaultLemmas.{one_class}
 
 -- ---- lines of code
 

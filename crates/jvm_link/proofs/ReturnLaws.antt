@@ -24,7 +24,7 @@ use Rattle.jvm_program.specs.declared.instruction.Instruction.{Instruction}
 use Rattle.jvm_program.specs.declared.instruction.Instruction.TheVariants.{Wrong, Get, Put, Return}
 use Rattle.jvm_program.specs.Program.{line_in}
 use Rattle.jvm_program.specs.Typing.{GivesAs, returns_int}
-use Rattle.jvm_link.specs.Names.{text_of, class_name_at, Signature, same_signature, signature_at, Reference, reference, field_number, method_number, string_name, host_name, length_signature, char_at_signature, host_call_signature, host_fault_signature}
+use Rattle.name_resolution.specs.Names.{text_of, class_name_at, Signature, same_signature, signature_at, Reference, reference, field_number, method_number, string_name, host_name, length_signature, char_at_signature, host_call_signature, host_fault_signature}
 use Rattle.jvm_link.specs.Linking.{gives_int, field_of, field_instruction, call_of, host_method, static_call, string_method, string_call, call_instruction, word_constant, long_constant, pool_instruction, local_instruction, return_instruction, linked_instruction, linked_line, lines_of, linked_method, methods_from, linked_methods}
 
 -- a return of a method that gives an int, or nothing

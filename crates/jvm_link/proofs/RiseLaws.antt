@@ -23,7 +23,7 @@ use Rattle.jvm_code.specs.Targets.{switch_keys}
 use Rattle.jvm_program.specs.declared.kind.Kind.{Kind}
 use Rattle.jvm_program.specs.declared.instruction.Instruction.{Instruction}
 use Rattle.jvm_program.specs.declared.instruction.Instruction.TheVariants.{Wrong, Get, Put}
-use Rattle.jvm_link.specs.Names.{class_name_at, Signature, same_signature, signature_at, Reference, reference, field_number, method_number, string_name, host_name, length_signature, char_at_signature, host_call_signature, host_fault_signature}
+use Rattle.name_resolution.specs.Names.{class_name_at, Signature, same_signature, signature_at, Reference, reference, field_number, method_number, string_name, host_name, length_signature, char_at_signature, host_call_signature, host_fault_signature}
 use Rattle.jvm_link.specs.Linking.{field_of, field_instruction, call_of, host_method, static_call, string_method, string_call, call_instruction, word_constant, long_constant, pool_instruction, local_instruction, return_instruction, linked_instruction}
 use Rattle.jvm_link.specs.Order.{KeysRise}
 

@@ -7,13 +7,13 @@ use Rattle.std.proofs.lemmas.List.Elements.{All-head}
 use Rattle.std.proofs.lemmas.List.Quantifiers.{position-Some}
 use Rattle.jvm_code.specs.declared.class.Class.{Class}
 use Rattle.jvm_code.specs.declared.method.Method.{Method}
-use Rattle.jvm_link.specs.Kept.{IsClass}
-use Rattle.jvm_link.specs.Names.{own_name, Signature, same_signature, reference, same_reference, method_signature, methods_of, all_methods, method_number}
-use Rattle.jvm_link.specs.Faults.{run_signature, has_run}
+use Rattle.name_resolution.specs.Kept.{IsClass}
+use Rattle.name_resolution.specs.Names.{own_name, Signature, same_signature, reference, same_reference, method_signature, methods_of, all_methods, method_number}
+use Rattle.name_resolution.specs.Faults.{run_signature, has_run}
 use Rattle.jvm_link.specs.Linking.{first_method}
-use Rattle.jvm_link.proofs.NumberLemmas.{same_text-refl}
-use Rattle.jvm_link.proofs.KeptLemmas.{kept_methods}
-use Rattle.jvm_link.proofs.PlaceLemmas.{is_some-position, position-append, position_alike}
+use Rattle.name_resolution.proofs.NumberLemmas.{same_text-refl}
+use Rattle.name_resolution.proofs.KeptLemmas.{kept_methods}
+use Rattle.name_resolution.proofs.PlaceLemmas.{is_some-position, position-append, position_alike}
 
 mapped : {A B : Type 0} (f : A → B) (xs : List A) → AllZip (λ x y. y ≡ f x) xs (map f xs)
 mapped f [] = tt

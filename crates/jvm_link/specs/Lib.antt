@@ -1,10 +1,4 @@
-pub mod Names
-pub mod Faults
 pub mod Linking
-pub mod Kept
-pub mod Numbers
-pub mod Keys
-pub mod MemberMap
 pub mod Fields
 pub mod Meant
 pub mod Order

@@ -38,8 +38,8 @@ use Rattle.jvm_program.specs.declared.instruction.Instruction.{Instruction}
 use Rattle.jvm_program.specs.declared.instruction.Instruction.TheVariants as instructions
 use Rattle.jvm_program.specs.Program.{Program}
 use Rattle.jvm_program.specs.Typing.{AllTyped}
-use Rattle.jvm_link.specs.Names.{Signature, same_signature, Reference, reference, text_of, class_name_at, own_name, signature_at, string_name, host_name, length_signature, char_at_signature, host_call_signature, host_fault_signature, field_number, method_number}
-use Rattle.jvm_link.specs.Faults.{run_signature, link_fault}
+use Rattle.name_resolution.specs.Names.{Signature, same_signature, Reference, reference, text_of, class_name_at, own_name, signature_at, string_name, host_name, length_signature, char_at_signature, host_call_signature, host_fault_signature, field_number, method_number}
+use Rattle.name_resolution.specs.Faults.{run_signature, link_fault}
 
 -- ---- types of descriptors (JVM Specification, 4.3)
 

@@ -1,14 +1,14 @@
 //! Instructions that push constants.
 ghost use Rattle.std.specs.Prelude.{◌≡◌};
 ghost use Rattle.constant_pool.specs.Checks.{entry_at};
-ghost use Rattle.jvm_link.specs.Names.{class_name_at};
+ghost use Rattle.name_resolution.specs.Names.{class_name_at};
 ghost use Rattle.jvm_link.specs.Linking as linking;
 
 use crate::kinds::is_ints;
-use crate::lookups::class_name_at;
 use constant_pool::{Entry, entry_of};
 use jvm_code::{Class, Iconst, LocalName, ReturnName, ShortIndex};
 use jvm_program::{ArrayKind, Constant, Instruction, LocalKind};
+use name_resolution::class_name_at;
 use nv_words::unsigned;
 
 /// The word that `iconst_<n>` pushes.

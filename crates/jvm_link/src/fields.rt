@@ -3,10 +3,9 @@ ghost use Rattle.std.specs.Prelude.{◌≡◌, ◌++◌, map, IfOk, OnOk};
 ghost use Rattle.jvm_link.specs.Linking as linking;
 
 use crate::kinds::kind_of;
-use crate::link_fault::NoMemory;
-use crate::lookups::text_of;
 use jvm_code::Class;
 use jvm_program::Kind;
+use name_resolution::{NoMemory, text_of};
 use std::alloc::Global;
 
 /// The types of the fields of all classes, class by class.

@@ -1,16 +1,15 @@
 //! Instructions with what they name.
 ghost use Rattle.std.specs.Prelude.{◌≡◌};
 ghost use Rattle.jvm_link.specs.Linking as linking;
-ghost use Rattle.jvm_link.specs.Keys.{IsNumbered, classes_in};
+ghost use Rattle.name_resolution.specs.Keys.{IsNumbered, classes_in};
 
 use crate::constants::{
     iconst_word, local_instruction, pushed_int, return_instruction, short_index, word_constant,
 };
-use crate::names::Names;
-use crate::numbered_class::NumberedClass;
 use crate::pool_instructions::pool_instruction;
 use jvm_code::{BranchName, Op};
 use jvm_program::{ArrayKind, Constant, Instruction};
+use name_resolution::{Names, NumberedClass};
 use nv_words::unsigned;
 
 /// The instruction of a method of a class with a number; the method gives an int or nothing.

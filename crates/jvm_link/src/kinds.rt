@@ -3,9 +3,9 @@ ghost use Rattle.std.specs.Prelude.{◌≡◌, IfOk, codes};
 ghost use Rattle.constant_pool.specs.Names.{same_text};
 ghost use Rattle.jvm_link.specs.Linking as linking;
 
-use crate::link_fault::NoMemory;
 use constant_pool::after_field;
 use jvm_program::Kind;
+use name_resolution::NoMemory;
 use std::alloc::Global;
 
 /// `I`, `[I` and `[[I`.

@@ -1,13 +1,13 @@
 ghost use Rattle.std.specs.Prelude.{◌≡◌, Option, None, All};
-ghost use Rattle.jvm_link.specs.Kept.{IsClass};
-ghost use Rattle.jvm_link.specs.Faults.{link_fault};
+ghost use Rattle.name_resolution.specs.Kept.{IsClass};
+ghost use Rattle.name_resolution.specs.Faults.{link_fault};
 ghost use Rattle.jvm_link.specs.Linking.{field_kinds, linked_methods, first_method};
 ghost use Rattle.jvm_link.specs.Order.{IsInOrder, AllInOrder-prop};
 
-use crate::lookups::text_of;
 use class_format::Sequence;
 use jvm_code::Class;
 use jvm_program::{Kind, LinkedMethod};
+use name_resolution::text_of;
 
 /// Classes that link, and the program that they are.
 #[derive(Drop)]

@@ -1,25 +1,21 @@
 //! Linking classes (JVM Specification, 5.4.3).
 ghost use Rattle.std.specs.Prelude.{◌≡◌, ◌≤◌, length, IfOk, IfErr, OnOk, All, None};
 ghost use Rattle.jvm_program.specs.Typing.{IsLinked};
-ghost use Rattle.jvm_link.specs.Kept.{IsClass};
-ghost use Rattle.jvm_link.specs.Faults.{IsAnswer, link_fault};
+ghost use Rattle.name_resolution.specs.Kept.{IsClass};
+ghost use Rattle.name_resolution.specs.Faults.{IsAnswer, link_fault};
 ghost use Rattle.jvm_link.specs.Linking as linking;
 ghost use Rattle.jvm_link.specs.Order.{IsInOrder};
-ghost use Rattle.jvm_link.specs.Keys.{classes_in};
+ghost use Rattle.name_resolution.specs.Keys.{classes_in};
 ghost use Rattle.jvm_link.specs.Meant.{IsMeant};
 
 use crate::fields::field_kinds;
-use crate::link_fault::{LinkError, LinkFault};
 use crate::linked::Linked;
 use crate::methods::linked_methods;
-use crate::names::Names;
-use crate::numbered::Numbered;
-use crate::references::references_fault;
 use crate::run::first_method;
-use crate::twice::twice_fault;
 use class_format::Sequence;
 use jvm_code::Class;
 use jvm_program::{Kind, LinkedMethod};
+use name_resolution::{LinkError, LinkFault, Names, Numbered, references_fault, twice_fault};
 use std::alloc::Global;
 
 /// The greatest number of classes.
@@ -36,7 +32,6 @@ pub fn link(alloc: Global, classes: Vec<Class, Global>) -> Result<Linked, LinkEr
     ensures linked { IfOk result (λ linked. linked.classes ≡ classes.items) }
     ensures refused { IfErr result (IsAnswer (link_fault classes.items)) }
     ensures well_linked { IfOk result (λ linked. IsLinked (linking.program_of linked.classes)) }
-    ensures laid { IfOk result (λ linked. All IsInOrder linked.methods) }
 {
     if classes.len() > CLASSES {
         return Err(LinkError::Refused(LinkFault {

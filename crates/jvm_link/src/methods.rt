@@ -4,17 +4,14 @@ ghost use Rattle.jvm_code.specs.Code.{code_fault};
 ghost use Rattle.jvm_code.specs.Writing.{AreLaid, size_at};
 ghost use Rattle.jvm_link.specs.Linking as linking;
 ghost use Rattle.jvm_link.specs.Order.{AreInOrder, IsInOrder};
-ghost use Rattle.jvm_link.specs.Keys.{IsNumbered, classes_in};
+ghost use Rattle.name_resolution.specs.Keys.{IsNumbered, classes_in};
 
 use crate::instructions::linked_instruction;
 use crate::kinds::{gives_int, parameters_of};
-use crate::link_fault::NoMemory;
-use crate::lookups::text_of;
-use crate::names::Names;
-use crate::numbered_class::NumberedClass;
 use class_format::Sequence;
 use jvm_code::{Line, Method, decode_ops, size};
 use jvm_program::{LinkedLine, LinkedMethod};
+use name_resolution::{Names, NoMemory, NumberedClass, text_of};
 use std::alloc::{AllocError, Global};
 
 /// The methods of all classes, class by class.

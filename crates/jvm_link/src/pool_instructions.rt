@@ -4,20 +4,17 @@ ghost use Rattle.constant_pool.specs.Checks.{entry_at};
 ghost use Rattle.constant_pool.specs.Names.{same_text};
 ghost use Rattle.jvm_program.specs.declared.kind.Kind.{Kind};
 ghost use Rattle.jvm_program.specs.declared.instruction.Instruction.{Instruction};
-ghost use Rattle.jvm_link.specs.Names as words;
+ghost use Rattle.name_resolution.specs.Names as words;
 ghost use Rattle.jvm_link.specs.Linking as linking;
 ghost use Rattle.jvm_link.specs.Fields.{field_made};
-ghost use Rattle.jvm_link.specs.Keys.{IsNumbered, classes_in};
+ghost use Rattle.name_resolution.specs.Keys.{IsNumbered, classes_in};
 
 use crate::constants::{long_constant, new_pages, word_constant};
 use crate::kinds::kind_of;
-use crate::known::{is_char_at, is_host, is_host_call, is_host_fault, is_length, is_string};
-use crate::lookups::{class_name_at, signature_at};
-use crate::names::Names;
-use crate::numbered_class::NumberedClass;
 use constant_pool::{Entry, entry_of};
 use jvm_code::PoolName;
 use jvm_program::{Instruction, Kind};
+use name_resolution::{Names, NumberedClass, class_name_at, is_char_at, is_host, is_host_call, is_host_fault, is_length, is_string, signature_at};
 
 /// What an instruction with a slot is, in a class with a number.
 pub fn pool_instruction(

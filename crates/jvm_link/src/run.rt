@@ -2,13 +2,13 @@
 ghost use Rattle.std.specs.Prelude.{◌≡◌, codes, position, length, ◌≤◌, IfSome, All};
 ghost use Rattle.std.specs.Option.{is_some};
 ghost use Rattle.constant_pool.specs.Names.{same_text};
-ghost use Rattle.jvm_link.specs.Kept.{IsClass};
-ghost use Rattle.jvm_link.specs.Names as names;
-ghost use Rattle.jvm_link.specs.Faults.{run_signature, has_run};
+ghost use Rattle.name_resolution.specs.Kept.{IsClass};
+ghost use Rattle.name_resolution.specs.Names as names;
+ghost use Rattle.name_resolution.specs.Faults.{run_signature, has_run};
 ghost use Rattle.jvm_link.specs.Linking as linking;
 
-use crate::lookups::text_of;
 use jvm_code::{Class, Method};
+use name_resolution::text_of;
 
 /// `run` and `()V`.
 const RUN: [u16; 3] = [114, 117, 110];

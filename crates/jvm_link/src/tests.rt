@@ -1,5 +1,5 @@
 ghost use Rattle.std.specs.Prelude.{IfOk, All};
-ghost use Rattle.jvm_link.specs.Kept.{IsClass};
+ghost use Rattle.name_resolution.specs.Kept.{IsClass};
 
 use super::*;
 use class_reader::read_class;

@@ -1,3 +1,4 @@
+pub mod Ordered
 pub mod Finding
 pub mod Arriving
 pub mod Readiness

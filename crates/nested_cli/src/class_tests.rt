@@ -1,7 +1,7 @@
 //! Commands on classes.
 use crate::Done;
 use crate::tests::{Case, check_over, expect};
-use jvm_link::LinkFault;
+use name_resolution::LinkFault;
 use nv_outside::MemShelf;
 use std::alloc::Global;
 use std::process::Abort;

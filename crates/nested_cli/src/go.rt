@@ -1,7 +1,7 @@
 ghost use Rattle.std.specs.Prelude.{◌≡◌, ◌≤◌, ℕ, ℤ, ◌⊎◌, List, Option, IfSome, IfOk, IfErr, vec_len, false};
 ghost use Rattle.nv_events.specs.declared.fault.Fault.{Fault};
 ghost use Rattle.nv_outside.specs.Faults.{CountsFailure};
-ghost use Rattle.jvm_link.specs.Kept.{IsClass};
+ghost use Rattle.name_resolution.specs.Kept.{IsClass};
 ghost use Rattle.command_deeds.specs.Counts.{is_stop, read_stopped, shelf_stopped, write_stopped};
 ghost use Rattle.command_deeds.specs.Deeds.{Comes, world};
 ghost use Rattle.nested_cli.specs.Straight.{IsDueOfBytes, IsDueOfGo, RunsClass, IsRunEnd, header_fault};

@@ -1,7 +1,7 @@
 use Rattle.std.proofs.Common.{◌≡◌, ◌-◌, length, Some}
 use Rattle.std.specs.List.{All}
 use Rattle.nv_outside.specs.Files.{Files, SameFiles}
-use Rattle.jvm_link.specs.Kept.{IsClass}
+use Rattle.name_resolution.specs.Kept.{IsClass}
 use Rattle.class_set.specs.ClassSets.{grown, class_set}
 use Rattle.class_set.proofs.load.load_set.Given as goal
 

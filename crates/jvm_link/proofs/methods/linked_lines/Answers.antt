@@ -3,7 +3,7 @@ use Rattle.std.proofs.lemmas.List.{nil_from_length}
 use Rattle.jvm_code.specs.declared.line.Line.{Line}
 use Rattle.std.specs.Vec.Iter.{into_iter_items}
 use Rattle.jvm_code.specs.Writing.{AreLaid, size_at}
-use Rattle.jvm_link.specs.Keys.{classes_in}
+use Rattle.name_resolution.specs.Keys.{classes_in}
 use Rattle.jvm_link.specs.Linking.{linked_line}
 use Rattle.jvm_link.proofs.MethodLemmas.{laid_first, map_begins, map_goes, map_ends}
 use Rattle.jvm_program.specs.declared.linked_line.LinkedLine.{LinkedLine}

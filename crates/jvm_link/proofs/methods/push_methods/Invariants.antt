@@ -2,7 +2,7 @@ use Rattle.std.proofs.Common.{◌≡◌, ◌++◌, take, map}
 use Rattle.std.specs.List.{All}
 use Rattle.jvm_link.specs.Linking.{linked_method}
 use Rattle.jvm_link.specs.Order.{IsInOrder}
-use Rattle.jvm_link.specs.Keys.{classes_in}
+use Rattle.name_resolution.specs.Keys.{classes_in}
 use Rattle.jvm_link.proofs.methods.push_methods.Given as goal
 
 abbrev pub invariant-loop-method : goal.invariant-loop-method

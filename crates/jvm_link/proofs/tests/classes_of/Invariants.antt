@@ -1,5 +1,5 @@
 use Rattle.std.specs.List.{All}
-use Rattle.jvm_link.specs.Kept.{IsClass}
+use Rattle.name_resolution.specs.Kept.{IsClass}
 use Rattle.jvm_link.proofs.tests.classes_of.Given as goal
 
 abbrev pub invariant-loop-source : goal.invariant-loop-source

@@ -1,5 +1,5 @@
 use Rattle.std.proofs.Common.{ap, length, arith}
-use Rattle.jvm_link.proofs.KeptLemmas.{kept_characters}
+use Rattle.jvm_link.proofs.CharacterLemmas.{kept_characters}
 use Rattle.jvm_link.proofs.linked.Linked.characters_len.Goals as goal
 
 pub overflow_cast-result : goal.overflow_cast-result

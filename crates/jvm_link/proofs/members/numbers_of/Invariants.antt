@@ -1,6 +1,0 @@
-use Rattle.std.proofs.Common.{take}
-use Rattle.jvm_link.specs.MemberMap.{IsMemberMap}
-use Rattle.jvm_link.proofs.members.numbers_of.Given as goal
-
-abbrev pub invariant-loop-i : goal.invariant-loop-i
-invariant-loop-i l = IsMemberMap (take l.i l.keys) l.numbers.entries

@@ -1,0 +1,94 @@
+ghost use Rattle.std.specs.Prelude.{◌≡◌, ◌≤◌, ◌*◌, ℕ, map, length, None, [], IfOk, nat_eq};
+ghost use Rattle.std.specs.List.{list_any, flat_map};
+ghost use Rattle.std.proofs.Props.{props};
+ghost use Rattle.name_resolution.specs.Faults.{twice_fault};
+ghost use Rattle.name_resolution.specs.Keys.{classes_in, own_number, field_keys, method_keys, Knows};
+
+use crate::key::Key;
+use crate::link_fault::NoMemory;
+use crate::members::Members;
+use crate::numbered::Numbered;
+use crate::numbered_class::NumberedClass;
+use indexmap::IndexSet;
+use std::alloc::Global;
+
+/// What the names in classes mean: their classes, fields and methods, which are found by numbers.
+#[derive(Drop)]
+pub struct Names<'a> {
+    pub numbered: Numbered<'a>,
+    /// The numbers of the names of all classes.
+    pub class_names: IndexSet<usize>,
+    pub fields: Members,
+    pub methods: Members,
+    pub ghost knows: { Knows numbered.texts.keys class_names.keys fields methods (classes_in numbered.classes.items) },
+}
+
+impl<'a> Names<'a> {
+    /// The names of at most 1,024 classes of which none stands twice.
+    pub fn new(alloc: Global, numbered: Numbered<'a>) -> Result<Names<'a>, NoMemory>
+        requires few { length numbered.classes.items ≤ 1024 }
+        requires once { twice_fault [] 0 (classes_in numbered.classes.items) ≡ None }
+        ensures { IfOk result (λ names. names.numbered ≡ numbered.entry) }
+    {
+        let class_names = class_names_of(alloc, numbered.classes.as_slice())?;
+        let fields = Members::new(alloc, field_keys_of(alloc, numbered.classes.as_slice())?)?;
+        let methods = Members::new(alloc, method_keys_of(alloc, numbered.classes.as_slice())?)?;
+        Ok(Names {
+            numbered,
+            class_names,
+            fields,
+            methods,
+        })
+    }
+
+    ghost use Rattle.name_resolution.specs.Names.{class_name_at, signature_at, reference, field_number, method_number};
+    ghost use Rattle.name_resolution.specs.Keys.{IsNumbered};
+
+    /// The number of the field that a class refers to, by the slots of its class and of its name and descriptor.
+    pub fn field_number(&self, class: &NumberedClass, owner: u16, name: u16) -> Option<u32>
+        requires { IsNumbered self.now.numbered.texts.keys class.now }
+        ensures { result ≡ field_number (classes_in self.now.numbered.classes.items) (reference (class_name_at class.now.class.now owner) (signature_at class.now.class.now name)) }
+    {
+        self.fields.number(&class.key(owner, name))
+    }
+
+    /// The number of the method that a class refers to, likewise.
+    pub fn method_number(&self, class: &NumberedClass, owner: u16, name: u16) -> Option<u32>
+        requires { IsNumbered self.now.numbered.texts.keys class.now }
+        ensures { result ≡ method_number (classes_in self.now.numbered.classes.items) (reference (class_name_at class.now.class.now owner) (signature_at class.now.class.now name)) }
+    {
+        self.methods.number(&class.key(owner, name))
+    }
+}
+
+fn class_names_of(alloc: Global, classes: &[NumberedClass]) -> Result<IndexSet<usize>, NoMemory>
+    ensures { IfOk result (λ names. (n : ℕ) → list_any (nat_eq n) names.keys ≡ list_any (nat_eq n) (map own_number classes.now)) }
+{
+    let mut names = IndexSet::new(alloc);
+    for class in classes {
+        names.insert(class.own_number())?;
+    }
+    Ok(names)
+}
+
+fn field_keys_of(alloc: Global, classes: &[NumberedClass]) -> Result<Vec<Key>, NoMemory>
+    ensures keys { IfOk result (λ keys. keys.items ≡ flat_map field_keys classes.now) }
+    ensures few { IfOk result (λ keys. length keys.items ≤ 65536 * length classes.now) }
+{
+    let mut keys = Vec::new(alloc);
+    for class in classes {
+        class.push_field_keys(&mut keys)?;
+    }
+    Ok(keys)
+}
+
+fn method_keys_of(alloc: Global, classes: &[NumberedClass]) -> Result<Vec<Key>, NoMemory>
+    ensures keys { IfOk result (λ keys. keys.items ≡ flat_map method_keys classes.now) }
+    ensures few { IfOk result (λ keys. length keys.items ≤ 65536 * length classes.now) }
+{
+    let mut keys = Vec::new(alloc);
+    for class in classes {
+        class.push_method_keys(&mut keys)?;
+    }
+    Ok(keys)
+}
