@@ -14,7 +14,10 @@ use crate::kinds::kind_of;
 use constant_pool::{Entry, entry_of};
 use jvm_code::PoolName;
 use jvm_program::{Instruction, Kind};
-use name_resolution::{Names, NumberedClass, class_name_at, is_char_at, is_host, is_host_call, is_host_fault, is_length, is_string, signature_at};
+use name_resolution::{
+    Names, NumberedClass, class_name_at, is_char_at, is_host, is_host_call, is_host_fault,
+    is_length, is_string, signature_at,
+};
 
 /// What an instruction with a slot is, in a class with a number.
 pub fn pool_instruction(

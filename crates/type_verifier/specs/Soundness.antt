@@ -1,5 +1,5 @@
 -- JVM Specification, 4.10: what verification is for.
-use Rattle.std.specs.Prelude.{◌≡◌, ◌≢◌, ℕ, List}
+use Rattle.std.specs.Prelude.{◌≢◌, ℕ, List}
 use Rattle.nv_events.specs.Answer.{Answer, next_answer}
 use Rattle.nv_events.specs.Run.{run_of}
 use Rattle.nv_events.specs.declared.outcome.Outcome.TheVariants.{Trapped}

@@ -1,9 +1,8 @@
-use Rattle.std.proofs.Common.{◌≡◌, ◌≢◌, ℕ, ◌+◌, ◌-◌, ◌<◌, ◌≤◌, ◌/◌, List, length, get_or, true, false, refl, ap, sym, ◌∙◌, arith, inl, inr, rules, of_z}
-use Rattle.std.specs.Prelude.{ℤ, int_lt, pos, FitsSigned}
+use Rattle.std.proofs.Common.{◌≢◌, ◌+◌, ◌-◌, ◌≤◌, ◌/◌, length, get_or, ap, arith, inl, inr, rules, of_z}
+use Rattle.std.specs.Prelude.{ℤ, pos, FitsSigned}
 use Rattle.std.specs.Int.{w32}
 use Rattle.std.proofs.lemmas.Bool.{cases_lt}
 use Rattle.std.proofs.lemmas.Int.{to_z-of_z}
-use Rattle.jvm_code.specs.declared.pair.Pair.{Pair}
 use Rattle.jvm_steps.proofs.Places.{found_number, missing_number, same_key, not_below, below_other, above_other, before_all, behind_all, middle_within}
 use Rattle.jvm_steps.proofs.jumping.target_number.Goals as goal
 

@@ -3,9 +3,6 @@ use Rattle.std.specs.Int.{w32}
 use Rattle.std.proofs.lemmas.Int.{to_z-of_z}
 use Rattle.std.specs.Prelude.{List, pos, FitsSigned}
 use Rattle.jvm_code.specs.declared.pair.Pair.{Pair}
-use Rattle.jvm_program.specs.Effect.{popping_int, jumps, with_operands, lookup_target}
-use Rattle.jvm_program.specs.declared.value.Value.{Value}
-use Rattle.nv_words.specs.Words.{signed_of}
 use Rattle.jvm_steps.specs.Workings.{workspace}
 use Rattle.jvm_steps.proofs.Targets.{lookup_jumps, pair_behind}
 use Rattle.jvm_steps.proofs.working.Working.lookup_switch.Goals as goal

@@ -1,8 +1,7 @@
-use Rattle.std.proofs.Common.{◌≡◌, ◌≢◌, ◌≤◌, ◌<◌, ◌-◌, ℕ, length, arith, refl, ap, sym, ◌∙◌, rules, slice_index, slice_get, ◌∷◌, Some}
+use Rattle.std.proofs.Common.{◌≡◌, length, arith, ap, sym, rules, slice_get, ◌∷◌, Some}
 use Rattle.std.specs.Prelude.{FitsSigned}
 use Rattle.std.specs.Int.{w32}
 use Rattle.std.proofs.lemmas.Bool.Decides.{nat_tests}
-use Rattle.std.proofs.lemmas.Grind.{common_steps}
 use Rattle.std.proofs.lemmas.Int.{to_z-of_z}
 use Rattle.jvm_steps.specs.Workings.{workspace}
 use Rattle.jvm_steps.proofs.Targets.{table_within, default_target, target_behind}
