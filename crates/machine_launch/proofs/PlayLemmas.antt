@@ -1,4 +1,4 @@
--- What is due of a machine's run in a session.
+-- What is due of a machine's run.
 use Rattle.std.proofs.Common.{◌≡◌, ℕ, ◌≤◌, List, length, Option, Some, None, Result, Ok, Err, refl, sym, ap, subst, inl, inr}
 use Rattle.std.specs.Prelude.{IfSome, IfOk}
 use Rattle.command_words.specs.declared.session.Session.{Session}

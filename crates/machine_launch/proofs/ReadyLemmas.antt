@@ -253,7 +253,7 @@ pub filled_as : (F : Option Files) (word blocks moment : ℕ) (name : Text) (tex
 filled_as F word blocks moment name texts texts' names names' new r e e' q =
     subst (λ ts. FilledOr F word blocks moment (name ∷ ts) names' new r) e (subst (λ ns. FilledOr F word blocks moment (name ∷ texts) ns new r) e' q)
 
--- the system or the answer of a session
+-- the system, or the answer where it was not filled
 pub session_readied : (F : Option Files) (name : Text) (session : Session) (moment : ℕ) (unix : Held) (filled : Result (Unit {0}) Halt) (result : Result Readied Stop) → FilledOr F session.with.word session.disk moment (arguments_of name session) session.with.names unix filled → IsReadiedBy unix filled result → IfSome F (λ files. IfOk result (IsReadied files name session moment))
 session_readied None name session moment unix filled result q e = tt
 session_readied (Some f) name session moment unix (Ok done) result q e = rw e (q.0, q.1, q.3, q.2)

@@ -87,7 +87,7 @@ FilledOr shelf word blocks moment texts names new (Err (halt.Refused answer)) =
     ⊎ ((too_long [] texts ≡ None) × IfSome shelf (λ files. files_for files blocks word [] names ≡ Err answer))
 FilledOr shelf word blocks moment texts names new (Err (halt.Stopped stop)) = (stop ≡ Stop.ShelfFault) ⊎ (stop ≡ Stop.NoMemory)
 
--- what a system and its filling make of a session
+-- what a system and its filling come to
 abbrev pub IsReadiedBy : Held → Result (Unit {0}) Halt → Result Readied Stop → Type 0
 IsReadiedBy unix (Ok done) result = result ≡ Ok (Ready unix)
 IsReadiedBy unix (Err (halt.Refused answer)) result = result ≡ Ok (Refused answer)

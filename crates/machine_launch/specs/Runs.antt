@@ -79,7 +79,7 @@ played run keep = record {
   answer = answer_of run.outcome;
 }
 
--- the run of a machine from a state, in a session, over these files and this input
+-- the run of a machine from a state, with these options, over these files and this input
 abbrev pub session_run : {S : Type 0} → (S → Turn S) → S → Text → Session → ℕ → List ℕ → List NamedFile → Run S System
 session_run turn s name session moment input found =
     run_of turn reply session.steps s (start session.disk moment found (arguments_of name session) input)
@@ -87,7 +87,7 @@ session_run turn s name session moment input found =
 abbrev pub IsDueOfPlay : {S : Type 0} → (S → Turn S) → S → Text → Session → ℕ → List ℕ → List NamedFile → Due → Type 0
 IsDueOfPlay turn s name session moment input found due = due ≡ played (session_run turn s name session moment input found) session.keep.names
 
--- the arguments and the files of a session, and then a run over them and some input
+-- the arguments and the files, and then a run over them and some input
 abbrev pub IsDueByFiles : Result (List NamedFile) Done → (List NamedFile → Due → Type 0) → Due → Type 0
 IsDueByFiles (Ok found) IsDueWith due = IsDueWith found due
 IsDueByFiles (Err answer) IsDueWith due = due ≡ answers answer

@@ -14,7 +14,7 @@ pub struct Launch<'a> {
 impl<'a> Launch<'a> {
     ghost use Rattle.std.specs.Prelude.{◌≡◌};
 
-    /// The start of a machine under this name, in this session, at this moment.
+    /// The start of a machine under this name, with these options, at this moment.
     pub fn new(name: &'a str, session: &'a Session, moment: u64) -> Self
         ensures name { result.name.now ≡ name.now }
         ensures session { result.session.now ≡ session.now }

@@ -1,4 +1,4 @@
-//! The run of any machine in a session: on its system, with its arguments and files.
+//! The run of any machine on its system, with arguments and files.
 ghost use Rattle.std.specs.Prelude.{◌≡◌, ◌≤◌, ℕ, List, Option, Some, IfOk, IfSome, false, length};
 ghost use Rattle.command_words.specs.Limits.{AreFileNames};
 ghost use Rattle.nv_events.specs.Serving.{Counts};
@@ -110,7 +110,7 @@ fn play_over<M: Machine + Drop, H: Shelf, S: Source, O: Sink, E: Sink>(
     }
 }
 
-/// Keeps files of a session whose run ended, or was stopped at its bound.
+/// Keeps files of a run that ended, or was stopped at its bound.
 fn keep_after<H: Shelf>(
     alloc: Global,
     launch: &Launch<'_>,
