@@ -16,7 +16,8 @@ impl Working {
     /// # Errors
     ///
     /// The trap, before which nothing is changed.
-    #[inline]
+    // in the loop of a run, or else each turn hands its outcome on through memory
+    #[inline(always)]
     pub fn execute(
         &mut self,
         classes: &[Class],
