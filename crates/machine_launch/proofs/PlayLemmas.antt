@@ -14,7 +14,7 @@ use Rattle.unix_system.specs.Unix.{start, reply}
 use Rattle.unix_calls.specs.Serving.{parts}
 use Rattle.unix_calls.specs.Held.{Held}
 use Rattle.unix_calls.specs.Starting.{Begins}
-use Rattle.unix_runs.specs.Playing.{Plays, Falls}
+use Rattle.unix_calls.specs.Playing.{Plays, Falls}
 use Rattle.command_deeds.specs.declared.done.Done.{Done}
 use Rattle.command_deeds.specs.declared.stop.Stop.{Stop}
 use Rattle.machine_launch.specs.declared.readied.Readied.{Readied}

@@ -20,9 +20,8 @@ use command_deeds::{Done, Stop};
 use nv_events::{Machine, Outcome};
 use nv_outside::{Shelf, Sink, Source};
 use std::alloc::Global;
-use unix_calls::Unix;
-use unix_runs::laws::begins_at_start;
-use unix_runs::play;
+use unix_calls::laws::begins_at_start;
+use unix_calls::{Unix, play};
 
 /// Makes the system of a machine ready, runs the machine on it, and keeps files.
 pub fn play_session<M: Machine + Drop, H: Shelf, S: Source, O: Sink, E: Sink>(

@@ -7,3 +7,7 @@ pub mod JoinedLemmas
 pub mod ReadGiven
 pub mod WriteGiven
 pub mod StartLemmas
+pub mod FallLemmas
+pub mod FrameLemmas
+pub mod LeadsLemmas
+pub mod PlayLemmas

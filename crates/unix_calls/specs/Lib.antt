@@ -6,3 +6,4 @@ pub mod Beginning
 pub mod Access
 pub mod Reading
 pub mod Telling
+pub mod Playing

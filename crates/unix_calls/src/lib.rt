@@ -1,4 +1,4 @@
-//! The system as a program finds it: it answers all calls, over a source of input and two sinks.
+//! The system as a program finds it: it answers all calls, over a source of input and two sinks; and the run of any machine over it.
 #![tactic(auto)]
 
 mod access;
@@ -7,11 +7,11 @@ mod begin;
 mod console;
 mod input;
 mod joined;
+pub mod laws;
+mod playing;
 mod quiet;
 mod read_ahead;
 mod serving;
-#[cfg(test)]
-mod tests;
 mod text;
 mod unix;
 mod unix_error;
@@ -19,6 +19,7 @@ mod unix_error;
 pub use access::Access;
 pub use args::Args;
 pub use joined::Joined;
+pub use playing::play;
 pub use read_ahead::ReadAhead;
 use std::alloc::AllocError;
 pub use text::Text;

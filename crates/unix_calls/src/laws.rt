@@ -6,7 +6,7 @@ ghost use Rattle.unix_system.specs.System.{System};
 ghost use Rattle.unix_system.specs.Unix.{start, reply};
 ghost use Rattle.unix_calls.specs.Held.{Held, system_of};
 ghost use Rattle.unix_calls.specs.Starting.{Begins};
-ghost use Rattle.unix_runs.specs.Playing.{behind, run_behind};
+ghost use Rattle.unix_calls.specs.Playing.{behind, run_behind};
 
 use nv_events::Machine;
 

@@ -15,7 +15,7 @@ use Rattle.nv_events.specs.Answer.{Answer, fits}
 use Rattle.nv_events.specs.Turn.{Turn, moves, ends, leaves, asks}
 use Rattle.nv_events.specs.Run.{Run, asking, run_of}
 use Rattle.nv_events.proofs.RunLaws.{given, turned, run_of-suc}
-use Rattle.unix_runs.specs.Playing.{behind, run_behind}
+use Rattle.unix_calls.specs.Playing.{behind, run_behind}
 
 abbrev pub Same : System → System → Type 0
 Same s t = (t.console.output ≡ s.console.output) × (t.console.error_output ≡ s.console.error_output)

@@ -7,7 +7,7 @@ use Rattle.nv_events.specs.Serving.{Leads, RunsBy}
 use Rattle.nv_events.specs.declared.io_fault.IoFault.{IoFault}
 use Rattle.nv_events.specs.declared.outcome.Outcome.{Outcome}
 use Rattle.unix_calls.specs.Serving.{Parts}
-use Rattle.unix_runs.specs.Playing.{Answers, Fails, Holds}
+use Rattle.unix_calls.specs.Playing.{Answers, Fails, Holds}
 
 module _ {V : Type 0} (part : V → Parts) where
   abbrev goes : V → Question → Answer → V → Type 0

@@ -1,6 +1,6 @@
 use Rattle.std.proofs.Common.{[], ap}
 use Rattle.unix_calls.specs.Held.{system_of}
-use Rattle.unix_runs.proofs.laws.begins_at_start.Goals as goal
+use Rattle.unix_calls.proofs.laws.begins_at_start.Goals as goal
 
 pub returns : goal.returns
 returns c held blocks moment files args rest begins = ap (λ h. system_of h rest [] []) begins.is

@@ -19,9 +19,9 @@ use Rattle.unix_calls.specs.Drawing.{known}
 use Rattle.unix_calls.specs.Serving.{Parts}
 use Rattle.unix_calls.proofs.DrawLemmas.{consumes-both}
 use Rattle.unix_calls.proofs.GainLemmas.{gains-both}
-use Rattle.unix_runs.specs.Playing.{behind, Answers, Fails, Holds, Falls}
-use Rattle.unix_runs.proofs.FrameLemmas.{Same, unix-framed}
-use Rattle.unix_runs.proofs.PlayLemmas.{told-on, replies}
+use Rattle.unix_calls.specs.Playing.{behind, Answers, Fails, Holds, Falls}
+use Rattle.unix_calls.proofs.FrameLemmas.{Same, unix-framed}
+use Rattle.unix_calls.proofs.PlayLemmas.{told-on, replies}
 
 -- The outputs of a system are those of an earlier one, and more.
 pub record Grew (k l : System) : Type 0 where

@@ -4,11 +4,12 @@ ghost use Rattle.nv_events.specs.Serving.{RunsBy, Causes, NoneFalls};
 ghost use Rattle.unix_system.specs.Unix.{reply};
 ghost use Rattle.unix_calls.specs.Held.{system_of};
 ghost use Rattle.unix_calls.specs.Serving.{parts, counted};
-ghost use Rattle.unix_runs.specs.Playing.{Answers, Fails, Holds, Plays, Falls};
+ghost use Rattle.unix_calls.specs.Playing.{Answers, Fails, Holds, Plays, Falls};
 
+use crate::joined::Joined;
+use crate::unix::Unix;
 use nv_events::{IoFault, Machine, Outcome, run};
 use nv_outside::{Sink, Source};
-use unix_calls::{Joined, Unix};
 
 /// Runs a machine for up to `steps` turns over a system, a source of input and two sinks.
 ///

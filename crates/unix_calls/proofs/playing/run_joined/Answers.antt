@@ -1,9 +1,9 @@
 use Rattle.std.proofs.Common.{refl}
 use Rattle.unix_calls.specs.Serving.{parts}
-use Rattle.unix_runs.proofs.FallLemmas.{falls}
-use Rattle.unix_runs.proofs.LeadsLemmas.{runs-parts}
-use Rattle.unix_runs.proofs.PlayLemmas.{plays}
-use Rattle.unix_runs.proofs.playing.run_joined.Goals as goal
+use Rattle.unix_calls.proofs.FallLemmas.{falls}
+use Rattle.unix_calls.proofs.LeadsLemmas.{runs-parts}
+use Rattle.unix_calls.proofs.PlayLemmas.{plays}
+use Rattle.unix_calls.proofs.playing.run_joined.Goals as goal
 
 pub returns-clause-runs : goal.returns-clause-runs
 returns-clause-runs g c =

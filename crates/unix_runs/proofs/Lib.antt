@@ -1,4 +1,0 @@
-pub mod FallLemmas
-pub mod FrameLemmas
-pub mod LeadsLemmas
-pub mod PlayLemmas
