@@ -16,8 +16,6 @@ mod pages;
 mod place;
 mod read;
 mod session;
-#[cfg(test)]
-mod tests;
 mod text;
 mod texts;
 mod usage;

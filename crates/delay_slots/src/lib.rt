@@ -8,6 +8,3 @@ mod unit;
 pub use builder::{NoMemory, units};
 pub use laws::{unit_is_its_steps, unit_leads_on, unit_runs_over_systems};
 pub use unit::Unit;
-
-#[cfg(test)]
-mod tests;

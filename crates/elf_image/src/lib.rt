@@ -21,6 +21,3 @@ pub use image_error::ImageError;
 pub use image_fault::ImageFault;
 pub use loader::image;
 pub use runs::runs_are_one;
-
-#[cfg(test)]
-mod tests;

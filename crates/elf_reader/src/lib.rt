@@ -31,12 +31,3 @@ pub use reader::read_thin;
 pub use segment::Segment;
 pub use thin::Thin;
 pub use thin_error::ThinError;
-
-#[cfg(test)]
-mod elf_tests;
-#[cfg(test)]
-mod linked_tests;
-#[cfg(test)]
-mod tests;
-#[cfg(test)]
-mod written;

@@ -17,6 +17,3 @@ pub use parts::Parts;
 pub use read_back::segments_read_back;
 pub use sec::Sec;
 pub use writer::{NoMemory, write_elf};
-
-#[cfg(test)]
-mod tests;

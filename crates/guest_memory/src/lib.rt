@@ -11,6 +11,3 @@ mod paging;
 pub use code::Code;
 pub use line::Line;
 pub use memory::{GuestMemory, NoMemory};
-
-#[cfg(test)]
-mod tests;

@@ -35,6 +35,3 @@ pub use operands::Operands;
 pub use place::Place;
 pub use second_pass::fill_segments;
 pub use segments::Segments;
-
-#[cfg(test)]
-mod tests;

@@ -23,6 +23,3 @@ pub use names::{
 };
 pub use targets::{branch_target, jump_target};
 pub use text::{NoMemory, print_inst};
-
-#[cfg(test)]
-mod tests;

@@ -18,6 +18,3 @@ mod turning;
 
 pub use mips::Mips;
 pub use step::Step;
-
-#[cfg(test)]
-mod tests;

@@ -30,6 +30,3 @@ pub use scripted::Scripted;
 pub use server::Server;
 pub use text_place::TextPlace;
 pub use view::View;
-
-#[cfg(test)]
-mod tests;

@@ -15,8 +15,6 @@ mod sink;
 mod source;
 mod std_sink;
 mod std_source;
-#[cfg(test)]
-mod tests;
 
 pub use failed::Failed;
 pub use file_shelf::FileShelf;

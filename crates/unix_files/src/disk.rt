@@ -256,16 +256,3 @@ fn has_name(entry: &Option<Entry>, name: &[u8]) -> bool
         None => false,
     }
 }
-
-#[cfg(test)]
-mod tests {
-    use super::*;
-    use std::test::Fail;
-
-    #[test]
-    fn a_new_disk_has_its_blocks(rt: HostRuntime) -> Result<(), Fail> {
-        let disk = Disk::new(rt.alloc(), 3)?;
-        assert_eq!(rt; disk.free(), 3);
-        Ok(())
-    }
-}

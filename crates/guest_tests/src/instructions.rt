@@ -1,4 +1,5 @@
-use super::*;
+//! Words of instructions, both ways and as text.
+use mips_decode::{Inst, decode, encode, print_inst};
 use std::test::Fail;
 
 // One word of each instruction, as the GNU assembler makes it for MIPS I, with its text at the address 00400000.

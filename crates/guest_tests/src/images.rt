@@ -1,21 +1,14 @@
+//! The memory and the code with which programs start, and programs without an image.
+
 ghost use Rattle.std.specs.Prelude.{◌≤◌};
 
-use crate::{Image, ImageError, ImageFault, image};
+use crate::programs::{EXIT_7, edited, put};
+use elf_image::{Image, ImageError, ImageFault, image};
 use elf_reader::{ElfError, read_elf};
 use std::alloc::{AllocError, Global};
 use std::test::Fail;
 
-/// A program that leaves with status 7: ADDIU, ADDIU, SYSCALL.
-const EXIT_7: [u8; 96] = [
-    0x7F, 0x45, 0x4C, 0x46, 0x01, 0x02, 0x01, 0x00, 0x00, 0x00, 0x00, 0x00, 0x00, 0x00, 0x00, 0x00,
-    0x00, 0x02, 0x00, 0x08, 0x00, 0x00, 0x00, 0x01, 0x00, 0x40, 0x00, 0x00, 0x00, 0x00, 0x00, 0x34,
-    0x00, 0x00, 0x00, 0x00, 0x00, 0x00, 0x00, 0x00, 0x00, 0x34, 0x00, 0x20, 0x00, 0x01, 0x00, 0x28,
-    0x00, 0x00, 0x00, 0x00, 0x00, 0x00, 0x00, 0x01, 0x00, 0x00, 0x00, 0x54, 0x00, 0x40, 0x00, 0x00,
-    0x00, 0x40, 0x00, 0x00, 0x00, 0x00, 0x00, 0x0C, 0x00, 0x00, 0x00, 0x0C, 0x00, 0x00, 0x00, 0x05,
-    0x00, 0x00, 0x00, 0x04, 0x24, 0x02, 0x00, 0x01, 0x24, 0x04, 0x00, 0x07, 0x00, 0x00, 0x00, 0x0C,
-];
-
-/// The same with a floating-point word behind it, in a section of its own that is no code.
+/// The program of three words with a floating-point word behind it, in a section of its own that is no code.
 const FLOAT_DATA: [u8; 180] = [
     0x7F, 0x45, 0x4C, 0x46, 0x01, 0x02, 0x01, 0x00, 0x00, 0x00, 0x00, 0x00, 0x00, 0x00, 0x00, 0x00,
     0x00, 0x02, 0x00, 0x08, 0x00, 0x00, 0x00, 0x01, 0x00, 0x40, 0x00, 0x00, 0x00, 0x00, 0x00, 0x34,
@@ -91,11 +84,13 @@ fn loads_a_program_of_three_words(rt: HostRuntime) -> Result<(), Fail> {
         assert_eq!(rt; image.readable(page), readable, "{page}");
         assert_eq!(rt; image.writable(page), writable, "{page}");
     }
+    let image = loaded(rt.alloc(), &FLOAT_DATA, 256, 64)??;
+    assert_eq!(rt; image.byte(0x0040_000C), Some(0x46));
     Ok(())
 }
 
 #[test]
-fn reads_data_and_the_zeros_behind_it(rt: HostRuntime) -> Result<(), Fail> {
+fn gives_data_the_zeros_behind_it_and_words(rt: HostRuntime) -> Result<(), Fail> {
     let image = loaded(rt.alloc(), &DATA, 1, 1)??;
     assert_eq!(rt; image.mapped(), 6);
     assert_eq!(rt; image.heap_start(), 0x1000_2000);
@@ -116,12 +111,6 @@ fn reads_data_and_the_zeros_behind_it(rt: HostRuntime) -> Result<(), Fail> {
         assert_eq!(rt; image.byte(at), want, "{at}");
     }
     assert!(rt; image.writable(0x10001));
-    Ok(())
-}
-
-#[test]
-fn gives_the_words_of_pages_that_are_not_all_zero(rt: HostRuntime) -> Result<(), Fail> {
-    let image = loaded(rt.alloc(), &DATA, 1, 1)??;
     for (page, k, want) in [
         (0x400, 1, Some(0x2404_000F)),
         (0x400, 3, Some(0)),
@@ -139,67 +128,6 @@ fn gives_the_words_of_pages_that_are_not_all_zero(rt: HostRuntime) -> Result<(),
             None => None,
         };
         assert_eq!(rt; word, want, "{page} {k}");
-    }
-    Ok(())
-}
-
-#[test]
-fn refuses_floating_point_code_alone(rt: HostRuntime) -> Result<(), Fail> {
-    let image = loaded(rt.alloc(), &FLOAT_DATA, 256, 64)??;
-    assert_eq!(rt; image.byte(0x0040_000C), Some(0x46));
-    let mut file = FLOAT_DATA;
-    file[123] = 16;
-    let fault = ImageFault {
-        kind: ImageFault::FLOAT_INSTRUCTION,
-        number: 4_194_316,
-        word: 0x4600_0000,
-    };
-    assert_eq!(rt;
-        loaded(rt.alloc(), &file, 256, 64)?.err(),
-        Some(ImageError::Refused(fault))
-    );
-    Ok(())
-}
-
-#[test]
-fn refuses_a_heap_that_touches_the_stack(rt: HostRuntime) -> Result<(), Fail> {
-    let mut file = EXIT_7;
-    // the segment's address: 7EFFF000, so that the heap begins at 7F000000
-    file[60] = 0x7E;
-    file[61] = 0xFF;
-    file[62] = 0xF0;
-    assert!(rt; loaded(rt.alloc(), &file, 4094, 1)?.is_ok());
-    let fault = ImageFault {
-        kind: ImageFault::LAYOUT_CLASH,
-        number: 0x7FFFE,
-        word: 0,
-    };
-    assert_eq!(rt;
-        loaded(rt.alloc(), &file, 4095, 1)?.err(),
-        Some(ImageError::Refused(fault))
-    );
-    Ok(())
-}
-
-#[test]
-fn refuses_too_many_pages(rt: HostRuntime) -> Result<(), Fail> {
-    let fault = ImageFault {
-        kind: ImageFault::TOO_MANY_PAGES,
-        number: 65_538,
-        word: 0,
-    };
-    assert!(rt; loaded(rt.alloc(), &EXIT_7, 32_768, 32_766)?.is_ok());
-    assert_eq!(rt;
-        loaded(rt.alloc(), &EXIT_7, 32_768, 32_768)?.err(),
-        Some(ImageError::Refused(fault))
-    );
-    Ok(())
-}
-
-/// The words, big-endian.
-fn put(file: &mut Vec<u8>, words: &[u32]) -> Result<(), AllocError> {
-    for word in words {
-        file.extend_from_slice(&word.to_be_bytes())?;
     }
     Ok(())
 }
@@ -225,26 +153,69 @@ fn texts(alloc: Global, count: u16, bytes: u32) -> Result<Vec<u8>, AllocError> {
     Ok(file)
 }
 
+/// The fault of an image: its kind, its number and its word.
+fn refused(kind: u32, number: u64, word: u32) -> Option<ImageError> {
+    Some(ImageError::Refused(ImageFault { kind, number, word }))
+}
+
 #[test]
-fn refuses_too_much_code_and_too_many_ranges(rt: HostRuntime) -> Result<(), Fail> {
-    for (segments, bytes, kind, number) in [
-        (1, 4_194_308, ImageFault::CODE_TOO_LARGE, 1_048_577),
-        (65, 4, ImageFault::TOO_MANY_RANGES, 65),
+fn refuses_each_image_beyond_its_limits(rt: HostRuntime) -> Result<(), Fail> {
+    let alloc = rt.alloc();
+    let mut float = FLOAT_DATA;
+    float[123] = 16;
+    // the segment's address: 7EFFF000, so that the heap begins at 7F000000
+    let high = edited(&[(60, 0x7E), (61, 0xFF), (62, 0xF0)]);
+    let largest = texts(alloc, 1, 4_194_304)?;
+    let too_large = texts(alloc, 1, 4_194_308)?;
+    let most = texts(alloc, 64, 4)?;
+    let too_many = texts(alloc, 65, 4)?;
+    for (file, heap, stack, want) in [
+        // floating-point code, and no such data
+        (FLOAT_DATA.as_slice(), 256, 64, None),
+        (
+            float.as_slice(),
+            256,
+            64,
+            refused(ImageFault::FLOAT_INSTRUCTION, 4_194_316, 0x4600_0000),
+        ),
+        // a heap that touches the stack
+        (high.as_slice(), 4094, 1, None),
+        (
+            high.as_slice(),
+            4095,
+            1,
+            refused(ImageFault::LAYOUT_CLASH, 0x7FFFE, 0),
+        ),
+        // too many pages
+        (EXIT_7.as_slice(), 32_768, 32_766, None),
+        (
+            EXIT_7.as_slice(),
+            32_768,
+            32_768,
+            refused(ImageFault::TOO_MANY_PAGES, 65_538, 0),
+        ),
+        // too much code, and too many ranges
+        (largest.as_slice(), 256, 64, None),
+        (
+            too_large.as_slice(),
+            256,
+            64,
+            refused(ImageFault::CODE_TOO_LARGE, 1_048_577, 0),
+        ),
+        (most.as_slice(), 256, 64, None),
+        (
+            too_many.as_slice(),
+            256,
+            64,
+            refused(ImageFault::TOO_MANY_RANGES, 65, 0),
+        ),
     ] {
-        let file = texts(rt.alloc(), segments, bytes)?;
-        let fault = ImageFault {
-            kind,
-            number,
-            word: 0,
-        };
+        assert!(rt; heap <= 32_768 && 1 <= stack && stack <= 32_768);
         assert_eq!(rt;
-            loaded(rt.alloc(), file.as_slice(), 256, 64)?.err(),
-            Some(ImageError::Refused(fault))
+            loaded(alloc, file, heap, stack)?.err(),
+            want,
+            "{heap} {stack}"
         );
-    }
-    for (segments, bytes) in [(1, 4_194_304), (64, 4)] {
-        let file = texts(rt.alloc(), segments, bytes)?;
-        assert!(rt; loaded(rt.alloc(), file.as_slice(), 256, 64)?.is_ok());
     }
     Ok(())
 }

@@ -1,6 +1,6 @@
-//! A file that GCC and the GNU linker made.
-use crate::written::put;
-use crate::{Range, Segment, read_elf};
+//! Files that are accepted: their segments, and the runs of their code.
+use crate::programs::{CODE, put, written};
+use elf_reader::{Range, Segment, read_elf};
 use std::test::Fail;
 
 /// The header and the program headers of a stripped C program, as GCC and the GNU linker make it for MIPS I.
@@ -32,6 +32,93 @@ const LINKED_BACK: [u32; 110] = [
     0x00000000, 0x00000000, 0x00000001, 0x00000000, 0x00000001, 0x00000003, 0x00000000, 0x00000000,
     0x000001E0, 0x0000006E, 0x00000000, 0x00000000, 0x00000001, 0x00000000,
 ];
+
+#[test]
+fn finds_the_runs_of_code(rt: HostRuntime) -> Result<(), Fail> {
+    let text = (0x0040_0000, 12, 5, CODE.as_slice());
+    let word = [0u8; 5];
+    let next = (0x0040_000C, 64, 5, word.as_slice());
+    for (segments, sections, want) in [
+        (
+            [text].as_slice(),
+            [].as_slice(),
+            [(0x0040_0000, 3)].as_slice(),
+        ),
+        (
+            [next, text].as_slice(),
+            [].as_slice(),
+            [(0x0040_0000, 4)].as_slice(),
+        ),
+        (
+            [text, (0x0040_0011, 8, 5, word.as_slice())].as_slice(),
+            [].as_slice(),
+            [(0x0040_0000, 3)].as_slice(),
+        ),
+        (
+            [text, (0x0040_0010, 8, 5, word.as_slice())].as_slice(),
+            [].as_slice(),
+            [(0x0040_0000, 3), (0x0040_0010, 1)].as_slice(),
+        ),
+        (
+            [text].as_slice(),
+            [
+                (1, 6, 0x0040_0004, 8),
+                (1, 2, 0x0040_0000, 12),
+                (8, 6, 0x0040_0000, 12),
+            ]
+            .as_slice(),
+            [(0x0040_0004, 2)].as_slice(),
+        ),
+        (
+            [text].as_slice(),
+            [(1, 6, 0x0040_0008, 4), (1, 6, 0x0040_0000, 7)].as_slice(),
+            [(0x0040_0000, 1), (0x0040_0008, 1)].as_slice(),
+        ),
+        (
+            [text].as_slice(),
+            [
+                (1, 6, 0x0040_0004, 4),
+                (1, 6, 0x0040_0000, 12),
+                (1, 6, 0x0040_0008, 4),
+            ]
+            .as_slice(),
+            [(0x0040_0000, 3)].as_slice(),
+        ),
+        // Text with data behind it, a writable segment with memory behind its bytes, and sections of four kinds.
+        (
+            [
+                (0x0040_0000, 17, 5, [0u8; 17].as_slice()),
+                (0x1000_0000, 64, 6, &word[..4]),
+            ]
+            .as_slice(),
+            [
+                (1, 6, 0x0040_0000, 12),
+                (1, 2, 0x0040_000C, 4),
+                (1, 3, 0x1000_0000, 4),
+                (8, 3, 0x1000_0004, 60),
+            ]
+            .as_slice(),
+            [(0x0040_0000, 3)].as_slice(),
+        ),
+    ] {
+        let file = written(rt.alloc(), segments, sections)?;
+        let elf = read_elf(rt.alloc(), file.as_slice())?;
+        assert_eq!(rt; elf.entry, 0x0040_0000);
+        assert_eq!(rt; elf.segments.len(), segments.len());
+        assert_eq!(rt; elf.code.len(), want.len(), "{segments:?} {sections:?}");
+        for (run, (first, words)) in elf.code.iter().zip(want) {
+            assert_eq!(rt;
+                *run,
+                Range {
+                    first: *first,
+                    words: *words
+                },
+                "{segments:?} {sections:?}"
+            );
+        }
+    }
+    Ok(())
+}
 
 #[test]
 fn reads_the_file_of_a_linker(rt: HostRuntime) -> Result<(), Fail> {

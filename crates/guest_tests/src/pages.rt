@@ -1,4 +1,5 @@
-use super::*;
+//! Pages of memory and of code.
+use guest_memory::{Code, GuestMemory, Line};
 use mips_decode::{Inst, LoadName, StoreName};
 use nv_events::View;
 use std::test::Fail;

@@ -1,40 +1,18 @@
-use crate::{ThinError, read_thin};
+//! Files of one segment, which are read whole or refused.
+use crate::programs::{EXIT_7, edited};
+use elf_reader::{ThinError, read_thin};
 use std::test::Fail;
 
-/// A program that leaves with status 7: ADDIU, ADDIU, SYSCALL.
-pub const EXIT_7: [u8; 96] = [
-    0x7F, 0x45, 0x4C, 0x46, 0x01, 0x02, 0x01, 0x00, 0x00, 0x00, 0x00, 0x00, 0x00, 0x00, 0x00, 0x00,
-    0x00, 0x02, 0x00, 0x08, 0x00, 0x00, 0x00, 0x01, 0x00, 0x40, 0x00, 0x00, 0x00, 0x00, 0x00, 0x34,
-    0x00, 0x00, 0x00, 0x00, 0x00, 0x00, 0x00, 0x00, 0x00, 0x34, 0x00, 0x20, 0x00, 0x01, 0x00, 0x28,
-    0x00, 0x00, 0x00, 0x00, 0x00, 0x00, 0x00, 0x01, 0x00, 0x00, 0x00, 0x54, 0x00, 0x40, 0x00, 0x00,
-    0x00, 0x40, 0x00, 0x00, 0x00, 0x00, 0x00, 0x0C, 0x00, 0x00, 0x00, 0x0C, 0x00, 0x00, 0x00, 0x05,
-    0x00, 0x00, 0x00, 0x04, 0x24, 0x02, 0x00, 0x01, 0x24, 0x04, 0x00, 0x07, 0x00, 0x00, 0x00, 0x0C,
-];
-
 #[test]
-fn reads_a_program_of_three_words(rt: HostRuntime) -> Result<(), Fail> {
+fn reads_a_program_of_three_words_and_names_why_another_is_refused(
+    rt: HostRuntime,
+) -> Result<(), Fail> {
     let thin = read_thin(rt.alloc(), &EXIT_7)?;
     assert_eq!(rt; thin.first, 0x0040_0000);
     assert_eq!(rt;
         thin.words.as_slice(),
         [0x2402_0001, 0x2404_0007, 0x0000_000C].as_slice()
     );
-    Ok(())
-}
-
-/// That file with some bytes changed, each given with its place.
-pub fn edited(edits: &[(usize, u8)]) -> [u8; 96] {
-    let mut file = EXIT_7;
-    for (at, byte) in edits {
-        if let Some(place) = file.get_mut(*at) {
-            *place = *byte;
-        }
-    }
-    file
-}
-
-#[test]
-fn names_why_a_cut_file_is_refused(rt: HostRuntime) {
     let whole = EXIT_7.as_slice();
     for (file, want) in [
         (&whole[..0], ThinError::TooShort),
@@ -44,10 +22,6 @@ fn names_why_a_cut_file_is_refused(rt: HostRuntime) {
     ] {
         assert_eq!(rt; read_thin(rt.alloc(), file).err(), Some(want), "{file:?}");
     }
-}
-
-#[test]
-fn names_why_a_changed_file_is_refused(rt: HostRuntime) {
     for (edits, want) in [
         ([(0, 0x00)].as_slice(), ThinError::BadMagic),
         ([(3, 0x00)].as_slice(), ThinError::BadMagic),
@@ -83,4 +57,5 @@ fn names_why_a_changed_file_is_refused(rt: HostRuntime) {
         let file = edited(edits);
         assert_eq!(rt; read_thin(rt.alloc(), &file).err(), Some(want), "{edits:?}");
     }
+    Ok(())
 }

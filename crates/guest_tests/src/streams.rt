@@ -1,4 +1,8 @@
-use super::*;
+//! Sources, sinks and shelves, in memory and over std.
+use nv_outside::{
+    Failed, FileShelf, MemShelf, MemSink, MemSource, Shelf, ShelfError, Sink, Source, StdSink,
+    StdSource,
+};
 use std::test::Fail;
 use std::{env, fs};
 
@@ -66,7 +70,7 @@ fn std_reader_and_writer_serve(rt: HostRuntime) -> Result<(), Fail> {
 fn folder_keeps_files(rt: HostRuntime) -> Result<(), Fail> {
     let folder = env::temp_dir(&rt)?;
     let mut shelf = FileShelf::new(rt.alloc(), rt.clone()?, folder);
-    let name = format!(in rt.alloc(); "nv_outside-{}", std::process::id(rt.process()))?;
+    let name = format!(in rt.alloc(); "guest_tests-{}", std::process::id(rt.process()))?;
     assert!(rt; matches!(shelf.load(rt.alloc(), name.as_str()), Ok(None)));
     assert!(rt; shelf.store(name.as_str(), b"abc").is_ok());
     let found = shelf.load(rt.alloc(), name.as_str());
