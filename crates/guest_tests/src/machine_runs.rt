@@ -1,5 +1,6 @@
 //! Runs of the guest machine: how programs end, and what calls and loading do.
-use crate::machines::{CODE, HEAP, answering, loaded, machine, replies};
+use crate::answers::{answering, replies};
+use crate::machines::{CODE, HEAP, loaded, machine};
 use mips_machine::Step;
 use nv_events::{Fault, Outcome, View};
 use std::test::Fail;

@@ -1,5 +1,6 @@
 //! What single instructions leave in the registers and the memory of the guest machine.
-use crate::machines::{CODE, machine, replies};
+use crate::answers::replies;
+use crate::machines::{CODE, machine};
 use mips_machine::Mips;
 use nv_events::{Outcome, View};
 use std::alloc::Global;

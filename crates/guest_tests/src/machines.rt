@@ -1,4 +1,4 @@
-//! Machines of small programs at 00400000 (hexadecimal), and servers of written answers.
+//! Machines of small programs at 00400000 (hexadecimal).
 
 ghost use Rattle.std.specs.Prelude.{◌≡◌, ◌<◌, false, length, IfOk};
 ghost use Rattle.mips_machine.specs.Guest.{has_ended};
@@ -7,7 +7,7 @@ use elf_image::image;
 use elf_reader::read_elf;
 use guest_memory::{Code, GuestMemory};
 use mips_machine::Mips;
-use nv_events::{Reply, Scripted, View};
+use nv_events::View;
 use std::alloc::{AllocError, Global};
 use std::test::Fail;
 
@@ -78,28 +78,4 @@ pub fn loaded(alloc: Global, words: &[u32]) -> Result<Mips, Fail>
     let image = image(alloc, &elf, 1, 1)?;
     let mips = Mips::load(alloc, &image)?;
     Ok(mips)
-}
-
-/// A server that gives these answers, each with its value and the bytes that it puts into the call's room.
-pub fn answering(alloc: Global, answers: &[(i32, &[u8])]) -> Result<Scripted, AllocError> {
-    let mut replies = Vec::new(alloc);
-    for (value, patch) in answers {
-        replies.push(Reply {
-            value: *value,
-            patch: patch.to_vec(alloc)?,
-        })?;
-    }
-    Ok(Scripted::new(replies))
-}
-
-/// A server that gives these answers, of which the first is to the loader's call. They change no byte.
-pub fn replies(alloc: Global, values: &[i32]) -> Result<Scripted, AllocError> {
-    let mut replies = Vec::new(alloc);
-    for value in values {
-        replies.push(Reply {
-            value: *value,
-            patch: Vec::new(alloc),
-        })?;
-    }
-    Ok(Scripted::new(replies))
 }

@@ -1,5 +1,5 @@
 //! Runs of a small machine over written replies.
-use crate::machines::answering;
+use crate::answers::answering;
 use crate::small_machine::{Cells, new_reader};
 use nv_events::{Call, Outcome, Server, run};
 use std::test::Fail;
