@@ -5,7 +5,7 @@ use Rattle.class_set.specs.ClassSets.{class_set}
 use Rattle.class_set.specs.declared.loaded.Loaded.{Loaded}
 use Rattle.class_set.specs.declared.loaded.Loaded.TheVariants.{NoFile, Faulty, Classes}
 use Rattle.jvm_code.specs.declared.class.Class.{Class}
-use Rattle.name_resolution.specs.declared.link_fault.LinkFault.{LinkFault}
+use Rattle.nv_faults.specs.declared.link_fault.LinkFault.{LinkFault}
 use Rattle.name_resolution.specs.Faults.{link_fault}
 use Rattle.jvm_link.specs.Linking.{program_of}
 use Rattle.nv_outside.specs.Files.{Files, SameFiles}

@@ -5,7 +5,7 @@ use Rattle.jvm_program.specs.declared.linked_method.LinkedMethod.{LinkedMethod}
 use Rattle.jvm_program.specs.Program.{Program}
 use Rattle.jvm_program.specs.Typing.{TypeFrame, Below, Frames, IsTypingTo, IsTyping, Typed}
 use Rattle.jvm_link.specs.Linking.{program_of}
-use Rattle.type_verifier.specs.declared.verify_error.VerifyFault.{VerifyFault}
+use Rattle.nv_faults.specs.declared.verify_fault.VerifyFault.{VerifyFault}
 use Rattle.type_verifier.specs.declared.verify_error.VerifyError.{VerifyError}
 use Rattle.type_verifier.specs.declared.verify_error.VerifyError.TheVariants.{Refused, NoMemory}
 

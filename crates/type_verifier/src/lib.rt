@@ -17,9 +17,10 @@ mod verification;
 mod verified;
 mod verify_error;
 
+pub use nv_faults::VerifyFault;
 pub use verification::verify;
 pub use verified::Verified;
-pub use verify_error::{NoMemory, VerifyError, VerifyFault};
+pub use verify_error::{NoMemory, VerifyError};
 
 #[cfg(test)]
 mod tests;

@@ -7,10 +7,11 @@ ghost use Rattle.type_verifier.specs.Refusal.{IsRefusal, IsFirstFault, IsFault, 
 
 use crate::method::check_method;
 use crate::verified::Verified;
-use crate::verify_error::{NoMemory, VerifyError, VerifyFault};
+use crate::verify_error::{NoMemory, VerifyError};
 use jvm_code::Class;
 use jvm_link::Linked;
 use jvm_program::LinkedMethod;
+use nv_faults::VerifyFault;
 use std::alloc::Global;
 
 /// Linked classes, verified; or the first method that has no typing, with the least offset up to which it has none.

@@ -1,8 +1,3 @@
-use std::alloc::AllocError;
-
-/// Want of memory.
-pub type NoMemory = AllocError;
-
 /// What is wrong with classes that do not link.
 #[derive(Clone, Copy, Debug, PartialEq, Eq)]
 pub struct LinkFault {
@@ -31,22 +26,4 @@ impl LinkFault {
     pub const NO_RUN: u32 = 6;
     /// There are more than 1,024 classes.
     pub const TOO_MANY: u32 = 7;
-}
-
-/// Why classes were not linked.
-#[derive(Drop)]
-pub enum LinkError {
-    Refused(LinkFault),
-    NoMemory,
-}
-
-impl From<AllocError> for LinkError {
-    ghost use Rattle.std.specs.Prelude.{◌≡◌};
-    ghost use Rattle.name_resolution.specs.declared.link_fault.LinkError.TheVariants.{NoMemory};
-
-    ghost from_gives = { λ _ e. e ≡ NoMemory };
-
-    fn from(_error: AllocError) -> LinkError {
-        LinkError::NoMemory
-    }
 }

@@ -42,9 +42,6 @@ pub struct ElfFault {
 }
 
 impl ElfFault {
-    ghost use Rattle.std.specs.Prelude.{◌≡◌, ◌^◌, ◌<◌, true, IfSome, Some};
-    ghost use Rattle.elf_reader.specs.Check.{fails, fails_at};
-
     pub const TOO_SHORT: u32 = 1;
 
     pub const BAD_MAGIC: u32 = 2;
@@ -88,26 +85,4 @@ impl ElfFault {
     pub const NO_CODE: u32 = 21;
 
     pub const SHARED_PAGE: u32 = 22;
-
-    /// A check that names no header, where it fails.
-    pub(crate) fn when(kind: u32, failed: bool) -> Option<ElfFault>
-        ensures { result ≡ fails kind failed }
-    {
-        failed.then_some(ElfFault { kind, i: 0, j: 0 })
-    }
-
-    /// A check that names the first header or page at which it fails, if there is one.
-    pub(crate) fn at(kind: u32, place: Option<usize>) -> Option<ElfFault>
-        requires { IfSome place (λ i. i < 2 ^ 32) }
-        ensures { result ≡ fails_at kind place }
-    {
-        match place {
-            Some(i) => Some(ElfFault {
-                kind,
-                i: i as u32,
-                j: 0,
-            }),
-            None => None,
-        }
-    }
 }

@@ -22,9 +22,6 @@ pub struct ImageFault {
 }
 
 impl ImageFault {
-    ghost use Rattle.std.specs.Prelude.{◌≡◌};
-    ghost use Rattle.elf_image.specs.Refusals.{exceeds};
-
     pub const FILE_TOO_LARGE: u32 = 1;
 
     pub const CODE_TOO_LARGE: u32 = 2;
@@ -38,15 +35,4 @@ impl ImageFault {
     pub const LAYOUT_CLASH: u32 = 6;
 
     pub const FLOAT_INSTRUCTION: u32 = 7;
-
-    /// A check of a number against its limit, where it fails.
-    pub(crate) fn above(kind: u32, limit: u64, number: u64) -> Option<ImageFault>
-        ensures { result ≡ exceeds kind limit number }
-    {
-        (limit < number).then_some(ImageFault {
-            kind,
-            number,
-            word: 0,
-        })
-    }
 }
