@@ -10,7 +10,7 @@ use Rattle.name_resolution.specs.Faults.{link_fault}
 use Rattle.jvm_link.specs.Linking.{program_of}
 use Rattle.nv_outside.specs.Files.{Files, SameFiles}
 use Rattle.type_verifier.specs.declared.verified.Verified.{Verified}
-use Rattle.type_verifier.specs.Unique.{AllTyped-from_least}
+use Rattle.type_inference.specs.Unique.{AllTyped-from_least}
 use Rattle.class_commands.specs.declared.accepted.Accepted.{Accepted}
 use Rattle.class_commands.specs.declared.accepted.Accepted.TheVariants as accepted
 use Rattle.command_deeds.specs.declared.done.Done.{Done}

@@ -1,8 +1,4 @@
 use nv_faults::VerifyFault;
-use std::alloc::AllocError;
-
-/// Want of memory.
-pub type NoMemory = AllocError;
 
 /// Why classes were not verified.
 #[derive(Drop)]
