@@ -1,5 +1,6 @@
-use crate::straight_class;
+//! The class of a straight program.
 use elf_reader::Thin;
+use nv_translate::straight_class;
 use std::test::Fail;
 
 #[test]
