@@ -5,12 +5,12 @@ use Rattle.class_set.specs.ClassSets.{class_set}
 use Rattle.class_set.specs.declared.loaded.Loaded.{Loaded}
 use Rattle.class_set.specs.declared.loaded.Loaded.TheVariants.{NoFile, Faulty, Classes}
 use Rattle.jvm_code.specs.declared.class.Class.{Class}
-use Rattle.name_resolution.specs.declared.link_fault.LinkFault.{LinkFault}
+use Rattle.nv_faults.specs.declared.link_fault.LinkFault.{LinkFault}
 use Rattle.name_resolution.specs.Faults.{link_fault}
 use Rattle.jvm_link.specs.Linking.{program_of}
 use Rattle.nv_outside.specs.Files.{Files, SameFiles}
 use Rattle.type_verifier.specs.declared.verified.Verified.{Verified}
-use Rattle.type_verifier.specs.Unique.{AllTyped-from_least}
+use Rattle.type_inference.specs.Unique.{AllTyped-from_least}
 use Rattle.class_commands.specs.declared.accepted.Accepted.{Accepted}
 use Rattle.class_commands.specs.declared.accepted.Accepted.TheVariants as accepted
 use Rattle.command_deeds.specs.declared.done.Done.{Done}

@@ -6,13 +6,13 @@ use Rattle.class_set.specs.declared.loaded.Loaded.TheVariants.{NoFile, Faulty, C
 use Rattle.command_words.specs.Word.{Text}
 use Rattle.command_words.specs.declared.session.Session.{Session}
 use Rattle.jvm_code.specs.declared.class.Class.{Class}
-use Rattle.name_resolution.specs.declared.link_fault.LinkFault.{LinkFault}
+use Rattle.nv_faults.specs.declared.link_fault.LinkFault.{LinkFault}
 use Rattle.name_resolution.specs.Faults.{link_fault}
 use Rattle.jvm_link.specs.Linking.{linked_methods, program_of}
 use Rattle.jvm_program.specs.Step.{loaded, loaded_turn}
 use Rattle.jvm_program.specs.Typing.{AllTyped}
 use Rattle.nv_outside.specs.Files.{Files}
-use Rattle.type_verifier.specs.declared.verify_error.VerifyFault.{VerifyFault}
+use Rattle.nv_faults.specs.declared.verify_fault.VerifyFault.{VerifyFault}
 use Rattle.type_verifier.specs.Refusal.{IsAtFault}
 use Rattle.class_commands.specs.declared.accepted.Accepted.{Accepted}
 use Rattle.class_commands.specs.declared.accepted.Accepted.TheVariants.{Verified, Refused}

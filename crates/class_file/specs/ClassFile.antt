@@ -1,7 +1,7 @@
 -- JVM Specification, 4.1: a class file of version 48.0, of a public final class without interfaces and attributes.
 use Rattle.std.specs.Prelude.{ℕ, List, length, Option, Some, None, Result, Ok, Err}
 use Rattle.std.specs.Int.{w16, w32}
-use Rattle.class_format.specs.declared.fault.ClassFault.{ClassFault}
+use Rattle.nv_faults.specs.declared.class_fault.ClassFault.{ClassFault}
 use Rattle.class_format.specs.declared.miss.Miss.{Miss}
 use Rattle.class_format.specs.Kinds.{cut, magic, version, flags, trailing}
 use Rattle.class_format.specs.Format.{Format, both, mapped, exactly, behind, before, counted, whole, fault_at}

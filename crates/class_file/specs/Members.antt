@@ -1,7 +1,7 @@
 -- JVM Specification, 4.5, 4.6 and 4.7.3: fields, methods and their code.
 use Rattle.std.specs.Prelude.{ℕ, ◌+◌, ◌==◌, not, List, length, Option, Some, option_map}
 use Rattle.std.specs.Int.{w16, w32}
-use Rattle.class_format.specs.declared.fault.ClassFault.{ClassFault}
+use Rattle.nv_faults.specs.declared.class_fault.ClassFault.{ClassFault}
 use Rattle.class_format.specs.Kinds.{cut, flags, attribute, code}
 use Rattle.class_format.specs.Format.{Format, number, raw, both, mapped, tested, checked, exactly, behind, before}
 use Rattle.constant_pool.specs.declared.entry.Entry.{Entry}

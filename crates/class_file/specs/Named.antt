@@ -1,7 +1,7 @@
 -- JVM Specification, 4.1 and 4.5 to 4.7: what the slots of a class, of its fields and of its methods name.
 use Rattle.std.specs.Prelude.{ℕ, ◌&&◌, Bool, false, not, if◌then◌else◌, List, codes, Option, Some, None}
 use Rattle.std.specs.Int.{w16}
-use Rattle.class_format.specs.declared.fault.ClassFault.{ClassFault}
+use Rattle.nv_faults.specs.declared.class_fault.ClassFault.{ClassFault}
 use Rattle.class_format.specs.Kinds.{cut, index, attribute}
 use Rattle.class_format.specs.Format.{Format, number, tested, checked}
 use Rattle.constant_pool.specs.declared.entry.Entry.{Entry}

@@ -1,7 +1,7 @@
 -- What is made of formats is a format.
 use Rattle.std.proofs.Common.{◌≡◌, ℕ, zero, suc, Bool, true, eqb, List, [], ◌∷◌, ◌++◌, length, Option, Some, None, Ok, refl, ap, subst, ◌∙◌, append_assoc}
 use Rattle.std.proofs.lemmas.Bool.{and_parts, and_from, eqb-true, eq-eqb}
-use Rattle.class_format.specs.declared.fault.ClassFault.{ClassFault}
+use Rattle.nv_faults.specs.declared.class_fault.ClassFault.{ClassFault}
 use Rattle.class_format.specs.declared.miss.Miss.{Miss}
 use Rattle.class_format.specs.Format.{Format, ◌>>=◌, both, chain, chain_spelling, chain_fits, chain_reading, repeated, mapped, spelled_by, fits_by, settled, is_sound, checked, tested, unless}
 use Rattle.class_format.specs.Laws.{IsBytes, Begins, IsFormat}

@@ -2,7 +2,7 @@
 -- at fault.
 use Rattle.std.specs.Prelude.{ℕ, zero, suc, ℤ, pos, negsuc, min, ◌+◌, ◌-◌, ◌*◌, ◌^◌, ◌&&◌, ◌==◌, Bool, true, false, nat_lt, if◌then◌else◌, List, [], ◌∷◌, ◌++◌, length, take, drop, Option, Some, None, Result, Ok, Err}
 use Rattle.std.specs.Int.{Width, w8, byte_len, from_be_bytes, to_be_bytes, cast_signed, cast_unsigned}
-use Rattle.class_format.specs.declared.fault.ClassFault.{ClassFault}
+use Rattle.nv_faults.specs.declared.class_fault.ClassFault.{ClassFault}
 use Rattle.class_format.specs.declared.miss.Miss.{Miss}
 
 -- what is read from the front of bytes: a value and the bytes after it, or a miss

@@ -6,8 +6,8 @@ ghost use Rattle.class_format.specs.Gives.{Gives};
 ghost use Rattle.class_format.specs.declared.failure.Failure.TheVariants.{Missed};
 
 use crate::failure::Failure;
-use crate::fault::ClassFault;
 use crate::miss::Miss;
+use nv_faults::ClassFault;
 
 /// The byte at the front, and what follows it. `cut` is the kind of a field that runs past the end.
 pub fn byte_of(cut: u32, bytes: &[u8]) -> Result<(u8, &[u8]), Failure>

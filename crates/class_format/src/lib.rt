@@ -2,16 +2,15 @@
 #![tactic(auto)]
 
 mod failure;
-mod fault;
 mod fields;
 mod miss;
 mod sequence;
 
 pub use failure::Failure;
-pub use fault::ClassFault;
 pub use fields::{
     byte_of, exact_byte_of, exact_half_of, exact_word_of, fault_of, half_of, long_of, missed,
     raw_of, signed_byte_of, signed_half_of, signed_long_of, signed_word_of, word_of,
 };
 pub use miss::Miss;
+pub use nv_faults::ClassFault;
 pub use sequence::Sequence;

@@ -3,7 +3,7 @@ use Rattle.std.proofs.Common.{◌≡◌, ◌∙◌, ℕ, suc, ◌+◌, ◌-◌, 
 use Rattle.std.specs.List.{All}
 use Rattle.std.proofs.lemmas.List.Elements.{All-push, All-same}
 use Rattle.nv_outside.specs.Files.{Files, Finds, SameFiles}
-use Rattle.class_format.specs.declared.fault.ClassFault.{ClassFault}
+use Rattle.nv_faults.specs.declared.class_fault.ClassFault.{ClassFault}
 use Rattle.jvm_code.specs.declared.class.Class.{Class}
 use Rattle.name_resolution.specs.Kept.{IsClass}
 use Rattle.class_set.specs.declared.loaded.Loaded.{Loaded}

@@ -1,7 +1,7 @@
 -- A set does not depend on names that wait twice, or that were asked for.
 use Rattle.std.proofs.Common.{◌≡◌, ℕ, zero, suc, ◌≤◌, Bool, true, false, cond, List, [], ◌∷◌, ◌++◌, length, Option, Some, None, option_map, Result, Ok, Err, refl, sym, ap, ◌∙◌, append_assoc, append-nil, arith}
 use Rattle.nv_outside.specs.Files.{Files}
-use Rattle.class_format.specs.declared.fault.ClassFault.{ClassFault}
+use Rattle.nv_faults.specs.declared.class_fault.ClassFault.{ClassFault}
 use Rattle.jvm_code.specs.declared.class.Class.{Class}
 use Rattle.class_set.specs.declared.loaded.Loaded.{Loaded}
 use Rattle.class_set.specs.declared.loaded.Loaded.TheVariants.{Faulty}

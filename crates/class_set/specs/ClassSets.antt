@@ -2,7 +2,7 @@
 use Rattle.std.specs.Prelude.{ℕ, zero, suc, ◌||◌, Bool, not, if◌then◌else◌, List, [], ◌∷◌, ◌++◌, length, filter, flat_map, codes, Option, Some, None, option_and_then, option_to_list, Result, Ok, Err}
 use Rattle.std.specs.List.{list_any}
 use Rattle.nv_outside.specs.Files.{Files}
-use Rattle.class_format.specs.declared.fault.ClassFault.{ClassFault}
+use Rattle.nv_faults.specs.declared.class_fault.ClassFault.{ClassFault}
 use Rattle.class_format.specs.declared.miss.Miss.{Miss}
 use Rattle.class_format.specs.Kinds.{trailing}
 use Rattle.class_format.specs.Format.{whole, fault_at}

@@ -2,11 +2,11 @@
 use Rattle.std.specs.Prelude.{ℕ, ◌+◌, ◌/◌, ◌%◌, ◌^◌, ◌++◌, List, [], ◌∷◌, codes, decimal, if◌then◌else◌, nat_lt, slice_get, unwrap_or}
 use Rattle.std.specs.Int.{cast_unsigned, w32}
 use Rattle.nv_events.specs.declared.fault.Fault.{Fault}
-use Rattle.elf_reader.specs.declared.elf_fault.ElfFault.{ElfFault}
-use Rattle.elf_image.specs.declared.image_fault.ImageFault.{ImageFault}
-use Rattle.name_resolution.specs.declared.link_fault.LinkFault.{LinkFault}
-use Rattle.mips_asm.specs.declared.asm_fault.AsmFault.{AsmFault}
-use Rattle.type_verifier.specs.declared.verify_error.VerifyFault.{VerifyFault}
+use Rattle.nv_faults.specs.declared.elf_fault.ElfFault.{ElfFault}
+use Rattle.nv_faults.specs.declared.image_fault.ImageFault.{ImageFault}
+use Rattle.nv_faults.specs.declared.link_fault.LinkFault.{LinkFault}
+use Rattle.nv_faults.specs.declared.asm_fault.AsmFault.{AsmFault}
+use Rattle.nv_faults.specs.declared.verify_fault.VerifyFault.{VerifyFault}
 use Rattle.command_deeds.specs.declared.done.Done.{Done}
 use Rattle.command_deeds.specs.declared.done.Done.TheVariants.{Good, Exited, Faulted, Usage, NoInput, ElfRefused, ImageRefused, ArgsTooLong, FilesTooLarge, AsmRefused, ClassRefused, LinkRefused, VerifyRefused, Trapped, Spent, ReadFault, WriteFault, ShelfFault, NoMemory, NotBuilt}
 

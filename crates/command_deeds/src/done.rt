@@ -1,9 +1,5 @@
-use elf_image::ImageFault;
-use elf_reader::ElfFault;
-use mips_asm::AsmFault;
-use name_resolution::LinkFault;
 use nv_events::Fault;
-use type_verifier::VerifyFault;
+use nv_faults::{AsmFault, ElfFault, ImageFault, LinkFault, VerifyFault};
 
 /// How a call of the program ended.
 ///

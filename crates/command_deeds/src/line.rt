@@ -7,10 +7,9 @@ ghost use Rattle.command_words.specs.Word.{texts};
 
 use crate::digits::{decimal, decimal_long, hexadecimal};
 use crate::done::Done;
-use elf_image::ImageFault;
 use itoa::Buffer;
-use mips_asm::AsmFault;
 use nv_events::Fault;
+use nv_faults::{AsmFault, ImageFault};
 use nv_outside::{Failed, Sink, write_all};
 
 /// Writes the line of an answer to these words. Takes no memory.

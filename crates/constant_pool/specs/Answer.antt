@@ -1,6 +1,6 @@
 -- What reading a pool answers, and how far a text was read.
 use Rattle.std.specs.Prelude.{◌≡◌, ℕ, ◌-◌, List, ◌++◌, length, drop, Option, Some, None, option_map, Ok, Err}
-use Rattle.class_format.specs.declared.fault.ClassFault.{ClassFault}
+use Rattle.nv_faults.specs.declared.class_fault.ClassFault.{ClassFault}
 use Rattle.class_format.specs.declared.miss.Miss.{Miss}
 use Rattle.constant_pool.specs.declared.partial.Partial.{Partial}
 use Rattle.constant_pool.specs.declared.error.ReadError.{ReadError}

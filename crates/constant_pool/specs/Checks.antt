@@ -2,7 +2,7 @@
 use Rattle.std.specs.Prelude.{ℕ, ◌+◌, ◌-◌, ◌&&◌, ◌||◌, ◌==◌, Bool, true, nat_le, if◌then◌else◌, List, [], ◌∷◌, length, slice_get, Option, Some, None}
 use Rattle.std.specs.Int.{w16}
 use Rattle.std.specs.Option.{option_and_then}
-use Rattle.class_format.specs.declared.fault.ClassFault.{ClassFault}
+use Rattle.nv_faults.specs.declared.class_fault.ClassFault.{ClassFault}
 use Rattle.class_format.specs.Kinds.{cut, index, utf8}
 use Rattle.class_format.specs.Format.{Format, number, tested, headed, checked}
 use Rattle.constant_pool.specs.declared.entry.Entry.{Entry}

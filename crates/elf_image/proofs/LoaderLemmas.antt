@@ -4,7 +4,7 @@ use Rattle.std.specs.Option.{option_or}
 use Rattle.elf_reader.specs.Segments.{live}
 use Rattle.elf_reader.specs.declared.segment.Segment.{Segment}
 use Rattle.elf_reader.specs.declared.range.Range.{Range}
-use Rattle.elf_image.specs.declared.image_fault.ImageFault.{ImageFault}
+use Rattle.nv_faults.specs.declared.image_fault.ImageFault.{ImageFault}
 use Rattle.elf_image.specs.declared.image_error.ImageError.{ImageError}
 use Rattle.elf_image.specs.declared.image_error.ImageError.TheVariants.{Refused, NoMemory}
 use Rattle.elf_image.specs.Answer.{IsAnswer, IsAnswerTo}

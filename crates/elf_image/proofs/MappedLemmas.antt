@@ -4,7 +4,7 @@ use Rattle.std.proofs.lemmas.Bool.{cases_Bool, cases_lt, or_parts}
 use Rattle.std.proofs.lemmas.Bool.Decides.{nat_tests}
 use Rattle.elf_reader.specs.declared.segment.Segment.{Segment}
 use Rattle.elf_reader.specs.Check.{least_below}
-use Rattle.elf_image.specs.declared.image_fault.ImageFault.{ImageFault}
+use Rattle.nv_faults.specs.declared.image_fault.ImageFault.{ImageFault}
 use Rattle.elf_image.specs.Pages.{pages_below, count_below, heap_page, is_segment_page, is_heap_page, is_stack_page, is_argument_page, is_readable_page, is_shared, segment_pages, mapped_pages}
 use Rattle.elf_image.specs.Refusals.{layout_fault}
 use Rattle.elf_image.proofs.TableLemmas.{least_all}

@@ -2,7 +2,7 @@
 use Rattle.std.specs.Prelude.{◌≡◌, ℕ, List, Option, Some}
 use Rattle.elf_reader.specs.declared.range.Range.{Range}
 use Rattle.elf_image.specs.declared.image_error.ImageError.{ImageError}
-use Rattle.elf_image.specs.declared.image_fault.ImageFault.{ImageFault}
+use Rattle.nv_faults.specs.declared.image_fault.ImageFault.{ImageFault}
 use Rattle.elf_image.specs.declared.image_error.ImageError.TheVariants.{Refused, NoMemory}
 use Rattle.elf_image.specs.Refusals.{image_fault}
 

@@ -7,7 +7,7 @@ use Rattle.elf_reader.specs.declared.segment.Segment.{Segment}
 use Rattle.elf_reader.specs.declared.range.Range.{Range}
 use Rattle.elf_reader.specs.Check.{least_below}
 use Rattle.elf_reader.specs.Segments.{live}
-use Rattle.elf_image.specs.declared.image_fault.ImageFault.{ImageFault}
+use Rattle.nv_faults.specs.declared.image_fault.ImageFault.{ImageFault}
 use Rattle.elf_image.specs.Pages.{pages_below, count_below, is_shared, mapped_pages}
 use Rattle.elf_image.specs.Content.{stored_word, is_filled_page, is_float}
 

@@ -7,11 +7,11 @@ ghost use Rattle.elf_image.specs.PageTable.{marked};
 ghost use Rattle.elf_image.specs.Refusals.{IsApart, exceeds, code_words, size_fault, pages_fault, layout_fault, float_fault};
 
 use crate::floats::first_float;
-use crate::image_fault::ImageFault;
 use crate::layout::Layout;
 use crate::page_marks::count_marks;
 use crate::page_table::PageTable;
 use elf_reader::Range;
+use nv_faults::ImageFault;
 
 /// The checks of the sizes of the file and of its code.
 #[tactic(auto, unfolding(crate::specs::Refusals::size_fault))]
@@ -19,17 +19,24 @@ pub fn check_sizes(len: usize, code: &[Range]) -> Option<ImageFault>
     requires { IsApart code.now }
     ensures { result ≡ size_fault len code.now }
 {
-    if let Some(fault) = ImageFault::above(ImageFault::FILE_TOO_LARGE, 67_108_864, len as u64) {
+    if let Some(fault) = fault_above(ImageFault::FILE_TOO_LARGE, 67_108_864, len as u64) {
         return Some(fault);
     }
-    if let Some(fault) = ImageFault::above(
-        ImageFault::CODE_TOO_LARGE,
-        1_048_576,
-        code_words(code),
-    ) {
+    if let Some(fault) = fault_above(ImageFault::CODE_TOO_LARGE, 1_048_576, code_words(code)) {
         return Some(fault);
     }
-    ImageFault::above(ImageFault::TOO_MANY_RANGES, 64, code.len() as u64)
+    fault_above(ImageFault::TOO_MANY_RANGES, 64, code.len() as u64)
+}
+
+/// The fault of a check of a number against its limit, where it fails.
+fn fault_above(kind: u32, limit: u64, number: u64) -> Option<ImageFault>
+    ensures { result ≡ exceeds kind limit number }
+{
+    (limit < number).then_some(ImageFault {
+        kind,
+        number,
+        word: 0,
+    })
 }
 
 /// How many words the ranges have.
@@ -50,7 +57,7 @@ fn code_words(code: &[Range]) -> u64
 pub fn check_pages(layout: &Layout) -> Option<ImageFault>
     ensures { result ≡ pages_fault layout.now.segments.value.items layout.now.heap layout.now.stack }
 {
-    ImageFault::above(
+    fault_above(
         ImageFault::TOO_MANY_PAGES,
         65_536,
         u64::from(layout.pages()),
@@ -61,7 +68,7 @@ pub fn check_pages(layout: &Layout) -> Option<ImageFault>
 pub fn check_data(filled: &[bool]) -> Option<ImageFault>
     ensures { result ≡ exceeds 5 16_384 (count_below (marked filled.now) 524288) }
 {
-    ImageFault::above(
+    fault_above(
         ImageFault::TOO_MUCH_DATA,
         16_384,
         u64::from(count_marks(filled)),

@@ -7,7 +7,6 @@ mod filled;
 mod floats;
 mod guest_image;
 mod image_error;
-mod image_fault;
 mod layout;
 mod loader;
 mod page_marks;
@@ -18,6 +17,6 @@ mod store;
 
 pub use guest_image::Image;
 pub use image_error::ImageError;
-pub use image_fault::ImageFault;
 pub use loader::image;
+pub use nv_faults::ImageFault;
 pub use runs::runs_are_one;

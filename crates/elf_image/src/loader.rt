@@ -11,10 +11,10 @@ use crate::checks::{check_data, check_float, check_layout, check_pages, check_si
 use crate::filled::filled_marks;
 use crate::guest_image::Image;
 use crate::image_error::ImageError;
-use crate::image_fault::ImageFault;
 use crate::layout::Layout;
 use crate::page_table::PageTable;
 use elf_reader::{Elf, Segment};
+use nv_faults::ImageFault;
 use std::alloc::Global;
 
 /// The memory and code with which the program of an accepted ELF file starts, given `heap` pages of heap and `stack` pages of

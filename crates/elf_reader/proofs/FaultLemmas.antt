@@ -4,7 +4,7 @@ use Rattle.std.specs.List.{All, list_any, position_from}
 use Rattle.std.proofs.lemmas.Bool.{cases_Bool}
 use Rattle.std.proofs.lemmas.Bool.Decides.{nat_tests}
 use Rattle.std.proofs.lemmas.Iterator.Adapters.{position_from-zero}
-use Rattle.elf_reader.specs.declared.elf_fault.ElfFault.{ElfFault}
+use Rattle.nv_faults.specs.declared.elf_fault.ElfFault.{ElfFault}
 use Rattle.elf_reader.specs.declared.program_header.ProgramHeader.{ProgramHeader}
 use Rattle.elf_reader.specs.declared.segment.Segment.{Segment}
 use Rattle.elf_reader.specs.Check.{fails_at, first_fault}

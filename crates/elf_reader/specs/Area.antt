@@ -1,7 +1,7 @@
 -- The code area: the addresses that hold instructions.
 use Rattle.std.specs.Prelude.{ℕ, ◌+◌, ◌-◌, ◌*◌, ◌/◌, ◌^◌, Bool, ◌&&◌, ◌==◌, nat_lt, nat_le, if◌then◌else◌, List, [], ◌∷◌, map, filter, Option}
 use Rattle.std.specs.List.{list_any, list_all}
-use Rattle.elf_reader.specs.declared.elf_fault.ElfFault.{ElfFault}
+use Rattle.nv_faults.specs.declared.elf_fault.ElfFault.{ElfFault}
 use Rattle.elf_reader.specs.declared.segment.Segment.{Segment}
 use Rattle.elf_reader.specs.declared.section_header.SectionHeader.{SectionHeader}
 use Rattle.elf_reader.specs.declared.range.Range.{Range}

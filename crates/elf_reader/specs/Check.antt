@@ -1,7 +1,7 @@
 -- Checks of a file, made in a fixed order. A check that fails says which it is, and at which headers it failed.
 use Rattle.std.specs.Prelude.{ℕ, zero, suc, Bool, nat_lt, max, min, if◌then◌else◌, not, ◌==◌, List, [], ◌∷◌, Option, Some, None, option_map, bit_and}
 use Rattle.std.specs.Option.{option_or}
-use Rattle.elf_reader.specs.declared.elf_fault.ElfFault.{ElfFault}
+use Rattle.nv_faults.specs.declared.elf_fault.ElfFault.{ElfFault}
 
 -- a check that names no header, given whether it fails
 abbrev pub fails : ℕ → Bool → Option ElfFault

@@ -3,7 +3,7 @@ use Rattle.std.specs.Prelude.{◌+◌, ◌≡◌, ℕ, ◌%◌, ◌<◌, ◌≤�
 use Rattle.std.specs.List.{list_any, AllAdjacentBelow}
 use Rattle.elf_reader.specs.declared.elf_error.ElfError.{ElfError}
 use Rattle.elf_reader.specs.declared.elf_error.ElfError.TheVariants.{Refused, NoMemory}
-use Rattle.elf_reader.specs.declared.elf_fault.ElfFault.{ElfFault}
+use Rattle.nv_faults.specs.declared.elf_fault.ElfFault.{ElfFault}
 use Rattle.elf_reader.specs.declared.segment.Segment.{Segment}
 use Rattle.elf_reader.specs.declared.range.Range.{Range}
 use Rattle.elf_reader.specs.Check.{first_fault}

@@ -2,7 +2,7 @@
 use Rattle.std.specs.Prelude.{◌≡◌, ℕ, ◌+◌, ◌*◌, ◌<◌, Bool, not, ◌&&◌, ◌||◌, ◌==◌, nat_lt, List, [], ◌∷◌, length, slice_index, Option}
 use Rattle.nv_words.specs.Words.{half_of_list, word_of_list}
 use Rattle.nv_words.specs.declared.order.Order.TheVariants.{Big}
-use Rattle.elf_reader.specs.declared.elf_fault.ElfFault.{ElfFault}
+use Rattle.nv_faults.specs.declared.elf_fault.ElfFault.{ElfFault}
 use Rattle.elf_reader.specs.declared.elf_header.ElfHeader.{ElfHeader}
 use Rattle.elf_reader.specs.Check.{fails, first_fault}
 

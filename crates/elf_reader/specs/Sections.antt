@@ -1,7 +1,7 @@
 -- System V ABI, "Sections"
 use Rattle.std.specs.Prelude.{ℕ, ◌+◌, ◌*◌, ◌%◌, Bool, not, ◌&&◌, ◌==◌, nat_lt, nat_le, if◌then◌else◌, List, [], ◌∷◌, length, map, position, Option}
 use Rattle.std.specs.List.{range_with_len, list_any}
-use Rattle.elf_reader.specs.declared.elf_fault.ElfFault.{ElfFault}
+use Rattle.nv_faults.specs.declared.elf_fault.ElfFault.{ElfFault}
 use Rattle.elf_reader.specs.declared.elf_header.ElfHeader.{ElfHeader}
 use Rattle.elf_reader.specs.declared.segment.Segment.{Segment}
 use Rattle.elf_reader.specs.declared.section_header.SectionHeader.{SectionHeader}

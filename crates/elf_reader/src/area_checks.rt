@@ -8,11 +8,12 @@ ghost use Rattle.elf_reader.specs.Spans.{are_within, AreRising, AreFilled, IsLea
 ghost use Rattle.elf_reader.specs.declared.range.Range.{Range};
 ghost use Rattle.elf_reader.specs.declared.segment.Segment.{Segment};
 
-use crate::elf_fault::ElfFault;
+use crate::fault::{fault_at, fault_when};
 use crate::range::Range;
 use crate::reach::{next_within, rising};
 use crate::segment::Segment;
 use crate::span::Span;
+use nv_faults::ElfFault;
 use std::alloc::{AllocError, Global};
 
 /// The first of the checks of the code area, beside the live segments.
@@ -29,10 +30,10 @@ pub fn check_area(
     ensures { IfOk result (λ fault. fault ≡ area_fault ranges.now segments.now) }
 {
     if is_empty(ranges) {
-        return Ok(ElfFault::when(ElfFault::NO_CODE, true));
+        return Ok(fault_when(ElfFault::NO_CODE, true));
     }
     let page = shared_page(alloc, ranges, segments)?;
-    Ok(ElfFault::at(ElfFault::SHARED_PAGE, page))
+    Ok(fault_at(ElfFault::SHARED_PAGE, page))
 }
 
 /// Whether no range has a word.

@@ -12,7 +12,6 @@ ghost use Rattle.std.specs.List.{list_any};
 use crate::area_checks::check_area;
 use crate::code_area::{code_ranges, runs};
 use crate::elf_error::ElfError;
-use crate::elf_fault::ElfFault;
 use crate::elf_header::ElfHeader;
 use crate::header_checks::{check_identity, check_program_table};
 use crate::range::Range;
@@ -20,6 +19,7 @@ use crate::section_checks::{check_section_table, check_sections, read_section_he
 use crate::section_header::SectionHeader;
 use crate::segment::Segment;
 use crate::segment_checks::{check_segments, live_segments, read_program_headers};
+use nv_faults::ElfFault;
 use std::alloc::Global;
 
 /// A 32-bit big-endian MIPS executable that passed every check.

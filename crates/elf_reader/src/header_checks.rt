@@ -2,8 +2,9 @@
 ghost use Rattle.std.specs.Prelude.{◌≡◌, ◌≤◌, ◌+◌, ◌*◌, IfNone, length};
 ghost use Rattle.elf_reader.specs.Header.{has_magic, header_of, identity_fault, program_table_fault};
 
-use crate::elf_fault::ElfFault;
 use crate::elf_header::ElfHeader;
+use crate::fault::fault_when;
+use nv_faults::ElfFault;
 
 /// The first of the checks of what kind of file it is: a 32-bit big-endian executable for MIPS.
 #[tactic(auto, unfolding(crate::specs::Header::identity_fault))]
@@ -12,25 +13,25 @@ pub fn check_identity(b: &[u8]) -> Option<ElfFault>
     ensures has_header { IfNone result (52 ≤ length b.now) }
 {
     if b.len() < ElfHeader::SIZE {
-        return ElfFault::when(ElfFault::TOO_SHORT, true);
+        return fault_when(ElfFault::TOO_SHORT, true);
     }
     if !has_magic(b) {
-        return ElfFault::when(ElfFault::BAD_MAGIC, true);
+        return fault_when(ElfFault::BAD_MAGIC, true);
     }
     let header = ElfHeader::read(b);
     if header.ei_class != 1 {
-        return ElfFault::when(ElfFault::NOT_CLASS_32, true);
+        return fault_when(ElfFault::NOT_CLASS_32, true);
     }
     if header.ei_data != 2 {
-        return ElfFault::when(ElfFault::NOT_BIG_ENDIAN, true);
+        return fault_when(ElfFault::NOT_BIG_ENDIAN, true);
     }
     if header.ei_version != 1 || header.e_version != 1 {
-        return ElfFault::when(ElfFault::BAD_VERSION, true);
+        return fault_when(ElfFault::BAD_VERSION, true);
     }
     if header.e_type != 2 {
-        return ElfFault::when(ElfFault::NOT_EXECUTABLE, true);
+        return fault_when(ElfFault::NOT_EXECUTABLE, true);
     }
-    ElfFault::when(ElfFault::NOT_MIPS, header.e_machine != 8)
+    fault_when(ElfFault::NOT_MIPS, header.e_machine != 8)
 }
 
 /// Whether the file begins with the four bytes of every ELF file.
@@ -49,11 +50,11 @@ pub fn check_program_table(b: &[u8], header: ElfHeader) -> Option<ElfFault>
     ensures has_table { IfNone result (header.e_phoff + 32 * header.e_phnum ≤ length b.now) }
 {
     if header.e_phnum == 0 {
-        return ElfFault::when(ElfFault::NO_SEGMENTS, true);
+        return fault_when(ElfFault::NO_SEGMENTS, true);
     }
     if header.e_phentsize != 32 {
-        return ElfFault::when(ElfFault::BAD_PROGRAM_HEADER_SIZE, true);
+        return fault_when(ElfFault::BAD_PROGRAM_HEADER_SIZE, true);
     }
     let is_outside = header.is_program_table_outside(b);
-    ElfFault::when(ElfFault::PROGRAM_TABLE_OUTSIDE, is_outside)
+    fault_when(ElfFault::PROGRAM_TABLE_OUTSIDE, is_outside)
 }

@@ -5,8 +5,8 @@ mod area_checks;
 mod code_area;
 mod elf;
 mod elf_error;
-mod elf_fault;
 mod elf_header;
+mod fault;
 mod fields;
 mod header_checks;
 mod overlap;
@@ -25,7 +25,7 @@ mod thin_segment;
 
 pub use elf::{Elf, read_elf};
 pub use elf_error::ElfError;
-pub use elf_fault::ElfFault;
+pub use nv_faults::ElfFault;
 pub use range::Range;
 pub use reader::read_thin;
 pub use segment::Segment;

@@ -4,8 +4,8 @@ ghost use Rattle.std.specs.List.Sorted.{IsNonDecreasing};
 ghost use Rattle.elf_reader.specs.Segments.{is_live, segment_end, overlap, overlap_from};
 ghost use Rattle.elf_reader.specs.declared.program_header.ProgramHeader.{ProgramHeader};
 
-use crate::elf_fault::ElfFault;
 use crate::program_header::ProgramHeader;
+use nv_faults::ElfFault;
 use std::alloc::{AllocError, Global};
 
 /// The first live segment that shares an address with a later one, and the first of those.

@@ -6,12 +6,13 @@ ghost use Rattle.elf_reader.specs.Segments.{is_executable};
 ghost use Rattle.elf_reader.specs.Spans.{are_within, AreRising, text_span};
 ghost use Rattle.elf_reader.specs.declared.section_header.SectionHeader.{SectionHeader};
 
-use crate::elf_fault::ElfFault;
 use crate::elf_header::ElfHeader;
+use crate::fault::{fault_at, fault_when};
 use crate::reach::{are_within, rising};
 use crate::section_header::SectionHeader;
 use crate::segment::Segment;
 use crate::span::Span;
+use nv_faults::ElfFault;
 use std::alloc::{AllocError, Global};
 
 /// The first of the checks of where the section header table stands.
@@ -26,10 +27,10 @@ pub fn check_section_table(b: &[u8], header: ElfHeader) -> Option<ElfFault>
         return None;
     }
     if header.e_shentsize != 40 {
-        return ElfFault::when(ElfFault::BAD_SECTION_HEADER_SIZE, true);
+        return fault_when(ElfFault::BAD_SECTION_HEADER_SIZE, true);
     }
     let is_outside = header.is_section_table_outside(b);
-    ElfFault::when(ElfFault::SECTION_TABLE_OUTSIDE, is_outside)
+    fault_when(ElfFault::SECTION_TABLE_OUTSIDE, is_outside)
 }
 
 /// Reads the section header table, which lies in the file where there is one.
@@ -99,11 +100,11 @@ pub fn check_sections(
     ensures { IfOk result (λ fault. fault ≡ section_fault segments.now sections.now) }
 {
     let outside = outside_of(alloc, segments, sections)?;
-    if let Some(fault) = ElfFault::at(ElfFault::CODE_OUTSIDE, outside) {
+    if let Some(fault) = fault_at(ElfFault::CODE_OUTSIDE, outside) {
         return Ok(Some(fault));
     }
     let unaligned = first_code_unaligned(sections);
-    Ok(ElfFault::at(ElfFault::CODE_UNALIGNED, unaligned))
+    Ok(fault_at(ElfFault::CODE_UNALIGNED, unaligned))
 }
 
 /// The first code section that lies within the bytes in the file of no executable segment.

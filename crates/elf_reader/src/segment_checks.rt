@@ -5,11 +5,12 @@ ghost use Rattle.elf_reader.specs.Header.{header_of};
 ghost use Rattle.elf_reader.specs.Segments.{program_headers, segment_fault, is_live, is_dynamic, is_outside, is_oversized, is_too_high, is_writable_text};
 ghost use Rattle.elf_reader.specs.declared.program_header.ProgramHeader.{ProgramHeader};
 
-use crate::elf_fault::ElfFault;
 use crate::elf_header::ElfHeader;
+use crate::fault::fault_at;
 use crate::overlap::check_overlap;
 use crate::program_header::ProgramHeader;
 use crate::segment::Segment;
+use nv_faults::ElfFault;
 use std::alloc::{AllocError, Global};
 
 /// Reads the program header table, which lies in the file.
@@ -87,7 +88,7 @@ pub fn check_segments(
     if let Some(fault) = check_overlap(alloc, headers)? {
         return Ok(Some(fault));
     }
-    Ok(ElfFault::at(ElfFault::WRITABLE_TEXT, first_writable_text(headers)))
+    Ok(fault_at(ElfFault::WRITABLE_TEXT, first_writable_text(headers)))
 }
 
 /// The first of the checks that look at one header at a time, up to the addresses.
@@ -101,16 +102,16 @@ fn check_each(headers: &[ProgramHeader], len: usize) -> Option<ElfFault>
         ∷ fails_at 14 (position is_too_high headers.now)
         ∷ []) }
 {
-    if let Some(fault) = ElfFault::at(ElfFault::DYNAMIC, first_dynamic(headers)) {
+    if let Some(fault) = fault_at(ElfFault::DYNAMIC, first_dynamic(headers)) {
         return Some(fault);
     }
-    if let Some(fault) = ElfFault::at(ElfFault::SEGMENT_OUTSIDE, first_outside(headers, len)) {
+    if let Some(fault) = fault_at(ElfFault::SEGMENT_OUTSIDE, first_outside(headers, len)) {
         return Some(fault);
     }
-    if let Some(fault) = ElfFault::at(ElfFault::SEGMENT_SIZES, first_oversized(headers)) {
+    if let Some(fault) = fault_at(ElfFault::SEGMENT_SIZES, first_oversized(headers)) {
         return Some(fault);
     }
-    ElfFault::at(ElfFault::ADDRESS_OUTSIDE, first_too_high(headers))
+    fault_at(ElfFault::ADDRESS_OUTSIDE, first_too_high(headers))
 }
 
 /// The live segments, in the order of the table.

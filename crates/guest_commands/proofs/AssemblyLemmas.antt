@@ -1,7 +1,7 @@
 -- What is due of a text.
 use Rattle.std.proofs.Common.{◌≡◌, ℕ, ◌<◌, ◌≤◌, List, length, Some, None, Result, Ok, refl, sym, subst, inr}
 use Rattle.std.proofs.lemmas.Bool.{lt-ltb, le-ltb}
-use Rattle.mips_asm.specs.declared.asm_fault.AsmFault.{AsmFault}
+use Rattle.nv_faults.specs.declared.asm_fault.AsmFault.{AsmFault}
 use Rattle.mips_asm.specs.declared.asm_error.AsmError.{AsmError}
 use Rattle.mips_asm.specs.declared.asm_error.AsmError.TheVariants.{Refused}
 use Rattle.mips_asm.specs.Answers.{IsFault}

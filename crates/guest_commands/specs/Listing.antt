@@ -1,11 +1,11 @@
 -- The listing of a program: a line for each word of its code.
 use Rattle.std.specs.Prelude.{ℕ, zero, suc, ◌+◌, ◌%◌, ◌^◌, ◌≡◌, ◌++◌, List, [], ◌∷◌, Option, Some, None, codes}
 use Rattle.std.specs.Option.{option_map_or}
-use Rattle.elf_reader.specs.declared.elf_fault.ElfFault.{ElfFault}
+use Rattle.nv_faults.specs.declared.elf_fault.ElfFault.{ElfFault}
 use Rattle.elf_reader.specs.declared.range.Range.{Range}
 use Rattle.elf_reader.specs.Area.{area}
 use Rattle.elf_reader.specs.Fault.{elf_fault, IsRunsOf}
-use Rattle.elf_image.specs.declared.image_fault.ImageFault.{ImageFault}
+use Rattle.nv_faults.specs.declared.image_fault.ImageFault.{ImageFault}
 use Rattle.elf_image.specs.Refusals.{image_fault}
 use Rattle.elf_image.specs.Start.{Source, image_of}
 use Rattle.mips_decode.specs.Table.{inst}

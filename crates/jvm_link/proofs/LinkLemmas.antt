@@ -3,9 +3,9 @@ use Rattle.std.proofs.Common.{◌≡◌, ◌≤◌, Bool, true, false, cond, ltb
 use Rattle.std.specs.Option.{option_or}
 use Rattle.std.proofs.lemmas.Bool.{le-ltb}
 use Rattle.jvm_code.specs.declared.class.Class.{Class}
-use Rattle.name_resolution.specs.declared.link_fault.LinkFault.{LinkFault}
-use Rattle.name_resolution.specs.declared.link_fault.LinkError.{LinkError}
-use Rattle.name_resolution.specs.declared.link_fault.LinkError.TheVariants.{NoMemory}
+use Rattle.nv_faults.specs.declared.link_fault.LinkFault.{LinkFault}
+use Rattle.name_resolution.specs.declared.link_error.LinkError.{LinkError}
+use Rattle.name_resolution.specs.declared.link_error.LinkError.TheVariants.{NoMemory}
 use Rattle.name_resolution.specs.Faults.{too_many, no_run, at_class, twice_fault, references_fault, has_run, run_fault, link_fault, IsAnswer}
 use Rattle.jvm_link.specs.Meant.{IsMeant}
 

@@ -1,3 +1,12 @@
+pub mod Ordered
+pub mod Finding
+pub mod Arriving
+pub mod Readiness
+pub mod Taking
+pub mod Calls
+pub mod Returns
+pub mod Hosts
+pub mod Starting
 pub mod LoadLemmas
 pub mod BeginLemmas
 pub mod OpeningLemmas

@@ -6,16 +6,16 @@ ghost use Rattle.jvm_frames.specs.Frames.{HasRoom};
 ghost use Rattle.jvm_heap.specs.Heaps.{nothing_in};
 ghost use Rattle.jvm_link.specs.Linking.{program_of};
 ghost use Rattle.machine_code.specs.declared.machine_method.MachineMethod.{MachineMethod};
-ghost use Rattle.jvm_turns.specs.Standing.{Going, Roomy, state_in};
+ghost use Rattle.jvm_machine.specs.Standing.{Going, Roomy, state_in};
 ghost use Rattle.jvm_machine.specs.Loading.{IsLoaded};
 ghost use Rattle.jvm_machine.specs.Rooms.{IsRoomFor};
 
+use crate::executable::Executable;
 use crate::room::room_for;
 use jvm_frames::{Callee, Frames};
 use jvm_heap::Heap;
 use jvm_program::{Kind, LinkedMethod};
 use jvm_steps::{Fields, Working};
-use jvm_turns::Executable;
 use machine_code::MachineCode;
 use std::alloc::{AllocError, Global};
 

@@ -1,7 +1,7 @@
 ghost use Rattle.std.specs.Prelude.{◌≡◌};
 ghost use Rattle.mips_asm.specs.declared.asm_error.AsmError.TheVariants.{NoMemory};
 
-use crate::asm_fault::AsmFault;
+use nv_faults::AsmFault;
 use std::alloc::AllocError;
 use thiserror::Error;
 

@@ -2,7 +2,6 @@
 #![tactic(auto)]
 
 mod asm_error;
-mod asm_fault;
 mod assembler;
 mod both;
 mod directives;
@@ -21,7 +20,6 @@ mod second_pass;
 mod segments;
 
 pub use asm_error::AsmError;
-pub use asm_fault::AsmFault;
 pub use assembler::assemble;
 pub use directives::{size_of_statement, space_value, word_value};
 pub use examples::{lines_have_words, operands_have_kinds, texts_have_programs};
@@ -31,6 +29,7 @@ pub use first_pass::find_labels;
 pub use found::Found;
 pub use instruction::instruction_of;
 pub use laws::printed_instructions_assemble_back;
+pub use nv_faults::AsmFault;
 pub use operands::Operands;
 pub use place::Place;
 pub use second_pass::fill_segments;

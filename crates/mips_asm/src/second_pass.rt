@@ -9,13 +9,13 @@ ghost use Rattle.mips_asm.specs.Passes as passes;
 ghost use Rattle.mips_asm.specs.Program as program;
 
 use crate::asm_error::AsmError;
-use crate::asm_fault::AsmFault;
 use crate::filling::Filling;
 use crate::fillings::filling_of;
 use crate::found::Found;
 use crate::place::Place;
 use crate::segments::Segments;
 use asm_lines::{LABEL_TWICE, Statement, first_line, statement_of};
+use nv_faults::AsmFault;
 use std::alloc::Global;
 
 /// The segments of a text whose labels are known.

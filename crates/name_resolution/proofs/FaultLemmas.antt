@@ -12,7 +12,7 @@ use Rattle.std.proofs.lemmas.Slice.Eq.{bytes_eq-Decides}
 use Rattle.constant_pool.specs.Names.{same_text}
 use Rattle.jvm_code.specs.declared.class.Class.{Class}
 use Rattle.name_resolution.specs.declared.key.Key.{Key}
-use Rattle.name_resolution.specs.declared.link_fault.LinkFault.{LinkFault}
+use Rattle.nv_faults.specs.declared.link_fault.LinkFault.{LinkFault}
 use Rattle.name_resolution.specs.declared.numbered_class.NumberedClass.{NumberedClass}
 use Rattle.name_resolution.specs.Names.{class_name_at, signature_at, own_name, Signature, same_signature, Reference, reference, same_reference, fields_of, methods_of, has_class, is_known, members_named, fields_named, methods_named, known_methods, field_number, method_number}
 use Rattle.name_resolution.specs.Faults.{other_descriptors, no_field, no_method, twice, at_class, member_fault, has_equal, is_twice, twice_fault}

@@ -6,9 +6,9 @@ use Rattle.constant_pool.specs.declared.entry.Entry.{Entry}
 use Rattle.constant_pool.specs.declared.entry.Entry.TheVariants.{ClassName, FieldRef, MethodRef}
 use Rattle.constant_pool.specs.Names.{same_text, is_array_name}
 use Rattle.jvm_code.specs.declared.class.Class.{Class}
-use Rattle.name_resolution.specs.declared.link_fault.LinkFault.{LinkFault}
-use Rattle.name_resolution.specs.declared.link_fault.LinkError.{LinkError}
-use Rattle.name_resolution.specs.declared.link_fault.LinkError.TheVariants.{Refused, NoMemory}
+use Rattle.nv_faults.specs.declared.link_fault.LinkFault.{LinkFault}
+use Rattle.name_resolution.specs.declared.link_error.LinkError.{LinkError}
+use Rattle.name_resolution.specs.declared.link_error.LinkError.TheVariants.{Refused, NoMemory}
 use Rattle.name_resolution.specs.Names.{Signature, signature, text_of, own_name, fields_of, methods_of, has_signature, has_name, signature_at, class_name_at, is_known, has_class, fields_named, methods_named}
 
 abbrev pub twice : ℕ

@@ -3,7 +3,7 @@ ghost use Rattle.std.specs.Prelude.{◌≡◌, IfOk};
 ghost use Rattle.name_resolution.specs.Keys.{has_equal_keys};
 
 use crate::key::Key;
-use crate::link_fault::NoMemory;
+use crate::link_error::NoMemory;
 use indexmap::IndexSet;
 use std::alloc::Global;
 

@@ -4,7 +4,7 @@ ghost use Rattle.constant_pool.specs.Names.{same_text};
 ghost use Rattle.name_resolution.specs.Names as names;
 ghost use Rattle.name_resolution.specs.Faults.{member_fault, no_method};
 
-use crate::link_fault::LinkFault;
+use nv_faults::LinkFault;
 
 /// `java/lang/Object`.
 const OBJECT: [u16; 16] = [

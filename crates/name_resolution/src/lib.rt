@@ -4,7 +4,7 @@
 mod equal_keys;
 mod key;
 mod known;
-mod link_fault;
+mod link_error;
 mod lookups;
 mod members;
 mod names;
@@ -16,12 +16,13 @@ mod twice;
 
 pub use key::Key;
 pub use known::{is_char_at, is_host, is_host_call, is_host_fault, is_known, is_length, is_string};
-pub use link_fault::{LinkError, LinkFault, NoMemory};
+pub use link_error::{LinkError, NoMemory};
 pub use lookups::{class_name_at, signature_at, text_of};
 pub use members::Members;
 pub use names::Names;
 pub use numbered::Numbered;
 pub use numbered_class::NumberedClass;
+pub use nv_faults::LinkFault;
 pub use references::references_fault;
 pub use texts::Texts;
 pub use twice::twice_fault;

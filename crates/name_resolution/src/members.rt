@@ -4,8 +4,9 @@ ghost use Rattle.name_resolution.specs.Keys.{same_key, same_name, key_fault};
 ghost use Rattle.name_resolution.specs.MemberMap.{IsMemberMap};
 
 use crate::key::Key;
-use crate::link_fault::{LinkFault, NoMemory};
+use crate::link_error::NoMemory;
 use indexmap::IndexMap;
+use nv_faults::LinkFault;
 use std::alloc::Global;
 use std::marker::Model;
 

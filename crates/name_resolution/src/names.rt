@@ -5,7 +5,7 @@ ghost use Rattle.name_resolution.specs.Faults.{twice_fault};
 ghost use Rattle.name_resolution.specs.Keys.{classes_in, own_number, field_keys, method_keys, Knows};
 
 use crate::key::Key;
-use crate::link_fault::NoMemory;
+use crate::link_error::NoMemory;
 use crate::members::Members;
 use crate::numbered::Numbered;
 use crate::numbered_class::NumberedClass;

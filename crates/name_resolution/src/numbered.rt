@@ -4,7 +4,7 @@ ghost use Rattle.name_resolution.specs.Keys.{IsNumbered};
 ghost use Rattle.name_resolution.specs.Kept.{IsClass};
 ghost use Rattle.std.proofs.Props.{props};
 
-use crate::link_fault::NoMemory;
+use crate::link_error::NoMemory;
 use crate::numbered_class::NumberedClass;
 use crate::texts::{Texts, first_texts, pool_numbers};
 use class_format::Sequence;

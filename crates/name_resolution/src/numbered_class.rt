@@ -1,7 +1,7 @@
 ghost use Rattle.name_resolution.specs.Kept.{IsClass};
 
 use crate::key::Key;
-use crate::link_fault::NoMemory;
+use crate::link_error::NoMemory;
 use class_format::Sequence;
 use constant_pool::{Entry, entry_of};
 use jvm_code::Class;

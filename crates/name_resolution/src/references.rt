@@ -5,11 +5,11 @@ ghost use Rattle.name_resolution.specs.Faults as faults;
 ghost use Rattle.name_resolution.specs.Keys.{IsNumbered, classes_in};
 
 use crate::known::{is_known, known_method_fault};
-use crate::link_fault::LinkFault;
 use crate::lookups::{class_name_at, signature_at, text_of};
 use crate::names::Names;
 use crate::numbered_class::NumberedClass;
 use constant_pool::{Entry, is_array_name};
+use nv_faults::LinkFault;
 
 /// The first slot that names what is not there, of all classes.
 pub fn references_fault(names: &Names) -> Option<LinkFault>

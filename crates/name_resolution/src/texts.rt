@@ -3,7 +3,7 @@ ghost use Rattle.std.specs.Prelude.{◌≡◌, ℕ, List, map, IfOk};
 ghost use Rattle.std.specs.List.{AllZip};
 ghost use Rattle.name_resolution.specs.Numbers.{IsNumber, AreTexts, Keeps, entry_text};
 
-use crate::link_fault::NoMemory;
+use crate::link_error::NoMemory;
 use class_format::Sequence;
 use constant_pool::Entry;
 use indexmap::IndexSet;

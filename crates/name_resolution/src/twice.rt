@@ -5,11 +5,12 @@ ghost use Rattle.name_resolution.specs.Keys.{classes_in, has_equal_keys, is_twic
 
 use crate::equal_keys::has_equal;
 use crate::known::is_known;
-use crate::link_fault::{LinkFault, NoMemory};
+use crate::link_error::NoMemory;
 use crate::lookups::class_name_at;
 use crate::numbered::Numbered;
 use crate::numbered_class::NumberedClass;
 use indexmap::IndexSet;
+use nv_faults::LinkFault;
 use std::alloc::Global;
 
 /// The first class with the name of one before it or of a known one, or with two equal members.

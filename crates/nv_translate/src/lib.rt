@@ -7,6 +7,3 @@ mod pool;
 mod straight;
 
 pub use straight::straight_class;
-
-#[cfg(test)]
-mod tests;

@@ -13,8 +13,9 @@ use Rattle.jvm_program.specs.Typing.{TypeFrame, Frames, TypeEffect, type_effect,
 use Rattle.jvm_link.specs.Linking.{program_of, linked_methods, methods_from, linked_method}
 use Rattle.type_verifier.specs.declared.verify_error.VerifyError.{VerifyError}
 use Rattle.type_verifier.specs.declared.verify_error.VerifyError.TheVariants.{Refused, NoMemory}
-use Rattle.type_verifier.specs.Actions.{program_over}
-use Rattle.type_verifier.specs.Refusal.{FailsAt, LeastTyping, AllLeastTyped, methods_before, IsRefusal, IsFirstFault, IsFault, IsPlace}
+use Rattle.type_inference.specs.Actions.{program_over}
+use Rattle.type_inference.specs.Verdict.{FailsAt, LeastTyping, AllLeastTyped}
+use Rattle.type_verifier.specs.Refusal.{methods_before, IsRefusal, IsFirstFault, IsFault, IsPlace}
 
 -- ---- programs with the same methods
 

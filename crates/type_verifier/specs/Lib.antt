@@ -1,7 +1,2 @@
 pub mod Refusal
-pub mod Joins
-pub mod Frames
-pub mod Actions
-pub mod Flow
-pub mod Unique
 pub mod Soundness

@@ -1,17 +1,18 @@
 //! Whether all methods of linked classes are typed (JVM Specification, 4.10).
 ghost use Rattle.std.specs.Prelude.{◌≡◌, ◌<◌, IfOk, IfErr, length};
 ghost use Rattle.jvm_link.specs.Linking.{linked_methods, program_of};
-ghost use Rattle.type_verifier.specs.Actions.{program_over};
+ghost use Rattle.type_inference.specs.Actions.{program_over};
 ghost use Rattle.type_verifier.specs.Soundness.{NeverStuck};
 ghost use Rattle.type_verifier.specs.Refusal.{IsRefusal, IsFirstFault, IsFault, IsPlace};
 
-use crate::method::check_method;
 use crate::verified::Verified;
-use crate::verify_error::{NoMemory, VerifyError, VerifyFault};
+use crate::verify_error::VerifyError;
 use jvm_code::Class;
 use jvm_link::Linked;
 use jvm_program::LinkedMethod;
-use std::alloc::Global;
+use nv_faults::VerifyFault;
+use std::alloc::{AllocError, Global};
+use type_inference::check_method;
 
 /// Linked classes, verified; or the first method that has no typing, with the least offset up to which it has none.
 /// No run of classes that are verified comes to a step that no rule gives.
@@ -28,7 +29,7 @@ pub fn verify(alloc: Global, linked: Linked) -> Result<Verified, VerifyError>
 }
 
 // The number of the first method that has no typing, with its offset at fault.
-fn first_fault(alloc: Global, methods: &[LinkedMethod]) -> Result<Option<(usize, u32)>, NoMemory>
+fn first_fault(alloc: Global, methods: &[LinkedMethod]) -> Result<Option<(usize, u32)>, AllocError>
     ensures { IfOk result (IsFirstFault (program_over methods.now) (length methods.now)) }
 {
     for number in 0..methods.len() {

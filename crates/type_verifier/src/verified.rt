@@ -1,6 +1,6 @@
 ghost use Rattle.jvm_link.specs.Linking.{program_of};
-ghost use Rattle.type_verifier.specs.Refusal.{AllLeastTyped};
-ghost use Rattle.type_verifier.specs.Unique.{AllLeastTyped-prop};
+ghost use Rattle.type_inference.specs.Verdict.{AllLeastTyped};
+ghost use Rattle.type_inference.specs.Unique.{AllLeastTyped-prop};
 
 use jvm_link::Linked;
 

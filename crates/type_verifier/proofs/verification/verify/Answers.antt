@@ -6,7 +6,7 @@ use Rattle.jvm_link.proofs.LinkedLaws.{linked_if}
 use Rattle.jvm_safety.proofs.StepLaws.{start_safe}
 use Rattle.jvm_safety.proofs.RunSafety.{safe_run}
 use Rattle.type_verifier.proofs.VerifyLaws.{all-least, refusal-from}
-use Rattle.type_verifier.specs.Unique.{AllTyped-from_least}
+use Rattle.type_inference.specs.Unique.{AllTyped-from_least}
 use Rattle.type_verifier.proofs.verification.verify.Goals as goal
 
 pub invariant_of-result : goal.invariant_of-result

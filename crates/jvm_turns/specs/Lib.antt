@@ -1,4 +1,0 @@
-pub mod Standing
-pub mod Settling
-pub mod Hosting
-pub mod Unique

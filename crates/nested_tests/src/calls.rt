@@ -1,0 +1,127 @@
+//! Calls of the program, and what is to come of them.
+use nested_cli::{Done, nested};
+use nv_outside::{MemShelf, MemSink, MemSource};
+use std::alloc::{AllocError, Global};
+use std::process::Abort;
+use std::test::Fail;
+
+/// What stands around a call of the program, and what is to come of it.
+#[derive(Clone, Copy)]
+pub struct Case<'a> {
+    pub typed: &'a str,
+    /// The call of the shelf, of input, of output and of error output that fails, counted from 1; 0: none.
+    pub shelf_fails: u64,
+    pub input_fails: u64,
+    pub out_fails: u64,
+    pub err_fails: u64,
+    /// The bytes that output takes.
+    pub room: usize,
+    pub done: Done,
+    /// What output takes, and what error output does.
+    pub printed: &'a str,
+    pub line: &'a str,
+    /// Whether a class is stored, and the bytes of the file `f`, if it is there.
+    pub class: bool,
+    pub stored: Option<&'a [u8]>,
+}
+
+pub fn expect<'a>(done: Done, line: &'a str) -> Case<'a> {
+    Case {
+        typed: "",
+        shelf_fails: 0,
+        input_fails: 0,
+        out_fails: 0,
+        err_fails: 0,
+        room: 200,
+        done,
+        printed: "",
+        line,
+        class: false,
+        stored: None,
+    }
+}
+
+/// What stands around a call.
+#[derive(Drop)]
+struct Outside {
+    shelf: MemShelf,
+    input: MemSource,
+    out: MemSink,
+    err: MemSink,
+}
+
+impl Outside {
+    fn new(alloc: Global, shelf: MemShelf, case: &Case<'_>) -> Result<Outside, AllocError> {
+        let typed = case.typed.as_bytes().to_vec(alloc)?;
+        let input = MemSource::new(typed, [case.input_fails].to_vec(alloc)?);
+        let out = MemSink::new(alloc, case.room, [case.out_fails].to_vec(alloc)?)?;
+        let err = MemSink::new(alloc, 100, [case.err_fails].to_vec(alloc)?)?;
+        Ok(Outside {
+            shelf,
+            input,
+            out,
+            err,
+        })
+    }
+
+    fn call(&mut self, alloc: Global, words: &[String]) -> Done {
+        nested(
+            alloc,
+            words,
+            0,
+            &mut self.shelf,
+            &mut self.input,
+            &mut self.out,
+            &mut self.err,
+        )
+    }
+}
+
+/// The words of a text, with `|` between two.
+fn words_of(alloc: Global, text: &str) -> Result<Vec<String>, AllocError> {
+    let mut words = Vec::new(alloc);
+    if text.is_empty() {
+        return Ok(words);
+    }
+    for word in text.split('|') {
+        words.push(String::from_str(alloc, word)?)?;
+    }
+    Ok(words)
+}
+
+/// Calls the program with these words, beside the file `a` of these bytes and the file `b` of 4,097 zeros.
+pub fn check(
+    rt: &(impl Abort + AllocGlobal),
+    words: &str,
+    file: Option<&[u8]>,
+    case: &Case<'_>,
+) -> Result<(), Fail> {
+    let mut shelf = MemShelf::new(rt.alloc(), [case.shelf_fails].to_vec(rt.alloc())?);
+    if let Some(file) = file {
+        shelf.add("a", file)?;
+    }
+    let zeros = vec![in rt.alloc(); 0u8; 4097]?;
+    shelf.add("b", zeros.as_slice())?;
+    check_over(rt, words, shelf, case)
+}
+
+/// Calls the program with these words over a shelf.
+pub fn check_over(
+    rt: &(impl Abort + AllocGlobal),
+    words: &str,
+    shelf: MemShelf,
+    case: &Case<'_>,
+) -> Result<(), Fail> {
+    let given = words_of(rt.alloc(), words)?;
+    let mut outside = Outside::new(rt.alloc(), shelf, case)?;
+    let done = outside.call(rt.alloc(), given.as_slice());
+    assert_eq!(rt; done, case.done, "{words}");
+    assert!(rt; outside.out.bytes() == case.printed.as_bytes(), "{words}");
+    assert!(rt; outside.err.bytes() == case.line.as_bytes(), "{words}");
+    assert!(rt;
+        outside.shelf.get("Main.class").is_some() == case.class,
+        "{words}"
+    );
+    assert!(rt; outside.shelf.get("f") == case.stored, "{words}");
+    Ok(())
+}

@@ -1,0 +1,6 @@
+pub mod Verdict
+pub mod Joins
+pub mod Frames
+pub mod Actions
+pub mod Flow
+pub mod Unique

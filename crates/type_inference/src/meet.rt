@@ -1,0 +1,107 @@
+//! A frame flows to an instruction (JVM Specification, 4.10.2.2).
+ghost use Rattle.std.specs.Prelude.{◌≡◌, IfOk, false, option_map, option_copied, IsTrue, ◌↔◌};
+ghost use Rattle.jvm_program.specs.Typing.{Below};
+ghost use Rattle.type_inference.specs.Joins as joins;
+ghost use Rattle.type_inference.specs.Frames.{type_frame, IsMeeting};
+ghost use Rattle.type_inference.specs.declared.meeting.Meeting.{Meeting};
+
+use crate::frame::Frame;
+use crate::kinds::{are_locals_below, has_no_top, is_stack_below, is_top, join};
+use crate::meeting::Meeting;
+use class_format::Sequence;
+use jvm_program::Kind;
+use std::alloc::{AllocError, Global};
+
+/// What comes of a frame that flows to an instruction with a frame or none.
+pub fn meet(alloc: Global, old: &Option<Frame>, frame: &Frame) -> Result<Meeting, AllocError>
+    ensures { IfOk result (IsMeeting old.now frame.now) }
+{
+    match old {
+        None => first_frame(alloc, frame),
+        Some(old) => {
+            if is_frame_below(frame, old) {
+                Ok(Meeting::Unchanged)
+            } else {
+                joined_frame(alloc, old, frame)
+            }
+        }
+    }
+}
+
+fn first_frame(alloc: Global, frame: &Frame) -> Result<Meeting, AllocError>
+    ensures { IfOk result (IsMeeting None frame.now) }
+{
+    if !has_no_top(frame.stack.as_slice()) {
+        return Ok(Meeting::Refused);
+    }
+    let locals = Sequence::new(Vec::from_slice(alloc, frame.locals.as_slice())?);
+    let stack = Sequence::new(Vec::from_slice(alloc, frame.stack.as_slice())?);
+    Ok(Meeting::Changed(Frame { locals, stack }))
+}
+
+fn is_frame_below(frame: &Frame, other: &Frame) -> bool
+    ensures { result ≡ joins.frame_below frame.now.locals frame.now.stack other.now.locals other.now.stack }
+{
+    is_stack_below(frame.stack.as_slice(), other.stack.as_slice())
+        && are_locals_below(frame.locals.as_slice(), other.locals.as_slice())
+}
+
+fn joined_frame(alloc: Global, old: &Frame, frame: &Frame) -> Result<Meeting, AllocError>
+    requires { joins.frame_below frame.now.locals frame.now.stack old.now.locals old.now.stack ≡ false }
+    ensures { IfOk result (IsMeeting (Some old.now) frame.now) }
+{
+    let Some(stack) = joined_stack(alloc, old.stack.as_slice(), frame.stack.as_slice())? else {
+        return Ok(Meeting::Refused);
+    };
+    let locals = joined_locals(alloc, old.locals.as_slice(), frame.locals.as_slice())?;
+    Ok(Meeting::Changed(Frame {
+        locals: Sequence::new(locals),
+        stack: Sequence::new(stack),
+    }))
+}
+
+fn joined_stack(
+    alloc: Global,
+    stack: &[Kind],
+    others: &[Kind],
+) -> Result<Option<Vec<Kind>>, AllocError>
+    ensures { IfOk result (λ o. option_map (λ v. v.items) o ≡ joins.joined_stacks stack.now others.now) }
+{
+    let mut kinds = Vec::new(alloc);
+    let mut rest = stack;
+    let mut beside = others;
+    while let Some((kind, behind)) = rest.split_first() {
+        let Some((other, more)) = beside.split_first() else {
+            return Ok(None);
+        };
+        let above = join(*kind, *other);
+        if is_top(above) {
+            return Ok(None);
+        }
+        kinds.push(above)?;
+        rest = behind;
+        beside = more;
+    }
+    if beside.is_empty() {
+        Ok(Some(kinds))
+    } else {
+        Ok(None)
+    }
+}
+
+fn joined_locals(alloc: Global, locals: &[Kind], others: &[Kind]) -> Result<Vec<Kind>, AllocError>
+    ensures { IfOk result (λ v. v.items ≡ joins.joined_locals locals.now others.now) }
+{
+    let mut kinds = Vec::new(alloc);
+    let mut rest = locals;
+    let mut beside = others;
+    while let Some((kind, behind)) = rest.split_first() {
+        let Some((other, more)) = beside.split_first() else {
+            return Ok(kinds);
+        };
+        kinds.push(join(*kind, *other))?;
+        rest = behind;
+        beside = more;
+    }
+    Ok(kinds)
+}
