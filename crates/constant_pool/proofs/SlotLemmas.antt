@@ -242,9 +242,13 @@ inserted es new pool e slot are view missing is =
     let P : List Entry → Type 0 = λ xs. IsMissing xs e in
     is ∙ insert_new es e slot (looked_none es e (lookup (same_entry e) es) are (subst P (sym view) missing) refl)
 
-pub slots_more : (es : List (Entry × ℕ)) (p : Entry × ℕ) → slots_of_map (es ++ p ∷ []) ≡ slots_of_map es ++ slots_of_entry p.0
+slots_more : (es : List (Entry × ℕ)) (p : Entry × ℕ) → slots_of_map (es ++ p ∷ []) ≡ slots_of_map es ++ slots_of_entry p.0
 slots_more [] p = ap (λ (xs : List Entry). p.0 ∷ xs) (append-nil (cond (is_long p.0) (LongRest ∷ []) []))
 slots_more (q ∷ es) p = ap (λ (xs : List Entry). slots_of_entry q.0 ++ xs) (slots_more es p) ∙ sym (append_assoc (slots_of_entry q.0) (slots_of_map es) (slots_of_entry p.0))
+
+pub pool_more : (es new : List (Entry × ℕ)) (pool : List Entry) (e : Entry) (slot : ℕ) → slots_of_map es ≡ pool → new ≡ es ++ (e, slot) ∷ []
+    → slots_of_map new ≡ pool ++ slots_of_entry e
+pool_more es new pool e slot view is = ap slots_of_map is ∙ slots_more es (e, slot) ∙ ap (λ xs. xs ++ slots_of_entry e) view
 
 are_more : (es : List (Entry × ℕ)) (first : ℕ) (p : Entry × ℕ) → AreSlots first es → p.1 ≡ first + length (slots_of_map es) → is_rest p.0 ≡ false → AreSlots first (es ++ p ∷ [])
 are_more [] first p are place rest = (omega arith, rest, tt)
