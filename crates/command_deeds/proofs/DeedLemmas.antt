@@ -108,11 +108,6 @@ after_found IsDue name v file this old mid new rest rest' out out' err err' ende
     let q' : Comes (IsDue (Some file.items)) (world mid rest out err) (world new rest' out' err') ended = subst (λ f. Comes (IsDue (Some f)) (world mid rest out err) (world new rest' out' err') ended) same q in
     after_load IsDue name (Some file.items) old mid new rest rest' out out' err err' ended (found_some old name v file some e) p q'
 
--- a load was stopped
-pub load_stopped : (IsDue : Option (List ℕ) → Due → Type 0) (name : List ℕ) (old new : Option Files) (rest out err : Option (List ℕ)) (stop : Stop) → SameFiles old new → (stop ≡ ShelfFault) ⊎ (stop ≡ NoMemory) → IfSome old (λ files. Comes (IsDue (files name)) (world old rest out err) (world new rest out err) (Err stop))
-load_stopped IsDue name None new rest out err stop p e = tt
-load_stopped IsDue name (Some files) new rest out err stop p e = inl ((p, refl, refl, refl), e)
-
 -- a text was printed, or a part of it
 pub printed : (files : Option Files) (rest out out' err : Option (List ℕ)) (text : List ℕ) (answer : Done) → Appends out out' text → Works (record { deeds = prints text ∷ []; answer = answer }) (world files rest out err) (world files rest out' err) (Ok answer)
 printed files rest out out' err text answer p = (refl, (world files rest out' err, (same_files files, refl, p, refl), stays (world files rest out' err)))

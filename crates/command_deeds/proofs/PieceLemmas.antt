@@ -1,5 +1,5 @@
 -- How far a writing of several pieces has come.
-use Rattle.std.proofs.Common.{◌≡◌, ℕ, ◌+◌, ◌<◌, List, [], ◌∷◌, ◌++◌, length, map, drop, get_or, Option, Some, None, Bor, refl, sym, ap, ◌∙◌, append_assoc, append-nil, add-one, drop-cons}
+use Rattle.std.proofs.Common.{◌≡◌, ℕ, ◌+◌, ◌<◌, List, [], ◌∷◌, ◌++◌, length, map, drop, get_or, Option, Some, None, Bor, sym, ap, ◌∙◌, append_assoc, append-nil, add-one, drop-cons}
 use Rattle.std.specs.Io.KnownBytes.{Appends}
 use Rattle.nv_outside.specs.Gains.{AppendsPart}
 use Rattle.command_deeds.specs.Line.{joined}
@@ -19,18 +19,12 @@ pub nothing : (old : Option (List ℕ)) → Appends old old []
 nothing None = tt
 nothing (Some xs) = sym (append-nil xs)
 
-pub Joins-start : (old : Option (List ℕ)) (all : List (List ℕ)) → Joins old old all all
-Joins-start old all = record { gained = []; took = nothing old; splits = refl }
-
 pub Joins-more : (old mid new : Option (List ℕ)) (all later : List (List ℕ)) (piece : List ℕ) → Joins old mid all (piece ∷ later) → Appends mid new piece → Joins old new all later
 Joins-more old mid new all later piece j took = record {
   gained = j.gained ++ piece;
   took = both old mid new _ _ j.took took;
   splits = j.splits ∙ sym (append_assoc j.gained piece (joined later));
 }
-
-pub Joins-end : (old new : Option (List ℕ)) (all : List (List ℕ)) → Joins old new all [] → Appends old new (joined all)
-Joins-end old new all j = rw (j.splits, append-nil) j.took
 
 pub Joins-part : (old mid new : Option (List ℕ)) (all later : List (List ℕ)) (piece : List ℕ) → Joins old mid all (piece ∷ later) → AppendsPart mid new piece → AppendsPart old new (joined all)
 Joins-part old mid new all later piece j p = record {

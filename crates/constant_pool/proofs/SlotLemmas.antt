@@ -275,8 +275,3 @@ there_now es new next e place is =
 pub slots_of_keys : (es : List (Entry × ℕ)) → flat_map slots_of_entry (keys_of es) ≡ slots_of_map es
 slots_of_keys [] = refl
 slots_of_keys (p ∷ es) = ap (λ (xs : List Entry). slots_of_entry p.0 ++ xs) (slots_of_keys es)
-
-pub next_slots : (front new : List Entry) (e : Entry) (keys others pool : List Entry) → keys ≡ e ∷ others → new ≡ front ++ slots_of_entry e
-    → front ++ flat_map slots_of_entry keys ≡ pool → new ++ flat_map slots_of_entry others ≡ pool
-next_slots front new e keys others pool first is so_far =
-    rw is (append_assoc front (slots_of_entry e) (flat_map slots_of_entry others) ∙ sym (ap (λ (xs : List Entry). front ++ flat_map slots_of_entry xs) first) ∙ so_far)

@@ -1,8 +1,7 @@
 -- The bytes that segments have in the file, and the pages that these fill.
-use Rattle.std.proofs.Common.{◌≡◌, ℕ, zero, suc, ◌+◌, ◌-◌, ◌*◌, ◌/◌, ◌<◌, ◌≤◌, Bool, true, false, ◌&&◌, ◌||◌, not, ◌==◌, nat_lt, nat_le, cond, max, min, List, [], ◌∷◌, length, get_or, take, drop, find, is_some, Option, Some, None, refl, sym, ap, ◌∙◌, inl, inr, arith}
+use Rattle.std.proofs.Common.{◌≡◌, ℕ, zero, suc, ◌+◌, ◌-◌, ◌*◌, ◌/◌, ◌<◌, ◌≤◌, Bool, true, false, ◌&&◌, ◌||◌, not, ◌==◌, nat_lt, nat_le, cond, max, min, List, [], ◌∷◌, length, get_or, find, is_some, Option, Some, None, refl, sym, ap, ◌∙◌, inl, inr, arith}
 use Rattle.std.specs.List.{All, AllPairs, list_any}
 use Rattle.std.specs.Option.{option_map_or}
-use Rattle.std.proofs.lemmas.List.{get_or-take, get_or-drop}
 use Rattle.std.proofs.lemmas.List.Folds.{list_any_at, list_any_none}
 use Rattle.std.proofs.lemmas.Bool.{cases_Bool, and_left, or_right}
 use Rattle.std.proofs.lemmas.Bool.Decides.{nat_tests}
@@ -13,12 +12,6 @@ use Rattle.elf_reader.specs.Fault.{IsSound}
 use Rattle.elf_image.specs.Pages.{is_segment_page}
 use Rattle.elf_image.specs.Content.{is_in_file_part, file_byte, stored_byte, is_filled_page, has_data}
 use Rattle.elf_image.proofs.TableLemmas.{least_all, not_stored}
-
--- a byte of a slice of the file
-pub slice_byte : (file : List ℕ) (n start at offset v k : ℕ) → start ≡ offset + (at - v) → v ≤ at → k < n
-    → get_or (take n (drop start file)) k 0 ≡ get_or file (offset + (at + k - v)) 0
-slice_byte file n start at offset v k is low lt =
-    get_or-take n (drop start file) k 0 lt ∙ get_or-drop start file k 0 ∙ ap (λ i. get_or file i 0) (let place : start + k ≡ offset + (at + k - v) = omega (arith, is, low) in place)
 
 some_below : (test : ℕ → Bool) (n k : ℕ) → k < n → test k ≡ true → is_some (least_below test n) ≡ true
 some_below test n k lt on =
@@ -54,10 +47,6 @@ is_in v fe a low high = grind (arith, nat_tests)
 zero_byte : (t : Bool) (b : ℕ) → t ≡ true → (t && not (b == 0)) ≡ false → not (b == 0) ≡ false
 zero_byte true b on off = off
 zero_byte false b on off = absurd (cc)
-
-nonzero : (t : Bool) (b : ℕ) → (t && not (b == 0)) ≡ false → (t ≡ true → not (b == 0) ≡ false)
-nonzero true b off on = off
-nonzero false b off on = absurd (cc)
 
 -- a page holds data of a segment exactly where the slice of the file for it is not all zero
 pub data_of : (file piece : List ℕ) (s : Segment) (page : ℕ) → length piece ≡ min (file_end s) (4096 * page + 4096) - max s.vaddr (4096 * page)

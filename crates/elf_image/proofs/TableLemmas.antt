@@ -86,9 +86,6 @@ not_filled len file segments page at sound off here =
       | inr out ↦ not_stored len file segments at sound (ap (is_segment_page segments) here ∙ out)
     ]
 
-word_cong : (a b c d a' b' c' d' : ℕ) → a ≡ a' → b ≡ b' → c ≡ c' → d ≡ d' → word_of_bytes a b c d ≡ word_of_bytes a' b' c' d'
-word_cong a b c d a' b' c' d' p q r s = cc
-
 option_lt : (file : List ℕ) (at : ℕ) (o : Option Segment) → ((i : ℕ) → get_or file i 0 < 2 ^ 8) → option_map_or (file_byte file at) o 0 < 2 ^ 8
 option_lt file at None fits = omega arith
 option_lt file at (Some s) fits = fits _
@@ -117,9 +114,6 @@ page_at index stored page place n k is filled size lt =
     let some : (place == 0) ≡ false = grind (arith, nat_tests) in
     rw here (rw rest (rw is (rw some
     (get_or-take n (drop (1024 * (place - 1)) stored) k 0 (omega (arith, lt, size)) ∙ get_or-drop (1024 * (place - 1)) stored k 0))))
-
-zero_or_not : (file : List ℕ) (n : ℕ) → not (n == 0) ≡ false → n ≡ 0
-zero_or_not file n e = is_zero n e
 
 number_test : (test : ℕ → Bool) (p : ℕ) → not (number_of test p == 0) ≡ test p
 number_test test p =
@@ -206,6 +200,3 @@ pub page_words : (file : List ℕ) (segments : List Segment) (index stored : Lis
 page_words file segments index stored page place n k is some size lt words =
     page_at index stored page place n k is some size lt ∙ words (1024 * page + k)
     ∙ ap (stored_word file segments) (let at : 4 * (1024 * page + k) ≡ 4096 * page + 4 * k = omega arith in at)
-
-pub is_stored : (n : ℕ) → (n ≡ 0 → ⊥) → not (n == 0) ≡ true
-is_stored n some = grind (arith, nat_tests)

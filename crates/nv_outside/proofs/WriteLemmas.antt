@@ -1,5 +1,5 @@
 -- How far a writing of some bytes has come.
-use Rattle.std.proofs.Common.{◌≡◌, ℕ, ◌+◌, List, [], ◌++◌, take, drop, Option, Some, None, refl, sym, ap, ◌∙◌, append_assoc, append-nil, drop-drop}
+use Rattle.std.proofs.Common.{◌≡◌, ℕ, ◌+◌, List, [], ◌++◌, take, drop, Option, Some, None, sym, ap, ◌∙◌, append_assoc, append-nil, drop-drop}
 use Rattle.std.proofs.Math.Seq.{take-add}
 use Rattle.std.proofs.lemmas.List.{take-append-drop}
 use Rattle.std.specs.Io.KnownBytes.{Appends, Keeps}
@@ -25,9 +25,6 @@ both-kept None mid new xs p q = tt
 both-kept (Some o) None new xs p q = absurd p
 both-kept (Some o) (Some m) None xs p q = absurd q
 both-kept (Some o) (Some m) (Some n) xs p q = q ∙ p
-
-pub Wrote-start : (old : Option (List ℕ)) (bytes : List ℕ) → Wrote old old bytes bytes
-Wrote-start old bytes = record { written = 0; took = nothing old; left = refl }
 
 pub Wrote-more : (old mid new : Option (List ℕ)) (bytes rest : List ℕ) (n : ℕ) → Wrote old mid bytes rest → Appends mid new (take n rest) → Wrote old new bytes (drop n rest)
 Wrote-more old mid new bytes rest n w took =
