@@ -15,6 +15,7 @@ use Rattle.constant_pool.specs.declared.entry.Entry.TheVariants.{Utf8, Integer, 
 use Rattle.constant_pool.specs.Parts.{tag_of, text_part, number_part, first_part, second_part}
 use Rattle.constant_pool.specs.Entries.{is_long}
 use Rattle.constant_pool.specs.Slots.{slots_of_entry, is_rest, IsAt, IsMissing, slots_of_map, AreSlots, IsKept}
+use Rattle.std.proofs.lemmas.Option.{same_Some}
 
 -- ---- entries are the same where their parts are
 
@@ -156,12 +157,9 @@ found_behind p es first slot e f =
     let k : slot - first ≡ length (slots_of_entry p.0) + (slot - (first + length (slots_of_entry p.0))) = omega arith in
     record { le = omega arith; there = rw k (get_behind (slots_of_entry p.0) (slots_of_map es) (slot - (first + length (slots_of_entry p.0))) ∙ f.there) }
 
-some_is : (a b : ℕ) → Some a ≡ Some b → a ≡ b
-some_is a b e = cc
-
 found_here : (p : Entry × ℕ) (es : List (Entry × ℕ)) (first slot : ℕ) (e : Entry) → p.1 ≡ first → e ≡ p.0 → Some p.1 ≡ Some slot → Found (p ∷ es) first slot e
 found_here p es first slot e place is here =
-    let at : p.1 ≡ slot = some_is _ _ here in
+    let at : p.1 ≡ slot = same_Some _ _ here in
     let k : slot - first ≡ 0 = omega arith in
     record { le = omega arith; there = rw (k, is) refl }
 
@@ -182,19 +180,16 @@ found_slot (Some slot) es pool e is are view =
     let no : eqb slot 0 ≡ false = ne_eqb slot 0 (λ z. omega arith) in
     rw (no, ← view) f.there
 
-some_entry : (a b : Entry) → Some a ≡ Some b → a ≡ b
-some_entry a b e = cc
-
 -- a slot at the front of those of an entry that is not this one
 not_first : (long : Bool) (p : Entry) (others : List Entry) (i : ℕ) (e : Entry) → same_entry e p ≡ false → is_rest e ≡ false
     → ((j : ℕ) → slice_get others j ≡ Some e → ⊥) → slice_get ((p ∷ cond long (LongRest ∷ []) []) ++ others) i ≡ Some e → ⊥
 not_first long p others zero e other rest none there =
-    let q : p ≡ e = some_entry p e there in
+    let q : p ≡ e = same_Some p e there in
     let P : Entry → Type 0 = λ x. same_entry e x ≡ true in
     let r : same_entry e p ≡ true = subst P (sym q) (itself e) in
     cc
 not_first true p others (suc zero) e other rest none there =
-    let q : LongRest ≡ e = some_entry LongRest e there in
+    let q : LongRest ≡ e = same_Some LongRest e there in
     let r : is_rest e ≡ true = rw (← q) refl in
     cc
 not_first true p others (suc (suc i)) e other rest none there = none i there
