@@ -13,12 +13,6 @@ use Rattle.class_set.specs.Kept.{IsKept}
 use Rattle.class_set.specs.Waiting.{fresh, Queue, IsOnce, file_found}
 use Rattle.class_set.proofs.WaitingLemmas.{grown-zero, grown-none, grown-fault, grown-class, grown-once}
 
-pub same_then_same : (a b c : Option Files) → SameFiles a b → SameFiles b c → SameFiles a c
-same_then_same None b c p q = tt
-same_then_same (Some a) None c p q = absurd p
-same_then_same (Some a) (Some b) None p q = absurd q
-same_then_same (Some a) (Some b) (Some c) p q = λ name. q name ∙ p name
-
 -- what was found under a name is what the files have there
 pub found_there : (files : Files) (told now : Option Files) (name : List ℕ) (found : Option (Vec ℕ Global)) → told ≡ Some files → SameFiles told now → Finds now name found → files name ≡ option_map (λ v. v.items) found
 found_there files None now name found is same finds = absurd cc

@@ -9,6 +9,7 @@ use Rattle.command_deeds.specs.declared.done.Done.{Done}
 use Rattle.command_deeds.specs.declared.stop.Stop.{Stop}
 use Rattle.command_deeds.specs.declared.stop.Stop.TheVariants.{WriteFault, ShelfFault, NoMemory}
 use Rattle.command_deeds.specs.Deeds.{World, Deed, prepares, stores, prints, plays, Due, Stays, DoesDeed, StopsStore, StopsDeed, DoesAll, StopsIn, Works, Comes, world, answers}
+use Rattle.nv_outside.proofs.FilesLemmas.{same_then_same}
 
 pub same_files : (files : Option Files) → SameFiles files files
 same_files None = tt
@@ -20,12 +21,6 @@ same_map f g h = λ i name. h name i
 
 pub stays : (w : World) → Stays w w
 stays w = (same_files w.files, refl, refl, refl)
-
-pub same_then_same : (a b c : Option Files) → SameFiles a b → SameFiles b c → SameFiles a c
-same_then_same None b c p q = tt
-same_then_same (Some a) None c p q = absurd p
-same_then_same (Some a) (Some b) None p q = absurd q
-same_then_same (Some a) (Some b) (Some c) p q = λ name. q name ∙ p name
 
 pub same_then_set : (a b c : Option Files) (name bytes : List ℕ) → SameFiles a b → SetsFile b c name bytes → SetsFile a c name bytes
 same_then_set None b c name bytes p q = tt

@@ -4,7 +4,7 @@ use Rattle.std.specs.Io.KnownBytes.{Appends}
 use Rattle.elf_reader.specs.declared.range.Range.{Range}
 use Rattle.nv_outside.specs.Gains.{AppendsPart}
 use Rattle.guest_commands.specs.Listing.{line_at, run_lines, runs_lines}
-use Rattle.command_deeds.proofs.PieceLemmas.{both}
+use Rattle.nv_outside.proofs.WriteLemmas.{Appends-both}
 
 pub record Leads (old new : Option (List ℕ)) (all later : List ℕ) : Type 0 where
   pub gained : List ℕ
@@ -14,7 +14,7 @@ pub record Leads (old new : Option (List ℕ)) (all later : List ℕ) : Type 0 w
 pub Leads-more : (old mid new : Option (List ℕ)) (all rest piece later : List ℕ) → rest ≡ piece ++ later → Leads old mid all rest → Appends mid new piece → Leads old new all later
 Leads-more old mid new all rest piece later e j took = record {
   gained = j.gained ++ piece;
-  took = both old mid new _ _ j.took took;
+  took = Appends-both old mid new _ _ j.took took;
   splits = j.splits ∙ ap (λ z. j.gained ++ z) e ∙ sym (append_assoc j.gained piece later);
 }
 
@@ -23,7 +23,7 @@ Leads-part old mid new all rest piece later e j p = record {
   front = j.gained ++ p.front;
   rest = p.rest ++ later;
   splits = j.splits ∙ ap (λ z. j.gained ++ z) (e ∙ ap (λ z. z ++ later) p.splits ∙ append_assoc p.front p.rest later) ∙ sym (append_assoc j.gained p.front (p.rest ++ later));
-  gained = both old mid new _ _ j.took p.gained;
+  gained = Appends-both old mid new _ _ j.took p.gained;
 }
 
 one_less : (n i : ℕ) → i < n → n - i ≡ suc (n - (i + 1))

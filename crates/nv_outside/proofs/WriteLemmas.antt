@@ -10,15 +10,15 @@ pub record Wrote (old new : Option (List ℕ)) (bytes rest : List ℕ) : Type 0 
   pub took : Appends old new (take written bytes)
   pub left : rest ≡ drop written bytes
 
-nothing : (old : Option (List ℕ)) → Appends old old []
-nothing None = tt
-nothing (Some xs) = sym (append-nil xs)
+pub Appends-nothing : (old : Option (List ℕ)) → Appends old old []
+Appends-nothing None = tt
+Appends-nothing (Some xs) = sym (append-nil xs)
 
-both : (old mid new : Option (List ℕ)) (xs ys : List ℕ) → Appends old mid xs → Appends mid new ys → Appends old new (xs ++ ys)
-both None mid new xs ys p q = tt
-both (Some o) None new xs ys p q = absurd p
-both (Some o) (Some m) None xs ys p q = absurd q
-both (Some o) (Some m) (Some n) xs ys p q = q ∙ ap (λ z. z ++ ys) p ∙ append_assoc o xs ys
+pub Appends-both : (old mid new : Option (List ℕ)) (xs ys : List ℕ) → Appends old mid xs → Appends mid new ys → Appends old new (xs ++ ys)
+Appends-both None mid new xs ys p q = tt
+Appends-both (Some o) None new xs ys p q = absurd p
+Appends-both (Some o) (Some m) None xs ys p q = absurd q
+Appends-both (Some o) (Some m) (Some n) xs ys p q = q ∙ ap (λ z. z ++ ys) p ∙ append_assoc o xs ys
 
 both-kept : (old mid new : Option (List ℕ)) (xs : List ℕ) → Appends old mid xs → Keeps mid new → Appends old new xs
 both-kept None mid new xs p q = tt
@@ -32,7 +32,7 @@ Wrote-more old mid new bytes rest n w took =
     let more : Appends mid new (take n (drop w.written bytes)) = rw fits at took in
     record {
       written = w.written + n;
-      took = rw (take-add w.written n bytes) (both old mid new _ _ w.took more);
+      took = rw (take-add w.written n bytes) (Appends-both old mid new _ _ w.took more);
       left = ap (drop n) w.left ∙ drop-drop n w.written bytes;
     }
 

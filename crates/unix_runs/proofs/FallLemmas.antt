@@ -5,7 +5,7 @@ use Rattle.std.specs.Io.KnownBytes.{Consumes, Appends}
 use Rattle.nv_outside.specs.Gains.{AppendsPart}
 use Rattle.nv_events.specs.Question.{Question}
 use Rattle.nv_events.specs.Answer.{Answer, fits, next_answer}
-use Rattle.nv_events.specs.Turn.{Turn, moves, ends, leaves, asks, End, exit, «fault», trap, outcome_of}
+use Rattle.nv_events.specs.Turn.{Turn, moves, ends, leaves, asks}
 use Rattle.nv_events.specs.Run.{Run, asking, run_of}
 use Rattle.nv_events.specs.Serving.{StopsAt, RunsBy}
 use Rattle.nv_events.specs.declared.io_fault.IoFault.{IoFault}
@@ -18,10 +18,11 @@ use Rattle.unix_calls.specs.Held.{system_of}
 use Rattle.unix_calls.specs.Drawing.{known}
 use Rattle.unix_calls.specs.Serving.{Parts}
 use Rattle.unix_calls.proofs.DrawLemmas.{consumes-both}
-use Rattle.unix_calls.proofs.GainLemmas.{gains-both}
 use Rattle.unix_runs.specs.Playing.{behind, Answers, Fails, Holds, Falls}
 use Rattle.unix_runs.proofs.FrameLemmas.{Same, unix-framed}
 use Rattle.unix_runs.proofs.PlayLemmas.{told-on, replies}
+use Rattle.nv_events.proofs.Progress.{end_not_waiting}
+use Rattle.nv_outside.proofs.WriteLemmas.{Appends-both}
 
 -- The outputs of a system are those of an earlier one, and more.
 pub record Grew (k l : System) : Type 0 where
@@ -103,7 +104,7 @@ part-after old mid new xs ys g p = record {
   front = xs ++ p.front;
   rest = p.rest;
   splits = ap (λ z. xs ++ z) p.splits ∙ sym (append_assoc xs p.front p.rest);
-  gained = gains-both old mid new xs p.front g p.gained;
+  gained = Appends-both old mid new xs p.front g p.gained;
 }
 
 breaks-on : {S : Type 0} (q : Question) (a : Answer) (x : Run S System) (p m r : Parts) (b e : List ℕ) (g : Answers p q a m) → Breaks x m r (b ++ g.output) (e ++ g.error_output) → Breaks (asking q x) p r b e
@@ -164,11 +165,6 @@ breaks-here {S} go grows q next s p r rest b e told fell =
 
 next-get : (q : Question) (qs : List Question) (m n : ℕ) → m ≡ suc n → slice_get (q ∷ qs) m ≡ slice_get qs n
 next-get q qs m n h = ap (slice_get (q ∷ qs)) h
-
-end_not_waiting : (e : End) → outcome_of e ≡ Waiting → ⊥
-end_not_waiting (exit status) h = cc
-end_not_waiting («fault» f) h = cc
-end_not_waiting (trap k) h = cc
 
 module _ {S : Type 0} (r : Parts) (go : S → System → Run S System) (grows : (t : S) (l : System) → Grew l (go t l).system) (over : S → List Answer → Run S (List Answer)) where
   abbrev Left : Type 0

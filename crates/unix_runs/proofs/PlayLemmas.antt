@@ -16,8 +16,8 @@ use Rattle.unix_calls.specs.Held.{system_of}
 use Rattle.unix_calls.specs.Drawing.{known}
 use Rattle.unix_calls.specs.Serving.{Parts}
 use Rattle.unix_calls.proofs.DrawLemmas.{consumes-nothing, consumes-both}
-use Rattle.unix_calls.proofs.GainLemmas.{gains-nothing, gains-both}
 use Rattle.unix_runs.specs.Playing.{Answers, Fails, Holds, Plays}
+use Rattle.nv_outside.proofs.WriteLemmas.{Appends-nothing, Appends-both}
 
 pub told-on : (a b : Option (List ℕ)) (rest got : List ℕ) → a ≡ Some rest → Consumes a b got → (b ≡ Some (known b)) × (rest ≡ got ++ known b)
 told-on None b rest got e c = cc
@@ -52,8 +52,8 @@ stays qs rs o s left p r rest b e same told =
       output = [];
       error_output = [];
       consumed = consumes-nothing p.rest;
-      wrote = gains-nothing p.output;
-      wrote_error = gains-nothing p.error_output;
+      wrote = Appends-nothing p.output;
+      wrote_error = Appends-nothing p.error_output;
       outcome = refl;
       last = refl;
       system = λ i. system_of p.unix (all i) (sym (append-nil b) i) (sym (append-nil e) i);
@@ -69,8 +69,8 @@ joins q a x y p m r b e g f = record {
   output = g.output ++ f.output;
   error_output = g.error_output ++ f.error_output;
   consumed = consumes-both p.rest m.rest r.rest g.got f.got g.consumed f.consumed;
-  wrote = gains-both p.output m.output r.output g.output f.output g.wrote f.wrote;
-  wrote_error = gains-both p.error_output m.error_output r.error_output g.error_output f.error_output g.wrote_error f.wrote_error;
+  wrote = Appends-both p.output m.output r.output g.output f.output g.wrote f.wrote;
+  wrote_error = Appends-both p.error_output m.error_output r.error_output g.error_output f.error_output g.wrote_error f.wrote_error;
   outcome = f.outcome;
   last = f.last;
   system = f.system ∙ (λ i. system_of r.unix (known r.rest) (append_assoc b g.output f.output i) (append_assoc e g.error_output f.error_output i));
