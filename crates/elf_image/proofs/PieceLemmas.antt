@@ -11,18 +11,16 @@ use Rattle.elf_reader.specs.Segments.{IsApart, file_end, segment_end}
 use Rattle.elf_reader.specs.Fault.{IsSound}
 use Rattle.elf_image.specs.Pages.{is_segment_page}
 use Rattle.elf_image.specs.Content.{is_in_file_part, file_byte, stored_byte, is_filled_page, has_data}
-use Rattle.elf_image.proofs.TableLemmas.{least_all, not_stored}
+use Rattle.elf_image.proofs.TableLemmas.{least_all, not_stored, some_false}
+use Rattle.elf_image.proofs.StoreLemmas.{part_low, part_high}
+use Rattle.std.proofs.lemmas.Option.{same_Some}
 
 some_below : (test : ℕ → Bool) (n k : ℕ) → k < n → test k ≡ true → is_some (least_below test n) ≡ true
 some_below test n k lt on =
     elim (cases_Bool (is_some (least_below test n))) [
       | inl there ↦ there
-      | inr none ↦ absurd (let off = least_all test n (none_of (least_below test n) none) k lt in cc)
+      | inr none ↦ absurd (let off = least_all test n (some_false (least_below test n) none) k lt in cc)
     ]
-  where
-    none_of : (o : Option ℕ) → is_some o ≡ false → o ≡ None
-    none_of None e = refl
-    none_of (Some x) e = absurd (cc)
 
 all_off : (test : ℕ → Bool) (n : ℕ) → is_some (least_below test n) ≡ false → (k : ℕ) → k < n → test k ≡ false
 all_off test n none k lt =
@@ -84,12 +82,6 @@ data_of file piece s page size bytes =
         let no : (is_in_file_part a s && not (file_byte file a s == 0)) ≡ false = ap (λ x. is_in_file_part x s && not (file_byte file x s == 0)) (sym here) ∙ off (a - 4096 * page) facts.0 in
         ap (λ b. not (b == 0)) (get_default piece k d lt ∙ bytes k lt) ∙ zero_byte (is_in_file_part a s) (file_byte file a s) (is_in s.vaddr (file_end s) a facts.1 facts.2) no
 
-    part_low : (v fe a : ℕ) → (nat_le v a && nat_lt a fe) ≡ true → v ≤ a
-    part_low v fe a on = grind (arith, nat_tests)
-
-    part_high : (v fe a : ℕ) → (nat_le v a && nat_lt a fe) ≡ true → a < fe
-    part_high v fe a on = grind (arith, nat_tests)
-
     place_lt : (v fe p k len : ℕ) → v ≤ 4096 * p + k → 4096 * p + k < fe → k < 4096 → len ≡ min fe (4096 * p + 4096) - max v (4096 * p)
         → (4096 * p + k - max v (4096 * p) < len) × (max v (4096 * p) + (4096 * p + k - max v (4096 * p)) ≡ 4096 * p + k)
     place_lt v fe p k len a b c e = (grind arith, grind arith)
@@ -145,14 +137,11 @@ stored_found : (len at : ℕ) (file : List ℕ) (segments : List Segment) (i : �
 unfolding stored_byte
 stored_found len at file segments i d sound apart lt on = ap (λ o. option_map_or (file_byte file at) o 0) (found len at segments i d sound apart lt on)
 
-inside : {X : Type 0} (a b : X) → Some a ≡ Some b → a ≡ b
-inside a b same = cc
-
 find_passes : {X : Type 0} (p : X → Bool) (xs : List X) (x : X) → find p xs ≡ Some x → p x ≡ true
 find_passes p [] x e = absurd (cc)
 find_passes p (y ∷ ys) x e =
     elim (cases_Bool (p y)) [
-      | inl on ↦ let same : Some y ≡ Some x = rw on at e in ap p (sym (inside y x same)) ∙ on
+      | inl on ↦ let same : Some y ≡ Some x = rw on at e in ap p (sym (same_Some y x same)) ∙ on
       | inr off ↦ let rest : find p ys ≡ Some x = rw off at e in find_passes p ys x rest
     ]
 
@@ -160,7 +149,7 @@ find_any : {X : Type 0} (p q : X → Bool) (xs : List X) (x : X) → find p xs �
 find_any p q [] x e on = absurd (cc)
 find_any p q (y ∷ ys) x e on =
     elim (cases_Bool (p y)) [
-      | inl there ↦ let same : Some y ≡ Some x = rw there at e in ap (λ b. b || list_any q ys) (ap q (inside y x same) ∙ on)
+      | inl there ↦ let same : Some y ≡ Some x = rw there at e in ap (λ b. b || list_any q ys) (ap q (same_Some y x same) ∙ on)
       | inr off ↦ let rest : find p ys ≡ Some x = rw off at e in or_right (q y) (list_any q ys) (find_any p q ys x rest on)
     ]
 

@@ -47,7 +47,14 @@ not_stored len file segments at sound off =
       | inr past ↦ past
     ]
 
-some_false : (o : Option ℕ) → is_some o ≡ false → o ≡ None
+-- each lane of 0 is 0
+pub lane_of_zero : (i : ℕ) → lane_of_word 0 i ≡ 0
+lane_of_zero i = none (24 - 8 * i)
+  where
+    none : (e : ℕ) → 0 / 2 ^ e % 2 ^ 8 ≡ 0
+    none e = omega arith
+
+pub some_false : (o : Option ℕ) → is_some o ≡ false → o ≡ None
 some_false None e = refl
 some_false (Some x) e = absurd (cc)
 
@@ -147,15 +154,9 @@ all_bytes len file segments index stored sound filled bytes at =
       | inl none ↦
           let off : is_filled_page file segments (at / 4096) ≡ false = sym (filled (at / 4096)) ∙ ap (λ n. not (n == 0)) none in
           let place : at / 4 / 1024 ≡ at / 4096 = omega arith in
-          ap (λ w. lane_of_word w (at % 4)) (zero_entry index stored (at / 4) (ap (λ p. get_or index p 0) place ∙ none)) ∙ nil (at % 4)
+          ap (λ w. lane_of_word w (at % 4)) (zero_entry index stored (at / 4) (ap (λ p. get_or index p 0) place ∙ none)) ∙ lane_of_zero (at % 4)
           ∙ sym (not_filled len file segments (at / 4096) at sound off refl)
     ]
-  where
-    zero_lane : (e : ℕ) → 0 / 2 ^ e % 2 ^ 8 ≡ 0
-    zero_lane e = omega arith
-
-    nil : (i : ℕ) → lane_of_word 0 i ≡ 0
-    nil i = zero_lane (24 - 8 * i)
 
 table_word-lt : (index stored : List ℕ) (k : ℕ) → ((i : ℕ) → get_or stored i 0 < 2 ^ 32) → table_word index stored k < 2 ^ 32
 unfolding table_word
