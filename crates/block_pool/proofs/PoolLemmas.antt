@@ -39,7 +39,7 @@ is_none-used : (s : Option Block) → IsSome s → is_none s ≡ false
 is_none-used None h = absurd (false≢true h)
 is_none-used (Some k) h = refl
 
-none-from_is_none : (s : Option Block) → is_none s ≡ true → s ≡ None
+pub none-from_is_none : (s : Option Block) → is_none s ≡ true → s ≡ None
 none-from_is_none None h = refl
 none-from_is_none (Some k) h = absurd (false≢true h)
 

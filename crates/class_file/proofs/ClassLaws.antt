@@ -21,9 +21,7 @@ use Rattle.jvm_code.specs.Code.{code_fault, is_bad_length}
 use Rattle.class_file.specs.Named.{fault_here, slot_of, text_slot, this_slot, super_slot, is_object, is_own_descriptor, code_name_slot}
 use Rattle.class_file.specs.Members.{public_static, attributes, field, CodeHead, code_length, code_head, fault_of_code, code_bytes, code_attribute, MethodParts, method_made, method_parts, method}
 use Rattle.class_file.specs.ClassFile.{preamble, class_flags, no_interfaces, class_slots, members, class_made, class_parts, class, Spells, class_fault}
-
-some_same : {A : Type 0} (x y : A) → Some x ≡ Some y → x ≡ y
-some_same x y e = cc
+use Rattle.std.proofs.lemmas.Option.{same_Some}
 
 pub slot_law : (fault : ℕ → Option ℕ) → IsFormat (slot_of fault)
 slot_law fault = checked_law (λ n. fault_here (fault n)) (number cut w16) (number_law cut w16 wide16)
@@ -48,7 +46,7 @@ field_law entries =
     (behind_law public_static (before (both (text_slot entries is_member_name) (λ _. text_slot entries is_field_descriptor)) (attributes 0)) static_law
     (before_law (both (text_slot entries is_member_name) (λ _. text_slot entries is_field_descriptor)) (attributes 0)
     (both_law (text_slot entries is_member_name) (λ _. text_slot entries is_field_descriptor) (slot_law _) (λ _. slot_law _)) (attributes_law 0)))
-    (record { back_of = λ b e. refl; made_of = λ f b e. sym (ap field_made (some_same (f.name, f.desc) b e)) })
+    (record { back_of = λ b e. refl; made_of = λ f b e. sym (ap field_made (same_Some (f.name, f.desc) b e)) })
 
 -- ---- code
 
@@ -119,7 +117,7 @@ method_law entries =
     (both_law (code_name_slot entries) (λ _. code_attribute) (slot_law _) (λ _. code_law)))))
     (record {
       back_of = λ b e. ap (λ (x : MethodParts). Some x) (method_back entries b e);
-      made_of = λ m b e. sym (ap method_made (some_same (method_parts m) b e));
+      made_of = λ m b e. sym (ap method_made (same_Some (method_parts m) b e));
     })
 
 -- ---- the class
@@ -152,7 +150,7 @@ class_law =
     (behind_law preamble (both pool (λ entries. both (class_slots entries) (λ _. members entries))) preamble_law
     (both_law pool (λ entries. both (class_slots entries) (λ _. members entries)) pool_law
     (λ entries. both_law (class_slots entries) (λ _. members entries) (class_slots_law entries) (λ _. members_law entries))))
-    (record { back_of = λ b e. refl; made_of = λ c b e. sym (ap class_made (some_same (class_parts c) b e)) })
+    (record { back_of = λ b e. refl; made_of = λ c b e. sym (ap class_made (same_Some (class_parts c) b e)) })
 
 -- ---- spellings
 

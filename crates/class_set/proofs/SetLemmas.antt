@@ -1,5 +1,5 @@
 -- How a set goes on, and how files follow one another.
-use Rattle.std.proofs.Common.{◌≡◌, ◌∙◌, ℕ, suc, ◌+◌, ◌-◌, ◌<◌, ◌≤◌, List, [], ◌∷◌, ◌++◌, length, Option, Some, None, option_map, Result, Ok, Err, Vec, Global, IfOk, length-append, refl, sym, ap, subst, arith}
+use Rattle.std.proofs.Common.{◌≡◌, ◌∙◌, ℕ, suc, ◌+◌, ◌-◌, ◌<◌, ◌≤◌, List, [], ◌∷◌, ◌++◌, length, Option, Some, None, option_map, Result, Ok, Err, Vec, Global, IfOk, length-append, sym, ap, subst, arith}
 use Rattle.std.specs.List.{All}
 use Rattle.std.proofs.lemmas.List.Elements.{All-push, All-same}
 use Rattle.nv_outside.specs.Files.{Files, Finds, SameFiles}
@@ -12,16 +12,6 @@ use Rattle.class_set.specs.ClassSets.{names_asked, class_in, next, set_of, grown
 use Rattle.class_set.specs.Kept.{IsKept}
 use Rattle.class_set.specs.Waiting.{fresh, Queue, IsOnce, file_found}
 use Rattle.class_set.proofs.WaitingLemmas.{grown-zero, grown-none, grown-fault, grown-class, grown-once}
-
-pub same_files : (files : Option Files) → SameFiles files files
-same_files None = tt
-same_files (Some f) = λ name. refl
-
-pub same_then_same : (a b c : Option Files) → SameFiles a b → SameFiles b c → SameFiles a c
-same_then_same None b c p q = tt
-same_then_same (Some a) None c p q = absurd p
-same_then_same (Some a) (Some b) None p q = absurd q
-same_then_same (Some a) (Some b) (Some c) p q = λ name. q name ∙ p name
 
 -- what was found under a name is what the files have there
 pub found_there : (files : Files) (told now : Option Files) (name : List ℕ) (found : Option (Vec ℕ Global)) → told ≡ Some files → SameFiles told now → Finds now name found → files name ≡ option_map (λ v. v.items) found

@@ -9,6 +9,7 @@ use Rattle.command_deeds.specs.declared.done.Done.{Done}
 use Rattle.command_deeds.specs.declared.stop.Stop.{Stop}
 use Rattle.command_deeds.specs.declared.stop.Stop.TheVariants.{WriteFault, ShelfFault, NoMemory}
 use Rattle.command_deeds.specs.Deeds.{World, Deed, prepares, stores, prints, plays, Due, Stays, DoesDeed, StopsStore, StopsDeed, DoesAll, StopsIn, Works, Comes, world, answers}
+use Rattle.nv_outside.proofs.FilesLemmas.{same_then_same}
 
 pub same_files : (files : Option Files) → SameFiles files files
 same_files None = tt
@@ -20,12 +21,6 @@ same_map f g h = λ i name. h name i
 
 pub stays : (w : World) → Stays w w
 stays w = (same_files w.files, refl, refl, refl)
-
-pub same_then_same : (a b c : Option Files) → SameFiles a b → SameFiles b c → SameFiles a c
-same_then_same None b c p q = tt
-same_then_same (Some a) None c p q = absurd p
-same_then_same (Some a) (Some b) None p q = absurd q
-same_then_same (Some a) (Some b) (Some c) p q = λ name. q name ∙ p name
 
 pub same_then_set : (a b c : Option Files) (name bytes : List ℕ) → SameFiles a b → SetsFile b c name bytes → SetsFile a c name bytes
 same_then_set None b c name bytes p q = tt
@@ -107,11 +102,6 @@ pub after_found : (IsDue : Option (List ℕ) → Due → Type 0) (name : List �
 after_found IsDue name v file this old mid new rest rest' out out' err err' ended some e same p q =
     let q' : Comes (IsDue (Some file.items)) (world mid rest out err) (world new rest' out' err') ended = subst (λ f. Comes (IsDue (Some f)) (world mid rest out err) (world new rest' out' err') ended) same q in
     after_load IsDue name (Some file.items) old mid new rest rest' out out' err err' ended (found_some old name v file some e) p q'
-
--- a load was stopped
-pub load_stopped : (IsDue : Option (List ℕ) → Due → Type 0) (name : List ℕ) (old new : Option Files) (rest out err : Option (List ℕ)) (stop : Stop) → SameFiles old new → (stop ≡ ShelfFault) ⊎ (stop ≡ NoMemory) → IfSome old (λ files. Comes (IsDue (files name)) (world old rest out err) (world new rest out err) (Err stop))
-load_stopped IsDue name None new rest out err stop p e = tt
-load_stopped IsDue name (Some files) new rest out err stop p e = inl ((p, refl, refl, refl), e)
 
 -- a text was printed, or a part of it
 pub printed : (files : Option Files) (rest out out' err : Option (List ℕ)) (text : List ℕ) (answer : Done) → Appends out out' text → Works (record { deeds = prints text ∷ []; answer = answer }) (world files rest out err) (world files rest out' err) (Ok answer)

@@ -115,11 +115,6 @@ idle_turn : (c : List Rule) (rows : List Row) (pending : Option (Text × List Te
     ≡ named_turn c (held rows pending) idle p (45 ∷ 45 ∷ x ∷ xs) (name_in_word x xs) (value_in_word x xs)
 idle_turn c rows pending p x xs = refl
 
-waiting_turn : (c : List Rule) (rows : List Row) (pending : Option (Text × List Text)) (o : Text) (p x : ℕ) (xs : Text)
-    → turn_fault (built_shape c) [] (at rows pending (option o) p) (45 ∷ 45 ∷ x ∷ xs)
-    ≡ named_turn c (held rows pending) (option o) p (45 ∷ 45 ∷ x ∷ xs) (name_in_word x xs) (value_in_word x xs)
-waiting_turn c rows pending o p x xs = refl
-
 idle_walked : (c : List Rule) (rows : List Row) (pending : Option (Text × List Text)) (p x : ℕ) (xs : Text)
     → walked c [] (at rows pending idle p) (45 ∷ 45 ∷ x ∷ xs)
     ≡ named_walked c (at rows pending idle p) (45 ∷ 45 ∷ x ∷ xs) (name_in_word x xs) (value_in_word x xs)

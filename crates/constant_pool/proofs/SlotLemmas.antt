@@ -15,6 +15,7 @@ use Rattle.constant_pool.specs.declared.entry.Entry.TheVariants.{Utf8, Integer, 
 use Rattle.constant_pool.specs.Parts.{tag_of, text_part, number_part, first_part, second_part}
 use Rattle.constant_pool.specs.Entries.{is_long}
 use Rattle.constant_pool.specs.Slots.{slots_of_entry, is_rest, IsAt, IsMissing, slots_of_map, AreSlots, IsKept}
+use Rattle.std.proofs.lemmas.Option.{same_Some}
 
 -- ---- entries are the same where their parts are
 
@@ -156,12 +157,9 @@ found_behind p es first slot e f =
     let k : slot - first ≡ length (slots_of_entry p.0) + (slot - (first + length (slots_of_entry p.0))) = omega arith in
     record { le = omega arith; there = rw k (get_behind (slots_of_entry p.0) (slots_of_map es) (slot - (first + length (slots_of_entry p.0))) ∙ f.there) }
 
-some_is : (a b : ℕ) → Some a ≡ Some b → a ≡ b
-some_is a b e = cc
-
 found_here : (p : Entry × ℕ) (es : List (Entry × ℕ)) (first slot : ℕ) (e : Entry) → p.1 ≡ first → e ≡ p.0 → Some p.1 ≡ Some slot → Found (p ∷ es) first slot e
 found_here p es first slot e place is here =
-    let at : p.1 ≡ slot = some_is _ _ here in
+    let at : p.1 ≡ slot = same_Some _ _ here in
     let k : slot - first ≡ 0 = omega arith in
     record { le = omega arith; there = rw (k, is) refl }
 
@@ -182,19 +180,16 @@ found_slot (Some slot) es pool e is are view =
     let no : eqb slot 0 ≡ false = ne_eqb slot 0 (λ z. omega arith) in
     rw (no, ← view) f.there
 
-some_entry : (a b : Entry) → Some a ≡ Some b → a ≡ b
-some_entry a b e = cc
-
 -- a slot at the front of those of an entry that is not this one
 not_first : (long : Bool) (p : Entry) (others : List Entry) (i : ℕ) (e : Entry) → same_entry e p ≡ false → is_rest e ≡ false
     → ((j : ℕ) → slice_get others j ≡ Some e → ⊥) → slice_get ((p ∷ cond long (LongRest ∷ []) []) ++ others) i ≡ Some e → ⊥
 not_first long p others zero e other rest none there =
-    let q : p ≡ e = some_entry p e there in
+    let q : p ≡ e = same_Some p e there in
     let P : Entry → Type 0 = λ x. same_entry e x ≡ true in
     let r : same_entry e p ≡ true = subst P (sym q) (itself e) in
     cc
 not_first true p others (suc zero) e other rest none there =
-    let q : LongRest ≡ e = some_entry LongRest e there in
+    let q : LongRest ≡ e = same_Some LongRest e there in
     let r : is_rest e ≡ true = rw (← q) refl in
     cc
 not_first true p others (suc (suc i)) e other rest none there = none i there
@@ -242,9 +237,13 @@ inserted es new pool e slot are view missing is =
     let P : List Entry → Type 0 = λ xs. IsMissing xs e in
     is ∙ insert_new es e slot (looked_none es e (lookup (same_entry e) es) are (subst P (sym view) missing) refl)
 
-pub slots_more : (es : List (Entry × ℕ)) (p : Entry × ℕ) → slots_of_map (es ++ p ∷ []) ≡ slots_of_map es ++ slots_of_entry p.0
+slots_more : (es : List (Entry × ℕ)) (p : Entry × ℕ) → slots_of_map (es ++ p ∷ []) ≡ slots_of_map es ++ slots_of_entry p.0
 slots_more [] p = ap (λ (xs : List Entry). p.0 ∷ xs) (append-nil (cond (is_long p.0) (LongRest ∷ []) []))
 slots_more (q ∷ es) p = ap (λ (xs : List Entry). slots_of_entry q.0 ++ xs) (slots_more es p) ∙ sym (append_assoc (slots_of_entry q.0) (slots_of_map es) (slots_of_entry p.0))
+
+pub pool_more : (es new : List (Entry × ℕ)) (pool : List Entry) (e : Entry) (slot : ℕ) → slots_of_map es ≡ pool → new ≡ es ++ (e, slot) ∷ []
+    → slots_of_map new ≡ pool ++ slots_of_entry e
+pool_more es new pool e slot view is = ap slots_of_map is ∙ slots_more es (e, slot) ∙ ap (λ xs. xs ++ slots_of_entry e) view
 
 are_more : (es : List (Entry × ℕ)) (first : ℕ) (p : Entry × ℕ) → AreSlots first es → p.1 ≡ first + length (slots_of_map es) → is_rest p.0 ≡ false → AreSlots first (es ++ p ∷ [])
 are_more [] first p are place rest = (omega arith, rest, tt)
@@ -271,8 +270,3 @@ there_now es new next e place is =
 pub slots_of_keys : (es : List (Entry × ℕ)) → flat_map slots_of_entry (keys_of es) ≡ slots_of_map es
 slots_of_keys [] = refl
 slots_of_keys (p ∷ es) = ap (λ (xs : List Entry). slots_of_entry p.0 ++ xs) (slots_of_keys es)
-
-pub next_slots : (front new : List Entry) (e : Entry) (keys others pool : List Entry) → keys ≡ e ∷ others → new ≡ front ++ slots_of_entry e
-    → front ++ flat_map slots_of_entry keys ≡ pool → new ++ flat_map slots_of_entry others ≡ pool
-next_slots front new e keys others pool first is so_far =
-    rw is (append_assoc front (slots_of_entry e) (flat_map slots_of_entry others) ∙ sym (ap (λ (xs : List Entry). front ++ flat_map slots_of_entry xs) first) ∙ so_far)

@@ -1,4 +1,4 @@
-ghost use Rattle.std.specs.Prelude.{◌≡◌, ℕ, ◌+◌, ◌-◌, ◌<◌, ◌≤◌, ◌↔◌, List, [], ◌++◌, length, false, Err, IfOk, OnOk, IsOk, OnErr, IfSome, IfNone, Ok, ◌∷◌};
+ghost use Rattle.std.specs.Prelude.{◌≡◌, ◌⊎◌, ℕ, ◌+◌, ◌-◌, ◌<◌, ◌≤◌, ◌↔◌, List, [], ◌++◌, length, false, Err, IfOk, OnOk, IsOk, OnErr, IfSome, IfNone, Ok, ◌∷◌};
 ghost use Rattle.constant_pool.specs.Slots.{IsAt, IsMissing, is_rest, slots_of_entry};
 ghost use Rattle.constant_pool.specs.declared.error.PoolError.TheVariants.{Full};
 
@@ -74,6 +74,7 @@ impl Pool {
         ensures there { IfOk result (λ slot. IsAt self.new slot e) }
         ensures present { (slot : ℕ) → IsAt self.old slot e → IsOk result × (self.new ≡ self.old) }
         ensures added { IsMissing self.old e → IfOk result (λ slot. (slot ≡ 1 + length self.old) × (self.new ≡ self.old ++ slots_of_entry e)) }
+        ensures grown { OnOk result ((self.new ≡ self.old) ⊎ (self.new ≡ self.old ++ slots_of_entry e)) }
         ensures full { (result ≡ Err Full) ↔ (IsMissing self.old e × (65534 < length self.old + length (slots_of_entry e))) }
         ensures err { OnErr result (self.new ≡ self.old) }
     {

@@ -1,10 +1,8 @@
 -- What follows of a file that passed every check of its headers.
-use Rattle.std.proofs.Common.{◌≡◌, ℕ, ◌≤◌, Bool, true, false, nat_lt, List, [], ◌∷◌, length, get_or, filter, Option, Some, None, refl, inl, inr, arith, position, subst, sym}
-use Rattle.std.specs.List.{All, AllPairs, position_or_len}
+use Rattle.std.proofs.Common.{◌≡◌, ℕ, ◌≤◌, true, false, List, [], ◌∷◌, length, get_or, filter, Option, None, arith, position, subst, sym}
+use Rattle.std.specs.List.{All, AllPairs}
 use Rattle.std.specs.Option.{option_or}
-use Rattle.std.proofs.lemmas.Bool.{cases_Bool, ltb-false}
 use Rattle.std.proofs.lemmas.Bool.Decides.{nat_tests}
-use Rattle.std.proofs.lemmas.List.Sums.{fails_before_first}
 use Rattle.std.proofs.lemmas.List.Elements.{All-filter, All-map, filter_passes}
 use Rattle.nv_faults.specs.declared.elf_fault.ElfFault.{ElfFault}
 use Rattle.elf_reader.specs.declared.segment.Segment.{Segment}
@@ -15,33 +13,17 @@ use Rattle.elf_reader.specs.Header.{identity_fault, program_table_fault}
 use Rattle.elf_reader.specs.Sections.{section_table_fault, section_fault, section_headers}
 use Rattle.elf_reader.specs.Area.{area_fault, code_ranges}
 use Rattle.elf_reader.specs.Fault.{elf_fault, IsSound}
-use Rattle.elf_reader.proofs.FaultLemmas.{segments_sound}
-use Rattle.elf_reader.proofs.PassedLemmas.{segments_apart}
-
--- where none of two checks fails, neither does
-or_none : (a b : Option ElfFault) → option_or a b ≡ None → (a ≡ None) × (b ≡ None)
-or_none None b e = (refl, e)
-or_none (Some x) b e = absurd (cc)
-
-at_none : (kind : ℕ) (place : Option ℕ) → fails_at kind place ≡ None → place ≡ None
-at_none kind None e = refl
-at_none kind (Some i) e = absurd (cc)
-
-position_none : {X : Type 0} (p : X → Bool) (xs : List X) → position p xs ≡ None → All (λ x. p x ≡ false) xs
-position_none p xs e k d within =
-    elim (cases_Bool (nat_lt (position_or_len p xs) (length xs))) [
-      | inl on ↦ absurd (let found = rw on at e in cc)
-      | inr off ↦ let past = ltb-false _ _ off in fails_before_first p xs k d (omega (arith, past, within))
-    ]
+use Rattle.elf_reader.proofs.FaultLemmas.{segments_sound, fails_at_none, position_none_all}
+use Rattle.elf_reader.proofs.PassedLemmas.{segments_apart, or_parts}
 
 low_one : (h : ProgramHeader) → is_live h ≡ true → is_too_high h ≡ false → segment_end h.segment ≤ 0x7F00_0000
 low_one h alive low = grind (arith, nat_tests)
 
 third_none : (a b c d : Option ElfFault) → option_or a (option_or b (option_or c d)) ≡ None → c ≡ None
-third_none a b c d e = (or_none c d (or_none b _ (or_none a _ e).1).1).0
+third_none a b c d e = (or_parts c d (or_parts b _ (or_parts a _ e).1).1).0
 
 fourth_none : (a b c d e : Option ElfFault) → option_or a (option_or b (option_or c (option_or d e))) ≡ None → d ≡ None
-fourth_none a b c d e h = third_none b c d e (or_none a _ h).1
+fourth_none a b c d e h = third_none b c d e (or_parts a _ h).1
 
 segments_pass : (file : List ℕ) → elf_fault file ≡ None → segment_fault (length file) (program_headers file) ≡ None
 unfolding elf_fault
@@ -53,7 +35,7 @@ segments_pass file accepted =
 all_low : (len : ℕ) (headers : List ProgramHeader) → segment_fault len headers ≡ None → All (λ h. is_too_high h ≡ false) headers
 unfolding segment_fault
 all_low len headers passed =
-    position_none is_too_high headers (at_none 14 (position is_too_high headers)
+    position_none_all is_too_high headers (fails_at_none 14 (position is_too_high headers)
     (fourth_none (fails_at 11 (position is_dynamic headers)) (fails_at 12 (position (is_outside len) headers)) (fails_at 13 (position is_oversized headers))
     (fails_at 14 (position is_too_high headers))
     (first_fault (overlap_from 0 headers ∷ fails_at 16 (position is_writable_text headers) ∷ []))

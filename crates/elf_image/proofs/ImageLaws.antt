@@ -1,5 +1,5 @@
 -- The pages and the code of an image end below 80000000 (hexadecimal).
-use Rattle.std.proofs.Common.{◌≡◌, ℕ, ◌+◌, ◌-◌, ◌*◌, ◌^◌, ◌<◌, ◌≤◌, Bool, true, false, ◌&&◌, ◌||◌, ◌==◌, nat_lt, nat_le, List, [], ◌∷◌, length, get_or, Option, Some, None, refl, sym, subst, inl, inr, arith}
+use Rattle.std.proofs.Common.{◌≡◌, ℕ, ◌+◌, ◌-◌, ◌*◌, ◌^◌, ◌≤◌, Bool, true, false, ◌&&◌, ◌||◌, ◌==◌, nat_lt, nat_le, List, [], ◌∷◌, length, get_or, Option, Some, None, refl, sym, subst, inl, inr, arith}
 use Rattle.std.specs.Prelude.{max, min}
 use Rattle.std.specs.List.{All}
 use Rattle.std.specs.Option.{option_or}
@@ -14,7 +14,7 @@ use Rattle.elf_reader.specs.Segments.{program_headers, live, segment_end, file_e
 use Rattle.elf_reader.specs.Sections.{section_table_fault, section_fault, section_headers}
 use Rattle.elf_reader.specs.Area.{area, area_fault, code_ranges, is_in_text}
 use Rattle.elf_reader.specs.Fault.{elf_fault, IsSound}
-use Rattle.elf_reader.proofs.PassedLemmas.{area_text}
+use Rattle.elf_reader.proofs.PassedLemmas.{area_text, text_low}
 use Rattle.elf_image.specs.Pages.{heap_page, is_on_page, is_segment_page, is_heap_page, is_stack_page, is_argument_page, is_readable_page}
 
 -- ---- the pages end low
@@ -61,9 +61,6 @@ unfolding elf_fault
 sections_pass file accepted =
     fifth_none (identity_fault file) (program_table_fault file) (segment_fault (length file) (program_headers file)) (section_table_fault file)
     (section_fault (live file) (section_headers file)) (first_fault (area_fault (code_ranges file) (live file) ∷ [])) accepted
-
-text_low : (x : Bool) (v fe at limit : ℕ) → (x && nat_le v at && nat_lt at fe) ≡ true → fe ≤ limit → at < limit
-text_low x v fe at limit held low = grind (arith, nat_tests)
 
 pub code_end : (file : List ℕ) → elf_fault file ≡ None → All (IsSound (length file)) (live file) → (at : ℕ) → 2 ^ 31 ≤ at → area file at ≡ false
 code_end file accepted sound at high =

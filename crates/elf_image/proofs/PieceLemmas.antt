@@ -1,8 +1,7 @@
 -- The bytes that segments have in the file, and the pages that these fill.
-use Rattle.std.proofs.Common.{◌≡◌, ℕ, zero, suc, ◌+◌, ◌-◌, ◌*◌, ◌/◌, ◌<◌, ◌≤◌, Bool, true, false, ◌&&◌, ◌||◌, not, ◌==◌, nat_lt, nat_le, cond, max, min, List, [], ◌∷◌, length, get_or, take, drop, find, is_some, Option, Some, None, refl, sym, ap, ◌∙◌, inl, inr, arith}
+use Rattle.std.proofs.Common.{◌≡◌, ℕ, zero, suc, ◌+◌, ◌-◌, ◌*◌, ◌/◌, ◌<◌, ◌≤◌, Bool, true, false, ◌&&◌, ◌||◌, not, ◌==◌, nat_lt, nat_le, cond, max, min, List, [], ◌∷◌, length, get_or, find, is_some, Option, Some, None, refl, sym, ap, ◌∙◌, inl, inr, arith}
 use Rattle.std.specs.List.{All, AllPairs, list_any}
 use Rattle.std.specs.Option.{option_map_or}
-use Rattle.std.proofs.lemmas.List.{get_or-take, get_or-drop}
 use Rattle.std.proofs.lemmas.List.Folds.{list_any_at, list_any_none}
 use Rattle.std.proofs.lemmas.Bool.{cases_Bool, and_left, or_right}
 use Rattle.std.proofs.lemmas.Bool.Decides.{nat_tests}
@@ -12,24 +11,16 @@ use Rattle.elf_reader.specs.Segments.{IsApart, file_end, segment_end}
 use Rattle.elf_reader.specs.Fault.{IsSound}
 use Rattle.elf_image.specs.Pages.{is_segment_page}
 use Rattle.elf_image.specs.Content.{is_in_file_part, file_byte, stored_byte, is_filled_page, has_data}
-use Rattle.elf_image.proofs.TableLemmas.{least_all, not_stored}
-
--- a byte of a slice of the file
-pub slice_byte : (file : List ℕ) (n start at offset v k : ℕ) → start ≡ offset + (at - v) → v ≤ at → k < n
-    → get_or (take n (drop start file)) k 0 ≡ get_or file (offset + (at + k - v)) 0
-slice_byte file n start at offset v k is low lt =
-    get_or-take n (drop start file) k 0 lt ∙ get_or-drop start file k 0 ∙ ap (λ i. get_or file i 0) (let place : start + k ≡ offset + (at + k - v) = omega (arith, is, low) in place)
+use Rattle.elf_image.proofs.TableLemmas.{least_all, not_stored, some_false}
+use Rattle.elf_image.proofs.StoreLemmas.{part_low, part_high}
+use Rattle.std.proofs.lemmas.Option.{same_Some}
 
 some_below : (test : ℕ → Bool) (n k : ℕ) → k < n → test k ≡ true → is_some (least_below test n) ≡ true
 some_below test n k lt on =
     elim (cases_Bool (is_some (least_below test n))) [
       | inl there ↦ there
-      | inr none ↦ absurd (let off = least_all test n (none_of (least_below test n) none) k lt in cc)
+      | inr none ↦ absurd (let off = least_all test n (some_false (least_below test n) none) k lt in cc)
     ]
-  where
-    none_of : (o : Option ℕ) → is_some o ≡ false → o ≡ None
-    none_of None e = refl
-    none_of (Some x) e = absurd (cc)
 
 all_off : (test : ℕ → Bool) (n : ℕ) → is_some (least_below test n) ≡ false → (k : ℕ) → k < n → test k ≡ false
 all_off test n none k lt =
@@ -54,10 +45,6 @@ is_in v fe a low high = grind (arith, nat_tests)
 zero_byte : (t : Bool) (b : ℕ) → t ≡ true → (t && not (b == 0)) ≡ false → not (b == 0) ≡ false
 zero_byte true b on off = off
 zero_byte false b on off = absurd (cc)
-
-nonzero : (t : Bool) (b : ℕ) → (t && not (b == 0)) ≡ false → (t ≡ true → not (b == 0) ≡ false)
-nonzero true b off on = off
-nonzero false b off on = absurd (cc)
 
 -- a page holds data of a segment exactly where the slice of the file for it is not all zero
 pub data_of : (file piece : List ℕ) (s : Segment) (page : ℕ) → length piece ≡ min (file_end s) (4096 * page + 4096) - max s.vaddr (4096 * page)
@@ -94,12 +81,6 @@ data_of file piece s page size bytes =
         let here : 4096 * page + (a - 4096 * page) ≡ a = sym (at_k k lt) in
         let no : (is_in_file_part a s && not (file_byte file a s == 0)) ≡ false = ap (λ x. is_in_file_part x s && not (file_byte file x s == 0)) (sym here) ∙ off (a - 4096 * page) facts.0 in
         ap (λ b. not (b == 0)) (get_default piece k d lt ∙ bytes k lt) ∙ zero_byte (is_in_file_part a s) (file_byte file a s) (is_in s.vaddr (file_end s) a facts.1 facts.2) no
-
-    part_low : (v fe a : ℕ) → (nat_le v a && nat_lt a fe) ≡ true → v ≤ a
-    part_low v fe a on = grind (arith, nat_tests)
-
-    part_high : (v fe a : ℕ) → (nat_le v a && nat_lt a fe) ≡ true → a < fe
-    part_high v fe a on = grind (arith, nat_tests)
 
     place_lt : (v fe p k len : ℕ) → v ≤ 4096 * p + k → 4096 * p + k < fe → k < 4096 → len ≡ min fe (4096 * p + 4096) - max v (4096 * p)
         → (4096 * p + k - max v (4096 * p) < len) × (max v (4096 * p) + (4096 * p + k - max v (4096 * p)) ≡ 4096 * p + k)
@@ -156,14 +137,11 @@ stored_found : (len at : ℕ) (file : List ℕ) (segments : List Segment) (i : �
 unfolding stored_byte
 stored_found len at file segments i d sound apart lt on = ap (λ o. option_map_or (file_byte file at) o 0) (found len at segments i d sound apart lt on)
 
-inside : {X : Type 0} (a b : X) → Some a ≡ Some b → a ≡ b
-inside a b same = cc
-
 find_passes : {X : Type 0} (p : X → Bool) (xs : List X) (x : X) → find p xs ≡ Some x → p x ≡ true
 find_passes p [] x e = absurd (cc)
 find_passes p (y ∷ ys) x e =
     elim (cases_Bool (p y)) [
-      | inl on ↦ let same : Some y ≡ Some x = rw on at e in ap p (sym (inside y x same)) ∙ on
+      | inl on ↦ let same : Some y ≡ Some x = rw on at e in ap p (sym (same_Some y x same)) ∙ on
       | inr off ↦ let rest : find p ys ≡ Some x = rw off at e in find_passes p ys x rest
     ]
 
@@ -171,7 +149,7 @@ find_any : {X : Type 0} (p q : X → Bool) (xs : List X) (x : X) → find p xs �
 find_any p q [] x e on = absurd (cc)
 find_any p q (y ∷ ys) x e on =
     elim (cases_Bool (p y)) [
-      | inl there ↦ let same : Some y ≡ Some x = rw there at e in ap (λ b. b || list_any q ys) (ap q (inside y x same) ∙ on)
+      | inl there ↦ let same : Some y ≡ Some x = rw there at e in ap (λ b. b || list_any q ys) (ap q (same_Some y x same) ∙ on)
       | inr off ↦ let rest : find p ys ≡ Some x = rw off at e in or_right (q y) (list_any q ys) (find_any p q ys x rest on)
     ]
 

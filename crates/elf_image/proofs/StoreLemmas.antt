@@ -1,5 +1,5 @@
 -- Bytes put into words, page by page and segment by segment.
-use Rattle.std.proofs.Common.{◌≡◌, ℕ, zero, suc, ◌+◌, ◌-◌, ◌*◌, ◌/◌, ◌%◌, ◌^◌, ◌<◌, ◌≤◌, Bool, true, false, ◌&&◌, ◌==◌, nat_lt, nat_le, cond, max, min, List, ◌∷◌, length, get_or, set, drop, replicate, find, refl, sym, ap, ◌∙◌, inl, inr, arith}
+use Rattle.std.proofs.Common.{◌≡◌, ℕ, zero, suc, ◌+◌, ◌-◌, ◌*◌, ◌/◌, ◌%◌, ◌<◌, ◌≤◌, Bool, true, false, ◌&&◌, ◌==◌, nat_lt, nat_le, cond, max, min, List, ◌∷◌, length, get_or, set, drop, replicate, find, refl, sym, ap, ◌∙◌, inl, inr, arith}
 use Rattle.std.specs.Option.{option_map_or}
 use Rattle.std.proofs.lemmas.List.{get_or-set_same, get_or-set_other, drop_more, drop_all}
 use Rattle.std.proofs.lemmas.Bool.{cases_Bool, cases_lt, cases_eq, and_right}
@@ -9,6 +9,7 @@ use Rattle.elf_reader.specs.Segments.{file_end}
 use Rattle.elf_image.specs.Content.{is_in_file_part, file_byte, stored_byte}
 use Rattle.elf_image.specs.PageTable.{byte_in, table_word, table_byte}
 use Rattle.nv_words.specs.Words.{lane_of_word}
+use Rattle.elf_image.proofs.TableLemmas.{lane_of_zero}
 
 -- one byte is put
 pub put_one : (words : List ℕ) (place x byte at j : ℕ) → place ≡ at / 4 → place < length words
@@ -86,10 +87,10 @@ table_byte_in index words at place is some =
     let lane : at % 4 ≡ (4096 * (place - 1) + at % 4096) % 4 = omega arith in
     rw page (rw is (rw test (ap (λ i. lane_of_word (get_or words i 0) (at % 4)) word ∙ ap (λ i. lane_of_word (get_or words ((4096 * (place - 1) + at % 4096) / 4) 0) i) lane)))
 
-part_low : (v fe a : ℕ) → (nat_le v a && nat_lt a fe) ≡ true → v ≤ a
+pub part_low : (v fe a : ℕ) → (nat_le v a && nat_lt a fe) ≡ true → v ≤ a
 part_low v fe a on = grind (arith, nat_tests)
 
-part_high : (v fe a : ℕ) → (nat_le v a && nat_lt a fe) ≡ true → a < fe
+pub part_high : (v fe a : ℕ) → (nat_le v a && nat_lt a fe) ≡ true → a < fe
 part_high v fe a on = grind (arith, nat_tests)
 
 -- where the bytes of a page go
@@ -218,15 +219,9 @@ pub none_put : (file index : List ℕ) (segments : List Segment) (n at count : �
     → table_byte index (replicate count 0) at ≡ stored_byte file (drop n segments) at
 unfolding table_word stored_byte
 none_put file index segments n at count past =
-    ap (λ w. lane_of_word w (at % 4)) (zeros (get_or index (at / 4 / 1024) 0) (at / 4 % 1024)) ∙ nil (at % 4)
+    ap (λ w. lane_of_word w (at % 4)) (zeros (get_or index (at / 4 / 1024) 0) (at / 4 % 1024)) ∙ lane_of_zero (at % 4)
     ∙ sym (ap (λ ss. option_map_or (file_byte file at) (find (is_in_file_part at) ss) 0) (drop_all n segments past))
   where
-    zero_lane : (e : ℕ) → 0 / 2 ^ e % 2 ^ 8 ≡ 0
-    zero_lane e = omega arith
-
-    nil : (i : ℕ) → lane_of_word 0 i ≡ 0
-    nil i = zero_lane (24 - 8 * i)
-
     zero_at : (n i : ℕ) → ◌≡◌ {A = ℕ} (get_or (replicate n 0) i 0) 0
     zero_at zero i = refl
     zero_at (suc n) zero = refl

@@ -47,7 +47,14 @@ not_stored len file segments at sound off =
       | inr past ↦ past
     ]
 
-some_false : (o : Option ℕ) → is_some o ≡ false → o ≡ None
+-- each lane of 0 is 0
+pub lane_of_zero : (i : ℕ) → lane_of_word 0 i ≡ 0
+lane_of_zero i = none (24 - 8 * i)
+  where
+    none : (e : ℕ) → 0 / 2 ^ e % 2 ^ 8 ≡ 0
+    none e = omega arith
+
+pub some_false : (o : Option ℕ) → is_some o ≡ false → o ≡ None
 some_false None e = refl
 some_false (Some x) e = absurd (cc)
 
@@ -86,9 +93,6 @@ not_filled len file segments page at sound off here =
       | inr out ↦ not_stored len file segments at sound (ap (is_segment_page segments) here ∙ out)
     ]
 
-word_cong : (a b c d a' b' c' d' : ℕ) → a ≡ a' → b ≡ b' → c ≡ c' → d ≡ d' → word_of_bytes a b c d ≡ word_of_bytes a' b' c' d'
-word_cong a b c d a' b' c' d' p q r s = cc
-
 option_lt : (file : List ℕ) (at : ℕ) (o : Option Segment) → ((i : ℕ) → get_or file i 0 < 2 ^ 8) → option_map_or (file_byte file at) o 0 < 2 ^ 8
 option_lt file at None fits = omega arith
 option_lt file at (Some s) fits = fits _
@@ -117,9 +121,6 @@ page_at index stored page place n k is filled size lt =
     let some : (place == 0) ≡ false = grind (arith, nat_tests) in
     rw here (rw rest (rw is (rw some
     (get_or-take n (drop (1024 * (place - 1)) stored) k 0 (omega (arith, lt, size)) ∙ get_or-drop (1024 * (place - 1)) stored k 0))))
-
-zero_or_not : (file : List ℕ) (n : ℕ) → not (n == 0) ≡ false → n ≡ 0
-zero_or_not file n e = is_zero n e
 
 number_test : (test : ℕ → Bool) (p : ℕ) → not (number_of test p == 0) ≡ test p
 number_test test p =
@@ -153,15 +154,9 @@ all_bytes len file segments index stored sound filled bytes at =
       | inl none ↦
           let off : is_filled_page file segments (at / 4096) ≡ false = sym (filled (at / 4096)) ∙ ap (λ n. not (n == 0)) none in
           let place : at / 4 / 1024 ≡ at / 4096 = omega arith in
-          ap (λ w. lane_of_word w (at % 4)) (zero_entry index stored (at / 4) (ap (λ p. get_or index p 0) place ∙ none)) ∙ nil (at % 4)
+          ap (λ w. lane_of_word w (at % 4)) (zero_entry index stored (at / 4) (ap (λ p. get_or index p 0) place ∙ none)) ∙ lane_of_zero (at % 4)
           ∙ sym (not_filled len file segments (at / 4096) at sound off refl)
     ]
-  where
-    zero_lane : (e : ℕ) → 0 / 2 ^ e % 2 ^ 8 ≡ 0
-    zero_lane e = omega arith
-
-    nil : (i : ℕ) → lane_of_word 0 i ≡ 0
-    nil i = zero_lane (24 - 8 * i)
 
 table_word-lt : (index stored : List ℕ) (k : ℕ) → ((i : ℕ) → get_or stored i 0 < 2 ^ 32) → table_word index stored k < 2 ^ 32
 unfolding table_word
@@ -206,6 +201,3 @@ pub page_words : (file : List ℕ) (segments : List Segment) (index stored : Lis
 page_words file segments index stored page place n k is some size lt words =
     page_at index stored page place n k is some size lt ∙ words (1024 * page + k)
     ∙ ap (stored_word file segments) (let at : 4 * (1024 * page + k) ≡ 4096 * page + 4 * k = omega arith in at)
-
-pub is_stored : (n : ℕ) → (n ≡ 0 → ⊥) → not (n == 0) ≡ true
-is_stored n some = grind (arith, nat_tests)

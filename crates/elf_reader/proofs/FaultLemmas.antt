@@ -99,13 +99,6 @@ segments_sound len headers segments none is_live_ones =
     let P : List Segment → Type 0 = λ xs. All (IsSound len) xs in
     subst P (sym is_live_ones) (kept_map (IsSound len) (λ (h : ProgramHeader). h.segment) is_live headers (headers_sound len headers none))
 
--- what is needed of them for the code area
-pub segments_low : (len : ℕ) (segments : List Segment) → All (IsSound len) segments
-    → All (λ (s : Segment). (1 ≤ s.memsz) × (file_end s ≤ 0x7F00_0000)) segments
-segments_low len segments sound k d within =
-    let s = sound k d within in
-    (s.live, omega (arith, s.sizes, s.low))
-
 -- the ranges of code begin at words and end low
 abbrev pub IsPlaced : Range → Type 0
 IsPlaced r = (r.first % 4 ≡ 0) × (range_end r ≤ 0x7F00_0000)

@@ -19,7 +19,7 @@ use Rattle.elf_reader.specs.Area.{area, code_ranges, ranges_of, section_range, s
 use Rattle.elf_reader.specs.Fault.{IsSound, IsRunsOf}
 use Rattle.elf_reader.proofs.FaultLemmas.{first_none, fails_at_none, position_none_all, kept_map, segment_nones}
 
-or_parts : (a b : Option ElfFault) → option_or a b ≡ None → (a ≡ None) × (b ≡ None)
+pub or_parts : (a b : Option ElfFault) → option_or a b ≡ None → (a ≡ None) × (b ≡ None)
 or_parts None b none = (refl, none)
 or_parts (Some fault) b none = absurd (cc)
 
@@ -112,10 +112,10 @@ area_text file segments none is_live_ones at covered =
     ap (list_any (is_in_text at)) is_live_ones
     ∙ ranges_text at (has_sections (header_of file)) (section_headers file) (live file) none some.0 some.1 some.2 (subst P (sym some.3) some.4)
 
-last_address : (f w : ℕ) → 1 ≤ w → (nat_le f (f + 4 * w - 1) && nat_lt (f + 4 * w - 1) (f + 4 * w)) ≡ true
+pub last_address : (f w : ℕ) → 1 ≤ w → (nat_le f (f + 4 * w - 1) && nat_lt (f + 4 * w - 1) (f + 4 * w)) ≡ true
 last_address f w some = grind (arith, nat_tests)
 
-text_low : (x : Bool) (v fe at limit : ℕ) → (x && nat_le v at && nat_lt at fe) ≡ true → fe ≤ limit → at < limit
+pub text_low : (x : Bool) (v fe at limit : ℕ) → (x && nat_le v at && nat_lt at fe) ≡ true → fe ≤ limit → at < limit
 text_low x v fe at limit held low = grind (arith, nat_tests)
 
 -- so the runs end low

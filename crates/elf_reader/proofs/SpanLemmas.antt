@@ -176,16 +176,6 @@ filled_moved spans sorted given moved is_given filled =
     let P : List Span → Type 0 = λ xs. AreFilled xs in
     subst P (sym is_given) (All-permutation (λ (s : Span). s.first < s.end) spans sorted moved filled)
 
--- the number itself, where the last span that has begun holds it
-pub next_here : (ss : List Span) (k at : ℕ) (d : Span) → 0 < k → k ≤ length ss → at < (get_or ss (k - 1) d).end
-    → ((j : ℕ) (d : Span) → j < k → (get_or ss j d).first ≤ at)
-    → IsLeastFrom at (λ n. are_within n (n + 1) ss) (Some at)
-next_here ss k at d some le held begun = (
-  omega arith,
-  list_any_at _ ss (k - 1) d (omega arith) (and_from _ _ (le-leb _ _ (begun (k - 1) d (omega arith))) (le-leb _ _ (omega (arith, held)))),
-  λ m from lt. absurd (omega (arith, from, lt)),
-)
-
 -- nothing from the number on lies in a span that has begun, where the last of these is over
 passed : (ss : List Span) (k at n : ℕ) → AreRising ss → k ≤ length ss
     → ((d : Span) → 0 < k → (get_or ss (k - 1) d).end ≤ at) → at ≤ n

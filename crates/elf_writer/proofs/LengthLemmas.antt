@@ -1,5 +1,5 @@
 -- The length of a written file, and where each part's bytes stand in it.
-use Rattle.std.proofs.Common.{◌≡◌, ℕ, ◌+◌, ◌*◌, ◌++◌, List, [], ◌∷◌, length, arith, append_assoc, length-append, refl, ap, ◌∙◌}
+use Rattle.std.proofs.Common.{◌≡◌, ℕ, ◌+◌, ◌*◌, List, [], ◌∷◌, length, arith, length-append, refl}
 use Rattle.std.proofs.lemmas.List.{length-replicate}
 use Rattle.elf_writer.specs.declared.part.Part.{Part}
 use Rattle.elf_writer.specs.declared.parts.Parts.{Parts}
@@ -23,15 +23,6 @@ length-contents at [] = omega arith
 length-contents at (s ∷ segments) =
     rw (length-append, length-append)
     (omega (arith, length-padding at, length-contents (part_end at s) segments))
-
--- the bytes of a segment stand at the first multiple of 4 from the end of those before it on
-pub contents-split : (at : ℕ) (before after : List Part) (s : Part)
-    → contents at (before ++ s ∷ after)
-    ≡ contents at before
-    ++ (padding (contents_end at before) ++ s.bytes.items ++ contents (part_end (contents_end at before) s) after)
-contents-split at [] after s = refl
-contents-split at (b ∷ before) after s =
-    ap (λ xs. padding at ++ b.bytes.items ++ xs) (contents-split (part_end at b) before after s) ∙ simp append_assoc refl
 
 pub length-section_headers : (at : ℕ) (segments : List Part) (sections : List Sec)
     → length (section_headers at segments sections) ≡ 40 * length sections

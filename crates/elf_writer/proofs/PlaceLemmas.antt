@@ -1,11 +1,7 @@
 -- How the places of a file follow one another.
-use Rattle.std.proofs.Common.{ℕ, ◌+◌, ◌≤◌, List, [], ◌∷◌, length, arith}
+use Rattle.std.proofs.Common.{ℕ, ◌≤◌, List, [], ◌∷◌, arith}
 use Rattle.elf_writer.specs.declared.part.Part.{Part}
 use Rattle.elf_writer.specs.Places.{part_end, contents_end}
-
--- a segment's bytes end behind what is before them
-pub le_part_end : (at : ℕ) (s : Part) → at + length s.bytes.items ≤ part_end at s
-le_part_end at s = omega arith
 
 -- the last segment's bytes end behind what is before the first one's
 pub le_contents_end : (at : ℕ) (segments : List Part) → at ≤ contents_end at segments

@@ -1,13 +1,13 @@
 -- Bytes that are put through the writable pages.
-use Rattle.std.proofs.Common.{◌≡◌, ℕ, zero, suc, ◌+◌, ◌/◌, ◌%◌, ◌^◌, ◌==◌, ◌<◌, nat_lt, nat_le, ◌&&◌, Bool, true, false, if◌then◌else◌, ◌⊎◌, inl, inr, List, [], ◌∷◌, length, Option, Some, None, is_some, refl, ap, subst, sym, ◌∙◌, arith}
+use Rattle.std.proofs.Common.{◌≡◌, ℕ, zero, suc, ◌+◌, ◌/◌, ◌%◌, ◌^◌, ◌==◌, ◌<◌, nat_lt, ◌&&◌, Bool, true, false, if◌then◌else◌, ◌⊎◌, inl, inr, List, [], ◌∷◌, length, Option, Some, None, is_some, refl, ap, subst, sym, ◌∙◌, arith}
 use Rattle.std.specs.List.{list_all}
-use Rattle.std.proofs.lemmas.Bool.{lt-ltb, eq-eqb, ne_eqb, cases_eq, ltb-true, leb-true, and_parts}
+use Rattle.std.proofs.lemmas.Bool.{lt-ltb, eq-eqb, ne_eqb, cases_eq, ltb-true, and_parts}
 use Rattle.nv_words.specs.Words.{IsWord, lane_of_word, word_with_lane}
 use Rattle.nv_words.proofs.LaneLemmas.{lane_of_word-with_lane, IsWord-with_lane}
 use Rattle.nv_events.specs.Memory.{Memory, can_write, patched}
-use Rattle.nv_events.specs.Question.{room_at, missing, there}
+use Rattle.nv_events.specs.Question.{room_at, there}
 use Rattle.nv_events.specs.Answer.{fits_room, room_place}
-use Rattle.nv_events.proofs.Rooms.{can_write-front}
+use Rattle.nv_events.proofs.Rooms.{room_holds}
 use Rattle.jvm_program.specs.Values.{Heap, with_int}
 use Rattle.jvm_program.specs.HostMemory as host
 use Rattle.jvm_program.specs.HostMemory.{HostMemory, Cell, cell_of, page_in, byte_of, memory_of, with_cell}
@@ -118,16 +118,9 @@ HoldsMemory-patched (b ∷ bs) heap readable writable memory a h bytes may =
 
 -- ---- the patch of an answer that fits
 
-room-holds : (m : Memory) (b : ℕ) (bs : List ℕ) (place size : ℕ) (w : Bool) → can_write m place size ≡ w → fits_room (b ∷ bs) (if w then there place size else missing) ≡ true
-    → (can_write m (room_place (if w then there place size else missing)) (length (b ∷ bs)) ≡ true) × (list_all (λ x. nat_lt x 256) (b ∷ bs) ≡ true)
-room-holds m b bs place size true e h =
-    let parts = and_parts (nat_le (length (b ∷ bs)) size) (list_all (λ x. nat_lt x 256) (b ∷ bs)) h in
-    (can_write-front m place size (length (b ∷ bs)) e (leb-true (length (b ∷ bs)) size parts.0), parts.1)
-room-holds m b bs place size false e h = cc
-
 pub HoldsMemory-answered : (room : Option (ℕ × ℕ)) (patch : List ℕ) (heap : Heap) (readable writable : ℕ) (memory : Memory) → HoldsMemory heap readable writable memory → fits_room patch (room_at memory room) ≡ true → HoldsMemory (patched host.with_byte (host_memory heap readable writable) (room_place (room_at memory room)) patch).heap readable writable (patched with_byte memory (room_place (room_at memory room)) patch)
 HoldsMemory-answered room [] heap readable writable memory h fit = h
 HoldsMemory-answered None (b ∷ bs) heap readable writable memory h fit = cc
 HoldsMemory-answered (Some place) (b ∷ bs) heap readable writable memory h fit =
-    let holds = room-holds memory b bs place.0 place.1 (can_write memory place.0 place.1) refl fit in
+    let holds = room_holds memory b bs place.0 place.1 (can_write memory place.0 place.1) refl fit in
     HoldsMemory-patched (b ∷ bs) heap readable writable memory (room_place (room_at memory (Some place))) h holds.1 holds.0

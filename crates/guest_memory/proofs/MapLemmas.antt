@@ -11,9 +11,6 @@ use Rattle.guest_memory.specs.ViewLaws.{page_number}
 
 -- ---- a table of no pages
 
-pub IsEmptyTable : List Page → Type 0
-IsEmptyTable table = (i : ℕ) → slice_index_or table i Unmapped ≡ Unmapped
-
 entry_none : (t : Bool) (e : Page) → e ≡ Unmapped → (if t then e else Unmapped) ≡ Unmapped
 entry_none true e h = h
 entry_none false e h = refl
@@ -55,21 +52,6 @@ entry-added-by p page e ws s low n true t =
     ∙ get_or-set_same p.table n e Unmapped inside
 entry-added-by p page e ws s low n false t =
     ap (λ x. if nat_lt n 524288 then x else Unmapped) (get_or-set_other p.table page n e Unmapped (eqb-false n page t))
-
-entry-added : (p : Pages) (page : ℕ) (e : Page) (ws : List ℕ) → IsSound p → page < 524288 → (n : ℕ) → entry (added p page e ws) n ≡ (if n == page then e else entry p n)
-entry-added p page e ws s low n = entry-added-by p page e ws s low n (n == page) refl
-
--- the page was not there
-not_there : (o : Option ℕ) (f : ℕ → ℕ) (g h : ℕ → ℕ) → option_map f (option_map g (option_map h o)) ≡ None → o ≡ None
-not_there None f g h e = refl
-not_there (Some i) f g h e = cc
-
-pub fresh_page : (p : Pages) (page : ℕ) → (memory_of p).byte (page * 4096) ≡ None → place_of (entry p page) ≡ None
-unfolding memory_of cell
-fresh_page p page e =
-    let n : page * 4096 / 4 / 1024 ≡ page = omega arith in
-    ap (λ x. place_of (entry p x)) (sym n)
-    ∙ not_there (place_of (entry p (page * 4096 / 4 / 1024))) (λ w. lane_of_word w (page * 4096 % 4)) (slice_index p.words) (λ k. k * 1024 + page * 4096 / 4 % 1024) e
 
 module _ (p : Pages) (page k : ℕ) (e : Page) (ws : List ℕ) (s : IsSound p) (low : page < 524288) (size : length ws ≡ 1024) (there : place_of e ≡ Some k) (last : k ≡ length p.words / 1024) where
   place-added : (n : ℕ) (same : Bool) → (n == page) ≡ same → place_of (entry (added p page e ws) n) ≡ (if same then Some k else place_of (entry p n))

@@ -1,14 +1,14 @@
 -- Loads, stores and patches over pages.
-use Rattle.std.proofs.Common.{◌≡◌, ℕ, zero, suc, ◌&&◌, ◌+◌, ◌*◌, ◌/◌, ◌%◌, ◌<◌, ◌^◌, Bool, true, false, ◌==◌, nat_lt, nat_le, if◌then◌else◌, List, [], ◌∷◌, length, Option, Some, None, refl, ap, sym, ◌∙◌, subst, arith, option_map, is_none, IsTrue, Result, Ok, Err}
+use Rattle.std.proofs.Common.{◌≡◌, ℕ, zero, suc, ◌&&◌, ◌+◌, ◌*◌, ◌/◌, ◌%◌, ◌<◌, ◌^◌, true, ◌==◌, nat_lt, if◌then◌else◌, List, [], ◌∷◌, length, Option, Some, None, refl, ap, sym, ◌∙◌, subst, arith, option_map, is_none, IsTrue, Result, Ok, Err}
 use Rattle.std.specs.Prelude.{slice_index, slice_set, ℤ}
 use Rattle.std.specs.List.{list_all}
-use Rattle.std.proofs.lemmas.Bool.{and_parts, ltb-true, leb-true}
+use Rattle.std.proofs.lemmas.Bool.{and_parts, ltb-true}
 use Rattle.nv_events.specs.Memory.{Memory, can_write, patched}
-use Rattle.nv_events.specs.Question.{Question, asked, places_of, room_at, missing, there}
+use Rattle.nv_events.specs.Question.{Question, asked, places_of, room_at}
 use Rattle.nv_events.specs.Serving.{Serves}
 use Rattle.nv_events.specs.declared.call.Call.{Call}
 use Rattle.nv_events.specs.declared.io_fault.IoFault.{IoFault}
-use Rattle.nv_events.proofs.Rooms.{can_write-front}
+use Rattle.nv_events.proofs.Rooms.{room_holds}
 use Rattle.nv_events.specs.Answer.{Answer, fits_room, room_place}
 use Rattle.nv_words.specs.Words.{lane_of_word, word_with_lane}
 use Rattle.nv_words.specs.declared.order.Order.TheVariants.{Big}
@@ -122,14 +122,6 @@ memory_of-patched (b ∷ bs) p a sound bytes w =
     same_can_write m a b x (suc n) = ap (λ t. m.writable x && t) (same_can_write m a b (x + 1) n)
 
 -- ---- calls answered
-
--- a patch that fits the room of a call stands in memory that may be written
-room_holds : (m : Memory) (b : ℕ) (bs : List ℕ) (place size : ℕ) (w : Bool) → can_write m place size ≡ w → fits_room (b ∷ bs) (if w then there place size else missing) ≡ true
-    → (can_write m (room_place (if w then there place size else missing)) (length (b ∷ bs)) ≡ true) × (list_all (λ x. nat_lt x 256) (b ∷ bs) ≡ true)
-room_holds m b bs place size true e h =
-    let parts = and_parts (nat_le (length (b ∷ bs)) size) (list_all (λ x. nat_lt x 256) (b ∷ bs)) h in
-    (can_write-front m place size (length (b ∷ bs)) e (leb-true (length (b ∷ bs)) size parts.0), parts.1)
-room_holds m b bs place size false e h = cc
 
 answered-memory : (c : Pages) → IsSound c → (room : Option (ℕ × ℕ)) (patch : List ℕ) → fits_room patch (room_at (memory_of c) room) ≡ true
     → memory_of (patched put_byte_at c (room_place (room_at (memory_of c) room)) patch) ≡ patched with_byte (memory_of c) (room_place (room_at (memory_of c) room)) patch

@@ -259,9 +259,6 @@ live_position arrays p live =
     (length s.before, omega arith, ap used_by front ∙ omega (arith, s.place))
 
 -- a region stays sound
-pub IsSound-empty : (n : ℕ) → n ≤ 68288580 → IsSound (record { size = n; arrays = [] })
-IsSound-empty n few = record { within = omega arith; few = few; kinds = λ p. omega arith }
-
 pub IsSound-added : (n : ℕ) (arrays : List Block) (kind len : ℕ) → kind < 2 → used_by arrays + (len + 2) ≤ n → IsSound (record { size = n; arrays = arrays }) → IsSound (record { size = n; arrays = arrays ++ zeros kind len ∷ [] })
 IsSound-added n arrays kind len low room h = record {
   within = omega (arith, used_by-added arrays (zeros kind len), length-replicate {A = ℕ} len 0);

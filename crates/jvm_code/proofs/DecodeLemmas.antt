@@ -6,12 +6,9 @@ use Rattle.class_format.specs.declared.failure.Failure.TheVariants.{Missed, NoMe
 use Rattle.class_format.specs.Gives.{Fails}
 use Rattle.class_format.specs.Laws.{IsBytes}
 use Rattle.jvm_code.specs.declared.line.Line.{Line}
-use Rattle.jvm_code.specs.Code.{Lines, LinesFrom, lines_from, code_fault, is_bad_length, target_fault, IsAnswer, refusal_of}
+use Rattle.jvm_code.specs.Code.{Lines, LinesFrom, lines_from, code_fault, is_bad_length, IsAnswer, refusal_of}
 use Rattle.jvm_code.specs.Writing.{AreCode}
 use Rattle.jvm_code.proofs.LineLaws.{lines_are}
-
-pub fault_of_lines : (code : List ℕ) (lines : List Line) → is_bad_length (length code) ≡ false → lines_from (length code) (length code) code ≡ Ok lines → code_fault code ≡ target_fault lines lines
-fault_of_lines code lines good e = rw (good, e) refl
 
 pub failed : (code : List ℕ) (e : Failure) → is_bad_length (length code) ≡ false → Fails e (lines_from (length code) (length code) code) → IsAnswer (code_fault code) (refusal_of (length code) e)
 failed code NoMemory good is = tt

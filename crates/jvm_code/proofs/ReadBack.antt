@@ -146,11 +146,6 @@ one_more all code after rest others l first made was =
 abbrev pub LaidSomewhere : List Line → Type 0
 LaidSomewhere lines = (at : ℕ) × AreLaid at lines
 
-pub laid_rest : (rest others : List Line) (l : Line) → rest ≡ l ∷ others → LaidSomewhere rest → LaidSomewhere others
-laid_rest rest others l first laid =
-    let again : LaidSomewhere (l ∷ others) = subst LaidSomewhere first laid in
-    (again.0 + size_at again.0 l.op, again.1.2)
-
 pub laid_at : (rest others : List Line) (l : Line) → rest ≡ l ∷ others → LaidSomewhere rest → l.at ≤ 65535
 laid_at rest others l first laid =
     let again : LaidSomewhere (l ∷ others) = subst LaidSomewhere first laid in

@@ -15,6 +15,7 @@ use Rattle.jvm_code.specs.declared.lookup_switch.LookupSwitch.{LookupSwitch}
 use Rattle.jvm_code.specs.Targets.{cut, switch_keys, wide}
 use Rattle.jvm_code.specs.Switches.{pad_of, is_padding, keys_in, TableHead, table_count, table_head, last_key, table_switch, LookupHead, lookup_head, pair, rises, lookup_switch}
 use Rattle.jvm_code.proofs.TargetLaws.{wide_law}
+use Rattle.std.proofs.lemmas.Option.{same_Some}
 
 -- padding is zeros
 padding_is : (bytes : List ℕ) (n : ℕ) → is_padding bytes ≡ true → length bytes ≡ n → bytes ≡ replicate n 0
@@ -35,9 +36,6 @@ table_head_law at low =
 last_from : (d low high : ℤ) (n : ℕ) → high -ℤ low ≡ d → n ≡ keys_in d → 0 < n → (low +ℤ pos n) -ℤ pos 1 ≡ high
 last_from (pos m) low high n is count some = omega (arith, ints)
 last_from (negsuc m) low high n is count some = absurd (omega arith)
-
-some_same : {A : Type 0} (x y : A) → Some x ≡ Some y → x ≡ y
-some_same x y e = cc
 
 -- ---- tableswitch
 
@@ -73,7 +71,7 @@ table_law at low =
     (both_law (table_head at) (λ head. repeated (wide at) (table_count head)) (table_head_law at low) (λ head. repeated_law (wide at) (table_count head) (wide_law at low)))
     (record {
       back_of = λ b e. ap (λ (x : TableHead × List ℕ). Some x) (table_back at b e);
-      made_of = λ s b e. sym (ap table_made (some_same (table_value (replicate (pad_of at) 0) s.default s.low (last_key s) s.targets) b e));
+      made_of = λ s b e. sym (ap table_made (same_Some (table_value (replicate (pad_of at) 0) s.default s.low (last_key s) s.targets) b e));
     })
 
 -- ---- lookupswitch
@@ -91,7 +89,7 @@ pair_law : (at : ℕ) → at < 2 ^ 16 → IsFormat (pair at)
 pair_law at low =
     mapped_law (λ x. record { key = x.0; target = x.1 }) (λ p. Some (p.key, p.target)) (both (signed cut w32) (λ _. wide at))
     (both_law (signed cut w32) (λ _. wide at) (signed_law cut w32 wide32 signed32) (λ _. wide_law at low))
-    (record { back_of = λ b e. refl; made_of = λ p b e. sym (ap pair_made (some_same (p.key, p.target) b e)) })
+    (record { back_of = λ b e. refl; made_of = λ p b e. sym (ap pair_made (same_Some (p.key, p.target) b e)) })
 
 abbrev lookup_value : List ℕ → ℕ → ℕ → List Pair → LookupHead × List Pair
 lookup_value padding default count pairs = ((padding, (default, count)), pairs)
@@ -122,5 +120,5 @@ lookup_law at low =
     (λ head. tested_law switch_keys rises (repeated (pair at) head.1.1) (repeated_law (pair at) head.1.1 (pair_law at low))))
     (record {
       back_of = λ b e. ap (λ (x : LookupHead × List Pair). Some x) (lookup_back at b e);
-      made_of = λ s b e. sym (ap lookup_made (some_same (lookup_value (replicate (pad_of at) 0) s.default (length s.pairs) s.pairs) b e));
+      made_of = λ s b e. sym (ap lookup_made (same_Some (lookup_value (replicate (pad_of at) 0) s.default (length s.pairs) s.pairs) b e));
     })

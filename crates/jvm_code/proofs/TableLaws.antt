@@ -8,6 +8,7 @@ use Rattle.jvm_code.specs.declared.names.branch_name.BranchName.{BranchName}
 use Rattle.jvm_code.specs.declared.names.pool_name.PoolName.{PoolName}
 use Rattle.jvm_code.specs.Opcodes.{row_of, constants, short_locals, moves, arithmetic, others, plain_of, local_names, branch_names, pool_names, local_name_opcode, branch_name_opcode, pool_name_opcode}
 use Rattle.jvm_code.specs.Instructions.{opcode, operand_bytes, operands_fit}
+use Rattle.std.proofs.lemmas.Option.{same_Some}
 
 -- an instruction of an opcode, without operands
 abbrev pub IsPlain : ℕ → Op → Type 0
@@ -17,14 +18,11 @@ abbrev Rows : {A : Type 0} → (ℕ → A → Type 0) → List (ℕ × A) → Ty
 Rows P [] = Unit {0}
 Rows P (row ∷ rows) = P row.0 row.1 × Rows P rows
 
-some_same : {A : Type 0} (x y : A) → Some x ≡ Some y → x ≡ y
-some_same x y e = cc
-
 found_here : {A : Type 0} (P : ℕ → A → Type 0) (row : ℕ × A) (n : ℕ) (x : A) → P row.0 row.1 → row.0 ≡ n → Some row.1 ≡ Some x → P n x
 found_here {A} P row n x p e here =
     let Q : ℕ → Type 0 = λ m. P m x in
     let R : A → Type 0 = λ y. P row.0 y in
-    subst Q e (subst R (some_same row.1 x here) p)
+    subst Q e (subst R (same_Some row.1 x here) p)
 
 found_row : {A : Type 0} (P : ℕ → A → Type 0) (rows : List (ℕ × A)) → Rows P rows → (n : ℕ) (x : A) → row_of n rows ≡ Some x → P n x
 found_row P [] are n x e = absurd cc

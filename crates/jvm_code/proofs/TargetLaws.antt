@@ -8,14 +8,12 @@ use Rattle.class_format.specs.Laws.{IsFormat}
 use Rattle.class_format.proofs.FieldLaws.{wide16, wide32, number_law}
 use Rattle.class_format.proofs.Combined.{mapped_law}
 use Rattle.jvm_code.specs.Targets.{cut, extended, target_from, offset_to, near_bits, near, wide}
+use Rattle.std.proofs.lemmas.Option.{same_Some}
 
 -- a choice that gave something
 chosen : {A : Type 0} (b : Bool) (o : Option A) (y : A) → cond b o None ≡ Some y → (b ≡ true) × (o ≡ Some y)
 chosen true o y e = (refl, e)
 chosen false o y e = absurd cc
-
-some_is : (a b : ℕ) → Some a ≡ Some b → a ≡ b
-some_is a b e = cc
 
 target_below : (at offset : ℕ) → ltb (target_from at offset) (2 ^ 32) ≡ true
 target_below at offset = lt-ltb _ _ (omega arith)
@@ -29,7 +27,7 @@ target_back at target low below = omega arith
 wide_made : (at : ℕ) → at < 2 ^ 16 → (target bits : ℕ) → cond (ltb target (2 ^ 32)) (Some (offset_to at target)) None ≡ Some bits → target_from at bits ≡ target
 wide_made at low target bits e =
     let p = chosen (ltb target (2 ^ 32)) (Some (offset_to at target)) bits e in
-    let q = some_is _ _ p.1 in
+    let q = same_Some _ _ p.1 in
     rw (← q) (target_back at target low (ltb-true _ _ p.0))
 
 wide_back : (at : ℕ) → at < 2 ^ 16 → (bits : ℕ) → ltb bits (2 ^ 32) ≡ true → cond (ltb (target_from at bits) (2 ^ 32)) (Some (offset_to at (target_from at bits))) None ≡ Some bits
@@ -59,9 +57,9 @@ near_behind offset bits great below is =
 extended_of_near : (offset bits : ℕ) → near_bits offset ≡ Some bits → offset < 2 ^ 32 → extended bits ≡ offset
 extended_of_near offset bits e below =
     (elim (ltb offset (2 ^ 15)) as (λ b. ltb offset (2 ^ 15) ≡ b → cond b (Some offset) (cond (leb (2 ^ 32 - 2 ^ 15) offset) (Some (offset - (2 ^ 32 - 2 ^ 16))) None) ≡ Some bits → extended bits ≡ offset) [
-      | true ↦ λ small is. near_front offset bits (ltb-true _ _ small) (some_is _ _ is)
+      | true ↦ λ small is. near_front offset bits (ltb-true _ _ small) (same_Some _ _ is)
       | false ↦ λ great is. let p = chosen (leb (2 ^ 32 - 2 ^ 15) offset) (Some (offset - (2 ^ 32 - 2 ^ 16))) bits is in
-          near_behind offset bits (leb-true _ _ p.0) below (some_is _ _ p.1)
+          near_behind offset bits (leb-true _ _ p.0) below (same_Some _ _ p.1)
     ]) refl e
 
 near_back : (at : ℕ) → at < 2 ^ 16 → (bits : ℕ) → ltb bits (2 ^ 16) ≡ true

@@ -1,44 +1,20 @@
 -- What is written.
-use Rattle.std.proofs.Common.{◌≡◌, ℕ, ℤ, ◌%◌, ◌^◌, ◌<◌, ◌&&◌, Bool, true, false, cond, ltb, eqb, List, ◌++◌, length, replicate, Option, Some, None, refl, subst, arith, append_assoc}
-use Rattle.std.specs.Int.{Width, w16, w32, byte_len, to_be_bytes, cast_signed, cast_unsigned}
-use Rattle.std.proofs.lemmas.Bool.{and_parts, ltb-true, lt-ltb}
-use Rattle.std.proofs.lemmas.Bool.Decides.{nat_tests}
+use Rattle.std.proofs.Common.{◌≡◌, ℕ, ℤ, ◌^◌, ◌<◌, ◌&&◌, Bool, true, false, cond, ltb, eqb, List, ◌++◌, length, replicate, Option, Some, None, refl, append_assoc}
+use Rattle.std.specs.Int.{Width, w32, byte_len, to_be_bytes, cast_signed, cast_unsigned}
+use Rattle.std.proofs.lemmas.Bool.{and_parts, ltb-true}
 use Rattle.class_format.specs.Format.{number, repeated, tested, signed, spelled_by, fits_by, fits_signed, chain_spelling, unless, is_sound}
 use Rattle.class_format.proofs.FieldLaws.{IsWide}
 use Rattle.class_format.proofs.Signed.{signed32}
 use Rattle.jvm_code.specs.declared.pair.Pair.{Pair}
 use Rattle.jvm_code.specs.declared.table_switch.TableSwitch.{TableSwitch}
 use Rattle.jvm_code.specs.declared.lookup_switch.LookupSwitch.{LookupSwitch}
-use Rattle.jvm_code.specs.Targets.{cut, switch_keys, offset_to, near_bits, near, wide}
+use Rattle.jvm_code.specs.Targets.{cut, switch_keys, wide}
 use Rattle.jvm_code.specs.Switches.{pad_of, is_padding, last_key, TableHead, table_head, table_count, LookupHead, lookup_head, pair, rises, table_switch, lookup_switch}
 
 -- a number that was mapped has the bytes of its width
 pub mapped_length : (cut : ℕ) (w : Width) → IsWide w → (o : Option ℕ) → fits_by (number cut w) o ≡ true → length (spelled_by (number cut w) o) ≡ byte_len w
 mapped_length cut w wide None e = absurd cc
 mapped_length cut w wide (Some n) e = wide.len n
-
--- ---- two's complement numbers
-
-spelled_bits : (cut : ℕ) (w : Width) (b : Bool) (n : ℕ) → b ≡ true → spelled_by (number cut w) (cond b (Some n) None) ≡ to_be_bytes w n
-spelled_bits cut w b n e = rw e refl
-
-pub signed_spelling : (cut : ℕ) (w : Width) (z : ℤ) → fits_signed w z ≡ true → (signed cut w).spell z ≡ to_be_bytes w (cast_unsigned w z)
-signed_spelling cut w z e = spelled_bits cut w (fits_signed w z) (cast_unsigned w z) e
-
--- ---- targets
-
-pub wide_spelling : (at target : ℕ) → target < 2 ^ 32 → (wide at).spell target ≡ to_be_bytes w32 (offset_to at target)
-wide_spelling at target lt = spelled_bits cut w32 (ltb target (2 ^ 32)) (offset_to at target) (lt-ltb _ _ lt)
-
-near_bits_are : (offset : ℕ) → offset < 2 ^ 32 → fits_by (number cut w16) (near_bits offset) ≡ true → near_bits offset ≡ Some (offset % 2 ^ 16)
-near_bits_are offset lt e = grind (arith, nat_tests)
-
-pub near_spelling : (at target : ℕ) → at < 2 ^ 16 → target < 2 ^ 32 → (near at).fits target ≡ true → (near at).spell target ≡ to_be_bytes w16 (offset_to at target % 2 ^ 16)
-near_spelling at target low lt e =
-    let below : ltb target (2 ^ 32) ≡ true = lt-ltb _ _ lt in
-    let P : Bool → Type 0 = λ b. fits_by (number cut w16) (cond b (near_bits (offset_to at target)) None) ≡ true in
-    let bits : near_bits (offset_to at target) ≡ Some (offset_to at target % 2 ^ 16) = near_bits_are (offset_to at target) (omega arith) (subst P below e) in
-    rw (below, bits) refl
 
 -- ---- switches
 

@@ -1,15 +1,15 @@
 -- The effects of the instructions on arrays, over a region's arrays.
 use Rattle.std.proofs.Common.{◌≡◌, ◌≢◌, ℕ, ◌+◌, ◌<◌, ◌≤◌, ◌^◌, nat_lt, nat_le, ◌==◌, ◌&&◌, Bool, true, false, if◌then◌else◌, List, [], ◌∷◌, ◌++◌, length, slice_index, Option, Some, None, option_map, refl, ap, sym, ◌∙◌, arith}
 use Rattle.std.proofs.lemmas.Bool.{lt-ltb, le-ltb, le-leb, lt-leb, eqb-true, eqb-false}
-use Rattle.jvm_code.specs.declared.names.array_name.ArrayName.TheVariants.{Iaload, Aaload, Iastore, Aastore}
+use Rattle.jvm_code.specs.declared.names.array_name.ArrayName.TheVariants.{Iastore, Aastore}
 use Rattle.jvm_program.specs.declared.array_kind.ArrayKind.{ArrayKind}
 use Rattle.jvm_program.specs.declared.instruction.Instruction.{Instruction}
 use Rattle.jvm_program.specs.declared.instruction.Instruction.TheVariants as instructions
 use Rattle.jvm_program.specs.declared.value.Value.{Value}
 use Rattle.jvm_program.specs.declared.value.Value.TheVariants.{Int as int, Null as null, Array as array}
-use Rattle.jvm_program.specs.Values.{Array, ints, pages, Heap, reference, is_ints, is_ints_reference, is_pages, is_pages_reference, array_length, new_array, with_new, with_int, with_page}
+use Rattle.jvm_program.specs.Values.{Array, ints, pages, Heap, is_ints, is_ints_reference, is_pages, is_pages_reference, new_array, with_new, with_int, with_page}
 use Rattle.jvm_program.specs.Program.{Program}
-use Rattle.jvm_program.specs.Effect.{Workspace, Effect, goes_on, traps, wrong, index_trap, size_trap, room_trap, effect, with_heap, as_ints, as_pages, within, pushes, pushes_length}
+use Rattle.jvm_program.specs.Effect.{Workspace, Effect, goes_on, traps, wrong, index_trap, size_trap, room_trap, effect, with_heap, as_ints, as_pages, within}
 use Rattle.int_region.specs.Arrays.{Block, used_by, array_at, with_value, zeros, values_at, values_in, kind_at, kind_in}
 use Rattle.jvm_heap.specs.Regions.{place_of, value_of, kind_of, array_of, heap_of}
 use Rattle.jvm_heap.specs.HeapForms.{Does, Traps}
@@ -27,18 +27,6 @@ inside i size e h = ap (λ t. if t then e else traps index_trap) (lt-ltb i size 
 
 outside : (i size : ℕ) (e : Effect) → size ≤ i → within i size e ≡ traps index_trap
 outside i size e h = ap (λ t. if t then e else traps index_trap) (le-ltb i size h)
-
-pub int_loaded : (arrays : List Block) (words p i : ℕ) (rest : List Value) (b : Block) → array_at arrays p ≡ Some b → b.kind ≡ 0 → i < length b.values → Does words (instructions.Array Iaload) (int i ∷ array p ∷ rest) (heap_of arrays) (int (slice_index b.values i) ∷ rest) (heap_of arrays)
-int_loaded arrays words p i rest b is e h program w =
-    let on = with_heap w (int i ∷ array p ∷ rest) (heap_of arrays) in
-    ap (λ a. as_ints a (λ size f. within i size (pushes on (int (f i)) rest))) (found_ints arrays p b is e)
-    ∙ inside i (length b.values) (pushes on (int (slice_index b.values i)) rest) h
-
-pub page_loaded : (arrays : List Block) (words p i : ℕ) (rest : List Value) (b : Block) → array_at arrays p ≡ Some b → b.kind ≡ 1 → i < length b.values → Does words (instructions.Array Aaload) (int i ∷ array p ∷ rest) (heap_of arrays) (reference (place_of (slice_index b.values i)) ∷ rest) (heap_of arrays)
-page_loaded arrays words p i rest b is e h program w =
-    let on = with_heap w (int i ∷ array p ∷ rest) (heap_of arrays) in
-    ap (λ a. as_pages a (λ size f. within i size (pushes on (reference (f i)) rest))) (found_pages arrays p b is e)
-    ∙ inside i (length b.values) (pushes on (reference (place_of (slice_index b.values i))) rest) h
 
 pub int_stored : (arrays : List Block) (words p i n : ℕ) (rest : List Value) (b : Block) → array_at arrays p ≡ Some b → b.kind ≡ 0 → i < length b.values → Does words (instructions.Array Iastore) (int n ∷ int i ∷ array p ∷ rest) (heap_of arrays) rest (heap_of (with_value arrays p i n))
 int_stored arrays words p i n rest b is e h program w =
@@ -63,52 +51,7 @@ page_stored arrays words p i q rest b c is e h there kind program w =
     ap (λ o. if is_ints o then put (Some q) else wrong) (found_ints arrays q c there kind)
     ∙ page_put arrays words p i (Some q) rest b w is e h
 
--- ---- an index out of range
-
-pub int_load_outside : (arrays : List Block) (words p i : ℕ) (rest : List Value) (b : Block) → array_at arrays p ≡ Some b → b.kind ≡ 0 → length b.values ≤ i → Traps words (instructions.Array Iaload) (int i ∷ array p ∷ rest) (heap_of arrays) index_trap
-int_load_outside arrays words p i rest b is e h program w =
-    let on = with_heap w (int i ∷ array p ∷ rest) (heap_of arrays) in
-    ap (λ a. as_ints a (λ size f. within i size (pushes on (int (f i)) rest))) (found_ints arrays p b is e)
-    ∙ outside i (length b.values) (pushes on (int (slice_index b.values i)) rest) h
-
-pub page_load_outside : (arrays : List Block) (words p i : ℕ) (rest : List Value) (b : Block) → array_at arrays p ≡ Some b → b.kind ≡ 1 → length b.values ≤ i → Traps words (instructions.Array Aaload) (int i ∷ array p ∷ rest) (heap_of arrays) index_trap
-page_load_outside arrays words p i rest b is e h program w =
-    let on = with_heap w (int i ∷ array p ∷ rest) (heap_of arrays) in
-    ap (λ a. as_pages a (λ size f. within i size (pushes on (reference (f i)) rest))) (found_pages arrays p b is e)
-    ∙ outside i (length b.values) (pushes on (reference (place_of (slice_index b.values i))) rest) h
-
-pub int_store_outside : (arrays : List Block) (words p i n : ℕ) (rest : List Value) (b : Block) → array_at arrays p ≡ Some b → b.kind ≡ 0 → length b.values ≤ i → Traps words (instructions.Array Iastore) (int n ∷ int i ∷ array p ∷ rest) (heap_of arrays) index_trap
-int_store_outside arrays words p i n rest b is e h program w =
-    let done = goes_on (with_heap w rest (with_int (heap_of arrays) p i n)) in
-    ap (λ a. as_ints a (λ size f. within i size done)) (found_ints arrays p b is e)
-    ∙ outside i (length b.values) done h
-
-page_outside : (arrays : List Block) (p i : ℕ) (element : Option ℕ) (rest : List Value) (b : Block) (w : Workspace) → array_at arrays p ≡ Some b → b.kind ≡ 1 → length b.values ≤ i → as_pages (option_map array_of (array_at arrays p)) (λ size f. within i size (goes_on (with_heap w rest (with_page (heap_of arrays) p i element)))) ≡ traps index_trap
-page_outside arrays p i element rest b w is e h =
-    let done = goes_on (with_heap w rest (with_page (heap_of arrays) p i element)) in
-    ap (λ a. as_pages a (λ size f. within i size done)) (found_pages arrays p b is e)
-    ∙ outside i (length b.values) done h
-
-pub null_store_outside : (arrays : List Block) (words p i : ℕ) (rest : List Value) (b : Block) → array_at arrays p ≡ Some b → b.kind ≡ 1 → length b.values ≤ i → Traps words (instructions.Array Aastore) (null ∷ int i ∷ array p ∷ rest) (heap_of arrays) index_trap
-null_store_outside arrays words p i rest b is e h program w = page_outside arrays p i None rest b w is e h
-
-pub page_store_outside : (arrays : List Block) (words p i q : ℕ) (rest : List Value) (b c : Block) → array_at arrays p ≡ Some b → b.kind ≡ 1 → length b.values ≤ i → array_at arrays q ≡ Some c → c.kind ≡ 0 → Traps words (instructions.Array Aastore) (array q ∷ int i ∷ array p ∷ rest) (heap_of arrays) index_trap
-page_store_outside arrays words p i q rest b c is e h there kind program w =
-    let put = λ (element : Option ℕ). as_pages (option_map array_of (array_at arrays p)) (λ size f. within i size (goes_on (with_heap w rest (with_page (heap_of arrays) p i element)))) in
-    ap (λ o. if is_ints o then put (Some q) else wrong) (found_ints arrays q c there kind)
-    ∙ page_outside arrays p i (Some q) rest b w is e h
-
 -- ---- lengths and new arrays
-
-array_of_length : (b : Block) (t : Bool) → array_length (if t then ints (length b.values) (λ i. slice_index b.values i) else pages (length b.values) (λ i. place_of (slice_index b.values i))) ≡ length b.values
-array_of_length b true = refl
-array_of_length b false = refl
-
-pub measured : (arrays : List Block) (words p : ℕ) (rest : List Value) (b : Block) → array_at arrays p ≡ Some b → Does words instructions.ArrayLength (array p ∷ rest) (heap_of arrays) (int (length b.values) ∷ rest) (heap_of arrays)
-measured arrays words p rest b is program w =
-    let on = with_heap w (array p ∷ rest) (heap_of arrays) in
-    ap (λ o. pushes_length on rest (option_map array_of o)) is
-    ∙ ap (λ n. pushes on (int n) rest) (array_of_length b (b.kind == 0))
 
 allocation : (arrays : List Block) (kind : ArrayKind) (size : ℕ) (rest : List Value) (w : Workspace) → Bool → Bool → Effect
 allocation arrays kind size rest w too_large no_room =

@@ -12,9 +12,6 @@ use Rattle.jvm_link.specs.Meant.{IsMeant}
 few_fault : (cs : List Class) → length cs ≤ 1024 → link_fault cs ≡ option_or (twice_fault [] 0 cs) (option_or (references_fault cs 0 cs) (run_fault cs))
 few_fault cs few = ap (λ b. cond b (at_class too_many 1024) (option_or (twice_fault [] 0 cs) (option_or (references_fault cs 0 cs) (run_fault cs)))) (le-ltb 1024 (length cs) few)
 
-pub refused_once : (cs ds : List Class) (f : LinkFault) → length cs ≤ 1024 → ds ≡ cs → Some f ≡ twice_fault [] 0 ds → link_fault cs ≡ Some f
-refused_once cs ds f few same found = few_fault cs few ∙ ap (λ o. option_or o (option_or (references_fault cs 0 cs) (run_fault cs))) (ap (twice_fault [] 0) (sym same) ∙ sym found)
-
 pub refused_there : (cs ds : List Class) (f : LinkFault) → length cs ≤ 1024 → ds ≡ cs → twice_fault [] 0 ds ≡ None → Some f ≡ references_fault ds 0 ds → link_fault cs ≡ Some f
 refused_there cs ds f few same once found =
     few_fault cs few ∙ ap (λ o. option_or o (option_or (references_fault cs 0 cs) (run_fault cs))) (ap (twice_fault [] 0) (sym same) ∙ once)
@@ -25,10 +22,6 @@ meant cs ds same once there = record {
   once = ap (twice_fault [] 0) (sym same) ∙ once;
   there = ap (λ (xs : List Class). references_fault xs 0 xs) (sym same) ∙ there;
 }
-
-pub run_left : (cs : List Class) → length cs ≤ 1024 → IsMeant cs → link_fault cs ≡ cond (has_run cs) None (at_class no_run 0)
-run_left cs few is =
-    few_fault cs few ∙ ap (λ o. option_or o (option_or (references_fault cs 0 cs) (run_fault cs))) is.once ∙ ap (λ o. option_or o (run_fault cs)) is.there
 
 pub no_memory : (found : Option LinkFault) (e : LinkError) → e ≡ NoMemory → IsAnswer found e
 no_memory found e is = let P : LinkError → Type 0 = λ x. IsAnswer found x in subst P (sym is) tt

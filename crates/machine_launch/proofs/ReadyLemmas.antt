@@ -28,9 +28,7 @@ use Rattle.command_deeds.specs.Deeds.{Deed, stores, World, world, StopsStore, St
 use Rattle.machine_launch.specs.Runs.{NamedFile, arguments_of, too_long, files_for, keeps, kept}
 use Rattle.machine_launch.specs.Readying.{HasNoFiles, AddsArgs, AddsFiles, ArgsOr, FilesOr, FilledOr, IsReadied, IsReadiedBy, ReadsFewAhead, DoesOrStops, halt_of}
 use Rattle.command_deeds.proofs.DeedLemmas.{found_some, same_files, stays, stays_then_works}
-
-no_option : (n : ℕ) → None ≡ Some n → ⊥
-no_option n e = cc
+use Rattle.std.proofs.lemmas.Option.{none-some}
 
 err_ok : (d : Done) (found : List NamedFile) → Err d ≡ Ok found → ⊥
 err_ok d found e = cc
@@ -85,11 +83,11 @@ too_long_then before [] rest h = ap (λ b. too_long b rest) (sym (append-nil bef
 too_long_then before (t ∷ front) rest h = go (nat_lt 4096 (block_length (before ++ t ∷ []))) refl (λ q. too_long_then (before ++ t ∷ []) front rest q)
   where
     go : (b : Bool) → nat_lt 4096 (block_length (before ++ t ∷ [])) ≡ b → (too_long (before ++ t ∷ []) front ≡ None → too_long (before ++ t ∷ []) (front ++ rest) ≡ too_long ((before ++ t ∷ []) ++ front) rest) → too_long before (t ∷ (front ++ rest)) ≡ too_long (before ++ t ∷ front) rest
-    go true e more = absurd (no_option (block_length (before ++ t ∷ [])) (sym h ∙ too_long_here before t front e))
+    go true e more = absurd (none-some (block_length (before ++ t ∷ [])) (sym h ∙ too_long_here before t front e))
     go false e more = too_long_next before t (front ++ rest) e ∙ (more (sym (too_long_next before t front e) ∙ h) ∙ ap (λ a. too_long a rest) (append_assoc before (t ∷ []) front))
 
 too_long_known : (before front rest : List Text) (n : ℕ) → too_long before front ≡ Some n → too_long before (front ++ rest) ≡ Some n
-too_long_known before [] rest n h = absurd (no_option n h)
+too_long_known before [] rest n h = absurd (none-some n h)
 too_long_known before (t ∷ front) rest n h = go (nat_lt 4096 (block_length (before ++ t ∷ []))) refl (λ q. too_long_known (before ++ t ∷ []) front rest n q)
   where
     go : (b : Bool) → nat_lt 4096 (block_length (before ++ t ∷ [])) ≡ b → (too_long (before ++ t ∷ []) front ≡ Some n → too_long (before ++ t ∷ []) (front ++ rest) ≡ Some n) → too_long before (t ∷ (front ++ rest)) ≡ Some n

@@ -1,5 +1,5 @@
 -- Spans that are filled from the front are as few as there can be.
-use Rattle.std.proofs.Common.{◌≡◌, ℕ, zero, suc, ◌+◌, ◌-◌, ◌<◌, ◌≤◌, List, [], ◌∷◌, ◌++◌, length, take, drop, get_or, refl, sym, ap, ◌∙◌, append_assoc, append-nil, arith, inl, inr}
+use Rattle.std.proofs.Common.{◌≡◌, ℕ, zero, suc, ◌+◌, ◌-◌, ◌<◌, ◌≤◌, List, [], ◌∷◌, ◌++◌, length, take, drop, get_or, refl, sym, ap, ◌∙◌, append-nil, arith, inl, inr}
 use Rattle.std.proofs.lemmas.Bool.{cases_lt}
 use Rattle.std.proofs.Math.Seq.{take-add}
 use Rattle.std.proofs.Math.ListN.{drop_of_length-le}
@@ -65,18 +65,6 @@ pub record Comes (weights : List ℕ) (limit : ℕ) (spans : List Span) (first :
   pub within : first ≤ length weights
   pub cuts : (later : List Span) → Cuts first (drop first weights) limit later → Cuts 0 weights limit (spans ++ later)
   pub fills : (later : List Span) → Fills (drop first weights) limit later → Fills weights limit (spans ++ later)
-
-pub Comes-start : (weights : List ℕ) (limit : ℕ) → Comes weights limit [] 0
-Comes-start weights limit = record { within = omega arith; cuts = λ later c. c; fills = λ later f. f }
-
-pub Comes-more : (weights : List ℕ) (limit : ℕ) (spans : List Span) (first words : ℕ) → Comes weights limit spans first → 0 < words → words ≤ length (drop first weights) → span_weight (take words (drop first weights)) ≤ limit → (words < length (drop first weights) → limit < span_weight (take (words + 1) (drop first weights))) → Comes weights limit (spans ++ (record { first = first; words = words } ∷ [])) (first + words)
-Comes-more weights limit spans first words comes some most fits full =
-    let size = length-drop first weights in
-    record {
-      within = omega (comes.within, size, most, arith);
-      cuts = λ later c. rw (append_assoc spans _ later) (comes.cuts (record { first = first; words = words } ∷ later) (refl, some, most, fits, rw (drop-drop words first weights) c));
-      fills = λ later f. rw (append_assoc spans _ later) (comes.fills (record { first = first; words = words } ∷ later) (full, rw (drop-drop words first weights) f));
-    }
 
 pub Comes-end : (weights : List ℕ) (limit : ℕ) (spans : List Span) (first : ℕ) → Comes weights limit spans first → length weights ≤ first → Cuts 0 weights limit spans × Fills weights limit spans
 Comes-end weights limit spans first comes all =

@@ -1,9 +1,8 @@
 -- An image's memory, page by page, and its code, address by address.
-use Rattle.std.proofs.Common.{◌≡◌, ℕ, ◌+◌, ◌-◌, ◌*◌, ◌/◌, ◌%◌, ◌^◌, ◌<◌, ◌≤◌, Bool, true, false, ◌&&◌, ◌||◌, ◌⊎◌, ◌==◌, nat_lt, nat_le, if◌then◌else◌, List, [], ◌∷◌, length, get_or, Option, Some, None, refl, sym, ap, ◌∙◌, inl, inr, arith}
+use Rattle.std.proofs.Common.{◌≡◌, ℕ, ◌+◌, ◌-◌, ◌*◌, ◌/◌, ◌%◌, ◌^◌, ◌<◌, ◌≤◌, Bool, true, false, ◌&&◌, ◌||◌, ◌⊎◌, ◌==◌, if◌then◌else◌, List, [], ◌∷◌, length, get_or, Option, Some, None, refl, sym, ap, ◌∙◌, inl, inr, arith}
 use Rattle.std.specs.Prelude.{slice_index}
 use Rattle.std.specs.List.{list_any}
 use Rattle.std.proofs.lemmas.Bool.{eq-eqb}
-use Rattle.std.proofs.lemmas.Bool.Decides.{nat_tests}
 use Rattle.std.proofs.lemmas.List.Folds.{list_any_at}
 use Rattle.nv_words.specs.Words.{lane_of_word}
 use Rattle.nv_words.proofs.LaneLemmas.{below_four}
@@ -16,6 +15,7 @@ use Rattle.elf_image.specs.Pages.{is_on_page, is_segment_page, is_data_page, is_
 use Rattle.elf_image.specs.Content.{stored_byte, stored_word, is_filled_page}
 use Rattle.elf_image.specs.Start.{Source, image_of, byte_at, code_at, readable, writable}
 use Rattle.mips_machine.specs.Loading.{with_words, AreZeros, ArePageWords}
+use Rattle.elf_reader.proofs.PassedLemmas.{last_address}
 
 -- ---- what may be written can be read
 
@@ -115,9 +115,6 @@ module _ (v : Source) where
       by_tests true false true o e = absurd (cc)
       by_tests true false false o e = refl
       by_tests false l s o e = refl
-
-last_address : (f w : ℕ) → 1 ≤ w → (nat_le f (f + 4 * w - 1) && nat_lt (f + 4 * w - 1) (f + 4 * w)) ≡ true
-last_address f w some = grind (arith, nat_tests)
 
 module _ (test : ℕ → Bool) (ranges : List Range) (are : IsRunsOf test ranges) (k : ℕ) (d : Range) (within : k < length ranges) where
   -- a range's addresses are in the area

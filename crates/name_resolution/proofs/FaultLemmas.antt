@@ -18,7 +18,7 @@ use Rattle.name_resolution.specs.Names.{class_name_at, signature_at, own_name, S
 use Rattle.name_resolution.specs.Faults.{other_descriptors, no_field, no_method, twice, at_class, member_fault, has_equal, is_twice, twice_fault}
 use Rattle.name_resolution.specs.Numbers.{IsNumber, AreTexts}
 use Rattle.name_resolution.specs.Keys.{class_number_at, key_at, IsNumbered, classes_in, same_key, same_name, IsKey, own_number, field_keys, method_keys, is_twice_by, key_fault, Knows}
-use Rattle.name_resolution.proofs.NumberLemmas.{same_number, map-more}
+use Rattle.name_resolution.proofs.NumberLemmas.{same_number}
 use Rattle.name_resolution.proofs.PlaceLemmas.{any_alike, position_alike}
 use Rattle.name_resolution.proofs.KeyLemmas.{key_is, same_reference_by, same_name_by, class_is, fields_are, methods_are, equal_is, all_fields_are, all_methods_are, class_found}
 
@@ -188,24 +188,6 @@ pub stops : (before : List (List ℕ)) (n : ℕ) (xs : List NumberedClass) (i : 
 stops before n xs i x total h is same again =
     let here : twice_fault before n (x.class.now ∷ classes_in (drop (i + 1) xs)) ≡ total = ap (twice_fault before n) (sym (one_class xs i x h is)) ∙ same in
     sym (ap (λ b. cond b (at_class twice n) (twice_fault (own_name x.class.now ∷ before) (suc n) (classes_in (drop (i + 1) xs)))) again) ∙ here
-
--- ---- the names of all classes
-
-pub names_more : (names after : List ℕ) (xs : List NumberedClass) (i : ℕ) (x : NumberedClass) → i < length xs → x ≡ get_or xs i x
-    → ((n : ℕ) → list_any (nat_eq n) names ≡ list_any (nat_eq n) (map own_number (take i xs)))
-    → ((n : ℕ) → list_any (nat_eq n) after ≡ cond (nat_eq (own_number x) n) true (list_any (nat_eq n) names))
-    → (n : ℕ) → list_any (nat_eq n) after ≡ list_any (nat_eq n) (map own_number (take (i + 1) xs))
-names_more names after xs i x h is so_far made n =
-    let last : own_number x ≡ own_number (get_or xs i x) = ap own_number is in
-    let all : map own_number (take i xs) ++ own_number x ∷ [] ≡ map own_number (take (i + 1) xs) = ap (λ m. map own_number (take i xs) ++ m ∷ []) last ∙ sym (map-more own_number xs i x h) in
-    made n ∙ (λ j. cond (nat_eq_equiv.symm (own_number x) n j) true (so_far n j)) ∙ by (nat_eq n (own_number x)) (list_any (nat_eq n) (map own_number (take i xs)))
-    ∙ sym (list_any-append (nat_eq n) (map own_number (take i xs)) (own_number x ∷ [])) ∙ ap (list_any (nat_eq n)) all
-  where
-    by : (a b : Bool) → cond a true b ≡ (b || (a || false))
-    by true true = refl
-    by true false = refl
-    by false true = refl
-    by false false = refl
 
 -- ---- the keys of all classes
 

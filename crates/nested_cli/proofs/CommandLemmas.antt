@@ -1,20 +1,16 @@
 -- What is due by the words.
-use Rattle.std.proofs.Common.{◌≡◌, ℕ, false, List, [], Option, Some, None, IsSome, Result, Ok, Err, unwrap_or, refl, sym, ap, subst, inl, inr}
+use Rattle.std.proofs.Common.{◌≡◌, ℕ, List, [], Option, Some, None, IsSome, Result, Ok, Err, unwrap_or, refl, sym, subst, inr}
 use Rattle.std.specs.Prelude.{IfSome}
 use Rattle.command_words.specs.Meaning.{command_of}
 use Rattle.command_words.specs.declared.command.Command.{Command}
 use Rattle.command_words.specs.declared.usage.Usage.{Usage}
 use Rattle.command_words.specs.declared.words_error.WordsError.{WordsError}
 use Rattle.command_words.specs.declared.words_error.WordsError.TheVariants as words_error
-use Rattle.nv_events.specs.Serving.{Counts}
-use Rattle.nv_outside.specs.Faults.{CountsFailure}
 use Rattle.nv_outside.specs.Files.{Files}
-use Rattle.unix_calls.specs.Serving.{counted}
 use Rattle.command_deeds.specs.declared.done.Done.{Done}
 use Rattle.command_deeds.specs.declared.stop.Stop.{Stop}
 use Rattle.command_deeds.specs.declared.stop.Stop.TheVariants as stop
 use Rattle.nested_cli.specs.Commands.{IsDue, IsDueBy, IsDueOf, Known}
-use Rattle.command_deeds.specs.Counts.{StreamCauses, read_stopped, write_stopped}
 use Rattle.command_deeds.specs.Deeds.{World, Comes, answers}
 use Rattle.nested_cli.specs.Usage.{EndsWords, usage_number}
 use Rattle.command_deeds.proofs.DeedLemmas.{answers_due, stops_early}
@@ -40,18 +36,3 @@ unbuilt (Some files) w = answers_due (λ due. due ≡ answers Done.NotBuilt) Don
 pub told_input : (told : Option (List ℕ)) (P : List ℕ → Type 0) → ((rest : List ℕ) → told ≡ Some rest → P rest) → IsSome told → P (unwrap_or told [])
 told_input None P h some = absurd (cc)
 told_input (Some rest) P h some = h rest refl
-
--- commands that read no input and write to output alone, or to nothing
-pub output_alone : (s o o' e : ℕ) (ended : Result Done Stop) → CountsFailure (write_stopped ended) o o' → read_stopped ended ≡ false → StreamCauses (counted s o e) (counted s o' e) ended
-output_alone s o o' e (Ok d) c n = ap (λ x. counted s x e) (c.stays refl)
-output_alone s o o' e (Err stop.ReadFault) c n = absurd (cc)
-output_alone s o o' e (Err stop.WriteFault) c n = inl (c.rises refl)
-output_alone s o o' e (Err stop.ShelfFault) c n = ap (λ x. counted s x e) (c.stays refl)
-output_alone s o o' e (Err stop.NoMemory) c n = ap (λ x. counted s x e) (c.stays refl)
-
-pub no_streams : (counts : Counts) (ended : Result Done Stop) → write_stopped ended ≡ false → read_stopped ended ≡ false → StreamCauses counts counts ended
-no_streams counts (Ok d) a b = refl
-no_streams counts (Err stop.ReadFault) a b = absurd (cc)
-no_streams counts (Err stop.WriteFault) a b = absurd (cc)
-no_streams counts (Err stop.ShelfFault) a b = refl
-no_streams counts (Err stop.NoMemory) a b = refl

@@ -103,7 +103,7 @@ progress_on {S} {V} goes held fell turn (asks q go) n old now next v w u e h p =
 
 -- how the loop ends
 
-end_not_waiting : (e : End) → outcome_of e ≡ Waiting → ⊥
+pub end_not_waiting : (e : End) → outcome_of e ≡ Waiting → ⊥
 end_not_waiting (exit status) h = cc
 end_not_waiting («fault» f) h = cc
 end_not_waiting (trap k) h = cc

@@ -1,5 +1,5 @@
 -- Ranges of addresses that may be written, and patches.
-use Rattle.std.proofs.Common.{◌≡◌, ℕ, zero, suc, ◌+◌, ◌-◌, ◌<◌, ◌≤◌, Bool, true, false, ◌&&◌, List, [], ◌∷◌, length, Some, None, is_some, refl, ap, sym, ◌∙◌, get_or, if◌then◌else◌, inl, inr, arith, nat_lt, ◌^◌}
+use Rattle.std.proofs.Common.{◌≡◌, ℕ, zero, suc, ◌+◌, ◌-◌, ◌<◌, ◌≤◌, Bool, true, false, ◌&&◌, List, [], ◌∷◌, length, Some, None, is_some, refl, ap, sym, ◌∙◌, get_or, nat_le, if◌then◌else◌, inl, inr, arith, nat_lt, ◌^◌}
 use Rattle.std.specs.List.{list_all}
 use Rattle.std.proofs.lemmas.Bool.{and_parts, and_from, cases_Bool, cases_lt, both_ways, lt-ltb, le-leb, leb-true}
 use Rattle.nv_events.specs.Memory.{Memory, can_write, patched}
@@ -52,7 +52,15 @@ module _ (m : Memory) (readable : (x : ℕ) → m.writable x ≡ true → is_som
     | inr h ↦ absurd (both_ways _ (not_writable_past x h) w)
   ]
 
-bytes_fit : (bs : List ℕ) → ((i : ℕ) → get_or bs i 0 < 256) → list_all (λ x. nat_lt x 256) bs ≡ true
+-- a patch that fits the room of a call stands in memory that may be written
+pub room_holds : (m : Memory) (b : ℕ) (bs : List ℕ) (place size : ℕ) (w : Bool) → can_write m place size ≡ w → fits_room (b ∷ bs) (if w then there place size else missing) ≡ true
+    → (can_write m (room_place (if w then there place size else missing)) (length (b ∷ bs)) ≡ true) × (list_all (λ x. nat_lt x 256) (b ∷ bs) ≡ true)
+room_holds m b bs place size true e h =
+    let parts = and_parts (nat_le (length (b ∷ bs)) size) (list_all (λ x. nat_lt x 256) (b ∷ bs)) h in
+    (can_write-front m place size (length (b ∷ bs)) e (leb-true (length (b ∷ bs)) size parts.0), parts.1)
+room_holds m b bs place size false e h = cc
+
+pub bytes_fit : (bs : List ℕ) → ((i : ℕ) → get_or bs i 0 < 256) → list_all (λ x. nat_lt x 256) bs ≡ true
 bytes_fit [] below = refl
 bytes_fit (b ∷ bs) below =
     and_from _ _ (lt-ltb b 256 (below 0)) (bytes_fit bs (λ i. below (suc i)))

@@ -38,9 +38,6 @@ run_of-suc {S} {K} turn reply n s k = elim (turn s) as (λ x. elim x [
   ] ≡ given y q next s k (run_of turn reply n)) [ None ↦ refl | Some got ↦ refl ]
 ]
 
-pub after_nothing : {S K : Type 0} (r : Run S K) → after [] r ≡ r
-after_nothing r = refl
-
 pub after_after : {S K : Type 0} (qs rs : List Question) (r : Run S K) → after qs (after rs r) ≡ after (qs ++ rs) r
 after_after qs rs r =
     ap (λ all. record { questions = all; outcome = r.outcome; last = r.last; system = r.system }) (sym (append_assoc qs rs r.questions))

@@ -1,5 +1,5 @@
 -- The four lanes of a word, for the crates above.
-use Rattle.std.proofs.Common.{◌≡◌, ℕ, zero, suc, ◌-◌, ◌*◌, ◌%◌, ◌^◌, ◌<◌, ◌≤◌, ◌==◌, if◌then◌else◌, arith, lit<}
+use Rattle.std.proofs.Common.{◌≡◌, ℕ, zero, suc, ◌-◌, ◌*◌, ◌%◌, ◌^◌, ◌<◌, ◌==◌, if◌then◌else◌, arith, lit<}
 use Rattle.std.proofs.lemmas.Grind.{common_steps}
 use Rattle.nv_words.specs.Words.{IsWord, lane_of_word, word_with_lane, word_of_bytes, signed_of, unsigned_of}
 
@@ -19,10 +19,6 @@ lane_of_word-lt w i = omega arith
 pub word_of_lanes : (w : ℕ) → IsWord w
     → word_of_bytes (lane_of_word w 0) (lane_of_word w 1) (lane_of_word w 2) (lane_of_word w 3) ≡ w
 word_of_lanes w h = omega arith
-
--- a lane, in its place, is at most the word
-pub lane_of_word-le : (w i : ℕ) → i < 4 → lane_of_word w i * 2 ^ (24 - 8 * i) ≤ w
-lane_of_word-le w i h = below_four (λ i. lane_of_word w i * 2 ^ (24 - 8 * i) ≤ w) (omega arith) (omega arith) (omega arith) (omega arith) i h
 
 -- with one lane replaced by a byte it is a word again
 pub IsWord-with_lane : (w i b : ℕ) → IsWord w → i < 4 → b < 2 ^ 8 → IsWord (word_with_lane w i b)

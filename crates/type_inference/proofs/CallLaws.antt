@@ -38,7 +38,3 @@ length-slots (k ∷ ks) = omega (arith, length-slots ks, slots-some k)
 pub some-there : {A : Type 0} (o : Option A) → is_some o ≡ true → (x : A) × (o ≡ Some x)
 some-there None e = absurd (false≢true e)
 some-there (Some x) e = (x, refl)
-
-pub none-there : {A : Type 0} (o : Option A) → is_some o ≡ false → o ≡ None
-none-there None e = refl
-none-there (Some x) e = cc

@@ -4,7 +4,7 @@ use Rattle.std.specs.Prelude.{option_map, if◌then◌else◌, nat_lt, nat_eq, A
 use Rattle.std.proofs.lemmas.Bool.{or_parts, or_cases, true≢false, cases_eq, eqb-true, eq-eqb, ltb-true, lt-ltb}
 use Rattle.std.proofs.lemmas.List.{get_or-set_same, get_or-set_other, length-set, length-append}
 use Rattle.std.proofs.lemmas.List.Elements.{All-more}
-use Rattle.std.proofs.lemmas.Option.{same_Some, none-some}
+use Rattle.std.proofs.lemmas.Option.{same_Some}
 use Rattle.jvm_program.specs.declared.linked_line.LinkedLine.{LinkedLine}
 use Rattle.jvm_program.specs.declared.linked_method.LinkedMethod.{LinkedMethod}
 use Rattle.jvm_program.specs.Program.{line_in}
@@ -205,14 +205,6 @@ refused-below method frames after f to refuse = record {
   each = λ others typed under r. absurd (refuse r.1 (above-both method frames f to others r.1 typed under r.3 r.4));
 }
 
-pub no-line-below : (method : LinkedMethod) (frames after : Slots) (f : TypeFrame) (to : ℕ) → line_in method.lines to ≡ None → StaysBelow method f to frames false after
-no-line-below method frames after f to missing = record {
-  each = λ others typed under r. absurd (none-some r.0 (sym missing ∙ r.2));
-}
-
-pub still-below : (method : LinkedMethod) (frames : Slots) (f : TypeFrame) (to : ℕ) → StaysBelow method f to frames true frames
-still-below method frames f to = record { each = λ others typed under r. (refl, under) }
-
 pub still-flows : (method : LinkedMethod) (limit : ℕ) (frames : Slots) (work : List ℕ) (f : Frame) (to : ℕ) (line : LinkedLine) → line_in method.lines to ≡ Some line → IsStill (get_or frames to None) f → Flows method limit (type_frame f) to frames work frames work
 still-flows method limit frames work f to line is still = record {
   moves = Moves-refl method.locals method.stack limit frames work;
@@ -255,9 +247,6 @@ more-below method f targets i to frames then' after good inside is all one = rec
 
 pub still-from : (method : LinkedMethod) (f : TypeFrame) (targets : List ℕ) (frames after : Slots) (good : Bool) → AllStayBelow method f targets frames good after → StillBelow method f targets frames after
 still-from method f targets frames after good all = record { each = λ others typed under r. (all.each others typed under r).1 }
-
-pub all-from : (method : LinkedMethod) (f : TypeFrame) (targets : List ℕ) (frames after : Slots) → StillBelow method f targets frames after → AllStayBelow method f targets frames true after
-all-from method f targets frames after all = record { each = λ others typed under r. (refl, all.each others typed under r) }
 
 pub still-nothing : (method : LinkedMethod) (f : TypeFrame) (targets : List ℕ) (frames : Slots) → StillBelow method f targets frames frames
 still-nothing method f targets frames = record { each = λ others typed under r. under }

@@ -2,7 +2,7 @@
 use Rattle.std.proofs.Common.{◌≡◌, ℕ, suc, ◌<◌, ◌≤◌, Bool, true, false, ◌||◌, List, [], ◌∷◌, ◌++◌, length, get_or, set, replicate, refl, sym, ap, subst, ◌∙◌, Option, Some, None, arith, ⊎_elim}
 use Rattle.std.specs.Prelude.{option_map, option_and_then, slice_get, All, nat_eq}
 use Rattle.std.proofs.lemmas.Bool.{false≢true, true≢false, cases_eq, cases_lt, eq-eqb, ne_eqb, eqb-true}
-use Rattle.std.proofs.lemmas.List.{get_or-set_same, get_or-set_other, get_or_past, length-append, length-replicate}
+use Rattle.std.proofs.lemmas.List.{get_or-set_same, get_or-set_other, get_or_past, length-replicate}
 use Rattle.std.proofs.lemmas.Option.{same_Some, none-some}
 use Rattle.jvm_program.specs.declared.linked_line.LinkedLine.{LinkedLine}
 use Rattle.jvm_program.specs.declared.linked_method.LinkedMethod.{LinkedMethod}
@@ -39,9 +39,6 @@ no-line program method frames at none line f l e = absurd (none-some line (sym n
 
 pub no-frame : (program : Program) (method : LinkedMethod) (frames : Slots) (at : ℕ) → get_or frames at None ≡ None → RuleHolds program method frames frames at
 no-frame program method frames at none line f l e = absurd (none-some f (sym (ap (option_map type_frame) none) ∙ e))
-
-pub kept-nothing : (program : Program) (method : LinkedMethod) (limit : ℕ) (frames : Slots) → KeepsBelow program method limit frames true frames
-kept-nothing program method limit frames = record { each = λ others last admitted typing under. (refl, under) }
 
 operands-of : (program : Program) (method : LinkedMethod) (others : Frames) (last : ℕ) → IsTypingTo program method others last → HaveOperands others
 operands-of program method others last typing = record { each = λ at f e. typing.operands at f e }
@@ -139,9 +136,6 @@ settled-below program method limit first frames work s = record { each = λ othe
 -- frames before which others stood
 pub refused-settling : (program : Program) (method : LinkedMethod) (limit : ℕ) (first frames : Slots) (work : List ℕ) (good : Bool) (after : Slots) → IsSettling program method limit first frames work → KeepsBelow program method limit frames good after → KeepsBelow program method limit first good after
 refused-settling program method limit first frames work good after s k = record { each = λ others last to typing under. k.each others last to typing (s.below others last to typing under) }
-
-pub energy-falls : (l s : ℕ) (frames : Slots) (work before : List ℕ) (at : ℕ) (after : Slots) (later : List ℕ) → before ≡ work ++ at ∷ [] → energy l s after later ≤ energy l s frames work → energy l s after later < energy l s frames before
-energy-falls l s frames work before at after later e h = omega (arith, ap length e, length-append work (at ∷ []), h)
 
 -- ---- the next instruction is admitted
 
@@ -256,18 +250,4 @@ first-rests program method line size frames line-is fits inside e = record {
       let r = typing.entry in
       let same : entry_frame method ≡ f = ap type_frame only.1 ∙ o.2 in
       (r.1, ap others only.0 ∙ r.3, subst (λ x. Below x r.1) same r.4);
-}
-
--- ---- a start that no frames keep
-
-pub too-many-parameters : (program : Program) (method : LinkedMethod) → method.locals < length method.parameters → FailsAt program method 0
-too-many-parameters program method more = record {
-  fails = λ frames typing. let fits = typing.parameters in omega (arith, fits, more);
-  before = λ earlier less. absurd (omega arith);
-}
-
-pub no-first-line : (program : Program) (method : LinkedMethod) → line_in method.lines 0 ≡ None → FailsAt program method 0
-no-first-line program method none = record {
-  fails = λ frames typing. none-some typing.entry.0 (sym none ∙ typing.entry.2);
-  before = λ earlier less. absurd (omega arith);
 }

@@ -45,10 +45,6 @@ pub data Fits : List Kind → List Kind → Type 0 where
   none : Fits [] []
   one : {k o : Kind} {ks os : List Kind} → below k o ≡ true → is_long_kind k ≡ is_long_kind o → Fits ks os → Fits (k ∷ ks) (o ∷ os)
 
-pub Fits-refl : (ks : List Kind) → Fits ks ks
-Fits-refl [] = none
-Fits-refl (k ∷ ks) = one (below-refl k) refl (Fits-refl ks)
-
 pub Fits-from : (ks os : List Kind) → stack_below ks os ≡ true → no_top os ≡ true → Fits ks os
 Fits-from [] [] h n = none
 Fits-from [] (o ∷ os) h n = absurd (false≢true h)

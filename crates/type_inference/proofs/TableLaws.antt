@@ -2,7 +2,7 @@
 use Rattle.std.proofs.Common.{◌≡◌, ℕ, zero, suc, ◌<◌, ◌≤◌, Bool, true, false, List, [], ◌∷◌, ◌++◌, length, get_or, set, replicate, refl, sym, ap, subst, ◌∙◌, Option, Some, None, arith, ⊎_elim, ◌⊎◌, append_assoc}
 use Rattle.std.specs.Prelude.{slice_get, option_and_then, if◌then◌else◌, nat_eq}
 use Rattle.std.proofs.lemmas.Bool.{cases_eq, cases_lt, cond-true, cond-false, eq-eqb, ne_eqb}
-use Rattle.std.proofs.lemmas.List.{append-nil, get_or-set_same, get_or-set_other, length-set}
+use Rattle.std.proofs.lemmas.List.{get_or-set_same, get_or-set_other, length-set}
 use Rattle.std.proofs.lemmas.Option.{none-some}
 use Rattle.jvm_program.specs.declared.linked_line.LinkedLine.{LinkedLine}
 use Rattle.jvm_program.specs.Program.{line_in}
@@ -19,14 +19,6 @@ pub none-of : {X : Type 0} (n at : ℕ) (d : X) → get_or (replicate n d) at d 
 none-of zero at d = refl
 none-of (suc n) zero d = refl
 none-of (suc n) (suc at) d = none-of n at d
-
-pub first-table : (lines : List LinkedLine) (n : ℕ) (starts : List (Option ℕ)) → starts ≡ replicate n None → IsTableFrom lines lines starts (length starts)
-first-table lines n starts e = record {
-  behind = [];
-  whole = sym (append-nil lines);
-  finds = λ at. ap (option_and_then (slice_get lines)) (ap (λ x. get_or x at None) e ∙ none-of n at None);
-  size_is = refl;
-}
 
 found-step : (b : Bool) (x : LinkedLine) (o : Option LinkedLine) → (o ≡ None → ⊥) → (if b then Some x else o) ≡ None → ⊥
 found-step true x o next e = none-some x (sym e)
@@ -79,8 +71,3 @@ next-table lines rest others l starts size t e inside = record {
         ap (option_and_then (slice_get lines)) (get_or-set_other starts l.at at (Some (length others)) None is)
         ∙ (t.finds at
         ∙ sym (cond-false (nat_eq l.at at) (Some l) (line_in t.behind at) (ne_eqb l.at at (λ q. is (sym q)))))
-
-pub whole-table : (lines rest : List LinkedLine) (starts : List (Option ℕ)) (size : ℕ) → IsTableFrom lines rest starts size → rest ≡ [] → IsTable lines starts
-whole-table lines rest starts size t e = record {
-  finds = λ at. t.finds at ∙ ap (λ x. line_in x at) (sym (t.whole ∙ ap (λ x. x ++ t.behind) e));
-}

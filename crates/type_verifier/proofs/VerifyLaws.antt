@@ -115,9 +115,6 @@ next-look classes rest others c number method e more l = record {
   within = omega (arith, l.within, ap methods_count e, more);
 }
 
-pub no-look : (classes rest : List Class) (number method : ℕ) → rest ≡ [] → IsLooking classes rest number method → ⊥
-no-look classes rest number method e l = omega (arith, l.within, ap methods_count e)
-
 pub place-from : (classes rest others : List Class) (c : Class) (number method at : ℕ) (r : VerifyError) → rest ≡ c ∷ others → method < length c.methods → IsLooking classes rest number method → IsFault (length classes - length rest) method at r → IsPlace classes number at r
 place-from classes rest others c number method at NoMemory e less l f = tt
 place-from classes rest others c number method at (Refused fault) e less l f =

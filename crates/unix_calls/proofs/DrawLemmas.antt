@@ -1,6 +1,6 @@
 -- Bytes drawn one after the other.
 use Rattle.std.proofs.Common.{◌≡◌, ℕ, ◌+◌, ◌<◌, ◌≤◌, ◌==◌, false, nat_lt, List, [], ◌∷◌, ◌++◌, length, take, Option, Some, None, refl, ap, sym, ◌∙◌, subst, arith, append_assoc, append-nil, length-append, if◌then◌else◌}
-use Rattle.std.specs.Io.KnownBytes.{Consumes, Keeps, IsAtEnd}
+use Rattle.std.specs.Io.KnownBytes.{Consumes, IsAtEnd}
 use Rattle.std.proofs.lemmas.Bool.{and_from, lt-ltb}
 use Rattle.std.proofs.lemmas.List.{take_all}
 use Rattle.std.proofs.Math.Seq.{take-append_seam}
@@ -13,11 +13,6 @@ use Rattle.unix_calls.specs.Drawing.{Draws, IsPlain, Copies, ReadsLine, ReadsSom
 pub consumes-nothing : (rest : Option (List ℕ)) → Consumes rest rest []
 consumes-nothing None = tt
 consumes-nothing (Some xs) = refl
-
-pub consumes-kept : (rest left : Option (List ℕ)) → Keeps rest left → Consumes rest left []
-consumes-kept None left k = tt
-consumes-kept (Some xs) None k = absurd k
-consumes-kept (Some xs) (Some ys) k = sym k
 
 pub consumes-both : (rest mid left : Option (List ℕ)) (xs ys : List ℕ) → Consumes rest mid xs → Consumes mid left ys → Consumes rest left (xs ++ ys)
 consumes-both None mid left xs ys p q = tt

@@ -5,7 +5,7 @@ use Rattle.std.specs.Io.KnownBytes.{Consumes, Appends}
 use Rattle.nv_outside.specs.Gains.{AppendsPart}
 use Rattle.nv_events.specs.Question.{Question}
 use Rattle.nv_events.specs.Answer.{Answer, fits, next_answer}
-use Rattle.nv_events.specs.Turn.{Turn, moves, ends, leaves, asks, End, exit, «fault», trap, outcome_of}
+use Rattle.nv_events.specs.Turn.{Turn, moves, ends, leaves, asks}
 use Rattle.nv_events.specs.Run.{Run, asking, run_of}
 use Rattle.nv_events.specs.Serving.{StopsAt, RunsBy}
 use Rattle.nv_events.specs.declared.io_fault.IoFault.{IoFault}
@@ -103,7 +103,7 @@ part-after old mid new xs ys g p = record {
   front = xs ++ p.front;
   rest = p.rest;
   splits = ap (λ z. xs ++ z) p.splits ∙ sym (append_assoc xs p.front p.rest);
-  gained = gains-both old mid new xs p.front g p.gained;
+  gained = Appends-both old mid new xs p.front g p.gained;
 }
 
 breaks-on : {S : Type 0} (q : Question) (a : Answer) (x : Run S System) (p m r : Parts) (b e : List ℕ) (g : Answers p q a m) → Breaks x m r (b ++ g.output) (e ++ g.error_output) → Breaks (asking q x) p r b e
@@ -164,11 +164,6 @@ breaks-here {S} go grows q next s p r rest b e told fell =
 
 next-get : (q : Question) (qs : List Question) (m n : ℕ) → m ≡ suc n → slice_get (q ∷ qs) m ≡ slice_get qs n
 next-get q qs m n h = ap (slice_get (q ∷ qs)) h
-
-end_not_waiting : (e : End) → outcome_of e ≡ Waiting → ⊥
-end_not_waiting (exit status) h = cc
-end_not_waiting («fault» f) h = cc
-end_not_waiting (trap k) h = cc
 
 module _ {S : Type 0} (r : Parts) (go : S → System → Run S System) (grows : (t : S) (l : System) → Grew l (go t l).system) (over : S → List Answer → Run S (List Answer)) where
   abbrev Left : Type 0

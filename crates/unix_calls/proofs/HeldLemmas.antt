@@ -26,9 +26,9 @@ use Rattle.unix_calls.specs.Drawing.{known}
 use Rattle.unix_calls.specs.Serving.{parts, Serves, counted, AsFault}
 use Rattle.unix_calls.specs.Reading.{Inputs, inputs, Reads, ReadsPart, ReadGives, Outputs, outputs, Writes, WritesPart, WriteGives, WriteCauses}
 use Rattle.unix_calls.proofs.DrawLemmas.{consumes-nothing}
-use Rattle.unix_calls.proofs.GainLemmas.{gains-nothing}
 use Rattle.unix_calls.proofs.WriteGiven.{part-nothing}
 use Rattle.unix_calls.proofs.ReadGiven.{given-is}
+use Rattle.nv_outside.proofs.WriteLemmas.{Appends-nothing}
 
 module _ {C : Type 0} (put_at : C → ℕ → ℕ → C) (does : System → Answer × System) (room : Room) (v u : Held) (same : v ≡ u) (rest output error_output : Option (List ℕ)) where
   -- a call that puts a patch, and changes files, descriptors and heap
@@ -41,8 +41,8 @@ module _ {C : Type 0} (put_at : C → ℕ → ℕ → C) (does : System → Answ
       error_output = [];
       fits = fits;
       consumed = consumes-nothing rest;
-      wrote = gains-nothing output;
-      wrote_error = gains-nothing error_output;
+      wrote = Appends-nothing output;
+      wrote_error = Appends-nothing error_output;
       is = λ before error_before. is (known rest) before error_before ∙ (λ i. (record { value = value; patch = patch }, system_of w (known rest) (sym (append-nil before) i) (sym (append-nil error_before) i)));
     },
     after,
@@ -71,8 +71,8 @@ module _ {C : Type 0} (put_at : C → ℕ → ℕ → C) (does : System → Answ
           error_output = [];
           fits = r.fits;
           consumed = r.consumed;
-          wrote = gains-nothing output;
-          wrote_error = gains-nothing error_output;
+          wrote = Appends-nothing output;
+          wrote_error = Appends-nothing error_output;
           is = λ before error_before. r.is (system_of v [] before error_before) ∙ (λ i. (record { value = value; patch = r.patch }, system_of w (known new.rest) (sym (append-nil before) i) (sym (append-nil error_before) i)));
         },
         r.after,

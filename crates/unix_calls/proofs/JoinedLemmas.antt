@@ -2,9 +2,7 @@
 use Rattle.std.proofs.Common.{ℕ, ℤ, Option, None, sym, subst}
 use Rattle.std.specs.Prelude.{Result, Ok, Err, ◌≢◌}
 use Rattle.nv_events.specs.Question.{Question}
-use Rattle.nv_events.specs.Serving.{Counts, Causes}
 use Rattle.nv_events.specs.declared.io_fault.IoFault.{IoFault}
-use Rattle.nv_events.specs.declared.io_fault.IoFault.TheVariants.{ReadFault, WriteFault}
 use Rattle.nv_events.specs.Serving as events
 use Rattle.unix_system.specs.Unix.{unix}
 use Rattle.unix_calls.specs.Serving.{Parts, Serves, Goes, Fell, AsSome}
@@ -13,11 +11,6 @@ pub joined-serves : {V C : Type 0} (j : V) (part : V → Parts) (put_at : C → 
     → events.Serves (λ v r a w. Goes (λ s. unix s r) r.room (part v) a (part w)) (λ v r w. ⊥) (λ v r w. Fell (λ s. unix s r) (part v) (part w)) put_at q j k c d y
 joined-serves j part put_at q k c d (Ok value) y is given = subst (λ (z : Result (Option ℤ) IoFault). events.Serves (λ v r a w. Goes (λ s. unix s r) r.room (part v) a (part w)) (λ v r w. ⊥) (λ v r w. Fell (λ s. unix s r) (part v) (part w)) put_at q j k c d z) (sym is) (given.0, given.1.fits, given.1, given.2)
 joined-serves j part put_at q k c d (Err e) y is given = subst (λ (z : Result (Option ℤ) IoFault). events.Serves (λ v r a w. Goes (λ s. unix s r) r.room (part v) a (part w)) (λ v r w. ⊥) (λ v r w. Fell (λ s. unix s r) (part v) (part w)) put_at q j k c d z) (sym is) given
-
-pub joined-causes : (old new : Counts) (x : Result ℤ IoFault) (y : Result (Option ℤ) IoFault) → AsSome x y → Causes old new x → Causes old new y
-joined-causes old new (Ok v) y is c = subst (λ (z : Result (Option ℤ) IoFault). Causes old new z) (sym is) c
-joined-causes old new (Err ReadFault) y is c = subst (λ (z : Result (Option ℤ) IoFault). Causes old new z) (sym is) c
-joined-causes old new (Err WriteFault) y is c = subst (λ (z : Result (Option ℤ) IoFault). Causes old new z) (sym is) c
 
 pub joined-some : (x : Result ℤ IoFault) (y : Result (Option ℤ) IoFault) → AsSome x y → y ≢ Ok None
 joined-some (Ok v) y is none = cc

@@ -7,6 +7,7 @@ use Rattle.std.proofs.lemmas.List.{map-append, length-map, length-replicate}
 use Rattle.std.proofs.Math.Seq.{drop-nil}
 use Rattle.unix_files.specs.Files.{Node, Files, blocks_for, node_at, bytes_of, bytes_at, free_node, with_node, with_name, with_bytes, written}
 use Rattle.unix_system.specs.Unix.{table, file_named, blocks_needed}
+use Rattle.std.proofs.lemmas.Option.{none-some}
 
 -- a table of which the first places are used
 abbrev used : List Node → ℕ → List (Option Node)
@@ -23,9 +24,6 @@ length-used (x ∷ xs) k = omega (arith, length-used xs k)
 
 position-used : (xs : List Node) (k : ℕ) → position is_none (used xs k) ≡ cond (ltb (length xs) (length xs + k)) (Some (length xs)) None
 position-used xs k = ap (λ i. cond (ltb i (length (used xs k))) (Some i) None) (first-free xs k) ∙ ap (λ m. cond (ltb (length xs) m) (Some (length xs)) None) (length-used xs k)
-
-none-some : (n : ℕ) → None ≡ Some n → ⊥
-none-some n e = cc
 
 free-is : (xs : List Node) (k n : ℕ) → position is_none (used xs k) ≡ Some n → (n ≡ length xs) × (0 < k)
 free-is xs zero n h =

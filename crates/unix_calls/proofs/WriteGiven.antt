@@ -11,10 +11,10 @@ use Rattle.unix_system.specs.Calls.{with_output}
 use Rattle.std.specs.Prelude.{Result, Ok, Err, IfOk, OnOk, OnErr}
 use Rattle.nv_outside.specs.declared.failed.Failed.{Failed}
 use Rattle.unix_calls.specs.Reading.{Outputs, outputs, with_written, Writes, WritesPart, WriteGives}
-use Rattle.unix_calls.proofs.GainLemmas.{gains-nothing}
+use Rattle.nv_outside.proofs.WriteLemmas.{Appends-nothing}
 
 pub part-nothing : (old : Option (List ℕ)) (bytes : List ℕ) → AppendsPart old old bytes
-part-nothing old bytes = record { front = []; rest = bytes; splits = refl; gained = gains-nothing old }
+part-nothing old bytes = record { front = []; rest = bytes; splits = refl; gained = Appends-nothing old }
 
 written-nothing : (s : System) → s ≡ with_written s [] []
 written-nothing s = λ i. with_console s (record { rest = s.console.rest; output = sym (append-nil s.console.output) i; error_output = sym (append-nil s.console.error_output) i })
@@ -30,8 +30,8 @@ module _ (does : System → Answer × System) (files : Files) (opened : Opened) 
   writes-quiet out err files_new opened_new value h = record {
     output = [];
     error_output = [];
-    wrote = gains-nothing out;
-    wrote_error = gains-nothing err;
+    wrote = Appends-nothing out;
+    wrote_error = Appends-nothing err;
     is = λ s. h s ∙ ap (λ t. (value_only value, t)) (written-nothing (with_tables s files_new opened_new));
   }
 
@@ -40,7 +40,7 @@ module _ (does : System → Answer × System) (files : Files) (opened : Opened) 
     output = bs;
     error_output = [];
     wrote = gained;
-    wrote_error = gains-nothing err;
+    wrote_error = Appends-nothing err;
     is = λ s. h (with_tables s files opened) ∙ (ap (λ z. (value_only z, with_output (with_tables s files opened) (s.console.output ++ bs) s.console.error_output)) (sym v) ∙ ap (λ t. (value_only value, t)) (written-output (with_tables s files opened) bs));
   }
 
@@ -48,7 +48,7 @@ module _ (does : System → Answer × System) (files : Files) (opened : Opened) 
   writes-error out err err_new bs value h v gained = record {
     output = [];
     error_output = bs;
-    wrote = gains-nothing out;
+    wrote = Appends-nothing out;
     wrote_error = gained;
     is = λ s. h (with_tables s files opened) ∙ (ap (λ z. (value_only z, with_output (with_tables s files opened) s.console.output (s.console.error_output ++ bs))) (sym v) ∙ ap (λ t. (value_only value, t)) (written-error (with_tables s files opened) bs));
   }

@@ -1,21 +1,17 @@
 -- A free block is put behind a chain, with one byte.
-use Rattle.std.proofs.Common.{◌≡◌, ◌≢◌, ℕ, zero, suc, ◌+◌, ◌-◌, ◌/◌, ◌%◌, ◌<◌, ◌≤◌, [], ◌∷◌, ◌++◌, length, get_or, set, Option, Some, None, true, IsTrue, ltb, refl, ap, sym, ◌∙◌, subst, inl, inr, arith, unwrap_or, option_and_then}
+use Rattle.std.proofs.Common.{◌≡◌, ◌≢◌, ℕ, zero, suc, ◌+◌, ◌-◌, ◌/◌, ◌%◌, ◌<◌, ◌≤◌, [], ◌∷◌, ◌++◌, length, get_or, set, Some, None, IsTrue, ltb, refl, ap, sym, ◌∙◌, subst, inl, inr, arith, unwrap_or, option_and_then}
 use Rattle.std.specs.Option.{IsSome, is_none}
 use Rattle.std.proofs.lemmas.Bool.{cases_eq, cases_lt, false≢true, and_parts, ltb-true}
 use Rattle.std.proofs.lemmas.List.{get_or-set_same, get_or-set_other, length-replicate}
 use Rattle.block_pool.specs.Bytes.{zeros}
 use Rattle.block_pool.specs.Blocks.{Pool, IsSound, IsUsed, is_free, next_of, block_at, bytes_of, bytes_in, free_count, new_block, with_bytes, with_next}
-use Rattle.block_pool.specs.declared.block.Block.{Block}
 use Rattle.unix_files.specs.Files.{blocks_for}
 use Rattle.unix_files.specs.Stored.{block_after, IsChain, Changes, blocks_in, block_in, byte_of, file_bytes, begun}
 use Rattle.unix_files.specs.declared.chain.Chain.{Chain}
 use Rattle.unix_files.proofs.ChainLemmas.{block_after-start, block_after-suc}
 use Rattle.unix_files.proofs.LaidLemmas.{index-lt}
 use Rattle.unix_files.proofs.WriteLemmas.{at-with_block, other-with_block, bytes-push}
-
-none-from_is_none : (s : Option Block) → is_none s ≡ true → s ≡ None
-none-from_is_none None h = refl
-none-from_is_none (Some k) h = absurd (false≢true h)
+use Rattle.block_pool.proofs.PoolLemmas.{none-from_is_none}
 
 pub free-block : (p : Pool) (b : ℕ) → IsTrue (is_free p b) → (b < length p.blocks) × (block_at p b ≡ None)
 free-block p b free =

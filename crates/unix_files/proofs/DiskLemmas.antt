@@ -10,9 +10,6 @@ use Rattle.unix_files.specs.Kept.{node_of, nodes_of, files_of, entry_at, entry_n
 use Rattle.unix_files.specs.declared.disk.Entry.{Entry}
 use Rattle.unix_files.proofs.FileLemmas.{length-zeros_behind}
 
-node_of-none : (b : List ℕ) → node_of None b ≡ None
-node_of-none b = refl
-
 get_or-nodes_of : (es : List (Option Entry)) (fs : List (List ℕ)) (n : ℕ) → get_or (nodes_of es fs) n None ≡ node_of (get_or es n None) (get_or fs n [])
 get_or-nodes_of [] fs n = refl
 get_or-nodes_of (e ∷ es) [] zero = refl
@@ -168,10 +165,6 @@ module _ (es : List (Option Entry)) (store : Contents) (v : Files) (is : files_o
       | inr other ↦ let nil : List ℕ = [] in get_or-set_other store.files n m b nil other ∙ h.unused m none
     ];
   }
-
--- the zeros of a gap, and the bytes behind them
-zeros_behind : List ℕ → ℕ → List ℕ
-zeros_behind file size = file ++ replicate (size - length file) 0
 
 pub resized-longer : (file : List ℕ) (size : ℕ) → length file ≤ size → file ++ replicate (size - length file) 0 ≡ resized file size
 resized-longer file size le = ap (λ l. l ++ replicate (size - length file) 0) (sym (take_all size file le))

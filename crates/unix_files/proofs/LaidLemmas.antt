@@ -42,7 +42,7 @@ kept-chain p q c keeps h = record {
   near = h.near ∙ sym (kept-block p q c keeps c.near_index (let w = h.near_within in omega arith));
 }
 
-map_range-cong : (f g : ℕ → ℕ) (a n : ℕ) → ((i : ℕ) → a ≤ i → i < a + n → f i ≡ g i) → map f (range_with_len a n) ≡ map g (range_with_len a n)
+pub map_range-cong : (f g : ℕ → ℕ) (a n : ℕ) → ((i : ℕ) → a ≤ i → i < a + n → f i ≡ g i) → map f (range_with_len a n) ≡ map g (range_with_len a n)
 map_range-cong f g a zero same = refl
 map_range-cong f g a (suc n) same =
     let here : f a ≡ g a = same a (omega arith) (omega arith) in

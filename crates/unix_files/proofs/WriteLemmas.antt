@@ -2,24 +2,19 @@
 use Rattle.std.proofs.Common.{◌≡◌, ◌≢◌, ℕ, zero, suc, ◌+◌, ◌-◌, ◌/◌, ◌%◌, ◌<◌, ◌≤◌, List, [], ◌∷◌, ◌++◌, map, length, get_or, set, Option, Some, None, refl, ap, sym, ◌∙◌, subst, inl, inr, arith, unwrap_or, option_and_then}
 use Rattle.std.specs.List.{range_with_len}
 use Rattle.std.specs.Option.{IsSome}
-use Rattle.std.proofs.lemmas.Bool.{cases_eq, false≢true}
+use Rattle.std.proofs.lemmas.Bool.{cases_eq}
 use Rattle.std.proofs.lemmas.List.{get_or-set_same, get_or-set_other, length-set}
 use Rattle.std.proofs.lemmas.List.FromFn.{map-range_with_len_more, fill_by_all}
 use Rattle.block_pool.specs.Blocks.{Pool, IsSound, IsUsed, next_of, block_at, bytes_of, bytes_in, free_count, with_block, with_bytes}
-use Rattle.block_pool.specs.declared.block.Block.{Block}
 use Rattle.unix_files.specs.Files.{blocks_for}
 use Rattle.unix_files.specs.Stored.{block_after, IsChain, Changes, blocks_in, block_in, byte_of, file_bytes}
 use Rattle.unix_files.specs.declared.chain.Chain.{Chain}
 use Rattle.unix_files.proofs.ChainLemmas.{block_after-start, block_after-suc}
-use Rattle.unix_files.proofs.LaidLemmas.{length-file_bytes, get_or-file_bytes}
-
-used-within : (blocks : List (Option Block)) (b : ℕ) → IsSome (get_or blocks b None) → b < length blocks
-used-within [] b h = absurd (false≢true h)
-used-within (s ∷ blocks) zero h = omega arith
-used-within (s ∷ blocks) (suc b) h = omega (arith, used-within blocks b h)
+use Rattle.unix_files.proofs.LaidLemmas.{length-file_bytes, get_or-file_bytes, map_range-cong}
+use Rattle.block_pool.proofs.PoolLemmas.{used-lt-length}
 
 pub at-with_block : (p : Pool) (b : ℕ) (bytes : List ℕ) (next : Option ℕ) → IsUsed p b → block_at (with_block p b bytes next) b ≡ Some (record { bytes = bytes; next = next })
-at-with_block p b bytes next used = get_or-set_same p.blocks b (Some (record { bytes = bytes; next = next })) None (used-within p.blocks b used)
+at-with_block p b bytes next used = get_or-set_same p.blocks b (Some (record { bytes = bytes; next = next })) None (used-lt-length p.blocks b used)
 
 pub other-with_block : (p : Pool) (b : ℕ) (bytes : List ℕ) (next : Option ℕ) (x : ℕ) → x ≢ b → block_at (with_block p b bytes next) x ≡ block_at p x
 other-with_block p b bytes next x other = get_or-set_other p.blocks b x (Some (record { bytes = bytes; next = next })) None other
@@ -126,17 +121,10 @@ bytes-put p q c d at v size within same new =
     ]) in
     ap (λ n. map (byte_of q d) (range_with_len 0 n)) size ∙ sym all
 
-map_range-same : (f g : ℕ → ℕ) (a n : ℕ) → ((i : ℕ) → a ≤ i → i < a + n → f i ≡ g i) → map f (range_with_len a n) ≡ map g (range_with_len a n)
-map_range-same f g a zero same = refl
-map_range-same f g a (suc n) same =
-    let here : f a ≡ g a = same a (omega arith) (omega arith) in
-    let rest : map f (range_with_len (a + 1) n) ≡ map g (range_with_len (a + 1) n) = map_range-same f g (a + 1) n (λ i low high. same i (omega arith) (omega arith)) in
-    cc
-
 -- the bytes of a file that has one more
 pub bytes-push : (p q : Pool) (c d : Chain) (v : ℕ) → d.size ≡ c.size + 1 → ((i : ℕ) → i < c.size → byte_of q d i ≡ byte_of p c i) → byte_of q d c.size ≡ v → file_bytes q d ≡ file_bytes p c ++ v ∷ []
 unfolding file_bytes
 bytes-push p q c d v size same new =
     ap (λ n. map (byte_of q d) (range_with_len 0 n)) size
     ∙ (map-range_with_len_more (byte_of q d) 0 c.size c.size (omega arith)
-    ∙ (ap (λ l. l ++ byte_of q d c.size ∷ []) (map_range-same (byte_of q d) (byte_of p c) 0 c.size (λ i low high. same i (omega arith))) ∙ ap (λ x. map (byte_of p c) (range_with_len 0 c.size) ++ x ∷ []) new))
+    ∙ (ap (λ l. l ++ byte_of q d c.size ∷ []) (map_range-cong (byte_of q d) (byte_of p c) 0 c.size (λ i low high. same i (omega arith))) ∙ ap (λ x. map (byte_of p c) (range_with_len 0 c.size) ++ x ∷ []) new))

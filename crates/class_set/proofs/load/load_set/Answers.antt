@@ -1,8 +1,9 @@
 use Rattle.std.proofs.Common.{◌∙◌, false, option_map, refl, sym, ap}
 use Rattle.class_set.specs.ClassSets.{class_set, class_in}
 use Rattle.class_set.specs.Waiting.{file_found}
-use Rattle.class_set.proofs.SetLemmas.{same_then_same, told_same, kept_loaded, set_ends, set_full, set_faulty, set_grows, one_class_more, kept_more}
+use Rattle.class_set.proofs.SetLemmas.{told_same, kept_loaded, set_ends, set_full, set_faulty, set_grows, one_class_more, kept_more}
 use Rattle.class_set.proofs.load.load_set.Goals as goal
+use Rattle.nv_outside.proofs.FilesLemmas.{same_then_same}
 
 pub returns-in_err-bytes-clause-same : goal.returns-in_err-bytes-clause-same
 returns-in_err-bytes-clause-same g c = same_then_same (g.H.Shelf.files c.args.shelf.now) (g.H.Shelf.files c.loop-number.shelf) (g.H.Shelf.files c.next_file.new.shelf) c.loop-number.invariant.same c.next_file.ensures.same

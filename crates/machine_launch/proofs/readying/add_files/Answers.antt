@@ -1,9 +1,9 @@
 use Rattle.std.proofs.Common.{◌≡◌, ◌+◌, ◌∙◌, false, Ok, Err, length, arith, refl, subst}
 use Rattle.std.proofs.lemmas.Result.{err_from_is_err_and}
 use Rattle.machine_launch.specs.Readying.{AddsFiles}
-use Rattle.command_deeds.proofs.DeedLemmas.{same_then_same}
 use Rattle.machine_launch.proofs.ReadyLemmas.{files_more, files_stopped, open_more, short_name, texts_whole}
 use Rattle.machine_launch.proofs.readying.add_files.Goals as goal
+use Rattle.nv_outside.proofs.FilesLemmas.{same_then_same}
 
 pub add_file-requires-clause-open : goal.add_file-requires-clause-open
 add_file-requires-clause-open g c =

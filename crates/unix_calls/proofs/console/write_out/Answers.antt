@@ -8,11 +8,12 @@ use Rattle.nv_events.specs.Question.{text_at}
 use Rattle.nv_events.specs.declared.text_place.TextPlace.TheVariants.{Counted}
 use Rattle.unix_system.specs.Asked.{bytes_of_text}
 use Rattle.unix_system.proofs.ReadLemmas.{some-bytes, some-is, from-part, length-bytes_from}
-use Rattle.unix_calls.proofs.GainLemmas.{gains-nothing, gains-both, gains-part}
+use Rattle.unix_calls.proofs.GainLemmas.{gains-part}
 use Rattle.unix_calls.proofs.console.write_out.Goals as goal
+use Rattle.nv_outside.proofs.WriteLemmas.{Appends-nothing, Appends-both}
 
 pub loop-done-init : goal.loop-done-init
-loop-done-init g c = record { gained = gains-nothing (g.K.Sink.taken c.args.sink.now); faults = refl; within = omega arith }
+loop-done-init g c = record { gained = Appends-nothing (g.K.Sink.taken c.args.sink.now); faults = refl; within = omega arith }
 
 pub read_piece-piece-requires-clause-readable : goal.read_piece-piece-requires-clause-readable
 read_piece-piece-requires-clause-readable g c =
@@ -37,7 +38,7 @@ loop-done-preserved g c =
     let part : c.as_slice.result.now ≡ take size (drop done text) = part-is m c.args.at c.args.count done size text c.read_piece-piece.result c.as_slice.result.now (omega arith) read c.read_piece-piece.ensures c.as_slice.ensures.value in
     let next : take (done + size) text ≡ take done text ++ c.as_slice.result.now = take-add done size text ∙ ap (λ l. take done text ++ l) (sym part) in
     record {
-      gained = rw next (gains-both _ _ _ (take done text) c.as_slice.result.now c.loop-done.invariant.gained c.in_ok-write_all.ensures.ok);
+      gained = rw next (Appends-both _ _ _ (take done text) c.as_slice.result.now c.loop-done.invariant.gained c.in_ok-write_all.ensures.ok);
       faults = c.in_ok-write_all.ensures.count.stays refl ∙ c.loop-done.invariant.faults;
       within = omega arith;
     }

@@ -1,8 +1,7 @@
 use Rattle.std.proofs.Common.{◌≡◌, ◌+◌, ◌<◌, true, length, drop, get_or, ◌∙◌, sym, ap, arith}
 use Rattle.std.proofs.lemmas.List.{at_drop_more, at_drop_all}
 use Rattle.nv_events.specs.Memory.{patched}
-use Rattle.nv_events.proofs.Rooms.{below_end, writable_in}
-use Rattle.unix_system.proofs.RoomLemmas.{bytes-small}
+use Rattle.nv_events.proofs.Rooms.{below_end, writable_in, bytes_fit}
 use Rattle.unix_system.proofs.guest.put_bytes.Goals as goal
 
 pub overflow_cast-i : goal.overflow_cast-i
@@ -41,7 +40,7 @@ loop-i-preserved g c =
     }
 
 pub returns-clause-small : goal.returns-clause-small
-returns-clause-small g c = bytes-small c.args.bytes.now (λ i. omega (arith, c.type_inv.bytes i))
+returns-clause-small g c = bytes_fit c.args.bytes.now (λ i. omega (arith, c.type_inv.bytes i))
 
 pub returns-clause-after : goal.returns-clause-after
 returns-clause-after g c =

@@ -1,9 +1,9 @@
 use Rattle.std.proofs.Common.{◌∙◌, ◌+◌, false, refl, sym, arith, take, drop}
 use Rattle.class_set.specs.ClassSets.{next}
 use Rattle.class_set.specs.Waiting.{texts, queue}
-use Rattle.class_set.proofs.SetLemmas.{same_then_same}
 use Rattle.class_set.proofs.QueueLemmas.{once_more, asked_all, text_at, file_asked, found_some, found_none}
 use Rattle.class_set.proofs.names.Names.next_file.Goals as goal
+use Rattle.nv_outside.proofs.FilesLemmas.{same_then_same}
 
 pub invariant_of-self-then-is_some : goal.invariant_of-self-then-is_some
 invariant_of-self-then-is_some g c =
