@@ -7,6 +7,3 @@ mod room;
 
 pub use jvm::Jvm;
 pub use loading::NoMemory;
-
-#[cfg(test)]
-mod tests;

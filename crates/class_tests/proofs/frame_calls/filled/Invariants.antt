@@ -1,6 +1,6 @@
 use Rattle.std.proofs.Common.{◌≡◌, ◌≤◌}
 use Rattle.jvm_frames.specs.Frames.{HasRoom}
-use Rattle.jvm_frames.proofs.tests.filled.Given as goal
+use Rattle.class_tests.proofs.frame_calls.filled.Given as goal
 
 abbrev pub invariant-loop-i : goal.invariant-loop-i
 invariant-loop-i l =

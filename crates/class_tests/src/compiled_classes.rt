@@ -1,11 +1,7 @@
-//! Classes of `javac -g:none --release 8` (JDK 17.0.15), of version 52, and what is wrong with them and with edits of them. The
-//! places are those of a dump of their bytes beside `javap -v`.
-use super::*;
-use std::alloc::{AllocError, Global};
-use std::test::Fail;
+//! Classes of `javac -g:none --release 8` (JDK 17.0.15), of version 52.
 
 /// `public final class Reals { public static double half = 0.3; }`
-const REALS: [u8; 202] = [
+pub const REALS: &[u8] = &[
     0xCA, 0xFE, 0xBA, 0xBE, 0, 0, 0, 0x34, 0, 0x11, 0x0A, 0, 2, 0, 3, 7, 0, 4, 0x0C, 0, 5, 0, 6, 1,
     0, 0x10, 0x6A, 0x61, 0x76, 0x61, 0x2F, 0x6C, 0x61, 0x6E, 0x67, 0x2F, 0x4F, 0x62, 0x6A, 0x65,
     0x63, 0x74, 1, 0, 6, 0x3C, 0x69, 0x6E, 0x69, 0x74, 0x3E, 1, 0, 3, 0x28, 0x29, 0x56, 6, 0x3F,
@@ -19,7 +15,7 @@ const REALS: [u8; 202] = [
 ];
 
 /// `public interface Runs { static void run(Runnable r) { r.run(); } }`
-const RUNS: [u8; 168] = [
+pub const RUNS: &[u8] = &[
     0xCA, 0xFE, 0xBA, 0xBE, 0, 0, 0, 0x34, 0, 0x0D, 0x0B, 0, 2, 0, 3, 7, 0, 4, 0x0C, 0, 5, 0, 6, 1,
     0, 0x12, 0x6A, 0x61, 0x76, 0x61, 0x2F, 0x6C, 0x61, 0x6E, 0x67, 0x2F, 0x52, 0x75, 0x6E, 0x6E,
     0x61, 0x62, 0x6C, 0x65, 1, 0, 3, 0x72, 0x75, 0x6E, 1, 0, 3, 0x28, 0x29, 0x56, 7, 0, 8, 1, 0, 4,
@@ -32,7 +28,7 @@ const RUNS: [u8; 168] = [
 ];
 
 /// `public final class Plain { public static int twice(int n) { return n + n; } }`
-const PLAIN: [u8; 165] = [
+pub const PLAIN: &[u8] = &[
     0xCA, 0xFE, 0xBA, 0xBE, 0, 0, 0, 0x34, 0, 0x0C, 0x0A, 0, 2, 0, 3, 7, 0, 4, 0x0C, 0, 5, 0, 6, 1,
     0, 0x10, 0x6A, 0x61, 0x76, 0x61, 0x2F, 0x6C, 0x61, 0x6E, 0x67, 0x2F, 0x4F, 0x62, 0x6A, 0x65,
     0x63, 0x74, 1, 0, 6, 0x3C, 0x69, 0x6E, 0x69, 0x74, 0x3E, 1, 0, 3, 0x28, 0x29, 0x56, 7, 0, 8, 1,
@@ -44,7 +40,7 @@ const PLAIN: [u8; 165] = [
 ];
 
 /// `public interface Held { static int held(int[][] all) { return all[0].clone().length; } }`
-const HELD: [u8; 165] = [
+pub const HELD: &[u8] = &[
     0xCA, 0xFE, 0xBA, 0xBE, 0, 0, 0, 0x34, 0, 0x0E, 0x0A, 0, 2, 0, 3, 7, 0, 4, 0x0C, 0, 5, 0, 6, 1,
     0, 2, 0x5B, 0x49, 1, 0, 5, 0x63, 0x6C, 0x6F, 0x6E, 0x65, 1, 0, 0x14, 0x28, 0x29, 0x4C, 0x6A,
     0x61, 0x76, 0x61, 0x2F, 0x6C, 0x61, 0x6E, 0x67, 0x2F, 0x4F, 0x62, 0x6A, 0x65, 0x63, 0x74, 0x3B,
@@ -56,7 +52,7 @@ const HELD: [u8; 165] = [
 ];
 
 /// `public interface Sum { static int sum(int n) { int all = 0; for (int i = 1; i <= n; i++) all += i; return all; } }`
-const SUM: [u8; 154] = [
+pub const SUM: &[u8] = &[
     0xCA, 0xFE, 0xBA, 0xBE, 0, 0, 0, 0x34, 0, 9, 7, 0, 2, 1, 0, 3, 0x53, 0x75, 0x6D, 7, 0, 4, 1, 0,
     0x10, 0x6A, 0x61, 0x76, 0x61, 0x2F, 0x6C, 0x61, 0x6E, 0x67, 0x2F, 0x4F, 0x62, 0x6A, 0x65, 0x63,
     0x74, 1, 0, 3, 0x73, 0x75, 0x6D, 1, 0, 4, 0x28, 0x49, 0x29, 0x49, 1, 0, 4, 0x43, 0x6F, 0x64,
@@ -68,7 +64,7 @@ const SUM: [u8; 154] = [
 ];
 
 /// `public interface Caught { static int caught(int n) { try { return 1 / n; } catch (ArithmeticException e) { return 0; } } }`
-const CAUGHT: [u8; 185] = [
+pub const CAUGHT: &[u8] = &[
     0xCA, 0xFE, 0xBA, 0xBE, 0, 0, 0, 0x34, 0, 0x0B, 7, 0, 2, 1, 0, 0x1D, 0x6A, 0x61, 0x76, 0x61,
     0x2F, 0x6C, 0x61, 0x6E, 0x67, 0x2F, 0x41, 0x72, 0x69, 0x74, 0x68, 0x6D, 0x65, 0x74, 0x69, 0x63,
     0x45, 0x78, 0x63, 0x65, 0x70, 0x74, 0x69, 0x6F, 0x6E, 7, 0, 4, 1, 0, 6, 0x43, 0x61, 0x75, 0x67,
@@ -81,7 +77,7 @@ const CAUGHT: [u8; 185] = [
 ];
 
 /// `public interface Wide { static int wide(int n) { long all = n; return (int) (all * all >> 32); } }`
-const WIDE: [u8; 114] = [
+pub const WIDE: &[u8] = &[
     0xCA, 0xFE, 0xBA, 0xBE, 0, 0, 0, 0x34, 0, 8, 7, 0, 2, 1, 0, 4, 0x57, 0x69, 0x64, 0x65, 7, 0, 4,
     1, 0, 0x10, 0x6A, 0x61, 0x76, 0x61, 0x2F, 0x6C, 0x61, 0x6E, 0x67, 0x2F, 0x4F, 0x62, 0x6A, 0x65,
     0x63, 0x74, 1, 0, 4, 0x77, 0x69, 0x64, 0x65, 1, 0, 4, 0x28, 0x49, 0x29, 0x49, 1, 0, 4, 0x43,
@@ -91,7 +87,7 @@ const WIDE: [u8; 114] = [
 ];
 
 /// `public interface Given { static long given(long n) { return n; } }`
-const GIVEN: [u8; 107] = [
+pub const GIVEN: &[u8] = &[
     0xCA, 0xFE, 0xBA, 0xBE, 0, 0, 0, 0x34, 0, 8, 7, 0, 2, 1, 0, 5, 0x47, 0x69, 0x76, 0x65, 0x6E, 7,
     0, 4, 1, 0, 0x10, 0x6A, 0x61, 0x76, 0x61, 0x2F, 0x6C, 0x61, 0x6E, 0x67, 0x2F, 0x4F, 0x62, 0x6A,
     0x65, 0x63, 0x74, 1, 0, 5, 0x67, 0x69, 0x76, 0x65, 0x6E, 1, 0, 4, 0x28, 0x4A, 0x29, 0x4A, 1, 0,
@@ -100,7 +96,7 @@ const GIVEN: [u8; 107] = [
 ];
 
 /// `public interface Fixed { int FIVE = 5; }`
-const FIXED: [u8; 105] = [
+pub const FIXED: &[u8] = &[
     0xCA, 0xFE, 0xBA, 0xBE, 0, 0, 0, 0x34, 0, 9, 7, 0, 2, 1, 0, 5, 0x46, 0x69, 0x78, 0x65, 0x64, 7,
     0, 4, 1, 0, 0x10, 0x6A, 0x61, 0x76, 0x61, 0x2F, 0x6C, 0x61, 0x6E, 0x67, 0x2F, 0x4F, 0x62, 0x6A,
     0x65, 0x63, 0x74, 1, 0, 4, 0x46, 0x49, 0x56, 0x45, 1, 0, 1, 0x49, 1, 0, 0x0D, 0x43, 0x6F, 0x6E,
@@ -109,7 +105,7 @@ const FIXED: [u8; 105] = [
 ];
 
 /// `public interface Listed extends Runnable { }`
-const LISTED: [u8; 84] = [
+pub const LISTED: &[u8] = &[
     0xCA, 0xFE, 0xBA, 0xBE, 0, 0, 0, 0x34, 0, 7, 7, 0, 2, 1, 0, 6, 0x4C, 0x69, 0x73, 0x74, 0x65,
     0x64, 7, 0, 4, 1, 0, 0x10, 0x6A, 0x61, 0x76, 0x61, 0x2F, 0x6C, 0x61, 0x6E, 0x67, 0x2F, 0x4F,
     0x62, 0x6A, 0x65, 0x63, 0x74, 7, 0, 6, 1, 0, 0x12, 0x6A, 0x61, 0x76, 0x61, 0x2F, 0x6C, 0x61,
@@ -118,7 +114,7 @@ const LISTED: [u8; 84] = [
 ];
 
 /// `public interface Texts { static int at(int i) { return "\0\u00e9\u20ac\ud83d\ude00".charAt(i); } }`
-const TEXTS: [u8; 176] = [
+pub const TEXTS: &[u8] = &[
     0xCA, 0xFE, 0xBA, 0xBE, 0, 0, 0, 0x34, 0, 0x10, 8, 0, 2, 1, 0, 0x0D, 0xC0, 0x80, 0xC3, 0xA9,
     0xE2, 0x82, 0xAC, 0xED, 0xA0, 0xBD, 0xED, 0xB8, 0x80, 0x0A, 0, 4, 0, 5, 7, 0, 6, 0x0C, 0, 7, 0,
     8, 1, 0, 0x10, 0x6A, 0x61, 0x76, 0x61, 0x2F, 0x6C, 0x61, 0x6E, 0x67, 0x2F, 0x53, 0x74, 0x72,
@@ -131,7 +127,7 @@ const TEXTS: [u8; 176] = [
 ];
 
 /// `public interface Longs { static int high(int n) { return (int) (n * 0x123456789L >> 32); } }`
-const LONGS: [u8; 124] = [
+pub const LONGS: &[u8] = &[
     0xCA, 0xFE, 0xBA, 0xBE, 0, 0, 0, 0x34, 0, 0x0A, 5, 0, 0, 0, 1, 0x23, 0x45, 0x67, 0x89, 7, 0, 4,
     1, 0, 5, 0x4C, 0x6F, 0x6E, 0x67, 0x73, 7, 0, 6, 1, 0, 0x10, 0x6A, 0x61, 0x76, 0x61, 0x2F, 0x6C,
     0x61, 0x6E, 0x67, 0x2F, 0x4F, 0x62, 0x6A, 0x65, 0x63, 0x74, 1, 0, 4, 0x68, 0x69, 0x67, 0x68, 1,
@@ -141,140 +137,10 @@ const LONGS: [u8; 124] = [
 ];
 
 /// `public interface Empty { }` With debug information.
-const EMPTY: [u8; 91] = [
+pub const EMPTY: &[u8] = &[
     0xCA, 0xFE, 0xBA, 0xBE, 0, 0, 0, 0x34, 0, 7, 7, 0, 2, 1, 0, 5, 0x45, 0x6D, 0x70, 0x74, 0x79, 7,
     0, 4, 1, 0, 0x10, 0x6A, 0x61, 0x76, 0x61, 0x2F, 0x6C, 0x61, 0x6E, 0x67, 0x2F, 0x4F, 0x62, 0x6A,
     0x65, 0x63, 0x74, 1, 0, 0x0A, 0x53, 0x6F, 0x75, 0x72, 0x63, 0x65, 0x46, 0x69, 0x6C, 0x65, 1, 0,
     0x0A, 0x45, 0x6D, 0x70, 0x74, 0x79, 0x2E, 0x6A, 0x61, 0x76, 0x61, 6, 1, 0, 1, 0, 3, 0, 0, 0, 0,
     0, 0, 0, 1, 0, 5, 0, 0, 0, 2, 0, 6,
 ];
-
-/// A class with other bytes at some places, and of version 48.
-fn edited(alloc: Global, class: &[u8], edits: &[(usize, u8)]) -> Result<Vec<u8>, AllocError> {
-    let mut bytes = class.to_vec(alloc)?;
-    if 7 < bytes.len() {
-        bytes[7] = 48;
-    }
-    for (place, byte) in edits {
-        if *place < bytes.len() {
-            bytes[*place] = *byte;
-        }
-    }
-    Ok(bytes)
-}
-
-#[test]
-fn refuses_what_javac_makes(rt: HostRuntime) -> Result<(), Fail> {
-    for (class, edits, kind, at) in [
-        // A double in the pool, and a method of an interface, whose tags are 6 and 11.
-        (REALS.as_slice(), [].as_slice(), 4, 57),
-        (RUNS.as_slice(), [].as_slice(), 4, 10),
-        // The name and descriptor of `Object.<init>`; the method before it has the sound descriptor `()V`.
-        (PLAIN.as_slice(), [].as_slice(), 6, 18),
-        // It is called `_init_`: the constructor is not static.
-        (
-            PLAIN.as_slice(),
-            [(45, 0x5F), (50, 0x5F)].as_slice(),
-            7,
-            102,
-        ),
-        // It is static, and calls the other one by invokespecial, the second instruction of its code at 124.
-        (
-            PLAIN.as_slice(),
-            [(45, 0x5F), (50, 0x5F), (103, 9)].as_slice(),
-            9,
-            125,
-        ),
-        // The method `[I.clone`, which gives an Object: the first entry is at fault before its name and descriptor.
-        (HELD.as_slice(), [].as_slice(), 6, 10),
-        // An interface. As a class its attribute with code holds a table of frames and so has 49 bytes and not 33.
-        (SUM.as_slice(), [].as_slice(), 7, 77),
-        (SUM.as_slice(), [(77, 0), (78, 0x31)].as_slice(), 8, 99),
-        // With a length of 33 it is the number of the attributes of the code that is no 0.
-        (
-            SUM.as_slice(),
-            [(77, 0), (78, 0x31), (102, 33)].as_slice(),
-            8,
-            134,
-        ),
-        // The goto at 16 of the code at 111 goes to 7, into the if_icmpgt at 6.
-        (
-            SUM.as_slice(),
-            [(77, 0), (78, 0x31), (102, 33), (129, 0xF7)].as_slice(),
-            9,
-            127,
-        ),
-        // An exception handler, behind the length of an attribute without a table of frames.
-        (
-            CAUGHT.as_slice(),
-            [(118, 0), (119, 0x31)].as_slice(),
-            8,
-            140,
-        ),
-        (
-            CAUGHT.as_slice(),
-            [(118, 0), (119, 0x31), (143, 19)].as_slice(),
-            8,
-            159,
-        ),
-        // lstore_1 at 2 of the code at 97.
-        (WIDE.as_slice(), [(63, 0), (64, 0x31)].as_slice(), 9, 99),
-        // The method's descriptor `(J)J`.
-        (GIVEN.as_slice(), [(65, 0), (66, 0x31)].as_slice(), 6, 81),
-        // A final field, and its attribute with its value.
-        (FIXED.as_slice(), [(75, 0), (76, 0x31)].as_slice(), 7, 85),
-        (
-            FIXED.as_slice(),
-            [(75, 0), (76, 0x31), (86, 9)].as_slice(),
-            8,
-            91,
-        ),
-        // An interface above it.
-        (LISTED.as_slice(), [(68, 0), (69, 0x31)].as_slice(), 7, 74),
-        // The name of the source, and the bytes behind a class that says that it has no attribute.
-        (EMPTY.as_slice(), [(69, 0), (70, 0x31)].as_slice(), 8, 81),
-        (
-            EMPTY.as_slice(),
-            [(69, 0), (70, 0x31), (82, 0)].as_slice(),
-            10,
-            83,
-        ),
-        // The text at 13 begins with 00, with C1 80, which is @ in two bytes, and has four bytes for a character.
-        (TEXTS.as_slice(), [(16, 0)].as_slice(), 6, 13),
-        (TEXTS.as_slice(), [(16, 0xC1)].as_slice(), 6, 13),
-        (TEXTS.as_slice(), [(23, 0xF0)].as_slice(), 6, 13),
-        // The String's slot holds a class, and that of charAt's class a String.
-        (TEXTS.as_slice(), [(12, 4)].as_slice(), 5, 10),
-        (TEXTS.as_slice(), [(31, 1)].as_slice(), 5, 29),
-        // this is a text, and super is the class itself.
-        (
-            TEXTS.as_slice(),
-            [(129, 0), (130, 0x31), (132, 13)].as_slice(),
-            5,
-            131,
-        ),
-        (
-            TEXTS.as_slice(),
-            [(129, 0), (130, 0x31), (134, 9)].as_slice(),
-            5,
-            133,
-        ),
-        // The pool has one slot, in which a Long begins; and none.
-        (LONGS.as_slice(), [(9, 2)].as_slice(), 5, 10),
-        (LONGS.as_slice(), [(9, 0)].as_slice(), 5, 8),
-        // The pool has a slot more: the flags 0601 are read as the tag 6.
-        (LONGS.as_slice(), [(9, 11)].as_slice(), 4, 73),
-    ] {
-        assert_eq!(rt;
-            read_class(rt.alloc(), class).err(),
-            Some(ReadError::Refused(ClassFault { kind: 2, at: 6 }))
-        );
-        let bytes = edited(rt.alloc(), class, edits)?;
-        assert_eq!(rt;
-            read_class(rt.alloc(), &bytes).err(),
-            Some(ReadError::Refused(ClassFault { kind, at })),
-            "{at}"
-        );
-    }
-    Ok(())
-}

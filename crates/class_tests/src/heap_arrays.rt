@@ -1,5 +1,6 @@
-use super::*;
+//! Arrays that the class machine makes.
 use jvm_frames::{Operands, Trap};
+use jvm_heap::Heap;
 use jvm_program::{ArrayKind, Value};
 use std::test::Fail;
 

@@ -1,4 +1,5 @@
-use super::*;
+//! Code that is divided into methods.
+use method_splitter::{Span, cut};
 use std::test::Fail;
 
 #[test]

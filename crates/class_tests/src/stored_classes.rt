@@ -1,11 +1,8 @@
-use super::*;
-use class_reader::read_class;
-use constant_pool::text_of;
-use jvm_code::{decode_ops, encode_ops};
-use std::test::Fail;
+//! Classes as bytes, of version 48, and edits of classes.
+use std::alloc::{AllocError, Global};
 
 /// A class `Main` of 106 bytes, whose method `run()V` divides 0 by 0.
-const MAIN: [u8; 106] = [
+pub const MAIN: &[u8] = &[
     0xCA, 0xFE, 0xBA, 0xBE, 0, 0, 0, 0x30, 0, 8, 1, 0, 4, 0x4D, 0x61, 0x69, 0x6E, 7, 0, 1, 1, 0,
     0x10, 0x6A, 0x61, 0x76, 0x61, 0x2F, 0x6C, 0x61, 0x6E, 0x67, 0x2F, 0x4F, 0x62, 0x6A, 0x65, 0x63,
     0x74, 7, 0, 3, 1, 0, 3, 0x72, 0x75, 0x6E, 1, 0, 3, 0x28, 0x29, 0x56, 1, 0, 4, 0x43, 0x6F, 0x64,
@@ -14,7 +11,7 @@ const MAIN: [u8; 106] = [
 ];
 
 /// A class `A` with a field `n` of type `I`, a long, an int, and a text of the characters 2, 20, 8, 0 and 1.
-const FIELD: [u8; 105] = [
+pub const FIELD: &[u8] = &[
     0xCA, 0xFE, 0xBA, 0xBE, 0, 0, 0, 0x30, 0, 14, 1, 0, 1, 0x41, 7, 0, 1, 1, 0, 0x10, 0x6A, 0x61,
     0x76, 0x61, 0x2F, 0x6C, 0x61, 0x6E, 0x67, 0x2F, 0x4F, 0x62, 0x6A, 0x65, 0x63, 0x74, 7, 0, 3, 1,
     0, 1, 0x6E, 1, 0, 1, 0x49, 12, 0, 5, 0, 6, 9, 0, 2, 0, 7, 5, 0xFF, 0xFF, 0xFF, 0xFF, 0xFF,
@@ -24,7 +21,7 @@ const FIELD: [u8; 105] = [
 
 /// A class `Sums` with four fields, and methods with a loop, a long, two switches, and arrays: made by another assembler, read by
 /// `javap` and run by `java -Xverify:all` of JDK 17.
-const SUMS: [u8; 589] = [
+pub const SUMS: &[u8] = &[
     0xCA, 0xFE, 0xBA, 0xBE, 0, 0, 0, 0x30, 0, 0x2A, 1, 0, 4, 0x53, 0x75, 0x6D, 0x73, 7, 0, 1, 1, 0,
     0x10, 0x6A, 0x61, 0x76, 0x61, 0x2F, 0x6C, 0x61, 0x6E, 0x67, 0x2F, 0x4F, 0x62, 0x6A, 0x65, 0x63,
     0x74, 7, 0, 3, 1, 0, 1, 0x6E, 1, 0, 1, 0x49, 1, 0, 3, 0x72, 0x6F, 0x77, 1, 0, 2, 0x5B, 0x49, 1,
@@ -55,83 +52,19 @@ const SUMS: [u8; 589] = [
     0, 0,
 ];
 
-/// `public interface Texts { static int at(int i) { return "\0\u00e9\u20ac\ud83d\ude00".charAt(i); } }`, as javac makes it, but
-/// for the version 48 and the flags of a class.
-const TEXTS: [u8; 176] = [
-    0xCA, 0xFE, 0xBA, 0xBE, 0, 0, 0, 0x30, 0, 0x10, 8, 0, 2, 1, 0, 0x0D, 0xC0, 0x80, 0xC3, 0xA9,
-    0xE2, 0x82, 0xAC, 0xED, 0xA0, 0xBD, 0xED, 0xB8, 0x80, 0x0A, 0, 4, 0, 5, 7, 0, 6, 0x0C, 0, 7, 0,
-    8, 1, 0, 0x10, 0x6A, 0x61, 0x76, 0x61, 0x2F, 0x6C, 0x61, 0x6E, 0x67, 0x2F, 0x53, 0x74, 0x72,
-    0x69, 0x6E, 0x67, 1, 0, 6, 0x63, 0x68, 0x61, 0x72, 0x41, 0x74, 1, 0, 4, 0x28, 0x49, 0x29, 0x43,
-    7, 0, 0x0A, 1, 0, 5, 0x54, 0x65, 0x78, 0x74, 0x73, 7, 0, 0x0C, 1, 0, 0x10, 0x6A, 0x61, 0x76,
-    0x61, 0x2F, 0x6C, 0x61, 0x6E, 0x67, 0x2F, 0x4F, 0x62, 0x6A, 0x65, 0x63, 0x74, 1, 0, 2, 0x61,
-    0x74, 1, 0, 4, 0x28, 0x49, 0x29, 0x49, 1, 0, 4, 0x43, 0x6F, 0x64, 0x65, 0, 0x31, 0, 9, 0, 0x0B,
-    0, 0, 0, 0, 0, 1, 0, 9, 0, 0x0D, 0, 0x0E, 0, 1, 0, 0x0F, 0, 0, 0, 0x13, 0, 2, 0, 1, 0, 0, 0, 7,
-    0x12, 1, 0x1A, 0xB6, 0, 3, 0xAC, 0, 0, 0, 0, 0, 0,
-];
-
-/// `public interface Longs { static int high(int n) { return (int) (n * 0x123456789L >> 32); } }`, likewise.
-const LONGS: [u8; 124] = [
-    0xCA, 0xFE, 0xBA, 0xBE, 0, 0, 0, 0x30, 0, 0x0A, 5, 0, 0, 0, 1, 0x23, 0x45, 0x67, 0x89, 7, 0, 4,
-    1, 0, 5, 0x4C, 0x6F, 0x6E, 0x67, 0x73, 7, 0, 6, 1, 0, 0x10, 0x6A, 0x61, 0x76, 0x61, 0x2F, 0x6C,
-    0x61, 0x6E, 0x67, 0x2F, 0x4F, 0x62, 0x6A, 0x65, 0x63, 0x74, 1, 0, 4, 0x68, 0x69, 0x67, 0x68, 1,
-    0, 4, 0x28, 0x49, 0x29, 0x49, 1, 0, 4, 0x43, 0x6F, 0x64, 0x65, 0, 0x31, 0, 3, 0, 5, 0, 0, 0, 0,
-    0, 1, 0, 9, 0, 7, 0, 8, 0, 1, 0, 9, 0, 0, 0, 0x17, 0, 4, 0, 1, 0, 0, 0, 0x0B, 0x1A, 0x85, 0x14,
-    0, 1, 0x69, 0x10, 0x20, 0x7B, 0x88, 0xAC, 0, 0, 0, 0, 0, 0,
-];
-
-#[test]
-fn writes_the_bytes_again(rt: HostRuntime) -> Result<(), Fail> {
-    for class in [
-        MAIN.as_slice(),
-        FIELD.as_slice(),
-        SUMS.as_slice(),
-        TEXTS.as_slice(),
-        LONGS.as_slice(),
-    ] {
-        let read = read_class(rt.alloc(), class)
-            .ok()
-            .ok_or("the class is sound")?;
-        let bytes = write_class(rt.alloc(), &read)
-            .ok()
-            .ok_or("there is memory")?;
-        assert_eq!(rt; bytes.as_slice(), class);
+/// A class with other bytes at some places, and of version 48.
+pub fn edited(alloc: Global, class: &[u8], edits: &[(usize, u8)]) -> Result<Vec<u8>, AllocError> {
+    let mut bytes = class.to_vec(alloc)?;
+    put(&mut bytes, 7, 48);
+    for (place, byte) in edits {
+        put(&mut bytes, *place, *byte);
     }
-    Ok(())
+    Ok(bytes)
 }
 
-#[test]
-fn makes_the_code_of_each_method_again(rt: HostRuntime) -> Result<(), Fail> {
-    let class = read_class(rt.alloc(), &SUMS)
-        .ok()
-        .ok_or("the class is sound")?;
-    assert_eq!(rt; class.pool.as_slice().len(), 41);
-    assert_eq!(rt; class.fields.as_slice().len(), 4);
-    assert_eq!(rt; class.methods.as_slice().len(), 4);
-    for method in class.methods.as_slice() {
-        let code = method.code.as_slice();
-        let lines = decode_ops(rt.alloc(), code)
-            .ok()
-            .ok_or("the code is sound")?;
-        assert_eq!(rt; encode_ops(rt.alloc(), &lines)?.as_slice(), code);
+/// Puts a byte into some bytes.
+fn put(bytes: &mut Vec<u8>, place: usize, byte: u8) {
+    if let Some(there) = bytes.get_mut(place) {
+        *there = byte;
     }
-    Ok(())
-}
-
-#[test]
-fn reads_the_characters_of_texts(rt: HostRuntime) -> Result<(), Fail> {
-    for (class, slot, characters) in [
-        (FIELD.as_slice(), 12, [2, 0x20, 8, 0, 1].as_slice()),
-        (
-            TEXTS.as_slice(),
-            2,
-            [0, 0xE9, 0x20AC, 0xD83D, 0xDE00].as_slice(),
-        ),
-    ] {
-        let read = read_class(rt.alloc(), class)
-            .ok()
-            .ok_or("the class is sound")?;
-        let text = text_of(read.pool.as_slice(), slot).ok_or("it is a text")?;
-        assert_eq!(rt; text, characters);
-    }
-    Ok(())
 }
