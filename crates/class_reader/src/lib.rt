@@ -10,8 +10,3 @@ mod slots;
 
 pub use constant_pool::{ClassFault, ReadError};
 pub use read::read_class;
-
-#[cfg(test)]
-mod javac_tests;
-#[cfg(test)]
-mod tests;

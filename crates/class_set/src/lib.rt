@@ -10,6 +10,3 @@ mod reading;
 
 pub use load::load_set;
 pub use loaded::Loaded;
-
-#[cfg(test)]
-mod tests;

@@ -10,6 +10,3 @@ mod write;
 
 pub use error::{NoMemory, WriteError};
 pub use write::write_class;
-
-#[cfg(test)]
-mod tests;

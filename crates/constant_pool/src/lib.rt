@@ -28,6 +28,3 @@ pub use pool::Pool;
 pub use pool_reading::{entries_of, read_pool};
 pub use slots::Slots;
 pub use text::{append_text, text_size};
-
-#[cfg(test)]
-mod tests;

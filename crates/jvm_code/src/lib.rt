@@ -55,6 +55,3 @@ pub use op::Op;
 pub use pair::Pair;
 pub use sizes::size;
 pub use table_switch::TableSwitch;
-
-#[cfg(test)]
-mod tests;

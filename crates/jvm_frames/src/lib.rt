@@ -24,6 +24,3 @@ pub use operands::{NoMemory, Operands};
 pub use switching::keys_rise;
 pub use trap::Trap;
 pub use waiting::Waiting;
-
-#[cfg(test)]
-mod tests;

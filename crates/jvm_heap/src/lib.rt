@@ -7,6 +7,3 @@ mod heap;
 mod instructions;
 
 pub use heap::Heap;
-
-#[cfg(test)]
-mod tests;

@@ -14,6 +14,3 @@ mod run;
 pub use linked::Linked;
 pub use linking::link;
 pub use name_resolution::{LinkError, LinkFault, NoMemory};
-
-#[cfg(test)]
-mod tests;

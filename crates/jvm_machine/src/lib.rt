@@ -12,6 +12,3 @@ mod turning;
 
 pub use jvm::Jvm;
 pub use loading::NoMemory;
-
-#[cfg(test)]
-mod tests;

@@ -3,8 +3,6 @@
 
 mod cutting;
 mod span;
-#[cfg(test)]
-mod tests;
 
 pub use cutting::cut;
 pub use span::Span;
