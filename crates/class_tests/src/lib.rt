@@ -17,6 +17,8 @@ mod frame_operands;
 #[cfg(test)]
 mod heap_arrays;
 #[cfg(test)]
+mod inferred_types;
+#[cfg(test)]
 mod linked_sets;
 #[cfg(test)]
 mod loaded_sets;

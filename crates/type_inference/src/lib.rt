@@ -15,6 +15,3 @@ mod shuffle;
 mod successors;
 
 pub use method::check_method;
-
-#[cfg(test)]
-mod tests;

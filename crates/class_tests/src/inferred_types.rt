@@ -1,10 +1,10 @@
 //! Methods made by hand, with their verdicts.
-use crate::method::check_method;
 use class_format::Sequence;
 use jvm_code::{ArrayName, BranchName, IntArithmetic, ReturnName, StackName, TableSwitch};
 use jvm_program::{ArrayKind, Constant, Instruction, Kind, LinkedLine, LinkedMethod, LocalKind};
 use std::alloc::{AllocError, Global};
 use std::test::Fail;
+use type_inference::check_method;
 
 fn int() -> Instruction {
     Instruction::Push(Constant::Int(0))
