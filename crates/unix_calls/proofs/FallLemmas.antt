@@ -18,7 +18,8 @@ use Rattle.unix_calls.specs.Held.{system_of}
 use Rattle.unix_calls.specs.Drawing.{known}
 use Rattle.unix_calls.specs.Serving.{Parts}
 use Rattle.unix_calls.proofs.DrawLemmas.{consumes-both}
-use Rattle.unix_calls.proofs.GainLemmas.{gains-both}
+use Rattle.nv_events.proofs.Progress.{end_not_waiting}
+use Rattle.nv_outside.proofs.WriteLemmas.{Appends-both}
 use Rattle.unix_calls.specs.Playing.{behind, Answers, Fails, Holds, Falls}
 use Rattle.unix_calls.proofs.FrameLemmas.{Same, unix-framed}
 use Rattle.unix_calls.proofs.PlayLemmas.{told-on, replies}

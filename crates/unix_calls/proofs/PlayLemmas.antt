@@ -16,7 +16,7 @@ use Rattle.unix_calls.specs.Held.{system_of}
 use Rattle.unix_calls.specs.Drawing.{known}
 use Rattle.unix_calls.specs.Serving.{Parts}
 use Rattle.unix_calls.proofs.DrawLemmas.{consumes-nothing, consumes-both}
-use Rattle.unix_calls.proofs.GainLemmas.{gains-nothing, gains-both}
+use Rattle.nv_outside.proofs.WriteLemmas.{Appends-nothing, Appends-both}
 use Rattle.unix_calls.specs.Playing.{Answers, Fails, Holds, Plays}
 
 pub told-on : (a b : Option (List ℕ)) (rest got : List ℕ) → a ≡ Some rest → Consumes a b got → (b ≡ Some (known b)) × (rest ≡ got ++ known b)
