@@ -1,0 +1,4 @@
+mod Lying
+mod Joining
+mod Counting
+mod Calling

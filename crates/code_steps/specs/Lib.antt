@@ -1,0 +1,4 @@
+pub mod Widths
+pub mod Outcomes
+pub mod Placing
+pub mod Leading
