@@ -20,11 +20,6 @@ const STORED: &[Stored] = &[
     (LONGS, &[(73, 0), (74, 0x31)], (9, 0, 1)),
 ];
 
-/// The bytes that are made of a class that bytes are.
-fn again(alloc: Global, class: &Class) -> Result<Vec<u8>, Fail> {
-    Ok(write_class(alloc, class).ok().ok_or("there is memory")?)
-}
-
 /// The code of the methods of a class, one behind the other, as it is made of its instructions.
 fn codes_again(alloc: Global, class: &Class) -> Result<Vec<u8>, Fail> {
     let mut all = Vec::new(alloc);
@@ -58,7 +53,8 @@ fn classes_are_made_again(rt: HostRuntime) -> Result<(), Fail> {
             read.methods.as_slice().len(),
         );
         assert_eq!(rt; found, *counts);
-        assert_eq!(rt; again(alloc, &read)?.as_slice(), bytes.as_slice());
+        let again = write_class(alloc, &read).ok().ok_or("there is memory")?;
+        assert_eq!(rt; again.as_slice(), bytes.as_slice());
         assert_eq!(rt; codes_again(alloc, &read)?, codes(alloc, &read)?);
     }
     Ok(())
