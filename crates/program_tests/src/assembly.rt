@@ -1,7 +1,7 @@
 //! Texts and the files that they become, and faulty texts.
 use crate::programs::EXIT_7;
 use mips_asm::{AsmError, AsmFault, assemble};
-use std::alloc::Global;
+use std::alloc::{AllocError, Global};
 use std::test::Fail;
 
 /// Every instruction, labels both ways, and the halves of addresses.
@@ -97,6 +97,20 @@ fn word_of(file: &[u8], at: usize) -> u32 {
     }
 }
 
+/// So many words from a place of a file on.
+fn words_of(
+    alloc: Global,
+    file: &[u8],
+    place: usize,
+    count: usize,
+) -> Result<Vec<u32>, AllocError> {
+    let mut words = Vec::new(alloc);
+    for i in 0..count {
+        words.push(word_of(file, i.saturating_mul(4).saturating_add(place)))?;
+    }
+    Ok(words)
+}
+
 /// The file of a short text.
 fn assemble_short(alloc: Global, text: &str) -> Result<Vec<u8>, AsmError> {
     let bytes = text.as_bytes();
@@ -156,11 +170,11 @@ fn gives_the_words_of_texts(rt: HostRuntime) -> Result<(), Fail> {
     ];
     for (text, place, words) in rows {
         let file = assemble_short(alloc, text)?;
-        let mut at = place;
-        for word in words {
-            assert_eq!(rt; word_of(&file, at), *word, "{at}");
-            at = at.saturating_add(4);
-        }
+        assert_eq!(rt;
+            words_of(alloc, &file, place, words.len())?.as_slice(),
+            words,
+            "{text}"
+        );
     }
     Ok(())
 }
