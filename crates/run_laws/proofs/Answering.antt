@@ -1,17 +1,22 @@
 -- A run over a system is the run over the answers that the system gives. So what holds over all lists of answers holds over each system.
-use Rattle.std.proofs.Common.{◌≡◌, ◌≢◌, ℕ, zero, suc, Bool, true, false, if◌then◌else◌, IsTrue, List, [], ◌∷◌, ◌++◌, length, slice_get, Option, Some, None, refl, ap, sym, subst, ◌∙◌, append_assoc, unwrap_or}
-use Rattle.std.proofs.lemmas.List.{append-nil}
+use Rattle.std.proofs.Common.{◌≡◌, ◌≢◌, ℕ, zero, suc, ◌+◌, arith, inl, inr, ◌⊎◌, Bool, true, false, if◌then◌else◌, IsTrue, List, [], ◌∷◌, ◌++◌, length, slice_get, Option, Some, None, refl, ap, sym, subst, ◌∙◌, append_assoc, unwrap_or}
+use Rattle.std.proofs.lemmas.List.{append-nil, length-append}
 use Rattle.std.proofs.lemmas.Option.{none-some}
 use Rattle.nv_events.specs.Question.{Question}
 use Rattle.nv_events.specs.Answer.{Answer, fits, next_answer}
 use Rattle.nv_events.specs.Turn.{Turn, moves, ends, leaves, asks, End, exit, «fault», trap, outcome_of}
-use Rattle.nv_events.specs.Run.{Run, stops, asking, run_of}
+use Rattle.nv_events.specs.Run.{Run, stops, asking, left_over, run_of}
 use Rattle.nv_events.specs.Serving.{Leads}
 use Rattle.nv_events.specs.declared.outcome.Outcome.{Outcome}
-use Rattle.nv_events.specs.declared.outcome.Outcome.TheVariants.{Waiting, Going}
+use Rattle.nv_events.specs.declared.outcome.Outcome.TheVariants.{Exited, Faulted, Trapped, Waiting, Going}
 use Rattle.nv_events.proofs.LeadsLaws.{leads_over}
-use Rattle.nv_events.proofs.RunLaws.{given, turned, run_of-suc}
-use Rattle.run_laws.specs.Runs.{Agrees, SameRuns}
+use Rattle.nv_events.proofs.RunLaws.{given, turned, run_of-suc, run_of-ended, run_of-more}
+use Rattle.run_laws.specs.Runs.{Agrees, AgreesInCalls, SameRuns, SameCalls}
+
+end_waits_not : (e : End) → outcome_of e ≢ Waiting
+end_waits_not (exit status) h = cc
+end_waits_not («fault» f) h = cc
+end_waits_not (trap k) h = cc
 
 module _ {K : Type 0} (reply : K → Question → Option (Answer × K)) where
   abbrev pub Gives : K → Question → Answer → K → Type 0
@@ -40,11 +45,6 @@ module _ {K : Type 0} (reply : K → Question → Option (Answer × K)) where
     listed_end : {S : Type 0} (qs : List Question) (outcome : Outcome) (s : S) (k : K) → outcome ≢ Waiting → Listed k (stops qs outcome s k) [] (stops qs outcome s [])
     listed_end qs outcome s k over =
         record { questions = refl; outcome = refl; used = refl; leads = refl; waits = λ h. absurd (over h) }
-
-    end_waits_not : (e : End) → outcome_of e ≢ Waiting
-    end_waits_not (exit status) h = cc
-    end_waits_not («fault» f) h = cc
-    end_waits_not (trap k) h = cc
 
     listed_given : {S : Type 0} (got : Option (Answer × K)) (q : Question) (next : Answer → S) (s : S) (k : K) (go : S → K → Run S K) (over : S → List Answer → Run S (List Answer)) → reply k q ≡ got → ((t : S) (l : K) → (answers : List Answer) × Listed l (go t l) answers (over t answers)) → (answers : List Answer) × Listed k (given got q next s k go) answers (given (next_answer answers q) q next s answers over)
     listed_given None q next s k go over e h =
@@ -122,31 +122,6 @@ module _ {K : Type 0} (reply : K → Question → Option (Answer × K)) where
         let by = told_turned (turn s) answers s k last (run_of turn reply n) (run_of turn next_answer n) (λ t l rest led. told_of turn n t l last rest led) (subst (λ (r : Run S (List Answer)). Leads Gives k r.questions answers last) first leads) in
         subst (λ (r : Run S (List Answer)). Told answers last r (run_of turn reply (suc n) s k)) (sym first) (subst (λ (r : Run S K). Told answers last (turned next_answer (turn s) s answers (run_of turn next_answer n)) r) (sym (run_of-suc turn reply n s k)) by)
 
-    -- ---- two machines
-
-    pub agrees_told : {S T : Type 0} (one : S → Turn S) (other : T → Turn T) (n m : ℕ) (s : S) (t : T) → ((answers : List Answer) → Agrees (run_of one next_answer n s answers) (run_of other next_answer m t answers)) → (k : K) → Agrees (run_of one reply n s k) (run_of other reply m t k)
-    agrees_told one other n m s t all k =
-        let r = run_of one reply n s k in
-        let by = listed_of one n s k in
-        let answers = by.0 in
-        let l = by.1 in
-        let a = all answers in
-        let listed = run_of other next_answer m t answers in
-        let asks_more : listed.questions ≡ r.questions ++ a.questions.0 = a.questions.1 ∙ ap (λ qs. qs ++ a.questions.0) l.questions in
-        let more = leads_over Gives k r.system r.questions a.questions.0 answers l.leads in
-        let led : Leads Gives k listed.questions answers r.system = subst (λ (qs : List Question). Leads Gives k qs answers r.system) (sym asks_more) more in
-        let u = told_of other m t k r.system answers led in
-        record {
-          questions = (a.questions.0 ++ u.questions.0, u.questions.1 ∙ ap (λ qs. qs ++ u.questions.0) asks_more ∙ append_assoc r.questions a.questions.0 u.questions.0);
-          over = λ h. let o = a.over (λ e. h (sym l.outcome ∙ e)) in let outcome : listed.outcome ≡ r.outcome = o.1 ∙ l.outcome in let questions : listed.questions ≡ r.questions = o.0 ∙ l.questions in let v = u.over (λ e. h (sym outcome ∙ e)) (λ w. subst (λ (qs : List Question). HasNone qs answers r.system) (sym questions) (l.waits (sym outcome ∙ w))) in (v.0 ∙ questions, v.1 ∙ outcome, v.2 (o.2 ∙ l.used));
-        }
-
-    pub same_told : {G J : Type 0} (guest : G → Turn G) (classes : J → Turn J) (allowance : ℕ → ℕ) (g : G) (j : J) → ((answers : List Answer) → SameRuns guest classes next_answer allowance g j answers) → (k : K) → SameRuns guest classes reply allowance g j k
-    same_told guest classes allowance g j same k = record {
-      forth = λ n. agrees_told guest classes n (allowance n) g j (λ answers. (same answers).forth n) k;
-      back = λ m. agrees_told classes guest m m j g (λ answers. (same answers).back m) k;
-    }
-
 -- an answer of a list fits
 abbrev first_if : Bool → Answer → List Answer → Option (Answer × List Answer)
 first_if fit b answers = if fit then Some (b, answers) else None
@@ -159,3 +134,157 @@ first_fits false b answers left q a f h = absurd (none-some (a, left) h)
 pub next_fits : (answers left : List Answer) (q : Question) (a : Answer) → next_answer answers q ≡ Some (a, left) → IsTrue (fits a q)
 next_fits [] left q a e = absurd (none-some (a, left) e)
 next_fits (b ∷ answers) left q a e = first_fits (fits b q) b answers left q a refl e
+
+-- ---- how a run uses its list of answers
+
+length_none : {A : Type 0} (xs : List A) → length xs ≡ 0 → xs ≡ []
+length_none [] e = refl
+length_none (x ∷ xs) e = absurd (omega arith)
+
+none_behind : {A : Type 0} (xs ys : List A) → xs ++ ys ≡ [] → ys ≡ []
+none_behind [] ys e = e
+none_behind (x ∷ xs) ys e = cc
+
+waits_or_not : (o : Outcome) → (o ≡ Waiting) ⊎ (o ≢ Waiting)
+waits_or_not (Exited status) = inr (λ h. cc)
+waits_or_not (Faulted f) = inr (λ h. cc)
+waits_or_not (Trapped t) = inr (λ h. cc)
+waits_or_not Waiting = inl refl
+waits_or_not Going = inr (λ h. cc)
+
+-- a run that has used its list
+abbrev spent : {S : Type 0} → Run S (List Answer) → Run S (List Answer)
+spent r = record { questions = r.questions; outcome = r.outcome; last = r.last; system = [] }
+
+-- a run over answers is that over the first ones, which it has used
+record Uses {S : Type 0} (go : List Answer → Run S (List Answer)) (answers : List Answer) (r : Run S (List Answer)) : Type 0 where
+  pub used : List Answer
+  pub parts : answers ≡ used ++ r.system
+  pub as_many : r.outcome ≡ Waiting → length r.questions ≡ length used + 1
+  pub alone : r.outcome ≢ Waiting → go used ≡ spent r
+
+module _ {S : Type 0} (q : Question) (next : Answer → S) (s : S) (go : S → List Answer → Run S (List Answer)) (h : (t : S) (left : List Answer) → Uses (go t) left (go t left)) where
+  abbrev asks_over : List Answer → Run S (List Answer)
+  asks_over answers = turned next_answer (asks q next) s answers go
+
+  abbrev asks_by : Bool → Answer → List Answer → Run S (List Answer)
+  asks_by fit a rest = given (first_if fit a rest) q next s (a ∷ rest) go
+
+  uses_fit : (fit : Bool) (a : Answer) (rest : List Answer) → fits a q ≡ fit → Uses asks_over (a ∷ rest) (asks_by fit a rest)
+  uses_fit true a rest e =
+      let u = h (next a) rest in
+      record {
+        used = a ∷ u.used;
+        parts = ap (λ xs. a ∷ xs) u.parts;
+        as_many = λ w. let n = u.as_many w in omega arith;
+        alone = λ over. ap (λ fit. asks_by fit a u.used) e ∙ ap (asking q) (u.alone over);
+      }
+  uses_fit false a rest e =
+      record { used = []; parts = refl; as_many = λ w. refl; alone = λ over. absurd (over refl) }
+
+  uses_asks : (answers : List Answer) → Uses asks_over answers (asks_over answers)
+  uses_asks [] =
+      record { used = []; parts = refl; as_many = λ w. refl; alone = λ over. absurd (over refl) }
+  uses_asks (a ∷ rest) = uses_fit (fits a q) a rest refl
+
+uses_turned : {S : Type 0} (x : Turn S) (s : S) (go : S → List Answer → Run S (List Answer)) → ((t : S) (left : List Answer) → Uses (go t) left (go t left)) → (answers : List Answer) → Uses (λ given. turned next_answer x s given go) answers (turned next_answer x s answers go)
+uses_turned (moves t) s go h answers = h t answers
+uses_turned (ends e) s go h answers =
+    record { used = []; parts = refl; as_many = λ w. absurd (end_waits_not e w); alone = λ over. refl }
+uses_turned (leaves q e) s go h answers =
+    record { used = []; parts = refl; as_many = λ w. absurd (end_waits_not e w); alone = λ over. refl }
+uses_turned (asks q next) s go h answers = uses_asks q next s go h answers
+
+uses_of : {S : Type 0} (turn : S → Turn S) (n : ℕ) (s : S) (answers : List Answer) → Uses (run_of turn next_answer n s) answers (run_of turn next_answer n s answers)
+uses_of turn zero s answers =
+    record { used = []; parts = refl; as_many = λ w. let e : Going ≡ Waiting = w in absurd (cc); alone = λ over. refl }
+uses_of {S} turn (suc n) s answers =
+    let u = uses_turned (turn s) s (run_of turn next_answer n) (λ t left. uses_of turn n t left) answers in
+    let first = λ (given : List Answer). run_of-suc turn next_answer n s given in
+    let r = run_of turn next_answer (suc n) s answers in
+    let same = first answers in
+    record {
+      used = u.used;
+      parts = u.parts ∙ ap (λ (x : Run S (List Answer)). u.used ++ x.system) (sym same);
+      as_many = λ w. ap (λ (x : Run S (List Answer)). length x.questions) same ∙ u.as_many (sym (ap (λ (x : Run S (List Answer)). x.outcome) same) ∙ w);
+      alone = λ over. first u.used ∙ u.alone (λ w. over (ap (λ (x : Run S (List Answer)). x.outcome) same ∙ w)) ∙ ap spent (sym same);
+    }
+
+-- A run that is over and has used its list, and one of another machine that has asked the same and is over in the same way: it has
+-- used the list too, where what is over there on any list is over here.
+module _ {S T : Type 0} (one : S → Turn S) (other : T → Turn T) (n m bound : ℕ) (s : S) (t : T) (return : (answers : List Answer) → AgreesInCalls (run_of other next_answer m t answers) (run_of one next_answer bound s answers)) (answers : List Answer) where
+  abbrev first_run : Run S (List Answer)
+  first_run = run_of one next_answer n s answers
+
+  abbrev second_run : Run T (List Answer)
+  second_run = run_of other next_answer m t answers
+
+  used_by_waiting : first_run.system ≡ [] → second_run.questions ≡ first_run.questions → second_run.outcome ≡ Waiting → first_run.outcome ≡ Waiting → second_run.system ≡ []
+  used_by_waiting none questions waits first_waits =
+      let u = uses_of one n s answers in
+      let v = uses_of other m t answers in
+      let a : length answers ≡ length (u.used ++ first_run.system) = ap length u.parts in
+      let b : length answers ≡ length (v.used ++ second_run.system) = ap length v.parts in
+      let c = length-append u.used first_run.system in
+      let d = length-append v.used second_run.system in
+      let e : length first_run.system ≡ 0 = ap length none in
+      let f = u.as_many first_waits in
+      let g = v.as_many waits in
+      let i : length second_run.questions ≡ length first_run.questions = ap length questions in
+      length_none second_run.system (omega (arith, a, b, c, d, e, f, g, i))
+
+  used_by_end : first_run.system ≡ [] → first_run.outcome ≢ Going → second_run.outcome ≢ Going → second_run.outcome ≢ Waiting → second_run.system ≡ []
+  used_by_end none over second_over waits =
+      let v = uses_of other m t answers in
+      let alone = v.alone waits in
+      let part = run_of one next_answer bound s v.used in
+      let outcome : (run_of other next_answer m t v.used).outcome ≡ second_run.outcome = ap (λ (x : Run T (List Answer)). x.outcome) alone in
+      let same = (return v.used).over (λ e. second_over (sym outcome ∙ e)) in
+      let part_outcome : part.outcome ≡ second_run.outcome = same.1 ∙ outcome in
+      let more : run_of one next_answer bound s (v.used ++ second_run.system) ≡ left_over part second_run.system = run_of-more one bound s v.used second_run.system (λ e. waits (sym part_outcome ∙ e)) in
+      let whole : run_of one next_answer bound s answers ≡ left_over part second_run.system = ap (run_of one next_answer bound s) v.parts ∙ more in
+      let whole_over : (run_of one next_answer bound s answers).outcome ≢ Going = λ e. second_over (sym part_outcome ∙ sym (ap (λ (x : Run S (List Answer)). x.outcome) whole) ∙ e) in
+      let long : run_of one next_answer (n + bound) s answers ≡ first_run = run_of-ended one next_answer n (n + bound) s answers (omega arith) over in
+      let long_too : run_of one next_answer (n + bound) s answers ≡ run_of one next_answer bound s answers = run_of-ended one next_answer bound (n + bound) s answers (omega arith) whole_over in
+      none_behind part.system second_run.system (sym (ap (λ (x : Run S (List Answer)). x.system) whole) ∙ ap (λ (x : Run S (List Answer)). x.system) (sym long_too ∙ long) ∙ none)
+
+  pub used_up : first_run.system ≡ [] → first_run.outcome ≢ Going → second_run.questions ≡ first_run.questions → second_run.outcome ≡ first_run.outcome → second_run.system ≡ []
+  used_up none over questions outcome = elim (waits_or_not second_run.outcome) [
+    | inl waits ↦ used_by_waiting none questions waits (sym outcome ∙ waits)
+    | inr not_waits ↦ used_by_end none over (λ e. over (sym outcome ∙ e)) not_waits
+  ]
+
+-- ---- two machines
+
+module _ {K : Type 0} (reply : K → Question → Option (Answer × K)) (fitting : (k l : K) (q : Question) (a : Answer) → reply k q ≡ Some (a, l) → IsTrue (fits a q)) where
+  pub agrees_told : {S T : Type 0} (one : S → Turn S) (other : T → Turn T) (n m bound : ℕ) (s : S) (t : T) → ((answers : List Answer) → AgreesInCalls (run_of one next_answer n s answers) (run_of other next_answer m t answers)) → ((answers : List Answer) → AgreesInCalls (run_of other next_answer m t answers) (run_of one next_answer bound s answers)) → (k : K) → Agrees (run_of one reply n s k) (run_of other reply m t k)
+  agrees_told one other n m bound s t all return k =
+      let r = run_of one reply n s k in
+      let by = listed_of reply fitting one n s k in
+      let answers = by.0 in
+      let l = by.1 in
+      let a = all answers in
+      let listed = run_of other next_answer m t answers in
+      let asks_more : listed.questions ≡ r.questions ++ a.questions.0 = a.questions.1 ∙ ap (λ qs. qs ++ a.questions.0) l.questions in
+      let more = leads_over (Gives reply) k r.system r.questions a.questions.0 answers l.leads in
+      let led : Leads (Gives reply) k listed.questions answers r.system = subst (λ (qs : List Question). Leads (Gives reply) k qs answers r.system) (sym asks_more) more in
+      let u = told_of reply fitting other m t k r.system answers led in
+      record {
+        questions = (a.questions.0 ++ u.questions.0, u.questions.1 ∙ ap (λ qs. qs ++ u.questions.0) asks_more ∙ append_assoc r.questions a.questions.0 u.questions.0);
+        over = λ h. let stopped : (run_of one next_answer n s answers).outcome ≢ Going = λ e. h (sym l.outcome ∙ e) in let o = a.over stopped in let outcome : listed.outcome ≡ r.outcome = o.1 ∙ l.outcome in let questions : listed.questions ≡ r.questions = o.0 ∙ l.questions in let v = u.over (λ e. h (sym outcome ∙ e)) (λ w. subst (λ (qs : List Question). HasNone reply qs answers r.system) (sym questions) (l.waits (sym outcome ∙ w))) in (v.0 ∙ questions, v.1 ∙ outcome, v.2 (used_up one other n m bound s t return answers l.used stopped o.0 o.1));
+      }
+
+  pub same_told : {G J : Type 0} (guest : G → Turn G) (classes : J → Turn J) (allowance : ℕ → ℕ) (g : G) (j : J) → ((answers : List Answer) → SameCalls guest classes next_answer allowance g j answers) → (k : K) → SameRuns guest classes reply allowance g j k
+  same_told guest classes allowance g j same k = record {
+    forth = λ n. agrees_told guest classes n (allowance n) (allowance n) g j (λ answers. (same answers).forth n) (λ answers. (same answers).back (allowance n)) k;
+    back = λ m. agrees_told classes guest m m (allowance m) j g (λ answers. (same answers).back m) (λ answers. (same answers).forth m) k;
+  }
+
+-- runs that are the same make the same calls
+pub calls_of : {S T K : Type 0} (r : Run S K) (s : Run T K) → Agrees r s → AgreesInCalls r s
+calls_of r s a =
+    record { questions = a.questions; over = λ h. let o = a.over h in (o.0, o.1) }
+
+pub same_calls : {G J K : Type 0} (guest : G → Turn G) (classes : J → Turn J) (reply : K → Question → Option (Answer × K)) (allowance : ℕ → ℕ) (g : G) (j : J) (k : K) → SameRuns guest classes reply allowance g j k → SameCalls guest classes reply allowance g j k
+same_calls guest classes reply allowance g j k same =
+    record { forth = λ n. calls_of _ _ (same.forth n); back = λ m. calls_of _ _ (same.back m) }

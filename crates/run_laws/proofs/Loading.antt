@@ -2,7 +2,7 @@
 use Rattle.std.proofs.Common.{◌≡◌, ℕ, zero, suc, ◌+◌, ◌-◌, ◌*◌, ◌≤◌, if◌then◌else◌, IsTrue, List, [], ◌∷◌, ◌++◌, Option, Some, None, refl, ap, sym, subst, ◌∙◌, arith, inl, inr}
 use Rattle.std.proofs.lemmas.Bool.{cases_lt}
 use Rattle.std.proofs.lemmas.List.{append-nil}
-use Rattle.std.proofs.lemmas.List.Sums.{sum_by-append}
+use Rattle.std.proofs.lemmas.List.Sums.{sum_by-append, sum_by-cons}
 use Rattle.std.proofs.lemmas.Option.{none-some}
 use Rattle.std.specs.List.{sum_by}
 use Rattle.nv_events.specs.Question.{Question}
@@ -12,6 +12,7 @@ use Rattle.nv_events.specs.Run.{run_of}
 use Rattle.run_laws.specs.Trail.{Step, went, stood, trail_given, trail_by, trail_of, is_call, after_call, if_moves, advanced, moved}
 use Rattle.run_laws.specs.Turns.{Pair, ComesToRest, Alike, Follows, LawOfMarks, Loads, Translates}
 use Rattle.run_laws.specs.Runs.{SameRuns, allowance}
+use Rattle.run_laws.proofs.Passing.{moved_grows}
 use Rattle.run_laws.proofs.Reaching.{reached_moved, advanced_less}
 use Rattle.run_laws.proofs.Rounds.{Round}
 use Rattle.run_laws.proofs.Following.{round_of}
@@ -143,4 +144,30 @@ module _ {G J I K : Type 0} (p : Pair G J I) (reply : K → Question → Option 
       elim (cases_lt l.class_turns m) [
         | inr less ↦ let none : sum_by c (after_call p.classes (trail_of p.classes reply m j k)) ≡ 0 = ap (sum_by c) (classes_before m k less) in omega arith
         | inl more ↦ let x = m - l.class_turns - 1 in let e : m ≡ l.class_turns + suc x = omega arith in let y = m - 1 in let f : m ≡ suc y = omega arith in let classes : sum_by c (after_call p.classes (trail_of p.classes reply m j k)) ≡ sum_by c (after_call p.classes (trail_given (reply k l.question) l.class_next l.class_at (trail_of p.classes reply x))) = ap (λ z. sum_by c (after_call p.classes (trail_of p.classes reply z j k))) e ∙ ap (sum_by c) (classes_after x k) in let guest : sum_by d (after_call p.guest (trail_of p.guest reply m g k)) ≡ sum_by d (after_call p.guest (trail_given (reply k l.question) l.guest_next g (trail_of p.guest reply y))) = ap (λ z. sum_by d (after_call p.guest (trail_of p.guest reply z g k))) f ∙ ap (sum_by d) (guest_after y k) in let both = count_given i y x k (reply k l.question) (omega arith) refl in omega arith
+      ]
+
+  -- ---- nothing before the call
+
+  whole_given : (f : Step J → ℕ) → ((to : Option J) → f (record { from = t.loads.class_at; to = to }) ≡ 0) → (m : ℕ) (got : Option (Answer × K)) → sum_by f (trail_given got t.loads.class_next t.loads.class_at (trail_of p.classes reply m)) ≡ sum_by f (after_call p.classes (trail_given got t.loads.class_next t.loads.class_at (trail_of p.classes reply m)))
+  whole_given f none m None =
+      let l = t.loads in
+      let cons : sum_by f (stood l.class_at ∷ []) ≡ f (stood l.class_at) + 0 = sum_by-cons f (stood l.class_at) [] in
+      let here = none None in
+      let after : sum_by f (after_call p.classes (stood l.class_at ∷ [])) ≡ 0 = ap (sum_by f) (after_asks p.classes l.question l.class_next (stood l.class_at) [] l.class_asks) in
+      omega (arith, cons, here, after)
+  whole_given f none m (Some given) =
+      let l = t.loads in
+      let step = went l.class_at (l.class_next given.0) in
+      let rest = trail_of p.classes reply m (l.class_next given.0) given.1 in
+      let cons : sum_by f (step ∷ rest) ≡ f step + sum_by f rest = sum_by-cons f step rest in
+      let here = none (Some (l.class_next given.0)) in
+      let after : sum_by f (after_call p.classes (step ∷ rest)) ≡ sum_by f rest = ap (sum_by f) (after_asks p.classes l.question l.class_next step rest l.class_asks) in
+      omega (arith, cons, here, after)
+
+  pub whole_counts : (f : Step J → ℕ) → sum_by f (moved p.classes t.loads.class_turns j) ≡ 0 → ((to : Option J) → f (record { from = t.loads.class_at; to = to }) ≡ 0) → (m : ℕ) (k : K) → sum_by f (trail_of p.classes reply m j k) ≡ sum_by f (after_call p.classes (trail_of p.classes reply m j k))
+  whole_counts f before none m k =
+      let l = t.loads in
+      elim (cases_lt l.class_turns m) [
+        | inr less ↦ let after : sum_by f (after_call p.classes (trail_of p.classes reply m j k)) ≡ 0 = ap (sum_by f) (classes_before m k less) in let s = advanced_less p.classes m l.class_turns j l.class_at less l.class_comes in let gap : m - m ≡ 0 = omega arith in let here : sum_by f (trail_of p.classes reply m j k) ≡ sum_by f (moved p.classes m j) = ap (sum_by f) (trail_still p.classes reply m m j s.0 k (omega arith) s.1 ∙ ap (λ x. moved p.classes m j ++ trail_of p.classes reply x s.0 k) gap ∙ append-nil (moved p.classes m j)) in let part = moved_grows p.classes f m l.class_turns j less in omega arith
+        | inl more ↦ let x = m - l.class_turns - 1 in let e : m ≡ l.class_turns + suc x = omega arith in let given = trail_given (reply k l.question) l.class_next l.class_at (trail_of p.classes reply x) in let here : sum_by f (trail_of p.classes reply m j k) ≡ sum_by f (moved p.classes l.class_turns j) + sum_by f given = ap (λ z. sum_by f (trail_of p.classes reply z j k)) e ∙ ap (sum_by f) (classes_trail x k) ∙ sum_by-append f (moved p.classes l.class_turns j) given in let after : sum_by f (after_call p.classes (trail_of p.classes reply m j k)) ≡ sum_by f (after_call p.classes given) = ap (λ z. sum_by f (after_call p.classes (trail_of p.classes reply z j k))) e ∙ ap (sum_by f) (classes_after x k) in let same = whole_given f none x (reply k l.question) in omega arith
       ]

@@ -67,6 +67,19 @@ module _ {S : Type 0} (turn : S → Turn S) where
   pub moved_one : (s t : S) → turn s ≡ moves t → moved turn 1 s ≡ went s t ∷ []
   moved_one s t e = ap (λ x. if_moves x [] (λ u. went s u ∷ [])) e
 
+  split_from : (n k more : ℕ) (s t l : S) → n ≡ k + suc more → advanced turn k s ≡ Some t → advanced turn n s ≡ Some l → (u : S) × (turn t ≡ moves u) × (advanced turn more u ≡ Some l)
+  split_from n k more s t l e comes is =
+      first_move more t l (sym (ap (λ x. advanced turn x s) e ∙ advanced_add k (suc more) s t comes) ∙ is)
+
+  -- a trail with the step that follows some turns, and the rest
+  pub moved_parts : (n k more : ℕ) (s t u : S) → n ≡ k + suc more → advanced turn k s ≡ Some t → turn t ≡ moves u → moved turn n s ≡ (moved turn k s ++ went t u ∷ []) ++ moved turn more u
+  moved_parts n k more s t u e comes moves_on =
+      let step : moved turn (suc more) t ≡ went t u ∷ moved turn more u = ap (λ x. if_moves x [] (λ v. went t v ∷ moved turn more v)) moves_on in
+      ap (λ x. moved turn x s) e
+      ∙ moved_add k (suc more) s t comes
+      ∙ ap (λ xs. moved turn k s ++ xs) step
+      ∙ sym (append_assoc (moved turn k s) (went t u ∷ []) (moved turn more u))
+
 -- ---- parts
 
 module _ {G J I : Type 0} (p : Pair G J I) (k n : ℕ) (g : G) (j : J) (h : G) (l : J) (first : Passes p k n g j h l) where
@@ -178,42 +191,43 @@ module _ {G J I : Type 0} (p : Pair G J I) (k n : ℕ) (g : G) (j : J) (h : G) (
 -- ---- at rest
 
 module _ {G J I : Type 0} (p : Pair G J I) (Rests : G → J → Type 0) (limit : ℕ → ℕ) (k n : ℕ) (g : G) (j : J) (h : G) (l : J) (part : Passes p (k + 1) n g j h l) where
-  pub passes_to_rest : Rests h l → n ≤ limit (k + 1) → Follows p Rests limit g j
-  passes_to_rest rests in_time =
-      let no_sooner = part.no_sooner in
-      let a = advanced_less p.guest k (k + 1) g h (omega arith) part.guest_comes in
-      let b = advanced_less p.classes k n j l (omega arith) part.class_comes in
-      let more = n - k - 1 in
-      let e : n ≡ k + suc more = omega arith in
-      let one : k + 1 ≡ k + suc zero = omega arith in
-      let u = first_move p.guest zero a.0 h (sym (ap (λ x. advanced p.guest x g) one ∙ advanced_add p.guest k (suc zero) g a.0 a.1) ∙ part.guest_comes) in
-      let to : u.0 ≡ h = ap (λ (o : Option G). unwrap_or o h) u.2 in
-      let last : p.guest a.0 ≡ moves h = u.1 ∙ ap moves to in
-      let v = first_move p.classes more b.0 l (sym (ap (λ x. advanced p.classes x j) e ∙ advanced_add p.classes k (suc more) j b.0 b.1) ∙ part.class_comes) in
-      let guest_trail : moved p.guest (k + 1) g ≡ moved p.guest k g ++ went a.0 h ∷ [] = moved_add p.guest k 1 g a.0 a.1 ∙ ap (λ xs. moved p.guest k g ++ xs) (moved_one p.guest a.0 h last) in
-      let class_step : moved p.classes (suc more) b.0 ≡ went b.0 v.0 ∷ moved p.classes more v.0 = ap (λ x. if_moves x [] (λ t. went b.0 t ∷ moved p.classes more t)) v.1 in
-      let class_trail : moved p.classes n j ≡ (moved p.classes k j ++ went b.0 v.0 ∷ []) ++ moved p.classes more v.0 = ap (λ x. moved p.classes x j) e ∙ moved_add p.classes k (suc more) j b.0 b.1 ∙ ap (λ xs. moved p.classes k j ++ xs) class_step ∙ sym (append_assoc (moved p.classes k j) (went b.0 v.0 ∷ []) (moved p.classes more v.0)) in
+  moves_alike : (Goes : G → J → Type 0) (Ends : Type 0) (x : Turn G) (y : Turn J) (h₂ : G) (l₂ : J) → x ≡ moves h₂ → y ≡ moves l₂ → Goes h₂ l₂ → Alike Goes Ends x y
+  moves_alike Goes Ends x y h₂ l₂ first second goes =
+      let both : Alike Goes Ends (moves h₂) (moves l₂) = goes in
+      subst (λ (z : Turn G). Alike Goes Ends z y) (sym first) (subst (λ (z : Turn J). Alike Goes Ends (moves h₂) z) (sym second) both)
+
+  rest_by : (more : ℕ) (a : G) (b v : J) → n ≡ k + suc more → advanced p.guest k g ≡ Some a → p.guest a ≡ moves h → advanced p.classes k j ≡ Some b → p.classes b ≡ moves v → advanced p.classes more v ≡ Some l → Rests h l → n ≤ limit (k + 1) → Follows p Rests limit g j
+  rest_by more a b v e guest_comes guest_moves class_comes class_moves comes rests in_time =
+      let guest_trail : moved p.guest (k + 1) g ≡ moved p.guest k g ++ went a h ∷ [] = moved_add p.guest k 1 g a guest_comes ∙ ap (λ xs. moved p.guest k g ++ xs) (moved_one p.guest a h guest_moves) in
+      let class_trail : moved p.classes n j ≡ (moved p.classes k j ++ went b v ∷ []) ++ moved p.classes more v = moved_parts p.classes n k more j b v e class_comes class_moves in
       record {
         guest_turns = k;
         class_turns = k;
-        guest_at = a.0;
-        class_at = b.0;
-        guest_comes = a.1;
-        class_comes = b.1;
+        guest_at = a;
+        class_at = b;
+        guest_comes = guest_comes;
+        class_comes = class_comes;
         no_sooner = omega arith;
         unmarked = λ m t some less is. part.unmarked m t some (omega arith) is;
         early = λ i m less. part.early i m (omega arith);
-        alike = moves_alike _ _ (p.guest a.0) (p.classes b.0) h v.0 last v.1 (record {
+        alike = moves_alike _ _ (p.guest a) (p.classes b) h v guest_moves class_moves (record {
           more = more;
           rest = l;
-          comes = v.2;
+          comes = comes;
           rests = rests;
           in_time = omega arith;
           counted = λ i. let paid = part.counted i in let x = ap (sum_by (p.tally i).guest) guest_trail in let y = ap (sum_by (p.tally i).classes) class_trail in omega arith;
         });
       }
-    where
-      moves_alike : (Goes : G → J → Type 0) (Ends : Type 0) (x : Turn G) (y : Turn J) (h₂ : G) (l₂ : J) → x ≡ moves h₂ → y ≡ moves l₂ → Goes h₂ l₂ → Alike Goes Ends x y
-      moves_alike Goes Ends x y h₂ l₂ first second goes =
-          let both : Alike Goes Ends (moves h₂) (moves l₂) = goes in
-          subst (λ (z : Turn G). Alike Goes Ends z y) (sym first) (subst (λ (z : Turn J). Alike Goes Ends (moves h₂) z) (sym second) both)
+
+  pub passes_to_rest : Rests h l → n ≤ limit (k + 1) → Follows p Rests limit g j
+  passes_to_rest rests in_time =
+      let no_sooner = part.no_sooner in
+      let a = advanced_less p.guest k (k + 1) g h (omega arith) part.guest_comes in
+      let b = advanced_less p.classes k n j l (omega arith) part.class_comes in
+      let e : n ≡ k + suc (n - k - 1) = omega arith in
+      let one : k + 1 ≡ k + suc zero = omega arith in
+      let u = split_from p.guest (k + 1) k zero g a.0 h one a.1 part.guest_comes in
+      let to : u.0 ≡ h = ap (λ (o : Option G). unwrap_or o h) u.2 in
+      let v = split_from p.classes n k (n - k - 1) j b.0 l e b.1 part.class_comes in
+      rest_by (n - k - 1) a.0 b.0 v.0 e a.1 (u.1 ∙ ap moves to) b.1 v.1 v.2 rests in_time

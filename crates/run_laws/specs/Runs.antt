@@ -12,11 +12,20 @@ pub record Agrees {S T K : Type 0} (r : Run S K) (s : Run T K) : Type 0 where
   pub questions : (rest : List Question) × (s.questions ≡ r.questions ++ rest)
   pub over : r.outcome ≢ Going → (s.questions ≡ r.questions) × (s.outcome ≡ r.outcome) × (s.system ≡ r.system)
 
+-- The same of questions and outcomes alone.
+pub record AgreesInCalls {S T K L : Type 0} (r : Run S K) (s : Run T L) : Type 0 where
+  pub questions : (rest : List Question) × (s.questions ≡ r.questions ++ rest)
+  pub over : r.outcome ≢ Going → (s.questions ≡ r.questions) × (s.outcome ≡ r.outcome)
+
 -- Both machines run the same, both ways: n turns of the guest lie within the allowance for n of the classes' turns, and m turns of
 -- the classes within m of the guest's.
 pub record SameRuns {G J K : Type 0} (guest : G → Turn G) (classes : J → Turn J) (reply : K → Question → Option (Answer × K)) (allowance : ℕ → ℕ) (g : G) (j : J) (k : K) : Type 0 where
   pub forth : (n : ℕ) → Agrees (run_of guest reply n g k) (run_of classes reply (allowance n) j k)
   pub back : (m : ℕ) → Agrees (run_of classes reply m j k) (run_of guest reply m g k)
+
+pub record SameCalls {G J K : Type 0} (guest : G → Turn G) (classes : J → Turn J) (reply : K → Question → Option (Answer × K)) (allowance : ℕ → ℕ) (g : G) (j : J) (k : K) : Type 0 where
+  pub forth : (n : ℕ) → AgreesInCalls (run_of guest reply n g k) (run_of classes reply (allowance n) j k)
+  pub back : (m : ℕ) → AgreesInCalls (run_of classes reply m j k) (run_of guest reply m g k)
 
 abbrev pub allowance : ℕ → ℕ → ℕ → ℕ
 allowance most start n = most * (n + 1) + start

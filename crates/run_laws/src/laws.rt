@@ -7,9 +7,9 @@ ghost use Rattle.nv_events.specs.Answer.{Answer, fits, next_answer};
 ghost use Rattle.nv_events.specs.Turn.{Turn, End};
 ghost use Rattle.nv_events.specs.Run.{run_of};
 ghost use Rattle.nv_events.specs.declared.outcome.Outcome.TheVariants.{Going};
-ghost use Rattle.run_laws.specs.Trail.{Step, trail_of, after_call};
+ghost use Rattle.run_laws.specs.Trail.{Step, trail_of, after_call, advanced, moved};
 ghost use Rattle.run_laws.specs.Turns.{Pair, Passes, Follows, LawOfTurn, LawOfMarks, Translates};
-ghost use Rattle.run_laws.specs.Runs.{SameRuns, ComesBy, allowance};
+ghost use Rattle.run_laws.specs.Runs.{SameRuns, SameCalls, ComesBy, allowance};
 ghost use Rattle.run_laws.specs.Places.{Rises, visited, visits};
 ghost use Rattle.run_laws.specs.Meter.{metered, IsMetered};
 
@@ -21,16 +21,19 @@ pub fn same_runs<T: Translation>()
     ensures { (p : Pair T.Guest T.Classes T.Counted) (most start : ℕ) (allowed : T.Counted → ℕ) (g : T.Guest) (j : T.Classes) → Translates p T.rests most start allowed g j → (answers : List Answer) → SameRuns p.guest p.classes next_answer (allowance most start) g j answers }
 {}
 
-/// Machines that run the same for every list of answers run the same over each kind of system whose answers fit, and where they
-/// are over they leave it in the same state.
+/// Machines that ask the same and end in the same way for every list of answers run the same over each kind of system whose answers
+/// fit, and where they are over they leave it in the same state.
 pub fn same_runs_told<G: Machine, J: Machine, V: Server>()
     requires fitting { (k l : V.State) (q : Question) (a : Answer) → V.reply k q ≡ Some (a, l) → IsTrue (fits a q) }
-    ensures { (guest : G.State → Turn G.State) (classes : J.State → Turn J.State) (allowed : ℕ → ℕ) (g : G.State) (j : J.State) → ((answers : List Answer) → SameRuns guest classes next_answer allowed g j answers) → (k : V.State) → SameRuns guest classes V.reply allowed g j k }
+    ensures calls { (guest : G.State → Turn G.State) (classes : J.State → Turn J.State) (allowed : ℕ → ℕ) (g : G.State) (j : J.State) → ((answers : List Answer) → SameCalls guest classes next_answer allowed g j answers) → (k : V.State) → SameRuns guest classes V.reply allowed g j k }
+    ensures runs { (guest : G.State → Turn G.State) (classes : J.State → Turn J.State) (allowed : ℕ → ℕ) (g : G.State) (j : J.State) → ((answers : List Answer) → SameRuns guest classes next_answer allowed g j answers) → (k : V.State) → SameRuns guest classes V.reply allowed g j k }
 {}
 
-/// What the classes have counted in m turns after their first call is at most what the guest has, and what loading allows.
+/// What the classes have counted in m turns after their first call is at most what the guest has, and what loading allows. Where
+/// nothing is counted up to the call, that is all that they count.
 pub fn counts<T: Translation>()
-    ensures { (p : Pair T.Guest T.Classes T.Counted) (most start : ℕ) (allowed : T.Counted → ℕ) (g : T.Guest) (j : T.Classes) → Translates p T.rests most start allowed g j → (i : T.Counted) (m : ℕ) (answers : List Answer) → sum_by (p.tally i).classes (after_call p.classes (trail_of p.classes next_answer m j answers)) ≤ allowed i + sum_by (p.tally i).guest (after_call p.guest (trail_of p.guest next_answer m g answers)) }
+    ensures after_call { (p : Pair T.Guest T.Classes T.Counted) (most start : ℕ) (allowed : T.Counted → ℕ) (g : T.Guest) (j : T.Classes) → Translates p T.rests most start allowed g j → (i : T.Counted) (m : ℕ) (answers : List Answer) → sum_by (p.tally i).classes (after_call p.classes (trail_of p.classes next_answer m j answers)) ≤ allowed i + sum_by (p.tally i).guest (after_call p.guest (trail_of p.guest next_answer m g answers)) }
+    ensures all { (p : Pair T.Guest T.Classes T.Counted) (most start : ℕ) (allowed : T.Counted → ℕ) (g : T.Guest) (j : T.Classes) (t : Translates p T.rests most start allowed g j) (weight : Step T.Classes → ℕ) → sum_by weight (moved p.classes t.loads.class_turns j) ≡ 0 → ((to : Option T.Classes) → weight (record { from = t.loads.class_at; to = to }) ≡ 0) → (m : ℕ) (answers : List Answer) → sum_by weight (trail_of p.classes next_answer m j answers) ≡ sum_by weight (after_call p.classes (trail_of p.classes next_answer m j answers)) }
 {}
 
 /// Where the guest goes on at a marked state, after one turn at least, the classes come to its place with the same questions,
@@ -44,6 +47,15 @@ pub fn comes_to_marks<T: Translation>()
 pub fn runs_from_a_start<T: Translation>()
     ensures same { (p : Pair T.Guest T.Classes T.Counted) (most start : ℕ) (g : T.Guest) (j : T.Classes) → LawOfTurn p T.rests most → Follows p T.rests (λ k. start + 2 * most) g j → (answers : List Answer) → SameRuns p.guest p.classes next_answer (allowance most start) g j answers }
     ensures counts { (p : Pair T.Guest T.Classes T.Counted) (most start : ℕ) (g : T.Guest) (j : T.Classes) → LawOfTurn p T.rests most → Follows p T.rests (λ k. start + 2 * most) g j → (i : T.Counted) (m : ℕ) (answers : List Answer) → sum_by (p.tally i).classes (trail_of p.classes next_answer m j answers) ≤ (p.tally i).credit j + sum_by (p.tally i).guest (trail_of p.guest next_answer m g answers) }
+{}
+
+/// Turns that only move ask nothing, and come first: a run that begins with them is the run from where they lead, and its trail is
+/// theirs and that of the run from there.
+pub fn moves_come_first<M: Machine>()
+    ensures moves { (turn : M.State → Turn M.State) (n m : ℕ) (s t : M.State) → advanced turn n s ≡ Some t → advanced turn (n + m) s ≡ advanced turn m t }
+    ensures steps { (turn : M.State → Turn M.State) (n m : ℕ) (s t : M.State) → advanced turn n s ≡ Some t → moved turn (n + m) s ≡ moved turn n s ++ moved turn m t }
+    ensures runs { (turn : M.State → Turn M.State) (n m : ℕ) (s t : M.State) (answers : List Answer) → advanced turn n s ≡ Some t → run_of turn next_answer (n + m) s answers ≡ run_of turn next_answer m t answers }
+    ensures trails { (turn : M.State → Turn M.State) (n m : ℕ) (s t : M.State) (answers : List Answer) → advanced turn n s ≡ Some t → trail_of turn next_answer (n + m) s answers ≡ moved turn n s ++ trail_of turn next_answer m t answers }
 {}
 
 /// Parts of a turn, one after the other, are a part. A part before turns that follow makes turns that follow, within what both take.

@@ -1,0 +1,3 @@
+pub mod Guest
+pub mod Classes
+pub mod Code
