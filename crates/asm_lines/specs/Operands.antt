@@ -73,12 +73,15 @@ abbrev pub immediate : ℕ → LabelList → List ℕ → Result ℕ ℕ
 immediate low labels text =
     by_halves labels (name_within (codes "%hi(") text) (name_within (codes "%lo(") text) (number low 65535 16 text)
 
--- a shift amount; a code
+-- a shift amount; a code; a trap's code
 abbrev pub amount : List ℕ → Result ℕ ℕ
 amount text = number 0 31 5 text
 
 abbrev pub code : List ℕ → Result ℕ ℕ
 code text = number 0 1048575 20 text
+
+abbrev pub trap_code : List ℕ → Result ℕ ℕ
+trap_code text = number 0 1023 10 text
 
 abbrev pub later : Bool → Option ℕ → Option ℕ
 later here (Some i) = Some (i + 1)

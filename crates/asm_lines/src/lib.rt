@@ -1,4 +1,4 @@
-//! The lines of assembly texts for MIPS I, and what their operands stand for.
+//! The lines of assembly texts for MIPS II, and what their operands stand for.
 #![tactic(auto)]
 
 mod kinds;
@@ -23,7 +23,7 @@ pub use mnemonic::Mnemonic;
 pub use number::Number;
 pub use numbers::{number_of, register_of};
 pub use operand_texts::{one_operand, three_operands, two_operands};
-pub use operands::{amount, code, immediate, number_between, register};
+pub use operands::{amount, code, immediate, number_between, register, trap_code};
 pub use statement::Statement;
 pub use statements::statement_of;
 pub use targets::{branch_to, jump_to, target};

@@ -1,6 +1,7 @@
 use mips_decode::{
     ArithmeticImmediateName, ArithmeticName, BranchEqualName, BranchSignName, BranchZeroName, HiLo,
-    JumpName, LoadName, LogicalImmediateName, ProductName, ShiftName, StoreName, VariableShiftName,
+    JumpName, LoadName, LogicalImmediateName, ProductName, ShiftName, StoreName, TrapImmediateName,
+    TrapName, VariableShiftName,
 };
 
 /// The first word of an instruction's line. Those whose operands have one form share a variant.
@@ -26,13 +27,13 @@ pub enum Mnemonic {
     MoveTo(HiLo),
     /// MULT to DIVU: `$rs,$rt`.
     Product(ProductName),
-    /// BLTZ to BGEZAL: `$rs,to`.
+    /// BLTZ to BGEZALL: `$rs,to`.
     BranchSign(BranchSignName),
     /// J, JAL: `to`.
     Jump(JumpName),
-    /// BEQ, BNE: `$rs,$rt,to`.
+    /// BEQ to BNEL: `$rs,$rt,to`.
     BranchEqual(BranchEqualName),
-    /// BLEZ, BGTZ: `$rs,to`.
+    /// BLEZ to BGTZL: `$rs,to`.
     BranchZero(BranchZeroName),
     /// ADDI to SLTIU: `$rt,$rs,imm`.
     ArithmeticImmediate(ArithmeticImmediateName),
@@ -44,4 +45,14 @@ pub enum Mnemonic {
     Load(LoadName),
     /// SB to SWR: `$rt,imm($rs)`.
     Store(StoreName),
+    /// TGE to TNE: `$rs,$rt,code`.
+    Trap(TrapName),
+    /// TGEI to TNEI: `$rs,imm`.
+    TrapImmediate(TrapImmediateName),
+    /// SYNC: `sa`.
+    Sync,
+    /// LL: `$rt,imm($rs)`.
+    LoadLinked,
+    /// SC: `$rt,imm($rs)`.
+    StoreConditional,
 }

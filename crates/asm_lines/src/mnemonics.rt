@@ -6,11 +6,12 @@ ghost use Rattle.mips_decode.specs.Mnemonics as names;
 use crate::mnemonic::Mnemonic;
 use mips_decode::{
     ArithmeticImmediateName, ArithmeticName, BranchEqualName, BranchSignName, BranchZeroName, HiLo,
-    JumpName, LoadName, LogicalImmediateName, ProductName, ShiftName, StoreName, VariableShiftName,
+    JumpName, LoadName, LogicalImmediateName, ProductName, ShiftName, StoreName, TrapImmediateName,
+    TrapName, VariableShiftName,
 };
 
 /// Every mnemonic.
-const MNEMONICS: [Mnemonic; 58] = [
+const MNEMONICS: [Mnemonic; 81] = [
     Mnemonic::Arithmetic(ArithmeticName::Add),
     Mnemonic::Arithmetic(ArithmeticName::Addu),
     Mnemonic::Arithmetic(ArithmeticName::Sub),
@@ -43,12 +44,20 @@ const MNEMONICS: [Mnemonic; 58] = [
     Mnemonic::BranchSign(BranchSignName::Bgez),
     Mnemonic::BranchSign(BranchSignName::Bltzal),
     Mnemonic::BranchSign(BranchSignName::Bgezal),
+    Mnemonic::BranchSign(BranchSignName::Bltzl),
+    Mnemonic::BranchSign(BranchSignName::Bgezl),
+    Mnemonic::BranchSign(BranchSignName::Bltzall),
+    Mnemonic::BranchSign(BranchSignName::Bgezall),
     Mnemonic::Jump(JumpName::J),
     Mnemonic::Jump(JumpName::Jal),
     Mnemonic::BranchEqual(BranchEqualName::Beq),
     Mnemonic::BranchEqual(BranchEqualName::Bne),
+    Mnemonic::BranchEqual(BranchEqualName::Beql),
+    Mnemonic::BranchEqual(BranchEqualName::Bnel),
     Mnemonic::BranchZero(BranchZeroName::Blez),
     Mnemonic::BranchZero(BranchZeroName::Bgtz),
+    Mnemonic::BranchZero(BranchZeroName::Blezl),
+    Mnemonic::BranchZero(BranchZeroName::Bgtzl),
     Mnemonic::ArithmeticImmediate(ArithmeticImmediateName::Addi),
     Mnemonic::ArithmeticImmediate(ArithmeticImmediateName::Addiu),
     Mnemonic::ArithmeticImmediate(ArithmeticImmediateName::Slti),
@@ -69,6 +78,21 @@ const MNEMONICS: [Mnemonic; 58] = [
     Mnemonic::Store(StoreName::Swl),
     Mnemonic::Store(StoreName::Sw),
     Mnemonic::Store(StoreName::Swr),
+    Mnemonic::Trap(TrapName::Tge),
+    Mnemonic::Trap(TrapName::Tgeu),
+    Mnemonic::Trap(TrapName::Tlt),
+    Mnemonic::Trap(TrapName::Tltu),
+    Mnemonic::Trap(TrapName::Teq),
+    Mnemonic::Trap(TrapName::Tne),
+    Mnemonic::TrapImmediate(TrapImmediateName::Tgei),
+    Mnemonic::TrapImmediate(TrapImmediateName::Tgeiu),
+    Mnemonic::TrapImmediate(TrapImmediateName::Tlti),
+    Mnemonic::TrapImmediate(TrapImmediateName::Tltiu),
+    Mnemonic::TrapImmediate(TrapImmediateName::Teqi),
+    Mnemonic::TrapImmediate(TrapImmediateName::Tnei),
+    Mnemonic::Sync,
+    Mnemonic::LoadLinked,
+    Mnemonic::StoreConditional,
 ];
 
 /// The mnemonic that a word is.
@@ -118,6 +142,11 @@ fn text_of(mnemonic: Mnemonic) -> &'static [u8]
         Mnemonic::LoadUpper => b"lui",
         Mnemonic::Load(name) => load_text(name),
         Mnemonic::Store(name) => store_text(name),
+        Mnemonic::Trap(name) => trap_text(name),
+        Mnemonic::TrapImmediate(name) => trap_immediate_text(name),
+        Mnemonic::Sync => b"sync",
+        Mnemonic::LoadLinked => b"ll",
+        Mnemonic::StoreConditional => b"sc",
     }
 }
 
@@ -177,6 +206,10 @@ fn branch_sign_text(name: BranchSignName) -> &'static [u8]
         BranchSignName::Bgez => b"bgez",
         BranchSignName::Bltzal => b"bltzal",
         BranchSignName::Bgezal => b"bgezal",
+        BranchSignName::Bltzl => b"bltzl",
+        BranchSignName::Bgezl => b"bgezl",
+        BranchSignName::Bltzall => b"bltzall",
+        BranchSignName::Bgezall => b"bgezall",
     }
 }
 
@@ -195,6 +228,8 @@ fn branch_equal_text(name: BranchEqualName) -> &'static [u8]
     match name {
         BranchEqualName::Beq => b"beq",
         BranchEqualName::Bne => b"bne",
+        BranchEqualName::Beql => b"beql",
+        BranchEqualName::Bnel => b"bnel",
     }
 }
 
@@ -204,6 +239,8 @@ fn branch_zero_text(name: BranchZeroName) -> &'static [u8]
     match name {
         BranchZeroName::Blez => b"blez",
         BranchZeroName::Bgtz => b"bgtz",
+        BranchZeroName::Blezl => b"blezl",
+        BranchZeroName::Bgtzl => b"bgtzl",
     }
 }
 
@@ -251,5 +288,31 @@ fn store_text(name: StoreName) -> &'static [u8]
         StoreName::Swl => b"swl",
         StoreName::Sw => b"sw",
         StoreName::Swr => b"swr",
+    }
+}
+
+fn trap_text(name: TrapName) -> &'static [u8]
+    ensures { result.now ≡ names.trap_text name }
+{
+    match name {
+        TrapName::Tge => b"tge",
+        TrapName::Tgeu => b"tgeu",
+        TrapName::Tlt => b"tlt",
+        TrapName::Tltu => b"tltu",
+        TrapName::Teq => b"teq",
+        TrapName::Tne => b"tne",
+    }
+}
+
+fn trap_immediate_text(name: TrapImmediateName) -> &'static [u8]
+    ensures { result.now ≡ names.trap_immediate_text name }
+{
+    match name {
+        TrapImmediateName::Tgei => b"tgei",
+        TrapImmediateName::Tgeiu => b"tgeiu",
+        TrapImmediateName::Tlti => b"tlti",
+        TrapImmediateName::Tltiu => b"tltiu",
+        TrapImmediateName::Teqi => b"teqi",
+        TrapImmediateName::Tnei => b"tnei",
     }
 }

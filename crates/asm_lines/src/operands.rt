@@ -39,6 +39,16 @@ pub fn code(text: &[u8]) -> Result<u32, u32>
     }
 }
 
+/// The code of a trap, 0 to 1023.
+pub fn trap_code(text: &[u8]) -> Result<u16, u32>
+    ensures { result ≡ operands.trap_code text.now }
+{
+    match number_between(0, 1023, 10, text) {
+        Ok(n) => Ok(n as u16),
+        Err(kind) => Err(kind),
+    }
+}
+
 /// The 16 bits of an immediate: a number from `-low` to 65535, `%hi(name)` or `%lo(name)`.
 pub fn immediate<'a>(low: u64, labels: &Labels<'a>, text: &'a [u8]) -> Result<u16, u32>
     requires { low ≤ 65536 }

@@ -27,8 +27,9 @@ pub fn parts_lie_behind_each_other()
     ensures { (program : Program) (m at : ℕ) (first second : List Step) → IsTrue (stays_within first) → LiesAt program m at (first ++ second) → LiesAt program m at first × LiesAt program m (at + size first) second }
 {}
 
-/// Branches go forward, so each step is executed at most once: there are no more instructions than steps.
-pub fn steps_are_executed_once()
+/// Branches go forward, so code executes no more instructions than it has steps, and where it stops no more than stand before that
+/// step.
+pub fn no_more_instructions_than_steps()
     ensures { (program : Program) (words : ℕ) (code : List Step) (w : Workspace) → IsWithin (length code) (outcome program words code w) }
 {}
 

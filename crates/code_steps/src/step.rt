@@ -4,7 +4,7 @@ use jvm_program::Instruction;
 /// One instruction of code that is emitted. Where it goes on is told by the steps behind it, and not by an offset.
 #[derive(Drop)]
 pub enum Step {
-    /// An instruction that is no branch.
+    /// An instruction that is no branch and no switch.
     Does(Instruction),
     /// A branch of three bytes over so many of the steps behind it.
     Skips(BranchName, u32),

@@ -5,12 +5,13 @@ use Rattle.nv_events.specs.Turn.{Turn, moves, ends, leaves, asks, outcome_of}
 use Rattle.nv_events.specs.Memory.{Memory}
 use Rattle.nv_events.specs.declared.outcome.Outcome.{Outcome}
 use Rattle.nv_events.specs.declared.outcome.Outcome.TheVariants.{Faulted, Going}
+use Rattle.nv_words.specs.declared.order.Order.TheVariants.{Big}
 use Rattle.mips_decode.specs.Table.{inst}
 use Rattle.mips_decode.specs.State.{State, register, start}
 use Rattle.delay_slots.specs.declared.unit.Unit.{Unit}
 use Rattle.delay_slots.specs.declared.unit.Unit.TheVariants.{Plain, Branch, Call}
 use Rattle.delay_slots.specs.Units.{units_of}
-use Rattle.delay_slots.specs.Turns.{UnitTurns, unit_turns, last_turn, StandsAt}
+use Rattle.delay_slots.specs.Turns.{UnitTurns, one_turn, unit_turns, last_turn, StandsAt}
 
 empty : Memory
 empty = record { byte = λ a. None; writable = λ a. false }
@@ -20,7 +21,7 @@ code_of : List ℕ → ℕ → Option ℕ
 code_of words a = if nat_lt a 0x00400000 then None else if a % 4 == 0 then slice_get words ((a - 0x00400000) / 4) else None
 
 at : List ℕ → ℕ → State
-at words i = record (start 0x00400000 empty (code_of words) 0 0) { begun = true; pc = 0x00400000 + 4 * i }
+at words i = record (start Big 0x00400000 empty (code_of words) 0 0) { begun = true; pc = 0x00400000 + 4 * i }
 
 unit_at : List ℕ → ℕ → Unit
 unit_at words i = elim (slice_get (units_of words) i) [ None ↦ Call | Some unit ↦ unit ]
@@ -83,6 +84,20 @@ call_in_slot_is_answered = refl
 slot_reads_the_link : value_in 4 (last_turn (does (0x0C100004 ∷ 0x27E40001 ∷ []) 0)) ≡ 0x00400009
 unfolding inst value_in does unit_at at code_of empty
 slot_reads_the_link = refl
+
+-- bnel $0,$0,00400008 and beql $0,$0,00400010: one turn past the slot, and two turns
+skipped_slot : does (0x54000001 ∷ 0x24840001 ∷ []) 0 ≡ one_turn (moves (record (at (0x54000001 ∷ 0x24840001 ∷ []) 0) { pc = 0x00400008 }))
+unfolding inst does unit_at at code_of empty
+skipped_slot = refl
+
+likely_and_taken : goes_to (last_turn (does (0x50000003 ∷ 0x24840001 ∷ []) 0)) ≡ 0x00400010
+unfolding inst goes_to does unit_at at code_of empty
+likely_and_taken = refl
+
+-- teq $0,$0 in the slot of a branch faults there with its word
+trap_in_slot : ending (last_turn (does (0x10000001 ∷ 0x00000034 ∷ []) 0)) ≡ Faulted (record { kind = 11; pc = 0x00400004; value = 0x00000034 })
+unfolding inst ending does unit_at at code_of empty
+trap_in_slot = refl
 
 below_two : (P : ℕ → Type 0) → P 0 → P 1 → (k : ℕ) → k < 2 → P k
 below_two P p q zero h = p

@@ -1,13 +1,14 @@
 -- Where a unit leads, and how many turns it has.
-use Rattle.std.proofs.Common.{◌≡◌, ℕ, Bool, true, false, ◌==◌, if◌then◌else◌, List, [], ◌∷◌, refl, ap, subst, ◌∙◌}
+use Rattle.std.proofs.Common.{◌≡◌, ℕ, Bool, true, false, not, ◌&&◌, ◌||◌, ◌==◌, if◌then◌else◌, List, [], ◌∷◌, refl, ap, subst, ◌∙◌}
 use Rattle.std.specs.List.{slice_get}
 use Rattle.std.specs.Prelude.{Some}
 use Rattle.nv_words.specs.Words.{signed_of}
-use Rattle.nv_events.specs.Turn.{leaves, asks, exit}
+use Rattle.nv_events.specs.Turn.{Turn, moves, leaves, asks, exit}
 use Rattle.mips_decode.specs.Table.{inst}
 use Rattle.mips_decode.specs.Encoding.{word_of}
 use Rattle.mips_decode.specs.State.{State, register}
-use Rattle.mips_decode.specs.Effect.{Effect, goes_on, branches, faults, calls, fetch_fault, branch_in_slot_fault}
+use Rattle.mips_decode.specs.Branches.{taken_or_not, equal_likely, equal_taken, zero_likely, zero_taken, sign_likely, sign_linked, sign_taken}
+use Rattle.mips_decode.specs.Effect.{Effect, goes_on, branches, skips_slot, faults, calls, fetch_fault, branch_in_slot_fault}
 use Rattle.mips_decode.specs.Step.{effect, question_of, after_call, faulted}
 use Rattle.mips_decode.specs.declared.inst.Inst.{Inst}
 use Rattle.mips_decode.specs.declared.inst.Inst.TheVariants.{JumpRegister, JumpAndLinkRegister, Syscall, Break, BranchSign, Jump, BranchEqual, BranchZero, Reserved}
@@ -15,9 +16,9 @@ use Rattle.mips_decode.proofs.Steps.{Keeps, Keeps-effect}
 use Rattle.delay_slots.specs.declared.unit.Unit.{Unit}
 use Rattle.delay_slots.specs.declared.unit.Unit.TheVariants.{SlotIsBranch, Branch}
 use Rattle.delay_slots.specs.Units.{is_branch, branch_unit, unit_of, units_of}
-use Rattle.delay_slots.specs.Turns.{UnitTurns, done_by, done, unit_turns, LeadsOn, last_turn, turn_count, unit_turn_count}
+use Rattle.delay_slots.specs.Turns.{UnitTurns, done_by, done, then_slot, unit_turns, LeadsOn, last_turn, turn_count, skips, unit_turn_count}
 use Rattle.delay_slots.proofs.UnitLemmas.{Found, found}
-use Rattle.delay_slots.proofs.TurnLemmas.{SameAs, IsNoBranch, no_branch, by_slot}
+use Rattle.delay_slots.proofs.TurnLemmas.{SameAs, PastSlot, IsNoBranch, no_branch, by_slot}
 
 module _ (x s : State) (same : SameAs x s) (begun : x.begun ≡ true) where
   call_leads : (leaving : Bool) → LeadsOn x (if leaving then leaves (question_of s) (exit (signed_of (register s 4))) else asks (question_of s) (after_call s))
@@ -41,6 +42,7 @@ module _ (x s : State) (same : SameAs x s) (begun : x.begun ≡ true) where
     heap_bytes = ap (λ (u : State). u.heap_bytes) kept ∙ same.heap_bytes;
   }
   effect_leads (branches t target) plain kept = absurd plain
+  effect_leads (skips_slot t) plain kept = absurd plain
   effect_leads (faults kind value) plain kept = tt
   effect_leads calls plain kept = call_leads (register s 2 == 1)
 
@@ -51,15 +53,25 @@ module _ (x s : State) (same : SameAs x s) (begun : x.begun ≡ true) where
 same_self : (x : State) → SameAs x x
 same_self x = record { begun = refl; code = refl; order = refl; heap_start = refl; heap_bytes = refl }
 
+past_leads : (x s : State) → x.begun ≡ true → PastSlot x s → LeadsOn x (moves s)
+past_leads x s begun at = record {
+  begun = at.same.begun ∙ begun;
+  pending = at.pending;
+  code = at.same.code;
+  order = at.same.order;
+  heap_start = at.same.heap_start;
+  heap_bytes = at.same.heap_bytes;
+}
+
 slot_leads : (i : Inst) (x : State) (slot : ℕ) (b : Bool) → is_branch (inst slot) ≡ b → x.begun ≡ true → is_branch i ≡ true → LeadsOn x (last_turn (unit_turns (if b then SlotIsBranch i slot else Branch i (inst slot)) x))
 slot_leads i x slot true is begun branch =
-    by_slot (λ (y : UnitTurns). LeadsOn x (last_turn y)) i x (λ s. faulted s branch_in_slot_fault slot) branch (λ s at e. tt)
+    by_slot (λ (y : UnitTurns). LeadsOn x (last_turn y)) i x (λ s. faulted s branch_in_slot_fault slot) branch (λ s at e. tt) (λ s at e. past_leads x s begun at)
 slot_leads i x slot false is begun branch =
-    by_slot (λ (y : UnitTurns). LeadsOn x (last_turn y)) i x (done (inst slot)) branch (λ s at e. done_leads x s at.same begun (inst slot) is)
+    by_slot (λ (y : UnitTurns). LeadsOn x (last_turn y)) i x (done (inst slot)) branch (λ s at e. done_leads x s at.same begun (inst slot) is) (λ s at e. past_leads x s begun at)
 
 branch_leads : (i : Inst) (x : State) (following : List ℕ) → x.begun ≡ true → is_branch i ≡ true → LeadsOn x (last_turn (unit_turns (branch_unit i following) x))
 branch_leads i x [] begun branch =
-    by_slot (λ (y : UnitTurns). LeadsOn x (last_turn y)) i x (λ s. faulted s fetch_fault s.pc) branch (λ s at e. tt)
+    by_slot (λ (y : UnitTurns). LeadsOn x (last_turn y)) i x (λ s. faulted s fetch_fault s.pc) branch (λ s at e. tt) (λ s at e. past_leads x s begun at)
 branch_leads i x (slot ∷ words) begun branch = slot_leads i x slot (is_branch (inst slot)) refl begun branch
 
 unit_of_leads : (i : Inst) (x : State) (following : List ℕ) → x.begun ≡ true → LeadsOn x (last_turn (unit_turns (unit_of i following) x))
@@ -81,18 +93,38 @@ unit_leads x words i unit begun there =
 
 -- ---- counts
 
-slot_count : (i : Inst) (x : State) (slot : ℕ) (b : Bool) → is_branch i ≡ true → turn_count (unit_turns (if b then SlotIsBranch i slot else Branch i (inst slot)) x) ≡ unit_turn_count (if b then SlotIsBranch i slot else Branch i (inst slot))
-slot_count i x slot true branch =
-    by_slot (λ (y : UnitTurns). turn_count y ≡ 2) i x (λ s. faulted s branch_in_slot_fault slot) branch (λ s at e. refl)
-slot_count i x slot false branch =
-    by_slot (λ (y : UnitTurns). turn_count y ≡ 2) i x (done (inst slot)) branch (λ s at e. refl)
+test_count : (likely taken : Bool) (x t : State) (target : ℕ) (second : State → Turn State)
+    → turn_count (then_slot (done_by (if not likely || taken then branches t target else skips_slot t) x) second) ≡ (if likely && not taken then 1 else 2)
+test_count true true x t target second = refl
+test_count true false x t target second = refl
+test_count false true x t target second = refl
+test_count false false x t target second = refl
 
-branch_count : (i : Inst) (x : State) (following : List ℕ) → is_branch i ≡ true → turn_count (unit_turns (branch_unit i following) x) ≡ unit_turn_count (branch_unit i following)
-branch_count i x [] branch =
-    by_slot (λ (y : UnitTurns). turn_count y ≡ 2) i x (λ s. faulted s fetch_fault s.pc) branch (λ s at e. refl)
+-- a branch has two turns, or one where it skips its slot
+then_count : (i : Inst) (x : State) (second : State → Turn State) → is_branch i ≡ true → turn_count (then_slot (done i x) second) ≡ (if skips i x then 1 else 2)
+then_count (JumpRegister rs) x second branch = refl
+then_count (JumpAndLinkRegister rs rd) x second branch = refl
+then_count (BranchSign name rs imm) x second branch =
+    let taken = sign_taken name (signed_of (register x rs)) in
+    test_count (sign_likely name) taken x (sign_linked name x) (taken_or_not x taken imm) second
+then_count (Jump name index) x second branch = refl
+then_count (BranchEqual name rs rt imm) x second branch =
+    let taken = equal_taken name (register x rs) (register x rt) in
+    test_count (equal_likely name) taken x x (taken_or_not x taken imm) second
+then_count (BranchZero name rs imm) x second branch =
+    let taken = zero_taken name (signed_of (register x rs)) in
+    test_count (zero_likely name) taken x x (taken_or_not x taken imm) second
+then_count _ x second branch = cc
+
+slot_count : (i : Inst) (x : State) (slot : ℕ) (b : Bool) → is_branch i ≡ true → turn_count (unit_turns (if b then SlotIsBranch i slot else Branch i (inst slot)) x) ≡ unit_turn_count (if b then SlotIsBranch i slot else Branch i (inst slot)) x
+slot_count i x slot true branch = then_count i x (λ s. faulted s branch_in_slot_fault slot) branch
+slot_count i x slot false branch = then_count i x (done (inst slot)) branch
+
+branch_count : (i : Inst) (x : State) (following : List ℕ) → is_branch i ≡ true → turn_count (unit_turns (branch_unit i following) x) ≡ unit_turn_count (branch_unit i following) x
+branch_count i x [] branch = then_count i x (λ s. faulted s fetch_fault s.pc) branch
 branch_count i x (slot ∷ words) branch = slot_count i x slot (is_branch (inst slot)) branch
 
-unit_of_count : (i : Inst) (x : State) (following : List ℕ) → turn_count (unit_turns (unit_of i following) x) ≡ unit_turn_count (unit_of i following)
+unit_of_count : (i : Inst) (x : State) (following : List ℕ) → turn_count (unit_turns (unit_of i following) x) ≡ unit_turn_count (unit_of i following) x
 unit_of_count (JumpRegister rs) x following = branch_count _ x following refl
 unit_of_count (JumpAndLinkRegister rs rd) x following = branch_count _ x following refl
 unit_of_count (BranchSign name rs imm) x following = branch_count _ x following refl
@@ -101,7 +133,7 @@ unit_of_count (BranchEqual name rs rt imm) x following = branch_count _ x follow
 unit_of_count (BranchZero name rs imm) x following = branch_count _ x following refl
 unit_of_count _ x following = refl
 
-pub unit_count : (x : State) (words : List ℕ) (i : ℕ) (unit : Unit) → slice_get (units_of words) i ≡ Some unit → turn_count (unit_turns unit x) ≡ unit_turn_count unit
+pub unit_count : (x : State) (words : List ℕ) (i : ℕ) (unit : Unit) → slice_get (units_of words) i ≡ Some unit → turn_count (unit_turns unit x) ≡ unit_turn_count unit x
 unit_count x words i unit there =
     let at : Found words i unit = found words i unit there in
-    subst (λ (u : Unit). turn_count (unit_turns u x) ≡ unit_turn_count u) at.unit_is (unit_of_count (inst at.word) x at.following)
+    subst (λ (u : Unit). turn_count (unit_turns u x) ≡ unit_turn_count u x) at.unit_is (unit_of_count (inst at.word) x at.following)

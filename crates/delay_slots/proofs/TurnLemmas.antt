@@ -1,21 +1,25 @@
 -- A unit's turns are those that the machine makes.
-use Rattle.std.proofs.Common.{◌≡◌, ℕ, ◌+◌, ◌%◌, ◌^◌, Bool, true, false, not, ◌==◌, if◌then◌else◌, List, [], ◌∷◌, Option, Some, None, is_none, refl, ap, sym, subst, ◌∙◌}
+use Rattle.std.proofs.Common.{◌≡◌, ℕ, ◌+◌, ◌%◌, ◌^◌, Bool, true, false, not, ◌||◌, ◌==◌, if◌then◌else◌, List, [], ◌∷◌, Option, Some, None, is_none, refl, ap, sym, subst, ◌∙◌}
 use Rattle.nv_events.specs.Turn.{Turn, moves}
+use Rattle.nv_words.specs.Words.{signed_of}
 use Rattle.mips_decode.specs.Table.{inst}
 use Rattle.mips_decode.specs.Encoding.{word_of}
 use Rattle.mips_decode.specs.State.{State, register, with_register}
-use Rattle.mips_decode.specs.Effect.{Effect, goes_on, branches, faults, calls, fetch_fault, read_align_fault, read_unmapped_fault, write_align_fault, write_refused_fault, branch_in_slot_fault}
+use Rattle.mips_decode.specs.Effect.{Effect, goes_on, branches, skips_slot, faults, calls, fetch_fault, read_align_fault, read_unmapped_fault, write_align_fault, write_refused_fault, branch_in_slot_fault}
 use Rattle.mips_decode.specs.Arithmetic.{arithmetic_result, arithmetic_immediate_result}
-use Rattle.mips_decode.specs.Loads.{address_of, load_aligned, loaded, store_aligned, store_allowed, stored}
-use Rattle.mips_decode.specs.Step.{effect, result_effect, turn_by, into_slot, faulted, turn}
+use Rattle.mips_decode.specs.Branches.{taken_or_not, equal_likely, equal_taken, zero_likely, zero_taken, sign_likely, sign_linked, sign_taken}
+use Rattle.mips_decode.specs.Loads.{address_of, concluded, load_aligned, loaded, store_aligned, store_allowed, stored}
+use Rattle.mips_decode.specs.Traps.{trap_by, trap_holds, trap_immediate_holds}
+use Rattle.mips_decode.specs.Step.{effect, result_effect, turn_by, into_slot, past_slot, faulted, turn}
 use Rattle.mips_decode.specs.declared.inst.Inst.{Inst}
-use Rattle.mips_decode.specs.declared.inst.Inst.TheVariants.{Arithmetic, VariableShift, Shift, JumpRegister, JumpAndLinkRegister, Syscall, Break, MoveFrom, MoveTo, Product, BranchSign, Jump, BranchEqual, BranchZero, ArithmeticImmediate, LogicalImmediate, LoadUpper, Load, Store, Reserved, Float}
-use Rattle.mips_decode.specs.declared.names.branch_sign_name.BranchSignName.TheVariants.{Bltz, Bgez, Bltzal, Bgezal}
-use Rattle.mips_decode.specs.declared.names.jump_name.JumpName.TheVariants.{J, Jal}
+use Rattle.mips_decode.specs.declared.inst.Inst.TheVariants.{Arithmetic, VariableShift, Shift, JumpRegister, JumpAndLinkRegister, Syscall, Break, MoveFrom, MoveTo, Product, BranchSign, Jump, BranchEqual, BranchZero, ArithmeticImmediate, LogicalImmediate, LoadUpper, Load, Store, Trap, TrapImmediate, Sync, LoadLinked, StoreConditional, Reserved, Float}
+use Rattle.mips_decode.specs.declared.names.load_name.LoadName.TheVariants.{Lw}
+use Rattle.mips_decode.specs.declared.names.store_name.StoreName.TheVariants.{Sw}
+use Rattle.mips_decode.proofs.Steps.{Keeps, Keeps-effect}
 use Rattle.mips_decode.specs.declared.names.hi_lo.HiLo.TheVariants.{Hi, Lo}
 use Rattle.delay_slots.specs.declared.unit.Unit.TheVariants.{SlotIsBranch, Branch}
 use Rattle.delay_slots.specs.Units.{is_branch, branch_unit, unit_of}
-use Rattle.delay_slots.specs.Turns.{UnitTurns, two_turns, done_by, done, then_slot, unit_turns, AreMade}
+use Rattle.delay_slots.specs.Turns.{UnitTurns, one_turn, two_turns, done_by, done, then_slot, unit_turns, AreMade}
 use Rattle.delay_slots.proofs.UnitLemmas.{first_of}
 
 -- ---- one turn, by what stands at pc
@@ -30,12 +34,14 @@ turn_outside x begun aligned outside = simp (begun, aligned, outside)
 done_alone : (e : Effect) (word : ℕ) (x : State) → x.pending ≡ None → turn_by e word x ≡ done_by e x
 done_alone (goes_on t) word x free = refl
 done_alone (branches t target) word x free = rw free
+done_alone (skips_slot t) word x free = rw free
 done_alone (faults kind value) word x free = refl
 done_alone calls word x free = refl
 
 -- with a branch pending, each effect but a branch is done
 abbrev pub IsNoBranch : Effect → Type 0
 IsNoBranch (branches t target) = ⊥
+IsNoBranch (skips_slot t) = ⊥
 IsNoBranch (goes_on t) = Unit {0}
 IsNoBranch (faults kind value) = Unit {0}
 IsNoBranch calls = Unit {0}
@@ -43,6 +49,7 @@ IsNoBranch calls = Unit {0}
 done_in_slot : (e : Effect) (word : ℕ) (s : State) → IsNoBranch e → turn_by e word s ≡ done_by e s
 done_in_slot (goes_on t) word s h = refl
 done_in_slot (branches t target) word s h = absurd h
+done_in_slot (skips_slot t) word s h = absurd h
 done_in_slot (faults kind value) word s h = refl
 done_in_slot calls word s h = refl
 
@@ -56,40 +63,41 @@ pub record SameAs (x s : State) : Type 0 where
   pub heap_start : s.heap_start ≡ x.heap_start
   pub heap_bytes : s.heap_bytes ≡ x.heap_bytes
 
-pub record Branches (i : Inst) (word : ℕ) (x : State) : Type 0 where
-  pub linked : State
-  pub target : ℕ
-  pub is : effect i word x ≡ branches linked target
-  pub pc : linked.pc ≡ x.pc
-  pub same : SameAs x linked
+-- the effect of a branch
+abbrev IsBranch : Effect → Type 0
+IsBranch (branches t target) = Unit {0}
+IsBranch (skips_slot t) = Unit {0}
+IsBranch (goes_on t) = ⊥
+IsBranch (faults kind value) = ⊥
+IsBranch calls = ⊥
 
-by_refl : (i : Inst) (word : ℕ) (x linked : State) (target : ℕ) → effect i word x ≡ branches linked target → linked ≡ record x { registers = linked.registers } → Branches i word x
-by_refl i word x linked target is kept = record {
-  linked = linked;
-  target = target;
-  is = is;
-  pc = ap (λ (s : State). s.pc) kept;
-  same = record {
-    begun = ap (λ (s : State). s.begun) kept;
-    code = ap (λ (s : State). s.code) kept;
-    order = ap (λ (s : State). s.order) kept;
-    heap_start = ap (λ (s : State). s.heap_start) kept;
-    heap_bytes = ap (λ (s : State). s.heap_bytes) kept;
-  };
-}
+is_branch-test : (goes : Bool) (t : State) (target : ℕ) → IsBranch (if goes then branches t target else skips_slot t)
+is_branch-test true t target = tt
+is_branch-test false t target = tt
 
-branch_effect : (i : Inst) (word : ℕ) (x : State) → is_branch i ≡ true → Branches i word x
-branch_effect (JumpRegister rs) word x h = by_refl _ word x _ _ refl refl
-branch_effect (JumpAndLinkRegister rs rd) word x h = by_refl _ word x _ _ refl refl
-branch_effect (BranchSign Bltz rs imm) word x h = by_refl _ word x _ _ refl refl
-branch_effect (BranchSign Bgez rs imm) word x h = by_refl _ word x _ _ refl refl
-branch_effect (BranchSign Bltzal rs imm) word x h = by_refl _ word x _ _ refl refl
-branch_effect (BranchSign Bgezal rs imm) word x h = by_refl _ word x _ _ refl refl
-branch_effect (Jump J index) word x h = by_refl _ word x _ _ refl refl
-branch_effect (Jump Jal index) word x h = by_refl _ word x _ _ refl refl
-branch_effect (BranchEqual name rs rt imm) word x h = by_refl _ word x _ _ refl refl
-branch_effect (BranchZero name rs imm) word x h = by_refl _ word x _ _ refl refl
+branch_effect : (i : Inst) (word : ℕ) (x : State) → is_branch i ≡ true → IsBranch (effect i word x)
+branch_effect (JumpRegister rs) word x h = tt
+branch_effect (JumpAndLinkRegister rs rd) word x h = tt
+branch_effect (BranchSign name rs imm) word x h =
+    let taken = sign_taken name (signed_of (register x rs)) in
+    is_branch-test (not (sign_likely name) || taken) (sign_linked name x) (taken_or_not x taken imm)
+branch_effect (Jump name index) word x h = tt
+branch_effect (BranchEqual name rs rt imm) word x h =
+    let taken = equal_taken name (register x rs) (register x rt) in
+    is_branch-test (not (equal_likely name) || taken) x (taken_or_not x taken imm)
+branch_effect (BranchZero name rs imm) word x h =
+    let taken = zero_taken name (signed_of (register x rs)) in
+    is_branch-test (not (zero_likely name) || taken) x (taken_or_not x taken imm)
 branch_effect _ word x h = cc
+
+kept_same : (x t : State) → t ≡ record x { registers = t.registers } → SameAs x t
+kept_same x t kept = record {
+  begun = ap (λ (s : State). s.begun) kept;
+  code = ap (λ (s : State). s.code) kept;
+  order = ap (λ (s : State). s.order) kept;
+  heap_start = ap (λ (s : State). s.heap_start) kept;
+  heap_bytes = ap (λ (s : State). s.heap_bytes) kept;
+}
 
 no_branch-result : (s : State) (word r : ℕ) (result : Option ℕ) → IsNoBranch (result_effect s word r result)
 no_branch-result s word r None = tt
@@ -100,6 +108,10 @@ no_branch-tests : (first second : Bool) (a b c d : ℕ) (t : State) → IsNoBran
 no_branch-tests true second a b c d t = tt
 no_branch-tests false true a b c d t = tt
 no_branch-tests false false a b c d t = tt
+
+no_branch-trap : (holds : Bool) (word : ℕ) (s : State) → IsNoBranch (trap_by holds word s)
+no_branch-trap true word s = tt
+no_branch-trap false word s = tt
 
 pub no_branch : (i : Inst) (word : ℕ) (s : State) → is_branch i ≡ false → IsNoBranch (effect i word s)
 no_branch (Arithmetic name rs rt rd) word s h = no_branch-result s word rd (arithmetic_result name (register s rs) (register s rt))
@@ -129,6 +141,16 @@ no_branch (Store name rs rt imm) word s h =
     let a : ℕ = address_of s rs imm in
     let t : State = record s { memory = stored name s.order s.memory a (register s rt) } in
     no_branch-tests (not (store_aligned name a)) (not (store_allowed name s.order s.memory a)) write_align_fault a write_refused_fault a t
+no_branch (Trap name rs rt code) word s h = no_branch-trap (trap_holds name (register s rs) (register s rt)) word s
+no_branch (TrapImmediate name rs imm) word s h = no_branch-trap (trap_immediate_holds name (register s rs) imm) word s
+no_branch (Sync sa) word s h = tt
+no_branch (LoadLinked rs rt imm) word s h =
+    let a : ℕ = address_of s rs imm in
+    let t : State = record (with_register s rt (loaded Lw s.order s.memory a (register s rt))) { load_link = Some a } in
+    no_branch-tests (not (load_aligned Lw a)) (is_none (s.memory.byte a)) read_align_fault a read_unmapped_fault a t
+no_branch (StoreConditional rs rt imm) word s h =
+    let a : ℕ = address_of s rs imm in
+    no_branch-tests (not (store_aligned Sw a)) (not (store_allowed Sw s.order s.memory a)) write_align_fault a write_refused_fault a (concluded s rt a)
 no_branch (Reserved w) word s h = tt
 no_branch (Float w) word s h = tt
 
@@ -141,29 +163,44 @@ pub record InSlot (x s : State) : Type 0 where
   pub pc : s.pc ≡ (x.pc + 4) % 2 ^ 32
   pub same : SameAs x s
 
--- what holds of two turns, for each state in the slot, holds of a branch's turns
-pub by_slot : (P : UnitTurns → Type 0) (i : Inst) (x : State) (second : State → Turn State) → is_branch i ≡ true → ((s : State) → InSlot x s → done i x ≡ moves s → P (two_turns s (second s))) → P (then_slot (done i x) second)
-by_slot P i x second branch each =
-    let b : Branches i (word_of i) x = branch_effect i (word_of i) x branch in
-    let s : State = into_slot b.linked b.target in
-    let e : done i x ≡ moves s = ap (λ (f : Effect). done_by f x) b.is in
-    let at : InSlot x s = record {
-      target = b.target;
+-- A state behind the delay slot of a likely branch that was not taken in x.
+pub record PastSlot (x s : State) : Type 0 where
+  pub pending : s.pending ≡ None
+  pub same : SameAs x s
+
+by_effect : (P : UnitTurns → Type 0) (e : Effect) (x : State) (second : State → Turn State) → IsBranch e → Keeps x e
+    → ((s : State) → InSlot x s → done_by e x ≡ moves s → P (two_turns s (second s)))
+    → ((s : State) → PastSlot x s → done_by e x ≡ moves s → P (one_turn (moves s)))
+    → P (then_slot (done_by e x) second)
+by_effect P (branches t target) x second branch kept each skip =
+    let same : SameAs x t = kept_same x t kept in
+    each (into_slot t target) (record {
+      target = target;
       pending = refl;
-      pc = ap (λ n. (n + 4) % 2 ^ 32) b.pc;
-      same = record {
-        begun = b.same.begun;
-        code = b.same.code;
-        order = b.same.order;
-        heap_start = b.same.heap_start;
-        heap_bytes = b.same.heap_bytes;
-      };
-    } in
-    subst (λ (y : Turn State). P (then_slot y second)) (sym e) (each s at e)
+      pc = ap (λ (s : State). (s.pc + 4) % 2 ^ 32) kept;
+      same = record { begun = same.begun; code = same.code; order = same.order; heap_start = same.heap_start; heap_bytes = same.heap_bytes };
+    }) refl
+by_effect P (skips_slot t) x second branch kept each skip =
+    let same : SameAs x t = kept_same x t kept in
+    skip (past_slot t) (record {
+      pending = refl;
+      same = record { begun = same.begun; code = same.code; order = same.order; heap_start = same.heap_start; heap_bytes = same.heap_bytes };
+    }) refl
+by_effect P (goes_on t) x second branch kept each skip = absurd branch
+by_effect P (faults kind value) x second branch kept each skip = absurd branch
+by_effect P calls x second branch kept each skip = absurd branch
+
+-- what holds of two turns, for each state in the slot, and of one turn, for each state behind it, holds of a branch's turns
+pub by_slot : (P : UnitTurns → Type 0) (i : Inst) (x : State) (second : State → Turn State) → is_branch i ≡ true
+    → ((s : State) → InSlot x s → done i x ≡ moves s → P (two_turns s (second s)))
+    → ((s : State) → PastSlot x s → done i x ≡ moves s → P (one_turn (moves s)))
+    → P (then_slot (done i x) second)
+by_slot P i x second branch each skip =
+    by_effect P (effect i (word_of i) x) x second (branch_effect i (word_of i) x branch) (Keeps-effect i (word_of i) x) each skip
 
 branch_made : (i : Inst) (x : State) (second : State → Turn State) → is_branch i ≡ true → turn x ≡ done i x → ((s : State) → InSlot x s → turn s ≡ second s) → AreMade x (then_slot (done i x) second)
 branch_made i x second branch first slot =
-    by_slot (AreMade x) i x second branch (λ s at e. (first ∙ e, slot s at))
+    by_slot (AreMade x) i x second branch (λ s at e. (first ∙ e, slot s at)) (λ s at e. first ∙ e)
 
 -- ---- the turns of any unit
 
@@ -204,15 +241,17 @@ slot_done x s word slot words plain placed at =
     ∙ ap (λ w. done_by (effect (inst slot) w s) s) (sym (placed.next_encodes slot refl))
 
 -- a branch in the slot
-branch_refused : (e : Effect) (s t : State) (slot target pending : ℕ) → e ≡ branches t target → s.pending ≡ Some pending → turn_by e slot s ≡ faulted s branch_in_slot_fault slot
-branch_refused e s t slot target pending is there =
-    ap (λ (f : Effect). turn_by f slot s) is ∙ rw there refl
+branch_refused : (e : Effect) (s : State) (slot pending : ℕ) → IsBranch e → s.pending ≡ Some pending → turn_by e slot s ≡ faulted s branch_in_slot_fault slot
+branch_refused (branches t target) s slot pending branch there = rw there refl
+branch_refused (skips_slot t) s slot pending branch there = rw there refl
+branch_refused (goes_on t) s slot pending branch there = absurd branch
+branch_refused (faults kind value) s slot pending branch there = absurd branch
+branch_refused calls s slot pending branch there = absurd branch
 
 slot_refused : (x s : State) (word slot : ℕ) (words : List ℕ) → is_branch (inst slot) ≡ true → Placed x word (slot ∷ words) → InSlot x s → turn s ≡ faulted s branch_in_slot_fault slot
 slot_refused x s word slot words branch placed at =
-    let b : Branches (inst slot) slot s = branch_effect (inst slot) slot s branch in
     turn_at s slot (at.same.begun ∙ placed.begun) (slot_aligned x word (slot ∷ words) placed s at) (slot_there x word (slot ∷ words) placed s at)
-    ∙ branch_refused (effect (inst slot) slot s) s b.linked slot b.target at.target b.is at.pending
+    ∙ branch_refused (effect (inst slot) slot s) s slot at.target (branch_effect (inst slot) slot s branch) at.pending
 
 slot_made : (i : Inst) (x : State) (word slot : ℕ) (words : List ℕ) (b : Bool) → is_branch (inst slot) ≡ b → is_branch i ≡ true → turn x ≡ done i x → Placed x word (slot ∷ words) → AreMade x (unit_turns (if b then SlotIsBranch i slot else Branch i (inst slot)) x)
 slot_made i x word slot words true is branch first placed =

@@ -1,15 +1,17 @@
 -- What a unit does: the machine's turns from a state that stands at the unit's word with no branch pending, by the unit alone.
-use Rattle.std.specs.Prelude.{◌≡◌, ℕ, ◌+◌, ◌*◌, ◌%◌, ◌^◌, ◌<◌, true, ⊤, List, length, slice_get, slice_index, Option, None}
-use Rattle.nv_words.specs.Words.{IsWord}
+use Rattle.std.specs.Prelude.{◌≡◌, ℕ, ◌+◌, ◌*◌, ◌%◌, ◌^◌, ◌<◌, Bool, true, false, not, ◌&&◌, if◌then◌else◌, ⊤, List, length, slice_get, slice_index, Option, Some, None}
+use Rattle.nv_words.specs.Words.{IsWord, signed_of}
 use Rattle.nv_events.specs.Question.{Question}
 use Rattle.nv_events.specs.Answer.{Answer}
 use Rattle.nv_events.specs.Turn.{Turn, moves, ends, leaves, asks}
 use Rattle.nv_events.specs.Run.{Run, run_of}
 use Rattle.mips_decode.specs.Encoding.{word_of}
-use Rattle.mips_decode.specs.State.{State}
-use Rattle.mips_decode.specs.Effect.{Effect, goes_on, branches, faults, calls, fetch_fault, branch_in_slot_fault}
-use Rattle.mips_decode.specs.Step.{effect, advanced, into_slot, faulted, called, turn}
+use Rattle.mips_decode.specs.State.{State, register}
+use Rattle.mips_decode.specs.Branches.{equal_likely, equal_taken, zero_likely, zero_taken, sign_likely, sign_taken}
+use Rattle.mips_decode.specs.Effect.{Effect, goes_on, branches, skips_slot, faults, calls, fetch_fault, branch_in_slot_fault}
+use Rattle.mips_decode.specs.Step.{effect, advanced, into_slot, past_slot, faulted, called, turn}
 use Rattle.mips_decode.specs.declared.inst.Inst.{Inst}
+use Rattle.mips_decode.specs.declared.inst.Inst.TheVariants.{BranchSign, BranchEqual, BranchZero}
 use Rattle.delay_slots.specs.declared.unit.Unit.{Unit}
 use Rattle.delay_slots.specs.declared.unit.Unit.TheVariants.{Plain, Branch, SlotMissing, SlotIsBranch, Call, Trap}
 
@@ -22,6 +24,7 @@ pub data UnitTurns : Type 0 where
 abbrev pub done_by : Effect → State → Turn State
 done_by (goes_on t) s = moves (advanced t)
 done_by (branches t target) s = moves (into_slot t target)
+done_by (skips_slot t) s = moves (past_slot t)
 done_by (faults kind value) s = faulted s kind value
 done_by calls s = called s
 
@@ -29,9 +32,9 @@ done_by calls s = called s
 abbrev pub done : Inst → State → Turn State
 done i s = done_by (effect i (word_of i) s) s
 
--- a turn, and where it moves on, a turn from there
+-- the turn of a branch, and where a target is then pending, the turn of the delay slot
 abbrev pub then_slot : Turn State → (State → Turn State) → UnitTurns
-then_slot (moves slot) second = two_turns slot (second slot)
+then_slot (moves t) second = elim t.pending [ None ↦ one_turn (moves t) | Some target ↦ two_turns t (second t) ]
 then_slot (ends end) second = one_turn (ends end)
 then_slot (leaves question end) second = one_turn (leaves question end)
 then_slot (asks question next) second = one_turn (asks question next)
@@ -95,14 +98,21 @@ abbrev pub turn_count : UnitTurns → ℕ
 turn_count (one_turn last) = 1
 turn_count (two_turns slot last) = 2
 
--- how many turns a unit has: two where it begins with a branch
-abbrev pub unit_turn_count : Unit → ℕ
-unit_turn_count (Plain i) = 1
-unit_turn_count (Branch i slot) = 2
-unit_turn_count (SlotMissing i) = 2
-unit_turn_count (SlotIsBranch i word) = 2
-unit_turn_count Call = 1
-unit_turn_count (Trap kind value) = 1
+-- a likely branch that is not taken
+abbrev pub skips : Inst → State → Bool
+skips (BranchEqual name rs rt imm) x = equal_likely name && not (equal_taken name (register x rs) (register x rt))
+skips (BranchZero name rs imm) x = zero_likely name && not (zero_taken name (signed_of (register x rs)))
+skips (BranchSign name rs imm) x = sign_likely name && not (sign_taken name (signed_of (register x rs)))
+skips _ x = false
+
+-- how many turns a unit has: two where it begins with a branch that does not skip its delay slot
+abbrev pub unit_turn_count : Unit → State → ℕ
+unit_turn_count (Plain i) x = 1
+unit_turn_count (Branch i slot) x = if skips i x then 1 else 2
+unit_turn_count (SlotMissing i) x = if skips i x then 1 else 2
+unit_turn_count (SlotIsBranch i word) x = if skips i x then 1 else 2
+unit_turn_count Call x = 1
+unit_turn_count (Trap kind value) x = 1
 
 -- the run of a unit's turns alone
 abbrev pub unit_run : {K : Type 0} → (K → Question → Option (Answer × K)) → UnitTurns → State → K → Run State K

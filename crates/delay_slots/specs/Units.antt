@@ -1,11 +1,12 @@
--- What happens when each word of a range of code is entered with no branch pending. MIPS I: the instruction after a branch or
--- jump stands in its delay slot, and is done before the program goes to the target.
+-- What happens when each word of a range of code is entered with no branch pending. MIPS II: the instruction after a branch or
+-- jump stands in its delay slot, and is done before the program goes to the target; where a likely branch is not taken, it is not
+-- done.
 use Rattle.std.specs.Prelude.{ℕ, Bool, true, false, not, IsTrue, List, [], ◌∷◌, if◌then◌else◌}
 use Rattle.std.specs.List.{list_all}
-use Rattle.mips_decode.specs.Table.{inst}
+use Rattle.mips_decode.specs.Table.{inst, is_float}
 use Rattle.mips_decode.specs.Effect.{break_fault, reserved_fault}
 use Rattle.mips_decode.specs.declared.inst.Inst.{Inst}
-use Rattle.mips_decode.specs.declared.inst.Inst.TheVariants.{JumpRegister, JumpAndLinkRegister, Syscall, Break, BranchSign, Jump, BranchEqual, BranchZero, Reserved, Float}
+use Rattle.mips_decode.specs.declared.inst.Inst.TheVariants.{JumpRegister, JumpAndLinkRegister, Syscall, Break, BranchSign, Jump, BranchEqual, BranchZero, Reserved}
 use Rattle.delay_slots.specs.declared.unit.Unit.{Unit}
 use Rattle.delay_slots.specs.declared.unit.Unit.TheVariants.{Plain, Branch, SlotMissing, SlotIsBranch, Call, Trap}
 
@@ -38,10 +39,6 @@ units_of (word ∷ words) = unit_of (inst word) words ∷ units_of words
 
 -- ---- the words that have units
 
-abbrev pub is_float : Inst → Bool
-is_float (Float word) = true
-is_float _ = false
-
 -- no word is one of the floating-point coprocessor
 abbrev pub HasNoFloat : List ℕ → Type 0
-HasNoFloat words = IsTrue (list_all (λ word. not (is_float (inst word))) words)
+HasNoFloat words = IsTrue (list_all (λ word. not (is_float word)) words)

@@ -4,17 +4,12 @@ ghost use Rattle.mips_decode.specs.Table.{inst};
 ghost use Rattle.delay_slots.specs.Units.{is_branch, branch_unit, unit_of, units_of, HasNoFloat};
 
 use crate::unit::Unit;
+use mips_decode::fault_kinds::{BREAK, RESERVED};
 use mips_decode::{Inst, decode};
 use std::alloc::{AllocError, Global};
 
 /// Want of memory, the one error of `units`.
 pub type NoMemory = AllocError;
-
-/// The kind of the fault of BREAK.
-const BREAK: u32 = 8;
-
-/// The kind of the fault of a reserved word.
-const RESERVED: u32 = 9;
 
 /// The units of the words of one whole range of code, one for each word in order.
 ///

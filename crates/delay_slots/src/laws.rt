@@ -15,7 +15,7 @@ use nv_events::Server;
 /// from there is the run of these turns, and then a run from where they lead.
 pub fn unit_is_its_steps()
     ensures turns { (x : State) (first : ℕ) (words : List ℕ) (i : ℕ) (unit : Unit) → StandsAt x first words i → slice_get (units_of words) i ≡ Some unit → AreMade x (unit_turns unit x) }
-    ensures count { (x : State) (words : List ℕ) (i : ℕ) (unit : Unit) → slice_get (units_of words) i ≡ Some unit → turn_count (unit_turns unit x) ≡ unit_turn_count unit }
+    ensures count { (x : State) (words : List ℕ) (i : ℕ) (unit : Unit) → slice_get (units_of words) i ≡ Some unit → turn_count (unit_turns unit x) ≡ unit_turn_count unit x }
     ensures runs { (x : State) (first : ℕ) (words : List ℕ) (i : ℕ) (unit : Unit) → StandsAt x first words i → slice_get (units_of words) i ≡ Some unit → (n : ℕ) (answers : List Answer) → run_of turn next_answer (turn_count (unit_turns unit x) + n) x answers ≡ then_run (unit_run next_answer (unit_turns unit x) x answers) (run_of turn next_answer n) }
 {
     encoding_inverts_decoding();

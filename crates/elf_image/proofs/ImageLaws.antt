@@ -1,5 +1,5 @@
 -- The pages and the code of an image end below 80000000 (hexadecimal).
-use Rattle.std.proofs.Common.{◌≡◌, ℕ, ◌+◌, ◌-◌, ◌*◌, ◌^◌, ◌≤◌, Bool, true, false, ◌&&◌, ◌||◌, ◌==◌, nat_lt, nat_le, List, [], ◌∷◌, length, get_or, Option, Some, None, refl, sym, subst, inl, inr, arith}
+use Rattle.std.proofs.Common.{◌≡◌, ℕ, ◌+◌, ◌-◌, ◌*◌, ◌^◌, ◌<◌, ◌≤◌, Bool, true, false, ◌&&◌, ◌||◌, ◌==◌, nat_lt, nat_le, List, [], ◌∷◌, length, get_or, Option, Some, None, refl, sym, subst, inl, inr, arith}
 use Rattle.std.specs.Prelude.{max, min}
 use Rattle.std.specs.List.{All}
 use Rattle.std.specs.Option.{option_or}
@@ -62,15 +62,17 @@ sections_pass file accepted =
     fifth_none (identity_fault file) (program_table_fault file) (segment_fault (length file) (program_headers file)) (section_table_fault file)
     (section_fault (live file) (section_headers file)) (first_fault (area_fault (code_ranges file) (live file) ∷ [])) accepted
 
+pub code_low : (file : List ℕ) → elf_fault file ≡ None → All (IsSound (length file)) (live file) → (at : ℕ) → area file at ≡ true → at < 0x7F00_0000
+code_low file accepted sound at on =
+    let held = Any-from_list_any (is_in_text at) (live file) (area_text file (live file) (sections_pass file accepted) refl at on) in
+    let t = get_or (live file) held.0 held.1 in
+    let P : Segment → Type 0 = λ x. is_in_text at x ≡ true in
+    let good = sound held.0 held.1 held.2 in
+    text_low (is_executable t) t.vaddr (file_end t) at 0x7F00_0000 (subst P (sym held.3) held.4) (omega (arith, good.sizes, good.low))
+
 pub code_end : (file : List ℕ) → elf_fault file ≡ None → All (IsSound (length file)) (live file) → (at : ℕ) → 2 ^ 31 ≤ at → area file at ≡ false
 code_end file accepted sound at high =
     elim (cases_Bool (area file at)) [
-      | inl on ↦ absurd (
-          let held = Any-from_list_any (is_in_text at) (live file) (area_text file (live file) (sections_pass file accepted) refl at on) in
-          let t = get_or (live file) held.0 held.1 in
-          let P : Segment → Type 0 = λ x. is_in_text at x ≡ true in
-          let good = sound held.0 held.1 held.2 in
-          let low = text_low (is_executable t) t.vaddr (file_end t) at 0x7F00_0000 (subst P (sym held.3) held.4) (omega (arith, good.sizes, good.low)) in
-          omega (arith, low, high))
+      | inl on ↦ absurd (let low = code_low file accepted sound at on in omega (arith, low, high))
       | inr off ↦ off
     ]

@@ -9,4 +9,5 @@ pub mod LoaderLemmas
 pub mod RunsLemmas
 pub mod MappedLemmas
 pub mod ImageLaws
+pub mod WholeLemmas
 mod Examples

@@ -87,10 +87,6 @@ pub none_both : (a b : Option ImageFault) → a ≡ None → b ≡ None → opti
 none_both None b e e' = e'
 none_both (Some x) b e e' = absurd (cc)
 
-pub clash_none : (a b : Option ImageFault) → option_or a b ≡ None → b ≡ None
-clash_none None b e = e
-clash_none (Some x) b e = absurd (cc)
-
 -- the check of filled pages, where these are marked
 pub data_same : (file : List ℕ) (segments : List Segment) (marks given : List Bool) (n : ℕ) → n ≡ 524288 → given ≡ marks
     → ((p : ℕ) → marked marks p ≡ is_filled_page file segments p)

@@ -1,7 +1,8 @@
 -- An area has one list of maximal runs in rising order.
-use Rattle.std.proofs.Common.{◌≡◌, ℕ, suc, ◌+◌, ◌*◌, ◌<◌, ◌≤◌, Bool, true, false, ◌&&◌, nat_lt, nat_le, List, [], ◌∷◌, length, get_or, refl, sym, ◌∙◌, inl, inr, arith}
+use Rattle.std.proofs.Common.{◌≡◌, ℕ, zero, suc, ◌+◌, ◌*◌, ◌<◌, ◌≤◌, Bool, true, false, ◌&&◌, nat_lt, nat_le, List, [], ◌∷◌, length, get_or, refl, sym, ◌∙◌, inl, inr, arith}
 use Rattle.std.specs.List.{All, AllAdjacentBelow, list_any}
 use Rattle.std.proofs.lemmas.Bool.{cases_lt, or_left}
+use Rattle.std.proofs.lemmas.List.Folds.{list_any_at}
 use Rattle.std.proofs.lemmas.Bool.Decides.{nat_tests}
 use Rattle.elf_reader.specs.declared.range.Range.{Range}
 use Rattle.elf_reader.specs.Area.{range_end, has_address}
@@ -100,6 +101,26 @@ one b (r ∷ xs) (s ∷ ys) up up' same =
       | inl lt ↦ none_below (r.first + 4 * r.words + 1) at xs up.2 lt ∙ sym (none_below (r.first + 4 * r.words + 1) at ys up'' lt)
       | inr past ↦ sym (rest at r xs (omega (arith, past))) ∙ same at ∙ rest at s ys (omega (arith, past, begin, size))
     ]))
+
+-- no run begins where another ends
+ends_off : (b : ℕ) (rs : List Range) → Above b rs → (k : ℕ) (d : Range) → k < length rs
+    → (b ≤ (get_or rs k d).first) × (list_any (has_address (range_end (get_or rs k d))) rs ≡ false)
+ends_off b [] up k d within = absurd (omega (arith, within))
+ends_off b (r ∷ rs) up zero d within =
+    (up.0, rw (high r.first r.words (r.first + 4 * r.words) (omega arith)) (none_below (r.first + 4 * r.words + 1) (r.first + 4 * r.words) rs up.2 (omega arith)))
+ends_off b (r ∷ rs) up (suc k) d within =
+    let later = ends_off (r.first + 4 * r.words + 1) rs up.2 k d (omega (arith, within)) in
+    (omega (arith, up.0, later.0), rest (range_end (get_or rs k d)) r rs (omega (arith, later.0)) ∙ later.1)
+
+pub runs_end : (area : ℕ → Bool) (rs : List Range) → IsRunsOf area rs → (k : ℕ) (d : Range) → k < length rs → area (range_end (get_or rs k d)) ≡ false
+runs_end area rs runs k d within =
+    runs.same (range_end (get_or rs k d)) ∙ (ends_off 0 rs (above 0 rs runs.filled runs.apart (λ d lt. omega arith)) k d within).1
+
+-- the addresses of a run are in the area
+pub runs_within : (area : ℕ → Bool) (rs : List Range) → IsRunsOf area rs → (k at : ℕ) (d : Range) → k < length rs
+    → (get_or rs k d).first ≤ at → at < range_end (get_or rs k d) → area at ≡ true
+runs_within area rs runs k at d inside from below =
+    runs.same at ∙ list_any_at (has_address at) rs k d inside (within (get_or rs k d).first (get_or rs k d).words at from below)
 
 pub runs_one : (area : ℕ → Bool) (xs ys : List Range) → IsRunsOf area xs → IsRunsOf area ys → xs ≡ ys
 runs_one area xs ys runs runs' =

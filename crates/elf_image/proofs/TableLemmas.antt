@@ -58,7 +58,7 @@ pub some_false : (o : Option ℕ) → is_some o ≡ false → o ≡ None
 some_false None e = refl
 some_false (Some x) e = absurd (cc)
 
-or_none : (a b : Option ℕ) → option_or a b ≡ None → (a ≡ None) × (b ≡ None)
+pub or_none : (a b : Option ℕ) → option_or a b ≡ None → (a ≡ None) × (b ≡ None)
 or_none None b e = (refl, e)
 or_none (Some x) b e = absurd (cc)
 
@@ -158,7 +158,7 @@ all_bytes len file segments index stored sound filled bytes at =
           ∙ sym (not_filled len file segments (at / 4096) at sound off refl)
     ]
 
-table_word-lt : (index stored : List ℕ) (k : ℕ) → ((i : ℕ) → get_or stored i 0 < 2 ^ 32) → table_word index stored k < 2 ^ 32
+pub table_word-lt : (index stored : List ℕ) (k : ℕ) → ((i : ℕ) → get_or stored i 0 < 2 ^ 32) → table_word index stored k < 2 ^ 32
 unfolding table_word
 table_word-lt index stored k fits = go (get_or index (k / 1024) 0)
   where

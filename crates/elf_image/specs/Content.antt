@@ -2,11 +2,12 @@
 use Rattle.std.specs.Prelude.{ℕ, ◌+◌, ◌-◌, ◌*◌, Bool, not, ◌&&◌, ◌||◌, ◌==◌, nat_lt, nat_le, List, slice_index, find, is_some}
 use Rattle.std.specs.Option.{option_map_or}
 use Rattle.elf_reader.specs.declared.segment.Segment.{Segment}
+use Rattle.elf_reader.specs.Header.{order_of}
 use Rattle.elf_reader.specs.Segments.{file_end}
 use Rattle.elf_reader.specs.Check.{least_below}
 use Rattle.elf_image.specs.Pages.{is_segment_page}
 use Rattle.nv_words.specs.Words.{word_of_bytes}
-use Rattle.mips_decode.specs.Table.{op_of}
+use Rattle.mips_decode.specs.Memory.{word_of_lanes}
 
 -- an address is one of a segment's bytes in the file
 abbrev pub is_in_file_part : ℕ → Segment → Bool
@@ -20,12 +21,17 @@ file_byte file at s = slice_index file (s.offset + (at - s.vaddr))
 unfoldable pub stored_byte : List ℕ → List Segment → ℕ → ℕ
 stored_byte file segments at = option_map_or (file_byte file at) (find (is_in_file_part at) segments) 0
 
--- the word at an address, big-endian
+-- the word at an address as a page keeps it: its lanes are the bytes, lane 0 (the most significant byte) the one of the lowest
+-- address, whatever the file's order is
 unfoldable pub stored_word : List ℕ → List Segment → ℕ → ℕ
 stored_word file segments at =
     word_of_bytes
     (stored_byte file segments at) (stored_byte file segments (at + 1))
     (stored_byte file segments (at + 2)) (stored_byte file segments (at + 3))
+
+-- the instruction word at an address of the code, which has the file's order
+unfoldable pub code_word : List ℕ → List Segment → ℕ → ℕ
+code_word file segments at = word_of_lanes (order_of file) (stored_word file segments at)
 
 -- a page of the segments that holds a byte that is not 0
 unfoldable pub is_filled_page : List ℕ → List Segment → ℕ → Bool
@@ -37,7 +43,3 @@ is_filled_page file segments page =
 unfoldable pub has_data : List ℕ → ℕ → Segment → Bool
 has_data file page s =
     is_some (least_below (λ k. is_in_file_part (4096 * page + k) s && not (file_byte file (4096 * page + k) s == 0)) 4096)
-
--- a word with a primary opcode of the floating-point unit
-abbrev pub is_float : ℕ → Bool
-is_float word = op_of word == 0x11 || op_of word == 0x31 || op_of word == 0x39

@@ -7,9 +7,9 @@ use Rattle.elf_reader.specs.Segments.{live}
 use Rattle.elf_reader.specs.Area.{area}
 use Rattle.elf_reader.specs.Fault.{elf_fault, IsRunsOf}
 use Rattle.elf_image.specs.Pages.{mapped_pages}
-use Rattle.elf_image.specs.Refusals.{layout_fault}
+use Rattle.elf_image.specs.Refusals.{image_fault}
 
--- the segments of the layout and of the page table are those of the file
+-- the segments of the layout and of the page table are those of the file, and the image passed its checks
 pub record IsKept (file : List ℕ) (entry : ℕ) (code : List Range) (laid stored : List Segment) (heap stack mapped : ℕ) : Type 0 where
   pub accepted : elf_fault file ≡ None
   pub same_entry : entry ≡ (header_of file).e_entry
@@ -17,4 +17,4 @@ pub record IsKept (file : List ℕ) (entry : ℕ) (code : List Range) (laid stor
   pub same_layout : laid ≡ live file
   pub same_table : stored ≡ live file
   pub same_mapped : mapped ≡ mapped_pages (live file) heap stack
-  pub no_clash : layout_fault (live file) heap stack ≡ None
+  pub passed : image_fault file code heap stack ≡ None

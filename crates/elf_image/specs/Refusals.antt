@@ -9,7 +9,8 @@ use Rattle.elf_reader.specs.Check.{least_below}
 use Rattle.elf_reader.specs.Segments.{live}
 use Rattle.nv_faults.specs.declared.image_fault.ImageFault.{ImageFault}
 use Rattle.elf_image.specs.Pages.{pages_below, count_below, is_shared, mapped_pages}
-use Rattle.elf_image.specs.Content.{stored_word, is_filled_page, is_float}
+use Rattle.elf_image.specs.Content.{code_word, is_filled_page}
+use Rattle.mips_decode.specs.Table.{is_float}
 
 -- a check of a number against its limit
 abbrev pub exceeds : ℕ → ℕ → ℕ → Option ImageFault
@@ -26,7 +27,7 @@ code_words code = sum_by (λ r. r.words) code
 -- the first address of a run whose word is a floating-point instruction
 abbrev pub float_in : List ℕ → List Segment → Range → Option ℕ
 float_in file segments r =
-    option_map (λ k. r.first + 4 * k) (least_below (λ k. is_float (stored_word file segments (r.first + 4 * k))) r.words)
+    option_map (λ k. r.first + 4 * k) (least_below (λ k. is_float (code_word file segments (r.first + 4 * k))) r.words)
 
 -- the same of runs that rise
 unfoldable pub first_float : List ℕ → List Segment → List Range → Option ℕ
@@ -54,7 +55,7 @@ layout_fault segments heap stack =
 -- the check of the code's instructions
 abbrev pub float_fault : List ℕ → List Segment → List Range → Option ImageFault
 float_fault file segments code =
-    option_map (λ at. record { kind = 7; number = at; word = stored_word file segments at }) (first_float file segments code)
+    option_map (λ at. record { kind = 7; number = at; word = code_word file segments at }) (first_float file segments code)
 
 -- the first check that fails, for a file, the maximal runs of its code area in rising order, and pages of heap and stack
 unfoldable pub image_fault : List ℕ → List Range → ℕ → ℕ → Option ImageFault

@@ -1,16 +1,18 @@
 -- The memory and the code with which a program starts.
 use Rattle.std.specs.Prelude.{ℕ, ◌*◌, ◌/◌, ◌%◌, Bool, ◌&&◌, ◌==◌, if◌then◌else◌, List, Option, Some, None}
+use Rattle.nv_words.specs.declared.order.Order.{Order}
 use Rattle.nv_events.specs.Memory.{Memory}
-use Rattle.elf_reader.specs.Header.{header_of}
+use Rattle.elf_reader.specs.Header.{order_of, header_of}
 use Rattle.elf_reader.specs.Segments.{live}
 use Rattle.elf_reader.specs.Area.{area}
 use Rattle.elf_image.specs.Pages.{is_readable_page, is_writable_page, heap_page, mapped_pages}
-use Rattle.elf_image.specs.Content.{stored_byte, stored_word}
+use Rattle.elf_image.specs.Content.{stored_byte, code_word}
 
 -- what a program starts with
 pub record Start : Type 0 where
   pub entry : ℕ
   pub memory : Memory
+  pub order : Order
   -- the word at each multiple of 4 in the code area
   pub code : ℕ → Option ℕ
   pub heap_start : ℕ
@@ -31,7 +33,7 @@ byte_at s at =
 
 -- the word at a multiple of 4 in the code area
 unfoldable pub code_at : Source → ℕ → Option ℕ
-code_at s at = if at % 4 == 0 && area s.file at then Some (stored_word s.file (live s.file) at) else None
+code_at s at = if at % 4 == 0 && area s.file at then Some (code_word s.file (live s.file) at) else None
 
 -- a page can be read, and can be written
 abbrev pub readable : Source → ℕ → Bool
@@ -44,6 +46,7 @@ unfoldable pub image_of : Source → Start
 image_of s = record {
   entry = (header_of s.file).e_entry;
   memory = record { byte = byte_at s; writable = λ at. writable s (at / 4096) };
+  order = order_of s.file;
   code = code_at s;
   heap_start = 4096 * heap_page (live s.file);
   heap_bytes = 4096 * s.heap;

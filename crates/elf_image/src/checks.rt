@@ -96,6 +96,6 @@ pub fn check_float(table: &PageTable, code: &[Range]) -> Option<ImageFault>
     Some(ImageFault {
         kind: ImageFault::FLOAT_INSTRUCTION,
         number: at,
-        word: table.word_at(at),
+        word: table.code_word(at),
     })
 }

@@ -2,31 +2,25 @@
 ghost use Rattle.std.specs.Prelude.{◌≡◌, ◌+◌, ◌*◌, ◌%◌, ◌^◌, ◌<◌, All, IfSome};
 ghost use Rattle.elf_reader.specs.Check.{least_below};
 ghost use Rattle.elf_reader.specs.declared.range.Range.{Range};
-ghost use Rattle.elf_image.specs.Content.{stored_word, is_float};
+ghost use Rattle.elf_image.specs.Content.{code_word};
+ghost use Rattle.mips_decode.specs.Table.{is_float};
 ghost use Rattle.elf_image.specs.Refusals.{float_in, first_float};
 
 use crate::page_table::PageTable;
 use elf_reader::Range;
-
-/// Whether a word's primary opcode is 11, 31 or 39 (hexadecimal), one of the floating-point unit.
-fn is_float(word: u32) -> bool
-    ensures { result ≡ is_float word }
-{
-    let opcode = word >> 26;
-    opcode == 0x11 || opcode == 0x31 || opcode == 0x39
-}
+use mips_decode::is_float;
 
 /// Which word of a range is its first floating-point instruction.
 #[tactic(auto, using(crate::proofs::Counting::least_none, crate::proofs::Counting::least_more, crate::proofs::Counting::least_found))]
 fn float_word(table: &PageTable, range: Range) -> Option<u32>
     requires { range.first % 4 ≡ 0 }
     ensures value { result ≡ least_below (λ k. is_float
-        (stored_word table.now.file.bytes table.now.segments.value.items (range.first + 4 * k))) range.words }
+        (code_word table.now.file.bytes table.now.segments.value.items (range.first + 4 * k))) range.words }
     ensures bound { IfSome result (λ k. k < 2 ^ 32) }
 {
     for k in 0..range.words {
         let at = u64::from(range.first) + 4 * u64::from(k);
-        if is_float(table.word_at(at)) {
+        if is_float(table.code_word(at)) {
             return Some(k);
         }
     }

@@ -1,4 +1,4 @@
-ghost use Rattle.std.specs.Prelude.{◌≡◌, ℕ, ◌+◌, ◌*◌, ◌/◌, ◌%◌, ◌^◌, ◌<◌, ◌≤◌, false, None, IfOk, IfSome, is_some, length, slice_index};
+ghost use Rattle.std.specs.Prelude.{◌≡◌, ℕ, ◌+◌, ◌*◌, ◌/◌, ◌%◌, ◌^◌, ◌<◌, ◌≤◌, false, List, All, None, IfOk, IfSome, is_some, length, slice_index};
 ghost use Rattle.std.specs.List.{list_any};
 ghost use Rattle.elf_reader.specs.Header.{header_of};
 ghost use Rattle.elf_reader.specs.Segments.{live};
@@ -7,12 +7,15 @@ ghost use Rattle.elf_reader.specs.Fault.{elf_fault, IsRunsOf};
 ghost use Rattle.elf_image.specs.Content.{stored_byte, stored_word, is_filled_page};
 ghost use Rattle.nv_words.specs.Words.{lane_of_word};
 ghost use Rattle.elf_image.specs.Pages.{pages_below, count_below};
-ghost use Rattle.elf_image.specs.Refusals.{layout_fault};
+ghost use Rattle.elf_image.specs.Refusals.{code_words, image_fault};
 ghost use Rattle.elf_image.specs.Start.{image_of, readable, writable};
+ghost use Rattle.elf_image.specs.Whole.{IsWholeRange};
+ghost use Rattle.elf_reader.specs.declared.range.Range.{Range};
 
 use crate::layout::Layout;
 use crate::page_table::PageTable;
 use elf_reader::{Elf, Range};
+use nv_words::Order;
 use std::alloc::{AllocError, Global};
 use std::marker::Model;
 
@@ -54,7 +57,7 @@ impl Image {
         requires file { table.file.bytes ≡ elf.now.file.now }
         requires stored { table.segments.value.items ≡ live elf.now.file.now }
         requires laid { layout.segments.value.items ≡ live elf.now.file.now }
-        requires no_clash { layout_fault (live elf.now.file.now) layout.heap layout.stack ≡ None }
+        requires passed { image_fault elf.now.file.now elf.now.code.items layout.heap layout.stack ≡ None }
         ensures { IfOk result (λ i. i ≡ record { file = elf.now.file.now; heap = layout.heap; stack = layout.stack }) }
     {
         let code = elf.code.as_slice().to_vec(alloc)?;
@@ -76,6 +79,14 @@ impl Image {
         self.entry
     }
 
+    /// The order of the bytes of the program's words. The code's are read in it; those of pages stand as they are in memory.
+    #[tactic(auto, unfolding(crate::specs::Start::image_of))]
+    pub fn order(&self) -> Order
+        ensures { result ≡ (image_of self.now).order }
+    {
+        self.table.order
+    }
+
     /// The code area, as its maximal runs of words in rising order.
     pub fn ranges(&self) -> &[Range]
         ensures { IsRunsOf (area self.now.file) result.now }
@@ -89,7 +100,7 @@ impl Image {
         ensures { result ≡ (image_of self.now).code at }
     {
         if at % 4 == 0 && has_address(self.code.as_slice(), at) {
-            Some(self.table.word_at(u64::from(at)))
+            Some(self.table.code_word(u64::from(at)))
         } else {
             None
         }
@@ -121,7 +132,8 @@ impl Image {
         }
     }
 
-    /// The 1,024 big-endian words of a page of the segments that holds a byte that is not 0, in the order of their addresses.
+    /// The 1,024 words of a page of the segments that holds a byte that is not 0, in the order of their addresses. The most
+    /// significant byte of each has its lowest address, in a program of either order.
     pub fn page(&self, page: u32) -> Option<&[u32]>
         ensures filled { is_some result ≡ is_filled_page self.now.file (live self.now.file) page }
         ensures len { IfSome result (λ words. length words.now ≡ 1024) }
@@ -156,15 +168,19 @@ impl Image {
         4096 * self.layout.heap
     }
 
-    /// Does nothing. It tells which bytes the words of an image are, and that its pages and its code end below 80000000
-    /// (hexadecimal).
+    /// Does nothing. It tells which bytes the words of an image are; that its pages and its code end below 80000000 (hexadecimal);
+    /// that they are not too many; and that each run of its code is whole, without a word of the floating-point coprocessor.
     pub fn laws(&self)
         ensures lanes { (at : ℕ) → lane_of_word (stored_word self.now.file (live self.now.file) (4 * (at / 4))) (at % 4) ≡ stored_byte self.now.file (live self.now.file) at }
         ensures zeros { (at : ℕ) → is_filled_page self.now.file (live self.now.file) (at / 4096) ≡ false → stored_byte self.now.file (live self.now.file) at ≡ 0 }
         ensures pages { (page : ℕ) → 524288 ≤ page → readable self.now page ≡ false }
         ensures code { (at : ℕ) → 2 ^ 31 ≤ at → area self.now.file at ≡ false }
+        ensures mapped { (image_of self.now).mapped ≤ 65_536 }
+        ensures words { (code : List Range) → IsRunsOf (area self.now.file) code → code_words code ≤ 1_048_576 }
+        ensures runs { (code : List Range) → IsRunsOf (area self.now.file) code → length code ≤ 64 }
+        ensures whole { (code : List Range) → IsRunsOf (area self.now.file) code → All (IsWholeRange (image_of self.now).code) code }
     {
-        let _ = &self.mapped;
+        self.table.words_fit();
     }
 }
 

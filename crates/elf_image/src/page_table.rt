@@ -1,13 +1,15 @@
 ghost use Rattle.std.specs.Prelude.{◌≡◌, ℕ, ◌+◌, ◌*◌, ◌%◌, ◌^◌, ◌<◌, ◌≤◌, ◌==◌, not, All, length, slice_index, is_some, IfOk, IfSome};
 ghost use Rattle.elf_reader.specs.Fault.{IsSound};
-ghost use Rattle.elf_image.specs.Content.{stored_byte, stored_word, is_filled_page};
+ghost use Rattle.elf_reader.specs.Header.{order_of};
+ghost use Rattle.elf_image.specs.Content.{stored_byte, stored_word, code_word, is_filled_page};
 ghost use Rattle.elf_image.specs.PageTable.{marked, table_word, table_byte};
 
 use crate::contents::Contents;
 use crate::page_marks::{count_marks, numbers};
 use crate::store::stored_words;
-use elf_reader::Segment;
-use nv_words::lane;
+use elf_reader::{Segment, order_of};
+use mips_decode::word_of_lanes;
+use nv_words::{Order, lane};
 use std::alloc::{AllocError, Global};
 use std::snapshot::Snapshot;
 
@@ -18,10 +20,13 @@ pub struct PageTable {
     pub file: Contents,
     /// The live segments, which only clauses read.
     pub segments: Snapshot<Vec<Segment>>,
+    /// The order of the bytes of the file's numbers.
+    pub order: Order,
     /// For each page which of the stored pages it is, counted from 1; 0 where it is all zero.
     index: Vec<u32>,
     /// The words of the stored pages, one page after the other.
     stored: Vec<u32>,
+    ghost order_is: { order ≡ order_of file.bytes },
     ghost words: { (k : ℕ) → table_word index.items stored.items k ≡ stored_word file.bytes segments.value.items (4 * k) },
     ghost bytes: { (at : ℕ) → table_byte index.items stored.items at ≡ stored_byte file.bytes segments.value.items at },
     ghost filled: { (page : ℕ) → not (slice_index index.items page == 0) ≡ is_filled_page file.bytes segments.value.items page },
@@ -49,6 +54,7 @@ impl PageTable {
         Ok(PageTable {
             file: Contents::of(file),
             segments: Snapshot::of(segments),
+            order: order_of(file),
             index,
             stored,
         })
@@ -77,12 +83,13 @@ impl PageTable {
         }
     }
 
-    /// The big-endian word at an address that is a multiple of 4.
-    pub fn word_at(&self, at: u64) -> u32
+    /// The instruction word at an address that is a multiple of 4, in the file's order.
+    #[tactic(auto, unfolding(crate::specs::Content::code_word))]
+    pub fn code_word(&self, at: u64) -> u32
         requires { at % 4 ≡ 0 }
-        ensures { result ≡ stored_word self.now.file.bytes self.now.segments.value.items at }
+        ensures { result ≡ code_word self.now.file.bytes self.now.segments.value.items at }
     {
-        self.word(at / 4)
+        word_of_lanes(self.order, self.word(at / 4))
     }
 
     /// The byte at an address.
@@ -90,6 +97,13 @@ impl PageTable {
         ensures { result ≡ stored_byte self.now.file.bytes self.now.segments.value.items at }
     {
         lane(self.word(u64::from(at / 4)), at % 4)
+    }
+
+    /// Does nothing: a word has 32 bits.
+    pub fn words_fit(&self)
+        ensures { (k : ℕ) → stored_word self.now.file.bytes self.now.segments.value.items (4 * k) < 2 ^ 32 }
+    {
+        words_fit(self.stored.as_slice());
     }
 
     /// The words of a page that holds a byte that is not 0.

@@ -1,7 +1,8 @@
 -- System V ABI, "Object Files", "ELF Header"
-use Rattle.std.specs.Prelude.{◌≡◌, ℕ, ◌+◌, ◌*◌, ◌<◌, Bool, not, ◌&&◌, ◌||◌, ◌==◌, nat_lt, List, [], ◌∷◌, length, slice_index, Option}
+use Rattle.std.specs.Prelude.{◌≡◌, ℕ, ◌+◌, ◌*◌, ◌<◌, Bool, not, ◌&&◌, ◌||◌, ◌==◌, nat_lt, if◌then◌else◌, List, [], ◌∷◌, length, slice_index, Option}
 use Rattle.nv_words.specs.Words.{half_of_list, word_of_list}
-use Rattle.nv_words.specs.declared.order.Order.TheVariants.{Big}
+use Rattle.nv_words.specs.declared.order.Order.{Order}
+use Rattle.nv_words.specs.declared.order.Order.TheVariants.{Big, Little}
 use Rattle.nv_faults.specs.declared.elf_fault.ElfFault.{ElfFault}
 use Rattle.elf_reader.specs.declared.elf_header.ElfHeader.{ElfHeader}
 use Rattle.elf_reader.specs.Check.{fails, first_fault}
@@ -21,12 +22,17 @@ abbrev pub has_magic : List ℕ → Bool
 has_magic file =
     slice_index file 0 == 0x7F && slice_index file 1 == 0x45 && slice_index file 2 == 0x4C && slice_index file 3 == 0x46
 
+-- e_ident[EI_DATA] names the order of every number in the file: 1, ELFDATA2LSB, the least significant byte first, and 2,
+-- ELFDATA2MSB, the most significant. A file with another byte there is refused.
+unfoldable pub order_of : List ℕ → Order
+order_of file = if slice_index file 5 == 1 then Little else Big
+
 -- the numbers of 16 and of 32 bits that stand at a place; a byte past the end reads as 0
 abbrev pub half : List ℕ → ℕ → ℕ
-half file at = half_of_list Big file at
+half file at = half_of_list (order_of file) file at
 
 abbrev pub word : List ℕ → ℕ → ℕ
-word file at = word_of_list Big file at
+word file at = word_of_list (order_of file) file at
 
 -- the fields of the header
 unfoldable pub header_of : List ℕ → ElfHeader
@@ -50,7 +56,7 @@ header_of file = record {
 abbrev pub is_program_table_outside : List ℕ → ElfHeader → Bool
 is_program_table_outside file header = nat_lt (length file) (header.e_phoff + 32 * header.e_phnum)
 
--- the checks of what kind of file it is: a 32-bit big-endian executable for MIPS
+-- the checks of what kind of file it is: a 32-bit executable for MIPS, in one of the two orders of bytes
 unfoldable pub identity_fault : List ℕ → Option ElfFault
 identity_fault file =
     let header = header_of file in
@@ -58,7 +64,7 @@ identity_fault file =
     (fails 1 (nat_lt (length file) 52)
     ∷ fails 2 (not (has_magic file))
     ∷ fails 3 (not (header.ei_class == 1))
-    ∷ fails 4 (not (header.ei_data == 2))
+    ∷ fails 4 (not (header.ei_data == 1) && not (header.ei_data == 2))
     ∷ fails 5 (not (header.ei_version == 1) || not (header.e_version == 1))
     ∷ fails 6 (not (header.e_type == 2))
     ∷ fails 7 (not (header.e_machine == 8))

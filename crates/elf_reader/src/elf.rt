@@ -2,7 +2,7 @@ ghost use Rattle.std.specs.Prelude.{true, ℕ, AllPairs, ◌≡◌, [], ◌∷�
 ghost use Rattle.elf_reader.specs.Area.{area, code_ranges, ranges_of, area_fault, has_address, range_end, is_in_text};
 ghost use Rattle.elf_reader.specs.Check.{first_fault};
 ghost use Rattle.elf_reader.specs.Fault.{elf_fault, IsAnswer, IsSound, IsRunsOf};
-ghost use Rattle.elf_reader.specs.Header.{header_of, identity_fault, program_table_fault};
+ghost use Rattle.elf_reader.specs.Header.{order_of, header_of, identity_fault, program_table_fault};
 ghost use Rattle.elf_reader.specs.Sections.{has_sections, section_headers, section_table_fault, section_fault};
 ghost use Rattle.elf_reader.specs.Segments.{program_headers, live, file_end, segment_fault, IsApart};
 ghost use Rattle.elf_reader.specs.declared.range.Range.{Range};
@@ -13,6 +13,7 @@ use crate::area_checks::check_area;
 use crate::code_area::{code_ranges, runs};
 use crate::elf_error::ElfError;
 use crate::elf_header::ElfHeader;
+use crate::fields::order_of;
 use crate::header_checks::{check_identity, check_program_table};
 use crate::range::Range;
 use crate::section_checks::{check_section_table, check_sections, read_section_headers};
@@ -20,13 +21,16 @@ use crate::section_header::SectionHeader;
 use crate::segment::Segment;
 use crate::segment_checks::{check_segments, live_segments, read_program_headers};
 use nv_faults::ElfFault;
+use nv_words::Order;
 use std::alloc::Global;
 
-/// A 32-bit big-endian MIPS executable that passed every check.
+/// A 32-bit MIPS executable that passed every check.
 #[derive(Debug, Drop)]
 pub struct Elf<'a> {
     /// The whole file.
     pub file: &'a [u8],
+    /// The order of the numbers in the file, and of the program's own.
+    pub order: Order,
     /// `e_entry`: the address at which the program starts.
     pub entry: u32,
     /// The live segments, in the order of the program header table.
@@ -35,7 +39,7 @@ pub struct Elf<'a> {
     pub code: Vec<Range>,
 }
 
-/// Reads a 32-bit big-endian MIPS executable (System V ABI, "Object Files").
+/// Reads a 32-bit MIPS executable, big-endian or little-endian (System V ABI, "Object Files").
 ///
 /// No number in the file is trusted: memory is taken only for table entries that lie in the file, and the time is that of
 /// sorting these.
@@ -47,6 +51,7 @@ pub fn read_elf(alloc: Global, b: &[u8]) -> Result<Elf<'_>, ElfError>
     ensures refused { IfErr result (IsAnswer (elf_fault b.now)) }
     ensures accepted { OnOk result (elf_fault b.now ≡ None) }
     ensures file { IfOk result (λ elf. elf.file.now ≡ b.now) }
+    ensures order { IfOk result (λ elf. elf.order ≡ order_of b.now) }
     ensures entry { IfOk result (λ elf. elf.entry ≡ (header_of b.now).e_entry) }
     ensures segments { IfOk result (λ elf. elf.segments.items ≡ live b.now) }
     ensures sound { IfOk result (λ elf. All (IsSound (length b.now)) elf.segments.items) }
@@ -63,6 +68,7 @@ pub fn read_elf(alloc: Global, b: &[u8]) -> Result<Elf<'_>, ElfError>
     let code = read_code(alloc, b, header, segments.as_slice())?;
     Ok(Elf {
         file: b,
+        order: order_of(b),
         entry: header.e_entry,
         segments,
         code,

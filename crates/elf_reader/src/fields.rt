@@ -1,21 +1,32 @@
-//! Numbers in a part of the file that is known to be there.
+//! Numbers in a part of the file that is known to be there, in the order that the file names.
 ghost use Rattle.std.specs.Prelude.{◌≡◌, ◌+◌, ◌≤◌, length};
-ghost use Rattle.elf_reader.specs.Header.{half, word};
+ghost use Rattle.elf_reader.specs.Header.{order_of, half, word};
 
-use nv_words::{half_at, word_at};
+use nv_words::{Order, half_in, word_in};
 
-/// The big-endian number of 16 bits at `at`.
+/// The order of the numbers of a file, which `e_ident[EI_DATA]` names.
+#[tactic(auto, unfolding(crate::specs::Header::order_of))]
+pub fn order_of(b: &[u8]) -> Order
+    ensures { result ≡ order_of b.now }
+{
+    match b.get(5) {
+        Some(1) => Order::Little,
+        _ => Order::Big,
+    }
+}
+
+/// The number of 16 bits at `at`.
 pub fn half(b: &[u8], at: usize) -> u16
     requires { at + 2 ≤ length b.now }
     ensures { result ≡ half b.now at }
 {
-    half_at(b, at).unwrap()
+    half_in(order_of(b), b, at).unwrap()
 }
 
-/// The big-endian number of 32 bits at `at`.
+/// The number of 32 bits at `at`.
 pub fn word(b: &[u8], at: usize) -> u32
     requires { at + 4 ≤ length b.now }
     ensures { result ≡ word b.now at }
 {
-    word_at(b, at).unwrap()
+    word_in(order_of(b), b, at).unwrap()
 }

@@ -6,7 +6,7 @@ use crate::elf_header::ElfHeader;
 use crate::fault::fault_when;
 use nv_faults::ElfFault;
 
-/// The first of the checks of what kind of file it is: a 32-bit big-endian executable for MIPS.
+/// The first of the checks of what kind of file it is: a 32-bit executable for MIPS, in one of the two orders of bytes.
 #[tactic(auto, unfolding(crate::specs::Header::identity_fault))]
 pub fn check_identity(b: &[u8]) -> Option<ElfFault>
     ensures first { result ≡ identity_fault b.now }
@@ -22,8 +22,8 @@ pub fn check_identity(b: &[u8]) -> Option<ElfFault>
     if header.ei_class != 1 {
         return fault_when(ElfFault::NOT_CLASS_32, true);
     }
-    if header.ei_data != 2 {
-        return fault_when(ElfFault::NOT_BIG_ENDIAN, true);
+    if header.ei_data != 1 && header.ei_data != 2 {
+        return fault_when(ElfFault::NOT_KNOWN_ORDER, true);
     }
     if header.ei_version != 1 || header.e_version != 1 {
         return fault_when(ElfFault::BAD_VERSION, true);

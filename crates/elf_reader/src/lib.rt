@@ -1,4 +1,4 @@
-//! Reads ELF32 files of big-endian MIPS I programs (System V ABI, "Object Files").
+//! Reads ELF32 files of MIPS I programs (System V ABI, "Object Files").
 #![tactic(auto)]
 
 mod area_checks;
@@ -25,6 +25,7 @@ mod thin_segment;
 
 pub use elf::{Elf, read_elf};
 pub use elf_error::ElfError;
+pub use fields::order_of;
 pub use nv_faults::ElfFault;
 pub use range::Range;
 pub use reader::read_thin;

@@ -4,6 +4,7 @@ use Rattle.std.specs.List.{All, range_with_len}
 use Rattle.std.proofs.lemmas.List.{get_or-append_right, append_assoc}
 use Rattle.std.proofs.lemmas.Bool.{cases_Bool}
 use Rattle.nv_words.specs.Words.{word_of_bytes, word_of_list}
+use Rattle.nv_words.specs.declared.order.Order.{Order}
 use Rattle.nv_words.specs.declared.order.Order.TheVariants.{Big}
 use Rattle.nv_words.proofs.LaneLemmas.{word_of_lanes}
 use Rattle.elf_reader.specs.declared.program_header.ProgramHeader.{ProgramHeader}
@@ -51,7 +52,7 @@ header_read xs ys n offset s size small short words =
     )
 
 -- the program headers of the parts, as they are read
-part_headers : ℕ → List Part → List ProgramHeader
+pub part_headers : ℕ → List Part → List ProgramHeader
 part_headers at [] = []
 part_headers at (s ∷ parts) = record { p_type = 1; segment = segment_of (aligned at) s } ∷ part_headers (part_end at s) parts
 
@@ -63,23 +64,25 @@ same_header t o v f m l t' o' v' f' m' l' a b c d e g = λ i. record { p_type = 
 cons_same : {X : Type 0} (x y : X) (xs ys : List X) → x ≡ y → xs ≡ ys → x ∷ xs ≡ y ∷ ys
 cons_same x y xs ys p q = λ i. p i ∷ q i
 
-one_read : (file xs ys : List ℕ) (j offset : ℕ) (s : Part) → file ≡ xs ++ (program_header offset s ++ ys) → length xs ≡ 52 + 32 * j → (read.header_of file).e_phoff ≡ 52
+one_read : (file xs ys : List ℕ) (j offset : ℕ) (s : Part) → file ≡ xs ++ (program_header offset s ++ ys) → length xs ≡ 52 + 32 * j → read.order_of file ≡ Big
+    → (read.header_of file).e_phoff ≡ 52
     → offset < 2 ^ 32 → length s.bytes.items < 2 ^ 32 → HasWords s → header_at file j ≡ record { p_type = 1; segment = segment_of offset s }
 unfolding header_at
-one_read file xs ys j offset s is size place small short words =
+one_read file xs ys j offset s is size order place small short words =
     let n = 52 + 32 * j in
     let from : (read.header_of file).e_phoff + 32 * j ≡ n = ap (λ p. p + 32 * j) place in
     let facts = header_read xs ys n offset s size small short words in
-    let at = λ (k : ℕ). ap (λ p. word_of_list Big file (p + k)) from ∙ ap (λ f. word_of_list Big f (n + k)) is in
+    let big = λ (p : ℕ). ap (λ (o : Order). word_of_list o file p) order in
+    let at = λ (k : ℕ). big ((read.header_of file).e_phoff + 32 * j + k) ∙ ap (λ p. word_of_list Big file (p + k)) from ∙ ap (λ f. word_of_list Big f (n + k)) is in
     same_header _ _ _ _ _ _ 1 offset s.vaddr (length s.bytes.items) s.mem s.flags
-    (ap (word_of_list Big file) from ∙ ap (λ f. word_of_list Big f n) is ∙ facts.0) (at 4 ∙ facts.1) (at 8 ∙ facts.2) (at 16 ∙ facts.3) (at 20 ∙ facts.4) (at 24 ∙ facts.5)
+    (big ((read.header_of file).e_phoff + 32 * j) ∙ ap (word_of_list Big file) from ∙ ap (λ f. word_of_list Big f n) is ∙ facts.0) (at 4 ∙ facts.1) (at 8 ∙ facts.2) (at 16 ∙ facts.3) (at 20 ∙ facts.4) (at 24 ∙ facts.5)
 
 all_read : (file xs rest : List ℕ) (at j : ℕ) (parts : List Part) → file ≡ xs ++ (program_headers at parts ++ rest) → length xs ≡ 52 + 32 * j
-    → (read.header_of file).e_phoff ≡ 52 → All HasWords parts → contents_end at parts ≤ 67108864
+    → read.order_of file ≡ Big → (read.header_of file).e_phoff ≡ 52 → All HasWords parts → contents_end at parts ≤ 67108864
     → map (header_at file) (range_with_len j (length parts)) ≡ part_headers at parts
 unfolding part_headers
-all_read file xs rest at j [] is size place words short = refl
-all_read file xs rest at j (s ∷ parts) is size place words short =
+all_read file xs rest at j [] is size order place words short = refl
+all_read file xs rest at j (s ∷ parts) is size order place words short =
     let head = program_header (aligned at) s in
     let more = program_headers (part_end at s) parts in
     let within = le_contents_end (part_end at s) parts in
@@ -87,8 +90,8 @@ all_read file xs rest at j (s ∷ parts) is size place words short =
     let front : file ≡ xs ++ (head ++ (more ++ rest)) = is ∙ apart in
     let next : file ≡ (xs ++ head) ++ (more ++ rest) = front ∙ sym (append_assoc xs head (more ++ rest)) in
     cons_same _ _ _ _
-    (one_read file xs (more ++ rest) j (aligned at) s front size place (omega (arith, within, short)) (omega (arith, within, short)) (words 0 s (omega arith)))
-    (all_read file (xs ++ head) rest (part_end at s) (j + 1) parts next (omega (arith, length-append {A = ℕ}, size)) place (λ k d lt. words (suc k) d (omega (arith, lt))) short)
+    (one_read file xs (more ++ rest) j (aligned at) s front size order place (omega (arith, within, short)) (omega (arith, within, short)) (words 0 s (omega arith)))
+    (all_read file (xs ++ head) rest (part_end at s) (j + 1) parts next (omega (arith, length-append {A = ℕ}, size)) order place (λ k d lt. words (suc k) d (omega (arith, lt))) short)
 
 lives : (at : ℕ) (parts : List Part) → map (λ (h : ProgramHeader). h.segment) (filter is_live (part_headers at parts)) ≡ part_segments at parts
 unfolding part_segments part_headers
@@ -102,29 +105,30 @@ lives at (s ∷ parts) =
 half_of : (n : ℕ) → n < 65536 → n / 2 ^ 8 % 2 ^ 8 * 2 ^ 8 + n % 2 ^ 8 ≡ n
 half_of n lt = omega (arith, lt)
 
-table_place_is : (entry table segments headers : ℕ) (ys : List ℕ) → (read.header_of (elf_header entry table segments headers ++ ys)).e_phoff ≡ 52
-unfolding read.header_of
+order_is : (entry table segments headers : ℕ) (ys : List ℕ) → read.order_of (elf_header entry table segments headers ++ ys) ≡ Big
+unfolding read.order_of
+order_is entry table segments headers ys = refl
+
+pub table_place_is : (entry table segments headers : ℕ) (ys : List ℕ) → (read.header_of (elf_header entry table segments headers ++ ys)).e_phoff ≡ 52
+unfolding read.header_of read.order_of
 table_place_is entry table segments headers ys = refl
 
-count_is : (entry table segments headers : ℕ) (ys : List ℕ) → segments < 65536 → (read.header_of (elf_header entry table segments headers ++ ys)).e_phnum ≡ segments
-unfolding read.header_of
+pub count_is : (entry table segments headers : ℕ) (ys : List ℕ) → segments < 65536 → (read.header_of (elf_header entry table segments headers ++ ys)).e_phnum ≡ segments
+unfolding read.header_of read.order_of
 count_is entry table segments headers ys few = half_of segments few
 
 table_behind : (at : ℕ) (sections : List Sec) → at ≤ table_end at sections
 table_behind at [] = omega arith
 table_behind at (s ∷ sections) = omega arith
 
-read_live : (file : List ℕ) (n : ℕ) (hs : List ProgramHeader) (ss : List Segment) → (read.header_of file).e_phnum ≡ n → map (header_at file) (range_with_len 0 n) ≡ hs
-    → map (λ (h : ProgramHeader). h.segment) (filter is_live hs) ≡ ss → live file ≡ ss
-unfolding live headers_of
-read_live file n hs ss count all same =
-    ap (λ m. map (λ (h : ProgramHeader). h.segment) (filter is_live (map (header_at file) (range_with_len 0 m)))) count
-    ∙ ap (λ xs. map (λ (h : ProgramHeader). h.segment) (filter is_live xs)) all ∙ same
+counted : (file : List ℕ) (n : ℕ) (hs : List ProgramHeader) → (read.header_of file).e_phnum ≡ n → map (header_at file) (range_with_len 0 n) ≡ hs → headers_of file ≡ hs
+unfolding headers_of
+counted file n hs count all = ap (λ m. map (header_at file) (range_with_len 0 m)) count ∙ all
 
--- the live segments of a written file are the parts with memory
-pub reads_back : (parts : Parts) → IsWritable parts → All HasWords parts.segments.items
-    → live (elf_file parts) ≡ part_segments (contents_place parts.segments.items) parts.segments.items
-reads_back parts writable words =
+-- the program headers of a written file are those of its parts
+pub headers_read : (parts : Parts) → IsWritable parts → All HasWords parts.segments.items
+    → headers_of (elf_file parts) ≡ part_headers (contents_place parts.segments.items) parts.segments.items
+headers_read parts writable words =
     let segments = parts.segments.items in
     let sections = parts.sections.items in
     let place = contents_place segments in
@@ -136,10 +140,21 @@ reads_back parts writable words =
     ∙ append_assoc head (program_headers place segments) rest in
     let few : length segments < 65536 = omega (arith, writable.1) in
     let short : contents_end place segments ≤ 67108864 = omega (arith, table_behind (segments_end parts) sections, writable.3) in
+    let order = ap read.order_of shape ∙ order_is parts.entry table (length segments) (header_count sections) (program_headers place segments ++ rest) in
     let at = ap (λ f. (read.header_of f).e_phoff) shape ∙ table_place_is parts.entry table (length segments) (header_count sections) (program_headers place segments ++ rest) in
     let count = ap (λ f. (read.header_of f).e_phnum) shape ∙ count_is parts.entry table (length segments) (header_count sections) (program_headers place segments ++ rest) few in
-    read_live (elf_file parts) (length segments) (part_headers place segments) (part_segments place segments) count
-    (all_read (elf_file parts) head rest place 0 segments shape refl at words short) (lives place segments)
+    counted (elf_file parts) (length segments) (part_headers place segments) count (all_read (elf_file parts) head rest place 0 segments shape refl order at words short)
+
+live_are : (file : List ℕ) (hs : List ProgramHeader) (ss : List Segment) → headers_of file ≡ hs → map (λ (h : ProgramHeader). h.segment) (filter is_live hs) ≡ ss → live file ≡ ss
+unfolding live
+live_are file hs ss are same = ap (λ xs. map (λ (h : ProgramHeader). h.segment) (filter is_live xs)) are ∙ same
+
+-- the live segments of a written file are the parts with memory
+pub reads_back : (parts : Parts) → IsWritable parts → All HasWords parts.segments.items
+    → live (elf_file parts) ≡ part_segments (contents_place parts.segments.items) parts.segments.items
+reads_back parts writable words =
+    let place = contents_place parts.segments.items in
+    live_are (elf_file parts) (part_headers place parts.segments.items) (part_segments place parts.segments.items) (headers_read parts writable words) (lives place parts.segments.items)
 
 holds : (file xs rest : List ℕ) (at : ℕ) (parts : List Part) → file ≡ xs ++ (contents at parts ++ rest) → length xs ≡ at → HoldsParts file at parts
 unfolding HoldsParts

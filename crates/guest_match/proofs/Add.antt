@@ -25,7 +25,8 @@ use Rattle.guest_match.proofs.Registers.{pushed, register-got, IsWord-word, Hold
 use Rattle.guest_match.proofs.Results.{with_result, result-leads}
 use Rattle.guest_match.proofs.Signs.{overflow-is}
 use Rattle.guest_match.proofs.Guest.{turn-at}
-use Rattle.guest_match.proofs.Machine.{turn-at-line, stretch-starts, ends-alike}
+use Rattle.jvm_program.proofs.Turning.{turn-at-line, stretch-starts}
+use Rattle.guest_match.proofs.Machine.{ends-alike}
 
 abbrev sum_of : State → ℕ → ℕ → ℕ
 sum_of s rs rt = (register s rs + register s rt) % 2 ^ 32

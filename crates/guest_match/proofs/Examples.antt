@@ -30,6 +30,7 @@ guest = record {
   lo = 32;
   pc = 0;
   pending = None;
+  load_link = None;
   memory = memory_of (host_memory heap 100 200);
   order = Big;
   code = λ a. None;

@@ -33,7 +33,8 @@ use Rattle.guest_match.proofs.Registers.{register-got, Holds-written}
 use Rattle.guest_match.proofs.Results.{with_result}
 use Rattle.guest_match.proofs.Signs.{same-signed, below-zero}
 use Rattle.guest_match.proofs.Guest.{turn-at}
-use Rattle.guest_match.proofs.Machine.{turn-at-line, stretch-starts, then-stretch, then-advanced, method-stands, enters-method, ends-alike}
+use Rattle.jvm_program.proofs.Turning.{turn-at-line, stretch-starts, then-stretch, then-advanced, enters-method}
+use Rattle.guest_match.proofs.Machine.{method-stands, ends-alike}
 use Rattle.guest_match.proofs.ReadLemmas.{lane-read, unread, high-unread}
 
 -- ---- the tests of the method

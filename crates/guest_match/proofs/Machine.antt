@@ -1,31 +1,14 @@
--- Turns of the class machine at a line of code that stands in a method.
-use Rattle.std.proofs.Common.{◌≡◌, ℕ, suc, ◌+◌, ◌<◌, if◌then◌else◌, List, ◌∷◌, length, Some, option_and_then, refl, ap, subst, sym, ◌∙◌, arith}
-use Rattle.nv_events.specs.Turn.{Turn, End, ends, moves, trap}
+-- Where both machines end, and the lines of a method.
+use Rattle.std.proofs.Common.{◌≡◌, ℕ, List, Some, option_and_then, refl, ap, subst, sym, ◌∙◌}
+use Rattle.nv_events.specs.Turn.{Turn, End, ends}
 use Rattle.mips_decode.specs.State as guest
 use Rattle.guest_match.specs.Follows.{TurnsAlike, HasMethod}
 use Rattle.jvm_program.specs.declared.value.Value.{Value}
-use Rattle.std.proofs.lemmas.Bool.{lt-ltb}
 use Rattle.jvm_program.specs.declared.kind.Kind.{Kind}
 use Rattle.jvm_program.specs.declared.linked_method.LinkedMethod.{LinkedMethod}
 use Rattle.jvm_program.specs.declared.linked_line.LinkedLine.{LinkedLine}
 use Rattle.jvm_program.specs.Program.{Program, line_in, line_at}
-use Rattle.jvm_program.specs.Effect.{Workspace, effect, enters, frames_trap}
-use Rattle.jvm_program.specs.Step.{State, Frame, placed, turn, turn_by, executed}
-use Rattle.jvm_program.specs.Stretch.{Point, StandsAt, moved_line, stretch, advanced, body_workspace}
-use Rattle.jvm_program.proofs.Moving.{effect-moved}
-use Rattle.jvm_program.proofs.Stretches.{line-stands, stretch-stands, stretch-add, advanced-add}
-
-pub turn-at-line : (program : Program) (words m by at : ℕ) (lines : List LinkedLine) (line : LinkedLine) (w : Workspace) (others : List Frame) → StandsAt program m by lines → line_in lines at ≡ Some line → turn program words (placed m (by + at) w others) ≡ turn_by (effect program words line.instruction w) m (moved_line by line) others
-turn-at-line program words m by at lines line w others stands is =
-    ap (executed program words (placed m (by + at) w others) (record { method = m; at = by + at; locals = w.locals; operands = w.operands }) others) (line-stands program m by at lines line stands is)
-    ∙ ap (λ e. turn_by e m (moved_line by line) others) (effect-moved program words by line.instruction w)
-
--- a stretch from its start, where it stands
-pub stretch-starts : (program : Program) (words m by n : ℕ) (lines : List LinkedLine) (w : Workspace) (others : List Frame) (p : Point) → StandsAt program m by lines → stretch program words lines n 0 w ≡ Some p → advanced (turn program words) n (placed m by w others) ≡ Some (placed m (by + p.at) p.workspace others)
-stretch-starts program words m by n lines w others p stands is =
-    let e : by + 0 ≡ by = omega arith in
-    ap (λ a. advanced (turn program words) n (placed m a w others)) (sym e)
-    ∙ stretch-stands program words m by lines others stands n 0 w p is
+use Rattle.jvm_program.specs.Step.{State, Frame}
 
 -- both machines end
 pub ends-alike : (program : Program) (words m at n : ℕ) (operands : List Value) (others : List Frame) (x : Turn State) (y : Turn guest.State) (e : End) → x ≡ ends e → y ≡ ends e → TurnsAlike program words m at n operands others x y
@@ -33,33 +16,8 @@ ends-alike program words m at n operands others x y e is same =
     subst (λ (x : Turn State). TurnsAlike program words m at n operands others x y) (sym is)
     (subst (λ (y : Turn guest.State). TurnsAlike program words m at n operands others (ends e) y) (sym same) refl)
 
--- stretches, one after the other
-pub then-stretch : (program : Program) (words n k at : ℕ) (lines : List LinkedLine) (w : Workspace) (p q : Point) → stretch program words lines n at w ≡ Some p → stretch program words lines k p.at p.workspace ≡ Some q → stretch program words lines (n + k) at w ≡ Some q
-then-stretch program words n k at lines w p q first second =
-    stretch-add program words lines n k at w
-    ∙ ap (option_and_then (λ (p : Point). stretch program words lines k p.at p.workspace)) first
-    ∙ second
-
--- turns that only move, one after the other
-pub then-advanced : (program : Program) (words n k : ℕ) (x y z : State) → advanced (turn program words) n x ≡ Some y → advanced (turn program words) k y ≡ Some z → advanced (turn program words) (n + k) x ≡ Some z
-then-advanced program words n k x y z first second =
-    advanced-add (turn program words) n k x ∙ ap (option_and_then (advanced (turn program words) k)) first ∙ second
-
 -- a method's lines stand in it
 pub method-stands : (program : Program) (m : ℕ) (parameters : List Kind) (lines : List LinkedLine) (at : ℕ) → HasMethod program m parameters lines → line_at program m at ≡ line_in lines at
 method-stands program m parameters lines at h =
     ap (option_and_then (λ (method : LinkedMethod). line_in method.lines at)) h.there
     ∙ ap (λ ls. line_in ls at) h.lines_are
-
-one-turn : {S : Type 0} (turn : S → Turn S) (s t : S) → turn s ≡ moves t → advanced turn 1 s ≡ Some t
-one-turn turn s t is = rw (is, advanced) refl
-
--- a call leads into the method
-pub enters-method : (program : Program) (words m by at callee : ℕ) (lines : List LinkedLine) (line : LinkedLine) (w caller : Workspace) (given : List Value) (others : List Frame) → StandsAt program m by lines → line_in lines at ≡ Some line → effect program words line.instruction w ≡ enters callee given caller → length others < 63 → advanced (turn program words) 1 (placed m (by + at) w others) ≡ Some (placed callee 0 (body_workspace given caller) (record { method = m; at = by + line.next; locals = caller.locals; operands = caller.operands } ∷ others))
-enters-method program words m by at callee lines line w caller given others stands is calls few =
-    let room : suc (length others) < 64 = omega arith in
-    let waiting : Frame = record { method = m; at = by + line.next; locals = caller.locals; operands = caller.operands } in
-    one-turn (turn program words) (placed m (by + at) w others) (placed callee 0 (body_workspace given caller) (waiting ∷ others))
-    (turn-at-line program words m by at lines line w others stands is
-    ∙ ap (λ e. turn_by e m (moved_line by line) others) calls
-    ∙ ap (λ b. if b then moves (placed callee 0 (body_workspace given caller) (waiting ∷ others)) else ends (trap frames_trap)) (lt-ltb (suc (length others)) 64 room))

@@ -11,7 +11,7 @@ use Rattle.jvm_program.specs.Stretch.{StandsAt, stretch, advanced}
 use Rattle.mips_decode.specs.Table.{inst}
 use Rattle.mips_decode.specs.State.{State, register, with_register}
 use Rattle.mips_decode.specs.Branches.{taken_or_not}
-use Rattle.mips_decode.specs.Effect.{Effect, goes_on, branches, faults, calls}
+use Rattle.mips_decode.specs.Effect.{Effect, goes_on, branches, skips_slot, faults, calls}
 use Rattle.mips_decode.specs.Step.{turn, turn_by, into_slot, effect}
 use Rattle.mips_decode.specs.Targets.{extended_imm}
 use Rattle.mips_decode.specs.declared.inst.Inst.{Inst}
@@ -28,7 +28,7 @@ use Rattle.guest_match.proofs.Results.{with_result}
 use Rattle.guest_match.proofs.Branches.{with_pc, goes_to, goes-to}
 use Rattle.guest_match.proofs.Signs.{same-signed}
 use Rattle.guest_match.proofs.Guest.{turn-at, branch-turn}
-use Rattle.guest_match.proofs.Machine.{stretch-starts, then-advanced}
+use Rattle.jvm_program.proofs.Turning.{stretch-starts, then-advanced}
 
 -- ---- an instruction with a result, in every state
 
@@ -91,6 +91,7 @@ slot-turn program words m from size most k word w v others start slot goal few b
   },
 )
 slot-turn program words m from size most k word w v others start slot goal few begun pending operands pc head (branches t target) keeps f = absurd f
+slot-turn program words m from size most k word w v others start slot goal few begun pending operands pc head (skips_slot t) keeps f = absurd f
 slot-turn program words m from size most k word w v others start slot goal few begun pending operands pc head calls keeps f = absurd f
 
 pub branch-leads : (program : Program) (words m by size most at rs rt imm word slot_word : ℕ) (slot_inst : Inst) (w : Workspace) (others : List Frame) (s : State) → rs < 32 → rt < 32 → at + 8 < 2 ^ 32 → Matches w.fields w.heap s → StandsBefore s at word (BranchEqual Beq rs rt imm) → s.code (at + 4) ≡ Some slot_word → inst slot_word ≡ slot_inst → StandsAt program m by (beq_head at rs rt imm) → ((slot : State) → turn s ≡ moves slot → StepsAs program words m (by + 21) size most others slot_word slot_inst slot) → (slot : State) × (turn s ≡ moves slot) × FollowsTurn program words m (by + 21 + size) (6 + most) w others (placed m by w others) (turn slot)

@@ -28,7 +28,7 @@ use Rattle.guest_match.specs.Code.{syscall_code, line}
 use Rattle.guest_match.specs.Follows.{StandsBefore, Arrives, TurnsAlike, StopsAlike}
 use Rattle.guest_match.proofs.Registers.{Holds-written, Holds-memory}
 use Rattle.guest_match.proofs.Guest.{turn-at}
-use Rattle.guest_match.proofs.Machine.{turn-at-line, stretch-starts}
+use Rattle.jvm_program.proofs.Turning.{turn-at-line, stretch-starts}
 use Rattle.guest_match.proofs.Patches.{HoldsMemory-answered}
 
 wrapped-same : (z : ℤ) → machine_words.wrapped z ≡ wrapped z

@@ -11,6 +11,7 @@ use Rattle.nv_events.specs.declared.io_fault.IoFault.{IoFault}
 use Rattle.nv_events.proofs.Rooms.{room_holds}
 use Rattle.nv_events.specs.Answer.{Answer, fits_room, room_place}
 use Rattle.nv_words.specs.Words.{lane_of_word, word_with_lane}
+use Rattle.nv_words.specs.declared.order.Order.{Order}
 use Rattle.nv_words.specs.declared.order.Order.TheVariants.{Big}
 use Rattle.nv_words.proofs.LaneLemmas.{below_four}
 use Rattle.mips_decode.specs.Memory.{with_byte}
@@ -57,28 +58,28 @@ some_byte : (p : Pages) (a w x : ℕ) → word_in p (a / 4) ≡ Some w → (if i
 unfolding memory_of
 some_byte p a w x e = ap (λ o. if is_none (option_map (λ w. lane_of_word w (a % 4)) o) then None else Some x) e
 
-pub load-some : (name : LoadName) (p : Pages) (a w old : ℕ) → word_in p (a / 4) ≡ Some w → IsTrue (load_aligned name a)
-    → Some (loaded name Big (one_word w) (a % 4) old) ≡ (if is_none ((memory_of p).byte a) then None else Some (loaded name Big (memory_of p) a old))
-load-some name p a w old e aligned =
-    let at = loaded-at name (memory_of p) (a / 4) w (a % 4) a old (word_there p (a / 4) w e) (omega arith) (at_split a) (sym (load_aligned-at name (a / 4) (a % 4) a (at_split a)) ∙ aligned) in
-    sym (some_byte p a w (loaded name Big (memory_of p) a old) e ∙ ap Some at)
+pub load-some : (name : LoadName) (order : Order) (p : Pages) (a w old : ℕ) → word_in p (a / 4) ≡ Some w → IsTrue (load_aligned name a)
+    → Some (loaded name order (one_word w) (a % 4) old) ≡ (if is_none ((memory_of p).byte a) then None else Some (loaded name order (memory_of p) a old))
+load-some name order p a w old e aligned =
+    let at = loaded-at name order (memory_of p) (a / 4) w (a % 4) a old (word_there p (a / 4) w e) (omega arith) (at_split a) (sym (load_aligned-at name (a / 4) (a % 4) a (at_split a)) ∙ aligned) in
+    sym (some_byte p a w (loaded name order (memory_of p) a old) e ∙ ap Some at)
 
 -- ---- stores
 
-pub store-answer : (name : StoreName) (p : Pages) (a : ℕ) → IsTrue (store_aligned name a) → store_allowed name Big (memory_of p) a ≡ (memory_of p).writable a
-store-answer name p a aligned =
-    store_allowed-at name (memory_of p) (a / 4) (a % 4) a ((memory_of p).writable a) (allowed_there p a) (omega arith) (at_split a)
+pub store-answer : (name : StoreName) (order : Order) (p : Pages) (a : ℕ) → IsTrue (store_aligned name a) → store_allowed name order (memory_of p) a ≡ (memory_of p).writable a
+store-answer name order p a aligned =
+    store_allowed-at name order (memory_of p) (a / 4) (a % 4) a ((memory_of p).writable a) (allowed_there p a) (omega arith) (at_split a)
     (sym (store_aligned-at name (a / 4) (a % 4) a (at_split a)) ∙ aligned)
 
 pub word_at_cell : (p : Pages) (n i : ℕ) → cell p n ≡ Some i → word_in p n ≡ Some (slice_index p.words i)
 word_at_cell p n i e = ap (option_map (slice_index p.words)) e
 
-pub store-after : (name : StoreName) (p : Pages) (a w i v : ℕ) → IsSound p → cell p (a / 4) ≡ Some i → IsTrue (store_aligned name a)
-    → ((j : ℕ) → j < 4 → (stored name Big (one_word (slice_index p.words i)) (a % 4) w).byte j ≡ Some (lane_of_word v j))
-    → memory_of (record p { words = slice_set p.words i v }) ≡ stored name Big (memory_of p) a w
-store-after name p a w i v sound e aligned lanes =
+pub store-after : (name : StoreName) (order : Order) (p : Pages) (a w i v : ℕ) → IsSound p → cell p (a / 4) ≡ Some i → IsTrue (store_aligned name a)
+    → ((j : ℕ) → j < 4 → (stored name order (one_word (slice_index p.words i)) (a % 4) w).byte j ≡ Some (lane_of_word v j))
+    → memory_of (record p { words = slice_set p.words i v }) ≡ stored name order (memory_of p) a w
+store-after name order p a w i v sound e aligned lanes =
     memory_of-set p sound (a / 4) i v e
-    ∙ stored-is name (memory_of p) (a / 4) (slice_index p.words i) (a % 4) a w v (word_there p (a / 4) (slice_index p.words i) (word_at_cell p (a / 4) i e)) (omega arith) (at_split a)
+    ∙ stored-is name order (memory_of p) (a / 4) (slice_index p.words i) (a % 4) a w v (word_there p (a / 4) (slice_index p.words i) (word_at_cell p (a / 4) i e)) (omega arith) (at_split a)
     (sym (store_aligned-at name (a / 4) (a % 4) a (at_split a)) ∙ aligned) lanes
 
 -- ---- bytes put
@@ -98,7 +99,7 @@ memory_of-put p a b sound byte w =
     let at = cell-writable p a w in
     let low : lane_of_word b 3 ≡ b = omega arith in
     ap memory_of (put_some p a b at.0 at.1)
-    ∙ store-after Sb p a b at.0 (word_with_lane (slice_index p.words at.0) (a % 4) b) sound at.1 refl (λ j h. lane_put (slice_index p.words at.0) (a % 4) b j (omega arith) byte h)
+    ∙ store-after Sb Big p a b at.0 (word_with_lane (slice_index p.words at.0) (a % 4) b) sound at.1 refl (λ j h. lane_put (slice_index p.words at.0) (a % 4) b j (omega arith) byte h)
     ∙ ap (with_byte (memory_of p) a) low
 
 pub IsSound-put : (p : Pages) (a b : ℕ) → IsSound p → (memory_of p).writable a ≡ true → IsSound (put_byte_at p a b)

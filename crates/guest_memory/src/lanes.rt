@@ -1,46 +1,46 @@
 //! The words of loads and stores: what a register, or the word in memory, becomes at an access to one of a word's four bytes.
 ghost use Rattle.std.specs.Prelude.{◌≡◌, ℕ, ◌<◌, ◌-◌, IsTrue, Some};
 ghost use Rattle.nv_words.specs.Words.{lane_of_word, half_of_bytes};
-ghost use Rattle.nv_words.specs.declared.order.Order.TheVariants.{Big};
-ghost use Rattle.mips_decode.specs.Memory.{half_at, left_part, right_part, merged};
+ghost use Rattle.nv_words.specs.declared.order.Order.TheVariants.{Big, Little};
+ghost use Rattle.mips_decode.specs.Memory.{half_at, left_part, right_part, merged, word_of_lanes};
 ghost use Rattle.mips_decode.specs.Arithmetic.{sign_extended};
 ghost use Rattle.mips_decode.specs.Loads.{load_aligned, loaded, store_aligned, stored};
 ghost use Rattle.guest_memory.specs.OneWord.{one_word};
 
-use mips_decode::{LoadName, StoreName};
-use nv_words::{lane, with_lane};
+use mips_decode::{LoadName, StoreName, word_of_lanes};
+use nv_words::{Order, lane, with_lane};
 
 /// What a register holds after a load from byte `place` of `word`, by what it held before.
 #[inline]
-pub(crate) fn from_word(name: LoadName, place: u32, word: u32, old: u32) -> u32
+pub(crate) fn from_word(name: LoadName, order: Order, place: u32, word: u32, old: u32) -> u32
     requires place { place < 4 }
     requires aligned { IsTrue (load_aligned name place) }
-    ensures { result ≡ loaded name Big (one_word word) place old }
+    ensures { result ≡ loaded name order (one_word word) place old }
 {
     match name {
         LoadName::Lb => signed_byte(lane(word, place)),
-        LoadName::Lh => signed_half(half(word, place)),
-        LoadName::Lwl => from_on(word, place, old),
-        LoadName::Lw => word,
+        LoadName::Lh => signed_half(half(order, word, place)),
+        LoadName::Lwl => left(order, word, place, old),
+        LoadName::Lw => word_of_lanes(order, word),
         LoadName::Lbu => u32::from(lane(word, place)),
-        LoadName::Lhu => half(word, place),
-        LoadName::Lwr => up_to(word, place, old),
+        LoadName::Lhu => half(order, word, place),
+        LoadName::Lwr => right(order, word, place, old),
     }
 }
 
 /// What the word in memory becomes by a store of `w` to its byte `place`.
 #[inline]
-pub(crate) fn into_word(name: StoreName, place: u32, word: u32, w: u32) -> u32
+pub(crate) fn into_word(name: StoreName, order: Order, place: u32, word: u32, w: u32) -> u32
     requires place { place < 4 }
     requires aligned { IsTrue (store_aligned name place) }
-    ensures { (j : ℕ) → j < 4 → (stored name Big (one_word word) place w).byte j ≡ Some (lane_of_word result j) }
+    ensures { (j : ℕ) → j < 4 → (stored name order (one_word word) place w).byte j ≡ Some (lane_of_word result j) }
 {
     match name {
         StoreName::Sb => with_lane(word, place, lane(w, 3)),
-        StoreName::Sh => with_half(word, place, w),
-        StoreName::Swl => up_to(w, 3 - place, word),
-        StoreName::Sw => w,
-        StoreName::Swr => from_on(w, 3 - place, word),
+        StoreName::Sh => with_half(order, word, place, w),
+        StoreName::Swl => with_left(order, word, place, w),
+        StoreName::Sw => word_of_lanes(order, w),
+        StoreName::Swr => with_right(order, word, place, w),
     }
 }
 
@@ -63,9 +63,24 @@ fn signed_half(h: u32) -> u32
     if h < 0x8000 { h } else { h + 0xffff_0000 }
 }
 
+/// The half-word at byte `place` of a word.
+#[inline]
+fn half(order: Order, word: u32, place: u32) -> u32
+    requires place { place < 4 }
+    requires aligned { IsTrue (load_aligned LoadName.Lh place) }
+    ensures value { result ≡ half_at order (one_word word) place }
+    ensures small { result < 65536 }
+{
+    let half = big_half(word, place);
+    match order {
+        Order::Big => half,
+        Order::Little => (half % 0x100 << 8) + (half >> 8),
+    }
+}
+
 /// The upper half of a word at 0, the lower half at 2.
 #[inline]
-fn half(word: u32, place: u32) -> u32
+fn big_half(word: u32, place: u32) -> u32
     requires place { place < 4 }
     requires aligned { IsTrue (load_aligned LoadName.Lh place) }
     ensures value { result ≡ half_at Big (one_word word) place }
@@ -80,7 +95,20 @@ fn half(word: u32, place: u32) -> u32
 
 /// The word with the half at `place` replaced by the lower half of `w`.
 #[inline]
-fn with_half(word: u32, place: u32, w: u32) -> u32
+fn with_half(order: Order, word: u32, place: u32, w: u32) -> u32
+    requires place { place < 4 }
+    requires aligned { IsTrue (store_aligned StoreName.Sh place) }
+    ensures { (j : ℕ) → j < 4 → (stored StoreName.Sh order (one_word word) place w).byte j ≡ Some (lane_of_word result j) }
+{
+    match order {
+        Order::Big => with_big_half(word, place, w),
+        Order::Little => with_big_half(word, place, word_of_lanes(Order::Little, w) >> 16),
+    }
+}
+
+/// The word with the half at `place` replaced by the lower half of `w`, whose upper byte comes first.
+#[inline]
+fn with_big_half(word: u32, place: u32, w: u32) -> u32
     requires place { place < 4 }
     requires aligned { IsTrue (store_aligned StoreName.Sh place) }
     ensures { (j : ℕ) → j < 4 → (stored StoreName.Sh Big (one_word word) place w).byte j ≡ Some (lane_of_word result j) }
@@ -89,6 +117,54 @@ fn with_half(word: u32, place: u32, w: u32) -> u32
         (w << 16) + word % 0x1_0000
     } else {
         (word >> 16 << 16) + w % 0x1_0000
+    }
+}
+
+/// What a register holds after LWL from byte `place` of a word.
+#[inline]
+fn left(order: Order, word: u32, place: u32, old: u32) -> u32
+    requires { place < 4 }
+    ensures { result ≡ merged (one_word word) (left_part order place) old }
+{
+    match order {
+        Order::Big => from_on(word, place, old),
+        Order::Little => from_on(word_of_lanes(Order::Little, word), 3 - place, old),
+    }
+}
+
+/// What a register holds after LWR from byte `place` of a word.
+#[inline]
+fn right(order: Order, word: u32, place: u32, old: u32) -> u32
+    requires { place < 4 }
+    ensures { result ≡ merged (one_word word) (right_part order place) old }
+{
+    match order {
+        Order::Big => up_to(word, place, old),
+        Order::Little => up_to(word_of_lanes(Order::Little, word), 3 - place, old),
+    }
+}
+
+/// What a word becomes by SWL of `w` to its byte `place`.
+#[inline]
+fn with_left(order: Order, word: u32, place: u32, w: u32) -> u32
+    requires { place < 4 }
+    ensures { (j : ℕ) → j < 4 → (stored StoreName.Swl order (one_word word) place w).byte j ≡ Some (lane_of_word result j) }
+{
+    match order {
+        Order::Big => up_to(w, 3 - place, word),
+        Order::Little => from_on(word_of_lanes(Order::Little, w), 3 - place, word),
+    }
+}
+
+/// What a word becomes by SWR of `w` to its byte `place`.
+#[inline]
+fn with_right(order: Order, word: u32, place: u32, w: u32) -> u32
+    requires { place < 4 }
+    ensures { (j : ℕ) → j < 4 → (stored StoreName.Swr order (one_word word) place w).byte j ≡ Some (lane_of_word result j) }
+{
+    match order {
+        Order::Big => from_on(w, 3 - place, word),
+        Order::Little => up_to(word_of_lanes(Order::Little, w), 3 - place, word),
     }
 }
 

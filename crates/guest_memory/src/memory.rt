@@ -1,17 +1,16 @@
 ghost use Rattle.std.specs.Prelude.{◌≡◌, ◌≢◌, Ok, ℕ, ◌+◌, ◌*◌, ◌/◌, ◌%◌, ◌<◌, length, Option, Some, None, MatchOption, IfOk, OnOk, OnErr, IsTrue, is_none, true, false, slice_index, slice_index_or, if◌then◌else◌};
-ghost use Rattle.nv_words.specs.declared.order.Order.TheVariants.{Big};
 ghost use Rattle.mips_decode.specs.Loads.{load_aligned, loaded, store_aligned, store_allowed, stored};
 ghost use Rattle.nv_events.specs.Question.{asked};
 ghost use Rattle.nv_events.specs.Serving.{Serves, Causes, NoneFalls};
 ghost use Rattle.mips_decode.specs.Memory.{with_byte};
-ghost use Rattle.guest_memory.specs.Pages.{IsSound, entry, cell, word_in, memory_of, place_of, is_writable, no_memory, with_page};
+ghost use Rattle.guest_memory.specs.Pages.{IsSound, entry, cell, word_in, memory_of, put_byte_at, place_of, is_writable, no_memory, with_page};
 
 use crate::lanes::{from_word, into_word};
 use crate::page::Page;
 use crate::paging::{PAGE_WORDS, PAGES, word_place};
 use mips_decode::{LoadName, StoreName};
 use nv_events::{Call, IoFault, Server, View};
-use nv_words::{lane, with_lane};
+use nv_words::{Order, lane, with_lane};
 use std::alloc::{AllocError, Global};
 use std::marker::Model;
 
@@ -71,32 +70,43 @@ impl GuestMemory {
         Ok(())
     }
 
-    /// What a register holds after a load from an address, by what it held before; None where the address cannot be read.
+    /// What a register holds after a load from an address, in the given order of bytes, by what it held before; None where the address
+    /// cannot be read.
     #[inline]
-    pub fn load(&self, name: LoadName, at: u32, old: u32) -> Option<u32>
+    pub fn load(&self, name: LoadName, order: Order, at: u32, old: u32) -> Option<u32>
         requires { IsTrue (load_aligned name at) }
-        ensures { result ≡ (if is_none ((memory_of self.now).byte at) then None else Some (loaded name Big (memory_of self.now) at old)) }
+        ensures { result ≡ (if is_none ((memory_of self.now).byte at) then None else Some (loaded name order (memory_of self.now) at old)) }
     {
         match self.word_around(at) {
-            Some(word) => Some(from_word(name, at % 4, word, old)),
+            Some(word) => Some(from_word(name, order, at % 4, word, old)),
             None => None,
         }
     }
 
-    /// Stores a register's word at an address; false, with nothing changed, where a byte of it may not be written.
+    /// Stores a register's word at an address, in the given order of bytes; false, with nothing changed, where a byte of it may not be
+    /// written.
     #[inline]
-    pub fn store(&mut self, name: StoreName, at: u32, w: u32) -> bool
+    pub fn store(&mut self, name: StoreName, order: Order, at: u32, w: u32) -> bool
         requires { IsTrue (store_aligned name at) }
-        ensures answer { result ≡ store_allowed name Big (memory_of self.old) at }
-        ensures after { memory_of self.new ≡ (if result then stored name Big (memory_of self.old) at w else memory_of self.old) }
+        ensures answer { result ≡ store_allowed name order (memory_of self.old) at }
+        ensures after { memory_of self.new ≡ (if result then stored name order (memory_of self.old) at w else memory_of self.old) }
     {
         match self.writable_cell(at) {
             Some(cell) => {
-                self.words[cell] = into_word(name, at % 4, self.words[cell], w);
+                self.words[cell] = into_word(name, order, at % 4, self.words[cell], w);
                 true
             }
             None => false,
         }
+    }
+
+    /// Whether a store at an address, in the given order of bytes, would be done: each byte of it may be written.
+    #[inline]
+    pub fn may_store(&self, name: StoreName, order: Order, at: u32) -> bool
+        requires { IsTrue (store_aligned name at) }
+        ensures { result ≡ store_allowed name order (memory_of self.now) at }
+    {
+        self.writable(at)
     }
 
     /// Lets a server answer a call of the program.
@@ -198,8 +208,13 @@ impl View for GuestMemory {
         self.writable_cell(at).is_some()
     }
 
+    // a byte that is put changes that byte alone
     #[inline]
-    fn put(&mut self, at: u32, b: u8) -> bool {
+    fn put(&mut self, at: u32, b: u8) -> bool
+        ensures answer { result ≡ (memory_of self.old).writable at }
+        ensures after { self.new ≡ (if result then put_byte_at self.old at b else self.old) }
+        ensures alone { memory_of self.new ≡ (if result then with_byte (memory_of self.old) at b else memory_of self.old) }
+    {
         match self.writable_cell(at) {
             Some(cell) => {
                 self.words[cell] = with_lane(self.words[cell], at % 4, b);

@@ -16,6 +16,8 @@ mod machine_values;
 #[cfg(test)]
 mod machines;
 #[cfg(test)]
+mod mips2_machine;
+#[cfg(test)]
 mod pages;
 #[cfg(test)]
 mod replies;

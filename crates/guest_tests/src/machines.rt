@@ -8,6 +8,7 @@ use elf_reader::read_elf;
 use guest_memory::{Code, GuestMemory};
 use mips_machine::Mips;
 use nv_events::View;
+use nv_words::Order;
 use std::alloc::{AllocError, Global};
 use std::test::Fail;
 
@@ -54,7 +55,7 @@ pub fn machine(alloc: Global, words: &[u32]) -> Result<Mips, Fail>
     for i in 0..words.len().min(1024) {
         code.put(CODE + 4 * i as u32, words[i])?;
     }
-    Ok(Mips::new(memory, code, CODE, HEAP, 4096))
+    Ok(Mips::new(memory, code, Order::Big, CODE, HEAP, 4096))
 }
 
 /// The header of an ELF file of one segment at 00400000 (hexadecimal), up to the segment's size.

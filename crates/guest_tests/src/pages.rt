@@ -2,6 +2,7 @@
 use guest_memory::{Code, GuestMemory, Line};
 use mips_decode::{Inst, LoadName, StoreName};
 use nv_events::View;
+use nv_words::Order;
 use std::test::Fail;
 
 #[test]
@@ -13,16 +14,22 @@ fn pages_are_read_and_written_where_they_may_be(rt: HostRuntime) -> Result<(), F
     if memory.byte(0x7fff_f000).is_none() {
         memory.map_page(0x7ffff, true, &words)?;
     }
-    assert_eq!(rt; memory.load(LoadName::Lb, 0x7fff_fffe, 0), Some(0x33));
     assert_eq!(rt;
-        memory.load(LoadName::Lwr, 0x0040_0ffd, 0xaabb_ccdd),
+        memory.load(LoadName::Lb, Order::Big, 0x7fff_fffe, 0),
+        Some(0x33)
+    );
+    assert_eq!(rt;
+        memory.load(LoadName::Lwr, Order::Big, 0x0040_0ffd, 0xaabb_ccdd),
         Some(0xaabb_1122)
     );
-    assert_eq!(rt; memory.load(LoadName::Lbu, 0x8000_0000, 0), None);
-    assert!(rt; memory.store(StoreName::Swl, 0x7fff_fffd, 0xaabb_ccdd));
-    assert!(rt; !memory.store(StoreName::Sb, 0x0040_0fff, 1));
     assert_eq!(rt;
-        memory.load(LoadName::Lw, 0x7fff_fffc, 0),
+        memory.load(LoadName::Lbu, Order::Big, 0x8000_0000, 0),
+        None
+    );
+    assert!(rt; memory.store(StoreName::Swl, Order::Big, 0x7fff_fffd, 0xaabb_ccdd));
+    assert!(rt; !memory.store(StoreName::Sb, Order::Big, 0x0040_0fff, 1));
+    assert_eq!(rt;
+        memory.load(LoadName::Lw, Order::Big, 0x7fff_fffc, 0),
         Some(0x11aa_bbcc)
     );
     Ok(())

@@ -2,3 +2,4 @@ mod Computations
 mod Examples
 pub mod Moving
 pub mod Stretches
+pub mod Turning

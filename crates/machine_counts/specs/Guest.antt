@@ -5,7 +5,7 @@ use Rattle.run_laws.specs.Trail.{Step}
 use Rattle.mips_decode.specs.State.{State}
 use Rattle.mips_decode.specs.Table.{inst}
 use Rattle.mips_decode.specs.declared.inst.Inst.{Inst}
-use Rattle.mips_decode.specs.declared.inst.Inst.TheVariants.{JumpRegister, JumpAndLinkRegister, Load, Store}
+use Rattle.mips_decode.specs.declared.inst.Inst.TheVariants.{JumpRegister, JumpAndLinkRegister, Load, LoadLinked, Store}
 use Rattle.mips_decode.specs.declared.names.store_name.StoreName.{StoreName}
 use Rattle.mips_decode.specs.declared.names.store_name.StoreName.TheVariants.{Sb, Sh, Swl, Sw, Swr}
 
@@ -49,7 +49,7 @@ crosses spans step = step.from.begun && (is_by is_register_jump (instruction_at 
 abbrev pub crossings : List Span → List (Step State) → ℕ
 crossings spans trail = count_by (crosses spans) trail
 
--- ---- accesses for which a word of memory is read: loads, and stores of less than a word
+-- ---- accesses for which a word of memory is read: loads, LL too, and stores of less than a word; SC is none of them
 
 abbrev pub stores_part : StoreName → Bool
 stores_part Sb = true
@@ -60,6 +60,7 @@ stores_part Swr = true
 
 abbrev pub reads_word : Inst → Bool
 reads_word (Load name rs rt imm) = true
+reads_word (LoadLinked rs rt imm) = true
 reads_word (Store name rs rt imm) = stores_part name
 reads_word _ = false
 

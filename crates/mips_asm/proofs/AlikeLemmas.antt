@@ -6,7 +6,7 @@ use Rattle.asm_lines.specs.Lexical.{is_name, operands_of}
 use Rattle.asm_lines.specs.Lines.{Line, Nothing, Label, TextSegment, DataSegment, Word, Space, Instruction, NoForm}
 use Rattle.asm_lines.specs.Numbers.{number_of}
 use Rattle.asm_lines.specs.Operands.{LabelList, address_of, around, both, branch_to, by_halves, half_of, immediate, in_memory, jump_to, last_opening, lower_half, name_within, number, numbered, one, or_kind, register, target, upper_half}
-use Rattle.mips_asm.specs.Instructions.{Form, Register, Amount, Code, Signed, Unsigned, InMemory, Near, Far, all_values, forms, values, word_with}
+use Rattle.mips_asm.specs.Instructions.{Form, Register, Amount, Code, TrapCode, Signed, Unsigned, InMemory, Near, Far, all_values, forms, values, word_with}
 use Rattle.mips_asm.specs.Passes.{fault_marked, first_again, is_line, unmarked, words_left}
 use Rattle.mips_asm.specs.declared.place.Place.{Place}
 use Rattle.mips_asm.specs.Program.{address, as_list, asm_fault, behind, fault_by, filled, is_within, labels_from, line_words, parsed, start, unless, with_label, words_from, words_in}
@@ -41,6 +41,7 @@ alike_values : (a b : LabelList) (at : ℕ) (form : Form) (text : List ℕ) → 
 alike_values a b at Register text h = refl
 alike_values a b at Amount text h = refl
 alike_values a b at Code text h = refl
+alike_values a b at TrapCode text h = refl
 alike_values a b at Signed text h = ap (λ r. one r) (alike_immediate 32768 a b text h)
 alike_values a b at Unsigned text h = ap (λ r. one r) (alike_immediate 0 a b text h)
 alike_values a b at InMemory text h = alike_in_memory a b text h

@@ -4,12 +4,12 @@ use Rattle.std.specs.Prelude.{◌==◌, ◌||◌, find, slice_index, codes}
 use Rattle.std.specs.Fmt.{decimal, signed_decimal}
 use Rattle.asm_lines.specs.Lines.{line_of}
 use Rattle.asm_lines.specs.Mnemonics.{mnemonic_text}
-use Rattle.asm_lines.specs.Operands.{amount, both, branch_to, code, immediate, in_memory, jump_to, one, register, target}
+use Rattle.asm_lines.specs.Operands.{amount, both, branch_to, code, immediate, in_memory, jump_to, one, register, target, trap_code}
 use Rattle.asm_lines.specs.declared.mnemonic.Mnemonic.{Mnemonic}
 use Rattle.asm_lines.specs.declared.mnemonic.Mnemonic.TheVariants as mnemonic
 use Rattle.nv_words.specs.Words.{IsWord}
 use Rattle.mips_decode.specs.declared.inst.Inst.{Inst}
-use Rattle.mips_decode.specs.declared.inst.Inst.TheVariants.{Arithmetic, VariableShift, Shift, JumpRegister, JumpAndLinkRegister, Syscall, Break, MoveFrom, MoveTo, Product, BranchSign, Jump, BranchEqual, BranchZero, ArithmeticImmediate, LogicalImmediate, LoadUpper, Load, Store, Reserved, Float}
+use Rattle.mips_decode.specs.declared.inst.Inst.TheVariants.{Arithmetic, VariableShift, Shift, JumpRegister, JumpAndLinkRegister, Syscall, Break, MoveFrom, MoveTo, Product, BranchSign, Jump, BranchEqual, BranchZero, ArithmeticImmediate, LogicalImmediate, LoadUpper, Load, Store, Trap, TrapImmediate, Sync, LoadLinked, StoreConditional, Reserved, Float}
 use Rattle.mips_decode.specs.Encoding.{word_of}
 use Rattle.mips_decode.specs.Table as rows
 use Rattle.mips_decode.specs.Table.{Row, fits, inst, no_row, read_row, table}
@@ -65,6 +65,11 @@ IsPrintable (LogicalImmediate name rs rt imm) = (rs < 32) × (rt < 32) × (imm <
 IsPrintable (LoadUpper rt imm) = (rt < 32) × (imm < 2 ^ 16)
 IsPrintable (Load name rs rt imm) = (rs < 32) × (rt < 32) × (imm < 2 ^ 16)
 IsPrintable (Store name rs rt imm) = (rs < 32) × (rt < 32) × (imm < 2 ^ 16)
+IsPrintable (Trap name rs rt code) = (rs < 32) × (rt < 32) × (code < 2 ^ 10)
+IsPrintable (TrapImmediate name rs imm) = (rs < 32) × (imm < 2 ^ 16)
+IsPrintable (Sync sa) = sa < 32
+IsPrintable (LoadLinked rs rt imm) = (rs < 32) × (rt < 32) × (imm < 2 ^ 16)
+IsPrintable (StoreConditional rs rt imm) = (rs < 32) × (rt < 32) × (imm < 2 ^ 16)
 IsPrintable (Reserved w) = w < 2 ^ 32
 IsPrintable (Float w) = w < 2 ^ 32
 
@@ -142,6 +147,23 @@ text_back (Load name rs rt imm) h =
 text_back (Store name rs rt imm) h =
     printed (mnemonic.Store name) (36 ∷ decimal rt) (memory_text imm rs ∷ []) (rt ∷ imm ∷ rs ∷ []) (register_operand rt h.1) (memory_operand imm rs h.2 h.0, tt)
     (memory_of (register (36 ∷ decimal rt)) (in_memory [] (memory_text imm rs)) rt imm rs (printed_register rt h.1) (printed_memory imm rs h.2 h.0))
+text_back (Trap name rs rt n) h =
+    printed (mnemonic.Trap name) (36 ∷ decimal rs) ((36 ∷ decimal rt) ∷ decimal n ∷ []) (rs ∷ rt ∷ n ∷ []) (register_operand rs h.0)
+    (register_operand rt h.1, (decimal_operand n (omega (arith, h.2)), tt))
+    (three_of (register (36 ∷ decimal rs)) (register (36 ∷ decimal rt)) (trap_code (decimal n)) rs rt n (printed_register rs h.0) (printed_register rt h.1) (printed_number 0 1023 10 n (omega (arith, h.2)) (omega (arith, h.2)) (omega (arith, h.2))))
+text_back (TrapImmediate name rs imm) h =
+    let text = signed_decimal (signed_imm imm) in
+    printed (mnemonic.TrapImmediate name) (36 ∷ decimal rs) (text ∷ []) (rs ∷ imm ∷ []) (register_operand rs h.0) (signed_operand imm h.1, tt)
+    (two_of (register (36 ∷ decimal rs)) (immediate 32768 [] text) rs imm (printed_register rs h.0) (printed_signed imm h.1))
+text_back (Sync sa) h =
+    printed mnemonic.Sync (decimal sa) [] (sa ∷ []) (decimal_operand sa (omega (arith, h))) tt
+    (one_of (amount (decimal sa)) sa (printed_number 0 31 5 sa (omega (arith, h)) (omega (arith, h)) (omega (arith, h))))
+text_back (LoadLinked rs rt imm) h =
+    printed mnemonic.LoadLinked (36 ∷ decimal rt) (memory_text imm rs ∷ []) (rt ∷ imm ∷ rs ∷ []) (register_operand rt h.1) (memory_operand imm rs h.2 h.0, tt)
+    (memory_of (register (36 ∷ decimal rt)) (in_memory [] (memory_text imm rs)) rt imm rs (printed_register rt h.1) (printed_memory imm rs h.2 h.0))
+text_back (StoreConditional rs rt imm) h =
+    printed mnemonic.StoreConditional (36 ∷ decimal rt) (memory_text imm rs ∷ []) (rt ∷ imm ∷ rs ∷ []) (register_operand rt h.1) (memory_operand imm rs h.2 h.0, tt)
+    (memory_of (register (36 ∷ decimal rt)) (in_memory [] (memory_text imm rs)) rt imm rs (printed_register rt h.1) (printed_memory imm rs h.2 h.0))
 text_back (Reserved w) h = word_text w h
 text_back (Float w) h = word_text w h
 
@@ -164,7 +186,7 @@ read_printable w (r ∷ rest) h n =
 
 all_read : (w : ℕ) → AllRead w table
 all_read w =
-    (three_registers w, (three_registers w, (three_registers w, (three_registers w, (three_registers w, (three_registers w, (three_registers w, (three_registers w, (three_registers w, (three_registers w, (three_registers w, (three_registers w, (three_registers w, ((omega arith, omega arith, omega arith), ((omega arith, omega arith, omega arith), ((omega arith, omega arith, omega arith), (omega arith, ((omega arith, omega arith), (omega arith, (omega arith, (omega arith, (omega arith, (omega arith, (omega arith, ((omega arith, omega arith), ((omega arith, omega arith), ((omega arith, omega arith), ((omega arith, omega arith), ((omega arith, omega arith), ((omega arith, omega arith), ((omega arith, omega arith), ((omega arith, omega arith), (omega arith, (omega arith, (with_imm w, (with_imm w, (with_imm w, (with_imm w, (with_imm w, (with_imm w, (with_imm w, (with_imm w, (with_imm w, ((omega arith, omega arith), ((omega arith, omega arith), ((omega arith, omega arith), (with_imm w, (with_imm w, (with_imm w, (with_imm w, (with_imm w, (with_imm w, (with_imm w, (with_imm w, (with_imm w, (with_imm w, (with_imm w, (with_imm w, tt))))))))))))))))))))))))))))))))))))))))))))))))))))))))))
+    (three_registers w, (three_registers w, (three_registers w, (three_registers w, (three_registers w, (three_registers w, (three_registers w, (three_registers w, (three_registers w, (three_registers w, (three_registers w, (three_registers w, (three_registers w, ((omega arith, omega arith, omega arith), ((omega arith, omega arith, omega arith), ((omega arith, omega arith, omega arith), (omega arith, ((omega arith, omega arith), (omega arith, (omega arith, (omega arith, (omega arith, (omega arith, (omega arith, (omega arith, ((omega arith, omega arith), ((omega arith, omega arith), ((omega arith, omega arith), ((omega arith, omega arith), ((omega arith, omega arith, omega arith), ((omega arith, omega arith, omega arith), ((omega arith, omega arith, omega arith), ((omega arith, omega arith, omega arith), ((omega arith, omega arith, omega arith), ((omega arith, omega arith, omega arith), ((omega arith, omega arith), ((omega arith, omega arith), ((omega arith, omega arith), ((omega arith, omega arith), ((omega arith, omega arith), ((omega arith, omega arith), ((omega arith, omega arith), ((omega arith, omega arith), ((omega arith, omega arith), ((omega arith, omega arith), ((omega arith, omega arith), ((omega arith, omega arith), ((omega arith, omega arith), ((omega arith, omega arith), (omega arith, (omega arith, (with_imm w, (with_imm w, (with_imm w, (with_imm w, (with_imm w, (with_imm w, (with_imm w, (with_imm w, (with_imm w, (with_imm w, (with_imm w, ((omega arith, omega arith), ((omega arith, omega arith), ((omega arith, omega arith), ((omega arith, omega arith), ((omega arith, omega arith), (with_imm w, (with_imm w, (with_imm w, (with_imm w, (with_imm w, (with_imm w, (with_imm w, (with_imm w, (with_imm w, (with_imm w, (with_imm w, (with_imm w, (with_imm w, (with_imm w, tt)))))))))))))))))))))))))))))))))))))))))))))))))))))))))))))))))))))))))))))))))
 
 no_row_printable : (w : ℕ) → w < 2 ^ 32 → IsPrintable (no_row w)
 no_row_printable w h =

@@ -9,14 +9,16 @@ use Rattle.mips_decode.specs.declared.names.variable_shift_name.VariableShiftNam
 use Rattle.mips_decode.specs.declared.names.shift_name.ShiftName.TheVariants.{Sll, Srl, Sra}
 use Rattle.mips_decode.specs.declared.names.hi_lo.HiLo.TheVariants.{Hi, Lo}
 use Rattle.mips_decode.specs.declared.names.product_name.ProductName.TheVariants.{Mult, Multu, Div, Divu}
-use Rattle.mips_decode.specs.declared.names.branch_sign_name.BranchSignName.TheVariants.{Bltz, Bgez, Bltzal, Bgezal}
+use Rattle.mips_decode.specs.declared.names.branch_sign_name.BranchSignName.TheVariants.{Bltz, Bgez, Bltzal, Bgezal, Bltzl, Bgezl, Bltzall, Bgezall}
 use Rattle.mips_decode.specs.declared.names.jump_name.JumpName.TheVariants.{J, Jal}
-use Rattle.mips_decode.specs.declared.names.branch_equal_name.BranchEqualName.TheVariants.{Beq, Bne}
-use Rattle.mips_decode.specs.declared.names.branch_zero_name.BranchZeroName.TheVariants.{Blez, Bgtz}
+use Rattle.mips_decode.specs.declared.names.branch_equal_name.BranchEqualName.TheVariants.{Beq, Bne, Beql, Bnel}
+use Rattle.mips_decode.specs.declared.names.branch_zero_name.BranchZeroName.TheVariants.{Blez, Bgtz, Blezl, Bgtzl}
 use Rattle.mips_decode.specs.declared.names.arithmetic_immediate_name.ArithmeticImmediateName.TheVariants.{Addi, Addiu, Slti, Sltiu}
 use Rattle.mips_decode.specs.declared.names.logical_immediate_name.LogicalImmediateName.TheVariants.{Andi, Ori, Xori}
 use Rattle.mips_decode.specs.declared.names.load_name.LoadName.TheVariants.{Lb, Lh, Lwl, Lw, Lbu, Lhu, Lwr}
 use Rattle.mips_decode.specs.declared.names.store_name.StoreName.TheVariants.{Sb, Sh, Swl, Sw, Swr}
+use Rattle.mips_decode.specs.declared.names.trap_name.TrapName.TheVariants.{Tge, Tgeu, Tlt, Tltu, Teq, Tne}
+use Rattle.mips_decode.specs.declared.names.trap_immediate_name.TrapImmediateName.TheVariants.{Tgei, Tgeiu, Tlti, Tltiu, Teqi, Tnei}
 use Rattle.mips_asm.proofs.PrintLines.{is_operand}
 
 -- a mnemonic's word is the mnemonic
@@ -53,12 +55,20 @@ mnemonic_word (mnemonic.BranchSign Bltz) rest = refl
 mnemonic_word (mnemonic.BranchSign Bgez) rest = refl
 mnemonic_word (mnemonic.BranchSign Bltzal) rest = refl
 mnemonic_word (mnemonic.BranchSign Bgezal) rest = refl
+mnemonic_word (mnemonic.BranchSign Bltzl) rest = refl
+mnemonic_word (mnemonic.BranchSign Bgezl) rest = refl
+mnemonic_word (mnemonic.BranchSign Bltzall) rest = refl
+mnemonic_word (mnemonic.BranchSign Bgezall) rest = refl
 mnemonic_word (mnemonic.Jump J) rest = refl
 mnemonic_word (mnemonic.Jump Jal) rest = refl
 mnemonic_word (mnemonic.BranchEqual Beq) rest = refl
 mnemonic_word (mnemonic.BranchEqual Bne) rest = refl
+mnemonic_word (mnemonic.BranchEqual Beql) rest = refl
+mnemonic_word (mnemonic.BranchEqual Bnel) rest = refl
 mnemonic_word (mnemonic.BranchZero Blez) rest = refl
 mnemonic_word (mnemonic.BranchZero Bgtz) rest = refl
+mnemonic_word (mnemonic.BranchZero Blezl) rest = refl
+mnemonic_word (mnemonic.BranchZero Bgtzl) rest = refl
 mnemonic_word (mnemonic.ArithmeticImmediate Addi) rest = refl
 mnemonic_word (mnemonic.ArithmeticImmediate Addiu) rest = refl
 mnemonic_word (mnemonic.ArithmeticImmediate Slti) rest = refl
@@ -79,6 +89,21 @@ mnemonic_word (mnemonic.Store Sh) rest = refl
 mnemonic_word (mnemonic.Store Swl) rest = refl
 mnemonic_word (mnemonic.Store Sw) rest = refl
 mnemonic_word (mnemonic.Store Swr) rest = refl
+mnemonic_word (mnemonic.Trap Tge) rest = refl
+mnemonic_word (mnemonic.Trap Tgeu) rest = refl
+mnemonic_word (mnemonic.Trap Tlt) rest = refl
+mnemonic_word (mnemonic.Trap Tltu) rest = refl
+mnemonic_word (mnemonic.Trap Teq) rest = refl
+mnemonic_word (mnemonic.Trap Tne) rest = refl
+mnemonic_word (mnemonic.TrapImmediate Tgei) rest = refl
+mnemonic_word (mnemonic.TrapImmediate Tgeiu) rest = refl
+mnemonic_word (mnemonic.TrapImmediate Tlti) rest = refl
+mnemonic_word (mnemonic.TrapImmediate Tltiu) rest = refl
+mnemonic_word (mnemonic.TrapImmediate Teqi) rest = refl
+mnemonic_word (mnemonic.TrapImmediate Tnei) rest = refl
+mnemonic_word mnemonic.Sync rest = refl
+mnemonic_word mnemonic.LoadLinked rest = refl
+mnemonic_word mnemonic.StoreConditional rest = refl
 
 pub mnemonic_plain : (m : Mnemonic) → is_operand (mnemonic_text m) ≡ true
 mnemonic_plain (mnemonic.Arithmetic Add) = refl
@@ -113,12 +138,20 @@ mnemonic_plain (mnemonic.BranchSign Bltz) = refl
 mnemonic_plain (mnemonic.BranchSign Bgez) = refl
 mnemonic_plain (mnemonic.BranchSign Bltzal) = refl
 mnemonic_plain (mnemonic.BranchSign Bgezal) = refl
+mnemonic_plain (mnemonic.BranchSign Bltzl) = refl
+mnemonic_plain (mnemonic.BranchSign Bgezl) = refl
+mnemonic_plain (mnemonic.BranchSign Bltzall) = refl
+mnemonic_plain (mnemonic.BranchSign Bgezall) = refl
 mnemonic_plain (mnemonic.Jump J) = refl
 mnemonic_plain (mnemonic.Jump Jal) = refl
 mnemonic_plain (mnemonic.BranchEqual Beq) = refl
 mnemonic_plain (mnemonic.BranchEqual Bne) = refl
+mnemonic_plain (mnemonic.BranchEqual Beql) = refl
+mnemonic_plain (mnemonic.BranchEqual Bnel) = refl
 mnemonic_plain (mnemonic.BranchZero Blez) = refl
 mnemonic_plain (mnemonic.BranchZero Bgtz) = refl
+mnemonic_plain (mnemonic.BranchZero Blezl) = refl
+mnemonic_plain (mnemonic.BranchZero Bgtzl) = refl
 mnemonic_plain (mnemonic.ArithmeticImmediate Addi) = refl
 mnemonic_plain (mnemonic.ArithmeticImmediate Addiu) = refl
 mnemonic_plain (mnemonic.ArithmeticImmediate Slti) = refl
@@ -139,3 +172,18 @@ mnemonic_plain (mnemonic.Store Sh) = refl
 mnemonic_plain (mnemonic.Store Swl) = refl
 mnemonic_plain (mnemonic.Store Sw) = refl
 mnemonic_plain (mnemonic.Store Swr) = refl
+mnemonic_plain (mnemonic.Trap Tge) = refl
+mnemonic_plain (mnemonic.Trap Tgeu) = refl
+mnemonic_plain (mnemonic.Trap Tlt) = refl
+mnemonic_plain (mnemonic.Trap Tltu) = refl
+mnemonic_plain (mnemonic.Trap Teq) = refl
+mnemonic_plain (mnemonic.Trap Tne) = refl
+mnemonic_plain (mnemonic.TrapImmediate Tgei) = refl
+mnemonic_plain (mnemonic.TrapImmediate Tgeiu) = refl
+mnemonic_plain (mnemonic.TrapImmediate Tlti) = refl
+mnemonic_plain (mnemonic.TrapImmediate Tltiu) = refl
+mnemonic_plain (mnemonic.TrapImmediate Teqi) = refl
+mnemonic_plain (mnemonic.TrapImmediate Tnei) = refl
+mnemonic_plain mnemonic.Sync = refl
+mnemonic_plain mnemonic.LoadLinked = refl
+mnemonic_plain mnemonic.StoreConditional = refl

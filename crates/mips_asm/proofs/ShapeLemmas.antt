@@ -6,8 +6,8 @@ use Rattle.asm_lines.specs.Cuts.{pair_list}
 use Rattle.asm_lines.specs.Lexical.{is_name}
 use Rattle.asm_lines.specs.Numbers.{number_of, register_of, is_between, low_bits}
 use Rattle.asm_lines.specs.declared.number.Number.{Number}
-use Rattle.asm_lines.specs.Operands.{LabelList, address_of, around, amount, both, branch_to, by_halves, code, half_of, immediate, in_memory, in_range, jump_to, last_opening, lower_half, name_within, number, numbered, one, or_kind, register, target, upper_half}
-use Rattle.mips_asm.specs.Instructions.{Form, Register, Amount, Code, Signed, Unsigned, InMemory, Near, Far, values, all_values}
+use Rattle.asm_lines.specs.Operands.{LabelList, address_of, around, amount, both, branch_to, by_halves, code, half_of, immediate, in_memory, in_range, jump_to, last_opening, lower_half, name_within, number, numbered, one, or_kind, register, target, trap_code, upper_half}
+use Rattle.mips_asm.specs.Instructions.{Form, Register, Amount, Code, TrapCode, Signed, Unsigned, InMemory, Near, Far, values, all_values}
 use Rattle.mips_asm.specs.Shapes.{both_of, list_of_one, list_of_two, list_of_three}
 
 one_more : (f : Form) (fs : List Form) (t : List ℕ) (ts : List (List ℕ)) → (length (t ∷ ts) == length (f ∷ fs)) ≡ (length ts == length fs)
@@ -112,6 +112,7 @@ pub high_values : (labels : LabelList) (at : ℕ) (form : Form) (text : List ℕ
 high_values labels at Register text = high_one (register text) (high_or_kind 2 (register_of text) (omega arith))
 high_values labels at Amount text = high_one (amount text) (high_in_range 0 31 5 (number_of text))
 high_values labels at Code text = high_one (code text) (high_in_range 0 1048575 20 (number_of text))
+high_values labels at TrapCode text = high_one (trap_code text) (high_in_range 0 1023 10 (number_of text))
 high_values labels at Signed text = high_one (immediate 32768 labels text) (high_immediate 32768 labels text)
 high_values labels at Unsigned text = high_one (immediate 0 labels text) (high_immediate 0 labels text)
 high_values labels at InMemory text = high_in_memory labels text

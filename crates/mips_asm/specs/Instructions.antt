@@ -4,16 +4,17 @@ use Rattle.mips_decode.specs.declared.inst.Inst.{Inst}
 use Rattle.mips_decode.specs.declared.inst.Inst.TheVariants as inst
 use Rattle.mips_decode.specs.Encoding.{word_of}
 use Rattle.asm_lines.specs.declared.mnemonic.Mnemonic.{Mnemonic}
-use Rattle.asm_lines.specs.declared.mnemonic.Mnemonic.TheVariants.{Arithmetic, VariableShift, Shift, JumpRegister, JumpAndLinkRegister, Syscall, Break, MoveFrom, MoveTo, Product, BranchSign, Jump, BranchEqual, BranchZero, ArithmeticImmediate, LogicalImmediate, LoadUpper, Load, Store}
+use Rattle.asm_lines.specs.declared.mnemonic.Mnemonic.TheVariants.{Arithmetic, VariableShift, Shift, JumpRegister, JumpAndLinkRegister, Syscall, Break, MoveFrom, MoveTo, Product, BranchSign, Jump, BranchEqual, BranchZero, ArithmeticImmediate, LogicalImmediate, LoadUpper, Load, Store, Trap, TrapImmediate, Sync, LoadLinked, StoreConditional}
 use Rattle.asm_lines.specs.Lexical.{operands_of}
-use Rattle.asm_lines.specs.Operands.{LabelList, both, one, register, immediate, amount, code, in_memory, target, branch_to, jump_to}
+use Rattle.asm_lines.specs.Operands.{LabelList, both, one, register, immediate, amount, code, trap_code, in_memory, target, branch_to, jump_to}
 
--- what an operand may be: a register, a shift amount, a code, an immediate from -32768 or from 0 on, `imm($rs)`, and the
--- target of a branch or of a jump
+-- what an operand may be: a register, a shift amount, a code, a trap's code, an immediate from -32768 or from 0 on,
+-- `imm($rs)`, and the target of a branch or of a jump
 pub data Form : Type 0 where
   Register : Form
   Amount : Form
   Code : Form
+  TrapCode : Form
   Signed : Form
   Unsigned : Form
   InMemory : Form
@@ -41,12 +42,18 @@ forms (LogicalImmediate name) = Register ∷ Register ∷ Unsigned ∷ []
 forms LoadUpper = Register ∷ Unsigned ∷ []
 forms (Load name) = Register ∷ InMemory ∷ []
 forms (Store name) = Register ∷ InMemory ∷ []
+forms (Trap name) = Register ∷ Register ∷ TrapCode ∷ []
+forms (TrapImmediate name) = Register ∷ Signed ∷ []
+forms Sync = Amount ∷ []
+forms LoadLinked = Register ∷ InMemory ∷ []
+forms StoreConditional = Register ∷ InMemory ∷ []
 
 -- the values of an operand of a form, of an instruction at an address
 abbrev pub values : LabelList → ℕ → Form → List ℕ → Result (List ℕ) ℕ
 values labels at Register text = one (register text)
 values labels at Amount text = one (amount text)
 values labels at Code text = one (code text)
+values labels at TrapCode text = one (trap_code text)
 values labels at Signed text = one (immediate 32768 labels text)
 values labels at Unsigned text = one (immediate 0 labels text)
 values labels at InMemory text = in_memory labels text
@@ -81,6 +88,11 @@ instruction (LogicalImmediate name) v = inst.LogicalImmediate name (v 1) (v 0) (
 instruction LoadUpper v = inst.LoadUpper (v 0) (v 1)
 instruction (Load name) v = inst.Load name (v 2) (v 0) (v 1)
 instruction (Store name) v = inst.Store name (v 2) (v 0) (v 1)
+instruction (Trap name) v = inst.Trap name (v 0) (v 1) (v 2)
+instruction (TrapImmediate name) v = inst.TrapImmediate name (v 0) (v 1)
+instruction Sync v = inst.Sync (v 0)
+instruction LoadLinked v = inst.LoadLinked (v 2) (v 0) (v 1)
+instruction StoreConditional v = inst.StoreConditional (v 2) (v 0) (v 1)
 
 abbrev pub word_with : Mnemonic → Result (List ℕ) ℕ → Result ℕ ℕ
 word_with m (Err k) = Err k

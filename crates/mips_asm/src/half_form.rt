@@ -7,4 +7,6 @@ pub enum HalfForm {
     Unsigned,
     /// The target of a branch.
     Near,
+    /// The code of a trap, 0 to 1023.
+    TrapCode,
 }

@@ -10,7 +10,7 @@ use asm_lines::Mnemonic;
 use mips_decode::{
     ArithmeticImmediateName, ArithmeticName, BranchEqualName, BranchSignName, BranchZeroName, HiLo,
     Inst, JumpName, LoadName, LogicalImmediateName, ProductName, ShiftName, StoreName,
-    VariableShiftName,
+    TrapImmediateName, TrapName, VariableShiftName,
 };
 
 /// The instruction of a mnemonic with operands, or the lowest kind of their faults.
@@ -37,6 +37,11 @@ pub fn instruction_of(mnemonic: Mnemonic, operands: &Operands<'_, '_>) -> Result
         Mnemonic::LoadUpper => load_upper(operands),
         Mnemonic::Load(name) => load(name, operands),
         Mnemonic::Store(name) => store(name, operands),
+        Mnemonic::Trap(name) => trap(name, operands),
+        Mnemonic::TrapImmediate(name) => trap_immediate(name, operands),
+        Mnemonic::Sync => sync(operands),
+        Mnemonic::LoadLinked => load_linked(operands),
+        Mnemonic::StoreConditional => store_conditional(operands),
     }
 }
 
@@ -210,6 +215,51 @@ fn store(name: StoreName, operands: &Operands<'_, '_>) -> Result<Inst, u32>
 {
     match operands.register_and_memory() {
         Ok((rt, (imm, rs))) => Ok(Inst::Store { name, rs, rt, imm }),
+        Err(kind) => Err(kind),
+    }
+}
+
+fn trap(name: TrapName, operands: &Operands<'_, '_>) -> Result<Inst, u32>
+    ensures { word_or_kind result ≡ instruction_word operands.now.labels.now operands.now.at (mnemonic.Trap name) operands.now.text.now }
+{
+    match operands.two_registers_and_half(HalfForm::TrapCode) {
+        Ok((rs, (rt, code))) => Ok(Inst::Trap { name, rs, rt, code }),
+        Err(kind) => Err(kind),
+    }
+}
+
+fn trap_immediate(name: TrapImmediateName, operands: &Operands<'_, '_>) -> Result<Inst, u32>
+    ensures { word_or_kind result ≡ instruction_word operands.now.labels.now operands.now.at (mnemonic.TrapImmediate name) operands.now.text.now }
+{
+    match operands.register_and_half(HalfForm::Signed) {
+        Ok((rs, imm)) => Ok(Inst::TrapImmediate { name, rs, imm }),
+        Err(kind) => Err(kind),
+    }
+}
+
+fn sync(operands: &Operands<'_, '_>) -> Result<Inst, u32>
+    ensures { word_or_kind result ≡ instruction_word operands.now.labels.now operands.now.at mnemonic.Sync operands.now.text.now }
+{
+    match operands.one_amount() {
+        Ok(sa) => Ok(Inst::Sync { sa }),
+        Err(kind) => Err(kind),
+    }
+}
+
+fn load_linked(operands: &Operands<'_, '_>) -> Result<Inst, u32>
+    ensures { word_or_kind result ≡ instruction_word operands.now.labels.now operands.now.at mnemonic.LoadLinked operands.now.text.now }
+{
+    match operands.register_and_memory() {
+        Ok((rt, (imm, rs))) => Ok(Inst::LoadLinked { rs, rt, imm }),
+        Err(kind) => Err(kind),
+    }
+}
+
+fn store_conditional(operands: &Operands<'_, '_>) -> Result<Inst, u32>
+    ensures { word_or_kind result ≡ instruction_word operands.now.labels.now operands.now.at mnemonic.StoreConditional operands.now.text.now }
+{
+    match operands.register_and_memory() {
+        Ok((rt, (imm, rs))) => Ok(Inst::StoreConditional { rs, rt, imm }),
         Err(kind) => Err(kind),
     }
 }

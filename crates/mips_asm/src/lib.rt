@@ -1,4 +1,4 @@
-//! Assembles the text of MIPS I programs.
+//! Assembles the text of MIPS II programs.
 #![tactic(auto)]
 
 mod asm_error;

@@ -9,7 +9,7 @@ use crate::both::both;
 use crate::half_form::HalfForm;
 use asm_lines::{
     Labels, WRONG_FORM, amount, branch_to, code, immediate, in_memory, jump_to, one_operand,
-    register, target, three_operands, two_operands,
+    register, target, three_operands, trap_code, two_operands,
 };
 
 /// The operands of an instruction.
@@ -102,6 +102,17 @@ impl<'l, 'a> Operands<'l, 'a> {
         }
     }
 
+    /// `sa`.
+    #[tactic(auto, using(crate::proofs::ShapeLemmas::other_count, crate::proofs::ShapeLemmas::one_value))]
+    pub fn one_amount(&self) -> Result<u8, u32>
+        ensures { list_of_one result ≡ all_values self.now.labels.now self.now.at (Amount ∷ []) (operands_of self.now.text.now) }
+    {
+        match one_operand(self.text) {
+            None => Err(WRONG_FORM),
+            Some(a) => amount(a),
+        }
+    }
+
     /// `code`.
     #[tactic(auto, using(crate::proofs::ShapeLemmas::other_count, crate::proofs::ShapeLemmas::one_value))]
     pub fn one_code(&self) -> Result<u32, u32>
@@ -138,6 +149,7 @@ impl<'l, 'a> Operands<'l, 'a> {
                 let to = target(self.labels, text);
                 branch_to(self.at, to)
             }
+            HalfForm::TrapCode => trap_code(text),
         }
     }
 }

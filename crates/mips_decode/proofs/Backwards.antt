@@ -17,13 +17,13 @@ use Rattle.mips_decode.specs.declared.names.hi_lo.HiLo.TheVariants.{Hi, Lo}
 use Rattle.mips_decode.specs.declared.names.product_name.ProductName.{ProductName}
 use Rattle.mips_decode.specs.declared.names.product_name.ProductName.TheVariants.{Mult, Multu, Div, Divu}
 use Rattle.mips_decode.specs.declared.names.branch_sign_name.BranchSignName.{BranchSignName}
-use Rattle.mips_decode.specs.declared.names.branch_sign_name.BranchSignName.TheVariants.{Bltz, Bgez, Bltzal, Bgezal}
+use Rattle.mips_decode.specs.declared.names.branch_sign_name.BranchSignName.TheVariants.{Bltz, Bgez, Bltzal, Bgezal, Bltzl, Bgezl, Bltzall, Bgezall}
 use Rattle.mips_decode.specs.declared.names.jump_name.JumpName.{JumpName}
 use Rattle.mips_decode.specs.declared.names.jump_name.JumpName.TheVariants.{J, Jal}
 use Rattle.mips_decode.specs.declared.names.branch_equal_name.BranchEqualName.{BranchEqualName}
-use Rattle.mips_decode.specs.declared.names.branch_equal_name.BranchEqualName.TheVariants.{Beq, Bne}
+use Rattle.mips_decode.specs.declared.names.branch_equal_name.BranchEqualName.TheVariants.{Beq, Bne, Beql, Bnel}
 use Rattle.mips_decode.specs.declared.names.branch_zero_name.BranchZeroName.{BranchZeroName}
-use Rattle.mips_decode.specs.declared.names.branch_zero_name.BranchZeroName.TheVariants.{Blez, Bgtz}
+use Rattle.mips_decode.specs.declared.names.branch_zero_name.BranchZeroName.TheVariants.{Blez, Bgtz, Blezl, Bgtzl}
 use Rattle.mips_decode.specs.declared.names.arithmetic_immediate_name.ArithmeticImmediateName.{ArithmeticImmediateName}
 use Rattle.mips_decode.specs.declared.names.arithmetic_immediate_name.ArithmeticImmediateName.TheVariants.{Addi, Addiu, Slti, Sltiu}
 use Rattle.mips_decode.specs.declared.names.logical_immediate_name.LogicalImmediateName.{LogicalImmediateName}
@@ -32,8 +32,12 @@ use Rattle.mips_decode.specs.declared.names.load_name.LoadName.{LoadName}
 use Rattle.mips_decode.specs.declared.names.load_name.LoadName.TheVariants.{Lb, Lh, Lwl, Lw, Lbu, Lhu, Lwr}
 use Rattle.mips_decode.specs.declared.names.store_name.StoreName.{StoreName}
 use Rattle.mips_decode.specs.declared.names.store_name.StoreName.TheVariants.{Sb, Sh, Swl, Sw, Swr}
-use Rattle.mips_decode.specs.Table.{Row, table, fits, read_row, inst, op_of, rs_of, rt_of, rd_of, sa_of, funct_of, arithmetic, variable_shift, shift, jump_register, jump_and_link_register, syscall, break, move_from, move_to, product, branch_sign, jump, branch_equal, branch_zero, arithmetic_immediate, logical_immediate, load_upper, load, store}
-use Rattle.mips_decode.specs.Encoding.{word_of, arithmetic_funct, variable_shift_funct, shift_funct, move_from_funct, move_to_funct, product_funct, branch_sign_rt, jump_op, branch_equal_op, branch_zero_op, arithmetic_immediate_op, logical_immediate_op, load_op, store_op}
+use Rattle.mips_decode.specs.declared.names.trap_name.TrapName.{TrapName}
+use Rattle.mips_decode.specs.declared.names.trap_name.TrapName.TheVariants.{Tge, Tgeu, Tlt, Tltu, Teq, Tne}
+use Rattle.mips_decode.specs.declared.names.trap_immediate_name.TrapImmediateName.{TrapImmediateName}
+use Rattle.mips_decode.specs.declared.names.trap_immediate_name.TrapImmediateName.TheVariants.{Tgei, Tgeiu, Tlti, Tltiu, Teqi, Tnei}
+use Rattle.mips_decode.specs.Table.{Row, table, fits, read_row, inst, op_of, rs_of, rt_of, rd_of, sa_of, funct_of, arithmetic, variable_shift, shift, jump_register, jump_and_link_register, syscall, break, move_from, move_to, product, branch_sign, jump, branch_equal, branch_zero, arithmetic_immediate, logical_immediate, load_upper, load, store, trap, trap_immediate, sync, load_linked, store_conditional}
+use Rattle.mips_decode.specs.Encoding.{word_of, arithmetic_funct, variable_shift_funct, shift_funct, move_from_funct, move_to_funct, product_funct, branch_sign_rt, jump_op, branch_equal_op, branch_zero_op, arithmetic_immediate_op, logical_immediate_op, load_op, store_op, trap_funct, trap_immediate_rt}
 use Rattle.mips_decode.proofs.Rows.{and_field}
 
 -- where the mask takes a whole field, the word has the value's field
@@ -139,6 +143,26 @@ store_back : (name : StoreName) (w : ℕ) → IsWord w → op_of w ≡ store_op 
     → word_of (store name w) ≡ w
 store_back name w word a = omega arith
 
+trap_back : (name : TrapName) (w : ℕ) → IsWord w → op_of w ≡ 0 → funct_of w ≡ trap_funct name
+    → word_of (trap name w) ≡ w
+trap_back name w word a b = omega arith
+
+trap_immediate_back : (name : TrapImmediateName) (w : ℕ) → IsWord w → op_of w ≡ 1 → rt_of w ≡ trap_immediate_rt name
+    → word_of (trap_immediate name w) ≡ w
+trap_immediate_back name w word a b = omega arith
+
+sync_back : (w : ℕ) → IsWord w → op_of w ≡ 0 → funct_of w ≡ 0x0F → rs_of w ≡ 0 → rt_of w ≡ 0 → rd_of w ≡ 0
+    → word_of (sync w) ≡ w
+sync_back w word a b c d e = omega arith
+
+load_linked_back : (w : ℕ) → IsWord w → op_of w ≡ 0x30
+    → word_of (load_linked w) ≡ w
+load_linked_back w word a = omega arith
+
+store_conditional_back : (w : ℕ) → IsWord w → op_of w ≡ 0x38
+    → word_of (store_conditional w) ≡ w
+store_conditional_back w word a = omega arith
+
 -- every row gives the word back
 abbrev EachBack : ℕ → List Row → Type 0
 EachBack w [] = Unit {0}
@@ -186,82 +210,151 @@ table_back w word = (
                                       (
                                         λ a. break_back w word (a.op refl) (a.funct refl),
                                         (
-                                          λ a. move_from_back Hi w word (a.op refl) (a.funct refl) (a.rs refl) (a.rt refl) (a.sa refl),
+                                          λ a. sync_back w word (a.op refl) (a.funct refl) (a.rs refl) (a.rt refl) (a.rd refl),
                                           (
-                                            λ a. move_from_back Lo w word (a.op refl) (a.funct refl) (a.rs refl) (a.rt refl) (a.sa refl),
+                                            λ a. move_from_back Hi w word (a.op refl) (a.funct refl) (a.rs refl) (a.rt refl) (a.sa refl),
                                             (
-                                              λ a. move_to_back Hi w word (a.op refl) (a.funct refl) (a.rt refl) (a.rd refl) (a.sa refl),
+                                              λ a. move_from_back Lo w word (a.op refl) (a.funct refl) (a.rs refl) (a.rt refl) (a.sa refl),
                                               (
-                                                λ a. move_to_back Lo w word (a.op refl) (a.funct refl) (a.rt refl) (a.rd refl) (a.sa refl),
+                                                λ a. move_to_back Hi w word (a.op refl) (a.funct refl) (a.rt refl) (a.rd refl) (a.sa refl),
                                                 (
-                                                  λ a. product_back Mult w word (a.op refl) (a.funct refl) (a.rd refl) (a.sa refl),
+                                                  λ a. move_to_back Lo w word (a.op refl) (a.funct refl) (a.rt refl) (a.rd refl) (a.sa refl),
                                                   (
-                                                    λ a. product_back Multu w word (a.op refl) (a.funct refl) (a.rd refl) (a.sa refl),
+                                                    λ a. product_back Mult w word (a.op refl) (a.funct refl) (a.rd refl) (a.sa refl),
                                                     (
-                                                      λ a. product_back Div w word (a.op refl) (a.funct refl) (a.rd refl) (a.sa refl),
+                                                      λ a. product_back Multu w word (a.op refl) (a.funct refl) (a.rd refl) (a.sa refl),
                                                       (
-                                                        λ a. product_back Divu w word (a.op refl) (a.funct refl) (a.rd refl) (a.sa refl),
+                                                        λ a. product_back Div w word (a.op refl) (a.funct refl) (a.rd refl) (a.sa refl),
                                                         (
-                                                          λ a. branch_sign_back Bltz w word (a.op refl) (a.rt refl),
+                                                          λ a. product_back Divu w word (a.op refl) (a.funct refl) (a.rd refl) (a.sa refl),
                                                           (
-                                                            λ a. branch_sign_back Bgez w word (a.op refl) (a.rt refl),
+                                                            λ a. trap_back Tge w word (a.op refl) (a.funct refl),
                                                             (
-                                                              λ a. branch_sign_back Bltzal w word (a.op refl) (a.rt refl),
+                                                              λ a. trap_back Tgeu w word (a.op refl) (a.funct refl),
                                                               (
-                                                                λ a. branch_sign_back Bgezal w word (a.op refl) (a.rt refl),
+                                                                λ a. trap_back Tlt w word (a.op refl) (a.funct refl),
                                                                 (
-                                                                  λ a. jump_back J w word (a.op refl),
+                                                                  λ a. trap_back Tltu w word (a.op refl) (a.funct refl),
                                                                   (
-                                                                    λ a. jump_back Jal w word (a.op refl),
+                                                                    λ a. trap_back Teq w word (a.op refl) (a.funct refl),
                                                                     (
-                                                                      λ a. branch_equal_back Beq w word (a.op refl),
+                                                                      λ a. trap_back Tne w word (a.op refl) (a.funct refl),
                                                                       (
-                                                                        λ a. branch_equal_back Bne w word (a.op refl),
+                                                                        λ a. branch_sign_back Bltz w word (a.op refl) (a.rt refl),
                                                                         (
-                                                                          λ a. arithmetic_immediate_back Addi w word (a.op refl),
+                                                                          λ a. branch_sign_back Bgez w word (a.op refl) (a.rt refl),
                                                                           (
-                                                                            λ a. arithmetic_immediate_back Addiu w word (a.op refl),
+                                                                            λ a. branch_sign_back Bltzal w word (a.op refl) (a.rt refl),
                                                                             (
-                                                                              λ a. arithmetic_immediate_back Slti w word (a.op refl),
+                                                                              λ a. branch_sign_back Bgezal w word (a.op refl) (a.rt refl),
                                                                               (
-                                                                                λ a. arithmetic_immediate_back Sltiu w word (a.op refl),
+                                                                                λ a. branch_sign_back Bltzl w word (a.op refl) (a.rt refl),
                                                                                 (
-                                                                                  λ a. logical_immediate_back Andi w word (a.op refl),
+                                                                                  λ a. branch_sign_back Bgezl w word (a.op refl) (a.rt refl),
                                                                                   (
-                                                                                    λ a. logical_immediate_back Ori w word (a.op refl),
+                                                                                    λ a. branch_sign_back Bltzall w word (a.op refl) (a.rt refl),
                                                                                     (
-                                                                                      λ a. logical_immediate_back Xori w word (a.op refl),
+                                                                                      λ a. branch_sign_back Bgezall w word (a.op refl) (a.rt refl),
                                                                                       (
-                                                                                        λ a. branch_zero_back Blez w word (a.op refl) (a.rt refl),
+                                                                                        λ a. trap_immediate_back Tgei w word (a.op refl) (a.rt refl),
                                                                                         (
-                                                                                          λ a. branch_zero_back Bgtz w word (a.op refl) (a.rt refl),
+                                                                                          λ a. trap_immediate_back Tgeiu w word (a.op refl) (a.rt refl),
                                                                                           (
-                                                                                            λ a. load_upper_back w word (a.op refl) (a.rs refl),
+                                                                                            λ a. trap_immediate_back Tlti w word (a.op refl) (a.rt refl),
                                                                                             (
-                                                                                              λ a. load_back Lb w word (a.op refl),
+                                                                                              λ a. trap_immediate_back Tltiu w word (a.op refl) (a.rt refl),
                                                                                               (
-                                                                                                λ a. load_back Lh w word (a.op refl),
+                                                                                                λ a. trap_immediate_back Teqi w word (a.op refl) (a.rt refl),
                                                                                                 (
-                                                                                                  λ a. load_back Lwl w word (a.op refl),
+                                                                                                  λ a. trap_immediate_back Tnei w word (a.op refl) (a.rt refl),
                                                                                                   (
-                                                                                                    λ a. load_back Lw w word (a.op refl),
+                                                                                                    λ a. jump_back J w word (a.op refl),
                                                                                                     (
-                                                                                                      λ a. load_back Lbu w word (a.op refl),
+                                                                                                      λ a. jump_back Jal w word (a.op refl),
                                                                                                       (
-                                                                                                        λ a. load_back Lhu w word (a.op refl),
+                                                                                                        λ a. branch_equal_back Beq w word (a.op refl),
                                                                                                         (
-                                                                                                          λ a. load_back Lwr w word (a.op refl),
+                                                                                                          λ a. branch_equal_back Bne w word (a.op refl),
                                                                                                           (
-                                                                                                            λ a. store_back Sb w word (a.op refl),
+                                                                                                            λ a. branch_equal_back Beql w word (a.op refl),
                                                                                                             (
-                                                                                                              λ a. store_back Sh w word (a.op refl),
+                                                                                                              λ a. branch_equal_back Bnel w word (a.op refl),
                                                                                                               (
-                                                                                                                λ a. store_back Swl w word (a.op refl),
+                                                                                                                λ a. arithmetic_immediate_back Addi w word (a.op refl),
                                                                                                                 (
-                                                                                                                  λ a. store_back Sw w word (a.op refl),
+                                                                                                                  λ a. arithmetic_immediate_back Addiu w word (a.op refl),
                                                                                                                   (
-                                                                                                                    λ a. store_back Swr w word (a.op refl),
-                                                                                                                    tt,
+                                                                                                                    λ a. arithmetic_immediate_back Slti w word (a.op refl),
+                                                                                                                    (
+                                                                                                                      λ a. arithmetic_immediate_back Sltiu w word (a.op refl),
+                                                                                                                      (
+                                                                                                                        λ a. logical_immediate_back Andi w word (a.op refl),
+                                                                                                                        (
+                                                                                                                          λ a. logical_immediate_back Ori w word (a.op refl),
+                                                                                                                          (
+                                                                                                                            λ a. logical_immediate_back Xori w word (a.op refl),
+                                                                                                                            (
+                                                                                                                              λ a. branch_zero_back Blez w word (a.op refl) (a.rt refl),
+                                                                                                                              (
+                                                                                                                                λ a. branch_zero_back Bgtz w word (a.op refl) (a.rt refl),
+                                                                                                                                (
+                                                                                                                                  λ a. branch_zero_back Blezl w word (a.op refl) (a.rt refl),
+                                                                                                                                  (
+                                                                                                                                    λ a. branch_zero_back Bgtzl w word (a.op refl) (a.rt refl),
+                                                                                                                                    (
+                                                                                                                                      λ a. load_upper_back w word (a.op refl) (a.rs refl),
+                                                                                                                                      (
+                                                                                                                                        λ a. load_back Lb w word (a.op refl),
+                                                                                                                                        (
+                                                                                                                                          λ a. load_back Lh w word (a.op refl),
+                                                                                                                                          (
+                                                                                                                                            λ a. load_back Lwl w word (a.op refl),
+                                                                                                                                            (
+                                                                                                                                              λ a. load_back Lw w word (a.op refl),
+                                                                                                                                              (
+                                                                                                                                                λ a. load_back Lbu w word (a.op refl),
+                                                                                                                                                (
+                                                                                                                                                  λ a. load_back Lhu w word (a.op refl),
+                                                                                                                                                  (
+                                                                                                                                                    λ a. load_back Lwr w word (a.op refl),
+                                                                                                                                                    (
+                                                                                                                                                      λ a. store_back Sb w word (a.op refl),
+                                                                                                                                                      (
+                                                                                                                                                        λ a. store_back Sh w word (a.op refl),
+                                                                                                                                                        (
+                                                                                                                                                          λ a. store_back Swl w word (a.op refl),
+                                                                                                                                                          (
+                                                                                                                                                            λ a. store_back Sw w word (a.op refl),
+                                                                                                                                                            (
+                                                                                                                                                              λ a. store_back Swr w word (a.op refl),
+                                                                                                                                                              (
+                                                                                                                                                                λ a. load_linked_back w word (a.op refl),
+                                                                                                                                                                (
+                                                                                                                                                                  λ a. store_conditional_back w word (a.op refl),
+                                                                                                                                                                  tt,
+                                                                                                                                                                ),
+                                                                                                                                                              ),
+                                                                                                                                                            ),
+                                                                                                                                                          ),
+                                                                                                                                                        ),
+                                                                                                                                                      ),
+                                                                                                                                                    ),
+                                                                                                                                                  ),
+                                                                                                                                                ),
+                                                                                                                                              ),
+                                                                                                                                            ),
+                                                                                                                                          ),
+                                                                                                                                        ),
+                                                                                                                                      ),
+                                                                                                                                    ),
+                                                                                                                                  ),
+                                                                                                                                ),
+                                                                                                                              ),
+                                                                                                                            ),
+                                                                                                                          ),
+                                                                                                                        ),
+                                                                                                                      ),
+                                                                                                                    ),
                                                                                                                   ),
                                                                                                                 ),
                                                                                                               ),

@@ -5,6 +5,7 @@ use Rattle.nv_events.specs.Question.{Question}
 use Rattle.nv_events.specs.Answer.{Answer, next_answer}
 use Rattle.nv_events.specs.Run.{Run, run_of}
 use Rattle.nv_words.specs.Words.{lane_of_word}
+use Rattle.nv_words.specs.declared.order.Order.TheVariants.{Big}
 use Rattle.mips_decode.specs.State.{State, start}
 use Rattle.mips_decode.specs.Step.{turn}
 
@@ -35,7 +36,7 @@ program_memory words = record {
 }
 
 abbrev pub started : List ℕ → State
-started words = start code_start (program_memory words) (code_word words) heap_start 4096
+started words = start Big code_start (program_memory words) (code_word words) heap_start 4096
 
 -- an answer without bytes
 abbrev pub value : ℤ → Answer

@@ -126,6 +126,11 @@ find-fields w (row ∷ rows) word whole =
 unfoldable pub by_fields : ℕ → ℕ → ℕ → ℕ → ℕ → ℕ → ℕ → Inst
 by_fields op funct rs rt rd sa w = first_by_fields op funct rs rt rd sa w table
 
+-- the choice of a row with one field that must be 0
+pub one_test : (t : Bool) (i j : Inst) → (if t then i else j) ≡ (if t && true then i else j)
+one_test true i j = refl
+one_test false i j = refl
+
 pub inst_is : (w : ℕ) → IsWord w → inst w ≡ by_fields (op_of w) (funct_of w) (rs_of w) (rt_of w) (rd_of w) (sa_of w) w
 unfolding inst by_fields
 inst_is w word = find-fields w table word table_is_whole
@@ -146,7 +151,7 @@ from_all_below (suc n) p h k lt = below_step n p (both _ _ h).0 (from_all_below 
 
 -- the opcodes of the table
 abbrev pub has_op : ℕ → Bool
-has_op op = nat_lt op 0x10 || (nat_le 0x20 op && nat_lt op 0x27) || (nat_le 0x28 op && nat_lt op 0x2C) || op == 0x2E
+has_op op = nat_lt op 0x10 || (nat_le 0x14 op && nat_lt op 0x18) || (nat_le 0x20 op && nat_lt op 0x27) || (nat_le 0x28 op && nat_lt op 0x2C) || op == 0x2E || op == 0x30 || op == 0x38
 
 -- the opcode is not the row's
 abbrev pub misses : ℕ → Row → Bool

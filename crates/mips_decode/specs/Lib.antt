@@ -9,4 +9,5 @@ pub mod Effect
 pub mod Arithmetic
 pub mod Loads
 pub mod Branches
+pub mod Traps
 pub mod Step

@@ -1,10 +1,10 @@
 -- The assembly text of an instruction: its mnemonic, a space, and its operands with commas and no spaces. Numbers are
--- decimal, the immediates of arithmetic and memory are signed, and a target is `0x` and eight upper-case digits.
+-- decimal, the immediates of arithmetic, traps and memory are signed, and a target is `0x` and eight upper-case digits.
 use Rattle.std.specs.Prelude.{ℕ, true, ◌-◌, ◌++◌, List, [], ◌∷◌, length, replicate, codes}
 use Rattle.std.specs.Fmt.{decimal, signed_decimal, digits}
 use Rattle.mips_decode.specs.declared.inst.Inst.{Inst}
-use Rattle.mips_decode.specs.declared.inst.Inst.TheVariants.{Arithmetic, VariableShift, Shift, JumpRegister, JumpAndLinkRegister, Syscall, Break, MoveFrom, MoveTo, Product, BranchSign, Jump, BranchEqual, BranchZero, ArithmeticImmediate, LogicalImmediate, LoadUpper, Load, Store, Reserved, Float}
-use Rattle.mips_decode.specs.Mnemonics.{arithmetic_text, variable_shift_text, shift_text, hi_lo_text, product_text, branch_sign_text, jump_text, branch_equal_text, branch_zero_text, arithmetic_immediate_text, logical_immediate_text, load_text, store_text}
+use Rattle.mips_decode.specs.declared.inst.Inst.TheVariants.{Arithmetic, VariableShift, Shift, JumpRegister, JumpAndLinkRegister, Syscall, Break, MoveFrom, MoveTo, Product, BranchSign, Jump, BranchEqual, BranchZero, ArithmeticImmediate, LogicalImmediate, LoadUpper, Load, Store, Trap, TrapImmediate, Sync, LoadLinked, StoreConditional, Reserved, Float}
+use Rattle.mips_decode.specs.Mnemonics.{arithmetic_text, variable_shift_text, shift_text, hi_lo_text, product_text, branch_sign_text, jump_text, branch_equal_text, branch_zero_text, arithmetic_immediate_text, logical_immediate_text, load_text, store_text, trap_text, trap_immediate_text}
 use Rattle.mips_decode.specs.Targets.{signed_imm, branch_target, jump_target}
 
 -- the pieces one after the other
@@ -48,5 +48,14 @@ text_of (Load name rs rt imm) at = joined
     (load_text name ∷ codes " $" ∷ decimal rt ∷ codes "," ∷ signed_decimal (signed_imm imm) ∷ codes "($" ∷ decimal rs ∷ codes ")" ∷ [])
 text_of (Store name rs rt imm) at = joined
     (store_text name ∷ codes " $" ∷ decimal rt ∷ codes "," ∷ signed_decimal (signed_imm imm) ∷ codes "($" ∷ decimal rs ∷ codes ")" ∷ [])
+text_of (Trap name rs rt code) at =
+    joined (trap_text name ∷ codes " $" ∷ decimal rs ∷ codes ",$" ∷ decimal rt ∷ codes "," ∷ decimal code ∷ [])
+text_of (TrapImmediate name rs imm) at =
+    joined (trap_immediate_text name ∷ codes " $" ∷ decimal rs ∷ codes "," ∷ signed_decimal (signed_imm imm) ∷ [])
+text_of (Sync sa) at = joined (codes "sync " ∷ decimal sa ∷ [])
+text_of (LoadLinked rs rt imm) at = joined
+    (codes "ll $" ∷ decimal rt ∷ codes "," ∷ signed_decimal (signed_imm imm) ∷ codes "($" ∷ decimal rs ∷ codes ")" ∷ [])
+text_of (StoreConditional rs rt imm) at = joined
+    (codes "sc $" ∷ decimal rt ∷ codes "," ∷ signed_decimal (signed_imm imm) ∷ codes "($" ∷ decimal rs ∷ codes ")" ∷ [])
 text_of (Reserved w) at = joined (codes ".word " ∷ hex_text w ∷ [])
 text_of (Float w) at = joined (codes ".word " ∷ hex_text w ∷ [])

@@ -5,13 +5,15 @@ ghost use Rattle.mips_decode.specs.Table.{inst, op_of};
 use crate::fields::{funct, op, rt};
 use crate::forms::{
     arithmetic, arithmetic_immediate, branch_equal, branch_sign, branch_zero, break_point, jump,
-    jump_and_link_register, jump_register, load, load_upper, logical_immediate, move_from, move_to,
-    product, shift, store, syscall, variable_shift,
+    jump_and_link_register, jump_register, load, load_linked, load_upper, logical_immediate,
+    move_from, move_to, product, shift, store, store_conditional, sync, syscall, trap,
+    trap_immediate, variable_shift,
 };
 use crate::inst::Inst;
 use crate::names::{
     ArithmeticImmediateName, ArithmeticName, BranchEqualName, BranchSignName, BranchZeroName, HiLo,
-    JumpName, LoadName, LogicalImmediateName, ProductName, ShiftName, StoreName, VariableShiftName,
+    JumpName, LoadName, LogicalImmediateName, ProductName, ShiftName, StoreName, TrapImmediateName,
+    TrapName, VariableShiftName,
 };
 
 /// The instruction that a word is.
@@ -36,7 +38,7 @@ pub fn decode(w: u32) -> Inst
         0x0d => logical_immediate(LogicalImmediateName::Ori, w),
         0x0e => logical_immediate(LogicalImmediateName::Xori, w),
         0x0f => load_upper(w),
-        _ => memory(w),
+        _ => upper(w),
     }
 }
 
@@ -54,6 +56,7 @@ fn special(w: u32) -> Inst
         0x09 => jump_and_link_register(w),
         0x0c => syscall(w),
         0x0d => break_point(w),
+        0x0f => sync(w),
         0x10 => move_from(HiLo::Hi, w),
         0x12 => move_from(HiLo::Lo, w),
         0x11 => move_to(HiLo::Hi, w),
@@ -75,6 +78,12 @@ fn special(w: u32) -> Inst
         0x27 => arithmetic(ArithmeticName::Nor, w),
         0x2a => arithmetic(ArithmeticName::Slt, w),
         0x2b => arithmetic(ArithmeticName::Sltu, w),
+        0x30 => trap(TrapName::Tge, w),
+        0x31 => trap(TrapName::Tgeu, w),
+        0x32 => trap(TrapName::Tlt, w),
+        0x33 => trap(TrapName::Tltu, w),
+        0x34 => trap(TrapName::Teq, w),
+        0x36 => trap(TrapName::Tne, w),
         _ => Inst::Reserved(w),
     }
 }
@@ -90,17 +99,31 @@ fn by_rt(w: u32) -> Inst
         0x01 => branch_sign(BranchSignName::Bgez, w),
         0x10 => branch_sign(BranchSignName::Bltzal, w),
         0x11 => branch_sign(BranchSignName::Bgezal, w),
+        0x02 => branch_sign(BranchSignName::Bltzl, w),
+        0x03 => branch_sign(BranchSignName::Bgezl, w),
+        0x12 => branch_sign(BranchSignName::Bltzall, w),
+        0x13 => branch_sign(BranchSignName::Bgezall, w),
+        0x08 => trap_immediate(TrapImmediateName::Tgei, w),
+        0x09 => trap_immediate(TrapImmediateName::Tgeiu, w),
+        0x0a => trap_immediate(TrapImmediateName::Tlti, w),
+        0x0b => trap_immediate(TrapImmediateName::Tltiu, w),
+        0x0c => trap_immediate(TrapImmediateName::Teqi, w),
+        0x0e => trap_immediate(TrapImmediateName::Tnei, w),
         _ => Inst::Reserved(w),
     }
 }
 
-// op 10 and above: the loads, the stores and the floating-point coprocessor
+// op 10 and above: the likely branches, the loads, the stores and the floating-point coprocessor
 #[tactic(auto, using(crate::proofs::Rows::inst_is, std::proofs::lemmas::Bool::Decides::nat_tests), unfolding(crate::proofs::Rows::by_fields))]
-fn memory(w: u32) -> Inst
+fn upper(w: u32) -> Inst
     requires { 0x0F < op_of w }
     ensures { result ≡ inst w }
 {
     match op(w) {
+        0x14 => branch_equal(BranchEqualName::Beql, w),
+        0x15 => branch_equal(BranchEqualName::Bnel, w),
+        0x16 => branch_zero(BranchZeroName::Blezl, w),
+        0x17 => branch_zero(BranchZeroName::Bgtzl, w),
         0x20 => load(LoadName::Lb, w),
         0x21 => load(LoadName::Lh, w),
         0x22 => load(LoadName::Lwl, w),
@@ -113,6 +136,8 @@ fn memory(w: u32) -> Inst
         0x2a => store(StoreName::Swl, w),
         0x2b => store(StoreName::Sw, w),
         0x2e => store(StoreName::Swr, w),
+        0x30 => load_linked(w),
+        0x38 => store_conditional(w),
         0x11 | 0x31 | 0x39 => Inst::Float(w),
         _ => Inst::Reserved(w),
     }

@@ -1,12 +1,12 @@
 //! From instructions to words.
 ghost use Rattle.std.specs.Prelude.{◌≡◌, ◌<◌};
-ghost use Rattle.mips_decode.specs.Encoding.{word_of, register_word, immediate_word, jump_word, code_word};
+ghost use Rattle.mips_decode.specs.Encoding.{word_of, register_word, immediate_word, jump_word, code_word, trap_word};
 
 use crate::inst::Inst;
 use crate::numbers::{
     arithmetic_funct, arithmetic_immediate_op, branch_equal_op, branch_sign_rt, branch_zero_op,
     jump_op, load_op, logical_immediate_op, move_from_funct, move_to_funct, product_funct,
-    shift_funct, store_op, variable_shift_funct,
+    shift_funct, store_op, trap_funct, trap_immediate_rt, variable_shift_funct,
 };
 
 /// The word of an instruction. Of a register, a shift amount, an index or a code that is too large for its field, the low
@@ -50,6 +50,11 @@ pub fn encode(inst: &Inst) -> u32
         Inst::LoadUpper { rt, imm } => immediate(0x0f, 0, rt, imm),
         Inst::Load { name, rs, rt, imm } => immediate(load_op(name), rs, rt, imm),
         Inst::Store { name, rs, rt, imm } => immediate(store_op(name), rs, rt, imm),
+        Inst::Trap { name, rs, rt, code } => trapped(rs, rt, code, trap_funct(name)),
+        Inst::TrapImmediate { name, rs, imm } => immediate(0x01, rs, trap_immediate_rt(name), imm),
+        Inst::Sync { sa } => register(0, 0, 0, sa, 0x0f),
+        Inst::LoadLinked { rs, rt, imm } => immediate(0x30, rs, rt, imm),
+        Inst::StoreConditional { rs, rt, imm } => immediate(0x38, rs, rt, imm),
         Inst::Reserved(w) => w,
         Inst::Float(w) => w,
     }
@@ -84,4 +89,15 @@ fn coded(code: u32, funct: u8) -> u32
     ensures { result ≡ code_word code funct }
 {
     ((code & 0xf_ffff) << 6) + u32::from(funct)
+}
+
+// A word of op 00 with two registers and a code between them and the funct.
+fn trapped(rs: u8, rt: u8, code: u16, funct: u8) -> u32
+    requires { funct < 64 }
+    ensures { result ≡ trap_word rs rt code funct }
+{
+    (u32::from(rs & 0x1f) << 21)
+        + (u32::from(rt & 0x1f) << 16)
+        + (u32::from(code & 0x3ff) << 6)
+        + u32::from(funct)
 }

@@ -1,6 +1,6 @@
 //! The fields of a word, as the MIPS I manual draws its instruction formats.
 ghost use Rattle.std.specs.Prelude.{◌≡◌};
-ghost use Rattle.mips_decode.specs.Table.{op_of, rs_of, rt_of, rd_of, sa_of, funct_of, imm_of, index_of, code_of};
+ghost use Rattle.mips_decode.specs.Table.{op_of, rs_of, rt_of, rd_of, sa_of, funct_of, imm_of, index_of, code_of, trap_code_of, is_float};
 
 /// Bits 31 to 26.
 pub(crate) fn op(w: u32) -> u8
@@ -63,4 +63,18 @@ pub(crate) fn code(w: u32) -> u32
     ensures { result ≡ code_of w }
 {
     w >> 6 & 0xf_ffff
+}
+
+/// Bits 15 to 6.
+pub(crate) fn trap_code(w: u32) -> u16
+    ensures { result ≡ trap_code_of w }
+{
+    (w >> 6 & 0x3ff) as u16
+}
+
+/// Whether a word is one of the floating-point coprocessor: its opcode is 11, 31 or 39 (hexadecimal).
+pub fn is_float(w: u32) -> bool
+    ensures { result ≡ is_float w }
+{
+    matches!(op(w), 0x11 | 0x31 | 0x39)
 }

@@ -5,11 +5,12 @@ ghost use Rattle.mips_decode.specs.declared.inst.Inst.TheVariants.{Reserved};
 ghost use Rattle.mips_decode.specs.Table.{rs_of, rt_of, rd_of, sa_of};
 ghost use Rattle.mips_decode.specs.Table as table;
 
-use crate::fields::{code, imm, index, rd, rs, rt, sa};
+use crate::fields::{code, imm, index, rd, rs, rt, sa, trap_code};
 use crate::inst::Inst;
 use crate::names::{
     ArithmeticImmediateName, ArithmeticName, BranchEqualName, BranchSignName, BranchZeroName, HiLo,
-    JumpName, LoadName, LogicalImmediateName, ProductName, ShiftName, StoreName, VariableShiftName,
+    JumpName, LoadName, LogicalImmediateName, ProductName, ShiftName, StoreName, TrapImmediateName,
+    TrapName, VariableShiftName,
 };
 
 pub(crate) fn arithmetic(name: ArithmeticName, w: u32) -> Inst
@@ -211,6 +212,56 @@ pub(crate) fn store(name: StoreName, w: u32) -> Inst
 {
     Inst::Store {
         name,
+        rs: rs(w),
+        rt: rt(w),
+        imm: imm(w),
+    }
+}
+
+pub(crate) fn trap(name: TrapName, w: u32) -> Inst
+    ensures { result ≡ table.trap name w }
+{
+    Inst::Trap {
+        name,
+        rs: rs(w),
+        rt: rt(w),
+        code: trap_code(w),
+    }
+}
+
+pub(crate) fn trap_immediate(name: TrapImmediateName, w: u32) -> Inst
+    ensures { result ≡ table.trap_immediate name w }
+{
+    Inst::TrapImmediate {
+        name,
+        rs: rs(w),
+        imm: imm(w),
+    }
+}
+
+pub(crate) fn sync(w: u32) -> Inst
+    ensures { result ≡ (if rs_of w == 0 && (rt_of w == 0 && rd_of w == 0) then table.sync w else Reserved w) }
+{
+    if rs(w) != 0 || rt(w) != 0 || rd(w) != 0 {
+        return Inst::Reserved(w);
+    }
+    Inst::Sync { sa: sa(w) }
+}
+
+pub(crate) fn load_linked(w: u32) -> Inst
+    ensures { result ≡ table.load_linked w }
+{
+    Inst::LoadLinked {
+        rs: rs(w),
+        rt: rt(w),
+        imm: imm(w),
+    }
+}
+
+pub(crate) fn store_conditional(w: u32) -> Inst
+    ensures { result ≡ table.store_conditional w }
+{
+    Inst::StoreConditional {
         rs: rs(w),
         rt: rt(w),
         imm: imm(w),

@@ -1,13 +1,14 @@
 use crate::names::{
     ArithmeticImmediateName, ArithmeticName, BranchEqualName, BranchSignName, BranchZeroName, HiLo,
-    JumpName, LoadName, LogicalImmediateName, ProductName, ShiftName, StoreName, VariableShiftName,
+    JumpName, LoadName, LogicalImmediateName, ProductName, ShiftName, StoreName, TrapImmediateName,
+    TrapName, VariableShiftName,
 };
 
-/// What one word means as an instruction of MIPS I.
+/// What one word means as an integer instruction of MIPS II.
 ///
 /// The instructions of one form of the instruction set share a variant, with their name beside the fields of the word:
 /// `rs`, `rt` and `rd` number a register below 32, `sa` is a shift amount below 32, `imm` is the low half of the word,
-/// `index` has 26 bits and `code` has 20. A field that a form does not list is 0 in the word, or chooses the name.
+/// `index` has 26 bits and `code` has 20, or 10 in a trap. A field that a form does not list is 0 in the word, or chooses the name.
 #[derive(Clone, Copy, PartialEq, Eq)]
 pub enum Inst {
     /// ADD to SLTU: rd becomes a function of rs and rt.
@@ -64,7 +65,7 @@ pub enum Inst {
         rs: u8,
         rt: u8,
     },
-    /// BLTZ to BGEZAL: goes to its target by the sign of rs.
+    /// BLTZ to BGEZALL: goes to its target by the sign of rs.
     BranchSign {
         name: BranchSignName,
         rs: u8,
@@ -75,14 +76,14 @@ pub enum Inst {
         name: JumpName,
         index: u32,
     },
-    /// BEQ, BNE: goes to its target where rs and rt are equal, or are not.
+    /// BEQ to BNEL: goes to its target where rs and rt are equal, or are not.
     BranchEqual {
         name: BranchEqualName,
         rs: u8,
         rt: u8,
         imm: u16,
     },
-    /// BLEZ, BGTZ: goes to its target where rs is at most zero, or above it.
+    /// BLEZ to BGTZL: goes to its target where rs is at most zero, or above it.
     BranchZero {
         name: BranchZeroName,
         rs: u8,
@@ -121,7 +122,36 @@ pub enum Inst {
         rt: u8,
         imm: u16,
     },
-    /// A word that is no instruction of MIPS I.
+    /// TGE to TNE: faults where rs and rt compare so.
+    Trap {
+        name: TrapName,
+        rs: u8,
+        rt: u8,
+        code: u16,
+    },
+    /// TGEI to TNEI: faults where rs and the signed immediate compare so.
+    TrapImmediate {
+        name: TrapImmediateName,
+        rs: u8,
+        imm: u16,
+    },
+    /// SYNC: does nothing.
+    Sync {
+        sa: u8,
+    },
+    /// LL: as LW, and links its address.
+    LoadLinked {
+        rs: u8,
+        rt: u8,
+        imm: u16,
+    },
+    /// SC: stores as SW where its address is linked, and rt becomes whether it did.
+    StoreConditional {
+        rs: u8,
+        rt: u8,
+        imm: u16,
+    },
+    /// A word that is no integer instruction of MIPS II.
     Reserved(u32),
     /// A word of the floating-point coprocessor: its opcode is 11, 31 or 39 (hexadecimal).
     Float(u32),

@@ -12,6 +12,8 @@ mod logical_immediate_name;
 mod product_name;
 mod shift_name;
 mod store_name;
+mod trap_immediate_name;
+mod trap_name;
 mod variable_shift_name;
 
 pub use arithmetic_immediate_name::ArithmeticImmediateName;
@@ -26,4 +28,6 @@ pub use logical_immediate_name::LogicalImmediateName;
 pub use product_name::ProductName;
 pub use shift_name::ShiftName;
 pub use store_name::StoreName;
+pub use trap_immediate_name::TrapImmediateName;
+pub use trap_name::TrapName;
 pub use variable_shift_name::VariableShiftName;

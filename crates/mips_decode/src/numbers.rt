@@ -4,7 +4,8 @@ ghost use Rattle.mips_decode.specs.Encoding as encoding;
 
 use crate::names::{
     ArithmeticImmediateName, ArithmeticName, BranchEqualName, BranchSignName, BranchZeroName, HiLo,
-    JumpName, LoadName, LogicalImmediateName, ProductName, ShiftName, StoreName, VariableShiftName,
+    JumpName, LoadName, LogicalImmediateName, ProductName, ShiftName, StoreName, TrapImmediateName,
+    TrapName, VariableShiftName,
 };
 
 pub(crate) fn arithmetic_funct(name: ArithmeticName) -> u8
@@ -88,6 +89,10 @@ pub(crate) fn branch_sign_rt(name: BranchSignName) -> u8
         BranchSignName::Bgez => 0x01,
         BranchSignName::Bltzal => 0x10,
         BranchSignName::Bgezal => 0x11,
+        BranchSignName::Bltzl => 0x02,
+        BranchSignName::Bgezl => 0x03,
+        BranchSignName::Bltzall => 0x12,
+        BranchSignName::Bgezall => 0x13,
     }
 }
 
@@ -108,6 +113,8 @@ pub(crate) fn branch_equal_op(name: BranchEqualName) -> u8
     match name {
         BranchEqualName::Beq => 0x04,
         BranchEqualName::Bne => 0x05,
+        BranchEqualName::Beql => 0x14,
+        BranchEqualName::Bnel => 0x15,
     }
 }
 
@@ -118,6 +125,8 @@ pub(crate) fn branch_zero_op(name: BranchZeroName) -> u8
     match name {
         BranchZeroName::Blez => 0x06,
         BranchZeroName::Bgtz => 0x07,
+        BranchZeroName::Blezl => 0x16,
+        BranchZeroName::Bgtzl => 0x17,
     }
 }
 
@@ -169,5 +178,33 @@ pub(crate) fn store_op(name: StoreName) -> u8
         StoreName::Swl => 0x2a,
         StoreName::Sw => 0x2b,
         StoreName::Swr => 0x2e,
+    }
+}
+
+pub(crate) fn trap_funct(name: TrapName) -> u8
+    ensures value { result ≡ encoding.trap_funct name }
+    ensures bound { result < 64 }
+{
+    match name {
+        TrapName::Tge => 0x30,
+        TrapName::Tgeu => 0x31,
+        TrapName::Tlt => 0x32,
+        TrapName::Tltu => 0x33,
+        TrapName::Teq => 0x34,
+        TrapName::Tne => 0x36,
+    }
+}
+
+pub(crate) fn trap_immediate_rt(name: TrapImmediateName) -> u8
+    ensures value { result ≡ encoding.trap_immediate_rt name }
+    ensures bound { result < 32 }
+{
+    match name {
+        TrapImmediateName::Tgei => 0x08,
+        TrapImmediateName::Tgeiu => 0x09,
+        TrapImmediateName::Tlti => 0x0a,
+        TrapImmediateName::Tltiu => 0x0b,
+        TrapImmediateName::Teqi => 0x0c,
+        TrapImmediateName::Tnei => 0x0e,
     }
 }

@@ -60,6 +60,20 @@ pub fn print_inst(alloc: Global, inst: &Inst, at: u32) -> Result<String, NoMemor
             let offset = signed(imm);
             format!(in alloc; "{name} ${rt},{offset}(${rs})")
         }
+        Inst::Trap { name, rs, rt, code } => format!(in alloc; "{name} ${rs},${rt},{code}"),
+        Inst::TrapImmediate { name, rs, imm } => {
+            let right = signed(imm);
+            format!(in alloc; "{name} ${rs},{right}")
+        }
+        Inst::Sync { sa } => format!(in alloc; "sync {sa}"),
+        Inst::LoadLinked { rs, rt, imm } => {
+            let offset = signed(imm);
+            format!(in alloc; "ll ${rt},{offset}(${rs})")
+        }
+        Inst::StoreConditional { rs, rt, imm } => {
+            let offset = signed(imm);
+            format!(in alloc; "sc ${rt},{offset}(${rs})")
+        }
         Inst::Reserved(word) | Inst::Float(word) => {
             let word = Hexadecimal(word);
             format!(in alloc; ".word {word}")

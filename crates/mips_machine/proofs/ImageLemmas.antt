@@ -12,7 +12,7 @@ use Rattle.elf_reader.specs.Segments.{live, is_writable}
 use Rattle.elf_reader.specs.Area.{area, range_end, has_address}
 use Rattle.elf_reader.specs.Fault.{IsRunsOf}
 use Rattle.elf_image.specs.Pages.{is_on_page, is_segment_page, is_data_page, is_heap_page, is_stack_page, is_argument_page, is_readable_page, is_writable_page}
-use Rattle.elf_image.specs.Content.{stored_byte, stored_word, is_filled_page}
+use Rattle.elf_image.specs.Content.{stored_byte, stored_word, code_word, is_filled_page}
 use Rattle.elf_image.specs.Start.{Source, image_of, byte_at, code_at, readable, writable}
 use Rattle.mips_machine.specs.Loading.{with_words, AreZeros, ArePageWords}
 use Rattle.elf_reader.proofs.PassedLemmas.{last_address}
@@ -101,14 +101,14 @@ module _ (v : Source) where
   unfolding image_of code_at
   has_word a aligned on none =
       let is : (a % 4 == 0 && area v.file a) ≡ true = ap (λ t. t && area v.file a) (eq-eqb (a % 4) 0 aligned) ∙ on in
-      let some = ap (λ t. if t then Some (stored_word v.file (live v.file) a) else None) is in
-      let f : None ≡ Some (stored_word v.file (live v.file) a) = none ∙ some in
+      let some = ap (λ t. if t then Some (code_word v.file (live v.file) a) else None) is in
+      let f : None ≡ Some (code_word v.file (live v.file) a) = none ∙ some in
       cc
 
   -- the code of all ranges is the image's
   pub all_words : (ranges : List Range) → IsRunsOf (area v.file) ranges → with_words (λ a. None) (image_of v).code (λ a. list_any (has_address a) ranges) ≡ (image_of v).code
   unfolding with_words image_of code_at
-  all_words ranges are = λ i a. by_tests (a % 4 == 0) (list_any (has_address a) ranges) (area v.file a) (Some (stored_word v.file (live v.file) a)) (are.same a) i
+  all_words ranges are = λ i a. by_tests (a % 4 == 0) (list_any (has_address a) ranges) (area v.file a) (Some (code_word v.file (live v.file) a)) (are.same a) i
     where
       by_tests : (t l s : Bool) (o : Option ℕ) → s ≡ l → (if t && l then (if t && s then o else None) else None) ≡ (if t && s then o else None)
       by_tests true true s o e = refl

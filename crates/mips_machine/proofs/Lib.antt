@@ -5,3 +5,4 @@ pub mod FieldLemmas
 pub mod LoadLemmas
 pub mod CodeLoading
 pub mod ImageLemmas
+pub mod LinkLemmas

@@ -5,8 +5,8 @@ ghost use Rattle.mips_machine.specs.Processor.{processor_state, effect_of, Stays
 
 use crate::arithmetic::extended;
 use crate::executed::Executed;
-use crate::kinds::{READ_ALIGN, READ_UNMAPPED, WRITE_ALIGN, WRITE_REFUSED};
 use crate::processor::Processor;
+use mips_decode::fault_kinds::{READ_ALIGN, READ_UNMAPPED, WRITE_ALIGN, WRITE_REFUSED};
 use mips_decode::{LoadName, StoreName};
 
 impl Processor {
@@ -26,7 +26,7 @@ impl Processor {
                 value: at,
             };
         }
-        match self.memory.load(name, at, self.register(rt)) {
+        match self.memory.load(name, self.order, at, self.register(rt)) {
             Some(w) => {
                 self.set_register(rt, w);
                 Executed::On
@@ -55,7 +55,7 @@ impl Processor {
                 value: at,
             };
         }
-        if self.memory.store(name, at, w) {
+        if self.memory.store(name, self.order, at, w) {
             Executed::On
         } else {
             Executed::Fault {
@@ -67,7 +67,7 @@ impl Processor {
 
     /// The address of an access.
     #[inline]
-    fn address(&self, rs: u8, imm: u16) -> u32
+    pub(crate) fn address(&self, rs: u8, imm: u16) -> u32
         requires { rs < 32 }
         ensures { result ≡ address_of (processor_state self.now) rs imm }
     {
@@ -75,8 +75,9 @@ impl Processor {
     }
 }
 
+/// Whether a load may be from an address.
 #[inline]
-fn is_load_aligned(name: LoadName, at: u32) -> bool
+pub(crate) fn is_load_aligned(name: LoadName, at: u32) -> bool
     ensures { result ≡ load_aligned name at }
 {
     match name {
@@ -86,8 +87,9 @@ fn is_load_aligned(name: LoadName, at: u32) -> bool
     }
 }
 
+/// Whether a store may be to an address.
 #[inline]
-fn is_store_aligned(name: StoreName, at: u32) -> bool
+pub(crate) fn is_store_aligned(name: StoreName, at: u32) -> bool
     ensures { result ≡ store_aligned name at }
 {
     match name {

@@ -1,7 +1,7 @@
 //! Branches and jumps. Each reads its condition and its target before the link is written.
-ghost use Rattle.std.specs.Prelude.{◌≡◌, ℕ, ◌+◌, ◌%◌, ◌^◌, ◌<◌, Bool};
+ghost use Rattle.std.specs.Prelude.{◌≡◌, ℕ, ◌+◌, ◌%◌, ◌^◌, ◌<◌, Bool, true};
 ghost use Rattle.mips_decode.specs.Branches as manual;
-ghost use Rattle.mips_machine.specs.Processor.{processor_state, effect_of, Stays};
+ghost use Rattle.mips_machine.specs.Processor.{processor_state, effect_of, with_link, IsRegister, Stays};
 
 use crate::executed::Executed;
 use crate::processor::Processor;
@@ -11,7 +11,7 @@ use mips_decode::{
 use nv_words::signed;
 
 impl Processor {
-    /// BEQ, BNE.
+    /// BEQ to BNEL.
     #[inline]
     pub(crate) fn branch_equal(&self, name: BranchEqualName, rs: u8, rt: u8, imm: u16) -> Executed
         requires rs { rs < 32 }
@@ -20,14 +20,15 @@ impl Processor {
         ensures stays { Stays result (processor_state self.now) (processor_state self.now) }
     {
         let equal = self.register(rs) == self.register(rt);
-        let taken = match name {
-            BranchEqualName::Beq => equal,
-            BranchEqualName::Bne => !equal,
-        };
-        self.branch(taken, imm, None)
+        match name {
+            BranchEqualName::Beq => self.branch(equal, imm, None),
+            BranchEqualName::Bne => self.branch(!equal, imm, None),
+            BranchEqualName::Beql => self.branch_likely(equal, imm, None),
+            BranchEqualName::Bnel => self.branch_likely(!equal, imm, None),
+        }
     }
 
-    /// BLEZ, BGTZ.
+    /// BLEZ to BGTZL.
     #[inline]
     pub(crate) fn branch_zero(&self, name: BranchZeroName, rs: u8, imm: u16) -> Executed
         requires { rs < 32 }
@@ -35,14 +36,15 @@ impl Processor {
         ensures stays { Stays result (processor_state self.now) (processor_state self.now) }
     {
         let w = signed(self.register(rs));
-        let taken = match name {
-            BranchZeroName::Blez => w <= 0,
-            BranchZeroName::Bgtz => 0 < w,
-        };
-        self.branch(taken, imm, None)
+        match name {
+            BranchZeroName::Blez => self.branch(w <= 0, imm, None),
+            BranchZeroName::Bgtz => self.branch(0 < w, imm, None),
+            BranchZeroName::Blezl => self.branch_likely(w <= 0, imm, None),
+            BranchZeroName::Bgtzl => self.branch_likely(0 < w, imm, None),
+        }
     }
 
-    /// BLTZ to BGEZAL.
+    /// BLTZ to BGEZALL.
     #[inline]
     pub(crate) fn branch_sign(&self, name: BranchSignName, rs: u8, imm: u16) -> Executed
         requires { rs < 32 }
@@ -55,6 +57,10 @@ impl Processor {
             BranchSignName::Bgez => self.branch(!negative, imm, None),
             BranchSignName::Bltzal => self.branch(negative, imm, Some(31)),
             BranchSignName::Bgezal => self.branch(!negative, imm, Some(31)),
+            BranchSignName::Bltzl => self.branch_likely(negative, imm, None),
+            BranchSignName::Bgezl => self.branch_likely(!negative, imm, None),
+            BranchSignName::Bltzall => self.branch_likely(negative, imm, Some(31)),
+            BranchSignName::Bgezall => self.branch_likely(!negative, imm, Some(31)),
         }
     }
 
@@ -108,6 +114,21 @@ impl Processor {
             self.pc().wrapping_add(8)
         };
         Executed::Branch { target, link }
+    }
+
+    /// A likely branch to its target where it is taken, and else past its slot, which is not done.
+    #[inline]
+    fn branch_likely(&self, taken: bool, imm: u16, link: Option<u8>) -> Executed
+        requires { IsRegister link }
+        ensures effect { effect_of result (processor_state self.now) ≡ manual.branch_effect true taken (processor_state self.now) (with_link link (processor_state self.now)) imm }
+        ensures stays { Stays result (processor_state self.now) (processor_state self.now) }
+    {
+        if taken {
+            let target = branch_target(self.pc(), imm);
+            Executed::Branch { target, link }
+        } else {
+            Executed::Skip { link }
+        }
     }
 
     /// The address of the instruction.

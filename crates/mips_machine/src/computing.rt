@@ -8,8 +8,8 @@ ghost use Rattle.mips_machine.specs.Processor.{processor_state, effect_of, Stays
 
 use crate::arithmetic;
 use crate::executed::Executed;
-use crate::kinds::OVERFLOW;
 use crate::processor::Processor;
+use mips_decode::fault_kinds::OVERFLOW;
 use mips_decode::{
     ArithmeticImmediateName, ArithmeticName, HiLo, LogicalImmediateName, ProductName, ShiftName,
     VariableShiftName,

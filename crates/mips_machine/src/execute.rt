@@ -5,9 +5,9 @@ ghost use Rattle.mips_machine.specs.Fields.{HasFields};
 ghost use Rattle.mips_machine.specs.Processor.{processor_state, effect_of, Stays};
 
 use crate::executed::Executed;
-use crate::kinds::{BREAK, RESERVED};
 use crate::processor::Processor;
 use mips_decode::Inst;
+use mips_decode::fault_kinds::{BREAK, RESERVED};
 
 impl Processor {
     /// Executes an instruction, which stands in the given word.
@@ -44,6 +44,11 @@ impl Processor {
             Inst::LoadUpper { rt, imm } => self.load_upper(rt, imm),
             Inst::Load { name, rs, rt, imm } => self.load(name, rs, rt, imm),
             Inst::Store { name, rs, rt, imm } => self.store(name, rs, rt, imm),
+            Inst::Trap { name, rs, rt, .. } => self.trap(name, rs, rt, word),
+            Inst::TrapImmediate { name, rs, imm } => self.trap_immediate(name, rs, imm, word),
+            Inst::Sync { .. } => Executed::On,
+            Inst::LoadLinked { rs, rt, imm } => self.load_linked(rs, rt, imm),
+            Inst::StoreConditional { rs, rt, imm } => self.store_conditional(rs, rt, imm),
             Inst::Reserved(_) | Inst::Float(_) => Executed::Fault {
                 kind: RESERVED,
                 value: word,

@@ -1,4 +1,4 @@
-//! The guest machine: a MIPS I processor in user mode, its memory, and its run over a server.
+//! The guest machine: a MIPS II processor in user mode, its memory, and its run over a server.
 #![tactic(auto)]
 
 mod accessing;
@@ -8,12 +8,13 @@ mod code_loader;
 mod computing;
 mod execute;
 mod executed;
-mod kinds;
+mod linking;
 mod memory_loader;
 mod mips;
 mod processor;
 mod registers;
 mod step;
+mod trapping;
 mod turning;
 
 pub use mips::Mips;

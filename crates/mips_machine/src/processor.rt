@@ -6,6 +6,7 @@ ghost use Rattle.mips_machine.specs.Processor.{processor_state};
 
 use crate::registers::Registers;
 use guest_memory::{Code, GuestMemory};
+use nv_words::Order;
 
 /// The processor, with its memory and the program's code.
 ///
@@ -18,7 +19,9 @@ pub struct Processor {
     pub(crate) lo: u32,
     pub(crate) pc: u32,
     pub(crate) pending: Option<u32>,
+    pub(crate) load_link: Option<u32>,
     pub(crate) memory: GuestMemory,
+    pub(crate) order: Order,
     pub(crate) code: Code,
     pub(crate) heap_start: u32,
     pub(crate) heap_bytes: u32,
@@ -30,11 +33,12 @@ impl Processor {
     pub(crate) fn new(
         memory: GuestMemory,
         code: Code,
+        order: Order,
         entry: u32,
         heap_start: u32,
         heap_bytes: u32,
     ) -> Processor
-        ensures { processor_state result ≡ start entry (memory_of memory) (code_of code) heap_start heap_bytes }
+        ensures { processor_state result ≡ start order entry (memory_of memory) (code_of code) heap_start heap_bytes }
     {
         Processor {
             begun: false,
@@ -43,7 +47,9 @@ impl Processor {
             lo: 0,
             pc: entry,
             pending: None,
+            load_link: None,
             memory,
+            order,
             code,
             heap_start,
             heap_bytes,

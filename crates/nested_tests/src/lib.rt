@@ -14,4 +14,6 @@ mod guest_runs;
 #[cfg(test)]
 mod guest_texts;
 #[cfg(test)]
+mod little_guests;
+#[cfg(test)]
 mod straight;

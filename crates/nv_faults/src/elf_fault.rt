@@ -8,7 +8,7 @@
 /// | 1 | the file has fewer than 52 bytes |
 /// | 2 | its first four bytes are not 7F 45 4C 46 |
 /// | 3 | `e_ident[EI_CLASS]` is not 1 (32 bits) |
-/// | 4 | `e_ident[EI_DATA]` is not 2 (big-endian) |
+/// | 4 | `e_ident[EI_DATA]` is neither 1 (little-endian) nor 2 (big-endian) |
 /// | 5 | `e_ident[EI_VERSION]` or `e_version` is not 1 |
 /// | 6 | `e_type` is not 2 (an executable file) |
 /// | 7 | `e_machine` is not 8 (MIPS) |
@@ -48,7 +48,7 @@ impl ElfFault {
 
     pub const NOT_CLASS_32: u32 = 3;
 
-    pub const NOT_BIG_ENDIAN: u32 = 4;
+    pub const NOT_KNOWN_ORDER: u32 = 4;
 
     pub const BAD_VERSION: u32 = 5;
 

@@ -13,7 +13,8 @@ fn names_the_check_that_an_edited_file_fails(rt: HostRuntime) {
     for (edits, kind) in [
         ([(0, 0x00)].as_slice(), 2),
         ([(4, 0x02)].as_slice(), 3),
-        ([(5, 0x01)].as_slice(), 4),
+        ([(5, 0x01)].as_slice(), 5),
+        ([(5, 0x00)].as_slice(), 4),
         ([(5, 0x03)].as_slice(), 4),
         ([(6, 0x00)].as_slice(), 5),
         ([(23, 0x00)].as_slice(), 5),
@@ -32,7 +33,7 @@ fn names_the_check_that_an_edited_file_fails(rt: HostRuntime) {
         ([(35, 0x38), (49, 0x01)].as_slice(), 21),
         ([(79, 0x04)].as_slice(), 21),
         // Two at once: the first in order is named.
-        ([(4, 0x02), (5, 0x01)].as_slice(), 3),
+        ([(4, 0x02), (5, 0x03)].as_slice(), 3),
         ([(79, 0x07), (75, 0x0B)].as_slice(), 13),
     ] {
         let file = edited(edits);

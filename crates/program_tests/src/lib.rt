@@ -12,6 +12,8 @@ mod elf_files;
 #[cfg(test)]
 mod images;
 #[cfg(test)]
+mod mips2_assembly;
+#[cfg(test)]
 mod programs;
 #[cfg(test)]
 mod thin_files;

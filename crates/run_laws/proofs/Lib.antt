@@ -11,3 +11,4 @@ pub mod Metering
 pub mod Answering
 pub mod Working
 pub mod Passing
+pub mod Waiting

@@ -1,8 +1,8 @@
 -- What is said of the runs of two machines over one system.
-use Rattle.std.specs.Prelude.{◌≡◌, ◌≢◌, ℕ, ◌+◌, ◌*◌, ◌≤◌, List, ◌++◌, Option}
+use Rattle.std.specs.Prelude.{◌≡◌, ◌≢◌, ℕ, ◌+◌, ◌*◌, ◌≤◌, List, [], ◌∷◌, ◌++◌, Option, None}
 use Rattle.nv_events.specs.Question.{Question}
 use Rattle.nv_events.specs.Answer.{Answer}
-use Rattle.nv_events.specs.Turn.{Turn}
+use Rattle.nv_events.specs.Turn.{Turn, asks}
 use Rattle.nv_events.specs.Run.{Run, run_of}
 use Rattle.nv_events.specs.declared.outcome.Outcome.TheVariants.{Going}
 
@@ -37,3 +37,12 @@ pub record ComesBy {J K : Type 0} (classes : J → Turn J) (reply : K → Questi
   pub asks_so : (run_of classes reply turns j k).questions ≡ questions
   pub goes : (run_of classes reply turns j k).outcome ≡ Going
   pub stands : At (run_of classes reply turns j k).last
+
+-- The run's last question got no answer: the machine stands where it asks it, and the system where it has no answer to it.
+pub record WaitsAt {S K : Type 0} (turn : S → Turn S) (reply : K → Question → Option (Answer × K)) (r : Run S K) : Type 0 where
+  pub question : Question
+  pub before : List Question
+  pub last_is : r.questions ≡ before ++ question ∷ []
+  pub next : Answer → S
+  pub asks_it : turn r.last ≡ asks question next
+  pub unanswered : reply r.system question ≡ None

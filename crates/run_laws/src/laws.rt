@@ -6,10 +6,10 @@ ghost use Rattle.nv_events.specs.Question.{Question};
 ghost use Rattle.nv_events.specs.Answer.{Answer, fits, next_answer};
 ghost use Rattle.nv_events.specs.Turn.{Turn, End};
 ghost use Rattle.nv_events.specs.Run.{run_of};
-ghost use Rattle.nv_events.specs.declared.outcome.Outcome.TheVariants.{Going};
+ghost use Rattle.nv_events.specs.declared.outcome.Outcome.TheVariants.{Going, Waiting};
 ghost use Rattle.run_laws.specs.Trail.{Step, trail_of, after_call, advanced, moved};
 ghost use Rattle.run_laws.specs.Turns.{Pair, Passes, Follows, LawOfTurn, LawOfMarks, Translates};
-ghost use Rattle.run_laws.specs.Runs.{SameRuns, SameCalls, ComesBy, allowance};
+ghost use Rattle.run_laws.specs.Runs.{SameRuns, SameCalls, ComesBy, WaitsAt, allowance};
 ghost use Rattle.run_laws.specs.Places.{Rises, visited, visits};
 ghost use Rattle.run_laws.specs.Meter.{metered, IsMetered};
 
@@ -27,6 +27,12 @@ pub fn same_runs_told<G: Machine, J: Machine, V: Server>()
     requires fitting { (k l : V.State) (q : Question) (a : Answer) → V.reply k q ≡ Some (a, l) → IsTrue (fits a q) }
     ensures calls { (guest : G.State → Turn G.State) (classes : J.State → Turn J.State) (allowed : ℕ → ℕ) (g : G.State) (j : J.State) → ((answers : List Answer) → SameCalls guest classes next_answer allowed g j answers) → (k : V.State) → SameRuns guest classes V.reply allowed g j k }
     ensures runs { (guest : G.State → Turn G.State) (classes : J.State → Turn J.State) (allowed : ℕ → ℕ) (g : G.State) (j : J.State) → ((answers : List Answer) → SameRuns guest classes next_answer allowed g j answers) → (k : V.State) → SameRuns guest classes V.reply allowed g j k }
+{}
+
+/// A run that waits asked last what its system does not answer, and machine and system stand where it was asked: the answers before
+/// it alone have changed the system. Of machines that run the same, both wait so, over the same state of the system.
+pub fn runs_wait_where_no_answer_is<M: Machine, V: Server>()
+    ensures { (turn : M.State → Turn M.State) (n : ℕ) (s : M.State) (k : V.State) → (run_of turn V.reply n s k).outcome ≡ Waiting → WaitsAt turn V.reply (run_of turn V.reply n s k) }
 {}
 
 /// What the classes have counted in m turns after their first call is at most what the guest has, and what loading allows. Where

@@ -8,12 +8,12 @@ use Rattle.nv_events.specs.declared.call.Call.{Call}
 use Rattle.nv_events.specs.declared.text_place.TextPlace.TheVariants.{Zero, Counted}
 use Rattle.unix_system.specs.System.{System}
 use Rattle.unix_system.specs.Asked.{value_only}
-use Rattle.unix_system.specs.Calls.{begin, open_file, read, write, lseek, fstat, unlink, ftruncate, rename}
+use Rattle.unix_system.specs.Calls.{begin, open_file, read, write, lseek, sbrk, fstat, unlink, ftruncate, rename}
 use Rattle.unix_system.specs.Unix.{unix}
 use Rattle.unix_calls.specs.Access.{read_of, write_of}
 
 module _ (s : System) (q : Question) where
-  pub is-begin : q.number ≡ 0 → unix s q ≡ begin s q.a0 q.a1 q.a2 q.room
+  pub is-begin : q.number ≡ 0 → unix s q ≡ begin s q.a0 q.a1 q.a2 q.a3 q.room
   is-begin e = rw e refl
 
   pub is-read : q.number ≡ 4 → unix s q ≡ read s q.a0 q.a2 q.room
@@ -57,6 +57,9 @@ module _ (m : Memory) (call : Call) where
   room-of-8 e = rw e refl
 
 module _ (s : System) (q : Question) where
+  pub is-sbrk : q.number ≡ 7 → unix s q ≡ sbrk s q.a0
+  is-sbrk e = rw e refl
+
   pub is-lseek : q.number ≡ 6 → unix s q ≡ lseek s q.a0 q.a1 q.a2
   is-lseek e = rw e refl
 

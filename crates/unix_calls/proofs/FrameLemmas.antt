@@ -44,9 +44,9 @@ module _ (b e : List ℕ) (s : System) where
   framed-path None p = p
   framed-path (Some z) p = refuses z
 
-  begin-framed : (a0 a1 a2 : ℕ) (room : Room) → Framed b e s (begin (behind b e s) a0 a1 a2 room) (begin s a0 a1 a2 room)
-  begin-framed a0 a1 a2 room =
-      framed-if s.heap.begun (refuses _) (framed-if (nat_lt 0x7FFFFFFF (a1 + a2)) (refuses _) (framed-if (not (has_room room 4096)) (refuses _) (quiet _ _ (refl, refl))))
+  begin-framed : (a0 a1 a2 a3 : ℕ) (room : Room) → Framed b e s (begin (behind b e s) a0 a1 a2 a3 room) (begin s a0 a1 a2 a3 room)
+  begin-framed a0 a1 a2 a3 room =
+      framed-if s.heap.begun (refuses _) (framed-if (nat_lt 0x7FFFFFFF (a1 + a2)) (refuses _) (framed-if (nat_lt 1 a3) (refuses _) (framed-if (not (has_room room 4096)) (refuses _) (quiet _ _ (refl, refl)))))
 
   create-framed : (name : List ℕ) (flags : ℕ) → Framed b e s (create_file (behind b e s) name flags) (create_file s name flags)
   create-framed name flags =
@@ -133,7 +133,7 @@ module _ (b e : List ℕ) (s : System) where
 
   pub unix-framed : (q : Question) → Framed b e s (unix (behind b e s) q) (unix s q)
   unix-framed q =
-      framed-if (q.number == 0) (begin-framed q.a0 q.a1 q.a2 q.room)
+      framed-if (q.number == 0) (begin-framed q.a0 q.a1 q.a2 q.a3 q.room)
       (framed-if (q.number == 2) (open-framed q.text q.a1)
       (framed-if (q.number == 3) (close-framed q.a0)
       (framed-if (q.number == 4) (read-framed q.a0 q.a2 q.room)

@@ -15,8 +15,8 @@ use Rattle.unix_system.specs.declared.opened.Opened.{Opened}
 use Rattle.unix_system.specs.declared.heap.Heap.{Heap}
 use Rattle.unix_system.specs.declared.description.Description.{Description}
 use Rattle.nv_words.specs.declared.order.Order.{Order}
-use Rattle.unix_system.specs.System.{System, with_heap}
-use Rattle.unix_system.specs.Asked.{value_only, refused, words_in_order, has_room}
+use Rattle.unix_system.specs.System.{System, with_heap, with_order}
+use Rattle.unix_system.specs.Asked.{value_only, refused, order_of_number, words_in_order, has_room}
 use Rattle.unix_system.specs.Opened.{numbered_at, node_of}
 use Rattle.unix_system.specs.Errors.{bad_descriptor, bad_address, invalid}
 use Rattle.unix_system.specs.Calls.{begin, fstat, file_words, argument_block}
@@ -126,18 +126,19 @@ module _ {C : Type 0} (put_at : C → ℕ → ℕ → C) (does : System → Answ
       )
 
 -- the patch of a call does not depend on the console
-begin-choice : (a b c : Bool) (x : Answer) (s t s_new t_new : System) → (if a then refused s invalid else if b then refused s invalid else if not c then refused s bad_address else (x, s_new)).0.patch ≡ (if a then refused t invalid else if b then refused t invalid else if not c then refused t bad_address else (x, t_new)).0.patch
-begin-choice true b c x s t s_new t_new = refl
-begin-choice false true c x s t s_new t_new = refl
-begin-choice false false true x s t s_new t_new = refl
-begin-choice false false false x s t s_new t_new = refl
+begin-choice : (a b o c : Bool) (x : Answer) (s t s_new t_new : System) → (if a then refused s invalid else if b then refused s invalid else if o then refused s invalid else if not c then refused s bad_address else (x, s_new)).0.patch ≡ (if a then refused t invalid else if b then refused t invalid else if o then refused t invalid else if not c then refused t bad_address else (x, t_new)).0.patch
+begin-choice true b o c x s t s_new t_new = refl
+begin-choice false true o c x s t s_new t_new = refl
+begin-choice false false true c x s t s_new t_new = refl
+begin-choice false false false true x s t s_new t_new = refl
+begin-choice false false false false x s t s_new t_new = refl
 
-pub begin-patch : (v : Held) (r before error_before : List ℕ) (a0 a1 a2 : ℕ) (room : Room) → (begin (system_of v r before error_before) a0 a1 a2 room).0.patch ≡ (begin (system_of v [] [] []) a0 a1 a2 room).0.patch
-begin-patch v r before error_before a0 a1 a2 room =
-    let s = system_of v r before error_before in
-    let t = system_of v [] [] [] in
+pub begin-patch : (v : Held) (r before error_before : List ℕ) (a0 a1 a2 a3 : ℕ) (room : Room) → (begin (system_of v r before error_before) a0 a1 a2 a3 room).0.patch ≡ (begin (system_of v [] [] []) a0 a1 a2 a3 room).0.patch
+begin-patch v r before error_before a0 a1 a2 a3 room =
+    let s = with_order (system_of v r before error_before) (order_of_number a3) in
+    let t = with_order (system_of v [] [] []) (order_of_number a3) in
     let heap : Heap = record { begun = true; start = a1; end = a1 + a2; program_break = a1 } in
-    begin-choice v.heap.begun (nat_lt 0x7FFFFFFF (a1 + a2)) (has_room room 4096) (record { value = pos (length v.args); patch = argument_block s a0 }) s t (with_heap s heap) (with_heap t heap)
+    begin-choice v.heap.begun (nat_lt 0x7FFFFFFF (a1 + a2)) (nat_lt 1 a3) (has_room room 4096) (record { value = pos (length v.args); patch = argument_block s a0 }) (system_of v r before error_before) (system_of v [] [] []) (with_heap s heap) (with_heap t heap)
 
 abbrev fstat_of : Option (ℕ × Description) → Bool → Order → Files → System → Answer × System
 fstat_of o w order files s = elim o [

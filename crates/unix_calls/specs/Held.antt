@@ -57,6 +57,19 @@ with_tables_held held files opened heap = record {
   ahead = held.ahead;
 }
 
+-- the program has begun, with this heap and this order of bytes
+abbrev pub with_begun_held : Held → Order → Heap → Held
+with_begun_held held order heap = record {
+  files = held.files;
+  blocks = held.blocks;
+  opened = held.opened;
+  heap = heap;
+  args = held.args;
+  moment = held.moment;
+  order = order;
+  ahead = held.ahead;
+}
+
 abbrev pub with_input_held : Held → Files → Opened → List ℕ → Held
 with_input_held held files opened ahead = record {
   files = files;

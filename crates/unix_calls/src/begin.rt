@@ -4,6 +4,7 @@ ghost use Rattle.std.specs.Prelude.{◌≡◌, ◌≤◌, Some, IsTrue, true};
 ghost use Rattle.nv_events.specs.Memory.{can_write};
 ghost use Rattle.nv_events.specs.Question.{room_at};
 ghost use Rattle.unix_system.specs.System.{System};
+ghost use Rattle.unix_system.specs.Asked.{order_of_number};
 ghost use Rattle.unix_system.specs.Calls.{begin};
 ghost use Rattle.unix_system.specs.Serving.{Gives};
 ghost use Rattle.unix_calls.specs.Beginning.{with_args, PutsBlock, block_of};
@@ -18,33 +19,42 @@ use unix_system::guest::{has_room, put_bytes};
 /// The highest address of a program, and the most bytes of its heap.
 const HIGHEST: u64 = 0x7FFF_FFFF;
 
-/// Puts the argument block into the program's memory, where the room for it has `size` bytes, and sets the heap up.
+/// Puts the argument block into the program's memory, where the room for it has `size` bytes, in the order of bytes that the call
+/// names, and sets the heap up.
 pub fn begin<M: View>(
     heap: &mut Heap,
     args: &Args,
-    order: Order,
+    order: &mut Order,
     call: &Call,
     size: u32,
     view: &mut M,
 ) -> i32
     requires within { (heap.old.program_break ≤ heap.old.end) × (heap.old.end ≤ 0x7FFFFFFF) }
     requires size { 4096 ≤ size }
-    ensures call { (s : System) → Gives M.put_at (M.content view.old) (M.content view.new) (room_at (M.memory (M.content view.old)) (Some (call.now.a0, size))) result (with_args s order args.now heap.new) (begin (with_args s order args.now heap.old) call.now.a0 call.now.a1 call.now.a2 (room_at (M.memory (M.content view.old)) (Some (call.now.a0, size)))) }
+    ensures call { (s : System) → Gives M.put_at (M.content view.old) (M.content view.new) (room_at (M.memory (M.content view.old)) (Some (call.now.a0, size))) result (with_args s order.new args.now heap.new) (begin (with_args s order.old args.now heap.old) call.now.a0 call.now.a1 call.now.a2 call.now.a3 (room_at (M.memory (M.content view.old)) (Some (call.now.a0, size)))) }
     ensures within { (heap.new.program_break ≤ heap.new.end) × (heap.new.end ≤ 0x7FFFFFFF) }
 {
     if heap.begun {
         return INVALID;
     }
     let end = u64::from(call.a1) + u64::from(call.a2);
-    if end > HIGHEST {
+    if end > HIGHEST || call.a3 > 1 {
         return INVALID;
     }
     if !has_room(view, call.a0, size) {
         return BAD_ADDRESS;
     }
-    put_block(args, order, call.a0, size, view);
+    *order = order_of_number(call.a3);
+    put_block(args, *order, call.a0, size, view);
     *heap = heap_at(call.a1, end as u32);
     args.count() as i32
+}
+
+/// The order of bytes that the call names.
+fn order_of_number(n: u32) -> Order
+    ensures { result ≡ order_of_number n }
+{
+    if n == 1 { Order::Little } else { Order::Big }
 }
 
 /// The heap as a program finds it.

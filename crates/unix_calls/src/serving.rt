@@ -39,7 +39,14 @@ impl Unix {
         ensures served { (rest output error_output : Option (List ℕ)) → Serves M.put_at (λ s. unix s (asked call.now (M.memory (M.content view.old)))) (asked call.now (M.memory (M.content view.old))).room (parts self.old rest output error_output) (parts self.new rest output error_output) (M.content view.old) (M.content view.new) result }
     {
         let size = room_size();
-        Ok(begin(&mut self.heap, &self.args, self.order, call, size, view))
+        Ok(begin(
+            &mut self.heap,
+            &self.args,
+            &mut self.order,
+            call,
+            size,
+            view,
+        ))
     }
 
     fn serve_status<M: View>(&mut self, call: &Call, view: &mut M) -> Result<i32, IoFault>

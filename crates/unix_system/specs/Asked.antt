@@ -1,5 +1,5 @@
 -- What the calls read off a question: paths, rooms and flags; and how they answer.
-use Rattle.std.specs.Prelude.{ℕ, ℤ, ◌+◌, ◌==◌, ◌||◌, ◌/◌, ◌%◌, Bool, false, nat_le, List, [], ◌∷◌, ◌++◌, reverse, length, Option, Some, None}
+use Rattle.std.specs.Prelude.{ℕ, ℤ, ◌+◌, ◌==◌, ◌||◌, ◌/◌, ◌%◌, Bool, false, nat_le, if◌then◌else◌, List, [], ◌∷◌, ◌++◌, reverse, length, Option, Some, None}
 use Rattle.nv_words.specs.Words.{bytes_of_word}
 use Rattle.nv_words.specs.declared.order.Order.{Order}
 use Rattle.nv_words.specs.declared.order.Order.TheVariants.{Big, Little}
@@ -71,6 +71,10 @@ truncates flags = has_flag flags 0x400
 
 abbrev pub is_exclusive : ℕ → Bool
 is_exclusive flags = has_flag flags 0x800
+
+-- the order of bytes that the loader's call names
+abbrev pub order_of_number : ℕ → Order
+order_of_number n = if n == 1 then Little else Big
 
 -- the four bytes of a word as memory has them
 abbrev pub word_in_order : Order → ℕ → List ℕ

@@ -4,16 +4,17 @@ use Rattle.nv_words.specs.Words.{signed_of}
 use Rattle.nv_events.specs.Question.{Text, Room}
 use Rattle.nv_events.specs.Answer.{Answer}
 use Rattle.unix_system.specs.Errors.{no_entry, bad_descriptor, no_memory, bad_address, present, invalid, too_many_open, too_large, no_space, no_seek}
-use Rattle.unix_system.specs.System.{System, with_tables, with_heap, with_console}
+use Rattle.unix_system.specs.System.{System, with_tables, with_heap, with_console, with_order}
 use Rattle.unix_system.specs.declared.opened.Opened.{Opened}
 use Rattle.unix_files.specs.Files.{Files, blocks_for, bytes_at, node_named, free_node, with_bytes, with_name, has_blocks, resized, written}
 use Rattle.unix_system.specs.Opened.{free_places, number_at, description_of, free_descriptor, with_descriptor, with_description, node_of, without_unreferred, without_unused, numbered_at}
-use Rattle.unix_system.specs.Asked.{value_only, refused, with_path, with_bytes_of, has_room, access, reads, writes, appends, creates, truncates, is_exclusive, words_in_order, texts_with_zeros, addresses}
+use Rattle.unix_system.specs.Asked.{value_only, refused, with_path, with_bytes_of, has_room, access, reads, writes, appends, creates, truncates, is_exclusive, order_of_number, words_in_order, texts_with_zeros, addresses}
 use Rattle.unix_system.specs.declared.description.Description.{Description}
 use Rattle.unix_system.specs.declared.target.Target.{Target}
 use Rattle.unix_system.specs.declared.target.Target.TheVariants.{File, Input, Output, ErrorOutput}
 
--- begin: the argument block is argc + 1 words, the addresses of the texts and then 0, and then the texts, each followed by 00.
+-- begin: the order of bytes is 0 for big-endian and 1 for little-endian. The argument block is argc + 1 words, the addresses of the
+-- texts and then 0, and then the texts, each followed by 00.
 abbrev pub argument_block : System → ℕ → List ℕ
 argument_block s place =
     words_in_order s.order (addresses (place + 4 * (length s.args + 1)) s.args ++ 0 ∷ []) ++ texts_with_zeros s.args
@@ -21,15 +22,19 @@ argument_block s place =
 abbrev pub block_length : List (List ℕ) → ℕ
 block_length args = 4 * (length args + 1) + length (texts_with_zeros args)
 
-abbrev pub begin : System → ℕ → ℕ → ℕ → Room → Answer × System
-begin s place start size room =
+abbrev pub begun_with : System → ℕ → ℕ → ℕ → Answer × System
+begun_with s place start size = (
+  record { value = pos (length s.args); patch = argument_block s place },
+  with_heap s (record { begun = true; start = start; end = start + size; program_break = start }),
+)
+
+abbrev pub begin : System → ℕ → ℕ → ℕ → ℕ → Room → Answer × System
+begin s place start size order room =
     if s.heap.begun then refused s invalid
     else if nat_lt 0x7FFFFFFF (start + size) then refused s invalid
+    else if nat_lt 1 order then refused s invalid
     else if not (has_room room 4096) then refused s bad_address
-    else (
-      record { value = pos (length s.args); patch = argument_block s place },
-      with_heap s (record { begun = true; start = start; end = start + size; program_break = start }),
-    )
+    else begun_with (with_order s (order_of_number order)) place start size
 
 -- open: a descriptor for a file, at its start
 abbrev pub description_for : ℕ → ℕ → Description

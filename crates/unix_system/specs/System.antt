@@ -12,7 +12,7 @@ pub record Console : Type 0 where
   pub error_output : List ℕ
 
 -- The files, what is open, the console, the heap, the arguments, the moment in seconds since 1970, and the order of the bytes of
--- words.
+-- words, which the program's first call names.
 pub record System : Type 0 where
   pub files : Files
   pub opened : Opened

@@ -16,7 +16,7 @@ use Rattle.unix_system.specs.declared.target.Target.TheVariants.{Input, Output, 
 
 abbrev pub unix : System → Question → Answer × System
 unix s q =
-    if q.number == 0 then begin s q.a0 q.a1 q.a2 q.room
+    if q.number == 0 then begin s q.a0 q.a1 q.a2 q.a3 q.room
     else if q.number == 2 then open_file s q.text q.a1
     else if q.number == 3 then close s q.a0
     else if q.number == 4 then read s q.a0 q.a2 q.room

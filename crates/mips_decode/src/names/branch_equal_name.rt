@@ -1,10 +1,12 @@
 use std::fmt;
 
-/// A branch on whether two registers are equal.
+/// A branch on whether two registers are equal. Beql and Bnel are likely.
 #[derive(Clone, Copy, PartialEq, Eq)]
 pub enum BranchEqualName {
     Beq,
     Bne,
+    Beql,
+    Bnel,
 }
 
 impl fmt::Display for BranchEqualName {
@@ -17,6 +19,8 @@ impl fmt::Display for BranchEqualName {
         f.write_str(match self {
             BranchEqualName::Beq => "beq",
             BranchEqualName::Bne => "bne",
+            BranchEqualName::Beql => "beql",
+            BranchEqualName::Bnel => "bnel",
         })
     }
 }

@@ -1,12 +1,16 @@
 use std::fmt;
 
-/// A branch on the sign of a register, which may link.
+/// A branch on the sign of a register, which may link. Bltzl, Bgezl, Bltzall and Bgezall are likely.
 #[derive(Clone, Copy, PartialEq, Eq)]
 pub enum BranchSignName {
     Bltz,
     Bgez,
     Bltzal,
     Bgezal,
+    Bltzl,
+    Bgezl,
+    Bltzall,
+    Bgezall,
 }
 
 impl fmt::Display for BranchSignName {
@@ -21,6 +25,10 @@ impl fmt::Display for BranchSignName {
             BranchSignName::Bgez => "bgez",
             BranchSignName::Bltzal => "bltzal",
             BranchSignName::Bgezal => "bgezal",
+            BranchSignName::Bltzl => "bltzl",
+            BranchSignName::Bgezl => "bgezl",
+            BranchSignName::Bltzall => "bltzall",
+            BranchSignName::Bgezall => "bgezall",
         })
     }
 }

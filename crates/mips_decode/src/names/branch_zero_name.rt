@@ -1,10 +1,12 @@
 use std::fmt;
 
-/// A branch that compares a register with zero.
+/// A branch that compares a register with zero. Blezl and Bgtzl are likely.
 #[derive(Clone, Copy, PartialEq, Eq)]
 pub enum BranchZeroName {
     Blez,
     Bgtz,
+    Blezl,
+    Bgtzl,
 }
 
 impl fmt::Display for BranchZeroName {
@@ -17,6 +19,8 @@ impl fmt::Display for BranchZeroName {
         f.write_str(match self {
             BranchZeroName::Blez => "blez",
             BranchZeroName::Bgtz => "bgtz",
+            BranchZeroName::Blezl => "blezl",
+            BranchZeroName::Bgtzl => "bgtzl",
         })
     }
 }

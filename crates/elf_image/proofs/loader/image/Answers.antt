@@ -1,9 +1,9 @@
 use Rattle.std.proofs.Common.{◌∙◌, sym, ap, subst}
 use Rattle.std.proofs.lemmas.Result.{err_from_is_err_and}
 use Rattle.elf_image.specs.Answer.{IsAnswerTo}
-use Rattle.elf_image.specs.Refusals.{data_fault, layout_fault}
+use Rattle.elf_image.specs.Refusals.{image_fault}
 use Rattle.elf_image.proofs.Accepted.{sound_of, apart_of}
-use Rattle.elf_image.proofs.LoaderLemmas.{first_answer, second_answer, last_fault, last_answer, clash_none}
+use Rattle.elf_image.proofs.LoaderLemmas.{first_answer, second_answer, last_fault, last_answer}
 use Rattle.elf_image.proofs.loader.image.Goals as goal
 
 pub returns-in_err-layout-clause-refused : goal.returns-in_err-layout-clause-refused
@@ -47,10 +47,13 @@ returns-clause-passed c =
     c.in_ok-table.ensures.file c.in_ok-table.ensures.segments c.as_slice.ensures.value in
     sym same ∙ c.in_ok-refuse.ensures.passed
 
-pub kept-requires-clause-no_clash : goal.kept-requires-clause-no_clash
-kept-requires-clause-no_clash c =
-    let heap = c.in_ok-layout.layout.heap in
-    let stack = c.in_ok-layout.layout.stack in
-    let segments = c.args.elf.now.segments.items in
-    ap (λ s. layout_fault s heap stack) (sym c.requires.segments)
-    ∙ clash_none (data_fault c.args.elf.now.file.now segments) (layout_fault segments heap stack) c.in_ok-table.ensures.passed
+pub kept-requires-clause-passed : goal.kept-requires-clause-passed
+kept-requires-clause-passed c =
+    let elf = c.args.elf.now in
+    let same = c.check_float.ensures ∙ last_fault elf.file.now c.in_ok-table.table.file.bytes elf.code.items c.as_slice.result.now elf.segments.items c.in_ok-table.table.segments.value.items
+    c.args.heap c.args.stack c.in_ok-layout.layout.heap c.in_ok-layout.layout.stack
+    c.in_ok-layout.ensures.passed c.in_ok-table.ensures.passed c.requires.segments c.in_ok-layout.ensures.heap c.in_ok-layout.ensures.stack
+    c.in_ok-table.ensures.file c.in_ok-table.ensures.segments c.as_slice.ensures.value in
+    ap (λ h. image_fault elf.file.now elf.code.items h c.in_ok-layout.layout.stack) c.in_ok-layout.ensures.heap
+    ∙ ap (λ k. image_fault elf.file.now elf.code.items c.args.heap k) c.in_ok-layout.ensures.stack
+    ∙ sym same ∙ c.in_ok-refuse.ensures.passed

@@ -1,8 +1,9 @@
-use Rattle.guest_memory.proofs.LaneForms.{left_lanes, right_lanes}
+use Rattle.std.proofs.Common.{subst, IsTrue}
+use Rattle.mips_decode.specs.Loads.{store_aligned}
+use Rattle.guest_memory.proofs.LaneForms.{word_stored}
 use Rattle.guest_memory.proofs.lanes.into_word.Goals as goal
 
-pub returns-in-Swl : goal.returns-in-Swl
-returns-in-Swl c = rw (c.in-Swl.is, c.up_to.ensures) (left_lanes c.args.place c.args.word c.args.w c.requires.place)
-
-pub returns-in-Swr : goal.returns-in-Swr
-returns-in-Swr c = rw (c.in-Swr.is, c.from_on.ensures) (right_lanes c.args.place c.args.word c.args.w c.requires.place)
+pub returns-in-Sw : goal.returns-in-Sw
+returns-in-Sw c =
+    let aligned = subst (λ name. IsTrue (store_aligned name c.args.place)) c.in-Sw.is c.requires.aligned in
+    rw (c.in-Sw.is, c.word_of_lanes.ensures) (word_stored c.args.order c.args.word c.args.place c.args.w c.requires.place aligned)

@@ -1,14 +1,21 @@
-use Rattle.std.proofs.Common.{◌≡◌, ◌%◌, ap, Some, arith}
-use Rattle.std.proofs.lemmas.Bool.{eqb-true}
-use Rattle.nv_words.proofs.LaneLemmas.{below_four}
+use Rattle.std.proofs.Common.{◌≡◌, ◌∙◌, ℕ, ◌/◌, ◌^◌, ◌<◌, Some, ap, sym, subst}
+use Rattle.nv_events.specs.Memory.{Memory}
+use Rattle.nv_words.specs.Words.{lane_of_word}
+use Rattle.nv_words.specs.declared.order.Order.{Order}
+use Rattle.nv_words.specs.declared.order.Order.TheVariants.{Big}
+use Rattle.mips_decode.specs.Loads.{stored}
+use Rattle.mips_decode.specs.declared.names.store_name.StoreName.TheVariants.{Sh}
+use Rattle.guest_memory.specs.OneWord.{one_word}
+use Rattle.guest_memory.proofs.LaneForms.{half_stored}
 use Rattle.guest_memory.proofs.lanes.with_half.Goals as goal
 
-pub returns-then-place-eq0 : goal.returns-then-place-eq0
-returns-then-place-eq0 c =
-    rw c.if-place-eq0.true (below_four _ (ap Some (omega arith)) (ap Some (omega arith)) (ap Some (omega arith)) (ap Some (omega arith)))
+pub returns-in-Big : goal.returns-in-Big
+returns-in-Big c =
+    subst (λ (o : Order). (j : ℕ) → j < 4 → (stored Sh o (one_word c.args.word) c.args.place c.args.w).byte j ≡ Some (lane_of_word c.with_big_half.result j)) (sym c.in-Big.is) c.with_big_half.ensures
 
-pub returns-else-place-eq0 : goal.returns-else-place-eq0
-returns-else-place-eq0 c =
-    let even : c.args.place % 2 ≡ 0 = eqb-true (c.args.place % 2) 0 c.requires.aligned in
-    let two : c.args.place ≡ 2 = omega arith in
-    rw two (below_four _ (ap Some (omega arith)) (ap Some (omega arith)) (ap Some (omega arith)) (ap Some (omega arith)))
+pub returns-in-Little : goal.returns-in-Little
+returns-in-Little c =
+    subst (λ (o : Order). (j : ℕ) → j < 4 → (stored Sh o (one_word c.args.word) c.args.place c.args.w).byte j ≡ Some (lane_of_word c.with_big_half-in-Little.result j)) (sym c.in-Little.is)
+    (λ j h.
+    ap (λ (m : Memory). m.byte j) (half_stored (one_word c.args.word) c.args.place c.args.w)
+    ∙ subst (λ x. (stored Sh Big (one_word c.args.word) c.args.place (x / 2 ^ 16)).byte j ≡ Some (lane_of_word c.with_big_half-in-Little.result j)) c.word_of_lanes.ensures (c.with_big_half-in-Little.ensures j h))

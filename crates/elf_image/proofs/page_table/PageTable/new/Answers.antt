@@ -1,4 +1,5 @@
 use Rattle.std.proofs.Common.{ℕ, ◌∙◌, ◌*◌, ◌/◌, ◌^◌, ◌<◌, sym, ap, arith, length, get_or}
+use Rattle.elf_reader.specs.Header.{order_of}
 use Rattle.elf_image.specs.Content.{stored_byte, stored_word, is_filled_page}
 use Rattle.elf_image.specs.PageTable.{marked, table_byte}
 use Rattle.elf_image.proofs.MarkLemmas.{number_distinct, number_within}
@@ -33,6 +34,7 @@ invariant_of-result c =
     let same_file = c.of.ensures in
     let same_segments = ap (λ v. v.items) c.of-2.ensures in
     record {
+      order_is = c.order_of.ensures ∙ ap order_of (sym same_file);
       words = λ k. words k ∙ ap (λ f. stored_word f segments (4 * k)) (sym same_file) ∙ ap (λ s. stored_word c.of.result.bytes s (4 * k)) (sym same_segments);
       bytes = λ at. bytes at ∙ ap (λ f. stored_byte f segments at) (sym same_file) ∙ ap (λ s. stored_byte c.of.result.bytes s at) (sym same_segments);
       filled = λ p. filled p ∙ ap (λ f. is_filled_page f segments p) (sym same_file) ∙ ap (λ s. is_filled_page c.of.result.bytes s p) (sym same_segments);

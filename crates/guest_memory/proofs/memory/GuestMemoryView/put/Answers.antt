@@ -2,8 +2,9 @@ use Rattle.std.proofs.Common.{◌≡◌, ◌/◌, ◌%◌, length, ap, sym, subs
 use Rattle.std.specs.Prelude.{slice_index, slice_set}
 use Rattle.std.proofs.lemmas.List.{get_or_read}
 use Rattle.nv_words.specs.Words.{word_with_lane}
-use Rattle.guest_memory.specs.Pages.{Pages, IsSound}
+use Rattle.guest_memory.specs.Pages.{Pages, IsSound, memory_of}
 use Rattle.guest_memory.specs.ViewLaws.{put_some}
+use Rattle.guest_memory.proofs.MemoryLemmas.{memory_of-put}
 use Rattle.guest_memory.proofs.PageLemmas.{cell-within, IsSound-set}
 use Rattle.guest_memory.proofs.memory.GuestMemoryView.put.Goals as goal
 
@@ -32,3 +33,8 @@ returns-in-Some-clause-after c =
     ap (λ (q : Pages). record q { words = slice_set q.words c.in-Some.cell c.with_lane.result }) c.self.view_is
     ∙ ap (λ v. record c.args.self.now { words = slice_set c.args.self.now.words c.in-Some.cell v }) put
     ∙ sym (put_some c.args.self.now c.args.at c.args.b c.in-Some.cell c.in-Some.ensures.1)
+
+pub returns-in-Some-clause-alone : goal.returns-in-Some-clause-alone
+returns-in-Some-clause-alone c =
+    let sound = subst IsSound c.self.view_is c.self.invariant in
+    ap memory_of (returns-in-Some-clause-after c) ∙ memory_of-put c.args.self.now c.args.at c.args.b sound (omega arith) c.in-Some.ensures.0
