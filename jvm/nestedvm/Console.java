@@ -1,0 +1,99 @@
+package nestedvm;
+
+import java.io.BufferedOutputStream;
+import java.io.FileDescriptor;
+import java.io.FileInputStream;
+import java.io.FileOutputStream;
+import java.io.IOException;
+import java.io.InputStream;
+import java.io.OutputStream;
+import java.nio.charset.StandardCharsets;
+
+/**
+ * The input and the two outputs of the process.
+ *
+ * <p>Written bytes are gathered. They go out before input is waited for, before bytes go to the other output, and when
+ * {@link #flush} is called, so outside they stand in the order in which they were written.
+ */
+final class Console {
+    /** The most bytes of input that are read ahead. */
+    private static final int AHEAD_BYTES = 4096;
+
+    private final InputStream input = new FileInputStream(FileDescriptor.in);
+    private final OutputStream output = new BufferedOutputStream(new FileOutputStream(FileDescriptor.out));
+    private final OutputStream errorOutput = new BufferedOutputStream(new FileOutputStream(FileDescriptor.err));
+
+    private final byte[] ahead = new byte[AHEAD_BYTES];
+    private int aheadPlace;
+    private int aheadEnd;
+
+    /** The output that has bytes which are gathered, if one has. */
+    private OutputStream gathering = output;
+    private boolean hasFailed;
+
+    /** The next byte of input, or -1 at its end. Input is read only where nothing was read ahead, so a line needs no further one. */
+    int read() {
+        if (aheadPlace == aheadEnd) {
+            readAhead();
+        }
+        return aheadPlace == aheadEnd ? -1 : ahead[aheadPlace++] & 0xFF;
+    }
+
+    private void readAhead() {
+        flush();
+        try {
+            aheadPlace = 0;
+            aheadEnd = Math.max(input.read(ahead), 0);
+        } catch (IOException failure) {
+            throw new Stopped(Answer.readFault());
+        }
+    }
+
+    /** Writes bytes to an output. */
+    synchronized void write(Side side, byte[] bytes) {
+        OutputStream stream = side == Side.OUTPUT ? output : errorOutput;
+        if (stream != gathering) {
+            flush();
+            gathering = stream;
+        }
+        needSound();
+        try {
+            stream.write(bytes);
+        } catch (IOException failure) {
+            throw failed();
+        }
+    }
+
+    /** Lets all that was written go out. */
+    synchronized void flush() {
+        needSound();
+        try {
+            gathering.flush();
+        } catch (IOException failure) {
+            throw failed();
+        }
+    }
+
+    /** Once an output has failed nothing more is written, since a front part of what was gathered may have gone out. */
+    private void needSound() {
+        if (hasFailed) {
+            throw failed();
+        }
+    }
+
+    private Stopped failed() {
+        hasFailed = true;
+        return new Stopped(Answer.writeFault());
+    }
+
+    /** Writes the line of an answer to error output, last of all; the answer that comes of it. */
+    Answer tell(Answer answer) {
+        try {
+            write(Side.ERROR_OUTPUT, answer.line().getBytes(StandardCharsets.UTF_8));
+            flush();
+            return answer;
+        } catch (Stopped stopped) {
+            return stopped.answer();
+        }
+    }
+}

@@ -1,0 +1,135 @@
+package nestedvm;
+
+import java.nio.charset.StandardCharsets;
+
+/**
+ * The memory of a guest as a call sees it, through two arrays of pages. What the first one has can be read; what the second one has
+ * may be written, and is read where the first one has none. A page may be shorter than 1,024 words: its bytes are there from its
+ * start up to some place. An address counts without a sign, and nothing stands past FFFFFFFF.
+ */
+final class GuestMemory {
+    private static final long END = 1L << 32;
+    private static final int PAGE_BYTES = 4096;
+    private static final int PAGE_MASK = PAGE_BYTES - 1;
+    private static final int WORD_MASK = 1023;
+
+    /** The bytes of a path that are looked at. */
+    private static final int PATH_BYTES = 256;
+
+    private final int[][] readable;
+    private final int[][] writable;
+
+    GuestMemory(int[][] readable, int[][] writable) {
+        this.readable = readable;
+        this.writable = writable;
+    }
+
+    /** Refuses the call unless so many bytes from an address on can be read. */
+    void needBytes(int address, int count) throws Refusal {
+        need(address, count, false);
+    }
+
+    /** Refuses the call unless so many bytes from an address on may be written. */
+    void needRoom(int address, int count) throws Refusal {
+        need(address, count, true);
+    }
+
+    /** Of each page only the last byte of the range is looked at, since the others stand before it. */
+    private void need(int address, int count, boolean toWrite) throws Refusal {
+        if (count > bytesFrom(address)) {
+            throw new Refusal(Refusal.BAD_ADDRESS);
+        }
+        int done = 0;
+        while (done < count) {
+            int bytesOfPage = PAGE_BYTES - ((address + done) & PAGE_MASK);
+            done += Math.min(bytesOfPage, count - done);
+            if (!isThere(address + done - 1, toWrite)) {
+                throw new Refusal(Refusal.BAD_ADDRESS);
+            }
+        }
+    }
+
+    /** How many addresses there are from one on. */
+    private static long bytesFrom(int address) {
+        return END - Integer.toUnsignedLong(address);
+    }
+
+    private boolean isThere(int address, boolean toWrite) {
+        return pageAt(writable, address) != null || !toWrite && pageAt(readable, address) != null;
+    }
+
+    /** The page that has the word at an address, or null. */
+    private static int[] pageAt(int[][] pages, int address) {
+        int number = address >>> 12;
+        if (pages == null || number >= pages.length) {
+            return null;
+        }
+        int[] page = pages[number];
+        return page != null && wordAt(address) < page.length ? page : null;
+    }
+
+    private static int wordAt(int address) {
+        return (address >>> 2) & WORD_MASK;
+    }
+
+    /** How far the byte at an address stands above the lowest one of its word: lane 0 is the most significant. */
+    private static int shiftAt(int address) {
+        return 24 - 8 * (address & 3);
+    }
+
+    /** The byte at an address, or -1 where it cannot be read. */
+    private int byteAt(int address) {
+        int[] page = pageAt(readable, address);
+        if (page == null) {
+            page = pageAt(writable, address);
+        }
+        return page == null ? -1 : (page[wordAt(address)] >>> shiftAt(address)) & 0xFF;
+    }
+
+    /** Copies bytes that can be read, from an address on, to a place of an array. */
+    void copy(int address, byte[] into, int place, int count) {
+        for (int i = 0; i < count; i++) {
+            into[place + i] = (byte) byteAt(address + i);
+        }
+    }
+
+    /** Puts a byte where it may be written. */
+    void put(int address, int value) {
+        int[] page = pageAt(writable, address);
+        int shift = shiftAt(address);
+        int others = page[wordAt(address)] & ~(0xFF << shift);
+        page[wordAt(address)] = others | ((value & 0xFF) << shift);
+    }
+
+    /** Puts bytes from a place of an array on where they may be written, from an address on. */
+    void put(int address, byte[] bytes, int place, int count) {
+        for (int i = 0; i < count; i++) {
+            put(address + i, bytes[place + i]);
+        }
+    }
+
+    /** The path at an address, with a character for each of its bytes; or the call is refused. */
+    String path(int address) throws Refusal {
+        byte[] path = new byte[PATH_BYTES];
+        int length = copyPath(address, path);
+        if (length == 0) {
+            throw new Refusal(Refusal.NO_ENTRY);
+        }
+        return new String(path, 0, length, StandardCharsets.ISO_8859_1);
+    }
+
+    /** Copies the bytes of a path up to the first zero, and tells how many they are; or the call is refused. */
+    private int copyPath(int address, byte[] path) throws Refusal {
+        for (int length = 0; length < PATH_BYTES; length++) {
+            int value = length < bytesFrom(address) ? byteAt(address + length) : -1;
+            if (value < 0) {
+                throw new Refusal(Refusal.BAD_ADDRESS);
+            }
+            if (value == 0) {
+                return length;
+            }
+            path[length] = (byte) value;
+        }
+        throw new Refusal(Refusal.INVALID);
+    }
+}

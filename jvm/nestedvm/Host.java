@@ -1,0 +1,49 @@
+package nestedvm;
+
+/**
+ * The host of generated classes: their calls of the system, and their faults.
+ *
+ * <p>The classes call it by its name. It answers with the system that the launcher {@link Run} has made, so it is of use only in a
+ * program that the launcher has started. The contract stands in docs/HOST.md, and the calls in docs/CALLS.md.
+ */
+public final class Host {
+    private static GuestSystem system;
+
+    private Host() {
+    }
+
+    /** From now on calls are answered by this system. */
+    static void answerBy(GuestSystem system) {
+        Host.system = system;
+    }
+
+    /**
+     * Makes a call of the system.
+     *
+     * @param readable the pages that can be read, by their numbers; null, or an element null, where there is none
+     * @param writable the pages that may be written; what they alone have can be read, too
+     * @param number the call's number
+     * @param a0 its first word
+     * @param a1 its second word
+     * @param a2 its third word
+     * @param a3 its fourth word
+     * @return the answer; a negative one is an error. Call 1 never returns
+     */
+    public static int call(int[][] readable, int[][] writable, int number, int a0, int a1, int a2, int a3) {
+        if (system == null) {
+            throw new IllegalStateException("classes are started by nestedvm.Run");
+        }
+        return system.answer(new GuestMemory(readable, writable), number, a0, a1, a2, a3);
+    }
+
+    /**
+     * Ends the run in a fault. It never returns.
+     *
+     * @param kind the fault's kind
+     * @param pc the address of the instruction at fault
+     * @param value the fault's value
+     */
+    public static void fault(int kind, int pc, int value) {
+        throw new Ended(Answer.faulted(kind, pc, value));
+    }
+}

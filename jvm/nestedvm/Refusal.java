@@ -1,0 +1,29 @@
+package nestedvm;
+
+/** A call is answered with an error, and changes nothing. */
+final class Refusal extends Exception {
+    static final int NO_ENTRY = -2;
+    static final int BAD_DESCRIPTOR = -9;
+    static final int NO_MEMORY = -12;
+    static final int BAD_ADDRESS = -14;
+    static final int PRESENT = -17;
+    static final int INVALID = -22;
+    static final int TOO_MANY_OPEN = -24;
+    static final int TOO_LARGE = -27;
+    static final int NO_SPACE = -28;
+    static final int NO_SEEK = -29;
+    static final int NO_CALL = -88;
+
+    private static final long serialVersionUID = 1;
+
+    private final int error;
+
+    Refusal(int error) {
+        super(null, null, false, false);
+        this.error = error;
+    }
+
+    int error() {
+        return error;
+    }
+}
