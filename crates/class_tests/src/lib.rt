@@ -3,6 +3,8 @@
 #![tactic(auto)]
 
 #[cfg(test)]
+mod assembled_code;
+#[cfg(test)]
 mod built_classes;
 #[cfg(test)]
 mod class_bytes;

@@ -1,10 +1,11 @@
 -- There are no more instructions than steps.
-use Rattle.std.proofs.Common.{ℕ, zero, suc, List, [], ◌∷◌, length, arith}
-use Rattle.jvm_program.specs.Program.{Program}
+use Rattle.std.proofs.Common.{ℕ, zero, suc, List, [], ◌∷◌, length, slice_get, Option, Some, None, arith}
+use Rattle.jvm_program.specs.declared.instruction.Instruction.TheVariants.{TableSwitch}
+use Rattle.jvm_program.specs.Program.{Program, targets_of}
 use Rattle.jvm_program.specs.Effect.{Workspace, Effect, goes_on, jumps, branches, effect}
 use Rattle.code_steps.specs.declared.step.Step.{Step}
-use Rattle.code_steps.specs.declared.step.Step.TheVariants.{Does, Skips, Leaves}
-use Rattle.code_steps.specs.Outcomes.{Outcome, ended, left, stopped, beyond, later, after_instruction, after_branch, outcome_from, IsWithin}
+use Rattle.code_steps.specs.declared.step.Step.TheVariants.{Does, Skips, Leaves, Selects}
+use Rattle.code_steps.specs.Outcomes.{Outcome, ended, left, stopped, beyond, later, after_instruction, after_branch, selected, after_switch, outcome_from, IsWithin}
 
 beyond-within : (n : ℕ) (o : Outcome) → IsWithin n o → IsWithin (suc n) (beyond o)
 beyond-within n (ended m w) h = omega arith
@@ -25,6 +26,14 @@ skips-within n w (goes_on v) rest target h g = later-within n (rest v) (h v)
 skips-within n w (jumps zero v) rest target h g = later-within n (target v) (g v)
 skips-within n w _ rest target h g = (omega arith, omega arith)
 
+selected-within : (n : ℕ) (w v : Workspace) (k : ℕ) (found : Option ℕ) → IsWithin (suc n) (selected w k v found)
+selected-within n w v k None = (omega arith, omega arith)
+selected-within n w v k (Some target) = omega arith
+
+selects-within : (n : ℕ) (w : Workspace) (e : Effect) (targets : List ℕ) → IsWithin (suc n) (after_switch w e targets)
+selects-within n w (jumps k v) targets = selected-within n w v k (slice_get targets k)
+selects-within n w _ targets = (omega arith, omega arith)
+
 pub once : (program : Program) (words : ℕ) (code : List Step) (k : ℕ) (w : Workspace) → IsWithin (length code) (outcome_from program words code k w)
 once program words [] k w = omega arith
 once program words (s ∷ code) (suc k) w = beyond-within (length code) (outcome_from program words code k w) (once program words code k w)
@@ -33,3 +42,5 @@ once program words (Does instruction ∷ code) zero w =
 once program words (Skips name j ∷ code) zero w =
     skips-within (length code) w (branches name w) (outcome_from program words code 0) (outcome_from program words code j) (once program words code 0) (once program words code j)
 once program words (Leaves target ∷ code) zero w = omega arith
+once program words (Selects s ∷ code) zero w =
+    selects-within (length code) w (effect program words (TableSwitch s) w) (targets_of (TableSwitch s))

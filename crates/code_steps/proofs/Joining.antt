@@ -1,14 +1,14 @@
 -- Code and other code behind it.
-use Rattle.std.proofs.Common.{◌≡◌, ℕ, zero, suc, ◌+◌, ◌≤◌, List, [], ◌∷◌, ◌++◌, length, Some, IsTrue, nat_le, refl, ap, subst, ◌∙◌, arith}
+use Rattle.std.proofs.Common.{◌≡◌, ℕ, zero, suc, ◌+◌, ◌≤◌, List, [], ◌∷◌, ◌++◌, length, slice_get, Option, Some, None, IsTrue, nat_le, refl, ap, subst, ◌∙◌, arith}
 use Rattle.std.proofs.Math.Nat.{add_assoc}
 use Rattle.std.proofs.lemmas.Bool.{and_parts, leb-true}
-use Rattle.jvm_program.specs.declared.instruction.Instruction.TheVariants.{Branch}
-use Rattle.jvm_program.specs.Program.{Program}
+use Rattle.jvm_program.specs.declared.instruction.Instruction.TheVariants.{Branch, TableSwitch}
+use Rattle.jvm_program.specs.Program.{Program, targets_of}
 use Rattle.jvm_program.specs.Effect.{Workspace, Effect, goes_on, jumps, branches, effect}
 use Rattle.code_steps.specs.declared.step.Step.{Step}
-use Rattle.code_steps.specs.declared.step.Step.TheVariants.{Does, Skips, Leaves}
+use Rattle.code_steps.specs.declared.step.Step.TheVariants.{Does, Skips, Leaves, Selects}
 use Rattle.code_steps.specs.Widths.{width, bytes_before, size}
-use Rattle.code_steps.specs.Outcomes.{Outcome, ended, left, stopped, beyond, later, after_instruction, after_branch, outcome_from, stays_within, shifted, followed_by}
+use Rattle.code_steps.specs.Outcomes.{Outcome, ended, left, stopped, beyond, later, after_instruction, after_branch, selected, after_switch, outcome_from, stays_within, shifted, followed_by}
 use Rattle.code_steps.specs.Placing.{placed_line, LiesAt}
 
 unshifted : (o : Outcome) → o ≡ shifted 0 0 o
@@ -53,6 +53,14 @@ skips-followed i w (goes_on v) f rest both target both_there h g = ap later (h v
 skips-followed i w (jumps zero v) f rest both target both_there h g = ap later (g v) ∙ later-followed i f (target v)
 skips-followed i w _ f rest both target both_there h g = refl
 
+selected-followed : (i : ℕ) (w v : Workspace) (k : ℕ) (f : Workspace → Outcome) (found : Option ℕ) → selected w k v found ≡ followed_by i f (selected w k v found)
+selected-followed i w v k f None = refl
+selected-followed i w v k f (Some target) = refl
+
+selects-followed : (i : ℕ) (w : Workspace) (e : Effect) (f : Workspace → Outcome) (targets : List ℕ) → after_switch w e targets ≡ followed_by i f (after_switch w e targets)
+selects-followed i w (jumps k v) f targets = selected-followed i w v k f (slice_get targets k)
+selects-followed i w _ f targets = refl
+
 nothing-within : (k : ℕ) → suc k ≤ 0 → ⊥
 nothing-within k h = omega arith
 
@@ -71,6 +79,9 @@ codes-follow program words second (Skips name j ∷ first) (suc k) w few within 
 codes-follow program words second (Leaves target ∷ first) (suc k) w few within =
     ap beyond (codes-follow program words second first k w (below k (length first) few) within)
     ∙ beyond-followed (length first) (outcome_from program words second 0) (outcome_from program words first k w)
+codes-follow program words second (Selects s ∷ first) (suc k) w few within =
+    ap beyond (codes-follow program words second first k w (below k (length first) few) within)
+    ∙ beyond-followed (length first) (outcome_from program words second 0) (outcome_from program words first k w)
 codes-follow program words second (Does instruction ∷ first) zero w few within =
     does-followed (length first) w (effect program words instruction w) (outcome_from program words second 0) (outcome_from program words first 0) (outcome_from program words (first ++ second) 0)
     (λ v. codes-follow program words second first 0 v (omega arith) within)
@@ -80,6 +91,8 @@ codes-follow program words second (Skips name j ∷ first) zero w few within =
     (λ v. codes-follow program words second first 0 v (omega arith) parts.1)
     (λ v. codes-follow program words second first j v (leb-true j (length first) parts.0) parts.1)
 codes-follow program words second (Leaves target ∷ first) zero w few within = refl
+codes-follow program words second (Selects s ∷ first) zero w few within =
+    selects-followed (suc (length first)) w (effect program words (TableSwitch s) w) (outcome_from program words second 0) (targets_of (TableSwitch s))
 
 -- ---- where the parts lie
 
@@ -96,11 +109,13 @@ line-same at (Skips name k) first second within =
     ap (λ b. record { at = at; next = at + 3; instruction = Branch name (at + 3 + b) })
     (before-same first second k (leb-true k (length first) (and_parts (nat_le k (length first)) (stays_within first) within).0))
 line-same at (Leaves target) first second within = refl
+line-same at (Selects s) first second within = refl
 
 rest-within : (s : Step) (first : List Step) → IsTrue (stays_within (s ∷ first)) → IsTrue (stays_within first)
 rest-within (Does instruction) first within = within
 rest-within (Skips name k) first within = (and_parts (nat_le k (length first)) (stays_within first) within).1
 rest-within (Leaves target) first within = within
+rest-within (Selects s) first within = within
 
 pub parts-lie : (program : Program) (m : ℕ) (second first : List Step) (at : ℕ) → IsTrue (stays_within first) → LiesAt program m at (first ++ second) → LiesAt program m at first × LiesAt program m (at + size first) second
 parts-lie program m second [] at within lies = let e : at ≡ at + 0 = omega arith in (tt, subst (λ a. LiesAt program m a second) e lies)

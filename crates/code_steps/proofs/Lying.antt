@@ -1,16 +1,18 @@
 -- Code that lies in a method does there what its steps say.
-use Rattle.std.proofs.Common.{◌≡◌, ℕ, zero, suc, ◌+◌, List, [], ◌∷◌, Option, Some, None, refl, ap, subst, sym, ◌∙◌, arith}
+use Rattle.std.proofs.Common.{◌≡◌, ℕ, zero, suc, ◌+◌, List, [], ◌∷◌, slice_get, Option, Some, None, refl, ap, subst, sym, ◌∙◌, arith}
 use Rattle.std.proofs.Math.Nat.{add_assoc}
 use Rattle.nv_events.specs.Turn.{Turn, moves, ends, leaves, asks}
 use Rattle.jvm_code.specs.declared.names.branch_name.BranchName.{BranchName}
-use Rattle.jvm_program.specs.Program.{Program, line_at}
+use Rattle.jvm_code.specs.declared.table_switch.TableSwitch.{TableSwitch as Table}
+use Rattle.jvm_program.specs.declared.instruction.Instruction.TheVariants.{TableSwitch}
+use Rattle.jvm_program.specs.Program.{Program, line_at, targets_of}
 use Rattle.jvm_program.specs.Effect.{Workspace, Effect, goes_on, jumps, branches, effect}
-use Rattle.jvm_program.specs.Step.{State, Frame, placed, turn, turn_by, executed}
+use Rattle.jvm_program.specs.Step.{State, Frame, placed, turn, turn_by, executed, jumped}
 use Rattle.jvm_program.specs.Stretch.{advanced}
 use Rattle.code_steps.specs.declared.step.Step.{Step}
-use Rattle.code_steps.specs.declared.step.Step.TheVariants.{Does, Skips, Leaves}
+use Rattle.code_steps.specs.declared.step.Step.TheVariants.{Does, Skips, Leaves, Selects}
 use Rattle.code_steps.specs.Widths.{width, bytes_before, size}
-use Rattle.code_steps.specs.Outcomes.{Outcome, ended, left, stopped, beyond, later, after_instruction, after_branch, outcome_from}
+use Rattle.code_steps.specs.Outcomes.{Outcome, ended, left, stopped, beyond, later, after_instruction, after_branch, selected, after_switch, outcome_from}
 use Rattle.code_steps.specs.Placing.{placed_line, LiesAt}
 use Rattle.code_steps.specs.Leading.{LeadsTo}
 
@@ -102,6 +104,17 @@ skips program words m at name k code others w (jumps zero v) rest target is then
     goes-on program words m at (at + 3 + bytes_before code k) (Skips name k) code others w v k target is refl there
 skips program words m at name k code others w e rest target is then_on there = stops program words m at (Skips name k) code others w e is
 
+-- a switch goes to one of its targets, or the code stops there
+selected-leads : (program : Program) (words m at : ℕ) (s : Table) (code : List Step) (others : List Frame) (w v : Workspace) (k : ℕ) (found : Option ℕ) → slice_get (targets_of (TableSwitch s)) k ≡ found → turn program words (placed m (at + 0) w others) ≡ turn_by (jumps k v) m (placed_line at (Selects s) code) others → LeadsTo program words m at (Selects s ∷ code) others (placed m (at + 0) w others) (selected w k v found)
+selected-leads program words m at s code others w v k None e is = stops program words m at (Selects s) code others w (jumps k v) is
+selected-leads program words m at s code others w v k (Some target) e is =
+    one-more (turn program words) 0 (placed m (at + 0) w others) (placed m target v others) (is ∙ ap (λ o. jumped m o v others) e)
+
+selects : (program : Program) (words m at : ℕ) (s : Table) (code : List Step) (others : List Frame) (w : Workspace) (e : Effect) → turn program words (placed m (at + 0) w others) ≡ turn_by e m (placed_line at (Selects s) code) others → LeadsTo program words m at (Selects s ∷ code) others (placed m (at + 0) w others) (after_switch w e (targets_of (TableSwitch s)))
+selects program words m at s code others w (jumps k v) is =
+    selected-leads program words m at s code others w v k (slice_get (targets_of (TableSwitch s)) k) refl is
+selects program words m at s code others w e is = stops program words m at (Selects s) code others w e is
+
 -- ---- the whole code
 
 empty : (k : ℕ) → bytes_before [] k ≡ 0
@@ -126,3 +139,5 @@ code-leads program words m others (Skips name k ∷ code) at zero w lies =
 code-leads program words m others (Leaves target ∷ code) at zero w lies =
     one-more (turn program words) 0 (placed m (at + 0) w others) (placed m target w others)
     (first-turn program words m at (Leaves target) code others w lies.0)
+code-leads program words m others (Selects s ∷ code) at zero w lies =
+    selects program words m at s code others w (effect program words (TableSwitch s) w) (first-turn program words m at (Selects s) code others w lies.0)

@@ -1,12 +1,13 @@
 -- What steps do, from the list alone.
-use Rattle.std.specs.Prelude.{ℕ, zero, suc, ◌+◌, ◌≤◌, ◌<◌, Bool, true, ◌&&◌, nat_le, List, [], ◌∷◌, length}
-use Rattle.jvm_program.specs.Program.{Program}
+use Rattle.std.specs.Prelude.{ℕ, zero, suc, ◌+◌, ◌≤◌, ◌<◌, Bool, true, ◌&&◌, nat_le, List, [], ◌∷◌, length, slice_get, Option, Some, None}
+use Rattle.jvm_program.specs.declared.instruction.Instruction.TheVariants.{TableSwitch}
+use Rattle.jvm_program.specs.Program.{Program, targets_of}
 use Rattle.jvm_program.specs.Effect.{Workspace, Effect, goes_on, jumps, branches, effect}
 use Rattle.code_steps.specs.declared.step.Step.{Step}
-use Rattle.code_steps.specs.declared.step.Step.TheVariants.{Does, Skips, Leaves}
+use Rattle.code_steps.specs.declared.step.Step.TheVariants.{Does, Skips, Leaves, Selects}
 
--- How code that is begun with a workspace goes on. So many instructions lead to its end; or so many, of which the last is `goto_w`, to
--- an offset of the method; or so many to the step of a number, counted from 0, whose effect is another than to go on.
+-- How code that is begun with a workspace goes on. So many instructions lead to its end; or so many, of which the last is `goto_w` or a
+-- switch, to an offset of the method; or so many to the step of a number, counted from 0, whose effect is another than to go on.
 pub data Outcome : Type 0 where
   ended : ℕ → Workspace → Outcome
   left : ℕ → ℕ → Workspace → Outcome
@@ -35,6 +36,15 @@ after_branch w (goes_on v) rest target = later (rest v)
 after_branch w (jumps zero v) rest target = later (target v)
 after_branch w e rest target = stopped 0 0 w e
 
+-- what a switch leads to, by its targets
+abbrev pub selected : Workspace → ℕ → Workspace → Option ℕ → Outcome
+selected w k v None = stopped 0 0 w (jumps k v)
+selected w k v (Some target) = left 1 target v
+
+abbrev pub after_switch : Workspace → Effect → List ℕ → Outcome
+after_switch w (jumps k v) targets = selected w k v (slice_get targets k)
+after_switch w e targets = stopped 0 0 w e
+
 -- the outcome of the code from its k-th step on
 abbrev pub outcome_from : Program → ℕ → List Step → ℕ → Workspace → Outcome
 outcome_from program words [] k w = ended 0 w
@@ -44,6 +54,8 @@ outcome_from program words (Does instruction ∷ code) zero w =
 outcome_from program words (Skips name k ∷ code) zero w =
     after_branch w (branches name w) (outcome_from program words code 0) (outcome_from program words code k)
 outcome_from program words (Leaves target ∷ code) zero w = left 1 target w
+outcome_from program words (Selects s ∷ code) zero w =
+    after_switch w (effect program words (TableSwitch s) w) (targets_of (TableSwitch s))
 
 abbrev pub outcome : Program → ℕ → List Step → Workspace → Outcome
 outcome program words code w = outcome_from program words code 0 w
@@ -54,6 +66,7 @@ stays_within [] = true
 stays_within (Does instruction ∷ code) = stays_within code
 stays_within (Skips name k ∷ code) = nat_le k (length code) && stays_within code
 stays_within (Leaves target ∷ code) = stays_within code
+stays_within (Selects s ∷ code) = stays_within code
 
 -- ---- code before other code
 

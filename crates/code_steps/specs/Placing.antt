@@ -3,10 +3,10 @@ use Rattle.std.specs.Prelude.{◌≡◌, ℕ, ◌+◌, List, [], ◌∷◌, Some
 use Rattle.jvm_code.specs.declared.names.branch_name.BranchName.TheVariants.{Goto}
 use Rattle.jvm_program.specs.declared.linked_line.LinkedLine.{LinkedLine}
 use Rattle.jvm_program.specs.declared.instruction.Instruction.{Instruction}
-use Rattle.jvm_program.specs.declared.instruction.Instruction.TheVariants.{Branch}
+use Rattle.jvm_program.specs.declared.instruction.Instruction.TheVariants.{Branch, TableSwitch}
 use Rattle.jvm_program.specs.Program.{Program, line_at}
 use Rattle.code_steps.specs.declared.step.Step.{Step}
-use Rattle.code_steps.specs.declared.step.Step.TheVariants.{Does, Skips, Leaves}
+use Rattle.code_steps.specs.declared.step.Step.TheVariants.{Does, Skips, Leaves, Selects}
 use Rattle.code_steps.specs.Widths.{width, bytes_before}
 
 -- the instruction of a step at an offset, with others behind it
@@ -14,6 +14,7 @@ abbrev pub placed_instruction : ℕ → Step → List Step → Instruction
 placed_instruction at (Does instruction) others = instruction
 placed_instruction at (Skips name k) others = Branch name (at + 3 + bytes_before others k)
 placed_instruction at (Leaves target) others = Branch Goto target
+placed_instruction at (Selects s) others = TableSwitch s
 
 abbrev pub placed_line : ℕ → Step → List Step → LinkedLine
 placed_line at s others = record { at = at; next = at + width s; instruction = placed_instruction at s others }

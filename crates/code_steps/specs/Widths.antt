@@ -1,5 +1,5 @@
 -- JVM Specification, 6.5: the bytes of each step.
-use Rattle.std.specs.Prelude.{ℕ, zero, suc, ◌+◌, ℤ, pos, negsuc, int_le, Bool, ◌&&◌, nat_lt, if◌then◌else◌, List, [], ◌∷◌}
+use Rattle.std.specs.Prelude.{ℕ, zero, suc, ◌+◌, ◌*◌, ℤ, pos, negsuc, int_le, Bool, ◌&&◌, nat_lt, if◌then◌else◌, List, [], ◌∷◌, length}
 use Rattle.nv_words.specs.Words.{signed_of}
 use Rattle.jvm_program.specs.declared.array_kind.ArrayKind.{ArrayKind}
 use Rattle.jvm_program.specs.declared.array_kind.ArrayKind.TheVariants as array_kinds
@@ -8,7 +8,7 @@ use Rattle.jvm_program.specs.declared.constant.Constant.TheVariants as constants
 use Rattle.jvm_program.specs.declared.instruction.Instruction.{Instruction}
 use Rattle.jvm_program.specs.declared.instruction.Instruction.TheVariants as instructions
 use Rattle.code_steps.specs.declared.step.Step.{Step}
-use Rattle.code_steps.specs.declared.step.Step.TheVariants.{Does, Skips, Leaves}
+use Rattle.code_steps.specs.declared.step.Step.TheVariants.{Does, Skips, Leaves, Selects}
 
 -- a number that lies from low to high
 abbrev pub lies_from : ℤ → ℤ → ℤ → Bool
@@ -51,6 +51,7 @@ abbrev pub width : Step → ℕ
 width (Does instruction) = instruction_width instruction
 width (Skips name k) = 3
 width (Leaves target) = 5
+width (Selects s) = 13 + 4 * length s.targets
 
 -- the bytes of the first k steps, of which there may be fewer
 abbrev pub bytes_before : List Step → ℕ → ℕ

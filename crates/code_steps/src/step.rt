@@ -1,4 +1,4 @@
-use jvm_code::BranchName;
+use jvm_code::{BranchName, TableSwitch};
 use jvm_program::Instruction;
 
 /// One instruction of code that is emitted. Where it goes on is told by the steps behind it, and not by an offset.
@@ -10,4 +10,6 @@ pub enum Step {
     Skips(BranchName, u32),
     /// `goto_w` to an offset of the method.
     Leaves(u32),
+    /// `tableswitch` to offsets of the method. It stands at an offset that leaves 3 modulo 4, so it needs no padding.
+    Selects(TableSwitch),
 }

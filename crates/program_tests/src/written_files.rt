@@ -1,6 +1,8 @@
 //! The bytes of written files.
 use crate::programs::{CODE, EXIT_7};
+use elf_laws::laws::read_written;
 use elf_writer::{Part, Parts, Sec, is_writable, write_elf};
+use std::alloc::{AllocError, Global};
 use std::test::Fail;
 
 fn part(vaddr: u32, mem: u32, flags: u32, bytes: Vec<u8>) -> Part {
@@ -21,15 +23,19 @@ fn section(kind: u32, flags: u32, addr: u32, size: u32) -> Sec {
     }
 }
 
-#[test]
-fn places_headers_parts_and_sections(rt: HostRuntime) -> Result<(), Fail> {
-    let alloc = rt.alloc();
+fn program(alloc: Global) -> Result<Parts, AllocError> {
     let text = part(0x0040_0000, 12, 5, CODE.to_vec(alloc)?);
-    let program = Parts {
+    Ok(Parts {
         entry: 0x0040_0000,
         segments: vec![in alloc; text]?,
         sections: Vec::new(alloc),
-    };
+    })
+}
+
+#[test]
+fn places_headers_parts_and_sections(rt: HostRuntime) -> Result<(), Fail> {
+    let alloc = rt.alloc();
+    let program = program(alloc)?;
     let text = part(0x0040_0000, 5, 5, [1, 2, 3, 4, 5].to_vec(alloc)?);
     let memory = part(0x1000_0000, 16, 6, [0xAA, 0xBB].to_vec(alloc)?);
     let padded = Parts {
@@ -66,5 +72,16 @@ fn places_headers_parts_and_sections(rt: HostRuntime) -> Result<(), Fail> {
         let end = place.saturating_add(bytes.len());
         assert_eq!(rt; file.get(place..end), Some(bytes), "{place}");
     }
+    Ok(())
+}
+
+#[test]
+fn reads_a_written_program_back(rt: HostRuntime) -> Result<(), Fail> {
+    let program = program(rt.alloc())?;
+    assert!(rt; is_writable(&program));
+    let file = write_elf(rt.alloc(), &program)?;
+    let elf = read_written(rt.alloc(), &program, file.as_slice())?;
+    assert_eq!(rt; elf.entry, 0x0040_0000);
+    assert_eq!(rt; elf.segments.len(), 1);
     Ok(())
 }

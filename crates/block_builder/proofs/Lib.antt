@@ -1,0 +1,5 @@
+pub mod SetLemmas
+pub mod MarkLemmas
+pub mod BlockLemmas
+pub mod DependenceLemmas
+mod Examples

@@ -1,0 +1,4 @@
+pub mod Registers
+pub mod Leaders
+pub mod Blocks
+pub mod Dependence

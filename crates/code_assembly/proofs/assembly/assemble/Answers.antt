@@ -1,0 +1,51 @@
+use Rattle.std.proofs.Common.{◌≡◌, ◌+◌, ◌<◌, ◌^◌, ◌&&◌, nat_lt, length, get_or, drop, ap, ◌∙◌, ltb-true, arith}
+use Rattle.std.proofs.lemmas.Bool.{and_parts}
+use Rattle.code_steps.specs.Widths.{size}
+use Rattle.code_assembly.specs.Assembling.{have_operations, switches_are_placed, step_slots, slots_of}
+use Rattle.code_assembly.proofs.Pools.{extends-further}
+use Rattle.code_assembly.proofs.Offsets.{AreEnds}
+use Rattle.code_assembly.proofs.Placed.{next-has-operation, next-placed, made-goes-on, slots-next, are-linked, widths-same, size-is, are-code}
+use Rattle.code_assembly.proofs.assembly.assemble.Goals as goal
+
+pub step_operation-requires : goal.step_operation-requires
+step_operation-requires c =
+    let code = c.args.code.now in
+    let all = and_parts (nat_lt (size code) (2 ^ 32) && have_operations c.args.references.now code) (switches_are_placed 0 code) c.requires in
+    let can = and_parts (nat_lt (size code) (2 ^ 32)) (have_operations c.args.references.now code) all.0 in
+    next-has-operation c.args.references.now code (length c.deref.result.now) c.loop-i.i c.index-code-i.result (ap length c.deref.ensures.value ∙ c.in-Ok.ensures.len) c.loop-i-test.true c.index-code-i.is can.1
+
+pub loop-i-preserved : goal.loop-i-preserved
+loop-i-preserved c =
+    let code = c.args.code.now in
+    let r = c.args.references.now in
+    let s = c.index-code-i.result in
+    let i = c.loop-i.i in
+    let pool = c.loop-i.pool in
+    let new = c.step_operation.new.pool in
+    let all = and_parts (nat_lt (size code) (2 ^ 32) && have_operations r code) (switches_are_placed 0 code) c.requires in
+    let can = and_parts (nat_lt (size code) (2 ^ 32)) (have_operations r code) all.0 in
+    let few : size code < 2 ^ 32 = ltb-true (size code) (2 ^ 32) can.0 in
+    let next : slots_of (drop i code) ≡ step_slots s + slots_of (drop (i + 1) code) = slots-next code i s c.loop-i-test.true c.index-code-i.is in
+    let ends : AreEnds code c.deref.result.now (length code) = λ k h. ap (λ es. get_or es k 0) c.deref.ensures.value ∙ c.in-Ok.ensures.ends k h in
+    let placed = next-placed r code c.deref.result.now i s new c.in_ok-op.op ends few c.loop-i-test.true c.index-code-i.is can.1 all.1 c.in_ok-op.ensures.op in
+    record {
+      kept = extends-further c.args.pool.now pool new c.loop-i.invariant.kept c.in_ok-op.ensures.kept;
+      few = omega (arith, next, c.loop-i.invariant.few, c.in_ok-op.ensures.few);
+      made = made-goes-on r code i s pool new c.in_ok-op.op c.loop-i.ops.items c.push.new.self.items c.loop-i-test.true c.index-code-i.is c.loop-i.invariant.made c.in_ok-op.ensures.kept placed c.in_ok-push.ensures.items;
+    }
+
+pub returns-clause-lines : goal.returns-clause-lines
+returns-clause-lines c =
+    are-linked c.args.references.now c.args.code.now c.loop-i.i c.loop-i.pool c.loop-i.ops.items c.loop-i-test.false c.loop-i.invariant.made
+
+pub returns-clause-widths : goal.returns-clause-widths
+returns-clause-widths c =
+    widths-same c.args.references.now c.args.code.now c.loop-i.i c.loop-i.pool c.loop-i.ops.items c.loop-i-test.false c.loop-i.invariant.made
+
+pub returns-clause-size : goal.returns-clause-size
+returns-clause-size c =
+    size-is c.args.references.now c.args.code.now c.loop-i.i c.loop-i.pool c.loop-i.ops.items c.loop-i-test.false c.loop-i.invariant.made
+
+pub returns-clause-method : goal.returns-clause-method
+returns-clause-method c =
+    are-code c.args.references.now c.args.code.now c.loop-i.i c.loop-i.pool c.loop-i.ops.items c.loop-i-test.false c.loop-i.invariant.made

@@ -1,0 +1,174 @@
+-- Code as operations of a class file: which code can be made into them, what it takes of the pool, when a class knows what it names,
+-- and where the operations stand.
+use Rattle.std.specs.Prelude.{◌≡◌, ℕ, ◌+◌, ◌-◌, ◌%◌, ◌^◌, pos, negsuc, ◌&&◌, ◌||◌, ◌==◌, nat_lt, nat_le, Bool, true, false, if◌then◌else◌, List, [], ◌∷◌, ◌++◌, map, length, slice_index, Option, Some, None, is_some, IfSome}
+use Rattle.std.specs.List.{list_all}
+use Rattle.std.specs.Int.{w32}
+use Rattle.nv_words.specs.Words.{signed_of}
+use Rattle.class_format.specs.Format.{fits_signed}
+use Rattle.constant_pool.specs.declared.entry.Entry.{Entry}
+use Rattle.jvm_code.specs.declared.class.Class.{Class}
+use Rattle.jvm_code.specs.declared.line.Line.{Line}
+use Rattle.jvm_code.specs.declared.op.Op.{Op}
+use Rattle.jvm_code.specs.declared.names.pool_name.PoolName.{PoolName}
+use Rattle.jvm_code.specs.declared.names.pool_name.PoolName.TheVariants.{Getstatic, Putstatic, Invokevirtual, Invokestatic, Anewarray}
+use Rattle.jvm_code.specs.declared.table_switch.TableSwitch.{TableSwitch}
+use Rattle.jvm_code.specs.Switches.{last_key}
+use Rattle.jvm_code.specs.Writing.{size_at}
+use Rattle.jvm_program.specs.declared.array_kind.ArrayKind.TheVariants.{Pages}
+use Rattle.jvm_program.specs.declared.constant.Constant.{Constant}
+use Rattle.jvm_program.specs.declared.constant.Constant.TheVariants as constants
+use Rattle.jvm_program.specs.declared.instruction.Instruction.{Instruction}
+use Rattle.jvm_program.specs.declared.instruction.Instruction.TheVariants as instructions
+use Rattle.jvm_program.specs.declared.linked_line.LinkedLine.{LinkedLine}
+use Rattle.jvm_program.specs.Program.{line_in, targets_of}
+use Rattle.jvm_link.specs.Linking.{pool_instruction, return_instruction, linked_line}
+use Rattle.code_steps.specs.declared.step.Step.{Step}
+use Rattle.code_steps.specs.declared.step.Step.TheVariants.{Does, Skips, Leaves, Selects}
+use Rattle.code_steps.specs.Widths.{lies_from, width, bytes_before, size}
+use Rattle.code_steps.specs.Placing.{laid}
+use Rattle.code_assembly.specs.declared.references.References.{References}
+
+-- ---- which code can be assembled
+
+-- a word from −128 to 127
+abbrev pub is_signed_byte : ℕ → Bool
+is_signed_byte w = nat_lt w 128 || (nat_le (2 ^ 32 - 128) w && nat_lt w (2 ^ 32))
+
+abbrev pub has_method : References → ℕ → Bool
+has_method r m = nat_le r.first_method m && nat_lt (m - r.first_method) (length r.methods)
+
+-- the instruction has an operation: it is no branch and no switch, what it names has a slot, and what it adds is a byte
+abbrev pub has_operation : References → Instruction → Bool
+has_operation r (instructions.Increment i by) = is_signed_byte by
+has_operation r (instructions.Get f kind) = nat_lt f (length r.fields)
+has_operation r (instructions.Put f kind) = nat_lt f (length r.fields)
+has_operation r (instructions.Call m) = has_method r m
+has_operation r (instructions.Branch name target) = false
+has_operation r (instructions.TableSwitch s) = false
+has_operation r (instructions.LookupSwitch s) = false
+has_operation r instructions.Wrong = false
+has_operation r _ = true
+
+-- there is a target, the least and the greatest key are signed words, and each target has 32 bits
+abbrev pub switch_has_operation : TableSwitch → Bool
+switch_has_operation s =
+    nat_lt 0 (length s.targets) && fits_signed w32 s.low && fits_signed w32 (last_key s)
+    && list_all (λ target. nat_lt target (2 ^ 32)) (s.default ∷ s.targets)
+
+-- the same of a step with others behind it: a branch goes to the end of these at most, by an offset of 16 bits with its sign
+abbrev pub step_has_operation : References → Step → List Step → Bool
+step_has_operation r (Does instruction) others = has_operation r instruction
+step_has_operation r (Skips name k) others = nat_le k (length others) && nat_lt (3 + bytes_before others k) (2 ^ 15)
+step_has_operation r (Leaves target) others = true
+step_has_operation r (Selects s) others = switch_has_operation s
+
+abbrev pub have_operations : References → List Step → Bool
+have_operations r [] = true
+have_operations r (s ∷ code) = step_has_operation r s code && have_operations r code
+
+-- a step at an offset, if it is a switch: the offset leaves 3 modulo 4
+abbrev pub needs_no_padding : ℕ → Step → Bool
+needs_no_padding at (Does instruction) = true
+needs_no_padding at (Skips name k) = true
+needs_no_padding at (Leaves target) = true
+needs_no_padding at (Selects s) = at % 4 == 3
+
+-- no switch of code at an offset needs padding
+abbrev pub switches_are_placed : ℕ → List Step → Bool
+switches_are_placed at [] = true
+switches_are_placed at (s ∷ code) = needs_no_padding at s && switches_are_placed (at + width s) code
+
+-- all steps have operations, no switch needs padding, and the offsets have 32 bits
+abbrev pub can_be_assembled : References → List Step → Bool
+can_be_assembled r code = nat_lt (size code) (2 ^ 32) && have_operations r code && switches_are_placed 0 code
+
+-- ---- what it takes of the pool
+
+-- the slots of a constant's entry: sipush and shorter forms need none, and a long takes two
+abbrev pub constant_slots : Constant → ℕ
+constant_slots constants.Null = 0
+constant_slots (constants.Int n) = if lies_from (negsuc 32767) (pos 32767) (signed_of n) then 0 else 1
+constant_slots (constants.Long n) = 2
+constant_slots (constants.Text class slot) = 1
+
+abbrev pub instruction_slots : Instruction → ℕ
+instruction_slots (instructions.Push constant) = constant_slots constant
+instruction_slots _ = 0
+
+abbrev pub step_slots : Step → ℕ
+step_slots (Does instruction) = instruction_slots instruction
+step_slots (Skips name k) = 0
+step_slots (Leaves target) = 0
+step_slots (Selects s) = 0
+
+-- the slots of the constants of all steps, if none were there and none came twice
+abbrev pub slots_of : List Step → ℕ
+slots_of [] = 0
+slots_of (s ∷ code) = step_slots s + slots_of code
+
+-- a pool is another one with entries behind
+pub record Extends (old new : List Entry) : Type 0 where
+  pub behind : List Entry
+  pub is : new ≡ old ++ behind
+
+-- ---- a class in which it stands, with its number among classes; its method gives an int or nothing
+
+-- the opcode and the slot of an instruction that names a field, a method or a class
+abbrev pub reference_of : References → Instruction → Option (PoolName × ℕ)
+reference_of r (instructions.Get f kind) = Some (Getstatic, slice_index r.fields f)
+reference_of r (instructions.Put f kind) = Some (Putstatic, slice_index r.fields f)
+reference_of r instructions.Length = Some (Invokevirtual, r.string_length)
+reference_of r instructions.CharAt = Some (Invokevirtual, r.string_char_at)
+reference_of r (instructions.Call m) = Some (Invokestatic, slice_index r.methods (m - r.first_method))
+reference_of r instructions.CallHost = Some (Invokestatic, r.host_call)
+reference_of r instructions.FaultHost = Some (Invokestatic, r.host_fault)
+reference_of r (instructions.NewArray Pages) = Some (Anewarray, r.ints_class)
+reference_of r _ = None
+
+-- what an instruction names is there: in its slot stands what it means, a text is one of the class, and a return is of the method's kind
+abbrev pub IsKnown : References → List Class → ℕ → Class → Bool → Instruction → Type 0
+IsKnown r classes number c gives (instructions.Push (constants.Text class slot)) = class ≡ number
+IsKnown r classes number c gives (instructions.Return name) = return_instruction gives name ≡ instructions.Return name
+IsKnown r classes number c gives instruction =
+    IfSome (reference_of r instruction) (λ x. pool_instruction classes number c x.0 x.1 ≡ instruction)
+
+abbrev pub StepIsKnown : References → List Class → ℕ → Class → Bool → Step → Type 0
+StepIsKnown r classes number c gives (Does instruction) = IsKnown r classes number c gives instruction
+StepIsKnown r classes number c gives (Skips name k) = Unit {0}
+StepIsKnown r classes number c gives (Leaves target) = Unit {0}
+StepIsKnown r classes number c gives (Selects s) = Unit {0}
+
+abbrev pub AreKnown : References → List Class → ℕ → Class → Bool → List Step → Type 0
+AreKnown r classes number c gives [] = Unit {0}
+AreKnown r classes number c gives (s ∷ code) = StepIsKnown r classes number c gives s × AreKnown r classes number c gives code
+
+-- ---- where the operations stand
+
+-- operations one after the other, the first one at an offset
+abbrev pub lines_at : ℕ → List Op → List Line
+lines_at at [] = []
+lines_at at (op ∷ ops) = record { at = at; op = op } ∷ lines_at (at + size_at at op) ops
+
+-- the bytes of a line, and of lines
+abbrev pub line_size : Line → ℕ
+line_size l = size_at l.at l.op
+
+abbrev pub lines_size : List Line → ℕ
+lines_size [] = 0
+lines_size (l ∷ lines) = line_size l + lines_size lines
+
+-- In each class that knows what code names, and whose pool has this one at its front, lines are linked to those of the code.
+abbrev pub AreLinked : References → List Entry → List Step → List Line → Type 0
+AreLinked r pool code lines =
+    (classes : List Class) (number : ℕ) (c : Class) (gives : Bool) → Extends pool c.pool → AreKnown r classes number c gives code
+    → map (linked_line classes number c gives) lines ≡ laid 0 code
+
+-- ---- code of a method
+
+-- each target is the offset of a line
+abbrev pub targets_are_lines : List LinkedLine → Bool
+targets_are_lines lines = list_all (λ l. list_all (λ target. is_some (line_in lines target)) (targets_of l.instruction)) lines
+
+-- there is a step, there are at most 65,535 bytes, and each target is a step's offset
+abbrev pub is_method : List Step → Bool
+is_method code = nat_lt 0 (length code) && nat_le (size code) 65535 && targets_are_lines (laid 0 code)

@@ -1,0 +1,106 @@
+-- The operations of instructions and steps, one by one.
+use Rattle.std.specs.Prelude.{◌≡◌, ℕ, ◌+◌, ◌^◌, ◌<◌, ◌==◌, nat_lt, Bool, true, false, if◌then◌else◌, List, slice_index, Option, Some, None}
+use Rattle.nv_words.specs.Words.{signed_of}
+use Rattle.constant_pool.specs.declared.entry.Entry.{Entry}
+use Rattle.constant_pool.specs.Slots.{IsAt}
+use Rattle.jvm_code.specs.declared.class.Class.{Class}
+use Rattle.jvm_code.specs.declared.op.Op.{Op}
+use Rattle.jvm_code.specs.declared.op.Op.TheVariants as ops
+use Rattle.jvm_code.specs.declared.names.local_name.LocalName.{LocalName}
+use Rattle.jvm_code.specs.declared.names.local_name.LocalName.TheVariants.{Iload, Aload, Istore, Astore}
+use Rattle.jvm_code.specs.declared.names.short_index.ShortIndex.TheVariants.{Zero, One, Two, Three}
+use Rattle.jvm_code.specs.declared.names.pool_name.PoolName.{PoolName}
+use Rattle.jvm_code.specs.Code.{targets_of as op_targets}
+use Rattle.jvm_code.specs.Instructions.{operands_fit}
+use Rattle.jvm_code.specs.Writing.{size_at}
+use Rattle.jvm_program.specs.declared.array_kind.ArrayKind.TheVariants.{Ints}
+use Rattle.jvm_program.specs.declared.local_kind.LocalKind.{LocalKind}
+use Rattle.jvm_program.specs.declared.local_kind.LocalKind.TheVariants.{Int, Reference}
+use Rattle.jvm_program.specs.declared.instruction.Instruction.{Instruction}
+use Rattle.jvm_program.specs.declared.instruction.Instruction.TheVariants as instructions
+use Rattle.jvm_program.specs.Program.{targets_of}
+use Rattle.jvm_link.specs.Linking.{linked_instruction}
+use Rattle.code_steps.specs.declared.step.Step.{Step}
+use Rattle.code_steps.specs.declared.step.Step.TheVariants.{Does, Skips, Leaves, Selects}
+use Rattle.code_steps.specs.Widths.{instruction_width}
+use Rattle.code_assembly.specs.declared.references.References.{References}
+use Rattle.code_assembly.specs.Assembling.{Extends, IsKnown, has_operation, reference_of}
+
+-- ---- what an operation of an instruction is
+
+-- It has the instruction's width and targets, it can be spelled, and it is linked to the instruction in each class that knows what that
+-- names and whose pool has this one at its front.
+pub record IsOperation (r : References) (pool : List Entry) (i : Instruction) (op : Op) : Type 0 where
+  pub wide : (at : ℕ) → size_at at op ≡ instruction_width i
+  pub fits : (at : ℕ) → operands_fit at op ≡ true
+  pub targets : op_targets op ≡ targets_of i
+  pub linked : (classes : List Class) (number : ℕ) (c : Class) (gives : Bool) → Extends pool c.pool → IsKnown r classes number c gives i → linked_instruction classes number c gives op ≡ i
+
+-- The operation of the i-th step, where the offset behind each step is known.
+abbrev pub IsStepOperation : References → List Entry → List ℕ → ℕ → Step → Op → Type 0
+IsStepOperation r pool ends i (Does instruction) op = IsOperation r pool instruction op
+IsStepOperation r pool ends i (Skips name k) op = op ≡ ops.Branch name (slice_index ends (i + k))
+IsStepOperation r pool ends i (Leaves target) op = (op ≡ ops.GotoW target) × (target < 2 ^ 32)
+IsStepOperation r pool ends i (Selects s) op = op ≡ ops.TableSwitch s
+
+-- the i-th of so many steps has one, as far as it is seen from its number
+abbrev pub has_operation_at : References → ℕ → ℕ → Step → Bool
+has_operation_at r count i (Does instruction) = has_operation r instruction
+has_operation_at r count i (Skips name k) = nat_lt (i + k) count
+has_operation_at r count i (Leaves target) = true
+has_operation_at r count i (Selects s) = true
+
+-- ---- constants
+
+-- an instruction with the slot of an entry
+pub record IsInSlot (pool : List Entry) (name : PoolName) (e : Entry) (op : Op) : Type 0 where
+  pub slot : ℕ
+  pub small : slot < 2 ^ 16
+  pub is : op ≡ ops.Pool name slot
+  pub there : IsAt pool slot e
+
+abbrev pub is_push : Instruction → Bool
+is_push (instructions.Push constant) = true
+is_push _ = false
+
+-- ---- the other instructions
+
+abbrev pub load_name : LocalKind → LocalName
+load_name Int = Iload
+load_name Reference = Aload
+
+abbrev pub store_name : LocalKind → LocalName
+store_name Int = Istore
+store_name Reference = Astore
+
+-- the first four local variables are named by the opcode
+abbrev pub local_operation : LocalName → ℕ → Op
+local_operation name i =
+    if i == 0 then ops.ShortLocal name Zero
+    else if i == 1 then ops.ShortLocal name One
+    else if i == 2 then ops.ShortLocal name Two
+    else if i == 3 then ops.ShortLocal name Three else ops.Local name i
+
+-- an instruction with a slot
+abbrev pub pool_operation : Option (PoolName × ℕ) → Op
+pool_operation None = ops.Nop
+pool_operation (Some x) = ops.Pool x.0 x.1
+
+abbrev pub operation_of : References → Instruction → Op
+operation_of r (instructions.Load kind i) = local_operation (load_name kind) i
+operation_of r (instructions.Store kind i) = local_operation (store_name kind) i
+operation_of r (instructions.Array name) = ops.Array name
+operation_of r (instructions.Stack name) = ops.Stack name
+operation_of r (instructions.IntArithmetic name) = ops.IntArithmetic name
+operation_of r (instructions.IntDivision name) = ops.IntDivision name
+operation_of r (instructions.IntShift name) = ops.IntShift name
+operation_of r (instructions.LongArithmetic name) = ops.LongArithmetic name
+operation_of r (instructions.LongDivision name) = ops.LongDivision name
+operation_of r (instructions.LongShift name) = ops.LongShift name
+operation_of r (instructions.Increment i by) = ops.Iinc i (signed_of by)
+operation_of r (instructions.Convert name) = ops.Convert name
+operation_of r instructions.LongCompare = ops.Lcmp
+operation_of r (instructions.Return name) = ops.Give name
+operation_of r (instructions.NewArray Ints) = ops.Newarray
+operation_of r instructions.ArrayLength = ops.Arraylength
+operation_of r instruction = pool_operation (reference_of r instruction)

@@ -1,0 +1,71 @@
+//! Steps.
+ghost use Rattle.std.specs.Prelude.{◌≡◌, ◌+◌, ◌<◌, ◌≤◌, length, IfOk, IsTrue, Err};
+ghost use Rattle.constant_pool.specs.declared.error.PoolError.TheVariants.{Full};
+ghost use Rattle.code_assembly.specs.Assembling.{has_operation, instruction_slots, step_slots, Extends};
+ghost use Rattle.code_assembly.specs.Operations.{IsOperation, IsStepOperation, has_operation_at};
+
+use crate::constants::push;
+use crate::instructions::operation_of;
+use crate::references::References;
+use class_format::Sequence;
+use code_steps::Step;
+use constant_pool::{NoMemory, Pool, PoolError};
+use jvm_code::{Op, TableSwitch};
+use jvm_program::Instruction;
+use std::alloc::Global;
+
+/// The operation of the i-th step, where the offset behind each step is known.
+pub fn step_operation(
+    alloc: Global,
+    step: &Step,
+    i: usize,
+    ends: &[u32],
+    references: &References,
+    pool: &mut Pool,
+) -> Result<Op, PoolError>
+    requires { IsTrue (has_operation_at references.now (length ends.now) i step.now) }
+    ensures op { IfOk result (IsStepOperation references.now pool.new ends.now i step.now) }
+    ensures kept { Extends pool.old pool.new }
+    ensures few { length pool.new ≤ length pool.old + step_slots step.now }
+    ensures full { result ≡ Err Full → 65534 < length pool.old + step_slots step.now }
+{
+    match step {
+        Step::Does(instruction) => instruction_operation(instruction, references, pool),
+        Step::Skips(name, k) => Ok(Op::Branch(*name, ends[i + *k as usize])),
+        Step::Leaves(target) => Ok(Op::GotoW(*target)),
+        Step::Selects(switch) => {
+            let Ok(switch) = copy_of(alloc, switch) else {
+                return Err(PoolError::NoMemory);
+            };
+            Ok(Op::TableSwitch(switch))
+        }
+    }
+}
+
+fn instruction_operation(
+    instruction: &Instruction,
+    references: &References,
+    pool: &mut Pool,
+) -> Result<Op, PoolError>
+    requires { IsTrue (has_operation references.now instruction.now) }
+    ensures op { IfOk result (IsOperation references.now pool.new instruction.now) }
+    ensures kept { Extends pool.old pool.new }
+    ensures few { length pool.new ≤ length pool.old + instruction_slots instruction.now }
+    ensures full { result ≡ Err Full → 65534 < length pool.old + instruction_slots instruction.now }
+{
+    match instruction {
+        Instruction::Push(constant) => push(*constant, pool),
+        _ => Ok(operation_of(instruction, references)),
+    }
+}
+
+fn copy_of(alloc: Global, switch: &TableSwitch) -> Result<TableSwitch, NoMemory>
+    ensures { IfOk result (λ copy. copy ≡ switch.now) }
+{
+    let targets = Vec::from_slice(alloc, switch.targets.as_slice())?;
+    Ok(TableSwitch {
+        default: switch.default,
+        low: switch.low,
+        targets: Sequence::new(targets),
+    })
+}

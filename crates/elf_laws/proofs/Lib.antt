@@ -1,0 +1,5 @@
+pub mod Sizes
+pub mod Contents
+pub mod Checks
+pub mod Areas
+pub mod Programs

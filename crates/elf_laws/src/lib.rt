@@ -1,0 +1,4 @@
+//! What holds of ELF files that are written, assembled and read.
+#![tactic(auto)]
+
+pub mod laws;

@@ -1,0 +1,84 @@
+//! Trees of comparisons.
+ghost use Rattle.std.specs.Prelude.{◌≡◌, ◌++◌, ◌<◌, ◌≤◌, ◌^◌, OnOk, length};
+ghost use Rattle.trampoline.specs.Trees as emitted;
+
+use crate::start::Start;
+use code_steps::Step;
+use guest_code::push_word;
+use jvm_code::BranchName;
+use jvm_program::{Instruction, LocalKind};
+use std::alloc::AllocError;
+
+/// Want of memory, the one error of `append_choice`.
+pub type NoMemory = AllocError;
+
+/// Appends code that takes an address from the stack and calls the method of the last start that is not above it. It leaves 1, or 0
+/// where the address is below all starts and nothing is called. Addresses are compared as signed ints.
+///
+/// There are 1 to 2,048 starts, and they rise.
+///
+/// # Errors
+/// Want of memory for the code.
+pub fn append_choice(starts: &[Start], code: &mut Vec<Step>) -> Result<(), NoMemory>
+    requires some { 1 ≤ length starts.now }
+    requires few { length starts.now ≤ 2048 }
+    ensures { OnOk result (code.new.items ≡ code.old.items ++ emitted.choice_code starts.now) }
+{
+    code.push(Step::Does(Instruction::Store(LocalKind::Int, 0)))?;
+    append_reached(first_of(starts), 2, code)?;
+    code.push(push_word(0))?;
+    code.push(Step::Skips(BranchName::Goto, tree_steps(starts) + 1))?;
+    append_tree(starts, code)?;
+    code.push(push_word(1))?;
+    Ok(())
+}
+
+// The address in local variable 0 is not below a start: that many of the following steps are passed over.
+fn append_reached(first: u32, over: u32, code: &mut Vec<Step>) -> Result<(), NoMemory>
+    ensures { OnOk result (code.new.items ≡ code.old.items ++ emitted.reached_code first over) }
+{
+    code.push(Step::Does(Instruction::Load(LocalKind::Int, 0)))?;
+    code.push(push_word(first))?;
+    code.push(Step::Skips(BranchName::IfIcmpge, over))?;
+    Ok(())
+}
+
+fn append_tree(starts: &[Start], code: &mut Vec<Step>) -> Result<(), NoMemory>
+    requires few { length starts.now ≤ 2048 }
+    ensures { OnOk result (code.new.items ≡ code.old.items ++ emitted.tree starts.now) }
+{
+    match starts {
+        [] => Ok(()),
+        [start] => Ok(code.push(Step::Does(Instruction::Call(start.method)))?),
+        _ => {
+            let (below, from) = starts.split_at(starts.len() / 2);
+            append_reached(first_of(from), tree_steps(below) + 1, code)?;
+            append_tree(below, code)?;
+            code.push(Step::Skips(BranchName::Goto, tree_steps(from)))?;
+            append_tree(from, code)
+        }
+    }
+}
+
+// Where the part of the first start begins.
+fn first_of(starts: &[Start]) -> u32
+    ensures { result ≡ emitted.first_of starts.now }
+{
+    match starts.first() {
+        None => 0,
+        Some(start) => start.first,
+    }
+}
+
+// How many steps a tree has: one call for each start, and four steps between each two.
+#[tactic(auto, using(crate::proofs::TreeLemmas::tree_steps_are))]
+fn tree_steps(starts: &[Start]) -> u32
+    requires few { length starts.now ≤ 2048 }
+    ensures value { result ≡ length (emitted.tree starts.now) }
+    ensures few { result < 2 ^ 16 }
+{
+    match starts.len() as u32 {
+        0 => 0,
+        count => 5 * count - 4,
+    }
+}
