@@ -1,6 +1,7 @@
--- How code reaches the guest's registers, and what it pushes. A bank says which registers are kept in local variables: register r in
--- local variable r. Every other register is in its field.
-use Rattle.std.specs.Prelude.{ℕ, ◌+◌, ◌%◌, ◌^◌, Bool, false, ◌==◌, if◌then◌else◌, List, [], ◌∷◌, slice_get, unwrap_or}
+-- How code reaches the guest's registers, and what it pushes. A bank is a set of registers, by their bits: those that are kept in local
+-- variables, register r in local variable r. Every other register is in its field.
+use Rattle.std.specs.Prelude.{ℕ, ◌+◌, ◌%◌, ◌^◌, Bool, ◌&&◌, ◌==◌, nat_lt, if◌then◌else◌, List, [], ◌∷◌}
+use Rattle.std.specs.Int.{bit_at}
 use Rattle.jvm_code.specs.declared.names.int_arithmetic.IntArithmetic.{IntArithmetic}
 use Rattle.jvm_code.specs.declared.names.int_arithmetic.IntArithmetic.TheVariants.{Iadd}
 use Rattle.jvm_code.specs.declared.names.stack_name.StackName.TheVariants.{Pop}
@@ -27,18 +28,18 @@ arithmetic name = Does (instructions.IntArithmetic name)
 
 -- ---- registers
 
-abbrev pub keeps : List Bool → ℕ → Bool
-keeps bank r = unwrap_or (slice_get bank r) false
+abbrev pub keeps : ℕ → ℕ → Bool
+keeps bank r = nat_lt r 32 && bit_at bank r == 1
 
 -- a register is pushed; register 0 is 0
-abbrev pub get_register : List Bool → ℕ → Step
+abbrev pub get_register : ℕ → ℕ → Step
 get_register bank r =
     if r == 0 then push_word 0
     else if keeps bank r then Does (instructions.Load local_kinds.Int r)
     else get_field (register_field r)
 
 -- a register takes what is on the stack; what is written to register 0 is lost
-abbrev pub put_register : List Bool → ℕ → Step
+abbrev pub put_register : ℕ → ℕ → Step
 put_register bank r =
     if r == 0 then Does (instructions.Stack Pop)
     else if keeps bank r then Does (instructions.Store local_kinds.Int r)
@@ -49,7 +50,7 @@ put_register bank r =
 abbrev pub top_bit : ℕ
 top_bit = 0x8000_0000
 
-abbrev pub get_turned : List Bool → ℕ → List Step
+abbrev pub get_turned : ℕ → ℕ → List Step
 get_turned bank r = get_register bank r ∷ push_word top_bit ∷ arithmetic Iadd ∷ []
 
 -- a constant whose top bit is turned

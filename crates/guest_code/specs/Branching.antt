@@ -33,7 +33,7 @@ goes_to_code target = push_word target ∷ settle_code
 abbrev pub behind_slot : ℕ → ℕ
 behind_slot at = (at + 8) % 2 ^ 32
 
-abbrev pub link_code : List Bool → Option ℕ → ℕ → List Step
+abbrev pub link_code : ℕ → Option ℕ → ℕ → List Step
 link_code bank None at = []
 link_code bank (Some r) at = push_word (behind_slot at) ∷ put_register bank r ∷ []
 
@@ -90,7 +90,7 @@ conditional_code likely test target behind link slot =
     if likely then likely_code test target behind link slot else branch_code test target behind link slot
 
 -- a branch or jump at an address, before the code of its slot; every other instruction has no such code
-abbrev pub transfer_code : List Bool → Inst → ℕ → List Step → List Step
+abbrev pub transfer_code : ℕ → Inst → ℕ → List Step → List Step
 transfer_code bank (inst.BranchEqual name rs rt imm) at slot =
     get_register bank rs ∷ get_register bank rt
     ∷ conditional_code (equal_likely name) (equal_test name) (branch_target at imm) (behind_slot at) [] slot

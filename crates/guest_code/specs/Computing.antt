@@ -1,5 +1,5 @@
 -- The code of the instructions that compute.
-use Rattle.std.specs.Prelude.{ℕ, ◌*◌, ◌^◌, ◌==◌, if◌then◌else◌, Bool, List, [], ◌∷◌, ◌++◌}
+use Rattle.std.specs.Prelude.{ℕ, ◌*◌, ◌^◌, ◌==◌, if◌then◌else◌, List, [], ◌∷◌, ◌++◌}
 use Rattle.jvm_code.specs.declared.names.int_arithmetic.IntArithmetic.{IntArithmetic}
 use Rattle.jvm_code.specs.declared.names.int_arithmetic.IntArithmetic.TheVariants.{Iadd, Isub, Iand, Ior, Ixor}
 use Rattle.jvm_code.specs.declared.names.int_shift.IntShift.{IntShift}
@@ -32,42 +32,42 @@ use Rattle.guest_code.specs.Helpers.{product_helper}
 
 -- ---- of two registers
 
-abbrev pub moved_code : List Bool → ℕ → ℕ → List Step
+abbrev pub moved_code : ℕ → ℕ → ℕ → List Step
 moved_code bank rs rd = get_register bank rs ∷ put_register bank rd ∷ []
 
-abbrev pub combined_code : List Bool → IntArithmetic → ℕ → ℕ → ℕ → List Step
+abbrev pub combined_code : ℕ → IntArithmetic → ℕ → ℕ → ℕ → List Step
 combined_code bank name rs rt rd =
     get_register bank rs ∷ get_register bank rt ∷ arithmetic name ∷ put_register bank rd ∷ []
 
 -- where rt is register 0, it is a move
-abbrev pub combined_or_moved_code : List Bool → IntArithmetic → ℕ → ℕ → ℕ → List Step
+abbrev pub combined_or_moved_code : ℕ → IntArithmetic → ℕ → ℕ → ℕ → List Step
 combined_or_moved_code bank name rs rt rd = if rt == 0 then moved_code bank rs rd else combined_code bank name rs rt rd
 
 -- NOR: the complement is the word beside FFFFFFFF
-abbrev pub nor_code : List Bool → ℕ → ℕ → ℕ → List Step
+abbrev pub nor_code : ℕ → ℕ → ℕ → ℕ → List Step
 nor_code bank rs rt rd =
     get_register bank rs ∷ get_register bank rt ∷ arithmetic Ior ∷ push_word 0xFFFF_FFFF ∷ arithmetic Ixor ∷ put_register bank rd ∷ []
 
 -- what is on the stack is tested, and 1 or 0 goes to a register
-abbrev pub chosen_code : List Bool → BranchName → ℕ → List Step
+abbrev pub chosen_code : ℕ → BranchName → ℕ → List Step
 chosen_code bank test rd = Skips test 2 ∷ push_word 0 ∷ Skips Goto 1 ∷ push_word 1 ∷ put_register bank rd ∷ []
 
-abbrev pub slt_code : List Bool → ℕ → ℕ → ℕ → List Step
+abbrev pub slt_code : ℕ → ℕ → ℕ → ℕ → List Step
 slt_code bank rs rt rd = get_register bank rs ∷ get_register bank rt ∷ chosen_code bank IfIcmplt rd
 
 -- SLTU: 0 is below each word but 0
-abbrev pub sltu_code : List Bool → ℕ → ℕ → ℕ → List Step
+abbrev pub sltu_code : ℕ → ℕ → ℕ → ℕ → List Step
 sltu_code bank rs rt rd =
     if rs == 0 then get_register bank rt ∷ chosen_code bank Ifne rd
     else get_turned bank rs ++ get_turned bank rt ++ chosen_code bank IfIcmplt rd
 
 -- Two words are on the stack above a sum or difference, which overflows where both have their top bits set.
-abbrev pub overflow_code : List Bool → ℕ → ℕ → ℕ → List Step
+abbrev pub overflow_code : ℕ → ℕ → ℕ → ℕ → List Step
 overflow_code bank rd at word =
     arithmetic Iand ∷ Skips Ifge 4 ∷ (fault_code overflow_fault at word ++ put_register bank rd ∷ [])
 
 -- ADD: the sum stands on the stack, and overflows where it has another sign than both summands
-abbrev pub add_code : List Bool → ℕ → ℕ → ℕ → ℕ → ℕ → List Step
+abbrev pub add_code : ℕ → ℕ → ℕ → ℕ → ℕ → ℕ → List Step
 add_code bank rs rt rd at word =
     get_register bank rs ∷ get_register bank rt ∷ arithmetic Iadd
     ∷ Does (instructions.Stack Dup) ∷ get_register bank rs ∷ arithmetic Ixor
@@ -75,14 +75,14 @@ add_code bank rs rt rd at word =
     ∷ overflow_code bank rd at word
 
 -- SUB: the difference overflows where its sign is not that of rs, and the signs of rs and rt differ
-abbrev pub sub_code : List Bool → ℕ → ℕ → ℕ → ℕ → ℕ → List Step
+abbrev pub sub_code : ℕ → ℕ → ℕ → ℕ → ℕ → ℕ → List Step
 sub_code bank rs rt rd at word =
     get_register bank rs ∷ get_register bank rt ∷ arithmetic Isub
     ∷ Does (instructions.Stack Dup) ∷ get_register bank rs ∷ arithmetic Ixor
     ∷ get_register bank rs ∷ get_register bank rt ∷ arithmetic Ixor
     ∷ overflow_code bank rd at word
 
-abbrev pub arithmetic_code : List Bool → ArithmeticName → ℕ → ℕ → ℕ → ℕ → ℕ → List Step
+abbrev pub arithmetic_code : ℕ → ArithmeticName → ℕ → ℕ → ℕ → ℕ → ℕ → List Step
 arithmetic_code bank Add rs rt rd at word = add_code bank rs rt rd at word
 arithmetic_code bank Addu rs rt rd at word = combined_or_moved_code bank Iadd rs rt rd
 arithmetic_code bank Sub rs rt rd at word = sub_code bank rs rt rd at word
@@ -107,14 +107,14 @@ variable_shift_name Srlv = Iushr
 variable_shift_name Srav = Ishr
 
 -- The word 0, which does nothing, is a shift to register 0. A shift by 0 is a move.
-abbrev pub shift_code : List Bool → ShiftName → ℕ → ℕ → ℕ → List Step
+abbrev pub shift_code : ℕ → ShiftName → ℕ → ℕ → ℕ → List Step
 shift_code bank name rt rd sa =
     if rd == 0 then Does instructions.Nop ∷ []
     else if sa == 0 then moved_code bank rt rd
     else get_register bank rt ∷ push_word sa ∷ Does (instructions.IntShift (shift_name name)) ∷ put_register bank rd ∷ []
 
 -- the class machine takes the low five bits of the amount, as the guest does
-abbrev pub variable_shift_code : List Bool → VariableShiftName → ℕ → ℕ → ℕ → List Step
+abbrev pub variable_shift_code : ℕ → VariableShiftName → ℕ → ℕ → ℕ → List Step
 variable_shift_code bank name rs rt rd =
     get_register bank rt ∷ get_register bank rs ∷ Does (instructions.IntShift (variable_shift_name name)) ∷ put_register bank rd ∷ []
 
@@ -124,57 +124,57 @@ abbrev pub hi_lo_field : HiLo → ℕ
 hi_lo_field Hi = hi_field
 hi_lo_field Lo = lo_field
 
-abbrev pub move_from_code : List Bool → HiLo → ℕ → List Step
+abbrev pub move_from_code : ℕ → HiLo → ℕ → List Step
 move_from_code bank name rd = get_field (hi_lo_field name) ∷ put_register bank rd ∷ []
 
-abbrev pub move_to_code : List Bool → HiLo → ℕ → List Step
+abbrev pub move_to_code : ℕ → HiLo → ℕ → List Step
 move_to_code bank name rs = get_register bank rs ∷ put_field (hi_lo_field name) ∷ []
 
-abbrev pub product_code : List Bool → ProductName → ℕ → ℕ → List Step
+abbrev pub product_code : ℕ → ProductName → ℕ → ℕ → List Step
 product_code bank name rs rt =
     get_register bank rs ∷ get_register bank rt ∷ Does (instructions.Call (product_helper name)) ∷ []
 
 -- ---- of a register and an immediate
 
-abbrev pub set_code : List Bool → ℕ → ℕ → List Step
+abbrev pub set_code : ℕ → ℕ → ℕ → List Step
 set_code bank w rt = push_word w ∷ put_register bank rt ∷ []
 
-abbrev pub combined_with_code : List Bool → IntArithmetic → ℕ → ℕ → ℕ → List Step
+abbrev pub combined_with_code : ℕ → IntArithmetic → ℕ → ℕ → ℕ → List Step
 combined_with_code bank name rs w rt =
     get_register bank rs ∷ push_word w ∷ arithmetic name ∷ put_register bank rt ∷ []
 
 -- a sum or an or: of register 0 it is the word, and of the word 0 a move
-abbrev pub joined_with_code : List Bool → IntArithmetic → ℕ → ℕ → ℕ → List Step
+abbrev pub joined_with_code : ℕ → IntArithmetic → ℕ → ℕ → ℕ → List Step
 joined_with_code bank name rs w rt =
     if rs == 0 then set_code bank w rt
     else if w == 0 then moved_code bank rs rt else combined_with_code bank name rs w rt
 
-abbrev pub addi_code : List Bool → ℕ → ℕ → ℕ → ℕ → ℕ → List Step
+abbrev pub addi_code : ℕ → ℕ → ℕ → ℕ → ℕ → ℕ → List Step
 addi_code bank rs w rt at word =
     get_register bank rs ∷ push_word w ∷ arithmetic Iadd
     ∷ Does (instructions.Stack Dup) ∷ get_register bank rs ∷ arithmetic Ixor
     ∷ Does (instructions.Stack Swap) ∷ Does (instructions.Stack DupX1) ∷ push_word w ∷ arithmetic Ixor
     ∷ overflow_code bank rt at word
 
-abbrev pub slti_code : List Bool → ℕ → ℕ → ℕ → List Step
+abbrev pub slti_code : ℕ → ℕ → ℕ → ℕ → List Step
 slti_code bank rs w rt = get_register bank rs ∷ push_word w ∷ chosen_code bank IfIcmplt rt
 
 -- SLTIU: 0 alone is below 1
-abbrev pub sltiu_code : List Bool → ℕ → ℕ → ℕ → List Step
+abbrev pub sltiu_code : ℕ → ℕ → ℕ → ℕ → List Step
 sltiu_code bank rs w rt =
     if w == 1 then get_register bank rs ∷ chosen_code bank Ifeq rt
     else get_turned bank rs ++ push_word (turned w) ∷ chosen_code bank IfIcmplt rt
 
-abbrev pub arithmetic_immediate_code : List Bool → ArithmeticImmediateName → ℕ → ℕ → ℕ → ℕ → ℕ → List Step
+abbrev pub arithmetic_immediate_code : ℕ → ArithmeticImmediateName → ℕ → ℕ → ℕ → ℕ → ℕ → List Step
 arithmetic_immediate_code bank Addi rs rt imm at word = addi_code bank rs (extended_imm imm) rt at word
 arithmetic_immediate_code bank Addiu rs rt imm at word = joined_with_code bank Iadd rs (extended_imm imm) rt
 arithmetic_immediate_code bank Slti rs rt imm at word = slti_code bank rs (extended_imm imm) rt
 arithmetic_immediate_code bank Sltiu rs rt imm at word = sltiu_code bank rs (extended_imm imm) rt
 
-abbrev pub logical_immediate_code : List Bool → LogicalImmediateName → ℕ → ℕ → ℕ → List Step
+abbrev pub logical_immediate_code : ℕ → LogicalImmediateName → ℕ → ℕ → ℕ → List Step
 logical_immediate_code bank Andi rs rt imm = combined_with_code bank Iand rs imm rt
 logical_immediate_code bank Ori rs rt imm = joined_with_code bank Ior rs imm rt
 logical_immediate_code bank Xori rs rt imm = combined_with_code bank Ixor rs imm rt
 
-abbrev pub load_upper_code : List Bool → ℕ → ℕ → List Step
+abbrev pub load_upper_code : ℕ → ℕ → ℕ → List Step
 load_upper_code bank rt imm = set_code bank (imm * 2 ^ 16) rt

@@ -1,5 +1,5 @@
 -- Code that ends the run in a fault, and the code of traps.
-use Rattle.std.specs.Prelude.{ℕ, Bool, List, [], ◌∷◌, ◌++◌}
+use Rattle.std.specs.Prelude.{ℕ, List, [], ◌∷◌, ◌++◌}
 use Rattle.jvm_code.specs.declared.names.branch_name.BranchName.{BranchName}
 use Rattle.jvm_code.specs.declared.names.branch_name.BranchName.TheVariants.{IfIcmpeq, IfIcmpne, IfIcmplt, IfIcmpge}
 use Rattle.jvm_program.specs.declared.instruction.Instruction.TheVariants.{FaultHost}
@@ -22,18 +22,18 @@ unless_code passes at word = Skips passes 4 ∷ fault_code trap_fault at word
 
 -- what is pushed to be compared
 
-abbrev pub pushed_pair : List Bool → ℕ → ℕ → List Step
+abbrev pub pushed_pair : ℕ → ℕ → ℕ → List Step
 pushed_pair bank rs rt = get_register bank rs ∷ get_register bank rt ∷ []
 
-abbrev pub turned_pair : List Bool → ℕ → ℕ → List Step
+abbrev pub turned_pair : ℕ → ℕ → ℕ → List Step
 turned_pair bank rs rt = get_turned bank rs ++ get_turned bank rt
 
-abbrev pub compared : List Bool → TrapName → ℕ → ℕ → List Step
+abbrev pub compared : ℕ → TrapName → ℕ → ℕ → List Step
 compared bank Tgeu rs rt = turned_pair bank rs rt
 compared bank Tltu rs rt = turned_pair bank rs rt
 compared bank name rs rt = pushed_pair bank rs rt
 
-abbrev pub compared_with : List Bool → TrapImmediateName → ℕ → ℕ → List Step
+abbrev pub compared_with : ℕ → TrapImmediateName → ℕ → ℕ → List Step
 compared_with bank Tgeiu rs w = get_turned bank rs ++ push_word (turned w) ∷ []
 compared_with bank Tltiu rs w = get_turned bank rs ++ push_word (turned w) ∷ []
 compared_with bank name rs w = get_register bank rs ∷ push_word w ∷ []
@@ -56,9 +56,9 @@ passing_immediate Tltiu = IfIcmpge
 passing_immediate Teqi = IfIcmpne
 passing_immediate Tnei = IfIcmpeq
 
-abbrev pub trap_code : List Bool → TrapName → ℕ → ℕ → ℕ → ℕ → List Step
+abbrev pub trap_code : ℕ → TrapName → ℕ → ℕ → ℕ → ℕ → List Step
 trap_code bank name rs rt at word = compared bank name rs rt ++ unless_code (passing name) at word
 
 -- of rs and a word
-abbrev pub trap_with_code : List Bool → TrapImmediateName → ℕ → ℕ → ℕ → ℕ → List Step
+abbrev pub trap_with_code : ℕ → TrapImmediateName → ℕ → ℕ → ℕ → ℕ → List Step
 trap_with_code bank name rs w at word = compared_with bank name rs w ++ unless_code (passing_immediate name) at word

@@ -1,5 +1,5 @@
 -- The code of each unit, at its address.
-use Rattle.std.specs.Prelude.{ℕ, ◌+◌, ◌%◌, ◌^◌, Bool, List, [], ◌∷◌}
+use Rattle.std.specs.Prelude.{ℕ, ◌+◌, ◌%◌, ◌^◌, List, [], ◌∷◌}
 use Rattle.jvm_program.specs.declared.instruction.Instruction.TheVariants.{Nop}
 use Rattle.mips_decode.specs.Effect.{fetch_fault, break_fault, reserved_fault, branch_in_slot_fault}
 use Rattle.mips_decode.specs.Encoding.{word_of}
@@ -16,7 +16,7 @@ use Rattle.guest_code.specs.Accessing.{load_code, store_code, load_linked_code, 
 use Rattle.guest_code.specs.Branching.{transfer_code}
 
 -- an instruction that is no branch and no jump, at an address, alone or in a delay slot
-abbrev pub instruction_code : List Bool → Inst → ℕ → List Step
+abbrev pub instruction_code : ℕ → Inst → ℕ → List Step
 instruction_code bank (inst.Arithmetic name rs rt rd) at = arithmetic_code bank name rs rt rd at (word_of (inst.Arithmetic name rs rt rd))
 instruction_code bank (inst.VariableShift name rs rt rd) at = variable_shift_code bank name rs rt rd
 instruction_code bank (inst.Shift name rt rd sa) at = shift_code bank name rt rd sa
@@ -44,7 +44,7 @@ abbrev pub next_address : ℕ → ℕ
 next_address at = (at + 4) % 2 ^ 32
 
 -- A branch whose slot is missing or wrong faults there, unless it is a likely one and is not taken.
-abbrev pub unit_code : List Bool → Unit → ℕ → List Step
+abbrev pub unit_code : ℕ → Unit → ℕ → List Step
 unit_code bank (Plain i) at = instruction_code bank i at
 unit_code bank (Branch i slot) at = transfer_code bank i at (instruction_code bank slot (next_address at))
 unit_code bank (SlotMissing i) at = transfer_code bank i at (fault_code fetch_fault (next_address at) (next_address at))

@@ -1,4 +1,4 @@
-ghost use Rattle.std.specs.Prelude.{◌≡◌, false, List, replicate};
+ghost use Rattle.std.specs.Prelude.{◌≡◌};
 ghost use Rattle.guest_code.specs.Access.{keeps};
 
 use std::marker::Model;
@@ -6,16 +6,16 @@ use std::marker::Model;
 /// Which of the guest's registers code keeps in local variables: register r in local variable r. Every other register is in its
 /// field of the main class. Local variable 0 is free, since register 0 is nowhere.
 ///
-/// A contract sees it as the list of 32 truth values.
+/// A contract sees it as the set of these registers, by its bits.
 #[derive(Drop)]
 pub struct Bank {
-    kept: [bool; 32],
+    kept: u64,
 }
 
 impl Model for Bank {
-    ghost use Rattle.std.specs.Prelude.{Bool, List};
+    ghost use Rattle.std.specs.Prelude.{ℕ};
 
-    ghost Value = { List Bool };
+    ghost Value = { ℕ };
 
     ghost view = { λ bank. bank.kept };
 }
@@ -23,13 +23,13 @@ impl Model for Bank {
 impl Bank {
     /// Every register is in its field.
     pub fn cold() -> Bank
-        ensures { result ≡ replicate 32 false }
+        ensures { result ≡ 0 }
     {
-        Bank { kept: [false; 32] }
+        Bank { kept: 0 }
     }
 
-    /// The registers that are kept are these.
-    pub fn keeping(kept: [bool; 32]) -> Bank
+    /// The registers of a set are kept: bit r is register r. Other bits mean nothing.
+    pub fn keeping(kept: u64) -> Bank
         ensures { result ≡ kept }
     {
         Bank { kept }
@@ -39,6 +39,6 @@ impl Bank {
     pub fn keeps(&self, r: u8) -> bool
         ensures { result ≡ keeps self.now r }
     {
-        self.kept.get(r as usize).copied().unwrap_or(false)
+        r < 32 && self.kept >> r & 1 == 1
     }
 }

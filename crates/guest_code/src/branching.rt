@@ -1,5 +1,5 @@
 //! The code of branches and jumps, with the code of their delay slots.
-ghost use Rattle.std.specs.Prelude.{◌≡◌, ◌++◌, ◌<◌, ◌≤◌, ◌^◌, OnOk, List, ℕ, Bool, length};
+ghost use Rattle.std.specs.Prelude.{◌≡◌, ◌++◌, ◌<◌, ◌≤◌, ◌^◌, OnOk, ℕ, length};
 ghost use Rattle.guest_code.specs.Branching as emitted;
 
 use crate::NoMemory;
@@ -156,7 +156,7 @@ fn append_link(bank: &Bank, link: Option<u8>, at: u32, code: &mut Vec<Step>) -> 
 }
 
 fn link_steps(link: Option<u8>) -> u32
-    ensures value { (bank : List Bool) (at : ℕ) → result ≡ length (emitted.link_code bank link at) }
+    ensures value { (bank at : ℕ) → result ≡ length (emitted.link_code bank link at) }
     ensures few { result ≤ 2 }
 {
     if link.is_some() { 2 } else { 0 }

@@ -1,0 +1,143 @@
+//! Where code goes behind a unit.
+ghost use Rattle.std.specs.Prelude.{◌≡◌, ◌++◌, OnOk};
+ghost use Rattle.word_emitter.specs.Exits as emitted;
+
+use crate::NoMemory;
+use crate::extent::Extent;
+use crate::registers::is_likely;
+use code_steps::Step;
+use delay_slots::Unit;
+use guest_code::{fields, push_word, put_field};
+use jvm_code::{BranchName, ReturnName};
+use jvm_program::{Instruction, LocalKind};
+use mips_decode::{Inst, branch_target, jump_target};
+
+/// Appends the code behind that of a unit at an address, in the method of a span. `behind` is the address whose code is directly behind,
+/// where there is one. A step that leaves names the address of a word of the span.
+///
+/// # Errors
+/// Want of memory for the code.
+pub fn append_exit(
+    span: Extent,
+    behind: Option<u32>,
+    unit: &Unit,
+    at: u32,
+    code: &mut Vec<Step>,
+) -> Result<(), NoMemory>
+    ensures { OnOk result (code.new.items ≡ code.old.items ++ emitted.exit_code span behind unit.now at) }
+{
+    match *unit {
+        Unit::Plain(_) | Unit::Call => append_next(span, behind, at.wrapping_add(4), code),
+        Unit::Branch { inst, .. } => append_branch(span, behind, &inst, at, code),
+        Unit::SlotMissing(inst) | Unit::SlotIsBranch { inst, .. } if is_likely(&inst) => {
+            append_last(span, behind, at.wrapping_add(8), code)
+        }
+        Unit::SlotMissing(_) | Unit::SlotIsBranch { .. } | Unit::Trap { .. } => Ok(code.push(
+            returns(),
+        )?),
+    }
+}
+
+fn append_branch(
+    span: Extent,
+    behind: Option<u32>,
+    inst: &Inst,
+    at: u32,
+    code: &mut Vec<Step>,
+) -> Result<(), NoMemory>
+    ensures { OnOk result (code.new.items ≡ code.old.items ++ emitted.branch_exit span behind inst.now at) }
+{
+    match *inst {
+        Inst::BranchSign { imm, .. }
+        | Inst::BranchEqual { imm, .. }
+        | Inst::BranchZero { imm, .. } => {
+            append_two(
+                span,
+                behind,
+                branch_target(at, imm),
+                at.wrapping_add(8),
+                code,
+            )
+        }
+        Inst::Jump { index, .. } => append_last(span, behind, jump_target(at, index), code),
+        _ => Ok(code.push(returns())?),
+    }
+}
+
+// Local variable 0 has one of two goals.
+fn append_two(
+    span: Extent,
+    behind: Option<u32>,
+    first: u32,
+    second: u32,
+    code: &mut Vec<Step>,
+) -> Result<(), NoMemory>
+    ensures { OnOk result (code.new.items ≡ code.old.items ++ emitted.two_ways span behind first second) }
+{
+    if span.has(first) || span.has(second) {
+        code.push(Step::Does(Instruction::Load(LocalKind::Int, 0)))?;
+        code.push(push_word(first))?;
+        code.push(Step::Skips(BranchName::IfIcmpne, 1))?;
+        code.push(arrive(span, first))?;
+        append_last(span, behind, second, code)
+    } else {
+        code.push(returns())?;
+        Ok(())
+    }
+}
+
+// The goal is known.
+fn append_last(
+    span: Extent,
+    behind: Option<u32>,
+    goal: u32,
+    code: &mut Vec<Step>,
+) -> Result<(), NoMemory>
+    ensures { OnOk result (code.new.items ≡ code.old.items ++ emitted.last_way span behind goal) }
+{
+    if behind == Some(goal) {
+        Ok(())
+    } else {
+        code.push(arrive(span, goal))?;
+        Ok(())
+    }
+}
+
+fn arrive(span: Extent, goal: u32) -> Step
+    ensures { result ≡ emitted.arrive span goal }
+{
+    if span.has(goal) {
+        Step::Leaves(goal)
+    } else {
+        returns()
+    }
+}
+
+// The next word follows. Field pc is set where that is outside.
+fn append_next(
+    span: Extent,
+    behind: Option<u32>,
+    next: u32,
+    code: &mut Vec<Step>,
+) -> Result<(), NoMemory>
+    ensures { OnOk result (code.new.items ≡ code.old.items ++ emitted.next_exit span behind next) }
+{
+    if behind == Some(next) {
+        Ok(())
+    } else if span.has(next) {
+        code.push(Step::Leaves(next))?;
+        Ok(())
+    } else {
+        code.push(push_word(next))?;
+        code.push(put_field(fields::PC))?;
+        code.push(returns())?;
+        Ok(())
+    }
+}
+
+// The method ends, and field pc says where the guest goes.
+fn returns() -> Step
+    ensures { result ≡ emitted.returns }
+{
+    Step::Does(Instruction::Return(ReturnName::Return))
+}

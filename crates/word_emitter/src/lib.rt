@@ -1,0 +1,15 @@
+//! The code of the words of a span: warm code of whole pieces over local variables, and where code goes on behind a unit.
+#![tactic(auto)]
+
+mod exits;
+mod extent;
+mod pieces;
+mod registers;
+
+pub use block_builder::direct;
+pub use exits::append_exit;
+pub use extent::Extent;
+pub use pieces::append_warm;
+
+/// Want of memory, the one error of what appends code.
+pub type NoMemory = std::alloc::AllocError;
