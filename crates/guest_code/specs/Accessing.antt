@@ -5,7 +5,7 @@ use Rattle.jvm_program.specs.declared.kind.Kind.TheVariants as kinds
 use Rattle.jvm_program.specs.declared.instruction.Instruction.TheVariants.{Call, CallHost, Get}
 use Rattle.mips_decode.specs.Targets.{extended_imm}
 use Rattle.mips_decode.specs.declared.names.load_name.LoadName.{LoadName}
-use Rattle.mips_decode.specs.declared.names.load_name.LoadName.TheVariants.{Lb, Lh, Lwl, Lw, Lbu, Lhu, Lwr}
+use Rattle.mips_decode.specs.declared.names.load_name.LoadName.TheVariants.{Lwl, Lwr}
 use Rattle.mips_decode.specs.declared.names.store_name.StoreName.{StoreName}
 use Rattle.code_steps.specs.declared.step.Step.{Step}
 use Rattle.code_steps.specs.declared.step.Step.TheVariants.{Does}

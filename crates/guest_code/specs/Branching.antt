@@ -1,5 +1,5 @@
 -- The code of branches and jumps. Where the guest goes is put into field pc and local variable 0 before the code of the delay slot.
-use Rattle.std.specs.Prelude.{ℕ, ◌+◌, ◌%◌, ◌^◌, Bool, true, false, if◌then◌else◌, List, [], ◌∷◌, ◌++◌, length, Option, Some, None}
+use Rattle.std.specs.Prelude.{ℕ, ◌+◌, ◌%◌, ◌^◌, Bool, if◌then◌else◌, List, [], ◌∷◌, ◌++◌, length, Option, Some, None}
 use Rattle.jvm_code.specs.declared.names.stack_name.StackName.TheVariants.{Dup}
 use Rattle.jvm_code.specs.declared.names.branch_name.BranchName.{BranchName}
 use Rattle.jvm_code.specs.declared.names.branch_name.BranchName.TheVariants.{Iflt, Ifge, Ifgt, Ifle, IfIcmpeq, IfIcmpne, Goto}

@@ -3,3 +3,4 @@ pub mod Loads
 pub mod Stores
 pub mod Products
 pub mod Methods
+pub mod Assembled

@@ -4,7 +4,7 @@ use Rattle.std.specs.Prelude.{ℕ, ◌+◌, ◌==◌, if◌then◌else◌, List,
 use Rattle.nv_words.specs.declared.order.Order.{Order}
 use Rattle.nv_words.specs.declared.order.Order.TheVariants.{Big, Little}
 use Rattle.jvm_code.specs.declared.names.array_name.ArrayName.TheVariants.{Aaload}
-use Rattle.jvm_code.specs.declared.names.int_arithmetic.IntArithmetic.TheVariants.{Iadd, Iand, Ior, Ixor}
+use Rattle.jvm_code.specs.declared.names.int_arithmetic.IntArithmetic.TheVariants.{Iand, Ior, Ixor}
 use Rattle.jvm_code.specs.declared.names.int_shift.IntShift.{IntShift}
 use Rattle.jvm_code.specs.declared.names.int_shift.IntShift.TheVariants.{Ishl, Iushr}
 use Rattle.jvm_code.specs.declared.names.stack_name.StackName.{StackName}

@@ -1,5 +1,5 @@
 -- The helper methods that store: the word is local variable 0, the address 1 and the instruction's own address 2.
-use Rattle.std.specs.Prelude.{ℕ, List, [], ◌∷◌, ◌++◌, length, ◌+◌}
+use Rattle.std.specs.Prelude.{ℕ, List, [], ◌∷◌, ◌++◌, length}
 use Rattle.nv_words.specs.declared.order.Order.{Order}
 use Rattle.nv_words.specs.declared.order.Order.TheVariants.{Big, Little}
 use Rattle.jvm_code.specs.declared.names.array_name.ArrayName.TheVariants.{Iaload, Iastore}

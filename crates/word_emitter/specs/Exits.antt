@@ -1,6 +1,6 @@
 -- Where code goes behind a unit, inside the method of a span. A step that leaves names the address of a word of the span, whose code is
 -- found once all code is laid down.
-use Rattle.std.specs.Prelude.{ℕ, ◌+◌, ◌%◌, ◌^◌, Bool, ◌&&◌, ◌||◌, false, ◌==◌, nat_le, nat_lt, if◌then◌else◌, List, [], ◌∷◌, ◌++◌, Option, Some, None}
+use Rattle.std.specs.Prelude.{ℕ, ◌%◌, Bool, ◌&&◌, ◌||◌, false, ◌==◌, nat_le, nat_lt, if◌then◌else◌, List, [], ◌∷◌, Option, Some, None}
 use Rattle.jvm_code.specs.declared.names.branch_name.BranchName.TheVariants.{IfIcmpne}
 use Rattle.jvm_code.specs.declared.names.return_name.ReturnName.TheVariants as return_names
 use Rattle.jvm_program.specs.declared.local_kind.LocalKind.TheVariants as local_kinds

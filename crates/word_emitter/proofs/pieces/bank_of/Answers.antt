@@ -1,4 +1,4 @@
-use Rattle.std.proofs.Common.{◌≡◌, ◌+◌, ◌∙◌, arith, drop, length}
+use Rattle.std.proofs.Common.{◌+◌, ◌∙◌, arith, drop}
 use Rattle.std.specs.Prelude.{bit_or}
 use Rattle.std.specs.List.{flat_map}
 use Rattle.block_builder.specs.Registers.{register_set, unit_reads, unit_writes}
