@@ -33,8 +33,8 @@ pub fn append_choice(starts: &[Start], code: &mut Vec<Step>) -> Result<(), NoMem
     Ok(())
 }
 
-// The address in local variable 0 is not below a start: that many of the following steps are passed over.
-fn append_reached(first: u32, over: u32, code: &mut Vec<Step>) -> Result<(), NoMemory>
+/// The address in local variable 0 is not below a start: that many of the following steps are passed over.
+pub fn append_reached(first: u32, over: u32, code: &mut Vec<Step>) -> Result<(), NoMemory>
     ensures { OnOk result (code.new.items ≡ code.old.items ++ emitted.reached_code first over) }
 {
     code.push(Step::Does(Instruction::Load(LocalKind::Int, 0)))?;
@@ -43,7 +43,9 @@ fn append_reached(first: u32, over: u32, code: &mut Vec<Step>) -> Result<(), NoM
     Ok(())
 }
 
-fn append_tree(starts: &[Start], code: &mut Vec<Step>) -> Result<(), NoMemory>
+/// The tree of the starts, over the address in local variable 0: the method of the last start that is not above it is called, or that of
+/// the first one where all are.
+pub fn append_tree(starts: &[Start], code: &mut Vec<Step>) -> Result<(), NoMemory>
     requires few { length starts.now ≤ 2048 }
     ensures { OnOk result (code.new.items ≡ code.old.items ++ emitted.tree starts.now) }
 {
@@ -60,8 +62,8 @@ fn append_tree(starts: &[Start], code: &mut Vec<Step>) -> Result<(), NoMemory>
     }
 }
 
-// Where the part of the first start begins.
-fn first_of(starts: &[Start]) -> u32
+/// Where the part of the first start begins.
+pub fn first_of(starts: &[Start]) -> u32
     ensures { result ≡ emitted.first_of starts.now }
 {
     match starts.first() {

@@ -1,0 +1,66 @@
+-- The methods that choose by the address at which the guest stands, which is in field pc. Each is the code of a whole method of no
+-- arguments. Addresses are compared as signed ints, so code stands below address 80000000 (hexadecimal).
+use Rattle.std.specs.Prelude.{ℕ, List, [], ◌∷◌, ◌++◌}
+use Rattle.jvm_code.specs.declared.names.branch_name.BranchName.TheVariants.{Ifne, IfIcmplt, Goto}
+use Rattle.jvm_code.specs.declared.names.int_arithmetic.IntArithmetic.TheVariants.{Iand}
+use Rattle.jvm_code.specs.declared.names.return_name.ReturnName.TheVariants as return_names
+use Rattle.jvm_program.specs.declared.local_kind.LocalKind.TheVariants as local_kinds
+use Rattle.jvm_program.specs.declared.instruction.Instruction.TheVariants as instructions
+use Rattle.jvm_program.specs.declared.instruction.Instruction.TheVariants.{Load, Store, Call, FaultHost}
+use Rattle.mips_decode.specs.Effect.{fetch_fault, pc_align_fault}
+use Rattle.code_steps.specs.declared.step.Step.{Step}
+use Rattle.code_steps.specs.declared.step.Step.TheVariants.{Does, Skips, Leaves}
+use Rattle.guest_match.specs.Match.{pc_field}
+use Rattle.guest_code.specs.Access.{push_word, get_field, arithmetic}
+use Rattle.trampoline.specs.declared.start.Start.{Start}
+use Rattle.trampoline.specs.Trees.{reached_code, first_of, tree}
+
+-- ---- parts. The address is kept in local variable 0.
+
+abbrev pub load_address : Step
+load_address = Does (Load local_kinds.Int 0)
+
+abbrev pub returns : Step
+returns = Does (instructions.Return return_names.Return)
+
+-- the guest's address is put into local variable 0
+abbrev pub address_code : List Step
+address_code = get_field pc_field ∷ Does (Store local_kinds.Int 0) ∷ []
+
+-- the address has one of its two low bits set: that many of the following steps are passed over
+abbrev pub unaligned_code : ℕ → List Step
+unaligned_code over = load_address ∷ push_word 3 ∷ arithmetic Iand ∷ Skips Ifne over ∷ []
+
+-- the address is below another one: that many of the following steps are passed over
+abbrev pub below_code : ℕ → ℕ → List Step
+below_code bound over = load_address ∷ push_word bound ∷ Skips IfIcmplt over ∷ []
+
+-- a method is called by the tree, and the method that chooses is begun anew
+abbrev pub chosen_code : List Start → List Step
+chosen_code starts = tree starts ++ Leaves 0 ∷ []
+
+-- ---- methods
+
+-- It returns where the address is unaligned, or is not among the addresses from first to before end; else the tree is followed.
+abbrev pub within_code : ℕ → ℕ → List Step
+within_code first end = unaligned_code 6 ++ below_code first 3 ++ below_code end 1 ++ returns ∷ []
+
+-- The chooser of a class of code: as long as the guest stands at one of the class's words, that word's method is called.
+abbrev pub class_chooser : List Start → ℕ → ℕ → List Step
+class_chooser starts first end = address_code ++ within_code first end ++ chosen_code starts
+
+-- where the address is unaligned or below all starts, a method is called, and the method that chooses is begun anew
+abbrev pub strayed_code : ℕ → ℕ → List Step
+strayed_code first missing = unaligned_code 3 ++ reached_code first 2 ++ Does (Call missing) ∷ Leaves 0 ∷ []
+
+-- The chooser of the whole program, which never returns: a method for addresses outside all code is called where the address is
+-- unaligned or below all starts; else the tree is followed.
+abbrev pub main_chooser : List Start → ℕ → List Step
+main_chooser starts missing = address_code ++ strayed_code (first_of starts) missing ++ chosen_code starts
+
+-- The method for addresses outside all code. The run ends as the guest's does there: in the fault of an unaligned pc where one of the
+-- two low bits is set, and else in that of a fetch. The fault's value is the address too.
+abbrev pub missing_code : List Step
+missing_code =
+    address_code ++ unaligned_code 2 ++ push_word fetch_fault ∷ Skips Goto 1 ∷ push_word pc_align_fault
+    ∷ load_address ∷ load_address ∷ Does FaultHost ∷ returns ∷ []
