@@ -1,0 +1,5 @@
+pub mod Parts
+pub mod Pages
+pub mod Words
+pub mod Filling
+pub mod Starting
