@@ -1,5 +1,5 @@
--- The method that puts words into a page, whose arguments are an array of ints, if there is one, and a text. The text has five characters of 7 bits for each
--- word, most significant first, of the 35 bits that are three zeros and the word.
+-- The method that puts words into a page, whose arguments are an array of ints, if there is one, and a text. The text has five characters
+-- of 7 bits for each word, most significant first, of the 35 bits that are three zeros and the word.
 use Rattle.std.specs.Prelude.{ℕ, List, [], ◌∷◌, ◌++◌, length}
 use Rattle.jvm_code.specs.declared.names.array_name.ArrayName.TheVariants.{Iastore}
 use Rattle.jvm_code.specs.declared.names.branch_name.BranchName.TheVariants.{Ifnull}

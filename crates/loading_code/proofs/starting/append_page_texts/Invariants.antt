@@ -6,4 +6,5 @@ use Rattle.loading_code.proofs.starting.append_page_texts.Given as goal
 -- the code so far, and that of the texts that are left
 abbrev pub invariant-loop-slot : goal.invariant-loop-slot
 invariant-loop-slot l =
-    l.code.items ++ page_texts_code l.class l.pages (drop l.slot-index l.page_texts) ≡ l.fn.code.items ++ page_texts_code l.class l.pages l.page_texts
+    l.code.items ++ page_texts_code l.class l.pages (drop l.slot-index l.page_texts)
+    ≡ l.fn.code.items ++ page_texts_code l.class l.pages l.page_texts
