@@ -1,0 +1,3 @@
+pub mod ClassNames
+pub mod Fields
+pub mod Helpers
