@@ -66,7 +66,7 @@ find_here test a n lt passes =
 
 -- ---- what holds of each block
 
-has_words : (u : Unit) → 0 < words_of u
+pub has_words : (u : Unit) → 0 < words_of u
 has_words (unit.Plain i) = omega arith
 has_words (unit.Branch i slot) = omega arith
 has_words (unit.SlotMissing i) = omega arith
@@ -152,7 +152,7 @@ block_is_straight units leads first lt k ge behind =
       ]
     ]
 
-block_is_piece : (units : List Unit) (leads : ℕ → Bool) (first : ℕ) → AreUnits units → first < length units → IsPiece units (block_from units leads first)
+pub block_is_piece : (units : List Unit) (leads : ℕ → Bool) (first : ℕ) → AreUnits units → first < length units → IsPiece units (block_from units leads first)
 block_is_piece units leads first known lt = record {
   within = block_fits units leads first known lt;
   straight = block_is_straight units leads first lt;

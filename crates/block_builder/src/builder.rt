@@ -4,7 +4,7 @@ ghost use Rattle.block_builder.specs.Blocks as blocks;
 ghost use Rattle.block_builder.specs.Blocks.{AreUnits, IsPiece};
 
 use crate::block::Block;
-use crate::leaders::leaders;
+use crate::leaders::leader_flags;
 use crate::registers::{unit_reads, unit_writes};
 use crate::targets::{is_plain, words_of};
 use delay_slots::Unit;
@@ -33,7 +33,7 @@ pub fn blocks(alloc: Global, units: &[Unit], start: u32) -> Result<Vec<Block>, N
     ensures pieces { IfOk result (λ found. All (IsPiece units.now) found.items) }
     ensures some_words { IfOk result (λ found. All (λ b. 0 < b.words) found.items) }
 {
-    let leaders = leaders(alloc, units, start)?;
+    let leaders = leader_flags(alloc, units, start)?;
     let flags = leaders.as_slice();
     let mut found = Vec::new(alloc);
     for first in 0..units.len() {
@@ -59,8 +59,8 @@ pub fn part(units: &[Unit], block: &Block, first: u32, words: u32) -> Block
     words_from(units, first, words)
 }
 
-/// So many words from one on, with the registers that their units read and write.
-fn words_from(units: &[Unit], first: u32, words: u32) -> Block
+/// So many words of the range from one on, with the registers that their units read and write.
+pub fn words_from(units: &[Unit], first: u32, words: u32) -> Block
     requires { first + words ≤ length units.now }
     ensures { result ≡ blocks.part_of units.now first words }
 {
@@ -109,7 +109,7 @@ fn end_of(units: &[Unit], leaders: &[bool], first: usize) -> usize
 }
 
 /// Whether a block ends with the unit of a word: it is not Plain, or it is the range's last, or a leader follows.
-fn ends(units: &[Unit], leaders: &[bool], word: usize) -> bool
+pub fn ends(units: &[Unit], leaders: &[bool], word: usize) -> bool
     requires same_len { length leaders.now ≡ length units.now }
     requires within { word < length units.now }
     ensures { result ≡ blocks.ends units.now (λ k. slice_index_or leaders.now k false) word }

@@ -6,8 +6,13 @@ use crate::targets::{direct, is_plain, words_of};
 use delay_slots::Unit;
 use std::alloc::{AllocError, Global};
 
-/// Which words of the range, which begins at the address `start`, are leaders.
-pub(crate) fn leaders(alloc: Global, units: &[Unit], start: u32) -> Result<Vec<bool>, AllocError>
+/// Which words of one whole range of code are leaders, by its units: the first word, each direct target within the range, the word behind
+/// the delay slot of a branch or jump that has one, and the word behind any other unit that is not `Plain`. `start` is the address of the
+/// range's first word, a multiple of 4.
+///
+/// # Errors
+/// Want of memory for the flags, one for each word.
+pub fn leader_flags(alloc: Global, units: &[Unit], start: u32) -> Result<Vec<bool>, AllocError>
     requires aligned { start % 4 ≡ 0 }
     requires below_end { start + 4 * length units.now < 2 ^ 32 }
     ensures { IfOk result (λ flags. AreLeaders units.now start flags.items) }

@@ -9,7 +9,8 @@ mod registers;
 mod targets;
 
 pub use block::Block;
-pub use builder::{NoMemory, blocks, part};
+pub use builder::{NoMemory, blocks, ends, part, words_from};
 pub use laws::{instructions_keep_to_their_registers, register_sets_have_their_bits};
+pub use leaders::leader_flags;
 pub use registers::{read_by, unit_reads, unit_writes, written_by};
-pub use targets::direct;
+pub use targets::{direct, is_plain, words_of};

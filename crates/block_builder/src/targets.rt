@@ -32,14 +32,14 @@ fn inst_target(inst: Inst, at: u32) -> Option<u32>
 }
 
 /// Whether the program goes on with the next word after the unit's instruction.
-pub(crate) fn is_plain(unit: &Unit) -> bool
+pub fn is_plain(unit: &Unit) -> bool
     ensures { result ≡ leaders.is_plain unit.now }
 {
     matches!(*unit, Unit::Plain(_))
 }
 
 /// How many words a unit has: its own, and that of its delay slot.
-pub(crate) fn words_of(unit: &Unit) -> usize
+pub fn words_of(unit: &Unit) -> usize
     ensures { result ≡ leaders.words_of unit.now }
 {
     match *unit {

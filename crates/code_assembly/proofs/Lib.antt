@@ -5,3 +5,8 @@ pub mod Forms
 pub mod Pushes
 pub mod Placed
 pub mod Spelled
+pub mod StartLemmas
+pub mod FitLemmas
+pub mod SizeLemmas
+pub mod Standing
+pub mod JoinLemmas

@@ -19,16 +19,21 @@ bytes-suc (x ∷ code) (suc i) s h is =
     let e : bytes_before code (suc i) ≡ bytes_before code i + width s = bytes-suc code i s less is in
     omega arith
 
+bytes-nil : (k : ℕ) → bytes_before [] k ≡ 0
+bytes-nil zero = refl
+bytes-nil (suc k) = refl
+
+pub bytes-all : (code : List Step) (i : ℕ) → length code ≤ i → bytes_before code i ≡ size code
+bytes-all [] i h = bytes-nil i
+bytes-all (s ∷ code) zero h = absurd (omega (arith, h))
+bytes-all (s ∷ code) (suc i) h = ap (λ n. width s + n) (bytes-all code i (omega arith))
+
 -- the step that is next ends within the code
 pub next-within : (code : List Step) (i : ℕ) (s : Step) → i < length code → s ≡ get_or code i s → bytes_before code i + width s ≤ size code
 next-within code i s h is =
     let next : bytes_before code (suc i) ≡ bytes_before code i + width s = bytes-suc code i s h is in
     let low : bytes_before code (suc i) ≤ size code = bytes-le code (suc i) in
     omega arith
-
-bytes-nil : (k : ℕ) → bytes_before [] k ≡ 0
-bytes-nil zero = refl
-bytes-nil (suc k) = refl
 
 pub bytes-split : (code : List Step) (i k : ℕ) → bytes_before code (i + k) ≡ bytes_before code i + bytes_before (drop i code) k
 bytes-split code zero k = ap (bytes_before code) (zero-add k) ∙ sym (zero-add (bytes_before code k))

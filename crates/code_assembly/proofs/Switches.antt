@@ -1,5 +1,5 @@
 -- Switches as operations: they can be spelled, and where they need no padding they are as long as their steps.
-use Rattle.std.proofs.Common.{◌≡◌, ℕ, zero, suc, ◌+◌, ◌-◌, ◌*◌, ◌%◌, ◌^◌, ◌<◌, ◌&&◌, nat_lt, Bool, true, ℤ, pos, negsuc, ◌+ℤ◌, ◌-ℤ◌, List, [], ◌∷◌, length, replicate, refl, ap, sym, ◌∙◌, lt-ltb, ltb-true, arith}
+use Rattle.std.proofs.Common.{◌≡◌, ℕ, zero, suc, ◌+◌, ◌-◌, ◌*◌, ◌%◌, ◌^◌, ◌<◌, ◌&&◌, nat_lt, Bool, true, false, ℤ, pos, negsuc, ◌+ℤ◌, ◌-ℤ◌, List, [], ◌∷◌, length, replicate, get_or, refl, ap, sym, ◌∙◌, lt-ltb, le-ltb, ltb-true, SFits, arith}
 use Rattle.std.specs.Int.{w32, cast_unsigned}
 use Rattle.std.specs.List.{list_all}
 use Rattle.std.specs.Cmp.Derive.{both_true}
@@ -63,3 +63,35 @@ switch-fits at s can =
 
 pub switch-wide : (at : ℕ) (s : TableSwitch) → needs_no_padding at (Selects s) ≡ true → size_at at (ops.TableSwitch s) ≡ width (Selects s)
 switch-wide at s placed = ap (λ n. (13 + (3 - n)) + 4 * length s.targets) (eqb-true (at % 4) 3 placed)
+
+-- ---- which switches have operations
+
+in-range : (z : ℤ) → SFits w32 z → fits_signed w32 z ≡ true
+in-range (pos n) f = lt-ltb n (2 ^ 31) f.sfits
+in-range (negsuc n) f = lt-ltb n (2 ^ 31) f.sfits
+
+all-low : (targets : List ℕ) → ((i : ℕ) → get_or targets i 0 < 2 ^ 32) → list_all (λ target. nat_lt target (2 ^ 32)) targets ≡ true
+all-low [] low = refl
+all-low (target ∷ targets) low =
+    let first : target < 2 ^ 32 = low 0 in
+    both_true (lt-ltb target (2 ^ 32) first) (all-low targets (λ i. low (suc i)))
+
+module _ (default : ℕ) (low : ℤ) (targets : List ℕ) where
+  pub has-form : default < 2 ^ 32 → SFits w32 low → ((i : ℕ) → get_or targets i 0 < 2 ^ 32) → 0 < length targets → fits_signed w32 ((low +ℤ pos (length targets)) -ℤ pos 1) ≡ switch_has_operation (record { default = default; low = low; targets = targets })
+  has-form small range all some =
+      let first : nat_lt 0 (length targets) ≡ true = lt-ltb 0 (length targets) some in
+      let second : fits_signed w32 low ≡ true = in-range low range in
+      let third : nat_lt default (2 ^ 32) ≡ true = lt-ltb default (2 ^ 32) small in
+      let fourth : list_all (λ target. nat_lt target (2 ^ 32)) targets ≡ true = all-low targets all in
+      let last = fits_signed w32 ((low +ℤ pos (length targets)) -ℤ pos 1) in
+      so last ∙ sym (λ i. ((first i && second i) && last) && (third i && fourth i))
+    where
+      so : (b : Bool) → b ≡ (b && true)
+      so true = refl
+      so false = refl
+
+  pub has-no-form : length targets ≡ 0 → false ≡ switch_has_operation (record { default = default; low = low; targets = targets })
+  has-no-form none =
+      let last = fits_signed w32 ((low +ℤ pos (length targets)) -ℤ pos 1) in
+      let first : nat_lt 0 (length targets) ≡ false = le-ltb 0 (length targets) (omega (arith, none)) in
+      sym (ap (λ b. ((b && fits_signed w32 low) && last) && list_all (λ target. nat_lt target (2 ^ 32)) (default ∷ targets)) first)

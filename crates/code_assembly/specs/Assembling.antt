@@ -1,11 +1,13 @@
 -- Code as operations of a class file: which code can be made into them, what it takes of the pool, when a class knows what it names,
 -- and where the operations stand.
-use Rattle.std.specs.Prelude.{◌≡◌, ℕ, ◌+◌, ◌-◌, ◌%◌, ◌^◌, pos, negsuc, ◌&&◌, ◌||◌, ◌==◌, nat_lt, nat_le, Bool, true, false, if◌then◌else◌, List, [], ◌∷◌, ◌++◌, map, length, slice_index, Option, Some, None, is_some, IfSome}
-use Rattle.std.specs.List.{list_all}
+use Rattle.std.specs.Prelude.{◌≡◌, ℕ, ◌+◌, ◌-◌, ◌%◌, ◌^◌, pos, negsuc, ◌&&◌, ◌||◌, ◌==◌, nat_lt, nat_le, Bool, true, false, if◌then◌else◌, List, [], ◌∷◌, ◌++◌, map, length, slice_index, Option, Some, None, is_some, IfSome, IsTrue}
+use Rattle.std.specs.List.{list_all, list_any}
 use Rattle.std.specs.Int.{w32}
 use Rattle.nv_words.specs.Words.{signed_of}
-use Rattle.class_format.specs.Format.{fits_signed}
+use Rattle.class_format.specs.Format.{fits_signed, chain_fits}
 use Rattle.constant_pool.specs.declared.entry.Entry.{Entry}
+use Rattle.constant_pool.specs.declared.entry.Entry.TheVariants as entries
+use Rattle.constant_pool.specs.Entries.{slot, is_long}
 use Rattle.jvm_code.specs.declared.class.Class.{Class}
 use Rattle.jvm_code.specs.declared.line.Line.{Line}
 use Rattle.jvm_code.specs.declared.op.Op.{Op}
@@ -55,10 +57,14 @@ switch_has_operation s =
     nat_lt 0 (length s.targets) && fits_signed w32 s.low && fits_signed w32 (last_key s)
     && list_all (λ target. nat_lt target (2 ^ 32)) (s.default ∷ s.targets)
 
--- the same of a step with others behind it: a branch goes to the end of these at most, by an offset of 16 bits with its sign
+-- a branch over so many of the steps behind it goes to the end of these at most, by an offset of 16 bits with its sign
+abbrev pub reaches : List Step → ℕ → Bool
+reaches others k = nat_le k (length others) && nat_lt (3 + bytes_before others k) (2 ^ 15)
+
+-- the same of a step with others behind it
 abbrev pub step_has_operation : References → Step → List Step → Bool
 step_has_operation r (Does instruction) others = has_operation r instruction
-step_has_operation r (Skips name k) others = nat_le k (length others) && nat_lt (3 + bytes_before others k) (2 ^ 15)
+step_has_operation r (Skips name k) others = reaches others k
 step_has_operation r (Leaves target) others = true
 step_has_operation r (Selects s) others = switch_has_operation s
 
@@ -110,6 +116,30 @@ slots_of (s ∷ code) = step_slots s + slots_of code
 pub record Extends (old new : List Entry) : Type 0 where
   pub behind : List Entry
   pub is : new ≡ old ++ behind
+
+-- a step pushes the text in a slot
+abbrev pub pushes_text : ℕ → Step → Bool
+pushes_text slot (Does (instructions.Push (constants.Text class text))) = text == slot
+pushes_text slot _ = false
+
+-- what code may put behind a pool: numbers, and the texts that it pushes
+abbrev pub is_constant_of : List Step → Entry → Bool
+is_constant_of code (entries.Integer n) = true
+is_constant_of code (entries.Long n) = true
+is_constant_of code entries.LongRest = true
+is_constant_of code (entries.Text slot) = list_any (pushes_text slot) code
+is_constant_of code _ = false
+
+-- entries that can stand in a class file, one after the other: each number has its width, and a long has the slot behind it
+abbrev pub can_stand : List Entry → Bool
+can_stand es = chain_fits slot (λ _ e. is_long e) false es
+
+-- a pool is another one with constants of code behind
+pub record Adds (code : List Step) (old new : List Entry) : Type 0 where
+  pub behind : List Entry
+  pub is : new ≡ old ++ behind
+  pub constants : IsTrue (list_all (is_constant_of code) behind)
+  pub stand : IsTrue (can_stand behind)
 
 -- ---- a class in which it stands, with its number among classes; its method gives an int or nothing
 

@@ -1,5 +1,6 @@
 -- The operations of instructions and steps, one by one.
-use Rattle.std.specs.Prelude.{◌≡◌, ℕ, ◌+◌, ◌^◌, ◌<◌, ◌==◌, nat_lt, Bool, true, false, if◌then◌else◌, List, slice_index, Option, Some, None}
+use Rattle.std.specs.Prelude.{◌≡◌, ℕ, suc, ◌+◌, ◌^◌, ◌<◌, ◌&&◌, ◌==◌, nat_lt, Bool, true, false, if◌then◌else◌, List, [], ◌∷◌, length, slice_index, Option, Some, None, is_some}
+use Rattle.std.specs.List.{list_all}
 use Rattle.nv_words.specs.Words.{signed_of}
 use Rattle.constant_pool.specs.declared.entry.Entry.{Entry}
 use Rattle.constant_pool.specs.Slots.{IsAt}
@@ -18,13 +19,14 @@ use Rattle.jvm_program.specs.declared.local_kind.LocalKind.{LocalKind}
 use Rattle.jvm_program.specs.declared.local_kind.LocalKind.TheVariants.{Int, Reference}
 use Rattle.jvm_program.specs.declared.instruction.Instruction.{Instruction}
 use Rattle.jvm_program.specs.declared.instruction.Instruction.TheVariants as instructions
-use Rattle.jvm_program.specs.Program.{targets_of}
+use Rattle.jvm_program.specs.Program.{line_in, targets_of}
 use Rattle.jvm_link.specs.Linking.{linked_instruction}
 use Rattle.code_steps.specs.declared.step.Step.{Step}
 use Rattle.code_steps.specs.declared.step.Step.TheVariants.{Does, Skips, Leaves, Selects}
-use Rattle.code_steps.specs.Widths.{instruction_width}
+use Rattle.code_steps.specs.Widths.{instruction_width, width, bytes_before}
+use Rattle.code_steps.specs.Placing.{laid}
 use Rattle.code_assembly.specs.declared.references.References.{References}
-use Rattle.code_assembly.specs.Assembling.{Extends, IsKnown, has_operation, reference_of}
+use Rattle.code_assembly.specs.Assembling.{Extends, IsKnown, has_operation, switch_has_operation, step_has_operation, needs_no_padding, reference_of}
 
 -- ---- what an operation of an instruction is
 
@@ -104,3 +106,32 @@ operation_of r (instructions.Return name) = ops.Give name
 operation_of r (instructions.NewArray Ints) = ops.Newarray
 operation_of r instructions.ArrayLength = ops.Arraylength
 operation_of r instruction = pool_operation (reference_of r instruction)
+
+-- ---- code that can be assembled into a method
+
+-- the offset behind each step
+pub record AreEnds (code : List Step) (ends : List ℕ) : Type 0 where
+  pub len : length ends ≡ length code
+  pub each : (k : ℕ) → k < length code → slice_index ends k ≡ bytes_before code (suc k)
+
+-- a step stands at an offset
+abbrev pub is_start : List Step → ℕ → Bool
+is_start code target = is_some (line_in (laid 0 code) target)
+
+-- a step of code at an offset, with others behind it: it has an operation, needs no padding, and its targets are steps' offsets
+abbrev pub step_fits : References → List Step → ℕ → Step → List Step → Bool
+step_fits r code at (Does instruction) others = has_operation r instruction
+step_fits r code at (Skips name k) others =
+    step_has_operation r (Skips name k) others && is_start code (at + 3 + bytes_before others k)
+step_fits r code at (Leaves target) others = is_start code target
+step_fits r code at (Selects s) others =
+    needs_no_padding at (Selects s) && switch_has_operation s && list_all (is_start code) (s.default ∷ s.targets)
+
+-- the first of steps
+abbrev pub first_fits : References → List Step → ℕ → List Step → Bool
+first_fits r code at [] = true
+first_fits r code at (s ∷ others) = step_fits r code at s others
+
+abbrev pub steps_fit : References → List Step → ℕ → List Step → Bool
+steps_fit r code at [] = true
+steps_fit r code at (s ∷ others) = step_fits r code at s others && steps_fit r code (at + width s) others

@@ -3,7 +3,7 @@ ghost use Rattle.std.specs.Prelude.{◌≡◌, ◌+◌, ◌<◌, ◌≤◌, leng
 ghost use Rattle.constant_pool.specs.declared.error.PoolError.TheVariants.{Full};
 ghost use Rattle.jvm_code.specs.Writing.{AreCode};
 ghost use Rattle.code_steps.specs.Widths.{width, size};
-ghost use Rattle.code_assembly.specs.Assembling.{can_be_assembled, slots_of, Extends, AreLinked, lines_at, line_size, lines_size, is_method};
+ghost use Rattle.code_assembly.specs.Assembling.{can_be_assembled, slots_of, Extends, Adds, AreLinked, lines_at, line_size, lines_size, is_method};
 
 use crate::ends::ends_of;
 use crate::references::References;
@@ -42,6 +42,7 @@ pub fn assemble(
     ensures method { IfOk result (λ ops. IsTrue (is_method code.now) → AreCode (lines_at 0 ops.items)) }
 
     ensures kept { Extends pool.old pool.new }
+    ensures added { Adds code.now pool.old pool.new }
     ensures few { length pool.new ≤ length pool.old + slots_of code.now }
     ensures full { result ≡ Err Full → 65534 < length pool.old + slots_of code.now }
 {

@@ -1,13 +1,16 @@
 //! Instructions that push constants (JVM Specification, 2.11.2).
-ghost use Rattle.std.specs.Prelude.{◌≡◌, ℕ, pos, negsuc, ◌+◌, ◌<◌, ◌≤◌, false, IsTrue, length, IfOk, Err};
+ghost use Rattle.std.specs.Prelude.{◌≡◌, ℕ, pos, negsuc, ◌+◌, ◌<◌, ◌≤◌, true, false, IsTrue, List, [], ◌∷◌, length, IfOk, Err};
+ghost use Rattle.std.specs.List.{list_all};
 ghost use Rattle.nv_words.specs.Words.{unsigned_of};
 ghost use Rattle.constant_pool.specs.Slots.{is_rest, slots_of_entry};
 ghost use Rattle.constant_pool.specs.declared.error.PoolError.TheVariants.{Full};
 ghost use Rattle.jvm_program.specs.declared.instruction.Instruction.TheVariants.{Push};
 ghost use Rattle.jvm_link.specs.Linking.{iconst_word};
+ghost use Rattle.code_steps.specs.declared.step.Step.{Step};
+ghost use Rattle.code_steps.specs.declared.step.Step.TheVariants.{Does};
 ghost use Rattle.code_steps.specs.Widths.{lies_from};
 ghost use Rattle.code_assembly.specs.declared.references.References.{References};
-ghost use Rattle.code_assembly.specs.Assembling.{constant_slots, Extends};
+ghost use Rattle.code_assembly.specs.Assembling.{constant_slots, Extends, Adds, can_stand, is_constant_of};
 ghost use Rattle.code_assembly.specs.Operations.{IsOperation, IsInSlot};
 
 use crate::widths::lies_from;
@@ -20,6 +23,7 @@ use nv_words::signed;
 pub fn push(constant: Constant, pool: &mut Pool) -> Result<Op, PoolError>
     ensures op { IfOk result (λ op. (r : References) → IsOperation r pool.new (Push constant) op) }
     ensures kept { Extends pool.old pool.new }
+    ensures added { Adds (Does (Push constant) ∷ []) pool.old pool.new }
     ensures few { length pool.new ≤ length pool.old + constant_slots constant }
     ensures full { result ≡ Err Full → 65534 < length pool.old + constant_slots constant }
 {
@@ -34,6 +38,7 @@ pub fn push(constant: Constant, pool: &mut Pool) -> Result<Op, PoolError>
 fn push_int(word: u32, pool: &mut Pool) -> Result<Op, PoolError>
     ensures op { IfOk result (λ op. (r : References) → IsOperation r pool.new (Push (Constant.Int word)) op) }
     ensures kept { Extends pool.old pool.new }
+    ensures added { Adds (Does (Push (Constant.Int word)) ∷ []) pool.old pool.new }
     ensures few { length pool.new ≤ length pool.old + constant_slots (Constant.Int word) }
     ensures full { result ≡ Err Full → 65534 < length pool.old + constant_slots (Constant.Int word) }
 {
@@ -66,9 +71,11 @@ fn iconst(n: i32) -> Iconst
 
 // An instruction with the slot of an entry.
 fn in_slot(name: PoolName, entry: Entry, pool: &mut Pool) -> Result<Op, PoolError>
-    requires { is_rest entry ≡ false }
+    requires rest { is_rest entry ≡ false }
+    requires stands { can_stand (slots_of_entry entry) ≡ true }
     ensures op { IfOk result (IsInSlot pool.new name entry) }
     ensures kept { Extends pool.old pool.new }
+    ensures added { (code : List Step) → IsTrue (list_all (is_constant_of code) (slots_of_entry entry)) → Adds code pool.old pool.new }
     ensures few { length pool.new ≤ length pool.old + length (slots_of_entry entry) }
     ensures full { result ≡ Err Full → 65534 < length pool.old + length (slots_of_entry entry) }
 {

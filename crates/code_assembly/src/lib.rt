@@ -4,15 +4,22 @@
 
 mod assembly;
 mod constants;
+mod eligible;
 mod ends;
+mod fitting;
 mod instructions;
+pub mod laws;
 mod locals;
 mod methods;
 mod references;
+mod sizes;
+mod starts;
 mod steps;
 mod widths;
 
 pub use assembly::assemble;
+pub use fitting::is_code;
 pub use methods::method_code;
 pub use references::References;
+pub use sizes::code_size;
 pub use widths::width;

@@ -5,7 +5,7 @@ ghost use Rattle.jvm_code.specs.Code.{code_fault};
 ghost use Rattle.jvm_code.specs.Writing.{AreLaid, AreCode};
 ghost use Rattle.jvm_link.specs.Linking as linking;
 ghost use Rattle.code_steps.specs.Widths as widths;
-ghost use Rattle.code_assembly.specs.Assembling.{can_be_assembled, is_method, slots_of, Extends, AreLinked, lines_at, lines_size};
+ghost use Rattle.code_assembly.specs.Assembling.{can_be_assembled, is_method, slots_of, Extends, Adds, AreLinked, lines_at, lines_size};
 
 use crate::assembly::assemble;
 use crate::references::References;
@@ -39,6 +39,7 @@ pub fn method_code(
     ensures sound { IfOk result (λ bytes. code_fault bytes.items ≡ None) }
 
     ensures kept { Extends pool.old pool.new }
+    ensures added { Adds code.now pool.old pool.new }
     ensures few { length pool.new ≤ length pool.old + slots_of code.now }
     ensures full { result ≡ Err Full → 65534 < length pool.old + slots_of code.now }
 {

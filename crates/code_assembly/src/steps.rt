@@ -1,7 +1,8 @@
 //! Steps.
-ghost use Rattle.std.specs.Prelude.{◌≡◌, ◌+◌, ◌<◌, ◌≤◌, length, IfOk, IsTrue, Err};
+ghost use Rattle.std.specs.Prelude.{◌≡◌, ◌+◌, ◌<◌, ◌≤◌, [], ◌∷◌, length, IfOk, IsTrue, Err};
 ghost use Rattle.constant_pool.specs.declared.error.PoolError.TheVariants.{Full};
-ghost use Rattle.code_assembly.specs.Assembling.{has_operation, instruction_slots, step_slots, Extends};
+ghost use Rattle.code_steps.specs.declared.step.Step.TheVariants.{Does};
+ghost use Rattle.code_assembly.specs.Assembling.{has_operation, instruction_slots, step_slots, Extends, Adds};
 ghost use Rattle.code_assembly.specs.Operations.{IsOperation, IsStepOperation, has_operation_at};
 
 use crate::constants::push;
@@ -26,6 +27,7 @@ pub fn step_operation(
     requires { IsTrue (has_operation_at references.now (length ends.now) i step.now) }
     ensures op { IfOk result (IsStepOperation references.now pool.new ends.now i step.now) }
     ensures kept { Extends pool.old pool.new }
+    ensures added { Adds (step.now ∷ []) pool.old pool.new }
     ensures few { length pool.new ≤ length pool.old + step_slots step.now }
     ensures full { result ≡ Err Full → 65534 < length pool.old + step_slots step.now }
 {
@@ -50,6 +52,7 @@ fn instruction_operation(
     requires { IsTrue (has_operation references.now instruction.now) }
     ensures op { IfOk result (IsOperation references.now pool.new instruction.now) }
     ensures kept { Extends pool.old pool.new }
+    ensures added { Adds (Does instruction.now ∷ []) pool.old pool.new }
     ensures few { length pool.new ≤ length pool.old + instruction_slots instruction.now }
     ensures full { result ≡ Err Full → 65534 < length pool.old + instruction_slots instruction.now }
 {

@@ -20,7 +20,7 @@ pub fn width(step: &Step) -> u32
     }
 }
 
-fn instruction_width(instruction: &Instruction) -> u32
+pub(crate) fn instruction_width(instruction: &Instruction) -> u32
     ensures { result ≡ widths.instruction_width instruction.now }
 {
     match instruction {

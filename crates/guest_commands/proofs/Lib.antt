@@ -1,4 +1,3 @@
 pub mod ListingLemmas
-pub mod ListedLemmas
 pub mod AssemblyLemmas
-pub mod InterpLemmas
+pub mod ImagingLemmas

@@ -1,4 +1,4 @@
-pub mod Refusals
+pub mod Imaging
 pub mod Listing
 pub mod Assembly
 pub mod Interp

@@ -1,18 +1,17 @@
 -- The listing of a program: a line for each word of its code.
-use Rattle.std.specs.Prelude.{ℕ, zero, suc, ◌+◌, ◌%◌, ◌^◌, ◌≡◌, ◌++◌, List, [], ◌∷◌, Option, Some, None, codes}
+use Rattle.std.specs.Prelude.{ℕ, zero, suc, ◌+◌, ◌%◌, ◌^◌, ◌≡◌, ◌++◌, List, [], ◌∷◌, Option, codes}
 use Rattle.std.specs.Option.{option_map_or}
-use Rattle.nv_faults.specs.declared.elf_fault.ElfFault.{ElfFault}
+use Rattle.command_words.specs.declared.pages.Pages.{Pages}
 use Rattle.elf_reader.specs.declared.range.Range.{Range}
 use Rattle.elf_reader.specs.Area.{area}
-use Rattle.elf_reader.specs.Fault.{elf_fault, IsRunsOf}
-use Rattle.nv_faults.specs.declared.image_fault.ImageFault.{ImageFault}
-use Rattle.elf_image.specs.Refusals.{image_fault}
+use Rattle.elf_reader.specs.Fault.{IsRunsOf}
 use Rattle.elf_image.specs.Start.{Source, image_of}
 use Rattle.mips_decode.specs.Table.{inst}
 use Rattle.mips_decode.specs.Text.{text_of}
-use Rattle.command_deeds.specs.declared.done.Done.TheVariants.{Good, NoInput, ElfRefused, ImageRefused}
-use Rattle.command_deeds.specs.Deeds.{Due, prints, answers}
+use Rattle.command_deeds.specs.declared.done.Done.TheVariants.{Good}
+use Rattle.command_deeds.specs.Deeds.{Due, prints}
 use Rattle.command_deeds.specs.Line.{hex_word, joined}
+use Rattle.guest_commands.specs.Imaging.{IsDueOfProgram}
 
 -- the columns of a line: an address, a word, and a text
 abbrev pub columns : ℕ → ℕ → List ℕ → List ℕ
@@ -36,32 +35,18 @@ abbrev pub runs_lines : (ℕ → Option ℕ) → List Range → List ℕ
 runs_lines code [] = []
 runs_lines code (run ∷ runs) = run_lines code run.first run.words ++ runs_lines code runs
 
--- a file's program with 256 pages of heap and 64 of stack
-abbrev pub source : List ℕ → Source
-source file = record { file = file; heap = 256; stack = 64 }
-
 -- a listing of such runs is printed
 abbrev pub listed : (ℕ → Option ℕ) → List Range → Due
 listed code runs = record { deeds = prints (runs_lines code runs) ∷ []; answer = Good }
 
--- what is to be done with a program whose code has these maximal runs, by the first check that its image fails
-abbrev pub due_by : Option ImageFault → List ℕ → List Range → Due
-due_by None file runs = listed (image_of (source file)).code runs
-due_by (Some f) file runs = answers (ImageRefused f)
+-- a line for each word of a program's code, by the maximal runs of the code in rising order of addresses
+abbrev pub IsDueOfListing : Source → Due → Type 0
+IsDueOfListing source due = (runs : List Range) × IsRunsOf (area source.file) runs × (due ≡ listed (image_of source).code runs)
 
-abbrev pub due_of_runs : List ℕ → List Range → Due
-due_of_runs file runs = due_by (image_fault file runs 256 64) file runs
+-- the sizes of the memory of a program that is listed
+abbrev pub listed_pages : Pages
+listed_pages = record { heap = 256; stack = 64 }
 
--- what is to be done with a file, by the first check that it fails
-abbrev pub IsDueBy : Option ElfFault → List ℕ → Due → Type 0
-IsDueBy None file due = (runs : List Range) × IsRunsOf (area file) runs × (due ≡ due_of_runs file runs)
-IsDueBy (Some f) file due = due ≡ answers (ElfRefused f)
-
-abbrev pub IsDueOfListed : List ℕ → Due → Type 0
-IsDueOfListed file due = IsDueBy (elf_fault file) file due
-
--- What `list` is to do, given the file that a word names, if it is there: a line for each word of its code, by the maximal runs of
--- the code in rising order of addresses.
+-- what `list` is to do, given the file that a word names, if it is there
 abbrev pub IsDueOfList : ℕ → Option (List ℕ) → Due → Type 0
-IsDueOfList word None due = due ≡ answers (NoInput word)
-IsDueOfList word (Some file) due = IsDueOfListed file due
+IsDueOfList word found due = IsDueOfProgram word listed_pages IsDueOfListing found due

@@ -1,7 +1,7 @@
 use command_words::Pages;
 use machine_launch::Launch;
 
-/// A guest that is to be run on the reference machine.
+/// A guest that is to be run, on the reference machine or as the classes that it becomes.
 #[derive(Debug, Drop)]
 pub struct Guest<'a> {
     /// The number of the word that names its file.

@@ -1,30 +1,28 @@
-ghost use Rattle.std.specs.Prelude.{◌≡◌, ◌⊎◌, Option, None, OnOk, OnErr, IfErr, IfOk, IfSome, List, ℕ, false, is_err};
+ghost use Rattle.std.specs.Prelude.{◌≡◌, ◌⊎◌, Option, OnOk, OnErr, IfErr, IfOk, IfSome, List, ℕ, false, is_err};
 ghost use Rattle.std.specs.Io.KnownBytes.{Appends};
-ghost use Rattle.elf_reader.specs.Area.{area};
-ghost use Rattle.elf_reader.specs.Fault.{elf_fault, IsRunsOf};
-ghost use Rattle.elf_reader.specs.Header.{header_of};
-ghost use Rattle.elf_reader.specs.Segments.{live};
 ghost use Rattle.elf_image.specs.Start.{image_of};
 ghost use Rattle.nv_outside.specs.Faults.{CountsFailure};
 ghost use Rattle.nv_outside.specs.Files.{Files};
 ghost use Rattle.nv_outside.specs.Gains.{AppendsPart};
 ghost use Rattle.command_deeds.specs.Counts.{is_stop, read_stopped, shelf_stopped, write_stopped};
-ghost use Rattle.command_deeds.specs.Deeds.{Comes, Works, world};
-ghost use Rattle.guest_commands.specs.Listing.{IsDueOfList, IsDueOfListed, columns, due_of_runs, line_at, listed, run_lines, runs_lines, word_line};
+ghost use Rattle.command_deeds.specs.Deeds.{Comes, world};
+ghost use Rattle.guest_commands.specs.Listing.{IsDueOfList, IsDueOfListing, columns, line_at, run_lines, runs_lines, word_line};
 
-use crate::refusals::{refused_elf, refused_image};
-use command_deeds::{Done, Stop, hexadecimal, load, write_pieces};
-use elf_image::{Image, image};
-use elf_reader::{Elf, Range, read_elf};
+use crate::imaged::Imaged;
+use crate::imaging::load_image;
+use command_deeds::{Done, Stop, hexadecimal, write_pieces};
+use command_words::Pages;
+use elf_image::Image;
+use elf_reader::Range;
 use mips_decode::{decode, print_inst};
 use nv_outside::{Failed, Shelf, Sink};
 use std::alloc::Global;
 
-/// The pages of heap of a program that is listed.
-const HEAP_PAGES: u32 = 256;
-
-/// The pages of stack of a program that is listed.
-const STACK_PAGES: u32 = 64;
+/// The sizes of the memory of a program that is listed.
+const PAGES: Pages = Pages {
+    heap: 256,
+    stack: 64,
+};
 
 /// Loads a program, and writes a line for each word of its code.
 pub fn list<H: Shelf, O: Sink>(
@@ -40,58 +38,22 @@ pub fn list<H: Shelf, O: Sink>(
     ensures out_count { CountsFailure (write_stopped result) (O.faults out.old) (O.faults out.new) }
     ensures no_read { read_stopped result ≡ false }
 {
-    match load(alloc, shelf, name) {
-        Ok(Some(file)) => list_file(alloc, file.as_slice(), out),
-        Ok(None) => Ok(Done::NoInput(word)),
+    match load_image(alloc, word, name, PAGES, shelf) {
+        Ok(Imaged::Ready(image)) => list_image(alloc, &image, out),
+        Ok(Imaged::Refused(answer)) => Ok(answer),
         Err(stop) => Err(stop),
     }
 }
 
-/// Reads a program, and writes a line for each word of its code.
-fn list_file<O: Sink>(alloc: Global, file: &[u8], out: &mut O) -> Result<Done, Stop>
-    ensures comes { (files : Option Files) (rest err : Option (List ℕ)) → Comes (IsDueOfListed file.now) (world files rest (O.taken out.old) err) (world files rest (O.taken out.new) err) result }
+/// Writes a line for each word of the code of an image.
+fn list_image<O: Sink>(alloc: Global, image: &Image, out: &mut O) -> Result<Done, Stop>
+    ensures comes { (files : Option Files) (rest err : Option (List ℕ)) → Comes (IsDueOfListing image.now) (world files rest (O.taken out.old) err) (world files rest (O.taken out.new) err) result }
     ensures answer { IfOk result (λ d. is_stop d ≡ false) }
     ensures no_shelf { shelf_stopped result ≡ false }
     ensures out_count { CountsFailure (write_stopped result) (O.faults out.old) (O.faults out.new) }
     ensures no_read { read_stopped result ≡ false }
 {
-    match read_elf(alloc, file) {
-        Ok(elf) => list_elf(alloc, &elf, out),
-        Err(error) => refused_elf(error),
-    }
-}
-
-/// Makes the image of an accepted program, and writes a line for each word of its code.
-fn list_elf<O: Sink>(alloc: Global, elf: &Elf<'_>, out: &mut O) -> Result<Done, Stop>
-    requires accepted { elf_fault elf.now.file.now ≡ None }
-    requires entry { elf.now.entry ≡ (header_of elf.now.file.now).e_entry }
-    requires segments { elf.now.segments.items ≡ live elf.now.file.now }
-    requires code { IsRunsOf (area elf.now.file.now) elf.now.code.items }
-    ensures comes { (files : Option Files) (rest err : Option (List ℕ)) → Comes (λ due. due ≡ due_of_runs elf.now.file.now elf.now.code.items) (world files rest (O.taken out.old) err) (world files rest (O.taken out.new) err) result }
-    ensures answer { IfOk result (λ d. is_stop d ≡ false) }
-    ensures no_shelf { shelf_stopped result ≡ false }
-    ensures out_count { CountsFailure (write_stopped result) (O.faults out.old) (O.faults out.new) }
-    ensures no_read { read_stopped result ≡ false }
-{
-    match image(alloc, elf, HEAP_PAGES, STACK_PAGES) {
-        Ok(image) => list_image(alloc, &image, elf.code.as_slice(), out),
-        Err(error) => refused_image(error),
-    }
-}
-
-/// Writes a line for each word of the code of an image, given its runs.
-fn list_image<O: Sink>(
-    alloc: Global,
-    image: &Image,
-    runs: &[Range],
-    out: &mut O,
-) -> Result<Done, Stop>
-    ensures works { (files : Option Files) (rest err : Option (List ℕ)) → Works (listed (image_of image.now).code runs.now) (world files rest (O.taken out.old) err) (world files rest (O.taken out.new) err) result }
-    ensures answer { IfOk result (λ d. is_stop d ≡ false) }
-    ensures no_shelf { shelf_stopped result ≡ false }
-    ensures out_count { CountsFailure (write_stopped result) (O.faults out.old) (O.faults out.new) }
-    ensures no_read { read_stopped result ≡ false }
-{
+    let runs = image.ranges();
     match write_runs(alloc, image, runs, out) {
         Ok(()) => Ok(Done::Good),
         Err(stop) => Err(stop),

@@ -21,7 +21,7 @@ use Rattle.machine_launch.specs.declared.readied.Readied.{Readied}
 use Rattle.machine_launch.specs.declared.readied.Readied.TheVariants.{Ready, Refused}
 use Rattle.command_deeds.specs.Counts.{StreamCauses}
 use Rattle.command_deeds.specs.Deeds.{World, Due, plays, Works, Comes, world, answers}
-use Rattle.machine_launch.specs.Runs.{NamedFile, IsDueOfPlay, IsDueOfSession, IsDueByArgs, IsDueByFiles, arguments_of, found_for, played, session_run, kept_after, stop_of}
+use Rattle.machine_launch.specs.Runs.{NamedFile, IsDueOfSteps, IsDueOfSession, IsDueByArgs, IsDueByFiles, arguments_of, found_for, played, run_for, kept_after, stop_of}
 use Rattle.machine_launch.specs.Readying.{IsReadied}
 use Rattle.command_deeds.proofs.DeedLemmas.{same_files, stays_then_comes, answers_due, due_as, works_more}
 
@@ -61,10 +61,10 @@ fallen_works run old new F r r' o o' e e' ReadFault keep fell = inl (same_files 
 fallen_works run old new F r r' o o' e e' WriteFault keep fell = inl (same_files F, record { got = fell.got; lost = fell.consumed }, fell.wrote, fell.wrote_error, inr refl)
 
 -- a run that ended, from the start of its system, and the files kept then
-pub machine_plays : {S : Type 0} (turn : S → Turn S) (s now : S) (name : List ℕ) (session : Session) (moment : ℕ) (found : List NamedFile) (rest : List ℕ) (k : System) (old new : Held) (F F' : Option Files) (r r' o o' e e' : Option (List ℕ)) (outcome : Outcome) (ended : Result Done Stop) → k ≡ start session.disk moment found (arguments_of name session) rest → Plays (run_of turn reply session.steps s k) now (parts old r o e) (parts new r' o' e') outcome → length new.ahead ≤ 4096 → Works (kept_after outcome new.files session.keep.names) (world F r' o' e') (world F' r' o' e') ended → Comes (IsDueOfPlay turn s name session moment rest found) (world F r o e) (world F' r' o' e') ended
-machine_plays turn s now name session moment found rest k old new F F' r r' o o' e e' outcome ended system ran few works =
-    let run = session_run turn s name session moment rest found in
-    let whole : Plays run now (parts old r o e) (parts new r' o' e') outcome = subst (λ x. Plays (run_of turn reply session.steps s x) now (parts old r o e) (parts new r' o' e') outcome) system ran in
+pub machine_plays : {S : Type 0} (steps : ℕ) (turn : S → Turn S) (s now : S) (name : List ℕ) (session : Session) (moment : ℕ) (found : List NamedFile) (rest : List ℕ) (k : System) (old new : Held) (F F' : Option Files) (r r' o o' e e' : Option (List ℕ)) (outcome : Outcome) (ended : Result Done Stop) → k ≡ start session.disk moment found (arguments_of name session) rest → Plays (run_of turn reply steps s k) now (parts old r o e) (parts new r' o' e') outcome → length new.ahead ≤ 4096 → Works (kept_after outcome new.files session.keep.names) (world F r' o' e') (world F' r' o' e') ended → Comes (IsDueOfSteps steps turn s name session moment rest found) (world F r o e) (world F' r' o' e') ended
+machine_plays steps turn s now name session moment found rest k old new F F' r r' o o' e e' outcome ended system ran few works =
+    let run = run_for steps turn s name session moment rest found in
+    let whole : Plays run now (parts old r o e) (parts new r' o' e') outcome = subst (λ x. Plays (run_of turn reply steps s x) now (parts old r o e) (parts new r' o' e') outcome) system ran in
     inr (played run session.keep.names, refl, played_works run now old new F F' r r' o o' e e' outcome session.keep.names ended whole few works)
 
 -- no stream failed in the run, nor after it
@@ -72,8 +72,8 @@ pub no_causes : (old new : Counts) (ended : Result Done Stop) → new ≡ old �
 no_causes old new ended same causes = rw same (causes old)
 
 -- a run in which the outside failed
-pub machine_falls : {S : Type 0} (turn : S → Turn S) (s : S) (name : List ℕ) (session : Session) (moment : ℕ) (found : List NamedFile) (rest : List ℕ) (k : System) (old new : Held) (F : Option Files) (r r' o o' e e' : Option (List ℕ)) (fault : IoFault) (ended : Result Done Stop) → k ≡ start session.disk moment found (arguments_of name session) rest → Falls (run_of turn reply session.steps s k) (parts old r o e) (parts new r' o' e') → ended ≡ Err (stop_of fault) → Comes (IsDueOfPlay turn s name session moment rest found) (world F r o e) (world F r' o' e') ended
-machine_falls turn s name session moment found rest k old new F r r' o o' e e' fault ended system fell is =
-    let run = session_run turn s name session moment rest found in
-    let whole : Falls run (parts old r o e) (parts new r' o' e') = subst (λ x. Falls (run_of turn reply session.steps s x) (parts old r o e) (parts new r' o' e')) system fell in
+pub machine_falls : {S : Type 0} (steps : ℕ) (turn : S → Turn S) (s : S) (name : List ℕ) (session : Session) (moment : ℕ) (found : List NamedFile) (rest : List ℕ) (k : System) (old new : Held) (F : Option Files) (r r' o o' e e' : Option (List ℕ)) (fault : IoFault) (ended : Result Done Stop) → k ≡ start session.disk moment found (arguments_of name session) rest → Falls (run_of turn reply steps s k) (parts old r o e) (parts new r' o' e') → ended ≡ Err (stop_of fault) → Comes (IsDueOfSteps steps turn s name session moment rest found) (world F r o e) (world F r' o' e') ended
+machine_falls steps turn s name session moment found rest k old new F r r' o o' e e' fault ended system fell is =
+    let run = run_for steps turn s name session moment rest found in
+    let whole : Falls run (parts old r o e) (parts new r' o' e') = subst (λ x. Falls (run_of turn reply steps s x) (parts old r o e) (parts new r' o' e')) system fell in
     rw is (inr (played run session.keep.names, refl, fallen_works run old new F r r' o o' e e' fault session.keep.names whole))

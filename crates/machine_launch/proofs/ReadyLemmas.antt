@@ -272,13 +272,13 @@ session_few F word blocks moment texts names unix (Err (halt.Refused answer)) re
 session_few F word blocks moment texts names unix (Err (halt.Stopped stop)) result q e = rw e tt
 
 -- deeds after deeds
-deeds_then : (ds es : List Deed) (w u v : World) (r : Result (Unit {0}) Stop) → DoesAll ds w u → DoesOrStops es u v r → DoesOrStops (ds ++ es) w v r
+pub deeds_then : (ds es : List Deed) (w u v : World) (r : Result (Unit {0}) Stop) → DoesAll ds w u → DoesOrStops es u v r → DoesOrStops (ds ++ es) w v r
 deeds_then [] es w u v (Ok d) p q = (stays_then_works (record { deeds = es; answer = Done.Good }) w u v (Ok Done.Good) p (refl, q)).1
 deeds_then [] es w u v (Err stop) p q = stays_then_works (record { deeds = es; answer = Done.Good }) w u v (Err stop) p q
 deeds_then (deed ∷ ds) es w u v (Ok d) p q = (p.0, p.1, deeds_then ds es p.0 u v (Ok d) p.2 q)
 deeds_then (deed ∷ ds) es w u v (Err stop) p q = inr (p.0, p.1, deeds_then ds es p.0 u v (Err stop) p.2 q)
 
-deeds_known : (ds es : List Deed) (w v : World) (stop : Stop) → StopsIn ds w v stop → StopsIn (ds ++ es) w v stop
+pub deeds_known : (ds es : List Deed) (w v : World) (stop : Stop) → StopsIn ds w v stop → StopsIn (ds ++ es) w v stop
 deeds_known [] es w v stop p = absurd p
 deeds_known (deed ∷ ds) es w v stop (inl p) = inl p
 deeds_known (deed ∷ ds) es w v stop (inr p) = inr (p.0, p.1, deeds_known ds es p.0 v stop p.2)
@@ -294,7 +294,7 @@ keep_stopped files name (Some n) w = (inl (same_files w.files, refl), refl, refl
 pub keep_no_memory : (files : GuestFiles) (name : Text) (node : Option ℕ) (w : World) → StopsIn (keeps files name node ∷ []) w w Stop.NoMemory
 keep_no_memory files name node w = inl (keep_stopped files name node w)
 
-store_ends : (F F' : Option Files) (rest out err : Option (List ℕ)) (name bytes : List ℕ) (r : Result (Unit {0}) Stop) → MatchResult r (λ _. SetsFile F F' name bytes) (λ stop. StopsStore F F' name stop) → DoesOrStops (stores name bytes ∷ []) (world F rest out err) (world F' rest out err) r
+pub store_ends : (F F' : Option Files) (rest out err : Option (List ℕ)) (name bytes : List ℕ) (r : Result (Unit {0}) Stop) → MatchResult r (λ _. SetsFile F F' name bytes) (λ stop. StopsStore F F' name stop) → DoesOrStops (stores name bytes ∷ []) (world F rest out err) (world F' rest out err) r
 store_ends F F' rest out err name bytes (Ok d) p = (world F' rest out err, (p, refl, refl, refl), stays (world F' rest out err))
 store_ends F F' rest out err name bytes (Err stop) p = inl (p, refl, refl, refl)
 

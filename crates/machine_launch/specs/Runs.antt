@@ -79,13 +79,21 @@ played run keep = record {
   answer = answer_of run.outcome;
 }
 
--- the run of a machine from a state, with these options, over these files and this input
-abbrev pub session_run : {S : Type 0} → (S → Turn S) → S → Text → Session → ℕ → List ℕ → List NamedFile → Run S System
-session_run turn s name session moment input found =
-    run_of turn reply session.steps s (start session.disk moment found (arguments_of name session) input)
+-- the run of a machine from a state for so many steps, with these options, over these files and this input
+abbrev pub run_for : {S : Type 0} → ℕ → (S → Turn S) → S → Text → Session → ℕ → List ℕ → List NamedFile → Run S System
+run_for steps turn s name session moment input found =
+    run_of turn reply steps s (start session.disk moment found (arguments_of name session) input)
 
+abbrev pub IsDueOfSteps : {S : Type 0} → ℕ → (S → Turn S) → S → Text → Session → ℕ → List ℕ → List NamedFile → Due → Type 0
+IsDueOfSteps steps turn s name session moment input found due = due ≡ played (run_for steps turn s name session moment input found) session.keep.names
+
+-- a run for the steps of its session
 abbrev pub IsDueOfPlay : {S : Type 0} → (S → Turn S) → S → Text → Session → ℕ → List ℕ → List NamedFile → Due → Type 0
-IsDueOfPlay turn s name session moment input found due = due ≡ played (session_run turn s name session moment input found) session.keep.names
+IsDueOfPlay turn s name session moment input found due = IsDueOfSteps session.steps turn s name session moment input found due
+
+-- the run of a machine on a system of its own: with 1,024 blocks, without files and input, and with its name as the one argument
+abbrev pub run_alone : {S : Type 0} → ℕ → (S → Turn S) → S → Text → ℕ → Run S System
+run_alone steps turn s name moment = run_of turn reply steps s (start 1024 moment [] (name ∷ []) [])
 
 -- the arguments and the files, and then a run over them and some input
 abbrev pub IsDueByFiles : Result (List NamedFile) Done → (List NamedFile → Due → Type 0) → Due → Type 0

@@ -8,7 +8,7 @@ ghost use Rattle.unix_calls.specs.Serving.{counted};
 ghost use Rattle.unix_calls.specs.Starting.{Begins};
 ghost use Rattle.command_deeds.specs.Counts.{StreamCauses, is_stop, shelf_stopped};
 ghost use Rattle.command_deeds.specs.Deeds.{Comes, Works, world};
-ghost use Rattle.machine_launch.specs.Runs.{IsDueOfPlay, IsDueOfSession, NamedFile, arguments_of, kept_after};
+ghost use Rattle.machine_launch.specs.Runs.{IsDueOfPlay, IsDueOfSession, IsDueOfSteps, NamedFile, arguments_of, kept_after};
 ghost use Rattle.machine_launch.specs.Readying.{IsNoStop, IsReadied, ReadsFewAhead};
 
 use crate::keeping::keep;
@@ -69,15 +69,27 @@ fn play_readied<M: Machine + Drop, H: Shelf, S: Source, O: Sink, E: Sink>(
     ensures err_count { E.faults err.old ≤ E.faults err.new }
 {
     match readied {
-        Readied::Ready(unix) => play_over(alloc, launch, machine, unix, shelf, input, out, err),
+        Readied::Ready(unix) => play_for(
+            alloc,
+            launch,
+            launch.session.steps,
+            machine,
+            unix,
+            shelf,
+            input,
+            out,
+            err,
+        ),
         Readied::Refused(done) => Ok(done),
     }
 }
 
-/// Runs a machine over its system, and keeps files.
-fn play_over<M: Machine + Drop, H: Shelf, S: Source, O: Sink, E: Sink>(
+/// Runs a machine over its system for so many steps, whatever its session says of them, and keeps files. The system is the one that
+/// was made ready for this start.
+pub fn play_for<M: Machine + Drop, H: Shelf, S: Source, O: Sink, E: Sink>(
     alloc: Global,
     launch: &Launch<'_>,
+    steps: u64,
     machine: M,
     unix: Unix,
     shelf: &mut H,
@@ -87,7 +99,7 @@ fn play_over<M: Machine + Drop, H: Shelf, S: Source, O: Sink, E: Sink>(
 ) -> Result<Done, Stop>
     requires going { M.has_ended machine ≡ false }
     requires few { length unix.ahead ≤ 4096 }
-    ensures comes { (found : List NamedFile) (rest : List ℕ) → Begins unix launch.now.session.now.disk launch.now.moment found (arguments_of launch.now.name.now launch.now.session.now) → S.rest input.old ≡ Some rest → Comes (IsDueOfPlay M.turn (M.state machine) launch.now.name.now launch.now.session.now launch.now.moment rest found) (world (H.files shelf.old) (S.rest input.old) (O.taken out.old) (E.taken err.old)) (world (H.files shelf.new) (S.rest input.new) (O.taken out.new) (E.taken err.new)) result }
+    ensures comes { (found : List NamedFile) (rest : List ℕ) → Begins unix launch.now.session.now.disk launch.now.moment found (arguments_of launch.now.name.now launch.now.session.now) → S.rest input.old ≡ Some rest → Comes (IsDueOfSteps steps M.turn (M.state machine) launch.now.name.now launch.now.session.now launch.now.moment rest found) (world (H.files shelf.old) (S.rest input.old) (O.taken out.old) (E.taken err.old)) (world (H.files shelf.new) (S.rest input.new) (O.taken out.new) (E.taken err.new)) result }
     ensures answer { IfOk result (λ d. is_stop d ≡ false) }
     ensures count { CountsFailure (shelf_stopped result) (H.faults shelf.old) (H.faults shelf.new) }
     ensures causes { StreamCauses (counted (S.faults input.old) (O.faults out.old) (E.faults err.old)) (counted (S.faults input.new) (O.faults out.new) (E.faults err.new)) result }
@@ -96,14 +108,7 @@ fn play_over<M: Machine + Drop, H: Shelf, S: Source, O: Sink, E: Sink>(
     begins_at_start();
     let mut machine = machine;
     let mut unix = unix;
-    match play(
-        &mut machine,
-        launch.session.steps,
-        &mut unix,
-        input,
-        out,
-        err,
-    ) {
+    match play(&mut machine, steps, &mut unix, input, out, err) {
         Ok(outcome) => keep_after(alloc, launch, outcome, &unix, shelf),
         Err(fault) => stopped_by(fault),
     }

@@ -27,11 +27,6 @@ misused (words_error.Usage fault) ended words moment rest (Some files) w e ends 
     rw ends (answers_due (IsDue words moment files rest) (Done.Usage (usage_number fault)) w (subst (λ r. IsDueBy r moment files rest (answers (Done.Usage (usage_number fault)))) (sym (e fault refl)) refl))
 misused words_error.NoMemory ended words moment rest (Some files) w e ends = rw ends (stops_early (IsDue words moment files rest) w stop.NoMemory (inr refl))
 
--- a command that is not built
-pub unbuilt : (F : Option Files) (w : World) → IfSome F (λ files. Comes (λ due. due ≡ answers Done.NotBuilt) w w (Ok Done.NotBuilt))
-unbuilt None w = tt
-unbuilt (Some files) w = answers_due (λ due. due ≡ answers Done.NotBuilt) Done.NotBuilt w refl
-
 -- where input tells what it has left, that is known
 pub told_input : (told : Option (List ℕ)) (P : List ℕ → Type 0) → ((rest : List ℕ) → told ≡ Some rest → P rest) → IsSome told → P (unwrap_or told [])
 told_input None P h some = absurd (cc)

@@ -15,22 +15,27 @@ use Rattle.command_deeds.specs.Line.{line_of}
 use Rattle.nested_cli.specs.Usage.{usage_number}
 use Rattle.command_deeds.specs.Deeds.{World, Due, Comes, answers, done_of}
 use Rattle.guest_commands.specs.Listing.{IsDueOfList}
-use Rattle.nested_cli.specs.Straight.{IsDueOfGo}
 use Rattle.guest_commands.specs.Assembly.{IsDueOfAsm}
 use Rattle.guest_commands.specs.Interp.{IsDueOfInterp}
 use Rattle.class_commands.specs.Classes.{IsDueOfVerify, IsDueOfRun}
+use Rattle.translate_commands.specs.Go.{IsDueOfGo}
+use Rattle.translate_commands.specs.Make.{IsDueOfMake}
+use Rattle.translate_commands.specs.Translate.{IsDueOfTranslate}
 
 -- what a command is to do, at a moment, over these files and this input
 abbrev pub IsDueOf : Command → ℕ → Files → List ℕ → Due → Type 0
-IsDueOf (command.Go input name pages method_bytes session) moment files rest due = IsDueOfGo input.word (files input.text) due
-IsDueOf (command.Translate input name pages method_bytes) moment files rest due = due ≡ answers done.NotBuilt
+IsDueOf (command.Go input name pages method_bytes session) moment files rest due =
+    IsDueOfGo (record { word = input.word; name = name; pages = pages; session = session; moment = moment }) method_bytes files rest
+    (files input.text) due
+IsDueOf (command.Translate input name pages method_bytes) moment files rest due =
+    IsDueOfTranslate input.word name pages method_bytes (files input.text) due
 IsDueOf (command.Interp input name pages session) moment files rest due =
     IsDueOfInterp (record { word = input.word; name = name; pages = pages; session = session; moment = moment }) files rest (files input.text) due
 IsDueOf (command.Run name words session) moment files rest due = IsDueOfRun name.word name.text words session moment rest files due
 IsDueOf (command.Verify name) moment files rest due = IsDueOfVerify name.word name.text files due
 IsDueOf (command.Asm input output) moment files rest due = IsDueOfAsm input.word output (files input.text) due
 IsDueOf (command.List input) moment files rest due = IsDueOfList input.word (files input.text) due
-IsDueOf (command.Make count method_bytes) moment files rest due = due ≡ answers done.NotBuilt
+IsDueOf (command.Make count method_bytes) moment files rest due = IsDueOfMake count method_bytes moment due
 
 -- what the words ask for
 abbrev pub IsDueBy : Result Command Usage → ℕ → Files → List ℕ → Due → Type 0
@@ -42,6 +47,7 @@ IsDue words moment files rest due = IsDueBy (command_of words) moment files rest
 
 -- of a command that runs a guest or classes it is known what is due where input tells what it has left
 abbrev pub Known : Result Command Usage → Option (List ℕ) → Type 0
+Known (Ok (command.Go input name pages method_bytes session)) rest = IsSome rest
 Known (Ok (command.Interp input name pages session)) rest = IsSome rest
 Known (Ok (command.Run name words session)) rest = IsSome rest
 Known (Ok other) rest = ⊤

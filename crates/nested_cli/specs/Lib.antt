@@ -1,3 +1,2 @@
 pub mod Usage
-pub mod Straight
 pub mod Commands

@@ -1,7 +1,6 @@
 //! The commands of `nested`, over any shelf of files, source of input and sinks of output.
 #![tactic(auto)]
 
-mod go;
 mod misuse;
 mod program;
 

@@ -8,7 +8,6 @@ ghost use Rattle.nested_cli.specs.Commands.{Does, IsDue, IsDueOf, Known};
 ghost use Rattle.command_deeds.specs.Counts.{StreamCauses, is_stop, shelf_stopped};
 ghost use Rattle.command_deeds.specs.Deeds.{Comes, done_of, world};
 
-use crate::go::go;
 use crate::misuse::refused_words;
 use class_commands::{run, verify};
 use command_deeds::{Done, Stop, write_line};
@@ -17,12 +16,12 @@ use guest_commands::{Guest, asm, interp, list};
 use machine_launch::Launch;
 use nv_outside::{Failed, Shelf, Sink, Source};
 use std::alloc::Global;
+use translate_commands::{go, make, translate};
 
 /// The program: does what its words say, over a shelf of files, a source of input and sinks of output, and writes the answer's
 /// line to `err` last.
 ///
-/// `words` are the words after the program's name, and `moment` is the time, in seconds since 1970. So far six commands are built:
-/// `interp`, `list`, `asm`, `verify`, `run`, and `go` for straight programs.
+/// `words` are the words after the program's name, and `moment` is the time, in seconds since 1970.
 ///
 /// The answer is `WriteFault` where that last write failed, or a write to `out` or of the guest to `err`. Where a call of the outside
 /// failed, the answer is one of its faults: no failed call is passed over.
@@ -101,7 +100,44 @@ fn perform_command<H: Shelf, S: Source, O: Sink, E: Sink>(
     ensures err_count { E.faults err.old ≤ E.faults err.new }
 {
     match command {
-        Command::Go { input: file, .. } => go(alloc, file.word, file.text.as_str(), shelf),
+        Command::Go {
+            input: file,
+            name,
+            pages,
+            method_bytes,
+            session,
+        } => {
+            let guest = Guest {
+                word: file.word,
+                pages: *pages,
+                launch: Launch::new(name.as_str(), session, moment),
+            };
+            go(
+                alloc,
+                &guest,
+                *method_bytes,
+                file.text.as_str(),
+                shelf,
+                input,
+                out,
+                err,
+            )
+        }
+        Command::Translate {
+            input: file,
+            name,
+            pages,
+            method_bytes,
+        } => translate(
+            alloc,
+            file.word,
+            file.text.as_str(),
+            name.as_str(),
+            *pages,
+            *method_bytes,
+            shelf,
+            out,
+        ),
         Command::Interp {
             input: file,
             name,
@@ -136,7 +172,9 @@ fn perform_command<H: Shelf, S: Source, O: Sink, E: Sink>(
             run(alloc, name.word, *words, &launch, shelf, input, out, err)
         }
         Command::Verify { name } => verify(alloc, name.word, name.text.as_str(), shelf, out),
-        Command::Translate { .. } => Ok(Done::NotBuilt),
-        Command::Make { .. } => Ok(Done::NotBuilt),
+        Command::Make {
+            count,
+            method_bytes,
+        } => make(alloc, *count, *method_bytes, moment, out),
     }
 }

@@ -84,16 +84,19 @@ fn each_refusal_has_its_line(rt: HostRuntime) -> Result<(), Fail> {
         ("go", Done::Usage(2), "nested: usage 2\n"),
         ("list", Done::Usage(2), "nested: usage 2\n"),
         ("go|a|--heap|32769", Done::Usage(2), "nested: usage 2\n"),
-        ("make|1", Done::NotBuilt, "nested: not built\n"),
+        ("make|0", Done::Usage(2), "nested: usage 2\n"),
         ("go|a", Done::NoInput(1), "nested: no file a\n"),
         ("list|a", Done::NoInput(1), "nested: no file a\n"),
+        ("translate|a", Done::NoInput(1), "nested: no file a\n"),
     ] {
         check(&rt, words, None, &expect(done, line))?;
     }
     for (words, size, done, line) in [
         ("go|a", 0, refused_elf(1), "nested: elf 1 0 0\n"),
         ("go|a", 51, refused_elf(1), "nested: elf 1 0 0\n"),
-        ("go|a", 95, Done::NotBuilt, "nested: not built\n"),
+        ("go|a", 52, refused_elf(10), "nested: elf 10 0 0\n"),
+        ("go|a", 95, refused_elf(12), "nested: elf 12 0 0\n"),
+        ("translate|a", 51, refused_elf(1), "nested: elf 1 0 0\n"),
         ("list|a", 51, refused_elf(1), "nested: elf 1 0 0\n"),
         ("interp|a", 52, refused_elf(10), "nested: elf 10 0 0\n"),
         ("list|a", 95, refused_elf(12), "nested: elf 12 0 0\n"),

@@ -125,3 +125,15 @@ pub fn check_over(
     assert!(rt; outside.shelf.get("f") == case.stored, "{words}");
     Ok(())
 }
+
+/// Calls the program with these words over a shelf, and gives back its answer and the shelf.
+pub fn call_over(
+    alloc: Global,
+    words: &str,
+    shelf: MemShelf,
+) -> Result<(Done, MemShelf), AllocError> {
+    let given = words_of(alloc, words)?;
+    let mut outside = Outside::new(alloc, shelf, &expect(Done::Good, ""))?;
+    let done = outside.call(alloc, given.as_slice());
+    Ok((done, outside.shelf))
+}

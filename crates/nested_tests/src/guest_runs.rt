@@ -7,15 +7,16 @@ use crate::guest_texts::{
 use nested_cli::Done;
 use nv_events::Fault;
 use nv_faults::ImageFault;
+use std::alloc::Global;
 use std::test::Fail;
 
 fn fault(kind: u32, pc: u32, value: u32) -> Done {
     Done::Faulted(Fault { kind, pc, value })
 }
 
-#[test]
-fn guests_end_as_the_manual_says(rt: HostRuntime) -> Result<(), Fail> {
-    for (words, done, line) in [
+/// Programs, how each ends over the input `ab`, an end of line and `cd`, and its line.
+pub fn ends() -> [(&'static str, Done, &'static str); 21] {
+    [
         ("24020001 24040007 0000000C", Done::Exited(7), ""),
         // a word that is no instruction, behind the end and at the start
         ("24020001 24040007 0000000C FC000000", Done::Exited(7), ""),
@@ -119,7 +120,12 @@ fn guests_end_as_the_manual_says(rt: HostRuntime) -> Result<(), Fail> {
             "",
         ),
         (READ, Done::Exited(3), ""),
-    ] {
+    ]
+}
+
+#[test]
+fn guests_end_as_the_manual_says(rt: HostRuntime) -> Result<(), Fail> {
+    for (words, done, line) in ends() {
         let file = program(rt.alloc(), words)?;
         let ends = expect(done, line);
         check(
@@ -135,47 +141,58 @@ fn guests_end_as_the_manual_says(rt: HostRuntime) -> Result<(), Fail> {
     Ok(())
 }
 
+/// An access to the word 11223344 at 7FFFEFFC, the last word of a page, with AABBCCDD in $4; what follows it; and $4 then.
+pub const LANES: [(&str, &str, u32); 16] = [
+    ("89040000", "00000000", 0x1122_3344),
+    ("89040001", "00000000", 0x2233_44DD),
+    ("89040002", "00000000", 0x3344_CCDD),
+    ("89040003", "00000000", 0x44BB_CCDD),
+    ("99040000", "00000000", 0xAABB_CC11),
+    ("99040001", "00000000", 0xAABB_1122),
+    ("99040002", "00000000", 0xAA11_2233),
+    ("99040003", "00000000", 0x1122_3344),
+    ("A9040000", "8D040000", 0xAABB_CCDD),
+    ("A9040001", "8D040000", 0x11AA_BBCC),
+    ("A9040002", "8D040000", 0x1122_AABB),
+    ("A9040003", "8D040000", 0x1122_33AA),
+    ("B9040000", "8D040000", 0xDD22_3344),
+    ("B9040001", "8D040000", 0xCCDD_3344),
+    ("B9040002", "8D040000", 0xBBCC_DD44),
+    ("B9040003", "8D040000", 0xAABB_CCDD),
+];
+
+/// The program of an access and of what follows it, which leaves with $4.
+pub fn lane_program(alloc: Global, access: &str, then: &str) -> Result<Vec<u8>, Fail> {
+    let words = format!(in alloc;
+        "3C087FFF 3508EFFC 3C091122 35293344 AD090000 3C04AABB 3484CCDD {access} {then} 24020001 0000000C"
+    )?;
+    program(alloc, words.as_str())
+}
+
 #[test]
 fn partial_loads_and_stores_move_the_lanes_of_a_word(rt: HostRuntime) -> Result<(), Fail> {
     let alloc = rt.alloc();
-    // the word 11223344 at 7FFFEFFC, the last word of a page, AABBCCDD in $4, an access, what follows it, and $4 then
-    for (access, then, word) in [
-        ("89040000", "00000000", 0x1122_3344u32),
-        ("89040001", "00000000", 0x2233_44DD),
-        ("89040002", "00000000", 0x3344_CCDD),
-        ("89040003", "00000000", 0x44BB_CCDD),
-        ("99040000", "00000000", 0xAABB_CC11),
-        ("99040001", "00000000", 0xAABB_1122),
-        ("99040002", "00000000", 0xAA11_2233),
-        ("99040003", "00000000", 0x1122_3344),
-        ("A9040000", "8D040000", 0xAABB_CCDD),
-        ("A9040001", "8D040000", 0x11AA_BBCC),
-        ("A9040002", "8D040000", 0x1122_AABB),
-        ("A9040003", "8D040000", 0x1122_33AA),
-        ("B9040000", "8D040000", 0xDD22_3344),
-        ("B9040001", "8D040000", 0xCCDD_3344),
-        ("B9040002", "8D040000", 0xBBCC_DD44),
-        ("B9040003", "8D040000", 0xAABB_CCDD),
-    ] {
-        let words = format!(in alloc;
-            "3C087FFF 3508EFFC 3C091122 35293344 AD090000 3C04AABB 3484CCDD {access} {then} 24020001 0000000C"
-        )?;
-        let file = program(alloc, words.as_str())?;
+    for (access, then, word) in LANES {
+        let file = lane_program(alloc, access, then)?;
         let done = Done::Exited(word.cast_signed());
         check(&rt, "interp|a", Some(file.as_slice()), &expect(done, ""))?;
     }
     Ok(())
 }
 
-#[test]
-fn a_thousand_branches_with_their_slots(rt: HostRuntime) -> Result<(), Fail> {
-    let alloc = rt.alloc();
+/// A program of a thousand branches, each to the word behind its slot, which leaves with one more than the count of its slots.
+pub fn branches(alloc: Global) -> Result<Vec<u8>, Fail> {
     let mut words = String::new(alloc);
     for _ in 0..1000 {
         words.push_str("10000001 24840001 ")?;
     }
     words.push_str("24020001 0000000C")?;
-    let file = program(alloc, words.as_str())?;
+    program(alloc, words.as_str())
+}
+
+#[test]
+fn a_thousand_branches_with_their_slots(rt: HostRuntime) -> Result<(), Fail> {
+    let file = branches(rt.alloc())?;
     let exits = expect(Done::Exited(1001), "");
     check(&rt, "interp|a", Some(file.as_slice()), &exits)
 }

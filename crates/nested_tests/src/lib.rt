@@ -16,4 +16,4 @@ mod guest_texts;
 #[cfg(test)]
 mod little_guests;
 #[cfg(test)]
-mod straight;
+mod translated_runs;

@@ -1,150 +1,164 @@
-use crate::names::Names;
-use crate::pool::Pool;
-use std::alloc::{AllocError, Global};
+//! The classes of code.
+ghost use Rattle.std.specs.Prelude.{◌≡◌, ◌≤◌, ◌<◌, ◌+◌, ◌++◌, ◌∷◌, [], IfOk, OnOk};
+ghost use Rattle.elf_image.specs.Start.{image_of};
+ghost use Rattle.elf_image.specs.Whole.{IsWholeRange};
+ghost use Rattle.command_words.specs.Limits.{AreMethodBytes};
+ghost use Rattle.program_classes.specs.Parts.{IsPart};
+ghost use Rattle.nv_translate.specs.Files.{AreFiles, IsCodeFile};
+ghost use Rattle.nv_translate.specs.Parts.{IsLow};
 
-// Opcodes (JVM Specification, 6.5).
-const ACONST_NULL: u8 = 1;
+use crate::block_info::BlockInfo;
+use crate::coding::{FileOfCode, code_file};
+use crate::named_file::NamedFile;
+use crate::numbers::method_number;
+use crate::span_info::SpanInfo;
+use crate::translate_error::TranslateError;
+use code_ranges::{RangeCode, range_code};
+use elf_image::Image;
+use elf_reader::Range;
+use program_classes::{METHODS, MISSING, Part};
+use std::alloc::Global;
+use trampoline::Start;
 
-const ICONST_0: u8 = 3;
+/// How many words one class of code holds at most.
+const CLASS_WORDS: u32 = 6_144;
 
-const BIPUSH: u8 = 16;
-
-const SIPUSH: u8 = 17;
-
-const LDC_W: u8 = 19;
-
-const IADD: u8 = 96;
-
-const IOR: u8 = 128;
-
-const RETURN: u8 = 177;
-
-const GETSTATIC: u8 = 178;
-
-const PUTSTATIC: u8 = 179;
-
-const INVOKESTATIC: u8 = 184;
-
-/// The code of a method while it is made, and the pool that its constants go to.
+/// The classes of code so far, in the order of the code.
 #[derive(Drop)]
 pub struct Code {
-    pub bytes: Vec<u8>,
-    pub pool: Pool,
-    pub names: Names,
+    pub files: Vec<NamedFile>,
+    pub spans: Vec<SpanInfo>,
+    pub blocks: Vec<BlockInfo>,
+    /// Where each class begins, by the number of its method `run()V`, and where each range ends, by the number of `missing()V`.
+    pub starts: Vec<Start>,
+    /// The number of the method `run()V` of each class.
+    pub runs: Vec<u32>,
+    /// How many methods the program has so far, those of the main class included.
+    pub methods: u32,
 }
 
-impl Code {
-    /// No code yet, and a pool of the names alone.
-    pub fn new(alloc: Global) -> Result<Code, AllocError> {
-        let mut pool = Pool::new(alloc);
-        let names = Names::new(alloc, &mut pool)?;
-        Ok(Code {
-            bytes: Vec::new(alloc),
-            pool,
-            names,
-        })
+/// All classes of code of an image.
+pub fn code_of(
+    alloc: Global,
+    image: &Image,
+    name: &str,
+    method_bytes: u32,
+) -> Result<Code, TranslateError>
+    requires { AreMethodBytes method_bytes }
+    ensures { IfOk result (λ code. AreFiles (IsCodeFile name.now method_bytes) 0 code.files.items) }
+{
+    let mut code = Code {
+        files: Vec::new(alloc),
+        spans: Vec::new(alloc),
+        blocks: Vec::new(alloc),
+        starts: Vec::new(alloc),
+        runs: Vec::new(alloc),
+        methods: METHODS,
+    };
+    image.laws();
+    for range in image.ranges() {
+        add_range(alloc, &mut code, image, *range, name, method_bytes)?;
     }
+    Ok(code)
+}
 
-    /// Sets a register to a number.
-    pub fn set(&mut self, register: u32, value: i32) -> Result<(), AllocError> {
-        self.push_int(value)?;
-        self.store(register)
-    }
+// The classes of a range, and where it ends.
+fn add_range(
+    alloc: Global,
+    code: &mut Code,
+    image: &Image,
+    range: Range,
+    name: &str,
+    method_bytes: u32,
+) -> Result<(), TranslateError>
+    requires range { IsWholeRange (image_of image.now).code range }
+    requires bytes { AreMethodBytes method_bytes }
+    requires before { AreFiles (IsCodeFile name.now method_bytes) 0 code.old.files.items }
+    ensures { OnOk result (AreFiles (IsCodeFile name.now method_bytes) 0 code.new.files.items) }
+{
+    let words = range_code(alloc, image, range)?;
+    add_parts(alloc, code, &words, range.words, name, method_bytes)?;
+    code.starts.push(Start {
+        first: range.first + 4 * range.words,
+        method: MISSING,
+    })?;
+    Ok(())
+}
 
-    /// The code of one MIPS instruction: ADDIU, ORI, LUI or SYSCALL. Every other word has no code.
-    pub fn instruction(&mut self, word: u32) -> Result<(), AllocError> {
-        let [_, _, high, low] = word.to_be_bytes();
-        let source = word >> 21 & 0x1F;
-        let target = word >> 16 & 0x1F;
-        match word >> 26 {
-            0x00 if word & 0x3F == 0x0C => self.call(),
-            // What is written to register 0 is lost.
-            _ if target == 0 => Ok(()),
-            0x09 => self.combine(
-                source,
-                i32::from(i16::from_be_bytes([high, low])),
-                IADD,
-                target,
-            ),
-            0x0D => self.combine(
-                source,
-                i32::from(u16::from_be_bytes([high, low])),
-                IOR,
-                target,
-            ),
-            0x0F => self.set(target, i32::from_be_bytes([high, low, 0, 0])),
-            _ => Ok(()),
-        }
+// The classes of so many words: each but the last has as many words as a class holds.
+fn add_parts(
+    alloc: Global,
+    code: &mut Code,
+    range: &RangeCode,
+    words: u32,
+    name: &str,
+    method_bytes: u32,
+) -> Result<(), TranslateError>
+    requires range { IsLow range.now words }
+    requires bytes { AreMethodBytes method_bytes }
+    requires before { AreFiles (IsCodeFile name.now method_bytes) 0 code.old.files.items }
+    ensures { OnOk result (AreFiles (IsCodeFile name.now method_bytes) 0 code.new.files.items) }
+{
+    let mut first = 0;
+    while first < words {
+        let part = part_at(range, words, first);
+        let file = code_file(
+            alloc,
+            &part,
+            name,
+            code.files.len(),
+            code.methods,
+            method_bytes,
+        )?;
+        add_file(code, file)?;
+        first += part.words;
     }
+    Ok(())
+}
 
-    /// Ends the run where no instruction is left, at address `pc`: fault 1, a fetch outside the code.
-    pub fn past_the_end(&mut self, pc: u32) -> Result<(), AllocError> {
-        let pc = i32::from_be_bytes(pc.to_be_bytes());
-        self.push_int(1)?;
-        self.push_int(pc)?;
-        self.push_int(pc)?;
-        self.push_with_slot(INVOKESTATIC, self.names.host_fault)?;
-        self.bytes.push(RETURN)?;
-        Ok(())
+// The part that begins at a word.
+fn part_at(range: &RangeCode, words: u32, first: u32) -> Part<'_>
+    requires range { IsLow range.now words }
+    requires within { first < words }
+    ensures part { IsPart result }
+    ensures some { 1 ≤ result.words }
+    ensures few { result.words ≤ 6144 }
+    ensures within { first + result.words ≤ words }
+{
+    Part {
+        units: range.units.as_slice(),
+        leads: range.leads.as_slice(),
+        start: range.start,
+        first,
+        words: CLASS_WORDS.min(words - first),
     }
+}
 
-    /// Combines a register and a number by an operation, and puts the answer into another register.
-    fn combine(
-        &mut self,
-        source: u32,
-        value: i32,
-        operation: u8,
-        target: u32,
-    ) -> Result<(), AllocError> {
-        self.load(source)?;
-        self.push_int(value)?;
-        self.bytes.push(operation)?;
-        self.store(target)
-    }
+// A class behind the others.
+fn add_file(code: &mut Code, file: FileOfCode) -> Result<(), TranslateError>
+    ensures { OnOk result (code.new.files.items ≡ code.old.files.items ++ file.file ∷ []) }
+{
+    add_layout(code, &file)?;
+    code.starts.push(file.start)?;
+    code.runs.push(file.start.method)?;
+    code.methods = file.methods;
+    code.files.push(file.file)?;
+    Ok(())
+}
 
-    /// Makes the call of register 2 with registers 4 to 7. A straight program shows no memory, so the pages are null.
-    fn call(&mut self) -> Result<(), AllocError> {
-        self.bytes.extend_from_slice(&[ACONST_NULL, ACONST_NULL])?;
-        for register in [2, 4, 5, 6, 7] {
-            self.load(register)?;
-        }
-        self.push_with_slot(INVOKESTATIC, self.names.host_call)?;
-        self.store(2)
+// Where the words of a class stand.
+fn add_layout(code: &mut Code, file: &FileOfCode) -> Result<(), TranslateError>
+    ensures { OnOk result (code.new.files ≡ code.old.files) }
+{
+    let before = method_number(0, code.spans.len())?;
+    for block in file.blocks.as_slice() {
+        code.blocks.push(BlockInfo {
+            span: before.saturating_add(block.span),
+            ..*block
+        })?;
     }
-
-    /// Puts a register onto the operand stack. Register 0 is 0.
-    fn load(&mut self, register: u32) -> Result<(), AllocError> {
-        match self.names.register(register) {
-            Some(field) => self.push_with_slot(GETSTATIC, field),
-            None => self.push_int(0),
-        }
+    for span in file.spans.as_slice() {
+        code.spans.push(*span)?;
     }
-
-    /// Takes a register's new value from the operand stack. The register is from 1 to 31.
-    fn store(&mut self, register: u32) -> Result<(), AllocError> {
-        match self.names.register(register) {
-            Some(field) => self.push_with_slot(PUTSTATIC, field),
-            None => Ok(()),
-        }
-    }
-
-    /// Puts a number onto the operand stack.
-    fn push_int(&mut self, value: i32) -> Result<(), AllocError> {
-        let [_, _, high, low] = value.to_be_bytes();
-        match value {
-            -1..=5 => self.bytes.extend_from_slice(&[ICONST_0.wrapping_add(low)]),
-            -128..=127 => self.bytes.extend_from_slice(&[BIPUSH, low]),
-            -32768..=32767 => self.bytes.extend_from_slice(&[SIPUSH, high, low]),
-            _ => {
-                let slot = self.pool.integer(value)?;
-                self.push_with_slot(LDC_W, slot)
-            }
-        }
-    }
-
-    /// Adds an instruction whose operand is a slot of the pool.
-    fn push_with_slot(&mut self, opcode: u8, slot: u16) -> Result<(), AllocError> {
-        let [high, low] = slot.to_be_bytes();
-        self.bytes.extend_from_slice(&[opcode, high, low])
-    }
+    Ok(())
 }

@@ -2,7 +2,7 @@ use Rattle.std.proofs.Common.{◌≡◌, ◌+◌, ◌<◌, ◌^◌, ◌&&◌, na
 use Rattle.std.proofs.lemmas.Bool.{and_parts}
 use Rattle.code_steps.specs.Widths.{size}
 use Rattle.code_assembly.specs.Assembling.{have_operations, switches_are_placed, step_slots, slots_of}
-use Rattle.code_assembly.proofs.Pools.{extends-further}
+use Rattle.code_assembly.proofs.Pools.{extends-further, adds-further, adds-among}
 use Rattle.code_assembly.proofs.Offsets.{AreEnds}
 use Rattle.code_assembly.proofs.Placed.{next-has-operation, next-placed, made-goes-on, slots-next, are-linked, widths-same, size-is, are-code}
 use Rattle.code_assembly.proofs.assembly.assemble.Goals as goal
@@ -30,6 +30,7 @@ loop-i-preserved c =
     let placed = next-placed r code c.deref.result.now i s new c.in_ok-op.op ends few c.loop-i-test.true c.index-code-i.is can.1 all.1 c.in_ok-op.ensures.op in
     record {
       kept = extends-further c.args.pool.now pool new c.loop-i.invariant.kept c.in_ok-op.ensures.kept;
+      added = adds-further code c.args.pool.now pool new c.loop-i.invariant.added (adds-among code i s pool new c.loop-i-test.true c.index-code-i.is c.in_ok-op.ensures.added);
       few = omega (arith, next, c.loop-i.invariant.few, c.in_ok-op.ensures.few);
       made = made-goes-on r code i s pool new c.in_ok-op.op c.loop-i.ops.items c.push.new.self.items c.loop-i-test.true c.index-code-i.is c.loop-i.invariant.made c.in_ok-op.ensures.kept placed c.in_ok-push.ensures.items;
     }
@@ -49,3 +50,17 @@ returns-clause-size c =
 pub returns-clause-method : goal.returns-clause-method
 returns-clause-method c =
     are-code c.args.references.now c.args.code.now c.loop-i.i c.loop-i.pool c.loop-i.ops.items c.loop-i-test.false c.loop-i.invariant.made
+
+pub returns-in_err-op-clause-added : goal.returns-in_err-op-clause-added
+returns-in_err-op-clause-added c =
+    let code = c.args.code.now in
+    let pool = c.loop-i.pool in
+    let new = c.step_operation.new.pool in
+    adds-further code c.args.pool.now pool new c.loop-i.invariant.added (adds-among code c.loop-i.i c.index-code-i.result pool new c.loop-i-test.true c.index-code-i.is c.step_operation.ensures.added)
+
+pub returns-in_err-push-clause-added : goal.returns-in_err-push-clause-added
+returns-in_err-push-clause-added c =
+    let code = c.args.code.now in
+    let pool = c.loop-i.pool in
+    let new = c.step_operation.new.pool in
+    adds-further code c.args.pool.now pool new c.loop-i.invariant.added (adds-among code c.loop-i.i c.index-code-i.result pool new c.loop-i-test.true c.index-code-i.is c.step_operation.ensures.added)

@@ -1,4 +1,5 @@
 use Rattle.std.proofs.Common.{◌≡◌, IfOk, sym, subst, ◌∙◌, rules, w64, SFits, to_z, of_z, arith}
+use Rattle.std.proofs.Math.Facts.{Fits-of_z}
 use Rattle.std.proofs.lemmas.Int.{to_z-of_z}
 use Rattle.std.proofs.lemmas.Result.{IfOk-weaker}
 use Rattle.constant_pool.specs.declared.entry.Entry.TheVariants.{Long, Text}
@@ -9,6 +10,7 @@ use Rattle.jvm_program.specs.declared.constant.Constant.TheVariants as constants
 use Rattle.jvm_program.specs.declared.instruction.Instruction.TheVariants.{Push}
 use Rattle.code_assembly.specs.declared.references.References.{References}
 use Rattle.code_assembly.specs.Operations.{IsOperation, IsInSlot}
+use Rattle.code_assembly.proofs.Standing.{long-stands, text-stands}
 use Rattle.code_assembly.proofs.Pushes.{pushes-long, pushes-text}
 use Rattle.code_assembly.proofs.constants.push.Goals as goal
 
@@ -33,3 +35,12 @@ returns-in-Text-clause-op c =
     subst (λ (k : Constant). IfOk c.in_slot-in-Text.result (λ (op : Op). (r : References) → IsOperation r pool (Push k) op)) (sym c.in-Text.is)
     (IfOk-weaker c.in_slot-in-Text.result (IsInSlot pool LdcW (Text c.in-Text.text)) (λ (op : Op). (r : References) → IsOperation r pool (Push (constants.Text c.in-Text.field-0 c.in-Text.text)) op)
     (λ op made r. pushes-text r pool c.in-Text.field-0 c.in-Text.text op made) c.in_slot-in-Text.ensures.op)
+
+pub in_slot-requires-clause-stands : goal.in_slot-requires-clause-stands
+in_slot-requires-clause-stands c =
+    let n = c.cast_signed.result in
+    let fits : SFits w64 n = search rules in
+    long-stands (of_z w64 n) (omega (arith, Fits-of_z fits))
+
+pub in_slot-requires-in-Text-clause-stands : goal.in_slot-requires-in-Text-clause-stands
+in_slot-requires-in-Text-clause-stands c = text-stands c.in-Text.text (omega arith)

@@ -1,4 +1,5 @@
-use Rattle.std.proofs.Common.{◌≡◌, sym, ap, ◌∙◌, rules, w32, SFits, to_z, of_z}
+use Rattle.std.proofs.Common.{◌≡◌, sym, ap, ◌∙◌, rules, w32, SFits, to_z, of_z, arith}
+use Rattle.std.proofs.Math.Facts.{Fits-of_z}
 use Rattle.std.proofs.lemmas.Int.{to_z-of_z}
 use Rattle.std.proofs.lemmas.Result.{IfOk-weaker}
 use Rattle.nv_words.specs.Words.{unsigned_of}
@@ -9,6 +10,7 @@ use Rattle.jvm_program.specs.declared.constant.Constant.TheVariants.{Int}
 use Rattle.jvm_program.specs.declared.instruction.Instruction.TheVariants.{Push}
 use Rattle.code_assembly.specs.declared.references.References.{References}
 use Rattle.code_assembly.specs.Operations.{IsOperation, IsInSlot}
+use Rattle.code_assembly.proofs.Standing.{int-stands}
 use Rattle.code_assembly.proofs.Pushes.{pushes-int}
 use Rattle.code_assembly.proofs.constants.push_int.Goals as goal
 
@@ -22,3 +24,9 @@ returns-else-lies_from-3-clause-op c =
     IfOk-weaker c.in_slot.result (IsInSlot pool LdcW (Integer z)) (λ (op : Op). (r : References) → IsOperation r pool (Push (Int c.args.word)) op)
     (λ op made r. pushes-int r pool c.args.word z op (same ∙ c.signed-n.ensures.value) (ap unsigned_of same ∙ c.signed-n.ensures.back)
     (sym c.lies_from.ensures ∙ c.if-lies_from.false) (sym c.lies_from-else-lies_from.ensures ∙ c.if-lies_from-2.false) made) c.in_slot.ensures.op
+
+pub in_slot-requires-clause-stands : goal.in_slot-requires-clause-stands
+in_slot-requires-clause-stands c =
+    let n = c.signed-n.result in
+    let fits : SFits w32 n = search rules in
+    int-stands (of_z w32 n) (omega (arith, Fits-of_z fits))

@@ -1,7 +1,13 @@
-use Rattle.guest_commands.specs.Interp.{IsDueOfInterp, plan_of}
-use Rattle.guest_commands.proofs.InterpLemmas.{after_look}
+use Rattle.guest_commands.specs.Interp.{IsDueOfGuest, plan_of}
+use Rattle.guest_commands.proofs.ImagingLemmas.{after_imaged, after_refused}
 use Rattle.guest_commands.proofs.interpreting.interp.Goals as goal
 
-pub returns-in-Ok-clause-comes : goal.returns-in-Ok-clause-comes
-returns-in-Ok-clause-comes g c = λ rest told.
-    after_look (λ files found. IsDueOfInterp (plan_of c.args.guest.now) files rest found) c.args.file.now c.in-Ok.found _ _ _ _ _ _ _ _ _ c.interp_found.result c.in-Ok.ensures.found c.load.ensures.same (c.interp_found.ensures.comes rest told)
+pub returns-in-Ok-Ready-clause-comes : goal.returns-in-Ok-Ready-clause-comes
+returns-in-Ok-Ready-clause-comes g c = λ rest told.
+    after_imaged c.args.guest.now.word c.args.guest.now.pages c.args.file.now (IsDueOfGuest (plan_of c.args.guest.now) rest) c.in-Ok-Ready.image c.in-Ok-Ready.field-0 c.load_image.result _ _ _ _ _ _ _ _ _ c.interp_image.result
+    c.in-Ok-Ready.is c.in-Ok-Ready.field-0-is c.load_image.ensures.imaged c.load_image.ensures.same (c.interp_image.ensures.comes rest told)
+
+pub returns-in-Ok-Refused-clause-comes : goal.returns-in-Ok-Refused-clause-comes
+returns-in-Ok-Refused-clause-comes g c = λ rest told.
+    after_refused c.args.guest.now.word c.args.guest.now.pages c.args.file.now (IsDueOfGuest (plan_of c.args.guest.now) rest) c.in-Ok-Refused.answer c.in-Ok-Refused.field-0 c.load_image.result _ _ _ _ _
+    c.in-Ok-Refused.is c.in-Ok-Refused.field-0-is c.load_image.ensures.imaged c.load_image.ensures.same

@@ -1,13 +1,14 @@
-use Rattle.std.proofs.Common.{Ok, None, refl}
-use Rattle.guest_commands.specs.Listing.{IsDueOfList}
-use Rattle.command_deeds.specs.declared.done.Done.TheVariants.{NoInput}
-use Rattle.command_deeds.proofs.DeedLemmas.{after_found, after_load, answers_due, found_none}
+use Rattle.guest_commands.specs.Listing.{IsDueOfListing, listed_pages}
+use Rattle.guest_commands.proofs.ImagingLemmas.{after_imaged, after_refused, over_any}
 use Rattle.guest_commands.proofs.listing.list.Goals as goal
 
-pub returns-in-Ok-Some-clause-comes : goal.returns-in-Ok-Some-clause-comes
-returns-in-Ok-Some-clause-comes g c = λ rest err.
-    after_found (IsDueOfList c.args.word) c.args.name.now c.in-Ok-Some.field-0 c.in-Ok-Some.file _ _ _ _ rest rest _ _ err err c.list_file.result c.in-Ok-Some.field-0-is c.in-Ok-Some.ensures.found c.as_slice.ensures.value c.load.ensures.same (c.list_file.ensures.comes _ rest err)
+pub returns-in-Ok-Ready-clause-comes : goal.returns-in-Ok-Ready-clause-comes
+returns-in-Ok-Ready-clause-comes g c = λ rest err.
+    after_imaged c.args.word listed_pages c.args.name.now (λ files. IsDueOfListing) c.in-Ok-Ready.image c.in-Ok-Ready.field-0 c.load_image.result _ _ _ rest rest _ _ err err c.list_image.result
+    c.in-Ok-Ready.is c.in-Ok-Ready.field-0-is c.load_image.ensures.imaged c.load_image.ensures.same
+    (over_any (IsDueOfListing c.in-Ok-Ready.image) (g.H.Shelf.files c.load_image.new.shelf) _ _ c.list_image.result (c.list_image.ensures.comes (g.H.Shelf.files c.load_image.new.shelf) rest err))
 
-pub returns-in-Ok-None-clause-comes : goal.returns-in-Ok-None-clause-comes
-returns-in-Ok-None-clause-comes g c = λ rest err.
-    after_load (IsDueOfList c.args.word) c.args.name.now None _ _ _ rest rest _ _ err err (Ok (NoInput c.args.word)) (found_none _ _ c.in-Ok-None.field-0 c.in-Ok-None.field-0-is c.in-Ok-None.ensures.found) c.load.ensures.same (answers_due (IsDueOfList c.args.word None) (NoInput c.args.word) _ refl)
+pub returns-in-Ok-Refused-clause-comes : goal.returns-in-Ok-Refused-clause-comes
+returns-in-Ok-Refused-clause-comes g c = λ rest err.
+    after_refused c.args.word listed_pages c.args.name.now (λ files. IsDueOfListing) c.in-Ok-Refused.answer c.in-Ok-Refused.field-0 c.load_image.result _ _ rest _ err
+    c.in-Ok-Refused.is c.in-Ok-Refused.field-0-is c.load_image.ensures.imaged c.load_image.ensures.same

@@ -1,0 +1,53 @@
+-- What a class with one more method has more than before.
+use Rattle.std.proofs.Common.{◌≡◌, ℕ, ◌+◌, List, [], ◌∷◌, ◌++◌, refl, ap, subst, arith}
+use Rattle.std.specs.Prelude.{Vec}
+use Rattle.std.specs.declared.alloc.Global.{Global}
+use Rattle.constant_pool.specs.declared.entry.Entry.{Entry}
+use Rattle.jvm_code.specs.declared.class.Class.{Class}
+use Rattle.jvm_code.specs.declared.member.Member.{Member}
+use Rattle.jvm_code.specs.declared.method.Method.{Method}
+use Rattle.jvm_link.specs.Linking.{lines_of}
+use Rattle.code_steps.specs.declared.step.Step.{Step}
+use Rattle.code_assembly.specs.declared.references.References.{References}
+use Rattle.code_assembly.specs.Assembling.{Extends, AreLinked, slots_of}
+use Rattle.class_builder.specs.declared.builder.ClassBuilder.TheInside.{Inside}
+use Rattle.class_builder.specs.Inside.{class_so_far}
+use Rattle.class_builder.specs.Built.{Grows, IsNamed, AddsMethod}
+use Rattle.class_builder.proofs.Growing.{grows-more}
+use Rattle.class_builder.proofs.Made.{text-later}
+
+pub named-later : (old new : List Entry) (slots : Member) (name descriptor : List ℕ) → Extends old new
+    → IsNamed old slots name descriptor → IsNamed new slots name descriptor
+named-later old new slots name descriptor x n =
+    record {
+      name_is = text-later old new slots.name name x n.name_is;
+      descriptor_is = text-later old new slots.desc descriptor x
+          n.descriptor_is;
+    }
+
+pub method-added : (b : Inside) (c : Class) (mid new : List Entry) (methods : Vec Method Global) (named : Member) (locals : ℕ)
+    (r : References) (steps : List Step)
+    (bytes code : List ℕ) (name descriptor : List ℕ) → class_so_far b ≡ c → Grows b.pool mid 2 → Grows mid new (slots_of steps) → IsNamed
+    mid named name descriptor
+    → AreLinked r new steps (lines_of bytes) → code ≡ bytes
+    → methods.items ≡ b.methods.items ++ (record {
+      name = named.name;
+      desc = named.desc;
+      attr = b.code;
+      stack = 16;
+      locals = locals;
+      code = code;
+    }) ∷ []
+    → AddsMethod c (class_so_far (record b { pool = new; methods = methods })) name descriptor locals r steps
+method-added b c mid new methods named locals r steps bytes code name descriptor is x y n lines same more =
+    let m : Method = record { name = named.name; desc = named.desc; attr = b.code; stack = 16; locals = locals; code = code } in
+    let P : Class → Type 0 = λ d. AddsMethod d (class_so_far (record b { pool = new; methods = methods })) name descriptor locals r steps in
+    subst P is (record {
+      method = m;
+      named = named-later mid new named name descriptor y.kept n;
+      stack = refl;
+      locals_are = refl;
+      lines = rw same lines;
+      pool = grows-more b.pool mid new 2 (slots_of steps) (2 + slots_of steps) x y (omega arith);
+      others = ap (λ (ms : List Method). record (class_so_far b) { pool = new; methods = ms }) more;
+    })

@@ -1,0 +1,13 @@
+pub mod Stays
+pub mod Sound
+pub mod Joined
+pub mod Growing
+pub mod Joining
+pub mod Made
+pub mod Classes
+pub mod Members
+pub mod Written
+pub mod Limits
+pub mod Coded
+pub mod Added
+pub mod Meant

@@ -1,0 +1,44 @@
+use Rattle.std.proofs.Common.{sym, ◌∙◌, arith}
+use Rattle.code_assembly.specs.Assembling.{slots_of}
+use Rattle.class_builder.proofs.Coded.{code-later}
+use Rattle.class_builder.proofs.Added.{named-later, method-added}
+use Rattle.class_builder.proofs.Written.{written-grown, written-further, written-methods, written-method}
+use Rattle.class_builder.proofs.builder.ClassBuilder.add_method.Goals as goal
+
+pub invariant_of-self : goal.invariant_of-self
+invariant_of-self c = written-grown c.self.inside c.method_slots.new.pool 2 c.self.invariant c.method_slots.ensures.grown
+
+pub add_code-requires : goal.add_code-requires
+add_code-requires c =
+    code-later c.args.references.now c.self.inside.pool c.method_slots.new.pool c.args.code.now c.method_slots.ensures.grown.kept
+    (sym c.in_ok-has_code.ensures ∙ c.if-not-branch.false)
+
+pub invariant_of-self-in_err-bytes : goal.invariant_of-self-in_err-bytes
+invariant_of-self-in_err-bytes c =
+    written-further c.self.inside c.method_slots.new.pool c.add_code.new.self 2 (slots_of c.args.code.now) c.self.invariant
+    c.method_slots.ensures.grown c.add_code.ensures.grown
+
+pub invariant_of-self-in_err-push : goal.invariant_of-self-in_err-push
+invariant_of-self-in_err-push c =
+    written-methods c.self.inside c.method_slots.new.pool c.add_code.new.self 2 (slots_of c.args.code.now) c.self.invariant
+    c.method_slots.ensures.grown c.add_code.ensures.grown c.push.new.self c.in_err-push.ensures.items
+
+pub invariant_of-self-2 : goal.invariant_of-self-2
+invariant_of-self-2 c =
+    let name = c.args.name.now in
+    let descriptor = c.args.descriptor.now in
+    let slots = c.in_ok-slots.slots in
+    let named = named-later c.method_slots.new.pool c.add_code.new.self slots name descriptor c.add_code.ensures.grown.kept
+    c.in_ok-slots.ensures.there in
+    written-method c.self.inside c.method_slots.new.pool c.add_code.new.self 2 (slots_of c.args.code.now) c.self.invariant
+    c.method_slots.ensures.grown c.add_code.ensures.grown c.push.new.self slots c.args.locals c.new.result name descriptor named
+    c.in_ok-slots.ensures.lawful (omega arith) (omega arith) (omega arith) (omega arith)
+    (rw c.new.ensures c.in_ok-bytes.ensures.sound) (omega arith) c.in_ok-push.ensures.items
+
+pub returns-clause-added : goal.returns-clause-added
+returns-clause-added c =
+    method-added c.self.inside c.args.self.now c.method_slots.new.pool c.add_code.new.self c.push.new.self c.in_ok-slots.slots
+    c.args.locals c.args.references.now c.args.code.now
+    c.in_ok-bytes.bytes.items c.new.result c.args.name.now c.args.descriptor.now c.self.view_is c.method_slots.ensures.grown
+    c.add_code.ensures.grown c.in_ok-slots.ensures.there
+    c.in_ok-bytes.ensures.lines c.new.ensures c.in_ok-push.ensures.items

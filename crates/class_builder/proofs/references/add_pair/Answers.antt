@@ -1,0 +1,21 @@
+use Rattle.std.proofs.Common.{arith}
+use Rattle.std.proofs.lemmas.Result.{IfOk-weaker}
+use Rattle.class_builder.proofs.Joining.{pair-joins}
+use Rattle.class_builder.proofs.Made.{text-later, pair-made}
+use Rattle.class_builder.proofs.references.add_pair.Goals as goal
+
+pub add-requires : goal.add-requires
+add-requires c =
+    let named = text-later c.add_text.new.self c.add_text-2.new.self c.in_ok-name.name c.args.name.items c.add_text-2.ensures.grown.kept
+    c.in_ok-name.ensures.there in
+    pair-joins c.add_text-2.new.self c.in_ok-name.name c.in_ok-descriptor.descriptor c.args.name.items c.args.descriptor.items
+    (omega arith) (omega arith)
+    named c.in_ok-descriptor.ensures.there c.requires
+
+pub returns-clause-there : goal.returns-clause-there
+returns-clause-there c =
+    IfOk-weaker c.add.result _ _
+    (λ slot at. pair-made c.add_text.new.self c.add_text-2.new.self c.add.new.self c.in_ok-name.name c.in_ok-descriptor.descriptor slot
+    c.args.name.items c.args.descriptor.items
+    c.add_text-2.ensures.grown.kept c.add.ensures.grown.kept c.in_ok-name.ensures.there c.in_ok-descriptor.ensures.there at)
+    c.add.ensures.there

@@ -1,0 +1,13 @@
+use Rattle.std.proofs.Common.{sym, inr}
+use Rattle.class_builder.proofs.Joining.{text-joins, one_long}
+use Rattle.class_builder.proofs.sound_pool.SoundPool.add_text.Goals as goal
+
+pub add-requires : goal.add-requires
+add-requires c =
+    let t = c.if-is_long_text.ensures in
+    rw c.new.ensures (text-joins c.args.self.now c.args.characters.items (rw c.deref.ensures.value at (sym t.long))
+    (rw c.deref.ensures.value at t.text))
+
+pub returns-then-is_long_text-clause-full : goal.returns-then-is_long_text-clause-full
+returns-then-is_long_text-clause-full c = λ _. inr (one_long c.args.characters.items
+    (rw c.deref.ensures.value at (sym c.if-is_long_text.ensures.long)))

@@ -1,0 +1,7 @@
+pub mod Named
+pub mod Lawful
+pub mod Sound
+pub mod Built
+pub mod Errors
+pub mod Inside
+pub mod Code

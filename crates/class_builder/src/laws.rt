@@ -1,0 +1,60 @@
+//! What the slots of a class that was made mean to the instructions of its methods, once it is linked. Each call here does nothing: its
+//! contract is the law.
+ghost use Rattle.std.specs.Prelude.{◌≡◌, ℕ, false, List, Some, codes};
+ghost use Rattle.constant_pool.specs.declared.entry.Entry.{Entry};
+ghost use Rattle.constant_pool.specs.Names.{same_text};
+ghost use Rattle.jvm_code.specs.declared.class.Class.{Class};
+ghost use Rattle.jvm_code.specs.declared.names.pool_name.PoolName.TheVariants as names;
+ghost use Rattle.jvm_program.specs.declared.array_kind.ArrayKind.TheVariants.{Pages};
+ghost use Rattle.jvm_program.specs.declared.instruction.Instruction.TheVariants as instructions;
+ghost use Rattle.name_resolution.specs.Names.{signature, reference, string_name, host_name, field_number, method_number};
+ghost use Rattle.jvm_link.specs.Linking.{kind_of, pool_instruction};
+ghost use Rattle.code_assembly.specs.Assembling.{Extends};
+ghost use Rattle.class_builder.specs.Named.{IsClassAt, IsFieldAt, IsMethodAt};
+
+/// `getstatic` and `putstatic` with the slot of a field, in a class whose pool goes on behind the one in which the slot was taken.
+pub fn fields_are_meant()
+    ensures get { (classes : List Class) (number : ℕ) (c : Class) (pool : List Entry) (slot class n : ℕ) (owner name descriptor : List ℕ)
+        → Extends pool c.pool → IsClassAt pool class owner → IsFieldAt pool slot class name descriptor
+        → field_number classes (reference owner (signature name descriptor)) ≡ Some n
+        → pool_instruction classes number c names.Getstatic slot ≡ instructions.Get n (kind_of descriptor) }
+    ensures put { (classes : List Class) (number : ℕ) (c : Class) (pool : List Entry) (slot class n : ℕ) (owner name descriptor : List ℕ)
+        → Extends pool c.pool → IsClassAt pool class owner → IsFieldAt pool slot class name descriptor
+        → field_number classes (reference owner (signature name descriptor)) ≡ Some n
+        → pool_instruction classes number c names.Putstatic slot ≡ instructions.Put n (kind_of descriptor) }
+{}
+
+/// `invokestatic` with the slot of a method of the classes.
+pub fn methods_are_meant()
+    ensures { (classes : List Class) (number : ℕ) (c : Class) (pool : List Entry) (slot class n : ℕ) (owner name descriptor : List ℕ)
+        → Extends pool c.pool → IsClassAt pool class owner → IsMethodAt pool slot class name descriptor
+        → same_text owner host_name ≡ false → method_number classes (reference owner (signature name descriptor)) ≡ Some n
+        → pool_instruction classes number c names.Invokestatic slot ≡ instructions.Call n }
+{}
+
+/// `invokestatic` with the slot of a method of the host.
+pub fn host_is_meant()
+    ensures call { (classes : List Class) (number : ℕ) (c : Class) (pool : List Entry) (slot class : ℕ)
+        → Extends pool c.pool → IsClassAt pool class host_name → IsMethodAt pool slot class (codes "call") (codes "([[I[[IIIIII)I")
+        → pool_instruction classes number c names.Invokestatic slot ≡ instructions.CallHost }
+    ensures fault { (classes : List Class) (number : ℕ) (c : Class) (pool : List Entry) (slot class : ℕ)
+        → Extends pool c.pool → IsClassAt pool class host_name → IsMethodAt pool slot class (codes "fault") (codes "(III)V")
+        → pool_instruction classes number c names.Invokestatic slot ≡ instructions.FaultHost }
+{}
+
+/// `invokevirtual` with the slot of a method of strings.
+pub fn strings_are_meant()
+    ensures length { (classes : List Class) (number : ℕ) (c : Class) (pool : List Entry) (slot class : ℕ)
+        → Extends pool c.pool → IsClassAt pool class string_name → IsMethodAt pool slot class (codes "length") (codes "()I")
+        → pool_instruction classes number c names.Invokevirtual slot ≡ instructions.Length }
+    ensures char_at { (classes : List Class) (number : ℕ) (c : Class) (pool : List Entry) (slot class : ℕ)
+        → Extends pool c.pool → IsClassAt pool class string_name → IsMethodAt pool slot class (codes "charAt") (codes "(I)C")
+        → pool_instruction classes number c names.Invokevirtual slot ≡ instructions.CharAt }
+{}
+
+/// `anewarray` with the slot of `[I`.
+pub fn arrays_are_meant()
+    ensures { (classes : List Class) (number : ℕ) (c : Class) (pool : List Entry) (slot : ℕ)
+        → Extends pool c.pool → IsClassAt pool slot (codes "[I")
+        → pool_instruction classes number c names.Anewarray slot ≡ instructions.NewArray Pages }
+{}

@@ -1,0 +1,9 @@
+//! A program of as many blocks as one asks for, each of which jumps to the next but one and changes a register in the delay slot of
+//! its jump. It exits with a number that each block takes part in.
+#![tactic(auto)]
+
+mod block;
+mod file;
+mod words;
+
+pub use file::made_file;

@@ -1,0 +1,11 @@
+-- What the classes of a program take of a class machine, by the number of pages that are mapped.
+use Rattle.std.specs.Prelude.{ℕ, ◌+◌, ◌*◌}
+
+-- Words of the region. An array of n places takes n + 2. Two arrays have a place for each of the 524,288 pages, and each mapped page has
+-- one of 1,024 ints.
+abbrev pub need : ℕ → ℕ
+need mapped = 2 * 524290 + 1026 * mapped + 64
+
+-- Instructions for so many steps: 512 for each and for the start, and what filling the pages takes.
+abbrev pub allow : ℕ → ℕ → ℕ
+allow mapped steps = 512 * (steps + 1) + 131072 * (mapped + 4)

@@ -1,0 +1,5 @@
+pub mod Parts
+pub mod Making
+pub mod Naming
+pub mod Code
+pub mod Mains

@@ -1,0 +1,7 @@
+use Rattle.std.proofs.Common.{◌*◌}
+use Rattle.class_builder.specs.Built.{GrowsPool}
+use Rattle.program_names.specs.Named.{AreFields}
+use Rattle.program_names.proofs.fields.field_references.Given as goal
+
+abbrev pub invariant-loop-field : goal.invariant-loop-field
+invariant-loop-field l = AreFields l.class.pool l.main l.slots.items l.field × GrowsPool l.initial.class l.class (4 * l.field)

@@ -1,0 +1,178 @@
+-- The parts keep to their span, so no switch but the method's own is in its code.
+use Rattle.std.proofs.Common.{◌≡◌, ℕ, zero, suc, ◌+◌, ◌-◌, ◌*◌, ◌%◌, ◌≤◌, ◌==◌, Bool, true, false, ◌||◌, if◌then◌else◌, List, [], ◌∷◌, ◌++◌, length, map, replicate, Option, refl, ap, ◌∙◌, arith, append_assoc}
+use Rattle.std.specs.List.{flat_map, list_all}
+use Rattle.std.proofs.lemmas.Bool.{and_from, and_parts, eq-eqb}
+use Rattle.jvm_code.specs.declared.names.branch_name.BranchName.TheVariants.{IfIcmpne}
+use Rattle.jvm_program.specs.declared.local_kind.LocalKind.TheVariants as local_kinds
+use Rattle.jvm_program.specs.declared.instruction.Instruction.TheVariants as instructions
+use Rattle.mips_decode.specs.Targets.{branch_target, jump_target}
+use Rattle.mips_decode.specs.declared.inst.Inst.{Inst}
+use Rattle.mips_decode.specs.declared.inst.Inst.TheVariants as inst
+use Rattle.delay_slots.specs.declared.unit.Unit.{Unit}
+use Rattle.delay_slots.specs.declared.unit.Unit.TheVariants.{Plain, Branch, SlotMissing, SlotIsBranch, Call, Trap}
+use Rattle.block_builder.specs.Blocks.{unit_at}
+use Rattle.code_steps.specs.declared.step.Step.{Step}
+use Rattle.code_steps.specs.declared.step.Step.TheVariants.{Does, Skips, Leaves, Selects}
+use Rattle.code_steps.specs.Widths.{width, size}
+use Rattle.code_assembly.specs.Assembling.{switches_are_placed}
+use Rattle.guest_match.specs.Match.{pc_field}
+use Rattle.guest_code.specs.Access.{push_word, put_field}
+use Rattle.guest_code.specs.Branching.{behind_slot}
+use Rattle.guest_code.specs.Units.{unit_code, next_address}
+use Rattle.word_emitter.specs.declared.extent.Extent.{Extent}
+use Rattle.word_emitter.specs.Pieces.{is_likely, piece_units, warm_code}
+use Rattle.word_emitter.specs.Exits.{has, follows, returns, arrive, last_way, two_ways, branch_exit, passing_exit, next_exit, exit_code}
+use Rattle.span_code.specs.declared.span_words.SpanWords.{SpanWords}
+use Rattle.span_code.specs.Pieces.{begins, piece_at}
+use Rattle.span_code.specs.Neighbours.{address, is_inner, next_such}
+use Rattle.span_code.specs.Parts.{extent, exit_of, warm_part, cold_part}
+use Rattle.span_code.specs.Opening.{index_code, padding}
+use Rattle.span_code.specs.Laying.{warm_before, cold_before, return_offset, targets_of, laid_step, switch, span_code}
+use Rattle.span_code.specs.Keeping.{keeps_to}
+use Rattle.span_code.proofs.StepMarks.{marks}
+use Rattle.span_code.proofs.UnitMarks.{unit-marks, warm-marks}
+
+-- ---- codes one after the other
+
+keep-append : (span : Extent) (code others : List Step) → list_all (keeps_to span) code ≡ true → list_all (keeps_to span) others ≡ true
+    → list_all (keeps_to span) (code ++ others) ≡ true
+keep-append span [] others front back = back
+keep-append span (s ∷ code) others front back =
+    let parts = and_parts (keeps_to span s) (list_all (keeps_to span) code) front in
+    and_from (keeps_to span s) (list_all (keeps_to span) (code ++ others)) parts.0 (keep-append span code others parts.1 back)
+
+keep-all : (span : Extent) (F : ℕ → List Step) → ((k : ℕ) → list_all (keeps_to span) (F k) ≡ true) → (ks : List ℕ)
+    → list_all (keeps_to span) (flat_map F ks) ≡ true
+keep-all span F each [] = refl
+keep-all span F each (k ∷ ks) = keep-append span (F k) (flat_map F ks) (each k) (keep-all span F each ks)
+
+keep-unmarked : (span : Extent) (code : List Step) → marks code ≤ 0 → list_all (keeps_to span) code ≡ true
+keep-unmarked span [] none = refl
+keep-unmarked span (Does instruction ∷ code) none = keep-unmarked span code (omega arith)
+keep-unmarked span (Skips name k ∷ code) none = keep-unmarked span code (omega arith)
+keep-unmarked span (Leaves target ∷ code) none = absurd (omega arith)
+keep-unmarked span (Selects s ∷ code) none = absurd (omega arith)
+
+keep-either : (span : Extent) (b : Bool) (code others : List Step) → list_all (keeps_to span) code ≡ true
+    → list_all (keeps_to span) others ≡ true → list_all (keeps_to span) (if b then code else others) ≡ true
+keep-either span true code others h k = h
+keep-either span false code others h k = k
+
+-- ---- exits
+
+arrive-keeps : (span : Extent) (goal : ℕ) → keeps_to span (arrive span goal) ≡ true
+arrive-keeps span goal = by_test (has span goal) refl
+  where
+    by_test : (b : Bool) → has span goal ≡ b → keeps_to span (if b then Leaves goal else returns) ≡ true
+    by_test true is = is
+    by_test false is = refl
+
+last-keeps : (span : Extent) (behind : Option ℕ) (goal : ℕ) → list_all (keeps_to span) (last_way span behind goal) ≡ true
+last-keeps span behind goal =
+    keep-either span (follows behind goal) [] (arrive span goal ∷ []) refl
+    (and_from (keeps_to span (arrive span goal)) true (arrive-keeps span goal) refl)
+
+two-keeps : (span : Extent) (behind : Option ℕ) (first second : ℕ) → list_all (keeps_to span) (two_ways span behind first second) ≡ true
+two-keeps span behind first second =
+    let looks = Does (instructions.Load local_kinds.Int 0) ∷ push_word first ∷ Skips IfIcmpne 1 ∷ arrive span first ∷ last_way span behind
+    second in
+    keep-either span (has span first || has span second) looks (returns ∷ [])
+    (and_from (keeps_to span (arrive span first)) (list_all (keeps_to span) (last_way span behind second)) (arrive-keeps span first)
+    (last-keeps span behind second)) refl
+
+branch-keeps : (span : Extent) (behind : Option ℕ) (i : Inst) (at : ℕ) → list_all (keeps_to span) (branch_exit span behind i at) ≡ true
+branch-keeps span behind (inst.BranchSign name rs imm) at = two-keeps span behind (branch_target at imm) (behind_slot at)
+branch-keeps span behind (inst.BranchEqual name rs rt imm) at = two-keeps span behind (branch_target at imm) (behind_slot at)
+branch-keeps span behind (inst.BranchZero name rs imm) at = two-keeps span behind (branch_target at imm) (behind_slot at)
+branch-keeps span behind (inst.Jump name index) at = last-keeps span behind (jump_target at index)
+branch-keeps span behind other at = refl
+
+passing-keeps : (span : Extent) (behind : Option ℕ) (i : Inst) (at : ℕ) → list_all (keeps_to span) (passing_exit span behind i at) ≡ true
+passing-keeps span behind i at =
+    keep-either span (is_likely i) (last_way span behind (behind_slot at)) (returns ∷ []) (last-keeps span behind (behind_slot at)) refl
+
+next-keeps : (span : Extent) (behind : Option ℕ) (next : ℕ) → list_all (keeps_to span) (next_exit span behind next) ≡ true
+next-keeps span behind next =
+    keep-either span (follows behind next) [] (if has span next then Leaves next ∷ [] else out) refl (by_test (has span next) refl)
+  where
+    out : List Step
+    out = push_word next ∷ put_field pc_field ∷ returns ∷ []
+
+    by_test : (b : Bool) → has span next ≡ b
+        → list_all (keeps_to span) (if b then Leaves next ∷ [] else push_word next ∷ put_field pc_field ∷ returns ∷ []) ≡ true
+    by_test true is = and_from (has span next) true is refl
+    by_test false is = refl
+
+exit-keeps : (span : Extent) (behind : Option ℕ) (unit : Unit) (at : ℕ) → list_all (keeps_to span) (exit_code span behind unit at) ≡ true
+exit-keeps span behind (Plain i) at = next-keeps span behind (next_address at)
+exit-keeps span behind (Branch i slot) at = branch-keeps span behind i at
+exit-keeps span behind (SlotMissing i) at = passing-keeps span behind i at
+exit-keeps span behind (SlotIsBranch i word) at = passing-keeps span behind i at
+exit-keeps span behind Call at = next-keeps span behind (next_address at)
+exit-keeps span behind (Trap kind value) at = refl
+
+-- ---- parts
+
+warm-keeps : (units : List Unit) (leads : ℕ → Bool) (span : SpanWords) (k : ℕ)
+    → list_all (keeps_to (extent span)) (warm_part units leads span k) ≡ true
+warm-keeps units leads span k =
+    let own = piece_units units (piece_at units leads span k) in
+    let behind = next_such (begins leads span) span k in
+    let last = k + length own - 1 in
+    keep-append (extent span) (warm_code own (address span k)) (exit_of units span behind last)
+    (keep-unmarked (extent span) (warm_code own (address span k)) (warm-marks own (address span k)))
+    (exit-keeps (extent span) behind (unit_at units last) (address span last))
+
+cold-keeps : (units : List Unit) (leads : ℕ → Bool) (span : SpanWords) (k : ℕ)
+    → list_all (keeps_to (extent span)) (cold_part units leads span k) ≡ true
+cold-keeps units leads span k =
+    let behind = next_such (is_inner leads span) span k in
+    keep-append (extent span) (unit_code 0 (unit_at units k) (address span k)) (exit_of units span behind k)
+    (keep-unmarked (extent span) (unit_code 0 (unit_at units k) (address span k)) (unit-marks 0 (unit_at units k) (address span k)))
+    (exit-keeps (extent span) behind (unit_at units k) (address span k))
+
+pub parts-keep : (units : List Unit) (leads : ℕ → Bool) (span : SpanWords)
+    → list_all (keeps_to (extent span)) (warm_before units leads span span.end ++ cold_before units leads span span.end) ≡ true
+parts-keep units leads span =
+    keep-append (extent span) (warm_before units leads span span.end) (cold_before units leads span span.end)
+    (keep-all (extent span) (warm_part units leads span) (warm-keeps units leads span) _)
+    (keep-all (extent span) (cold_part units leads span) (cold-keeps units leads span) _)
+
+-- ---- the switch
+
+placed-parts : (span : Extent) (targets : List ℕ) (otherwise at : ℕ) (code : List Step) → list_all (keeps_to span) code ≡ true
+    → switches_are_placed at (map (laid_step span targets otherwise) code ++ returns ∷ []) ≡ true
+placed-parts span targets otherwise at [] keeps = refl
+placed-parts span targets otherwise at (Does instruction ∷ code) keeps = placed-parts span targets otherwise
+    (at + width (Does instruction)) code keeps
+placed-parts span targets otherwise at (Skips name k ∷ code) keeps = placed-parts span targets otherwise (at + 3) code keeps
+placed-parts span targets otherwise at (Leaves goal ∷ code) keeps =
+    placed-parts span targets otherwise (at + 5) code (and_parts (has span goal) (list_all (keeps_to span) code) keeps).1
+placed-parts span targets otherwise at (Selects s ∷ code) keeps = cc
+
+placed-nops : (n at : ℕ) (code : List Step)
+    → switches_are_placed at (replicate n (Does instructions.Nop) ++ code) ≡ switches_are_placed (at + n) code
+placed-nops zero at code = ap (λ a. switches_are_placed a code) (omega arith)
+placed-nops (suc n) at code = placed-nops n (at + 1) code ∙ ap (λ a. switches_are_placed a code) (omega arith)
+
+placed-index : (first at : ℕ) (code : List Step)
+    → switches_are_placed at (index_code first ++ code) ≡ switches_are_placed (at + size (index_code first)) code
+placed-index first at code = ap (λ a. switches_are_placed a code) (omega arith)
+
+pub code-placed : (units : List Unit) (leads : ℕ → Bool) (span : SpanWords) → switches_are_placed 0 (span_code units leads span) ≡ true
+code-placed units leads span =
+    let first = (extent span).first in
+    let targets = targets_of units leads span in
+    let otherwise = return_offset units leads span in
+    let parts = warm_before units leads span span.end ++ cold_before units leads span span.end in
+    let behind = map (laid_step (extent span) targets otherwise) parts ++ returns ∷ [] in
+    let rest = switch targets otherwise ∷ behind in
+    let bytes = size (index_code first) in
+    let nops = (3 * bytes + 3) % 4 in
+    let here : (0 + nops + bytes) % 4 ≡ 3 = omega arith in
+    ap (switches_are_placed 0) (append_assoc (padding bytes) (index_code first) rest)
+    ∙ placed-nops nops 0 (index_code first ++ rest)
+    ∙ placed-index first (0 + nops) rest
+    ∙ and_from ((0 + nops + bytes) % 4 == 3) (switches_are_placed (0 + nops + bytes + width (switch targets otherwise)) behind)
+    (eq-eqb ((0 + nops + bytes) % 4) 3 here)
+    (placed-parts (extent span) targets otherwise (0 + nops + bytes + width (switch targets otherwise)) parts (parts-keep units leads span))

@@ -1,0 +1,12 @@
+pub mod PieceLemmas
+pub mod NeighbourLemmas
+pub mod BodyLemmas
+pub mod TargetLemmas
+pub mod SizeLemmas
+pub mod ErrorLemmas
+pub mod StandingLemmas
+pub mod StepMarks
+pub mod InstructionMarks
+pub mod TransferMarks
+pub mod UnitMarks
+pub mod KeepLemmas

@@ -1,0 +1,60 @@
+-- The code of units goes to no offset, and their exits go to words of the span.
+use Rattle.std.proofs.Common.{ℕ, ◌+◌, ◌≤◌, Bool, true, false, if◌then◌else◌, List, [], ◌∷◌, ◌++◌, arith}
+use Rattle.std.specs.List.{flat_map, range_with_len}
+use Rattle.mips_decode.specs.Effect.{fetch_fault, branch_in_slot_fault}
+use Rattle.delay_slots.specs.declared.unit.Unit.{Unit}
+use Rattle.delay_slots.specs.declared.unit.Unit.TheVariants.{Plain, Branch, SlotMissing, SlotIsBranch, Call, Trap}
+use Rattle.code_steps.specs.declared.step.Step.{Step}
+use Rattle.guest_code.specs.Faulting.{fault_code}
+use Rattle.guest_code.specs.Units.{instruction_code, unit_code, next_address}
+use Rattle.word_emitter.specs.Pieces.{is_needed, is_written, bank_of, units_code, fetched, put_back, for_registers, warm_code}
+use Rattle.span_code.proofs.StepMarks.{marks, marks-append}
+use Rattle.span_code.proofs.InstructionMarks.{fault-marks, call-marks, instruction-marks}
+use Rattle.span_code.proofs.TransferMarks.{transfer-marks}
+
+pub unit-marks : (bank : ℕ) (unit : Unit) (at : ℕ) → marks (unit_code bank unit at) ≤ 0
+unit-marks bank (Plain i) at = instruction-marks bank i at
+unit-marks bank (Branch i slot) at =
+    omega (arith, transfer-marks bank i at (instruction_code bank slot (next_address at)), instruction-marks bank slot (next_address at))
+unit-marks bank (SlotMissing i) at =
+    let fault = fault_code fetch_fault (next_address at) (next_address at) in
+    omega (arith, transfer-marks bank i at fault, fault-marks fetch_fault (next_address at) (next_address at))
+unit-marks bank (SlotIsBranch i word) at =
+    let fault = fault_code branch_in_slot_fault (next_address at) word in
+    omega (arith, transfer-marks bank i at fault, fault-marks branch_in_slot_fault (next_address at) word)
+unit-marks bank Call at = call-marks bank
+unit-marks bank (Trap kind value) at = fault-marks kind at value
+
+-- ---- warm code
+
+units-marks : (bank : ℕ) (units : List Unit) (at : ℕ) → marks (units_code bank units at) ≤ 0
+units-marks bank [] at = omega arith
+units-marks bank (unit ∷ units) at =
+    omega (
+      arith,
+      marks-append (unit_code bank unit at) (units_code bank units (at + 4)),
+      unit-marks bank unit at,
+      units-marks bank units
+          (at + 4),
+    )
+
+some-marks : (b : Bool) (code : List Step) → marks code ≤ 0 → marks (if b then code else []) ≤ 0
+some-marks true code none = none
+some-marks false code none = omega arith
+
+each-marks : (test : ℕ → Bool) (code : ℕ → List Step) → ((r : ℕ) → marks (code r) ≤ 0) → (rs : List ℕ)
+    → marks (flat_map (λ r. if test r then code r else []) rs) ≤ 0
+each-marks test code none [] = omega arith
+each-marks test code none (r ∷ rs) =
+    let here = if test r then code r else [] in
+    let others = flat_map (λ r. if test r then code r else []) rs in
+    omega (arith, marks-append here others, some-marks (test r) (code r) (none r), each-marks test code none rs)
+
+pub warm-marks : (units : List Unit) (at : ℕ) → marks (warm_code units at) ≤ 0
+warm-marks units at =
+    let fetches = for_registers (is_needed units) fetched in
+    let body = units_code (bank_of units) units at in
+    let put_backs = for_registers (is_written units) put_back in
+    let a : marks fetches ≤ 0 = each-marks (is_needed units) fetched (λ r. omega arith) (range_with_len 1 31) in
+    let b : marks put_backs ≤ 0 = each-marks (is_written units) put_back (λ r. omega arith) (range_with_len 1 31) in
+    omega (arith, a, b, units-marks (bank_of units) units at, marks-append (fetches ++ body) put_backs, marks-append fetches body)

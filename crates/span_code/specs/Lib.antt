@@ -1,0 +1,9 @@
+pub mod Pieces
+pub mod Neighbours
+pub mod Parts
+pub mod Opening
+pub mod Laying
+pub mod Bodies
+pub mod Locals
+pub mod Standing
+pub mod Keeping

@@ -1,0 +1,59 @@
+//! Code that is laid down part by part.
+ghost use Rattle.std.specs.Prelude.{◌≡◌, ◌+◌, ◌≤◌, ◌<◌, ◌++◌, [], IfNone, IfSome, OnOk, Err};
+ghost use Rattle.code_steps.specs.Widths.{size};
+ghost use Rattle.span_code.specs.declared.span_error.SpanError.TheVariants.{TooLong};
+
+use crate::span_error::SpanError;
+use code_assembly::code_size;
+use code_steps::Step;
+use std::alloc::Global;
+
+/// The most bytes that the code of a method has.
+pub const MOST_BYTES: u32 = 65_535;
+
+/// Steps that are laid down, and the offset behind them.
+#[derive(Drop)]
+pub struct Laid {
+    pub steps: Vec<Step>,
+    pub end: u32,
+}
+
+impl Laid {
+    /// No steps at an offset.
+    pub fn at(alloc: Global, end: u32) -> Laid
+        ensures steps { result.steps.items ≡ [] }
+        ensures end { result.end ≡ end }
+    {
+        Laid {
+            steps: Vec::new(alloc),
+            end,
+        }
+    }
+
+    /// Lays steps down behind the others, as far as a method goes.
+    pub fn lay(&mut self, mut part: Vec<Step>) -> Result<(), SpanError>
+        requires { self.old.end ≤ 65535 }
+        ensures steps { OnOk result (self.new.steps.items ≡ self.old.steps.items ++ part.items) }
+        ensures end { OnOk result (self.new.end ≡ self.old.end + size part.items) }
+        ensures small { OnOk result (self.new.end ≤ 65535) }
+        ensures too_long { result ≡ Err TooLong → 65535 < self.old.end + size part.items }
+    {
+        let Some(end) = end_of(&part, self.end) else {
+            return Err(SpanError::TooLong);
+        };
+        self.steps.append(&mut part)?;
+        self.end = end;
+        Ok(())
+    }
+}
+
+/// The offset behind code at an offset, as far as a method goes.
+fn end_of(code: &[Step], at: u32) -> Option<u32>
+    requires { at ≤ 65535 }
+    ensures end { IfSome result (λ end. end ≡ at + size code.now) }
+    ensures small { IfSome result (λ end. end ≤ 65535) }
+    ensures too_long { IfNone result (65535 < at + size code.now) }
+{
+    let end = at.checked_add(code_size(code)?)?;
+    if end <= MOST_BYTES { Some(end) } else { None }
+}

@@ -1,0 +1,141 @@
+//! The code of words before it is laid down: steps that leave name addresses.
+ghost use Rattle.std.specs.Prelude.{◌≡◌, ◌+◌, ◌-◌, ◌*◌, ◌^◌, ◌<◌, ◌≤◌, ◌++◌, if◌then◌else◌, IfOk, IsTrue, OnOk, length};
+ghost use Rattle.word_emitter.specs.Pieces.{ends_with_slot, piece_units};
+ghost use Rattle.span_code.specs.Pieces as pieces;
+ghost use Rattle.span_code.specs.Pieces.{flagged};
+ghost use Rattle.span_code.specs.Parts as parts;
+
+use crate::NoMemory;
+use crate::neighbours::{next_inner, next_piece};
+use crate::span_words::SpanWords;
+use block_builder::{Block, words_of};
+use code_steps::Step;
+use delay_slots::Unit;
+use guest_code::{Bank, append_unit};
+use std::alloc::Global;
+use word_emitter::{Extent, append_exit, append_warm};
+
+/// The warm code of a piece, which begins with a word, and its exit.
+///
+/// # Errors
+/// Want of memory for the code.
+pub fn warm_part(
+    alloc: Global,
+    units: &[Unit],
+    leads: &[bool],
+    span: SpanWords,
+    k: u32,
+    piece: &Block,
+) -> Result<Vec<Step>, NoMemory>
+    requires same_len { length leads.now ≡ length units.now }
+    requires below_end { span.start + 4 * length units.now < 2 ^ 32 }
+    requires begins_within { (span.first ≤ k) × (k < span.end) }
+    requires ends_within { span.end ≤ length units.now }
+    requires piece { piece.now ≡ pieces.piece_at units.now (flagged leads.now) span k }
+    ensures { IfOk result (λ code. code.items ≡ parts.warm_part units.now (flagged leads.now) span k) }
+{
+    let own = own_units(units, piece);
+    let last = k + (own.len() - 1) as u32;
+    let mut code = Vec::new(alloc);
+    append_warm(alloc, own, span.address(k), &mut code)?;
+    append_exit_of(units, span, next_piece(leads, span, k), last, &mut code)?;
+    Ok(code)
+}
+
+/// The code of a word alone and its exit.
+///
+/// # Errors
+/// Want of memory for the code.
+pub fn cold_part(
+    alloc: Global,
+    units: &[Unit],
+    leads: &[bool],
+    span: SpanWords,
+    k: u32,
+) -> Result<Vec<Step>, NoMemory>
+    requires same_len { length leads.now ≡ length units.now }
+    requires below_end { span.start + 4 * length units.now < 2 ^ 32 }
+    requires begins_within { (span.first ≤ k) × (k < span.end) }
+    requires ends_within { span.end ≤ length units.now }
+    ensures { IfOk result (λ code. code.items ≡ parts.cold_part units.now (flagged leads.now) span k) }
+{
+    let mut code = Vec::new(alloc);
+    append_unit(
+        alloc,
+        &Bank::cold(),
+        &units[k as usize],
+        span.address(k),
+        &mut code,
+    )?;
+    append_exit_of(units, span, next_inner(leads, span, k), k, &mut code)?;
+    Ok(code)
+}
+
+/// The addresses of the span.
+pub fn extent(span: SpanWords) -> Extent
+    requires ordered { span.first ≤ span.end }
+    requires below_end { span.start + 4 * span.end < 2 ^ 32 }
+    ensures { result ≡ parts.extent span }
+{
+    Extent {
+        first: span.address(span.first),
+        end: span.address(span.end),
+    }
+}
+
+fn append_exit_of(
+    units: &[Unit],
+    span: SpanWords,
+    behind: Option<u32>,
+    k: u32,
+    code: &mut Vec<Step>,
+) -> Result<(), NoMemory>
+    requires ordered { (span.first ≤ span.end) × (span.end ≤ length units.now) }
+    requires below_end { span.start + 4 * length units.now < 2 ^ 32 }
+    requires within { k < length units.now }
+    ensures { OnOk result (code.new.items ≡ code.old.items ++ parts.exit_of units.now span behind k) }
+{
+    append_exit(
+        extent(span),
+        behind,
+        &units[k as usize],
+        span.address(k),
+        code,
+    )
+}
+
+/// The units of a piece: the word of the delay slot of its branch is in the branch's unit.
+fn own_units<'a>(units: &'a [Unit], piece: &Block) -> &'a [Unit]
+    requires some { 0 < piece.now.words }
+    requires within { piece.now.first + piece.now.words ≤ length units.now }
+    ensures value { result.now ≡ piece_units units.now piece.now }
+    ensures some { 0 < length result.now }
+    ensures few { length result.now ≤ piece.now.words }
+{
+    let (_, rest) = units.split_at(piece.first as usize);
+    let (own, _) = rest.split_at(own_words(units, piece) as usize);
+    own
+}
+
+fn own_words(units: &[Unit], piece: &Block) -> u32
+    requires some { 0 < piece.now.words }
+    requires within { piece.now.first + piece.now.words ≤ length units.now }
+    ensures value { result ≡ (if ends_with_slot units.now piece.now then piece.now.words - 1 else piece.now.words) }
+    ensures some { 0 < result }
+    ensures few { result ≤ piece.now.words }
+{
+    if ends_with_slot(units, piece) {
+        piece.words - 1
+    } else {
+        piece.words
+    }
+}
+
+fn ends_with_slot(units: &[Unit], piece: &Block) -> bool
+    requires { piece.now.first + piece.now.words ≤ length units.now }
+    ensures value { result ≡ ends_with_slot units.now piece.now }
+    ensures many { IsTrue result → 2 ≤ piece.now.words }
+{
+    let end = piece.first as usize + piece.words as usize;
+    piece.words >= 2 && words_of(&units[end - 2]) == 2
+}

@@ -1,0 +1,23 @@
+ghost use Rattle.std.specs.Prelude.{◌≡◌, ◌+◌, ◌*◌, ◌^◌, ◌<◌};
+ghost use Rattle.span_code.specs.Neighbours as neighbours;
+
+/// The words of a span, as words of its range: they are counted from the range's first word on, which is word 0.
+#[derive(Clone, Copy)]
+pub struct SpanWords {
+    /// The address of the range's first word.
+    pub start: u32,
+    /// The span's first word.
+    pub first: u32,
+    /// The word behind its last one.
+    pub end: u32,
+}
+
+impl SpanWords {
+    /// The address of a word.
+    pub(crate) fn address(self, k: u32) -> u32
+        requires { self.start + 4 * k < 2 ^ 32 }
+        ensures { result ≡ neighbours.address self k }
+    {
+        self.start + 4 * k
+    }
+}

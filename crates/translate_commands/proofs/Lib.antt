@@ -1,0 +1,5 @@
+pub mod FileLemmas
+pub mod StoreLemmas
+pub mod TranslationLemmas
+pub mod MakeLemmas
+pub mod GoLemmas

@@ -1,0 +1,5 @@
+pub mod Classes
+pub mod Stores
+pub mod Translate
+pub mod Go
+pub mod Make

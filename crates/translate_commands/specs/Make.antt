@@ -1,0 +1,93 @@
+-- What `make` is to do.
+use Rattle.std.specs.Prelude.{◌≡◌, ℕ, ◌+◌, ◌*◌, List, [], ◌∷◌, codes, decimal, Option, Some, None}
+use Rattle.command_words.specs.Word.{Text}
+use Rattle.command_words.specs.declared.pages.Pages.{Pages}
+use Rattle.elf_image.specs.Start.{Source, image_of}
+use Rattle.elf_writer.specs.Fields.{words}
+use Rattle.guest_commands.specs.Imaging.{IsDueOfSource, source_of}
+use Rattle.jvm_code.specs.declared.class.Class.{Class}
+use Rattle.jvm_link.specs.Linking.{program_of}
+use Rattle.jvm_program.specs.Step.{loaded, loaded_turn}
+use Rattle.made_program.specs.Words.{made_words}
+use Rattle.mips_asm.specs.File.{IsFileOf}
+use Rattle.mips_decode.specs.Step.{turn}
+use Rattle.mips_machine.specs.Loading.{start_of}
+use Rattle.nv_translate.specs.Bounds.{allow, need}
+use Rattle.nv_translate.specs.Translation.{IsTranslation}
+use Rattle.nv_translate.specs.declared.built.Built.{Built}
+use Rattle.nv_translate.specs.declared.named_file.NamedFile.{NamedFile}
+use Rattle.command_deeds.specs.declared.done.Done.{Done}
+use Rattle.command_deeds.specs.declared.done.Done.TheVariants.{Good, NotBuilt}
+use Rattle.command_deeds.specs.Deeds.{Due, prints, answers}
+use Rattle.command_deeds.specs.Line.{joined, status_of}
+use Rattle.machine_launch.specs.Runs.{answer_of, run_alone}
+use Rattle.translate_commands.specs.Classes.{AreAccepted, IsDueOfFiles}
+use Rattle.translate_commands.specs.declared.statuses.Statuses.{Statuses}
+use Rattle.translate_commands.specs.Translate.{IsDueOfTranslation}
+
+-- the name of a made program
+abbrev pub made_name : Text
+made_name = codes "Main"
+
+abbrev pub made_pages : Pages
+made_pages = record { heap = 256; stack = 64 }
+
+-- five for each block, three at the end, and the call before the first
+abbrev pub made_steps : ℕ → ℕ
+made_steps count = 5 * count + 4
+
+-- how the program ends in the reference machine within so many steps, and how its classes end
+abbrev pub interp_end : ℕ → ℕ → Source → Done
+interp_end steps moment source = answer_of (run_alone steps turn (start_of (image_of source)) made_name moment).outcome
+
+abbrev pub classes_end : ℕ → ℕ → Source → List Class → Done
+classes_end steps moment source classes =
+    let mapped = (image_of source).mapped in
+    answer_of (run_alone (allow mapped steps) loaded_turn (loaded (program_of classes) (need mapped)) made_name moment).outcome
+
+-- how many words the program has, and both statuses
+abbrev pub made_lines : ℕ → ℕ → ℕ → List ℕ
+made_lines count interp classes = joined (
+    codes "words " ∷ decimal (6 * count + 3) ∷ codes "\ninterp " ∷ decimal interp ∷ codes "\nclasses " ∷ decimal classes ∷ codes "\n" ∷ []
+    )
+
+abbrev pub told : ℕ → ℕ → ℕ → Due
+told count interp classes = record { deeds = prints (made_lines count interp classes) ∷ []; answer = Good }
+
+abbrev pub made : ℕ → ℕ → Source → List Class → Due
+made count moment source classes =
+    told count (status_of (interp_end (made_steps count) moment source)) (status_of (classes_end (made_steps count) moment source classes))
+
+abbrev pub IsDueOfClasses : ℕ → ℕ → Source → Built → Due → Type 0
+IsDueOfClasses count moment source built = IsDueOfFiles built.files.items (λ classes due. due ≡ made count moment source classes)
+
+-- what is due of the image of the program
+abbrev pub IsDueOfMade : ℕ → ℕ → ℕ → Source → Due → Type 0
+IsDueOfMade count method_bytes moment source = IsDueOfTranslation source made_name method_bytes (IsDueOfClasses count moment source)
+
+-- what `make` is to do: it writes the file of the program for itself
+abbrev pub IsDueOfMake : ℕ → ℕ → ℕ → Due → Type 0
+IsDueOfMake count method_bytes moment due =
+    (file : List ℕ) × IsFileOf (words (made_words count)) [] file
+    × IsDueOfSource (IsDueOfMade count method_bytes moment) (source_of made_pages file) due
+
+-- ---- the runs
+
+-- the classes of files are accepted and end so, or they are refused
+abbrev pub IsEndOfFiles : ℕ → ℕ → Source → List NamedFile → Option Done → Type 0
+IsEndOfFiles steps moment source files (Some end) =
+    (classes : List Class) × AreAccepted files classes × (end ≡ classes_end steps moment source classes)
+IsEndOfFiles steps moment source files None = IsDueOfFiles files (λ classes due. ⊥) (answers NotBuilt)
+
+-- a translation ends so, or it was not made, or is refused
+abbrev pub IsEndOfTranslation : ℕ → ℕ → Source → ℕ → Option Done → Type 0
+IsEndOfTranslation steps moment source method_bytes (Some end) =
+    (built : Built) × IsTranslation source made_name method_bytes built × IsEndOfFiles steps moment source built.files.items (Some end)
+IsEndOfTranslation steps moment source method_bytes None =
+    IsDueOfTranslation source made_name method_bytes (λ built. IsDueOfFiles built.files.items (λ classes due. ⊥)) (answers NotBuilt)
+
+-- both statuses are told, or nothing is
+abbrev pub AreStatuses : ℕ → ℕ → ℕ → Source → Option Statuses → Type 0
+AreStatuses count method_bytes moment source (Some statuses) =
+    IsDueOfMade count method_bytes moment source (told count statuses.interp statuses.classes)
+AreStatuses count method_bytes moment source None = IsDueOfMade count method_bytes moment source (answers NotBuilt)

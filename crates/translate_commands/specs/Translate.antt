@@ -1,0 +1,33 @@
+-- What `translate` is to do.
+use Rattle.std.specs.Prelude.{◌≡◌, ◌⊎◌, ℕ, List, [], ◌∷◌, ◌++◌, length, codes, decimal, Option}
+use Rattle.command_words.specs.Word.{Text}
+use Rattle.command_words.specs.declared.pages.Pages.{Pages}
+use Rattle.elf_image.specs.Start.{Source}
+use Rattle.guest_commands.specs.Imaging.{IsDueOfProgram}
+use Rattle.nv_translate.specs.Translation.{IsTranslation}
+use Rattle.nv_translate.specs.declared.built.Built.{Built}
+use Rattle.command_deeds.specs.declared.done.Done.TheVariants.{Good, NotBuilt}
+use Rattle.command_deeds.specs.Deeds.{Due, prints, answers}
+use Rattle.command_deeds.specs.Line.{joined}
+use Rattle.translate_commands.specs.Stores.{stored}
+
+-- What is due of a translation of a program under a name. A program that needs more than class files hold is not translated.
+abbrev pub IsDueOfTranslation : Source → Text → ℕ → (Built → Due → Type 0) → Due → Type 0
+IsDueOfTranslation source name method_bytes IsDueWith due =
+    (due ≡ answers NotBuilt) ⊎ ((built : Built) × IsTranslation source name method_bytes built × IsDueWith built due)
+
+-- how many files there are, and the words of the region in which they run
+abbrev pub counts_line : Built → List ℕ
+counts_line built =
+    joined (codes "classes " ∷ decimal (length built.files.items) ∷ codes " need " ∷ decimal built.layout.need ∷ codes "\n" ∷ [])
+
+-- the files are stored, and counted
+abbrev pub translated : Built → Due
+translated built = record { deeds = stored built.files.items ++ prints (counts_line built) ∷ []; answer = Good }
+
+abbrev pub IsDueOfBuilt : Text → ℕ → Source → Due → Type 0
+IsDueOfBuilt name method_bytes source due = IsDueOfTranslation source name method_bytes (λ built due. due ≡ translated built) due
+
+-- what `translate` is to do, given the file that a word names, if it is there
+abbrev pub IsDueOfTranslate : ℕ → Text → Pages → ℕ → Option (List ℕ) → Due → Type 0
+IsDueOfTranslate word name pages method_bytes found due = IsDueOfProgram word pages (IsDueOfBuilt name method_bytes) found due

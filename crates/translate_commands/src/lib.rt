@@ -1,0 +1,15 @@
+//! The commands that translate programs: `translate`, `go` and `make`.
+#![tactic(auto)]
+
+mod alone_runs;
+mod classes;
+mod going;
+mod making;
+mod running;
+mod statuses;
+mod storing;
+mod translating;
+
+pub use going::go;
+pub use making::make;
+pub use translating::translate;

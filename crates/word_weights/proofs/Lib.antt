@@ -1,0 +1,6 @@
+pub mod StepSizes
+pub mod InstructionSizes
+pub mod TransferSizes
+pub mod UnitSizes
+pub mod Counts
+pub mod PieceSizes
