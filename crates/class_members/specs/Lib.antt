@@ -1,3 +1,4 @@
 pub mod ClassNames
 pub mod Fields
 pub mod Helpers
+pub mod Numbers

@@ -1,1 +1,1 @@
-mod RangeLemmas
+pub mod RangeLemmas

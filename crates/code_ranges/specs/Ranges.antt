@@ -1,10 +1,10 @@
 -- A range of a program's code as units.
-use Rattle.std.specs.Prelude.{◌≡◌, ℕ, ◌+◌, ◌*◌, ◌<◌, false, List, length, slice_index_or, Option, Some}
+use Rattle.std.specs.Prelude.{◌≡◌, ℕ, ◌+◌, ◌*◌, ◌<◌, Bool, false, List, length, slice_index_or, Option, Some}
 use Rattle.elf_reader.specs.declared.range.Range.{Range}
 use Rattle.mips_decode.specs.Table.{is_float}
 use Rattle.delay_slots.specs.Units.{units_of}
 use Rattle.block_builder.specs.Leaders.{AreLeaders}
-use Rattle.code_ranges.specs.declared.code.RangeCode.{RangeCode}
+use Rattle.delay_slots.specs.declared.unit.Unit.{Unit}
 
 -- a word stands at an address, and it is none of the floating-point coprocessor
 pub record IsWordAt (code : ℕ → Option ℕ) (at word : ℕ) : Type 0 where
@@ -17,10 +17,8 @@ pub record AreWords (code : ℕ → Option ℕ) (range : Range) (words : List �
   pub each : (k : ℕ) → k < range.words → code (range.first + 4 * k) ≡ Some (slice_index_or words k 0)
 
 -- the units of a range and its leaders
-pub record IsRangeCode (code : ℕ → Option ℕ) (range : Range) (c : RangeCode) : Type 0 where
+pub record IsRangeCode (code : ℕ → Option ℕ) (range : Range) (units : List Unit) (leads : List Bool) : Type 0 where
   pub words : List ℕ
   pub are_words : AreWords code range words
-  pub start : c.start ≡ range.first
-  pub units : c.units.items ≡ units_of words
-  pub count : length c.units.items ≡ range.words
-  pub leads : AreLeaders c.units.items c.start c.leads.items
+  pub units_are : units ≡ units_of words
+  pub leads_are : AreLeaders units range.first leads

@@ -1,5 +1,5 @@
 //! A range of code.
-ghost use Rattle.std.specs.Prelude.{IfOk};
+ghost use Rattle.std.specs.Prelude.{◌≡◌, IfOk, length};
 ghost use Rattle.elf_image.specs.Start.{image_of};
 ghost use Rattle.elf_image.specs.Whole.{IsWholeRange};
 ghost use Rattle.code_ranges.specs.Ranges.{IsRangeCode};
@@ -29,7 +29,9 @@ pub struct RangeCode {
 /// Want of memory for it.
 pub fn range_code(alloc: Global, image: &Image, range: Range) -> Result<RangeCode, NoMemory>
     requires { IsWholeRange (image_of image.now).code range }
-    ensures { IfOk result (IsRangeCode (image_of image.now).code range) }
+    ensures code { IfOk result (λ c. IsRangeCode (image_of image.now).code range c.units.items c.leads.items) }
+    ensures start { IfOk result (λ c. c.start ≡ range.first) }
+    ensures count { IfOk result (λ c. length c.units.items ≡ range.words) }
 {
     let words = range_words(alloc, image, range)?;
     let units = units(alloc, words.as_slice())?;

@@ -1,2 +1,1 @@
-pub mod SpanLemmas
-pub mod FileLemmas
+mod RiseLemmas

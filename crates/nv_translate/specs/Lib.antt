@@ -1,5 +1,3 @@
 pub mod Bounds
-pub mod Spans
-pub mod Files
-pub mod Parts
+pub mod MainFile
 pub mod Translation

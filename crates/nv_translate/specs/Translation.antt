@@ -1,20 +1,35 @@
 -- What a translation of a program is.
-use Rattle.std.specs.Prelude.{◌≡◌, ℕ, List, ◌∷◌, ◌++◌}
+use Rattle.std.specs.Prelude.{◌≡◌, ℕ, List, ◌∷◌, ◌++◌, map, length}
+use Rattle.std.specs.List.{AllZip}
 use Rattle.command_words.specs.Word.{Text}
 use Rattle.elf_image.specs.Start.{Source, image_of}
-use Rattle.class_members.specs.ClassNames.{file_name}
+use Rattle.class_members.specs.Numbers.{main_methods}
+use Rattle.program_files.specs.declared.named_file.NamedFile.{NamedFile}
+use Rattle.code_files.specs.Classes.{Placed, AreCodeClasses, IsCodeFile, methods_behind, run_of, starts_of, spans_of}
+use Rattle.data_files.specs.Files.{AreDataFiles, class_count, filled_pages, fills_of}
 use Rattle.nv_translate.specs.declared.built.Built.{Built}
-use Rattle.nv_translate.specs.declared.named_file.NamedFile.{NamedFile}
 use Rattle.nv_translate.specs.Bounds.{need}
-use Rattle.nv_translate.specs.Files.{name_of, AreFiles, IsCodeFile, IsDataFile}
+use Rattle.nv_translate.specs.MainFile.{IsMainFile}
 
--- The files: the main class, then the classes of code, then those of data. The layout's need is that of the mapped pages.
+-- how many methods the main class and classes of code have
+abbrev pub code_methods : List Placed → ℕ
+code_methods code = methods_behind main_methods code
+
+-- the numbers of the methods `fill` of a program's classes of data, behind these classes of code
+abbrev pub fills_behind : Source → List Placed → List ℕ
+fills_behind source code = fills_of (code_methods code) (class_count (filled_pages source))
+
+-- The files: the main class, then the classes of code, then those of data. The layout has the spans of the classes of code, and its need is
+-- that of the mapped pages.
 pub record IsTranslation (source : Source) (name : Text) (method_bytes : ℕ) (built : Built) : Type 0 where
-  pub main : NamedFile
-  pub code : List NamedFile
-  pub stored : List NamedFile
-  pub files : built.files.items ≡ main ∷ (code ++ stored)
-  pub main_is : name_of main ≡ file_name name
-  pub code_are : AreFiles (IsCodeFile name method_bytes) 0 code
-  pub data_are : AreFiles (IsDataFile name) 0 stored
-  pub need : built.layout.need ≡ need (image_of source).mapped
+  pub code : List Placed
+  pub code_is : AreCodeClasses source method_bytes code
+  pub main_file : NamedFile
+  pub code_files : List NamedFile
+  pub data_files : List NamedFile
+  pub files_are : built.files.items ≡ main_file ∷ (code_files ++ data_files)
+  pub main_is : IsMainFile source name (starts_of code) (map run_of code) (fills_behind source code) main_file
+  pub code_are : AllZip (IsCodeFile name) code code_files
+  pub data_are : AreDataFiles name (length code) (code_methods code) (filled_pages source) (class_count (filled_pages source)) data_files
+  pub spans_are : built.layout.spans.items ≡ spans_of code
+  pub need_is : built.layout.need ≡ need (image_of source).mapped

@@ -1,5 +1,5 @@
 use crate::layout::Layout;
-use crate::named_file::NamedFile;
+use program_files::NamedFile;
 
 /// What a program is translated to.
 #[derive(Debug, Drop)]

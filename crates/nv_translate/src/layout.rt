@@ -1,5 +1,4 @@
-use crate::block_info::BlockInfo;
-use crate::span_info::SpanInfo;
+use code_files::{BlockInfo, SpanInfo};
 
 /// Where the words of a program stand in its classes, and how much memory a run of them takes.
 #[derive(Debug, Drop)]

@@ -1,25 +1,16 @@
-ghost use Rattle.std.specs.Prelude.{◌≡◌, ◌<◌, ◌≤◌, ◌^◌, ◌∷◌, ◌++◌, IfOk, IsTrue, length};
-ghost use Rattle.class_members.specs.ClassNames.{file_name};
-ghost use Rattle.nv_translate.specs.Files.{name_of};
+ghost use Rattle.std.specs.Prelude.{◌≡◌, ◌∷◌, ◌++◌, IfOk};
 ghost use Rattle.command_words.specs.Limits.{AreMethodBytes, IsClassName};
 ghost use Rattle.nv_translate.specs.Translation.{IsTranslation};
 
 use crate::bounds::need;
 use crate::built::Built;
-use crate::code::{Code, code_of};
-use crate::data::{Data, data_of};
 use crate::layout::Layout;
-use crate::named_file::NamedFile;
-use crate::translate_error::TranslateError;
-use class_members::file_name;
+use crate::main_file::main_file;
+use code_files::code_of;
+use data_files::data_of;
 use elf_image::Image;
-use loading_code::Beginning;
-use page_runs::page_runs;
-use program_classes::{MainClass, main_class};
+use program_files::{NamedFile, TranslateError};
 use std::alloc::Global;
-
-/// How many classes, and how many places at which one of them begins or the code has a gap, there can be.
-const MOST_STARTS: usize = 2_048;
 
 /// Translates a program to class files.
 ///
@@ -50,51 +41,6 @@ pub fn translate(
             need: need(image.mapped()),
         },
     })
-}
-
-fn main_file(
-    alloc: Global,
-    image: &Image,
-    name: &str,
-    code: &Code,
-    stored: &Data,
-) -> Result<NamedFile, TranslateError>
-    ensures { IfOk result (λ file. name_of file ≡ file_name name.now) }
-{
-    if !is_small(code, stored) {
-        return Err(TranslateError::TooLarge);
-    }
-    let runs = page_runs(alloc, image)?;
-    let main = MainClass {
-        beginning: Beginning {
-            entry: image.entry(),
-            heap_start: image.heap_start(),
-            heap_bytes: image.heap_bytes(),
-            order: image.order(),
-        },
-        runs: runs.as_slice(),
-        starts: code.starts.as_slice(),
-        code: code.runs.as_slice(),
-        data: stored.fills.as_slice(),
-    };
-    let bytes = main_class(alloc, name, &main)?;
-    Ok(NamedFile {
-        name: file_name(alloc, name)?,
-        bytes,
-    })
-}
-
-// Whether the main class can choose among so many classes.
-fn is_small(code: &Code, stored: &Data) -> bool
-    ensures some { IsTrue result → 1 ≤ length code.now.starts.items }
-    ensures few { IsTrue result → length code.now.starts.items ≤ 2048 }
-    ensures few_code { IsTrue result → length code.now.runs.items < 2 ^ 16 }
-    ensures few_data { IsTrue result → length stored.now.fills.items < 2 ^ 16 }
-{
-    !code.starts.is_empty()
-        && code.starts.len() <= MOST_STARTS
-        && code.runs.len() <= MOST_STARTS
-        && stored.fills.len() <= MOST_STARTS
 }
 
 // The main class, then those of code, then those of data.

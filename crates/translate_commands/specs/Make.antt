@@ -15,7 +15,7 @@ use Rattle.mips_machine.specs.Loading.{start_of}
 use Rattle.nv_translate.specs.Bounds.{allow, need}
 use Rattle.nv_translate.specs.Translation.{IsTranslation}
 use Rattle.nv_translate.specs.declared.built.Built.{Built}
-use Rattle.nv_translate.specs.declared.named_file.NamedFile.{NamedFile}
+use Rattle.program_files.specs.declared.named_file.NamedFile.{NamedFile}
 use Rattle.command_deeds.specs.declared.done.Done.{Done}
 use Rattle.command_deeds.specs.declared.done.Done.TheVariants.{Good, NotBuilt}
 use Rattle.command_deeds.specs.Deeds.{Due, prints, answers}

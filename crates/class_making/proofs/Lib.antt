@@ -1,0 +1,3 @@
+pub mod ZipLemmas
+pub mod MakingLemmas
+pub mod GrowingLemmas

@@ -1,0 +1,4 @@
+pub mod SpanLemmas
+pub mod PlaceLemmas
+mod WordLemmas
+pub mod ClassLemmas

@@ -1,0 +1,5 @@
+pub mod Spans
+pub mod Places
+pub mod Classes
+pub mod Parts
+pub mod Adding

@@ -1,0 +1,4 @@
+pub mod RiseLemmas
+pub mod FieldLemmas
+pub mod CalledLemmas
+pub mod NameLemmas

@@ -1,0 +1,13 @@
+use Rattle.std.proofs.Common.{◌≡◌, [], length, take, drop}
+use Rattle.class_making.specs.Making.{AddsMethods}
+use Rattle.main_classes.specs.Content.{RiseFrom, behind}
+use Rattle.main_classes.specs.Called.{AreOthers, BeginsWith}
+use Rattle.main_classes.proofs.references.add_references.Given as goal
+
+abbrev pub invariant-loop-i : goal.invariant-loop-i
+invariant-loop-i l =
+    AreOthers l.class.pool l.name l.kind l.numbers l.slots.items l.i
+    × BeginsWith l.initial.slots.items l.slots.items
+    × (length l.slots.items ≡ behind (length l.initial.slots.items) (take l.i l.numbers))
+    × RiseFrom (length l.slots.items) (drop l.i l.numbers)
+    × AddsMethods l.initial.class l.class []

@@ -1,0 +1,44 @@
+use Rattle.std.proofs.Common.{length, ap, sym, ◌∙◌, arith, subst}
+use Rattle.class_making.proofs.MakingLemmas.{adds-nothing}
+use Rattle.main_classes.specs.declared.other_class.OtherClass.TheVariants.{Code}
+use Rattle.main_classes.specs.Content.{RiseFrom, behind}
+use Rattle.main_classes.proofs.RiseLemmas.{rise-front, rise-back}
+use Rattle.main_classes.proofs.CalledLemmas.{begins-further, own-behind, own-later, others-behind, others-later}
+use Rattle.main_classes.proofs.references.method_references.Goals as goal
+
+pub add_references-requires-clause-rise : goal.add_references-requires-clause-rise
+add_references-requires-clause-rise c =
+    let main = c.args.main.now in
+    subst (λ low. RiseFrom low main.code.now) (sym c.in_ok-slots.ensures.count) (rise-front 24 main.code.now main.data.now c.requires.rise)
+
+pub add_references-requires-2-clause-rise : goal.add_references-requires-2-clause-rise
+add_references-requires-2-clause-rise c =
+    let main = c.args.main.now in
+    let low = c.in_ok-add_references.ensures.count ∙ ap (λ n. behind n main.code.now) c.in_ok-slots.ensures.count in
+    subst (λ n. RiseFrom n main.data.now) (sym low) (rise-back 24 main.code.now main.data.now c.requires.rise)
+
+pub returns : goal.returns
+returns c =
+    let main = c.args.main.now in
+    let name = c.args.name.now in
+    let first = c.own_references.new.class in
+    let second = c.add_references.new.class in
+    let third = c.add_references-2.new.class in
+    let own = c.in_ok-slots.slots.items in
+    let some = c.add_references.new.slots.items in
+    let all = c.add_references-2.new.slots.items in
+    let code = c.in_ok-add_references.ensures in
+    let last = c.in_ok-add_references-2.ensures in
+    let grown = adds-nothing first second third code.grown last.grown in
+    record {
+      there = record {
+        own_are =
+            own-behind own all (begins-further own some all code.kept last.kept) third.pool c.args.own (omega (arith, c.in_ok-slots.ensures.count))
+            (own-later first.pool third.pool grown.pool c.args.own own c.in_ok-slots.ensures.there);
+        code_are =
+            others-behind some all last.kept third.pool name Code main.code.now (length main.code.now)
+            (others-later second.pool third.pool last.grown.pool name Code main.code.now some (length main.code.now) code.there);
+        data_are = last.there;
+      };
+      grown = adds-nothing c.args.class.now first third c.in_ok-slots.ensures.grown grown;
+    }

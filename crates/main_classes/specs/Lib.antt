@@ -1,0 +1,5 @@
+pub mod Content
+pub mod Fields
+pub mod Called
+pub mod Naming
+pub mod Main

@@ -1,0 +1,18 @@
+use loading_code::Beginning;
+use page_runs::PageRun;
+use trampoline::Start;
+
+/// What the main class is made of.
+#[derive(Clone, Copy)]
+pub struct MainClass<'a> {
+    /// With what the program begins.
+    pub beginning: Beginning,
+    /// The pages that can be read.
+    pub runs: &'a [PageRun],
+    /// Where the classes of code begin, by the numbers of their methods `run()V`, and behind each range of code the number of `missing()V`.
+    pub starts: &'a [Start],
+    /// The number of the method `run()V` of each class of code.
+    pub code: &'a [u32],
+    /// The number of the method `fill()V` of each class of data.
+    pub data: &'a [u32],
+}

@@ -1,5 +1,0 @@
-pub mod Parts
-pub mod Making
-pub mod Naming
-pub mod Code
-pub mod Mains
