@@ -1,12 +1,9 @@
--- When the fields and the arrays of the class machine hold the state of the guest.
-use Rattle.std.specs.Prelude.{◌≡◌, ℕ, ◌-◌, ◌<◌, true, Option, Some, None}
+-- When the arrays of the class machine hold the memory of the guest, and in which fields its state is.
+use Rattle.std.specs.Prelude.{◌≡◌, ℕ, ◌-◌, Option, Some}
 use Rattle.nv_words.specs.Words.{IsWord}
 use Rattle.nv_events.specs.Memory.{Memory}
 use Rattle.jvm_program.specs.Values.{ints, pages, Heap}
-use Rattle.jvm_program.specs.declared.value.Value.{Value}
-use Rattle.jvm_program.specs.declared.value.Value.TheVariants.{Int as int, Array as array}
 use Rattle.jvm_program.specs.HostMemory.{HostMemory, memory_of}
-use Rattle.mips_decode.specs.State.{State}
 
 -- ---- fields: r1 to r31 are in fields 0 to 30
 
@@ -53,27 +50,3 @@ pub record HoldsMemory (heap : Heap) (readable writable : ℕ) (memory : Memory)
   pub apart : (n k p : ℕ) → readable_pages n ≡ Some p → readable_pages k ≡ Some p → n ≡ k
   pub shared : (n p : ℕ) → writable_pages n ≡ Some p → readable_pages n ≡ Some p
   pub reads : memory_of (host_memory heap readable writable) ≡ memory
-
--- ---- the state
-
--- What does not depend on where the guest stands.
-pub record Holds (fields : ℕ → Value) (heap : Heap) (registers : ℕ → ℕ) (hi lo : ℕ) (memory : Memory) : Type 0 where
-  pub register_is : (r : ℕ) → 0 < r → r < 32 → fields (register_field r) ≡ int (registers r)
-  pub register_word : (r : ℕ) → 0 < r → r < 32 → IsWord (registers r)
-  pub hi_is : fields hi_field ≡ int hi
-  pub hi_word : IsWord hi
-  pub lo_is : fields lo_field ≡ int lo
-  pub lo_word : IsWord lo
-  pub pc : ℕ
-  pub pc_is : fields pc_field ≡ int pc
-  pub readable : ℕ
-  pub readable_is : fields readable_field ≡ array readable
-  pub writable : ℕ
-  pub writable_is : fields writable_field ≡ array writable
-  pub memory_held : HoldsMemory heap readable writable memory
-
--- The fields and arrays match a guest that has begun and whose next instruction is in no delay slot.
-pub record Matches (fields : ℕ → Value) (heap : Heap) (s : State) : Type 0 where
-  pub begun : s.begun ≡ true
-  pub pending : s.pending ≡ None
-  pub held : Holds fields heap s.registers s.hi s.lo s.memory

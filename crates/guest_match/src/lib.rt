@@ -1,4 +1,4 @@
-//! When a state of the class machine matches a state of the guest, and code that follows the guest's steps.
+//! When arrays of the class machine hold the memory of the guest.
 #![tactic(auto)]
 
 pub mod laws;

@@ -1,0 +1,7 @@
+mod Tests
+mod Passing
+mod Chosen
+mod Trees
+mod Choosers
+mod Weighing
+mod Calls

@@ -1,0 +1,5 @@
+pub mod Joining
+pub mod Weighing
+pub mod Through
+pub mod Calling
+pub mod Stopping

@@ -1,0 +1,23 @@
+use Rattle.std.proofs.Common.{◌≡◌, suc, ◌+◌, arith}
+use Rattle.jvm_program.specs.Step.{placed}
+use Rattle.code_steps.specs.Widths.{bytes_before, width}
+use Rattle.code_paths.specs.Paths.{step_weight}
+use Rattle.code_paths.proofs.Joining.{turn-path, seen-within, seen-elsewhere}
+use Rattle.code_paths.proofs.Weighing.{bytes-more, width-some, step-weighs}
+use Rattle.code_paths.proofs.laws.turns_at_steps.Goals as goal
+
+pub returns-clause-within : goal.returns-clause-within
+returns-clause-within c program words m at i code s w others y lies step is =
+    let here = at + bytes_before code i in
+    let more : bytes_before code (suc i) ≡ bytes_before code i + width s = bytes-more code i s step in
+    let some = width-some s in
+    turn-path program words m here (at + bytes_before code (suc i)) (λ weight. step_weight weight s) (placed m here w others) y is
+    (step-weighs program m i code at s lies step w others y)
+    (seen-within program words m here (at + bytes_before code (suc i)) w others (omega (arith, more, some)))
+
+pub returns-clause-elsewhere : goal.returns-clause-elsewhere
+returns-clause-elsewhere c program words own m low at i code s w others y differ lies step is =
+    let here = at + bytes_before code i in
+    turn-path program words m low low (λ weight. step_weight weight s) (placed own here w others) y is
+    (step-weighs program own i code at s lies step w others y)
+    (seen-elsewhere program words m own low here w others differ)

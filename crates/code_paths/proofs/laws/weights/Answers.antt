@@ -1,0 +1,14 @@
+use Rattle.code_paths.proofs.Weighing.{weigh-both, weigh-more, weigh-front, weigh-back}
+use Rattle.code_paths.proofs.laws.weights.Goals as goal
+
+pub returns-clause-both : goal.returns-clause-both
+returns-clause-both c = weigh-both
+
+pub returns-clause-one_more : goal.returns-clause-one_more
+returns-clause-one_more c = weigh-more
+
+pub returns-clause-front : goal.returns-clause-front
+returns-clause-front c = weigh-front
+
+pub returns-clause-back : goal.returns-clause-back
+returns-clause-back c = weigh-back

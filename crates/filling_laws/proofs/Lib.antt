@@ -1,0 +1,15 @@
+pub mod Spelling
+pub mod Reading
+pub mod Passes
+pub mod Returning
+pub mod Fronts
+pub mod Putting
+pub mod Calling
+pub mod Filling
+pub mod Held
+pub mod Making
+pub mod Tables
+pub mod Runs
+pub mod Told
+pub mod Listed
+pub mod Remembering

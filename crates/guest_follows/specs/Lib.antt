@@ -1,0 +1,4 @@
+pub mod Sites
+pub mod Following
+pub mod Knowing
+pub mod Laws

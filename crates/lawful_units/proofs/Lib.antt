@@ -1,0 +1,4 @@
+mod Spelling
+mod Units
+mod Sets
+mod Needing

@@ -1,0 +1,14 @@
+pub mod Coming
+pub mod Widths
+pub mod Finding
+pub mod Accessing
+pub mod Orders
+pub mod Ending
+pub mod Whole
+pub mod Lanes
+pub mod Bytes
+pub mod Merging
+pub mod Parts
+pub mod Loads
+pub mod Results
+pub mod Counts

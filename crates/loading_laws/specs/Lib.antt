@@ -1,0 +1,4 @@
+pub mod Quiet
+pub mod Loaded
+pub mod Made
+pub mod Images

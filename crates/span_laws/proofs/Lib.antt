@@ -1,0 +1,13 @@
+mod Index
+mod Entering
+mod Joining
+mod Leading
+mod Exits
+mod Parts
+mod Going
+mod Words
+mod Straight
+mod Warm
+mod Counting
+mod Made
+mod Guest

@@ -1,0 +1,5 @@
+pub mod Entering
+pub mod Resuming
+pub mod Spans
+pub mod Counting
+pub mod Made

@@ -1,0 +1,4 @@
+pub mod Storing
+pub mod Linking
+pub mod Multiplying
+pub mod Counting

@@ -1,0 +1,3 @@
+pub mod Judging
+pub mod Flowing
+pub mod Bodies
