@@ -1,5 +1,6 @@
 -- The registers before the code of a piece's units, and behind it.
 use Rattle.std.proofs.Common.{◌≡◌, ℕ, ◌<◌, ◌≤◌, ◌||◌, Bool, true, false, not, if◌then◌else◌, inl, inr, List, [], ◌∷◌, Option, Some, None, refl, ap, subst, sym, ◌∙◌, arith}
+use Rattle.std.specs.List.{flat_map}
 use Rattle.std.proofs.lemmas.Bool.{cases_Bool, not_from_false, or_left, or_right, true≢false}
 use Rattle.jvm_program.specs.declared.value.Value.{Value}
 use Rattle.jvm_program.specs.declared.value.Value.TheVariants.{Int as int}
@@ -8,15 +9,17 @@ use Rattle.jvm_program.specs.Effect.{Workspace}
 use Rattle.mips_decode.specs.State.{State}
 use Rattle.delay_slots.specs.declared.unit.Unit.{Unit as Word}
 use Rattle.delay_slots.specs.declared.unit.Unit.TheVariants as units
+use Rattle.block_builder.specs.Registers.{unit_writes}
 use Rattle.guest_match.specs.Match.{HoldsMemory, register_field, hi_field, lo_field, pc_field, readable_field, writable_field}
 use Rattle.guest_code.specs.Access.{keeps}
 use Rattle.guest_code.specs.Fields.{link_field, linked_field}
 use Rattle.word_emitter.specs.Pieces.{bank_of, fetched, is_needed, is_written, put_back}
 use Rattle.register_laws.specs.Holding.{HoldsOn, IsLink, reached}
-use Rattle.piece_laws.specs.Pieces.{HoldsAll, PieceArrives, PieceGoal}
+use Rattle.guest_follows.specs.Knowing.{gained}
+use Rattle.piece_laws.specs.Pieces.{HoldsAll, PieceArrives, PieceGoal, known_first}
 use Rattle.piece_laws.proofs.Fetching.{AreInFields, Fetches, PutsBack, each_code}
 use Rattle.piece_laws.proofs.Running.{HasRun}
-use Rattle.piece_laws.proofs.Sets.{AreLawful, SetLaws, known-behind, known_first, none-kept, written-kept}
+use Rattle.piece_laws.proofs.Sets.{AreLawful, SetLaws, known-behind, none-kept, written-kept}
 
 -- ---- before the units
 
@@ -77,6 +80,46 @@ module _ (program : Program) (words : ℕ) (piece : List Word) (w : Workspace) (
       register r positive below known =
           by-bank r (keeps (bank_of piece) r) positive below (in-bank (keeps (bank_of piece) r) (is_needed piece r) known)
 
+-- ---- where registers are put back
+
+module _ (program : Program) (words : ℕ) (piece : List Word) (u : Workspace) (t : State)
+    (p : PutsBack program words (is_written piece) t.registers 1 31 (each_code (is_written piece) put_back 1 31) u) where
+  -- the other fields stay
+  pub put-field : (g : ℕ) → 31 ≤ g → p.after.fields g ≡ u.fields g
+  put-field g above = p.fields_kept g (λ r low high passes equal. omega (arith, equal, above, low, high))
+
+  module _ (unwritten : (r : ℕ) → 0 < r → r < 32 → is_written piece r ≡ false → u.fields (register_field r) ≡ int (t.registers r)) where
+    put-register : (r : ℕ) → 0 < r → r < 32 → p.after.fields (register_field r) ≡ int (t.registers r)
+    put-register r positive below = elim (cases_Bool (is_written piece r)) [
+      | inl written ↦ p.are_there r positive below written
+      | inr none ↦
+          p.fields_kept (register_field r)
+          (λ q low high passes equal.
+          let alike : q ≡ r = omega (arith, equal, low, positive) in
+          true≢false (sym passes ∙ ap (is_written piece) alike ∙ none))
+          ∙ unwritten r positive below none
+    ]
+
+    -- where those that were not written are in their fields, all are
+    pub put-held : (known : ℕ → Bool) → HoldsOn (bank_of piece) known u t → HoldsAll p.after t
+    put-held known h = record {
+      register_is = λ r positive below known. ap (λ b. if b then p.after.locals r else p.after.fields (register_field r)) (none-kept r) ∙ put-register
+          r positive below;
+      register_word = h.register_word;
+      hi_is = put-field hi_field (omega arith) ∙ h.hi_is;
+      hi_word = h.hi_word;
+      lo_is = put-field lo_field (omega arith) ∙ h.lo_is;
+      lo_word = h.lo_word;
+      pc = h.pc;
+      pc_is = put-field pc_field (omega arith) ∙ h.pc_is;
+      link_is = same-link p.after.fields u.fields t.load_link (put-field linked_field (omega arith)) (put-field link_field (omega arith)) h.link_is;
+      readable = h.readable;
+      readable_is = put-field readable_field (omega arith) ∙ h.readable_is;
+      writable = h.writable;
+      writable_is = put-field writable_field (omega arith) ∙ h.writable_is;
+      memory_held = subst (λ heap. HoldsMemory heap h.readable h.writable t.memory) (sym p.heap_kept) h.memory_held;
+    }
+
 -- ---- behind the units
 
 -- where the goal is kept before and behind the code of units, it is theirs
@@ -127,38 +170,8 @@ module _ (sets : SetLaws) (program : Program) (words : ℕ) (unit : Word) (rest 
   pub arrived : (p : PutsBack program words (is_written piece) t.registers 1 31 (each_code (is_written piece) put_back 1 31) u)
       → PieceArrives piece w p.after t
   arrived p = record {
-    held = record {
-      register_is = λ r positive below known. ap (λ b. if b then p.after.locals r else p.after.fields (register_field r)) (none-kept r) ∙ in-field r
-          positive below;
-      register_word = run.held.register_word;
-      hi_is = same hi_field (omega arith) ∙ run.held.hi_is;
-      hi_word = run.held.hi_word;
-      lo_is = same lo_field (omega arith) ∙ run.held.lo_is;
-      lo_word = run.held.lo_word;
-      pc = run.held.pc;
-      pc_is = same pc_field (omega arith) ∙ run.held.pc_is;
-      link_is = same-link p.after.fields u.fields t.load_link (same linked_field (omega arith)) (same link_field (omega arith)) run.held.link_is;
-      readable = run.held.readable;
-      readable_is = same readable_field (omega arith) ∙ run.held.readable_is;
-      writable = run.held.writable;
-      writable_is = same writable_field (omega arith) ∙ run.held.writable_is;
-      memory_held = subst (λ heap. HoldsMemory heap run.held.readable run.held.writable t.memory) (sym p.heap_kept) run.held.memory_held;
-    };
+    held = put-held program words piece u t p unwritten-there (gained (flat_map unit_writes piece) (known_first piece)) run.held;
     operands_kept = p.operands_kept ∙ run.kept.operands_kept ∙ first.operands_kept;
-    goal = goal-moved w v u p.after t (ap (λ (fields : ℕ → Value). fields pc_field) first.fields_kept) first.goal_kept (same pc_field (omega arith))
-        (ap (λ (locals : ℕ → Value). locals 0) p.locals_kept) rest unit run.goal;
+    goal = goal-moved w v u p.after t (ap (λ (fields : ℕ → Value). fields pc_field) first.fields_kept) first.goal_kept
+        (put-field program words piece u t p pc_field (omega arith)) (ap (λ (locals : ℕ → Value). locals 0) p.locals_kept) rest unit run.goal;
   }
-    where
-      same : (g : ℕ) → 31 ≤ g → p.after.fields g ≡ u.fields g
-      same g above = p.fields_kept g (λ r low high passes equal. omega (arith, equal, above, low, high))
-
-      in-field : (r : ℕ) → 0 < r → r < 32 → p.after.fields (register_field r) ≡ int (t.registers r)
-      in-field r positive below = elim (cases_Bool (is_written piece r)) [
-        | inl written ↦ p.are_there r positive below written
-        | inr none ↦
-            p.fields_kept (register_field r)
-            (λ q low high passes equal.
-            let alike : q ≡ r = omega (arith, equal, low, positive) in
-            true≢false (sym passes ∙ ap (is_written piece) alike ∙ none))
-            ∙ unwritten-there r positive below none
-      ]

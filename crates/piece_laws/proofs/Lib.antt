@@ -1,8 +1,8 @@
-mod Fetching
+pub mod Fetching
 pub mod Within
 pub mod Turns
-mod Sets
-mod Behind
-mod Running
-mod Arriving
+pub mod Sets
+pub mod Behind
+pub mod Running
+pub mod Arriving
 mod Pieces

@@ -17,12 +17,12 @@ use Rattle.guest_follows.proofs.CodeLaws.{code-laws}
 use Rattle.instruction_laws.specs.Instructions.{IsReady}
 use Rattle.lawful_units.specs.Lawful.{IsLawful}
 use Rattle.unit_laws.specs.Units.{UnitFollows}
-use Rattle.piece_laws.specs.Pieces.{AreStraight, HoldsAll, PieceArrives, PieceFollows, piece_turns, then_turns}
+use Rattle.piece_laws.specs.Pieces.{AreStraight, HoldsAll, PieceArrives, PieceFollows, known_first, piece_turns, then_turns}
 use Rattle.piece_laws.proofs.Arriving.{HasBegun, all-in-fields, arrived, begun, written-there}
 use Rattle.piece_laws.proofs.Behind.{three-parts}
 use Rattle.piece_laws.proofs.Fetching.{each_code, fetched-within, fetches, puts-back}
 use Rattle.piece_laws.proofs.Running.{HasRun, NeedLaws, units-follow}
-use Rattle.piece_laws.proofs.Sets.{AreLawful, SetLaws, are-lawful, known_first, needed-first}
+use Rattle.piece_laws.proofs.Sets.{AreLawful, SetLaws, are-lawful, needed-first}
 use Rattle.piece_laws.proofs.Turns.{ChangeWritten}
 use Rattle.piece_laws.proofs.Within.{units-stay}
 

@@ -13,6 +13,7 @@ use Rattle.guest_code.specs.Access.{keeps}
 use Rattle.guest_follows.specs.Knowing.{AreNumbers, gained}
 use Rattle.lawful_units.specs.Lawful.{AreAllKnown, IsLawful, has_register, is_general}
 use Rattle.word_emitter.specs.Pieces.{bank_of, is_in, is_needed, is_written}
+use Rattle.piece_laws.specs.Pieces.{known_first}
 
 -- each unit of a piece is lawful
 abbrev pub AreLawful : List Word → Type 0
@@ -67,10 +68,6 @@ module _ (laws : SetLaws) where
       laws.gained_is (flat_map unit_writes piece) known r ∙ ap (λ b. b || known r) (sym (written-is piece r lawful positive below))
 
 -- ---- before a piece
-
--- the registers that are known once those are fetched that are needed: all but those that are in the bank alone
-abbrev pub known_first : List Word → ℕ → Bool
-known_first piece r = not (keeps (bank_of piece) r) || is_needed piece r
 
 pub needed-first : (piece : List Word) → AreAllKnown (is_needed piece) (known_first piece)
 needed-first piece r positive below needed = or_right (not (keeps (bank_of piece) r)) (is_needed piece r) needed

@@ -1,5 +1,5 @@
 -- When the code of a piece follows the turns of the piece's units.
-use Rattle.std.specs.Prelude.{◌≡◌, ℕ, ◌+◌, ◌*◌, ◌^◌, ◌<◌, true, List, [], ◌∷◌, length, None, ⊤}
+use Rattle.std.specs.Prelude.{◌≡◌, ℕ, ◌+◌, ◌*◌, ◌^◌, ◌<◌, Bool, true, not, ◌||◌, List, [], ◌∷◌, length, None, ⊤}
 use Rattle.nv_words.specs.declared.order.Order.{Order}
 use Rattle.nv_events.specs.Turn.{Turn, moves}
 use Rattle.jvm_program.specs.declared.value.Value.TheVariants.{Int as int}
@@ -12,7 +12,8 @@ use Rattle.block_builder.specs.Leaders.{is_plain}
 use Rattle.code_steps.specs.Widths.{size}
 use Rattle.code_steps.specs.Placing.{LiesAt}
 use Rattle.guest_match.specs.Match.{pc_field}
-use Rattle.word_emitter.specs.Pieces.{warm_code}
+use Rattle.guest_code.specs.Access.{keeps}
+use Rattle.word_emitter.specs.Pieces.{bank_of, is_needed, warm_code}
 use Rattle.register_laws.specs.Holding.{HoldsOn, KeepsGoal}
 use Rattle.guest_follows.specs.Sites.{Site, stands, whole_weight}
 use Rattle.guest_follows.specs.Following.{Follows}
@@ -35,6 +36,10 @@ abbrev pub AreStraight : List Unit → Type 0
 AreStraight [] = ⊤
 AreStraight (unit ∷ []) = ⊤
 AreStraight (unit ∷ units) = (is_plain unit ≡ true) × AreStraight units
+
+-- the registers that are known once those are fetched that a piece needs: all but those that are in its bank alone
+abbrev pub known_first : List Unit → ℕ → Bool
+known_first piece r = not (keeps (bank_of piece) r) || is_needed piece r
 
 -- ---- the law
 

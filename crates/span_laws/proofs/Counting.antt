@@ -42,7 +42,7 @@ module _ (order : Order) (weight : Instruction → ℕ) where
   weighs code = whole_weight order code weight
 
   -- code weighs the same when it is laid down
-  laid-weighs : (span : Extent) (targets : List ℕ) (otherwise : ℕ) (code : List Step)
+  pub laid-weighs : (span : Extent) (targets : List ℕ) (otherwise : ℕ) (code : List Step)
       → weighs (map (laid_step span targets otherwise) code) ≡ weighs code
   laid-weighs span targets otherwise [] = refl
   laid-weighs span targets otherwise (Does i ∷ code) =
@@ -114,7 +114,7 @@ module _ (order : Order) (weight : Instruction → ℕ) where
           by_test true = last-weighs (behind_slot at)
           by_test false = returns-weigh
 
-      exit-weighs : (unit : Word) (at : ℕ) → weighs (exit_code span behind unit at) ≡ 0
+      pub exit-weighs : (unit : Word) (at : ℕ) → weighs (exit_code span behind unit at) ≡ 0
       exit-weighs (units.Plain i) at = next-weighs (next_address at)
       exit-weighs (units.Branch i slot) at = branch-weighs i at
       exit-weighs (units.SlotMissing i) at = passing-weighs i at
@@ -147,6 +147,14 @@ module _ (order : Order) (weight : Instruction → ℕ) where
         let b = each-weighs test code each rs in
         omega (arith, both, a, b)
 
+    pub fetching-weighs : (test : ℕ → Bool) → weighs (for_registers test fetched) ≡ 0
+    fetching-weighs test = each-weighs test fetched
+        (λ r. let x = spares.get (register_field r) kinds.Int in let y = spares.store local_kinds.Int r in omega (arith, x, y)) (range_with_len 1 31)
+
+    pub putting-weighs : (test : ℕ → Bool) → weighs (for_registers test put_back) ≡ 0
+    putting-weighs test = each-weighs test put_back
+        (λ r. let x = spares.load local_kinds.Int r in let y = spares.put (register_field r) kinds.Int in omega (arith, x, y)) (range_with_len 1 31)
+
     warm-weighs : (piece : List Word) (at : ℕ) → weighs (warm_code piece at) ≡ weighs (units_code (bank_of piece) piece at)
     warm-weighs piece at =
         let front = for_registers (is_needed piece) fetched in
@@ -154,12 +162,8 @@ module _ (order : Order) (weight : Instruction → ℕ) where
         let back = for_registers (is_written piece) put_back in
         let outer = whole-both order weight (front ++ middle) back in
         let inner = whole-both order weight front middle in
-        let a : weighs front ≡ 0 = each-weighs (is_needed piece) fetched
-        (λ r. let x = spares.get (register_field r) kinds.Int in let y = spares.store local_kinds.Int r in omega (arith, x, y))
-        (range_with_len 1 31) in
-        let b : weighs back ≡ 0 = each-weighs (is_written piece) put_back
-        (λ r. let x = spares.load local_kinds.Int r in let y = spares.put (register_field r) kinds.Int in omega (arith, x, y))
-        (range_with_len 1 31) in
+        let a : weighs front ≡ 0 = fetching-weighs (is_needed piece) in
+        let b : weighs back ≡ 0 = putting-weighs (is_written piece) in
         omega (arith, outer, inner, a, b)
 
     module _ (unit_list : List Word) (leads : ℕ → Bool) (span : SpanWords) (k : ℕ) where

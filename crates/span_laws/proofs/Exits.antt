@@ -1,6 +1,6 @@
 -- The code behind a unit leads to where the classes go on.
 use Rattle.std.proofs.Common.{◌≡◌, ℕ, zero, suc, ◌+◌, ◌-◌, ◌/◌, ◌%◌, ◌<◌, ◌≤◌, ◌==◌, ◌&&◌, ◌||◌, not, nat_le, nat_lt, Bool, true, false, if◌then◌else◌, ◌⊎◌, inl, inr, List, [], ◌∷◌, length, map, take, slice_get, get_or, Option, Some, None, unwrap_or, refl, ap, subst, sym, ◌∙◌, arith}
-use Rattle.std.proofs.lemmas.Bool.{and_from, and_parts, le-leb, eqb-true, leb-true, ltb-true, eq-eqb, true≢false}
+use Rattle.std.proofs.lemmas.Bool.{and_from, and_parts, le-leb, eqb-true, leb-true, ltb-true, eq-eqb, or_parts, true≢false}
 use Rattle.std.proofs.lemmas.Grind.{common_steps}
 use Rattle.std.proofs.lemmas.List.FromFn.{get_or-map-range_with_len}
 use Rattle.nv_words.specs.Words.{IsWord, signed_of}
@@ -32,6 +32,7 @@ use Rattle.guest_match.proofs.Signs.{same-signed}
 use Rattle.guest_code.specs.Access.{push_word, put_field}
 use Rattle.guest_code.specs.Branching.{behind_slot}
 use Rattle.guest_code.specs.Units.{next_address}
+use Rattle.machine_counts.specs.Guest.{is_register_jump}
 use Rattle.word_emitter.specs.Pieces.{is_likely}
 use Rattle.word_emitter.specs.Exits.{has, follows, returns, arrive, last_way, two_ways, branch_exit, passing_exit, next_exit, exit_code}
 use Rattle.register_laws.specs.Holding.{IsLink, reached}
@@ -43,7 +44,7 @@ use Rattle.span_code.specs.declared.span_words.SpanWords.{SpanWords}
 use Rattle.span_code.specs.Neighbours.{address}
 use Rattle.span_code.specs.Parts.{extent}
 use Rattle.span_code.specs.Laying.{entry_at, entry_of, targets_of, return_offset, laid_step}
-use Rattle.span_laws.specs.Resuming.{IsAtRest, IsEntryOf, Resumes, ComesTo}
+use Rattle.span_laws.specs.Resuming.{IsAtRest, IsEntryOf, GoesOut, Resumes, ComesTo, jumps_by_register}
 use Rattle.span_laws.proofs.Leading.{GoalIs, LeadsTo}
 
 bytes-within : (k : ℕ) (code : List Step) → bytes_before code k ≤ size code
@@ -206,13 +207,13 @@ module _ (unit_list : List Word) (leads : ℕ → Bool) (span : SpanWords) where
         entry = sym (ap (λ b. if b then get_or targets j otherwise else otherwise) inside ∙ told);
       }
 
-  -- ---- good outcomes of such code: `end` is the offset behind it
+  -- ---- good outcomes of such code: `end` is the offset behind it, and a return has a reason
 
-  module _ (end : ℕ) (t : State) where
+  module _ (end : ℕ) (t : State) (Reason : Type 0) where
     abbrev Good : ℕ → List Step → Outcome → Type 0
     Good most code (ended n w) = (n ≤ most) × IsAtRest w t × IsEntry end t.pc
     Good most code (left n target w) = (n ≤ most) × IsAtRest w t × IsEntry target t.pc
-    Good most code (stopped n i w e) = (n ≤ most) × IsAtRest w t × (w.fields pc_field ≡ int t.pc) × (slice_get code i ≡ Some returns)
+    Good most code (stopped n i w e) = (n ≤ most) × IsAtRest w t × (w.fields pc_field ≡ int t.pc) × (slice_get code i ≡ Some returns) × Reason
 
     few-more : (n most : ℕ) → n ≤ most → suc n ≤ suc most
     few-more n most less = omega (arith, less)
@@ -223,7 +224,7 @@ module _ (unit_list : List Word) (leads : ℕ → Bool) (span : SpanWords) where
     good-later : (most : ℕ) (s : Step) (code : List Step) (o : Outcome) → Good most code o → Good (suc most) (s ∷ code) (later o)
     good-later most s code (ended n w) g = (few-more n most g.0, g.1, g.2)
     good-later most s code (left n target w) g = (few-more n most g.0, g.1, g.2)
-    good-later most s code (stopped n i w e) g = (few-more n most g.0, g.1, g.2, g.3)
+    good-later most s code (stopped n i w e) g = (few-more n most g.0, g.1, g.2, g.3, g.4)
 
     good-beyond : (most : ℕ) (s : Step) (code : List Step) (o : Outcome) → Good most code o → Good most (s ∷ code) (beyond o)
     good-beyond most s code (ended n w) g = g
@@ -231,7 +232,7 @@ module _ (unit_list : List Word) (leads : ℕ → Bool) (span : SpanWords) where
     good-beyond most s code (stopped n i w e) g = g
 
     module _ (site : Site) (behind : Option ℕ) (next_is : (a : ℕ) → follows behind a ≡ true
-        → IsEntry end a) (u : Workspace) (rests : IsAtRest u t) where
+        → IsEntry end a) (u : Workspace) (rests : IsAtRest u t) (outside : has (extent span) t.pc ≡ false → Reason) where
       abbrev runs : List Step → Outcome
       runs code = outcome site.program site.words code u
 
@@ -251,13 +252,14 @@ module _ (unit_list : List Word) (leads : ℕ → Bool) (span : SpanWords) where
             },
             sym (ap int there),
             refl,
+            outside (subst (λ a. has (extent span) a ≡ false) (sym there) inside),
           )
 
       -- ---- behind a branch
 
       module _ (field_is : u.fields pc_field ≡ int t.pc) where
-        returns-good : (code : List Step) → Good 1 (returns ∷ code) (runs (returns ∷ code))
-        returns-good code = (omega arith, rests, field_is, refl)
+        returns-good : Reason → (code : List Step) → Good 1 (returns ∷ code) (runs (returns ∷ code))
+        returns-good because code = (omega arith, rests, field_is, refl, because)
 
         arrive-good : (goal : ℕ) (code : List Step) → t.pc ≡ goal → Good 1 (L (arrive (extent span) goal) ∷ code)
             (runs (L (arrive (extent span) goal) ∷ code))
@@ -266,7 +268,7 @@ module _ (unit_list : List Word) (leads : ℕ → Bool) (span : SpanWords) where
             by_test : (h : Bool) → has (extent span) goal ≡ h → Good 1 (L (if h then Leaves goal else returns) ∷ code)
                 (runs (L (if h then Leaves goal else returns) ∷ code))
             by_test true inside = (omega arith, rests, subst (λ a. IsEntry (goal_of goal) a) (sym there) (goal-is goal inside))
-            by_test false inside = returns-good code
+            by_test false inside = returns-good (outside (subst (λ a. has (extent span) a ≡ false) (sym there) inside)) code
 
         last-good : (goal : ℕ) → t.pc ≡ goal → Good 1 (map L (last_way (extent span) behind goal)) (runs (map L (last_way (extent span) behind goal)))
         last-good goal there = by_test (follows behind goal) refl
@@ -280,11 +282,11 @@ module _ (unit_list : List Word) (leads : ℕ → Bool) (span : SpanWords) where
         more-good : (few most : ℕ) (code : List Step) (o : Outcome) → few ≤ most → Good few code o → Good most code o
         more-good few most code (ended n w) less g = (few-still n few most g.0 less, g.1, g.2)
         more-good few most code (left n target w) less g = (few-still n few most g.0 less, g.1, g.2)
-        more-good few most code (stopped n i w e) less g = (few-still n few most g.0 less, g.1, g.2, g.3)
+        more-good few most code (stopped n i w e) less g = (few-still n few most g.0 less, g.1, g.2, g.3, g.4)
 
         two-good : (first second : ℕ) → u.locals 0 ≡ int t.pc → IsWord first → IsWord second → (t.pc ≡ first) ⊎ (t.pc ≡ second)
             → Good 4 (map L (two_ways (extent span) behind first second)) (runs (map L (two_ways (extent span) behind first second)))
-        two-good first second local_is first_word second_word either = by_test (has (extent span) first || has (extent span) second)
+        two-good first second local_is first_word second_word either = by_test (has (extent span) first || has (extent span) second) refl
           where
             word : IsWord t.pc
             word = elim either [ inl e ↦ subst IsWord (sym e) first_word | inr e ↦ subst IsWord (sym e) second_word ]
@@ -327,49 +329,62 @@ module _ (unit_list : List Word) (leads : ℕ → Bool) (span : SpanWords) where
                 (good-beyond 1 (L (arrive (extent span) first)) (map L (last_way (extent span) behind second))
                 (runs (map L (last_way (extent span) behind second))) (last-good second there)))
 
-            by_test : (b : Bool)
+            neither : (has (extent span) first || has (extent span) second) ≡ false → Reason
+            neither none =
+                let parts = or_parts (has (extent span) first) (has (extent span) second) none in
+                outside (elim either [
+                  | inl e ↦ subst (λ a. has (extent span) a ≡ false) (sym e) parts.0
+                  | inr e ↦ subst (λ a. has (extent span) a ≡ false) (sym e) parts.1
+                ])
+
+            by_test : (b : Bool) → (has (extent span) first || has (extent span) second) ≡ b
                 → Good 4 (map L (if b then Does (Load local_kinds.Int 0) ∷ push_word first ∷ Skips IfIcmpne 1 ∷ arrive
                 (extent span) first ∷ last_way (extent span) behind second else returns ∷ []))
                 (runs (map L (if b then Does (Load local_kinds.Int 0) ∷ push_word first ∷ Skips IfIcmpne 1 ∷ arrive (extent span) first ∷ last_way
                 (extent span) behind second else returns ∷ [])))
-            by_test true = by_goal (t.pc == first) refl
-            by_test false = more-good 1 4 (returns ∷ []) (runs (returns ∷ [])) (omega arith) (returns-good [])
+            by_test true some = by_goal (t.pc == first) refl
+            by_test false none = more-good 1 4 (returns ∷ []) (runs (returns ∷ [])) (omega arith) (returns-good (neither none) [])
 
-        branch-good : (i : Inst) (at : ℕ) → u.locals 0 ≡ int t.pc → GoalIs i at t.pc
+        jump-good : Reason → Good 4 (returns ∷ []) (runs (returns ∷ []))
+        jump-good because = more-good 1 4 (returns ∷ []) (runs (returns ∷ [])) (omega arith) (returns-good because [])
+
+        branch-good : (i : Inst) (at : ℕ) → u.locals 0 ≡ int t.pc → GoalIs i at t.pc → (is_register_jump i ≡ true → Reason)
             → Good 4 (map L (branch_exit (extent span) behind i at)) (runs (map L (branch_exit (extent span) behind i at)))
-        branch-good (inst.BranchSign name rs imm) at local_is goal =
+        branch-good (inst.BranchSign name rs imm) at local_is goal jumps =
             two-good (branch_target at imm) (behind_slot at) local_is (omega arith) (omega arith) goal
-        branch-good (inst.BranchEqual name rs rt imm) at local_is goal =
+        branch-good (inst.BranchEqual name rs rt imm) at local_is goal jumps =
             two-good (branch_target at imm) (behind_slot at) local_is (omega arith) (omega arith) goal
-        branch-good (inst.BranchZero name rs imm) at local_is goal =
+        branch-good (inst.BranchZero name rs imm) at local_is goal jumps =
             two-good (branch_target at imm) (behind_slot at) local_is (omega arith) (omega arith) goal
-        branch-good (inst.Jump name index) at local_is goal =
+        branch-good (inst.Jump name index) at local_is goal jumps =
             more-good 1 4 (map L (last_way (extent span) behind (jump_target at index)))
             (runs (map L (last_way (extent span) behind (jump_target at index)))) (omega arith) (last-good (jump_target at index) goal)
-        branch-good _ at local_is goal = more-good 1 4 (returns ∷ []) (runs (returns ∷ [])) (omega arith) (returns-good [])
+        branch-good (inst.JumpRegister rs) at local_is goal jumps = jump-good (jumps refl)
+        branch-good (inst.JumpAndLinkRegister rs rd) at local_is goal jumps = jump-good (jumps refl)
+        branch-good _ at local_is goal jumps = absurd goal
 
-        passing-good : (i : Inst) (at : ℕ) → t.pc ≡ behind_slot at
+        passing-good : (i : Inst) (at : ℕ) → is_likely i ≡ true → t.pc ≡ behind_slot at
             → Good 4 (map L (passing_exit (extent span) behind i at)) (runs (map L (passing_exit (extent span) behind i at)))
-        passing-good i at there = by_test (is_likely i)
+        passing-good i at likely there = by_test (is_likely i) likely
           where
-            by_test : (b : Bool) → Good 4 (map L (if b then last_way (extent span) behind (behind_slot at) else returns ∷ []))
+            by_test : (b : Bool) → b ≡ true → Good 4 (map L (if b then last_way (extent span) behind (behind_slot at) else returns ∷ []))
                 (runs (map L (if b then last_way (extent span) behind (behind_slot at) else returns ∷ [])))
-            by_test true = more-good 1 4 (map L (last_way (extent span) behind (behind_slot at)))
+            by_test true is = more-good 1 4 (map L (last_way (extent span) behind (behind_slot at)))
                 (runs (map L (last_way (extent span) behind (behind_slot at)))) (omega arith) (last-good (behind_slot at) there)
-            by_test false = more-good 1 4 (returns ∷ []) (runs (returns ∷ [])) (omega arith) (returns-good [])
+            by_test false is = absurd (true≢false (sym is))
 
-      pub exit-good : (unit : Word) (at : ℕ) → LeadsTo unit at t.pc → SaysGoal unit u t
+      pub exit-good : (unit : Word) (at : ℕ) → (jumps_by_register unit ≡ true → Reason) → LeadsTo unit at t.pc → SaysGoal unit u t
           → Good 4 (map L (exit_code (extent span) behind unit at)) (runs (map L (exit_code (extent span) behind unit at)))
-      exit-good (units.Plain i) at leads goal = next-good (next_address at) leads
-      exit-good (units.Branch i slot) at leads goal = branch-good goal.0 i at goal.1 leads
-      exit-good (units.SlotMissing i) at leads goal = passing-good goal.0 i at leads
-      exit-good (units.SlotIsBranch i word) at leads goal = passing-good goal.0 i at leads
-      exit-good units.Call at leads goal = next-good (next_address at) leads
-      exit-good (units.Trap kind value) at leads goal = absurd leads
+      exit-good (units.Plain i) at jumps leads goal = next-good (next_address at) leads
+      exit-good (units.Branch i slot) at jumps leads goal = branch-good goal.0 i at goal.1 leads jumps
+      exit-good (units.SlotMissing i) at jumps leads goal = passing-good goal.0 i at leads.0 leads.1
+      exit-good (units.SlotIsBranch i word) at jumps leads goal = passing-good goal.0 i at leads.0 leads.1
+      exit-good units.Call at jumps leads goal = next-good (next_address at) leads
+      exit-good (units.Trap kind value) at jumps leads goal = absurd leads
 
   -- ---- code with a good outcome leads to where the classes go on
 
-  module _ (laws : PathLaws) (site : Site) (order : Order) (at most : ℕ) (code : List Step) (t : State) (u : Workspace)
+  module _ (laws : PathLaws) (site : Site) (order : Order) (at most : ℕ) (code : List Step) (unit : Word) (t : State) (u : Workspace)
       (lies : LiesAt site.program site.method at code) where
     goes : (o : Outcome) → outcome site.program site.words code u ≡ o → PathWithin site.program site.words site.method at 0 code site.others
         (stands site (at + 0) u) o
@@ -377,9 +392,9 @@ module _ (unit_list : List Word) (leads : ℕ → Bool) (span : SpanWords) where
         (laws.paths site.program site.words site.method at 0 code u site.others lies)
 
     abbrev Arrives : ℕ → Type 0
-    Arrives low = ComesTo site low (at + size code) 0 most (whole_weight order code) (λ y. Resumes site unit_list leads span y t) (stands site low u)
+    Arrives low = ComesTo site low (at + size code) 0 most (whole_weight order code) (λ y. Resumes site unit_list leads span unit y t) (stands site low u)
 
-    by-outcome : (o : Outcome) → outcome site.program site.words code u ≡ o → Good (at + size code) t most code o → Arrives (at + 0)
+    by-outcome : (o : Outcome) → outcome site.program site.words code u ≡ o → Good (at + size code) t (GoesOut span unit t.pc) most code o → Arrives (at + 0)
     by-outcome (ended n w) is g = record {
       turns = n;
       after = stands site (at + size code) w;
@@ -404,7 +419,7 @@ module _ (unit_list : List Word) (leads : ℕ → Bool) (span : SpanWords) where
       where
         stops : (n i : ℕ) (w : Workspace) → Path site.program site.words site.method (at + 0)
             (at + bytes_before code i) n (λ weight. weigh weight (take i code)) (stands site (at + 0) u) (stands site (at + bytes_before code i) w)
-            → (n ≤ most) × IsAtRest w t × (w.fields pc_field ≡ int t.pc) × (slice_get code i ≡ Some returns) → Arrives (at + 0)
+            → (n ≤ most) × IsAtRest w t × (w.fields pc_field ≡ int t.pc) × (slice_get code i ≡ Some returns) × GoesOut span unit t.pc → Arrives (at + 0)
         stops n i w path g = record {
           turns = n;
           after = stands site (at + bytes_before code i) w;
@@ -420,9 +435,10 @@ module _ (unit_list : List Word) (leads : ℕ → Bool) (span : SpanWords) where
             rests = g.1;
             pc_is = g.2;
             lies = step-lies site.program site.method i code at (Return return_names.Return) lies g.3;
+            because = g.4;
             is_there = refl;
           });
         }
 
-    pub good-comes : Good (at + size code) t most code (outcome site.program site.words code u) → Arrives at
+    pub good-comes : Good (at + size code) t (GoesOut span unit t.pc) most code (outcome site.program site.words code u) → Arrives at
     good-comes g = let here : at + 0 ≡ at = omega arith in subst Arrives here (by-outcome (outcome site.program site.words code u) refl g)

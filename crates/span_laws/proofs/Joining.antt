@@ -26,7 +26,7 @@ module _ (site : Site) (middle high most extra later : ℕ) (total more all : (I
   abbrev pub GoesOn : State → Type 0
   GoesOn t = (u : Workspace) → First u t → ComesTo site middle high 0 extra more (λ y. Then y t) (stands site middle u)
 
-  end-before : (low least few : ℕ) (t : State) (x : machine.State) → GoesOn t → ComesToEnd site low middle least few total (λ u. First u t) x
+  pub end-before : (low least few : ℕ) (t : State) (x : machine.State) → GoesOn t → ComesToEnd site low middle least few total (λ u. First u t) x
       → ComesTo site low high least (few + extra) all (λ y. Then y t) x
   end-before low least few t x behind c =
       let d = behind c.after c.arrives in

@@ -1,6 +1,6 @@
 -- Where the turns of a unit lead.
-use Rattle.std.proofs.Common.{◌≡◌, ℕ, ◌+◌, ◌%◌, ◌^◌, ◌==◌, Bool, true, false, if◌then◌else◌, ◌⊎◌, inl, inr, None, unwrap_or, refl, ap, subst, sym}
-use Rattle.std.proofs.lemmas.Bool.{true≢false}
+use Rattle.std.proofs.Common.{◌≡◌, ℕ, ◌+◌, ◌%◌, ◌^◌, ◌==◌, ◌&&◌, nat_le, nat_lt, Bool, true, false, if◌then◌else◌, ◌⊎◌, inl, inr, None, unwrap_or, refl, ap, subst, sym, ◌∙◌, arith}
+use Rattle.std.proofs.lemmas.Bool.{and_from, cases_lt, eq-eqb, le-leb, lt-ltb, true≢false}
 use Rattle.std.specs.Bool.{⊤}
 use Rattle.nv_events.specs.Turn.{Turn, leaves, asks, exit}
 use Rattle.nv_words.specs.Words.{signed_of}
@@ -22,8 +22,14 @@ use Rattle.delay_slots.specs.Units.{is_branch}
 use Rattle.delay_slots.proofs.TurnLemmas.{IsNoBranch, no_branch}
 use Rattle.guest_code.specs.Branching.{behind_slot}
 use Rattle.guest_code.specs.Units.{next_address}
+use Rattle.machine_counts.specs.Guest.{is_register_jump}
 use Rattle.word_emitter.specs.Pieces.{is_likely}
+use Rattle.word_emitter.specs.Exits.{has}
+use Rattle.span_code.specs.declared.span_words.SpanWords.{SpanWords}
+use Rattle.span_code.specs.Neighbours.{address}
+use Rattle.span_code.specs.Parts.{extent}
 use Rattle.lawful_units.specs.Lawful.{IsLawful}
+use Rattle.span_laws.specs.Resuming.{GoesOut, IsOutside, jumps_by_register}
 use Rattle.span_laws.proofs.Joining.{Reaches}
 
 -- a branch goes to its target or behind its slot, a jump to its target, and one by a register anywhere
@@ -32,14 +38,16 @@ GoalIs (inst.BranchSign name rs imm) at pc = (pc ≡ branch_target at imm) ⊎ (
 GoalIs (inst.BranchEqual name rs rt imm) at pc = (pc ≡ branch_target at imm) ⊎ (pc ≡ behind_slot at)
 GoalIs (inst.BranchZero name rs imm) at pc = (pc ≡ branch_target at imm) ⊎ (pc ≡ behind_slot at)
 GoalIs (inst.Jump name index) at pc = pc ≡ jump_target at index
-GoalIs _ at pc = ⊤
+GoalIs (inst.JumpRegister rs) at pc = ⊤
+GoalIs (inst.JumpAndLinkRegister rs rd) at pc = ⊤
+GoalIs _ at pc = ⊥
 
--- where the unit of a word at an address leads
+-- where the unit of a word at an address leads: where the slot faults, a likely branch alone leads on
 abbrev pub LeadsTo : Word → ℕ → ℕ → Type 0
 LeadsTo (units.Plain i) at pc = pc ≡ next_address at
 LeadsTo (units.Branch i slot) at pc = GoalIs i at pc
-LeadsTo (units.SlotMissing i) at pc = pc ≡ behind_slot at
-LeadsTo (units.SlotIsBranch i word) at pc = pc ≡ behind_slot at
+LeadsTo (units.SlotMissing i) at pc = (is_likely i ≡ true) × (pc ≡ behind_slot at)
+LeadsTo (units.SlotIsBranch i word) at pc = (is_likely i ≡ true) × (pc ≡ behind_slot at)
 LeadsTo units.Call at pc = pc ≡ next_address at
 LeadsTo (units.Trap kind value) at pc = ⊥
 
@@ -119,6 +127,63 @@ unit-leads (units.Branch i slot) x is free =
     (λ t target goal. done-leads (into_slot t target) (GoalIs i x.pc) goal slot is.1.is_none)
     (likely-goal i x.pc)
 unit-leads (units.SlotMissing i) x is free =
-    transfer-leads x (λ s. faulted s fetch_fault s.pc) (λ pc. pc ≡ behind_slot x.pc) i is.is_one (λ t target goal. tt) (λ likely. refl)
+    transfer-leads x (λ s. faulted s fetch_fault s.pc) (λ pc. (is_likely i ≡ true) × (pc ≡ behind_slot x.pc)) i is.is_one (λ t target goal. tt)
+    (λ likely. (likely, refl))
 unit-leads (units.SlotIsBranch i word) x is free =
-    transfer-leads x (λ s. faulted s branch_in_slot_fault word) (λ pc. pc ≡ behind_slot x.pc) i is.0.is_one (λ t target goal. tt) (λ likely. refl)
+    transfer-leads x (λ s. faulted s branch_in_slot_fault word) (λ pc. (is_likely i ≡ true) × (pc ≡ behind_slot x.pc)) i is.0.is_one
+    (λ t target goal. tt) (λ likely. (likely, refl))
+
+-- ---- where a unit leads that does not go where a register says, the words are aligned as its own
+
+module _ (start at pc : ℕ) (aligned : start % 4 ≡ 0) (alike : at % 4 ≡ start % 4) where
+  past-aligned : pc ≡ behind_slot at → pc % 4 ≡ 0
+  past-aligned is = omega (arith, aligned, alike, is)
+
+  next-aligned : pc ≡ next_address at → pc % 4 ≡ 0
+  next-aligned is = omega (arith, aligned, alike, is)
+
+  branch-aligned : (imm : ℕ) → (pc ≡ branch_target at imm) ⊎ (pc ≡ behind_slot at) → pc % 4 ≡ 0
+  branch-aligned imm (inl is) = omega (arith, aligned, alike, is)
+  branch-aligned imm (inr is) = past-aligned is
+
+  goal-aligned : (i : Inst) → GoalIs i at pc → (is_register_jump i ≡ true) ⊎ (pc % 4 ≡ 0)
+  goal-aligned (inst.BranchSign name rs imm) goal = inr (branch-aligned imm goal)
+  goal-aligned (inst.BranchEqual name rs rt imm) goal = inr (branch-aligned imm goal)
+  goal-aligned (inst.BranchZero name rs imm) goal = inr (branch-aligned imm goal)
+  goal-aligned (inst.Jump name index) goal = inr (omega (arith, goal))
+  goal-aligned (inst.JumpRegister rs) goal = inl refl
+  goal-aligned (inst.JumpAndLinkRegister rs rd) goal = inl refl
+  goal-aligned _ goal = absurd goal
+
+  pub unit-aligned : (unit : Word) → LeadsTo unit at pc → (jumps_by_register unit ≡ true) ⊎ (pc % 4 ≡ 0)
+  unit-aligned (units.Plain i) leads = inr (next-aligned leads)
+  unit-aligned (units.Branch i slot) leads = goal-aligned i leads
+  unit-aligned (units.SlotMissing i) leads = inr (past-aligned leads.1)
+  unit-aligned (units.SlotIsBranch i word) leads = inr (past-aligned leads.1)
+  unit-aligned units.Call leads = inr (next-aligned leads)
+  unit-aligned (units.Trap kind value) leads = absurd leads
+
+-- an address at which no word of the span stands, though it is aligned as they are
+module _ (span : SpanWords) (pc : ℕ) where
+  outside : span.start % 4 ≡ 0 → pc % 4 ≡ 0 → has (extent span) pc ≡ false → IsOutside span pc
+  outside aligned alike none =
+      elim (cases_lt pc (address span span.first)) [
+        | inl below ↦ inl below
+        | inr above ↦ elim (cases_lt pc (address span span.end)) [
+          | inr past ↦ inr (omega (arith, past))
+          | inl before ↦
+              let low : nat_le (address span span.first) pc ≡ true = le-leb (address span span.first) pc (omega (arith, above)) in
+              let high : nat_lt pc (address span span.end) ≡ true = lt-ltb pc (address span span.end) before in
+              let rest : (pc % 4 == address span span.first % 4) ≡ true = eq-eqb (pc % 4) (address span span.first % 4) (omega (arith, aligned, alike)) in
+              absurd (true≢false (sym (and_from (nat_le (address span span.first) pc && nat_lt pc (address span span.end))
+              (pc % 4 == address span span.first % 4) (and_from (nat_le (address span span.first) pc) (nat_lt pc (address span span.end)) low high) rest)
+              ∙ none))
+        ]
+      ]
+
+  pub goes-out : (unit : Word) (at : ℕ) → at % 4 ≡ span.start % 4 → LeadsTo unit at pc → has (extent span) pc ≡ false → GoesOut span unit pc
+  goes-out unit at alike leads none = λ aligned.
+      elim (unit-aligned span.start at pc aligned alike unit leads) [
+        | inl jumps ↦ inl jumps
+        | inr here ↦ inr (outside aligned here none)
+      ]

@@ -1,13 +1,13 @@
 mod Index
 mod Entering
-mod Joining
-mod Leading
-mod Exits
+pub mod Joining
+pub mod Leading
+pub mod Exits
 mod Parts
-mod Going
-mod Words
-mod Straight
-mod Warm
-mod Counting
+pub mod Going
+pub mod Words
+pub mod Straight
+pub mod Warm
+pub mod Counting
 mod Made
 mod Guest

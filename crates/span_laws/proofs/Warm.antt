@@ -1,11 +1,12 @@
 -- The code of a word with which a piece begins.
-use Rattle.std.proofs.Common.{◌≡◌, ◌≢◌, ℕ, ◌+◌, ◌-◌, ◌*◌, ◌^◌, ◌<◌, ◌≤◌, nat_le, Bool, true, false, if◌then◌else◌, List, [], ◌∷◌, ◌++◌, All, length, length-append, drop, map, get_or, None, refl, ap, subst, sym, ◌∙◌, arith}
+use Rattle.std.proofs.Common.{◌≡◌, ◌≢◌, ℕ, ◌+◌, ◌-◌, ◌*◌, ◌^◌, ◌<◌, ◌≤◌, nat_le, Bool, true, false, if◌then◌else◌, List, [], ◌∷◌, ◌++◌, All, length, length-append, drop, map, get_or, Option, None, append_assoc, refl, ap, subst, sym, ◌∙◌, arith}
 use Rattle.std.specs.List.{flat_map, range_with_len}
 use Rattle.std.proofs.lemmas.Bool.{and_from, and_parts, le-leb, leb-true}
 use Rattle.std.proofs.lemmas.List.{map-append}
 use Rattle.std.proofs.lemmas.List.Elements.{All-take, All-drop}
 use Rattle.nv_words.specs.declared.order.Order.{Order}
 use Rattle.nv_events.specs.Turn.{Turn, moves, ends, leaves, asks}
+use Rattle.jvm_program.specs.declared.instruction.Instruction.{Instruction}
 use Rattle.jvm_program.specs.Effect.{Workspace}
 use Rattle.mips_decode.specs.State.{State}
 use Rattle.delay_slots.specs.declared.unit.Unit.{Unit as Word}
@@ -20,8 +21,10 @@ use Rattle.code_steps.specs.Widths.{size}
 use Rattle.code_steps.specs.Outcomes.{stays_within}
 use Rattle.code_steps.specs.Placing.{LiesAt}
 use Rattle.word_emitter.specs.Pieces.{bank_of, fetched, for_registers, is_needed, is_written, put_back, piece_units, units_code, warm_code}
+use Rattle.word_emitter.specs.Exits.{follows}
 use Rattle.guest_follows.specs.Sites.{Site, stands, whole_weight}
 use Rattle.guest_follows.specs.Following.{Follows}
+use Rattle.guest_follows.proofs.Weights.{whole-both, size-both}
 use Rattle.instruction_laws.specs.Instructions.{IsReady}
 use Rattle.lawful_units.specs.Lawful.{IsLawful}
 use Rattle.piece_laws.specs.Pieces.{AreStraight, PieceArrives, PieceFollows, UnitGoal, piece_turns, then_turns}
@@ -31,7 +34,7 @@ use Rattle.span_code.specs.declared.span_words.SpanWords.{SpanWords}
 use Rattle.span_code.specs.Pieces.{begins, piece_at}
 use Rattle.span_code.specs.Neighbours.{address, next_such}
 use Rattle.span_code.specs.Parts.{extent, exit_of, warm_part, cold_part}
-use Rattle.span_code.specs.Laying.{entry_at, targets_of, return_offset, laid_step}
+use Rattle.span_code.specs.Laying.{entry_at, targets_of, return_offset, laid_step, span_code}
 use Rattle.span_code.specs.Standing.{laid_part}
 use Rattle.span_code.proofs.SizeLemmas.{size-laid}
 use Rattle.span_code.proofs.StandingLemmas.{word-stands}
@@ -40,15 +43,15 @@ use Rattle.span_laws.specs.Resuming.{IsEntryOf, Resumes, FollowsInSpan}
 use Rattle.span_laws.specs.Spans.{HasSpan, StandsAt, FollowsPiece}
 use Rattle.span_laws.proofs.Joining.{Reaches}
 use Rattle.span_laws.proofs.Leading.{LeadsTo}
-use Rattle.span_laws.proofs.Exits.{SaysGoal}
-use Rattle.span_laws.proofs.Parts.{laid-unmarked, warm-behind}
+use Rattle.span_laws.proofs.Exits.{SaysGoal, exit-stays}
+use Rattle.span_laws.proofs.Parts.{laid-unmarked, part-lies, warm-behind}
 use Rattle.span_laws.proofs.Going.{FollowsFirst, goes-on}
 use Rattle.span_laws.proofs.Straight.{last_unit, last-is, last-goal, are-lawful, piece-leads, are-straight, count, count-few, units-count, piece-some, unit-is}
-use Rattle.span_laws.proofs.Words.{UnitLaws, some-turn, units-length, lies-at-entry}
+use Rattle.span_laws.proofs.Words.{UnitLaws, some-turn, units-length}
 
 -- ---- no branch of warm code goes past its end
 
-stays-both : (first second : List Step) → stays_within first ≡ true → stays_within second ≡ true → stays_within (first ++ second) ≡ true
+pub stays-both : (first second : List Step) → stays_within first ≡ true → stays_within second ≡ true → stays_within (first ++ second) ≡ true
 stays-both [] second a b = b
 stays-both (Does instruction ∷ first) second a b = stays-both first second a b
 stays-both (Skips name k ∷ first) second a b =
@@ -64,7 +67,7 @@ some-stays : (b : Bool) (code : List Step) → stays_within code ≡ true → st
 some-stays true code stays = stays
 some-stays false code stays = refl
 
-each-stays : (test : ℕ → Bool) (code : ℕ → List Step) → ((r : ℕ) → stays_within (code r) ≡ true) → (rs : List ℕ)
+pub each-stays : (test : ℕ → Bool) (code : ℕ → List Step) → ((r : ℕ) → stays_within (code r) ≡ true) → (rs : List ℕ)
     → stays_within (flat_map (λ r. if test r then code r else []) rs) ≡ true
 each-stays test code each [] = refl
 each-stays test code each (r ∷ rs) =
@@ -132,8 +135,8 @@ pub record PieceLaws : Type 1 where
   pub are_pieces : (units : List Word) (leads : ℕ → Bool) (span : SpanWords) (k : ℕ) → AreUnits units → k < span.end → span.end ≤ length units
       → IsPiece units (piece_at units leads span k)
 
-module _ (laws : PieceLaws) (site : Site) (order : Order) (words : List ℕ) (leads : ℕ → Bool) (span : SpanWords) (has : HasSpan site words leads span)
-    (ready : IsReady site order) (k : ℕ) (w : Workspace) (x : State) (s : StandsAt order span k w x) (begin : begins leads span k ≡ true) where
+module _ (laws : PieceLaws) (site : Site) (words : List ℕ) (leads : ℕ → Bool) (span : SpanWords) (has : HasSpan site words leads span) (k : ℕ)
+    (above : span.first ≤ k) (below : k < span.end) (begin : begins leads span k ≡ true) where
   abbrev unit_list : List Word
   unit_list = units_of words
 
@@ -158,78 +161,108 @@ module _ (laws : PieceLaws) (site : Site) (order : Order) (words : List ℕ) (le
   abbrev L : Step → Step
   L = laid_step (extent span) (targets_of unit_list leads span) (return_offset unit_list leads span)
 
-  abbrev exit : List Step
-  exit = map L (exit_of unit_list span (next_such (begins leads span) span k) last_word)
+  abbrev behind : Option ℕ
+  behind = next_such (begins leads span) span k
 
-  is-piece : IsPiece unit_list block
+  abbrev exit : List Step
+  exit = map L (exit_of unit_list span behind last_word)
+
+  pub is-piece : IsPiece unit_list block
   is-piece =
       let total = units-length words in
       let within = has.within in
-      laws.are_pieces unit_list leads span k (record { words = words; are = refl }) s.below (omega (arith, total, within))
+      laws.are_pieces unit_list leads span k (record { words = words; are = refl }) below (omega (arith, total, within))
 
-  own-some : 1 ≤ length own
-  own-some = piece-some unit_list leads span k s.below is-piece
+  pub own-some : 1 ≤ length own
+  own-some = piece-some unit_list leads span k below is-piece
 
-  own-below : x.pc + 4 * length own < 2 ^ 32
-  own-below =
-      let n = units-count unit_list block is-piece in
-      let few = count-few unit_list block is-piece in
-      let within = is-piece.within in
-      let total = units-length words in
-      let below = has.below in
-      let there = s.pc in
-      omega (arith, n, few, within, total, below, there)
-
-  own-lawful : All IsLawful own
+  pub own-lawful : All IsLawful own
   own-lawful = All-take IsLawful (count unit_list block is-piece) (drop k unit_list)
       (All-drop IsLawful k unit_list (laws.units.lawful words has.are_words has.no_float))
-
-  own-says : SaysEnd own last (address span last_word) w x
-  own-says =
-      let some = own-some in
-      let n = units-count unit_list block is-piece in
-      let there = s.pc in
-      let place : k + (length own - 1) ≡ last_word = omega (arith, some) in
-      piece-says laws.change own last (address span last_word) w x some
-      (unit-is unit_list block is-piece (length own - 1) (omega (arith, some, n)) ∙ ap (unit_at unit_list) place) (omega (arith, there, some))
-      own-lawful (are-straight unit_list block is-piece) s.pending own-below
 
   part-is : laid_part unit_list leads span k ≡ first ++ exit
   part-is =
       ap (λ b. map L (if b then warm_part unit_list leads span k else cold_part unit_list leads span k)) begin
-      ∙ map-append L first (exit_of unit_list span (next_such (begins leads span) span k) last_word)
+      ∙ map-append L first (exit_of unit_list span behind last_word)
       ∙ ap (λ c. c ++ exit) (laid-unmarked (extent span) (targets_of unit_list leads span) (return_offset unit_list leads span) first
       (warm-marks own (address span k)))
 
-  piece-follows : LiesAt site.program site.method entry first
-      → FollowsFirst site order entry first last (address span last_word) (piece_turns own x).0 (256 * (piece_turns own x).0) w (piece_turns own x).1
-  piece-follows lies = record {
-    First = PieceArrives own w;
-    follows = subst (λ pc. LiesAt site.program site.method entry (warm_code own pc)
-        → Follows site entry (entry + size (warm_code own pc)) (piece_turns own x).0 (256 * (piece_turns own x).0)
-        (whole_weight order (warm_code own pc))
-        (PieceArrives own w) (stands site entry w) (piece_turns own x).1) s.pc
-        (λ there. laws.follow own (not-empty own own-some) own-lawful (are-straight unit_list block is-piece) site order entry w x ready s.order_is
-        s.pending own-below there s.rests.held) lies;
-    at_rest = λ u t is. record { held = is.held; no_operands = is.operands_kept ∙ s.rests.no_operands };
-    says = λ u t goes is. own-says.says u t is;
-    leads_to = own-says.leads_to;
-  }
+  -- the warm code and the exit lie there, before other code
+  pub warm-lies : LiesAt site.program site.method entry (first ++ (exit ++ (word-stands unit_list leads span k above below).behind))
+  warm-lies =
+      let stands_there = word-stands unit_list leads span k above below in
+      subst (LiesAt site.program site.method entry) (append_assoc first exit stands_there.behind)
+      (subst (λ code. LiesAt site.program site.method entry (code ++ stands_there.behind)) part-is
+      (part-lies site.program site.method entry (span_code unit_list leads span) (laid_part unit_list leads span k) stands_there has.lies))
 
-  pub warm-follows : FollowsPiece site order unit_list leads span k w x
-  warm-follows =
-      let n : ℕ = (piece_turns own x).0 in
-      let some = some-piece own x own-some in
-      let stands_there = word-stands unit_list leads span k s.above s.below in
+  -- where the exit ends the code of the next piece begins, if it is to follow
+  pub next-is : (b : ℕ) → follows behind b ≡ true → IsEntryOf unit_list leads span (entry + size first + size exit) b
+  next-is b is =
       let sizes : size (first ++ exit) ≡ size (warm_part unit_list leads span k) =
       ap size (sym part-is ∙ ap (λ b. map L (if b then warm_part unit_list leads span k else cold_part unit_list leads span k)) begin)
       ∙ size-laid (extent span) (targets_of unit_list leads span) (return_offset unit_list leads span) (warm_part unit_list leads span k) in
-      subst (λ code. FollowsInSpan site entry (entry + size code) n (264 * n) (whole_weight order code) (Resumes site unit_list leads span)
-      (stands site entry w) (piece_turns own x).1) (sym part-is)
-      (goes-on laws.units.paths site order unit_list leads span entry first (next_such (begins leads span) span k) last (address span last_word) n
-      (256 * n) w (piece_turns own x).1 stands_there.behind (omega (arith, some)) (warm-stays own (address span k))
-      (λ b is. subst (λ bytes. IsEntryOf unit_list leads span (entry + bytes) b) (sym sizes)
-      (warm-behind unit_list leads span k s.above s.below begin b is))
-      (subst (λ code. LiesAt site.program site.method entry (code ++ stands_there.behind)) part-is
-      (lies-at-entry laws.units site order words leads span has ready k w x s stands_there))
-      piece-follows)
+      let both = size-both first exit in
+      let end : entry + size (warm_part unit_list leads span k) ≡ entry + size first + size exit = omega (arith, sizes, both) in
+      subst (λ at. IsEntryOf unit_list leads span at b) end (warm-behind unit_list leads span k above below begin b is)
+
+  module _ (order : Order) (w : Workspace) (x : State) (s : StandsAt order span k w x) where
+    own-below : x.pc + 4 * length own < 2 ^ 32
+    own-below =
+        let n = units-count unit_list block is-piece in
+        let few = count-few unit_list block is-piece in
+        let within = is-piece.within in
+        let total = units-length words in
+        let room = has.below in
+        let there = s.pc in
+        omega (arith, n, few, within, total, room, there)
+
+    own-says : SaysEnd own last (address span last_word) w x
+    own-says =
+        let some = own-some in
+        let n = units-count unit_list block is-piece in
+        let there = s.pc in
+        let place : k + (length own - 1) ≡ last_word = omega (arith, some) in
+        piece-says laws.change own last (address span last_word) w x some
+        (unit-is unit_list block is-piece (length own - 1) (omega (arith, some, n)) ∙ ap (unit_at unit_list) place) (omega (arith, there, some))
+        own-lawful (are-straight unit_list block is-piece) s.pending own-below
+
+    module _ (ready : IsReady site order) where
+      piece-follows : LiesAt site.program site.method entry first
+          → FollowsFirst site (entry + size first) last (address span last_word) (piece_turns own x).0 (256 * (piece_turns own x).0)
+          (whole_weight order first) entry w (piece_turns own x).1
+      piece-follows lies = record {
+        First = PieceArrives own w;
+        follows = subst (λ pc. LiesAt site.program site.method entry (warm_code own pc)
+            → Follows site entry (entry + size (warm_code own pc)) (piece_turns own x).0 (256 * (piece_turns own x).0)
+            (whole_weight order (warm_code own pc))
+            (PieceArrives own w) (stands site entry w) (piece_turns own x).1) s.pc
+            (λ there. laws.follow own (not-empty own own-some) own-lawful (are-straight unit_list block is-piece) site order entry w x ready s.order_is
+            s.pending own-below there s.rests.held) lies;
+        at_rest = λ u t is. record { held = is.held; no_operands = is.operands_kept ∙ s.rests.no_operands };
+        says = λ u t goes is. own-says.says u t is;
+        leads_to = own-says.leads_to;
+      }
+
+      pub warm-follows : FollowsPiece site order unit_list leads span k w x
+      warm-follows =
+          let n : ℕ = (piece_turns own x).0 in
+          let some = some-piece own x own-some in
+          let more = (word-stands unit_list leads span k above below).behind in
+          let parts = laws.units.paths.parts site.program site.method entry first (exit ++ more) (warm-stays own (address span k)) warm-lies in
+          let exit_lies = (laws.units.paths.parts site.program site.method (entry + size first) exit more
+          (exit-stays unit_list leads span behind last (address span last_word)) parts.1).0 in
+          let sizes : size (laid_part unit_list leads span k) ≡ size (first ++ exit) = ap size part-is in
+          let both = size-both first exit in
+          let end : entry + size first + size exit ≡ entry + size (laid_part unit_list leads span k) = omega (arith, sizes, both) in
+          let weighs : (weight : Instruction → ℕ)
+          → whole_weight order first weight + whole_weight order exit weight ≤ whole_weight order (laid_part unit_list leads span k) weight =
+          λ weight.
+          let whole : whole_weight order (laid_part unit_list leads span k) weight ≡ whole_weight order (first ++ exit) weight =
+          ap (λ code. whole_weight order code weight) part-is in
+          let sum = whole-both order weight first exit in
+          omega (arith, whole, sum) in
+          subst (λ high. FollowsInSpan site entry high n (264 * n) (whole_weight order (laid_part unit_list leads span k))
+          (Resumes site unit_list leads span last) (stands site entry w) (piece_turns own x).1) end
+          (goes-on laws.units.paths site order unit_list leads span behind last (address span last_word) (omega arith) (entry + size first) next-is
+          entry n (256 * n) (whole_weight order first) (whole_weight order (laid_part unit_list leads span k)) w (piece_turns own x).1 (264 * n)
+          (omega (arith, some)) weighs exit_lies (piece-follows parts.0))

@@ -1,5 +1,5 @@
 -- Where the classes go on in the method of a span, and when they follow a turn of the guest to there.
-use Rattle.std.specs.Prelude.{◌≡◌, ℕ, ◌+◌, ◌<◌, ◌≤◌, ◌⊎◌, Bool, IsTrue, List, [], ◌∷◌}
+use Rattle.std.specs.Prelude.{◌≡◌, ℕ, ◌+◌, ◌%◌, ◌<◌, ◌≤◌, ◌⊎◌, Bool, true, false, IsTrue, List, [], ◌∷◌}
 use Rattle.nv_events.specs.Question.{Question}
 use Rattle.nv_events.specs.Answer.{Answer, fits}
 use Rattle.nv_events.specs.Turn.{Turn, moves, ends, leaves, asks}
@@ -8,7 +8,9 @@ use Rattle.jvm_program.specs.declared.instruction.Instruction.{Instruction}
 use Rattle.jvm_program.specs.Effect.{Workspace}
 use Rattle.jvm_program.specs.Step as machine
 use Rattle.mips_decode.specs.State.{State}
+use Rattle.machine_counts.specs.Guest.{is_register_jump}
 use Rattle.delay_slots.specs.declared.unit.Unit.{Unit}
+use Rattle.delay_slots.specs.declared.unit.Unit.TheVariants.{Branch, SlotMissing, SlotIsBranch}
 use Rattle.code_steps.specs.Placing.{LiesAt}
 use Rattle.guest_match.specs.Match.{pc_field}
 use Rattle.word_emitter.specs.Exits.{returns}
@@ -42,17 +44,36 @@ pub record StandsAtWord (site : Site) (units : List Unit) (leads : ℕ → Bool)
   pub entry : IsEntryOf units leads span at t.pc
   pub is_there : y ≡ stands site at workspace
 
--- They stand at a return, and field pc says where the guest stands.
-pub record StandsAtReturn (site : Site) (y : machine.State) (t : State) : Type 0 where
+-- ---- why they return
+
+-- the unit begins with JR or JALR
+abbrev pub jumps_by_register : Unit → Bool
+jumps_by_register (Branch i slot) = is_register_jump i
+jumps_by_register (SlotMissing i) = is_register_jump i
+jumps_by_register (SlotIsBranch i word) = is_register_jump i
+jumps_by_register _ = false
+
+-- an address does not lie among those of the span
+abbrev pub IsOutside : SpanWords → ℕ → Type 0
+IsOutside span a = (a < address span span.first) ⊎ (address span span.end ≤ a)
+
+-- A unit of a span whose words stand at addresses divisible by four goes where a register says, or to an address outside of the span.
+abbrev pub GoesOut : SpanWords → Unit → ℕ → Type 0
+GoesOut span unit a = span.start % 4 ≡ 0 → (jumps_by_register unit ≡ true) ⊎ IsOutside span a
+
+-- They stand at a return behind a unit, and field pc says where the guest stands.
+pub record StandsAtReturn (site : Site) (span : SpanWords) (unit : Unit) (y : machine.State) (t : State) : Type 0 where
   pub at : ℕ
   pub workspace : Workspace
   pub rests : IsAtRest workspace t
   pub pc_is : workspace.fields pc_field ≡ int t.pc
   pub lies : LiesAt site.program site.method at (returns ∷ [])
+  pub because : GoesOut span unit t.pc
   pub is_there : y ≡ stands site at workspace
 
-abbrev pub Resumes : Site → List Unit → (ℕ → Bool) → SpanWords → machine.State → State → Type 0
-Resumes site units leads span y t = StandsAtWord site units leads span y t ⊎ StandsAtReturn site y t
+-- behind a unit
+abbrev pub Resumes : Site → List Unit → (ℕ → Bool) → SpanWords → Unit → machine.State → State → Type 0
+Resumes site units leads span unit y t = StandsAtWord site units leads span y t ⊎ StandsAtReturn site span unit y t
 
 -- ---- to there
 

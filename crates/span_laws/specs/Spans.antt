@@ -1,5 +1,5 @@
 -- A method that is the method of a span of a range's words, and what its words and pieces do.
-use Rattle.std.specs.Prelude.{◌≡◌, ℕ, ◌+◌, ◌*◌, ◌^◌, ◌<◌, ◌≤◌, Bool, All, List, length, None}
+use Rattle.std.specs.Prelude.{◌≡◌, ℕ, ◌+◌, ◌-◌, ◌*◌, ◌^◌, ◌<◌, ◌≤◌, Bool, All, List, length, None}
 use Rattle.nv_words.specs.declared.order.Order.{Order}
 use Rattle.nv_words.specs.Words.{IsWord}
 use Rattle.nv_events.specs.Turn.{Turn}
@@ -38,19 +38,22 @@ pub record StandsAt (order : Order) (span : SpanWords) (k : ℕ) (w : Workspace)
   pub pending : x.pending ≡ None
   pub order_is : x.order ≡ order
 
--- From the code of a word they follow so many turns of the guest, with at least as many turns and at most 264 for each of them.
-abbrev pub WordFollows : Site → Order → List Unit → (ℕ → Bool) → SpanWords → ℕ → Workspace → ℕ → Turn State → Type 0
-WordFollows site order units leads span k w n last =
+-- From the code of a word they follow so many turns of the guest, the last of which is made by the unit of some word, with at least as many
+-- turns and at most 264 for each of them.
+abbrev pub WordFollows : Site → Order → List Unit → (ℕ → Bool) → SpanWords → ℕ → Workspace → (last_word : ℕ) → ℕ → Turn State → Type 0
+WordFollows site order units leads span k w last_word n last =
     FollowsInSpan site (entry_at units leads span k) (entry_at units leads span k + size (laid_part units leads span k)) n (264 * n)
-    (whole_weight order (laid_part units leads span k)) (Resumes site units leads span) (stands site (entry_at units leads span k) w) last
+    (whole_weight order (laid_part units leads span k)) (Resumes site units leads span (unit_at units last_word))
+    (stands site (entry_at units leads span k) w) last
 
 -- by the turns of its unit
 abbrev pub FollowsUnit : Site → Order → List Unit → (ℕ → Bool) → SpanWords → ℕ → Workspace → State → Type 0
 FollowsUnit site order units leads span k w x =
-    WordFollows site order units leads span k w (turn_count (unit_turns (unit_at units k) x)) (last_turn (unit_turns (unit_at units k) x))
+    WordFollows site order units leads span k w k (turn_count (unit_turns (unit_at units k) x)) (last_turn (unit_turns (unit_at units k) x))
 
 -- by the turns of the units of its piece
 abbrev pub FollowsPiece : Site → Order → List Unit → (ℕ → Bool) → SpanWords → ℕ → Workspace → State → Type 0
 FollowsPiece site order units leads span k w x =
-    WordFollows site order units leads span k w (piece_turns (piece_units units (piece_at units leads span k)) x).0
+    WordFollows site order units leads span k w (k + length (piece_units units (piece_at units leads span k)) - 1)
+    (piece_turns (piece_units units (piece_at units leads span k)) x).0
     (piece_turns (piece_units units (piece_at units leads span k)) x).1

@@ -67,7 +67,7 @@ pub fn spans_are_entered()
 }
 
 /// From the code of a word with which no piece begins the classes follow the turns of the word's unit, and come to the code of the word at
-/// which the guest then stands, or to a return.
+/// which the guest then stands; or to a return, where the unit goes as a register says, or out of the span.
 pub fn words_follow()
     ensures { (site : Site) (order : Order) (words : List ℕ) (leads : ℕ → Bool) (span : SpanWords) (k : ℕ) (w : Workspace) (x : State)
         → HasSpan site words leads span → IsReady site order → StandsAt order span k w x → begins leads span k ≡ false
@@ -80,7 +80,7 @@ pub fn words_follow()
 }
 
 /// From the code of a word with which a piece begins the classes follow the turns of all units of the piece, and come to the code of the
-/// word at which the guest then stands, or to a return.
+/// word at which the guest then stands; or to a return, where the last unit goes as a register says, or out of the span.
 pub fn pieces_follow()
     ensures { (site : Site) (order : Order) (words : List ℕ) (leads : ℕ → Bool) (span : SpanWords) (k : ℕ) (w : Workspace) (x : State)
         → HasSpan site words leads span → IsReady site order → StandsAt order span k w x → begins leads span k ≡ true

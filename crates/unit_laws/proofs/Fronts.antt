@@ -7,6 +7,7 @@ use Rattle.jvm_code.specs.declared.names.branch_name.BranchName.{BranchName}
 use Rattle.jvm_code.specs.declared.names.branch_name.BranchName.TheVariants.{Goto}
 use Rattle.jvm_program.specs.declared.value.Value.{Value}
 use Rattle.jvm_program.specs.declared.value.Value.TheVariants.{Int as int}
+use Rattle.jvm_program.specs.declared.instruction.Instruction.{Instruction}
 use Rattle.jvm_program.specs.Effect.{Workspace, with_operands, branches, chooses}
 use Rattle.mips_decode.specs.State.{State}
 use Rattle.mips_decode.specs.Step.{into_slot, past_slot}
@@ -27,10 +28,10 @@ use Rattle.guest_follows.specs.Laws.{PathLaws}
 use Rattle.guest_follows.proofs.CodeLaws.{code-laws}
 use Rattle.guest_follows.proofs.Weights.{whole-both, size-both}
 use Rattle.unit_laws.proofs.Joining.{end-after}
-use Rattle.unit_laws.proofs.Links.{HasSettled, has-settled, link_written, link_state, link_turns, after_link, gone, goal-runs, goal-ends, few-links, after-link-ends}
+use Rattle.unit_laws.proofs.Links.{HasSettled, has-settled, link_written, link_state, link_turns, gone, goal-ends, few-links}
 use Rattle.unit_laws.proofs.Reaching.{ReachesSlot, front-reaches}
 use Rattle.unit_laws.proofs.Within.{within-goal, within-conditional}
-use Rattle.unit_laws.proofs.Suffixes.{suffix-lies, size-split, whole-drop, past-all, taken-path}
+use Rattle.unit_laws.proofs.Suffixes.{suffix-lies, size-split, whole-drop, bytes-all, passed-path, taken-path}
 
 -- the branch is done, and the guest comes to its slot
 pub record GoesIn (site : Site) (order : Order) (bank : ℕ) (known : ℕ → Bool) (link : Option ℕ) (at : ℕ) (w : Workspace) (x : State) (code slot : List Step) (last : Turn State) : Type 0 where
@@ -38,10 +39,16 @@ pub record GoesIn (site : Site) (order : Order) (bank : ℕ) (known : ℕ → Bo
   pub done_is : last ≡ moves (into_slot (link_state link x) target)
   pub reaches : ReachesSlot site order bank known link target 16 at w x code slot
 
+-- code comes to its end past the code of a slot that lies in it, and weighs nothing of that
+pub record ComesPast (site : Site) (order : Order) (at : ℕ) (w : Workspace) (code slot : List Step) (Arrives : Workspace → Type 0) : Type 0 where
+  pub total : (Instruction → ℕ) → ℕ
+  pub weighs : (weight : Instruction → ℕ) → total weight + whole_weight order slot weight ≤ whole_weight order code weight
+  pub comes : ComesToEnd site at (at + size code) 1 132 total Arrives (stands site at w)
+
 -- a likely branch is done that is not taken, and the guest goes on behind its slot
-pub record PassesOver (site : Site) (order : Order) (bank : ℕ) (known : ℕ → Bool) (link : Option ℕ) (at : ℕ) (w : Workspace) (x : State) (code : List Step) (last : Turn State) : Type 0 where
+pub record PassesOver (site : Site) (order : Order) (bank : ℕ) (known : ℕ → Bool) (link : Option ℕ) (at : ℕ) (w : Workspace) (x : State) (code slot : List Step) (last : Turn State) : Type 0 where
   pub done_is : last ≡ moves (past_slot (link_state link x))
-  pub comes : ComesToEnd site at (at + size code) 1 132 (whole_weight order code) (λ u. HasSettled bank known link ((x.pc + 8) % 2 ^ 32) w u x) (stands site at w)
+  pub past : ComesPast site order at w code slot (λ u. HasSettled bank known link ((x.pc + 8) % 2 ^ 32) w u x)
 
 -- ---- jumps
 
@@ -117,27 +124,66 @@ module _ (laws : PathLaws) (site : Site) (order : Order) (bank : ℕ) (known : �
       over-all : over ≡ length tail
       over-all = omega (arith, length-append front slot, length-append (goes_to_code target) (link_code bank link x.pc))
 
-      passes-slot : (v : Workspace) → outcome site.program site.words (Skips Goto over ∷ tail) v ≡ ended 1 v
-      passes-slot v =
-          ap (λ k. later (outcome_from site.program site.words tail k v)) over-all
-          ∙ ap later (past-all site.program site.words tail v)
+      -- what the pushes leave
+      nil-within : IsTrue (stays_within (pushes ++ [])) → IsTrue (stays_within pushes)
+      nil-within within = subst (λ code. IsTrue (stays_within code)) (append-nil pushes) within
+
+      nil-runs : outcome site.program site.words (pushes ++ []) w ≡ ended (more 0) (with_operands w before) → outcome site.program site.words pushes w ≡ ended (more 0) (with_operands w before)
+      nil-runs runs = subst (λ code. outcome site.program site.words code w ≡ ended (more 0) (with_operands w before)) (append-nil pushes) runs
+
+      pushes-come : (at : ℕ) → LiesAt site.program site.method at pushes → ComesToEnd site at (at + size pushes) 0 2 (whole_weight order pushes) (λ u. u ≡ with_operands w before) (stands site at w)
+      pushes-come at lies =
+          (code-laws laws).end_follows site order at 0 2 (more 0) pushes w (with_operands w before) (λ u. u ≡ with_operands w before) lies (nil-runs (pushed [] 0 (with_operands w before) refl)) (omega arith) (let most = few 0 in omega (arith, most)) refl
 
       -- it is not taken
-      likely-runs : branches test (with_operands w before) ≡ chooses false (with_operands w before) w.operands → outcome site.program site.words likely (with_operands w before) ≡ ended (suc (suc (suc (suc (suc (link_turns link + 1)))))) (gone bank link x.pc w behind)
-      likely-runs is =
-          ap (λ e. after_branch (with_operands w before) e (outcome_from site.program site.words middle 0) (outcome_from site.program site.words middle target_step)) is
-          ∙ ap (λ o. later (later o)) (goal-runs site.program site.words bank x.pc behind link (Skips Goto over ∷ tail) w)
-          ∙ ap (λ o. later (later (later (later (later (after_link link o)))))) (passes-slot (gone bank link x.pc w behind))
-          ∙ ap (λ o. later (later (later (later (later o))))) (after-link-ends link 1 (gone bank link x.pc w behind))
+      abbrev goal_code : List Step
+      goal_code = goes_to_code behind ++ link_code bank link x.pc
 
-      pub likely-passes : (at : ℕ) → branches test (with_operands w before) ≡ chooses false (with_operands w before) w.operands → LiesAt site.program site.method at (pushes ++ likely) → ComesToEnd site at (at + size (pushes ++ likely)) 1 132 (whole_weight order (pushes ++ likely)) (λ u. HasSettled bank known link behind w u x) (stands site at w)
+      pub likely-passes : (at : ℕ) → branches test (with_operands w before) ≡ chooses false (with_operands w before) w.operands → LiesAt site.program site.method at (pushes ++ likely) → ComesPast site order at w (pushes ++ likely) slot (λ u. HasSettled bank known link behind w u x)
       likely-passes at is lies =
-          let links = few-links link in
-          let some = least (suc (suc (suc (suc (suc (link_turns link + 1)))))) in
-          let most = few (suc (suc (suc (suc (suc (link_turns link + 1)))))) in
-          (code-laws laws).end_follows site order at 1 132 (more (suc (suc (suc (suc (suc (link_turns link + 1))))))) (pushes ++ likely) w (gone bank link x.pc w behind) (λ u. HasSettled bank known link behind w u x) lies
-          (pushed likely (suc (suc (suc (suc (suc (link_turns link + 1)))))) (gone bank link x.pc w behind) (likely-runs is))
-          (omega (arith, some)) (omega (arith, links, most)) (has-settled bank behind known link w x numbers h)
+          let after = gone bank link x.pc w behind in
+          let parts = laws.parts site.program site.method at pushes likely (nil-within (pushes_within [] refl)) lies in
+          let branch_at = at + size pushes in
+          let goal_at = branch_at + 3 in
+          let halves = laws.parts site.program site.method goal_at goal_code (Skips Goto over ∷ tail) (within-goal bank x.pc link) parts.1.1 in
+          let skip_at = goal_at + size goal_code in
+          let end = skip_at + 3 + bytes_before tail over in
+          let first = pushes-come at parts.0 in
+          let first_path = subst (λ u. PathIn site at branch_at first.turns (whole_weight order pushes) (stands site at w) (stands site branch_at u)) first.arrives first.path in
+          let passed = passed-path site branch_at target_step test middle (with_operands w before) w parts.1 is in
+          let goal = (code-laws laws).end_follows site order goal_at 0 6 (suc (suc (suc (suc (link_turns link))))) goal_code w after (λ u. u ≡ after) halves.0 (ap later (goal-ends site.program site.words bank x.pc behind link w)) (omega arith) (let links = few-links link in omega (arith, links)) refl in
+          let goal_path = subst (λ u. PathIn site goal_at skip_at goal.turns (whole_weight order goal_code) (stands site goal_at w) (stands site skip_at u)) goal.arrives goal.path in
+          let skipped = taken-path site skip_at over Goto tail after after halves.1 refl in
+          let test_total = λ (weight : Instruction → ℕ). step_weight weight (Skips test target_step) in
+          let skip_total = λ (weight : Instruction → ℕ). step_weight weight (Skips Goto over) in
+          let to_goal = paths-join site.program site.words site.method at branch_at goal_at first.turns 1 (whole_weight order pushes) test_total (stands site at w) (stands site branch_at (with_operands w before)) (stands site goal_at w) first_path passed in
+          let to_end = paths-join site.program site.words site.method goal_at skip_at end goal.turns 1 (whole_weight order goal_code) skip_total (stands site goal_at w) (stands site skip_at after) (stands site end after) goal_path skipped in
+          let whole = paths-join site.program site.words site.method at goal_at end (first.turns + 1) (goal.turns + 1) (λ weight. whole_weight order pushes weight + test_total weight) (λ weight. whole_weight order goal_code weight + skip_total weight) (stands site at w) (stands site goal_at w) (stands site end after) to_goal to_end in
+          let sizes = size-both pushes likely in
+          let more_sizes = size-both goal_code (Skips Goto over ∷ tail) in
+          let all = bytes-all tail in
+          let same : bytes_before tail over ≡ bytes_before tail (length tail) = ap (bytes_before tail) over-all in
+          let ends : end ≡ at + size (pushes ++ likely) = omega (arith, sizes, more_sizes, all, same) in
+          let early = first.in_time in
+          let soon = goal.in_time in
+          record {
+            total = λ weight. whole_weight order pushes weight + test_total weight + (whole_weight order goal_code weight + skip_total weight);
+            weighs = λ weight.
+                let a = whole-both order weight pushes likely in
+                let b = whole-both order weight goal_code (Skips Goto over ∷ tail) in
+                let c = whole-both order weight front slot in
+                omega (arith, a, b, c);
+            comes =
+                subst (λ high. ComesToEnd site at high 1 132 (λ weight. whole_weight order pushes weight + test_total weight + (whole_weight order goal_code weight + skip_total weight)) (λ u. HasSettled bank known link behind w u x) (stands site at w)) ends
+                (record {
+                  turns = first.turns + 1 + (goal.turns + 1);
+                  after = after;
+                  path = whole;
+                  no_sooner = omega arith;
+                  in_time = omega (arith, early, soon);
+                  arrives = has-settled bank behind known link w x numbers h;
+                });
+          }
 
       -- it is taken
       drops-middle : (l : Option ℕ) → drop (5 + length (link_code bank l x.pc)) (goes_to_code behind ++ link_code bank l x.pc ++ Skips Goto over ∷ tail) ≡ tail
@@ -150,7 +196,7 @@ module _ (laws : PathLaws) (site : Site) (order : Order) (bank : ℕ) (known : �
           let branch_at = at + size pushes in
           let there = branch_at + 3 + bytes_before middle target_step in
           let lies_tail : LiesAt site.program site.method there tail = subst (LiesAt site.program site.method there) (drops-middle link) (suffix-lies site.program site.method target_step middle (branch_at + 3) parts.1.1) in
-          let first = (code-laws laws).end_follows site order at 0 2 (more 0) pushes w (with_operands w before) (λ u. u ≡ with_operands w before) parts.0 (nil-runs (pushed [] 0 (with_operands w before) refl)) (omega arith) (let most = few 0 in omega (arith, most)) refl in
+          let first = pushes-come at parts.0 in
           let first_path = subst (λ u. PathIn site at branch_at first.turns (whole_weight order pushes) (stands site at w) (stands site branch_at u)) first.arrives first.path in
           let taken_path = taken-path site branch_at target_step test middle (with_operands w before) w parts.1 is in
           let to_front = front-reaches laws site order bank known link target 8 there (suc (suc (suc (suc (link_turns link))))) w (gone bank link x.pc w target) x front slot (within-goal bank x.pc link) lies_tail (ap later (goal-ends site.program site.words bank x.pc target link w)) (omega arith) (let links = few-links link in omega (arith, links)) (has-settled bank target known link w x numbers h) in
@@ -174,9 +220,3 @@ module _ (laws : PathLaws) (site : Site) (order : Order) (bank : ℕ) (known : �
                 (omega arith) (omega (arith, early)) (λ weight. omega arith)
                 (λ u t. HasSettled bank known link target w u x) (λ u t. HasSettled bank known link target w u x) x (λ u has. has) to_front.comes;
           }
-        where
-          nil-within : IsTrue (stays_within (pushes ++ [])) → IsTrue (stays_within pushes)
-          nil-within within = subst (λ code. IsTrue (stays_within code)) (append-nil pushes) within
-
-          nil-runs : outcome site.program site.words (pushes ++ []) w ≡ ended (more 0) (with_operands w before) → outcome site.program site.words pushes w ≡ ended (more 0) (with_operands w before)
-          nil-runs runs = subst (λ code. outcome site.program site.words code w ≡ ended (more 0) (with_operands w before)) (append-nil pushes) runs

@@ -51,6 +51,29 @@ module _ (site : Site) (high : ℕ) (total all : (Instruction → ℕ) → ℕ) 
   last-wider n most later few (asks q next) used place (ends f) map last = absurd last
   last-wider n most later few (asks q next) used place (leaves r f) map last = absurd last
 
+-- code that follows may be given more weight than it takes
+module _ (site : Site) (high : ℕ) (total all : (Instruction → ℕ) → ℕ) (Arrives : Workspace → State → Type 0) (weighs : (weight : Instruction → ℕ) → total weight ≤ all weight) where
+  turn-wider : (low least most : ℕ) (x : machine.State) (guest : Turn State) → Maps guest Arrives Arrives → ComesToTurn site low high least most total (LastTurn site high most total Arrives guest) x → ComesToTurn site low high least most all (LastTurn site high most all Arrives guest) x
+  turn-wider low least most x guest map c = record {
+    turns = c.turns;
+    before = c.before;
+    place = c.place;
+    path = path-wider site.program site.words site.method low c.place low c.place c.turns total all x c.before (omega arith) (omega arith) (λ weight still. weighs weight) c.path;
+    is_there = c.is_there;
+    no_sooner = c.no_sooner;
+    in_time = c.in_time;
+    last =
+        let sum : 0 + (c.turns + 1) ≡ c.turns + 1 = omega arith in
+        subst (λ used. LastTurn site high most all Arrives guest used c.place (turn_in site c.before)) sum
+        (last-wider site high total all Arrives Arrives weighs 0 most most (omega arith) guest (c.turns + 1) c.place (turn_in site c.before) map c.last);
+  }
+
+  pub follows-wider : (low least most : ℕ) (x : machine.State) (guest : Turn State) → Follows site low high least most total Arrives x guest → Follows site low high least most all Arrives x guest
+  follows-wider low least most x (moves t) c = end-wider site high total all Arrives Arrives weighs low least most t x (λ u is. is) c
+  follows-wider low least most x (ends e) c = turn-wider low least most x (ends e) tt c
+  follows-wider low least most x (leaves q e) c = turn-wider low least most x (leaves q e) tt c
+  follows-wider low least most x (asks q next) c = turn-wider low least most x (asks q next) (λ a u is. is) c
+
 -- so many turns first, and then code that follows
 module _ (site : Site) (low middle high n least most sooner later : ℕ) (first total all : (Instruction → ℕ) → ℕ) (x y : machine.State) (path : PathIn site low middle n first x y) (no_sooner : sooner ≤ n + least) (in_time : n + most ≤ later) (weighs : (weight : Instruction → ℕ) → first weight + total weight ≤ all weight) where
   pub end-after : (First Then : Workspace → State → Type 0) (t : State) → ((u : Workspace) → First u t → Then u t) → ComesToEnd site middle high least most total (λ u. First u t) y → ComesToEnd site low high sooner later all (λ u. Then u t) x

@@ -1,5 +1,5 @@
 -- The goal of a branch is put down, and then its link.
-use Rattle.std.proofs.Common.{◌≡◌, ℕ, suc, ◌+◌, ◌^◌, ◌==◌, ◌<◌, ◌≤◌, lit≤, Bool, if◌then◌else◌, List, [], ◌∷◌, ◌++◌, Option, Some, None, refl, ap, ◌∙◌, arith}
+use Rattle.std.proofs.Common.{◌≡◌, ℕ, suc, ◌^◌, ◌==◌, ◌<◌, ◌≤◌, lit≤, Bool, if◌then◌else◌, List, [], ◌∷◌, ◌++◌, Option, Some, None, refl, ap, ◌∙◌, arith}
 use Rattle.std.proofs.lemmas.Grind.{common_steps}
 use Rattle.jvm_program.specs.declared.value.Value.{Value}
 use Rattle.jvm_program.specs.declared.value.Value.TheVariants.{Int as int}
@@ -9,8 +9,7 @@ use Rattle.mips_decode.specs.State.{State}
 use Rattle.mips_decode.specs.Branches.{linked}
 use Rattle.block_builder.specs.Registers.{Register, general}
 use Rattle.guest_match.specs.Match.{pc_field}
-use Rattle.code_steps.specs.declared.step.Step.{Step}
-use Rattle.code_steps.specs.Outcomes.{Outcome, ended, later, outcome}
+use Rattle.code_steps.specs.Outcomes.{ended, later, outcome}
 use Rattle.guest_code.specs.Branching.{settle_code, link_code, behind_slot}
 use Rattle.register_laws.specs.Holding.{HoldsOn, Keeps, IsLink, reached, with_value}
 use Rattle.register_laws.proofs.Writing.{register-put, register-held, register-kept, register-goal-kept}
@@ -68,23 +67,11 @@ abbrev pub linked_workspace : ℕ → Option ℕ → ℕ → Workspace → Works
 linked_workspace bank None at v = v
 linked_workspace bank (Some r) at v = with_value bank r (int (behind_slot at)) v v.operands
 
-abbrev pub after_link : Option ℕ → Outcome → Outcome
-after_link None o = o
-after_link (Some r) o = later (later o)
-
--- the code of the link, and code behind it
-pub link-runs : (program : Program) (words bank at : ℕ) (link : Option ℕ) (more : List Step) (v : Workspace) → outcome program words (link_code bank link at ++ more) v ≡ after_link link (outcome program words more (linked_workspace bank link at v))
-link-runs program words bank at None more v = refl
-link-runs program words bank at (Some r) more v = ap later (register-put program words bank r (behind_slot at) more v v.operands)
-
 -- ---- both
 
 -- the workspace behind them
 abbrev pub gone : ℕ → Option ℕ → ℕ → Workspace → ℕ → Workspace
 gone bank link at w target = linked_workspace bank link at (settled w target w.operands)
-
-pub goal-runs : (program : Program) (words bank at target : ℕ) (link : Option ℕ) (more : List Step) (w : Workspace) → outcome program words (settle_code ++ link_code bank link at ++ more) (with_operands w (int target ∷ w.operands)) ≡ later (later (later (after_link link (outcome program words more (gone bank link at w target)))))
-goal-runs program words bank at target link more w = ap (λ o. later (later (later o))) (link-runs program words bank at link more (settled w target w.operands))
 
 -- What is there behind the goal and the link of a branch in a state.
 pub record HasSettled (bank : ℕ) (known : ℕ → Bool) (link : Option ℕ) (target : ℕ) (before after : Workspace) (x : State) : Type 0 where
@@ -131,7 +118,3 @@ goal-ends program words bank at target link w = ap (λ o. later (later (later o)
 pub few-links : (link : Option ℕ) → link_turns link ≤ 2
 few-links None = lit≤ tt
 few-links (Some r) = lit≤ tt
-
-pub after-link-ends : (link : Option ℕ) (n : ℕ) (v : Workspace) → after_link link (ended n v) ≡ ended (link_turns link + n) v
-after-link-ends None n v = let e : n ≡ 0 + n = omega arith in ap (λ k. ended k v) e
-after-link-ends (Some r) n v = let e : suc (suc n) ≡ 2 + n = omega arith in ap (λ k. ended k v) e

@@ -1,4 +1,4 @@
--- What lies behind a step of code, and the turn of a branch that is taken.
+-- What lies behind a step of code, and the turns of branches.
 use Rattle.std.proofs.Common.{◌≡◌, ℕ, zero, suc, ◌+◌, ◌≤◌, List, [], ◌∷◌, drop, length, refl, ap, subst, ◌∙◌, arith}
 use Rattle.std.proofs.Math.Nat.{add_assoc}
 use Rattle.nv_words.specs.declared.order.Order.{Order}
@@ -6,13 +6,12 @@ use Rattle.nv_events.specs.Turn.{moves}
 use Rattle.jvm_code.specs.declared.names.branch_name.BranchName.{BranchName}
 use Rattle.jvm_program.specs.declared.instruction.Instruction.{Instruction}
 use Rattle.jvm_program.specs.Program.{Program}
-use Rattle.jvm_program.specs.Effect.{Workspace, jumps, branches}
+use Rattle.jvm_program.specs.Effect.{Workspace, goes_on, jumps, branches}
 use Rattle.jvm_program.specs.Step as machine
 use Rattle.jvm_program.specs.Step.{Frame, placed, turn, turn_by}
 use Rattle.code_steps.specs.declared.step.Step.{Step}
 use Rattle.code_steps.specs.declared.step.Step.TheVariants.{Skips}
 use Rattle.code_steps.specs.Widths.{width, bytes_before, size}
-use Rattle.code_steps.specs.Outcomes.{outcome_from, ended, beyond}
 use Rattle.code_steps.specs.Placing.{placed_line, LiesAt}
 use Rattle.code_paths.specs.Paths.{step_weight}
 use Rattle.code_paths.proofs.Joining.{turn-path, turn-weighs, seen-within}
@@ -36,10 +35,25 @@ whole-drop order weight (suc k) [] = omega arith
 whole-drop order weight (suc k) (s ∷ code) = let rest = whole-drop order weight k code in omega (arith, rest)
 
 -- all of the code is passed over
-pub past-all : (program : Program) (words : ℕ) (code : List Step) (w : Workspace) → outcome_from program words code (length code) w ≡ ended 0 w
-past-all program words [] w = refl
-past-all program words (s ∷ code) w = ap beyond (past-all program words code w)
+pub bytes-all : (code : List Step) → bytes_before code (length code) ≡ size code
+bytes-all [] = refl
+bytes-all (s ∷ code) = let rest = bytes-all code in omega (arith, rest)
 
+-- a branch that is not taken goes on to the step behind it
+pub passed-path : (site : Site) (at k : ℕ) (test : BranchName) (code : List Step) (w v : Workspace) → LiesAt site.program site.method at (Skips test k ∷ code) → branches test w ≡ goes_on v → PathIn site at (at + 3) 1 (λ weight. step_weight weight (Skips test k)) (stands site at w) (stands site (at + 3) v)
+passed-path site at k test code w v lies is =
+    let line = placed_line at (Skips test k) code in
+    let goes : turn site.program site.words (stands site at w) ≡ moves (stands site (at + 3) v) =
+    ap (machine.executed site.program site.words (stands site at w) (record { method = site.method; at = at; locals = w.locals; operands = w.operands }) site.others) lies.0
+    ∙ ap (λ e. turn_by e site.method line site.others) is in
+    turn-path site.program site.words site.method at (at + 3) (λ weight. step_weight weight (Skips test k)) (stands site at w) (stands site (at + 3) v) goes
+    (λ weight still.
+    let a = turn-weighs site.program site.method at w site.others (stands site (at + 3) v) line lies.0 weight in
+    let b = still test (at + 3 + bytes_before code k) 0 in
+    omega (arith, a, b))
+    (seen-within site.program site.words site.method at (at + 3) w site.others (omega arith))
+
+-- one that is taken goes past so many steps
 pub taken-path : (site : Site) (at k : ℕ) (test : BranchName) (code : List Step) (w v : Workspace) → LiesAt site.program site.method at (Skips test k ∷ code) → branches test w ≡ jumps 0 v → PathIn site at (at + 3 + bytes_before code k) 1 (λ weight. step_weight weight (Skips test k)) (stands site at w) (stands site (at + 3 + bytes_before code k) v)
 taken-path site at k test code w v lies is =
     let line = placed_line at (Skips test k) code in

@@ -88,7 +88,7 @@ link-written _ one = cc
 -- the branch is done, and the guest comes to its slot, or a likely one passes it over
 abbrev pub Does : Site → Order → ℕ → (ℕ → Bool) → Option ℕ → ℕ → Workspace → State → List Step → List Step → Bool → Turn State → Type 0
 Does site order bank known link at w x code slot likely last =
-    GoesIn site order bank known link at w x code slot last ⊎ ((likely ≡ true) × PassesOver site order bank known link at w x code last)
+    GoesIn site order bank known link at w x code slot last ⊎ ((likely ≡ true) × PassesOver site order bank known link at w x code slot last)
 
 module _ (laws : PathLaws) (site : Site) (order : Order) (bank : ℕ) (known : ℕ → Bool) (w : Workspace) (x : State) (h : HoldsOn bank known w x) (at : ℕ) (slot : List Step) where
   module _ (link : Option ℕ) (numbers : AreNumbers (link_written link)) (test : BranchName) (target : ℕ) (before : List Value) (pushes : List Step) (more : ℕ → ℕ) (pushed : (code : List Step) (n : ℕ) (v : Workspace) → outcome site.program site.words code (with_operands w before) ≡ ended n v → outcome site.program site.words (pushes ++ code) w ≡ ended (more n) v) (pushes_within : (code : List Step) → IsTrue (stays_within code) → IsTrue (stays_within (pushes ++ code))) (few : (n : ℕ) → more n ≤ n + 2) (least : (n : ℕ) → n ≤ more n) where
@@ -119,7 +119,7 @@ module _ (laws : PathLaws) (site : Site) (order : Order) (bank : ℕ) (known : �
       refl,
       record {
         done_is = refl;
-        comes = likely-passes laws site order bank known link w x numbers h test false target (behind_slot x.pc) before pushes more pushed pushes_within few least is slot at is lies;
+        past = likely-passes laws site order bank known link w x numbers h test false target (behind_slot x.pc) before pushes more pushed pushes_within few least is slot at is lies;
       },
     )
 

@@ -1,9 +1,10 @@
 -- The code of each unit.
-use Rattle.std.proofs.Common.{◌≡◌, ℕ, ◌+◌, ◌*◌, ◌%◌, ◌^◌, ◌<◌, Bool, true, List, [], ◌∷◌, ◌++◌, Option, Some, None, inl, inr, refl, ap, subst, sym, ◌∙◌, lit≤}
+use Rattle.std.proofs.Common.{◌≡◌, ℕ, ◌+◌, ◌*◌, ◌%◌, ◌^◌, ◌<◌, Bool, true, List, [], ◌∷◌, ◌++◌, Option, Some, None, inl, inr, refl, ap, subst, sym, ◌∙◌, arith, lit≤}
 use Rattle.nv_words.specs.declared.order.Order.{Order}
 use Rattle.nv_events.specs.Turn.{Turn, ends, «fault»}
 use Rattle.nv_events.specs.declared.fault.Fault.{Fault}
 use Rattle.jvm_program.specs.declared.value.Value.TheVariants.{Int as int}
+use Rattle.jvm_program.specs.declared.instruction.Instruction.{Instruction}
 use Rattle.jvm_program.specs.Effect.{Workspace, with_operands}
 use Rattle.mips_decode.specs.State.{State}
 use Rattle.mips_decode.specs.Effect.{fetch_fault, branch_in_slot_fault}
@@ -11,7 +12,7 @@ use Rattle.mips_decode.specs.Step.{into_slot, past_slot, faulted}
 use Rattle.mips_decode.specs.declared.inst.Inst.{Inst}
 use Rattle.delay_slots.specs.declared.unit.Unit.{Unit}
 use Rattle.delay_slots.specs.declared.unit.Unit.TheVariants as units
-use Rattle.delay_slots.specs.Turns.{UnitTurns, done, then_slot, turn_count, last_turn}
+use Rattle.delay_slots.specs.Turns.{UnitTurns, done, then_slot, turn_count, last_turn, unit_turns}
 use Rattle.block_builder.specs.Registers.{Register, general, special, read_by, written_by}
 use Rattle.word_emitter.specs.Pieces.{is_likely}
 use Rattle.code_steps.specs.declared.step.Step.{Step}
@@ -19,7 +20,7 @@ use Rattle.code_steps.specs.Widths.{size}
 use Rattle.code_steps.specs.Placing.{LiesAt}
 use Rattle.guest_code.specs.Branching.{transfer_code}
 use Rattle.guest_code.specs.Faulting.{fault_code}
-use Rattle.guest_code.specs.Units.{instruction_code, next_address}
+use Rattle.guest_code.specs.Units.{instruction_code, next_address, unit_code}
 use Rattle.register_laws.specs.Holding.{HoldsOn, gaining}
 use Rattle.guest_follows.specs.Sites.{Site, stands, whole_weight}
 use Rattle.guest_follows.specs.Following.{LastTurn, Follows}
@@ -27,9 +28,12 @@ use Rattle.guest_follows.specs.Knowing.{AreKnown, gained, IsDone, HasGone}
 use Rattle.guest_follows.specs.Laws.{PathLaws}
 use Rattle.guest_follows.proofs.CodeLaws.{CodeLaws, code-laws}
 use Rattle.instruction_laws.specs.Instructions.{IsReady, most_turns}
-use Rattle.lawful_units.specs.Lawful.{IsTransfer, IsInstruction, IsLawful}
-use Rattle.unit_laws.specs.Units.{AllFollow, UnitFollows}
+use Rattle.lawful_units.specs.Lawful.{IsTransfer, IsInstruction, IsLawful, KnownByBranch, KnownByUnit}
+use Rattle.unit_laws.specs.Units.{AllFollow, UnitArrives, UnitFollows}
+use Rattle.unit_laws.specs.Past.{FollowsPast}
 use Rattle.unit_laws.proofs.Goals.{GoesTo, slot-goes}
+use Rattle.unit_laws.proofs.Joining.{follows-wider}
+use Rattle.unit_laws.proofs.Fronts.{PassesOver}
 use Rattle.unit_laws.proofs.Links.{HasSettled, link_written, link_state}
 use Rattle.unit_laws.proofs.Reaching.{slot-joined}
 use Rattle.unit_laws.proofs.Transfers.{Does, link_of, link-written, transfer-does}
@@ -89,10 +93,15 @@ module _ (laws : PathLaws) (site : Site) (order : Order) (bank : ℕ) (known : �
   abbrev linked_state : State
   linked_state = link_state (link_of i) x
 
-  abbrev FollowsTurns : UnitTurns → Type 0
-  FollowsTurns turns = Follows site at (at + size code) (turn_count turns) (132 * turn_count turns) (whole_weight order code) (HasGone bank known written w) (stands site at w) (last_turn turns)
+  abbrev FollowsBy : ((Instruction → ℕ) → ℕ) → UnitTurns → Type 0
+  FollowsBy total turns = Follows site at (at + size code) (turn_count turns) (132 * turn_count turns) total (HasGone bank known written w) (stands site at w) (last_turn turns)
 
-  module _ (slot_goes : (target : ℕ) → GoesTo target (second (into_slot linked_state target))) (slot_follows : (target place : ℕ) (v : Workspace) → LiesAt site.program site.method place slot → HasSettled bank known (link_of i) target w v x → Follows site place (place + size slot) 1 most_turns (whole_weight order slot) (IsDone bank after_branch slot_written v) (stands site place v) (second (into_slot linked_state target))) (passed_over : is_likely i ≡ true → (r : ℕ) → 0 < r → r < 32 → gained written known r ≡ true → after_branch r ≡ true) where
+  abbrev FollowsTurns : UnitTurns → Type 0
+  FollowsTurns turns = FollowsBy (whole_weight order code) turns
+
+  -- a likely branch that is not taken
+
+  module _ (passed_over : is_likely i ≡ true → (r : ℕ) → 0 < r → r < 32 → gained written known r ≡ true → after_branch r ≡ true) where
     passes-gone : is_likely i ≡ true → (u : Workspace) → HasSettled bank known (link_of i) ((x.pc + 8) % 2 ^ 32) w u x → HasGone bank known written w u (past_slot linked_state)
     passes-gone likely u has = record {
       state = record { held = holds-known bank u linked_state (passed_over likely) has.held; kept = has.kept };
@@ -100,22 +109,44 @@ module _ (laws : PathLaws) (site : Site) (order : Order) (bank : ℕ) (known : �
       local_is = has.local_is ∙ ap (λ pc. int ((pc + 8) % 2 ^ 32)) (sym (link-pc (link_of i) x));
     }
 
-    by-turn : Does site order bank known (link_of i) at w x code slot (is_likely i) (done i x) → FollowsTurns (then_slot (done i x) second)
-    by-turn (inl goes) =
-        subst (λ (d : Turn State). FollowsTurns (then_slot d second)) (sym goes.done_is)
-        (slot-joined site order bank known (link_of i) goes.target 16 at w x code slot goes.reaches (lit≤ tt) written slot_written same (second (into_slot linked_state goes.target)) (slot_goes goes.target)
-        (λ v has. slot_follows goes.target goes.reaches.place v goes.reaches.lies has))
-    by-turn (inr passes) =
-        let c = passes.1.comes in
-        subst (λ (d : Turn State). FollowsTurns (then_slot d second)) (sym passes.1.done_is)
+    passes-follows : is_likely i ≡ true → (last : Turn State) → (passes : PassesOver site order bank known (link_of i) at w x code slot last) → FollowsBy passes.past.total (then_slot last second)
+    passes-follows likely last passes =
+        let c = passes.past.comes in
+        subst (λ (d : Turn State). FollowsBy passes.past.total (then_slot d second)) (sym passes.done_is)
         (record {
           turns = c.turns;
           after = c.after;
           path = c.path;
           no_sooner = c.no_sooner;
           in_time = c.in_time;
-          arrives = passes-gone passes.0 c.after c.arrives;
+          arrives = passes-gone likely c.after c.arrives;
         })
+
+    past-does : (last : Turn State) → Does site order bank known (link_of i) at w x code slot (is_likely i) last → turn_count (then_slot last second) ≡ 1 → FollowsPast site order at code slot (HasGone bank known written w) w (then_slot last second)
+    past-does last (inl goes) one =
+        let two : 2 ≡ 1 = subst (λ (d : Turn State). turn_count (then_slot d second) ≡ 1) goes.done_is one in
+        absurd (omega (arith, two))
+    past-does last (inr passes) one = record {
+      total = passes.1.past.total;
+      weighs = passes.1.past.weighs;
+      follows = passes-follows passes.0 last passes.1;
+    }
+
+    pub branch-past : turn_count (then_slot (done i x) second) ≡ 1 → FollowsPast site order at code slot (HasGone bank known written w) w (then_slot (done i x) second)
+    branch-past one = past-does (done i x) (transfer-does laws site order bank known w x h at slot i is reads lies) one
+
+  -- any branch
+
+  module _ (slot_goes : (target : ℕ) → GoesTo target (second (into_slot linked_state target))) (slot_follows : (target place : ℕ) (v : Workspace) → LiesAt site.program site.method place slot → HasSettled bank known (link_of i) target w v x → Follows site place (place + size slot) 1 most_turns (whole_weight order slot) (IsDone bank after_branch slot_written v) (stands site place v) (second (into_slot linked_state target))) (passed_over : is_likely i ≡ true → (r : ℕ) → 0 < r → r < 32 → gained written known r ≡ true → after_branch r ≡ true) where
+    by-turn : Does site order bank known (link_of i) at w x code slot (is_likely i) (done i x) → FollowsTurns (then_slot (done i x) second)
+    by-turn (inl goes) =
+        subst (λ (d : Turn State). FollowsTurns (then_slot d second)) (sym goes.done_is)
+        (slot-joined site order bank known (link_of i) goes.target 16 at w x code slot goes.reaches (lit≤ tt) written slot_written same (second (into_slot linked_state goes.target)) (slot_goes goes.target)
+        (λ v has. slot_follows goes.target goes.reaches.place v goes.reaches.lies has))
+    by-turn (inr passes) =
+        let past = passes.1.past in
+        follows-wider site (at + size code) past.total (whole_weight order code) (HasGone bank known written w) (λ weight. let a = past.weighs weight in omega (arith, a)) at (turn_count (then_slot (done i x) second)) (132 * turn_count (then_slot (done i x) second)) (stands site at w) (last_turn (then_slot (done i x) second))
+        (passes-follows passed_over passes.0 (done i x) passes.1)
 
     pub branch-follows : FollowsTurns (then_slot (done i x) second)
     branch-follows = by-turn (transfer-does laws site order bank known w x h at slot i is reads lies)
@@ -123,6 +154,15 @@ module _ (laws : PathLaws) (site : Site) (order : Order) (bank : ℕ) (known : �
 -- what the link alone gains
 link-gained : (i : Inst) (known : ℕ → Bool) → IsTransfer i → gained (link_written (link_of i)) known ≡ gained (written_by i) known
 link-gained i known is = ap (λ registers. gained registers known) (link-written i is.is_one)
+
+-- what the link and the slot gain, and what is known where the slot is passed over
+slot-gained : (i slot : Inst) (known : ℕ → Bool) → IsTransfer i → gained (written_by slot) (gained (link_written (link_of i)) known) ≡ gained (written_by i ++ written_by slot) known
+slot-gained i slot known is = ap (gained (written_by slot)) (link-gained i known is) ∙ gained-joined (written_by i) (written_by slot) known
+
+slot-passed : (i slot : Inst) (known : ℕ → Bool) → IsTransfer i → KnownByBranch known i slot → is_likely i ≡ true → (r : ℕ) → 0 < r → r < 32 → gained (written_by i ++ written_by slot) known r ≡ true → gained (link_written (link_of i)) known r ≡ true
+slot-passed i slot known is knows likely r above below more =
+    subst (λ k. k r ≡ true) (sym (link-gained i known is))
+    (knows.passed_over likely r above below (subst (λ k. k r ≡ true) (sym (gained-joined (written_by i) (written_by slot) known)) more))
 
 pub unit-follows : PathLaws → AllFollow → (unit : Unit) → IsLawful unit → UnitFollows unit
 unit-follows laws all (units.Plain i) is = λ site order bank known at w x ready order_is lies knows h.
@@ -133,15 +173,12 @@ unit-follows laws all (units.Trap kind value) is = λ site order bank known at w
     fault-follows (code-laws laws) site order at kind x.pc value w (IsDone bank known [] w) lies
 unit-follows laws all (units.Branch i slot) is = λ site order bank known at w x ready order_is lies knows h.
     let link = link_of i in
-    let same : gained (written_by slot) (gained (link_written link) known) ≡ gained (written_by i ++ written_by slot) known = ap (gained (written_by slot)) (link-gained i known is.0) ∙ gained-joined (written_by i) (written_by slot) known in
-    branch-follows laws site order bank known at w x h i is.0 knows.branch (instruction_code bank slot (next_address x.pc)) lies (written_by i ++ written_by slot) (written_by slot) same (done slot)
+    branch-follows laws site order bank known at w x h i is.0 knows.branch (instruction_code bank slot (next_address x.pc)) lies (written_by i ++ written_by slot) (written_by slot) (slot-gained i slot known is.0) (done slot)
     (λ target. slot-goes (into_slot (link_state link x) target) target refl slot is.1.is_none)
     (λ target place v there has.
     slot-at site order bank (gained (link_written link) known) place v (into_slot (link_state link x) target) slot (next_address x.pc) (ap (λ pc. (pc + 4) % 2 ^ 32) (link-pc link x)) all is.1 ready (link-order link x ∙ order_is) there
     (subst (λ k. AreKnown k (read_by slot)) (sym (link-gained i known is.0)) knows.slot) has.held)
-    (λ likely r above below more.
-    subst (λ k. k r ≡ true) (sym (link-gained i known is.0))
-    (knows.passed_over likely r above below (subst (λ k. k r ≡ true) (sym (gained-joined (written_by i) (written_by slot) known)) more)))
+    (slot-passed i slot known is.0 knows)
   where
     slot-at : (site : Site) (order : Order) (bank : ℕ) (known : ℕ → Bool) (place : ℕ) (v : Workspace) (s : State) (slot : Inst) (pc : ℕ) → s.pc ≡ pc → AllFollow → IsInstruction slot → IsReady site order → s.order ≡ order → LiesAt site.program site.method place (instruction_code bank slot pc) → AreKnown known (read_by slot) → HoldsOn bank known v s → Follows site place (place + size (instruction_code bank slot pc)) 1 most_turns (whole_weight order (instruction_code bank slot pc)) (IsDone bank known (written_by slot) v) (stands site place v) (done slot s)
     slot-at site order bank known place v s slot pc there all is ready order_is lies reads h =
@@ -163,3 +200,8 @@ unit-follows laws all (units.SlotIsBranch i word) is = λ site order bank known 
     subst (λ pc. Follows site place (place + size (fault_code branch_in_slot_fault (next_address x.pc) word)) 1 most_turns (whole_weight order (fault_code branch_in_slot_fault (next_address x.pc) word)) (IsDone bank (gained (link_written link) known) [] v) (stands site place v) (ends («fault» (record { kind = branch_in_slot_fault; pc = (pc + 4) % 2 ^ 32; value = word })))) (sym (link-pc link x))
     (fault-follows (code-laws laws) site order place branch_in_slot_fault (next_address x.pc) word v (IsDone bank (gained (link_written link) known) [] v) there))
     (λ likely r above below more. subst (λ k. k r ≡ true) (sym (link-gained i known is.0)) more)
+
+-- a branch whose slot is passed over
+pub slot-past : PathLaws → (i slot : Inst) → IsLawful (units.Branch i slot) → (site : Site) (order : Order) (bank : ℕ) (known : ℕ → Bool) (at : ℕ) (w : Workspace) (x : State) → LiesAt site.program site.method at (unit_code bank (units.Branch i slot) x.pc) → KnownByUnit known (units.Branch i slot) → HoldsOn bank known w x → turn_count (unit_turns (units.Branch i slot) x) ≡ 1 → FollowsPast site order at (unit_code bank (units.Branch i slot) x.pc) (instruction_code bank slot (next_address x.pc)) (UnitArrives bank known (units.Branch i slot) w) w (unit_turns (units.Branch i slot) x)
+slot-past laws i slot is site order bank known at w x lies knows h one =
+    branch-past laws site order bank known at w x h i is.0 knows.branch (instruction_code bank slot (next_address x.pc)) lies (written_by i ++ written_by slot) (written_by slot) (slot-gained i slot known is.0) (done slot) (slot-passed i slot known is.0 knows) one

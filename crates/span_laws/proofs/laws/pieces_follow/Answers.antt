@@ -15,4 +15,4 @@ returns c site order words leads span k w x has ready s begin =
       follow = c.pieces_are_followed.ensures;
       are_pieces = c.pieces_are_of_blocks.ensures;
     })
-    site order words leads span has ready k w x s begin
+    site words leads span has k s.above s.below begin order w x s ready

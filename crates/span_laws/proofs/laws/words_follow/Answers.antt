@@ -10,4 +10,4 @@ returns c site order words leads span k w x has ready s inner =
       lawful = c.units_are_lawful.ensures.all;
       known = c.needed_is_known.ensures.unit;
     })
-    site order words leads span has ready k w x s inner
+    site order words leads span has k w x s inner ready

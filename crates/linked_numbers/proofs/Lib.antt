@@ -1,0 +1,9 @@
+pub mod Signatures
+pub mod Numbers
+pub mod Programs
+pub mod Places
+pub mod Made
+pub mod Fields
+pub mod Names
+pub mod Once
+pub mod Found

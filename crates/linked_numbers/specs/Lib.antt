@@ -1,0 +1,5 @@
+pub mod Before
+pub mod Places
+pub mod Distinct
+pub mod Planned
+pub mod Translated

@@ -1,0 +1,12 @@
+mod Lists
+mod Few
+mod Lawful
+mod Planned
+mod Classes
+mod Numbers
+mod Knowing
+mod CodeMethods
+mod DataMethods
+mod MainMethods
+mod Whole
+mod Linking

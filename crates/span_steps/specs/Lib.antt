@@ -1,0 +1,2 @@
+pub mod InPieces
+pub mod Following

@@ -1,0 +1,6 @@
+mod Lines
+mod Planned
+mod Pages
+mod Fillers
+mod Beginning
+mod Others

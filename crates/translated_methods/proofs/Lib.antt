@@ -1,0 +1,14 @@
+mod Lines
+mod Planned
+mod Main
+mod Elements
+mod Weights
+mod Cutting
+mod Shares
+mod Places
+mod Words
+mod Classes
+mod Together
+mod Areas
+mod Accepted
+mod Standing

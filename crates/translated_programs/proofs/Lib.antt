@@ -1,0 +1,10 @@
+mod Elements
+mod Choosing
+mod Spans
+mod Words
+mod Order
+mod Starts
+mod Strays
+mod Numbers
+mod Apart
+mod Programs

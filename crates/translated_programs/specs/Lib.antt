@@ -1,0 +1,3 @@
+pub mod Classes
+pub mod Programs
+pub mod Found

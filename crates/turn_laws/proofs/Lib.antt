@@ -1,0 +1,10 @@
+mod Inner
+mod Turning
+mod Guest
+mod Following
+mod Credits
+mod Given
+mod Spans
+mod Units
+mod Law
+mod Marks

@@ -1,0 +1,5 @@
+mod Names
+mod Places
+mod Parts
+mod Fronts
+mod Whole
