@@ -12,9 +12,11 @@ use Rattle.code_assembly.specs.declared.references.References.{References}
 use Rattle.code_assembly.specs.Assembling.{Extends, AreLinked, slots_of}
 use Rattle.class_builder.specs.declared.builder.ClassBuilder.TheInside.{Inside}
 use Rattle.class_builder.specs.Inside.{class_so_far}
+use Rattle.class_builder.specs.Mentioned.{mentioned, Mentions}
 use Rattle.class_builder.specs.Built.{Grows, IsNamed, AddsMethod}
 use Rattle.class_builder.proofs.Growing.{grows-more}
 use Rattle.class_builder.proofs.Made.{text-later}
+use Rattle.class_builder.proofs.Mentions.{mentions-still}
 
 pub named-later : (old new : List Entry) (slots : Member) (name descriptor : List ℕ) → Extends old new
     → IsNamed old slots name descriptor → IsNamed new slots name descriptor
@@ -27,7 +29,8 @@ named-later old new slots name descriptor x n =
 
 pub method-added : (b : Inside) (c : Class) (mid new : List Entry) (methods : Vec Method Global) (named : Member) (locals : ℕ)
     (r : References) (steps : List Step)
-    (bytes code : List ℕ) (name descriptor : List ℕ) → class_so_far b ≡ c → Grows b.pool mid 2 → Grows mid new (slots_of steps) → IsNamed
+    (bytes code : List ℕ) (name descriptor : List ℕ) → class_so_far b ≡ c → Grows b.pool mid 2 → Grows mid new (slots_of steps)
+    → Mentions mid (mentioned b.pool) → Mentions new (mentioned mid) → IsNamed
     mid named name descriptor
     → AreLinked r new steps (lines_of bytes) → code ≡ bytes
     → methods.items ≡ b.methods.items ++ (record {
@@ -39,7 +42,7 @@ pub method-added : (b : Inside) (c : Class) (mid new : List Entry) (methods : Ve
       code = code;
     }) ∷ []
     → AddsMethod c (class_so_far (record b { pool = new; methods = methods })) name descriptor locals r steps
-method-added b c mid new methods named locals r steps bytes code name descriptor is x y n lines same more =
+method-added b c mid new methods named locals r steps bytes code name descriptor is x y first second n lines same more =
     let m : Method = record { name = named.name; desc = named.desc; attr = b.code; stack = 16; locals = locals; code = code } in
     let P : Class → Type 0 = λ d. AddsMethod d (class_so_far (record b { pool = new; methods = methods })) name descriptor locals r steps in
     subst P is (record {
@@ -49,5 +52,6 @@ method-added b c mid new methods named locals r steps bytes code name descriptor
       locals_are = refl;
       lines = rw same lines;
       pool = grows-more b.pool mid new 2 (slots_of steps) (2 + slots_of steps) x y (omega arith);
+      mentions = mentions-still mid new (mentioned b.pool) first second;
       others = ap (λ (ms : List Method). record (class_so_far b) { pool = new; methods = ms }) more;
     })

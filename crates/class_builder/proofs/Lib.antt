@@ -2,8 +2,12 @@ pub mod Stays
 pub mod Sound
 pub mod Joined
 pub mod Growing
+pub mod Once
 pub mod Joining
 pub mod Made
+pub mod Mentions
+pub mod MentionedClasses
+pub mod MentionedEntries
 pub mod Classes
 pub mod Members
 pub mod Written

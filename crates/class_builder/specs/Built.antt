@@ -12,6 +12,7 @@ use Rattle.code_assembly.specs.declared.references.References.{References}
 use Rattle.code_assembly.specs.Assembling.{Extends, AreLinked, slots_of}
 use Rattle.class_builder.specs.Named.{IsTextAt}
 use Rattle.class_builder.specs.Sound.{IsPool}
+use Rattle.class_builder.specs.Mentioned.{mentioned, Mentions}
 
 -- so many slots at most were put behind the others
 pub record Grows (old new : List Entry) (slots : ℕ) : Type 0 where
@@ -39,14 +40,16 @@ pub record IsNamed (pool : List Entry) (slots : Member) (name descriptor : List 
   pub name_is : IsTextAt pool slots.name name
   pub descriptor_is : IsTextAt pool slots.desc descriptor
 
--- the same class with a field behind its fields, of a name and a descriptor that stand in its pool
+-- the same class with a field behind its fields, of a name and a descriptor that stand in its pool, which names no more than before
 pub record AddsField (old new : Class) (name descriptor : List ℕ) : Type 0 where
   pub field : Member
   pub named : IsNamed new.pool field name descriptor
   pub pool : Grows old.pool new.pool 2
+  pub mentions : Mentions new.pool (mentioned old.pool)
   pub others : new ≡ record old { pool = new.pool; fields = old.fields ++ field ∷ [] }
 
--- the same class with a method behind its methods, of a name, a descriptor and a code: 16 operands and so many local variables at most
+-- The same class with a method behind its methods, of a name, a descriptor and a code: 16 operands and so many local variables at most.
+-- Its pool names no more than before.
 pub record AddsMethod (old new : Class) (name descriptor : List ℕ) (locals : ℕ) (r : References) (code : List Step) : Type 0 where
   pub method : Method
   pub named : IsNamed new.pool (record { name = method.name; desc = method.desc }) name descriptor
@@ -54,4 +57,5 @@ pub record AddsMethod (old new : Class) (name descriptor : List ℕ) (locals : �
   pub locals_are : method.locals ≡ locals
   pub lines : AreLinked r new.pool code (lines_of method.code)
   pub pool : Grows old.pool new.pool (2 + slots_of code)
+  pub mentions : Mentions new.pool (mentioned old.pool)
   pub others : new ≡ record old { pool = new.pool; methods = old.methods ++ method ∷ [] }

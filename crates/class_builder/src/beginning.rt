@@ -1,9 +1,10 @@
 //! What stands in the pool of every class.
-ghost use Rattle.std.specs.Prelude.{◌≡◌, ◌≢◌, ◌+◌, ◌<◌, true, false, codes, [], ◌∷◌, length, IfOk, OnOk, Err};
+ghost use Rattle.std.specs.Prelude.{◌≡◌, ◌≢◌, ◌+◌, ◌<◌, true, false, codes, [], ◌∷◌, ◌++◌, length, IfOk, OnOk, Err};
 ghost use Rattle.constant_pool.specs.Names.{is_class_name};
 ghost use Rattle.class_builder.specs.declared.error.BuildError.TheVariants.{Full, Unlawful};
 ghost use Rattle.class_builder.specs.Named.{IsTextAt, IsClassAt};
 ghost use Rattle.class_builder.specs.Built.{Grows, LacksRoom};
+ghost use Rattle.class_builder.specs.Mentioned.{Mentions, OfClass, mentioned};
 
 use crate::ascii::characters_of;
 use crate::error::BuildError;
@@ -17,6 +18,7 @@ pub fn own_slot(alloc: Global, pool: &mut SoundPool, name: &str) -> Result<u16, 
     ensures there { IfOk result (λ slot. IsClassAt pool.new slot name.now) }
     ensures lawful { OnOk result (is_class_name name.now ≡ true) }
     ensures grown { Grows pool.old pool.new 2 }
+    ensures mentions { OnOk result (Mentions pool.new (mentioned pool.old ++ OfClass name.now ∷ [])) }
     ensures full { result ≡ Err Full → LacksRoom pool.old 2 (name.now ∷ []) }
     ensures unlawful { result ≡ Err Unlawful → is_class_name name.now ≡ false }
 {
@@ -31,6 +33,7 @@ pub fn own_slot(alloc: Global, pool: &mut SoundPool, name: &str) -> Result<u16, 
 pub fn object_slot(alloc: Global, pool: &mut SoundPool) -> Result<u16, BuildError>
     ensures there { IfOk result (λ slot. IsClassAt pool.new slot (codes "java/lang/Object")) }
     ensures grown { Grows pool.old pool.new 2 }
+    ensures mentions { OnOk result (Mentions pool.new (mentioned pool.old ++ OfClass (codes "java/lang/Object") ∷ [])) }
     ensures full { result ≡ Err Full → 65534 < length pool.old + 2 }
     ensures lawful { result ≢ Err Unlawful }
 {
@@ -42,6 +45,7 @@ pub fn object_slot(alloc: Global, pool: &mut SoundPool) -> Result<u16, BuildErro
 pub fn code_slot(alloc: Global, pool: &mut SoundPool) -> Result<u16, BuildError>
     ensures there { IfOk result (λ slot. IsTextAt pool.new slot (codes "Code")) }
     ensures grown { Grows pool.old pool.new 1 }
+    ensures mentions { OnOk result (Mentions pool.new (mentioned pool.old)) }
     ensures full { result ≡ Err Full → 65534 < length pool.old + 1 }
     ensures lawful { result ≢ Err Unlawful }
 {

@@ -1,5 +1,5 @@
 //! Classes that are made.
-ghost use Rattle.std.specs.Prelude.{◌≡◌, ◌≢◌, ◌+◌, ◌≤◌, ◌⊎◌, ◌&&◌, true, false, [], ◌∷◌, length, None};
+ghost use Rattle.std.specs.Prelude.{◌≡◌, ◌≢◌, ◌+◌, ◌≤◌, ◌⊎◌, ◌&&◌, true, false, [], ◌∷◌, ◌++◌, length, None};
 ghost use Rattle.std.specs.Prelude.{IfOk, OnOk, OnErr, Err};
 ghost use Rattle.constant_pool.specs.Names.{is_class_name, is_member_name, is_field_descriptor};
 ghost use Rattle.class_file.specs.Named.{is_own_descriptor};
@@ -9,6 +9,8 @@ ghost use Rattle.class_builder.specs.Named.{IsTextAt, IsClassAt, IsFieldAt, IsMe
 ghost use Rattle.class_builder.specs.Lawful.{names_class, is_member};
 ghost use Rattle.class_builder.specs.Code.{is_code};
 ghost use Rattle.class_builder.specs.Built.{GrowsPool, AddsField, AddsMethod, LacksRoom, is_long_text};
+ghost use Rattle.name_resolution.specs.Names.{object_name};
+ghost use Rattle.class_builder.specs.Mentioned.{Mentions, MentionsOf, OfClass, field_mention, mentioned, method_mention};
 ghost use Rattle.class_builder.specs.declared.error.BuildError.TheVariants.{Full, Unlawful};
 
 use crate::beginning::{code_slot, object_slot, own_slot};
@@ -68,6 +70,7 @@ impl ClassBuilder {
         ensures fields { IfOk result (λ b. b.fields ≡ []) }
         ensures methods { IfOk result (λ b. b.methods ≡ []) }
         ensures few { IfOk result (λ b. length b.pool ≤ 5) }
+        ensures mentions { IfOk result (λ b. Mentions b.pool (OfClass name.now ∷ OfClass object_name ∷ [])) }
         ensures full { result ≡ Err Full → is_long_text name.now ≡ true }
         ensures unlawful { result ≡ Err Unlawful → is_class_name name.now ≡ false }
     {
@@ -92,6 +95,7 @@ impl ClassBuilder {
     pub fn class_reference(&mut self, alloc: Global, name: &str) -> Result<u16, BuildError>
         ensures there { IfOk result (λ slot. IsClassAt self.new.pool slot name.now) }
         ensures grown { GrowsPool self.old self.new 2 }
+        ensures mentions { OnOk result (Mentions self.new.pool (mentioned self.old.pool ++ OfClass name.now ∷ [])) }
         ensures full { result ≡ Err Full → LacksRoom self.old.pool 2 (name.now ∷ []) }
         ensures unlawful { result ≡ Err Unlawful → names_class name.now ≡ false }
     {
@@ -112,6 +116,7 @@ impl ClassBuilder {
     ) -> Result<u16, BuildError>
         ensures there { IfOk result (λ slot. IsFieldAt self.new.pool slot class name.now descriptor.now) }
         ensures grown { GrowsPool self.old self.new 4 }
+        ensures mentions { OnOk result (MentionsOf self.old.pool self.new.pool class (λ owner. field_mention owner name.now descriptor.now ∷ [])) }
         ensures full { result ≡ Err Full → LacksRoom self.old.pool 4 (name.now ∷ descriptor.now ∷ []) }
         ensures unlawful { result ≡ Err Unlawful → is_member MemberKind.Field self.old.pool class name.now descriptor.now ≡ false }
     {
@@ -138,6 +143,7 @@ impl ClassBuilder {
     ) -> Result<u16, BuildError>
         ensures there { IfOk result (λ slot. IsMethodAt self.new.pool slot class name.now descriptor.now) }
         ensures grown { GrowsPool self.old self.new 4 }
+        ensures mentions { OnOk result (MentionsOf self.old.pool self.new.pool class (λ owner. method_mention owner name.now descriptor.now ∷ [])) }
         ensures full { result ≡ Err Full → LacksRoom self.old.pool 4 (name.now ∷ descriptor.now ∷ []) }
         ensures unlawful { result ≡ Err Unlawful → is_member MemberKind.Method self.old.pool class name.now descriptor.now ≡ false }
     {
@@ -225,6 +231,7 @@ impl ClassBuilder {
     pub fn text(&mut self, characters: Vec<u16>) -> Result<u16, BuildError>
         ensures there { IfOk result (λ slot. IsTextAt self.new.pool slot characters.items) }
         ensures grown { GrowsPool self.old self.new 1 }
+        ensures mentions { OnOk result (Mentions self.new.pool (mentioned self.old.pool)) }
         ensures full { result ≡ Err Full → LacksRoom self.old.pool 1 (characters.items ∷ []) }
         ensures lawful { result ≢ Err Unlawful }
     {

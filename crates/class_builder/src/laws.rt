@@ -1,8 +1,12 @@
-//! What the slots of a class that was made mean to the instructions of its methods, once it is linked. Each call here does nothing: its
-//! contract is the law.
-ghost use Rattle.std.specs.Prelude.{◌≡◌, ℕ, false, List, Some, codes};
+//! What the slots of a class that was made mean to the instructions of its methods, once it is linked, and what its pool names. Each call
+//! here does nothing: its contract is the law.
+ghost use Rattle.std.specs.Prelude.{◌≡◌, ℕ, Bool, true, false, List, Some, codes, flat_map, option_and_then, option_to_list};
+ghost use Rattle.std.specs.List.{list_all};
 ghost use Rattle.constant_pool.specs.declared.entry.Entry.{Entry};
 ghost use Rattle.constant_pool.specs.Names.{same_text};
+ghost use Rattle.constant_pool.specs.Entries.{class_of};
+ghost use Rattle.constant_pool.specs.Checks.{text_at};
+ghost use Rattle.constant_pool.specs.Slots.{IsAt};
 ghost use Rattle.jvm_code.specs.declared.class.Class.{Class};
 ghost use Rattle.jvm_code.specs.declared.names.pool_name.PoolName.TheVariants as names;
 ghost use Rattle.jvm_program.specs.declared.array_kind.ArrayKind.TheVariants.{Pages};
@@ -11,6 +15,8 @@ ghost use Rattle.name_resolution.specs.Names.{signature, reference, string_name,
 ghost use Rattle.jvm_link.specs.Linking.{kind_of, pool_instruction};
 ghost use Rattle.code_assembly.specs.Assembling.{Extends};
 ghost use Rattle.class_builder.specs.Named.{IsClassAt, IsFieldAt, IsMethodAt};
+ghost use Rattle.class_builder.specs.Sound.{IsPool};
+ghost use Rattle.class_builder.specs.Mentioned.{Mention, Mentions, classes_among, mentions_in, once};
 
 /// `getstatic` and `putstatic` with the slot of a field, in a class whose pool goes on behind the one in which the slot was taken.
 pub fn fields_are_meant()
@@ -57,4 +63,19 @@ pub fn arrays_are_meant()
     ensures { (classes : List Class) (number : ℕ) (c : Class) (pool : List Entry) (slot : ℕ)
         → Extends pool c.pool → IsClassAt pool slot (codes "[I")
         → pool_instruction classes number c names.Anewarray slot ≡ instructions.NewArray Pages }
+{}
+
+/// Where all that a pool names passes a test, so does what each of its entries names.
+pub fn entries_pass()
+    ensures { (pool : List Entry) (names : List Mention) (test : Mention → Bool) (slot : ℕ) (e : Entry)
+        → Mentions pool names → list_all test names ≡ true → IsAt pool slot e
+        → list_all test (mentions_in pool e) ≡ true }
+{}
+
+/// The classes that the entries of a pool ask for, each where it stands first, are those among what the pool names.
+pub fn classes_are_asked_for()
+    ensures { (pool : List Entry) (names : List Mention)
+        → IsPool pool → Mentions pool names
+        → once same_text (flat_map (λ e. option_to_list (option_and_then (text_at pool) (class_of e))) pool)
+        ≡ once same_text (classes_among names) }
 {}

@@ -15,5 +15,6 @@ mod sound_pool;
 pub use builder::ClassBuilder;
 pub use error::BuildError;
 pub use laws::{
-    arrays_are_meant, fields_are_meant, host_is_meant, methods_are_meant, strings_are_meant,
+    arrays_are_meant, classes_are_asked_for, entries_pass, fields_are_meant, host_is_meant,
+    methods_are_meant, strings_are_meant,
 };

@@ -5,6 +5,7 @@ ghost use Rattle.constant_pool.specs.declared.error.PoolError.TheVariants as poo
 ghost use Rattle.class_file.specs.Named.{is_own_descriptor};
 ghost use Rattle.class_builder.specs.declared.error.BuildError.TheVariants.{Full, Unlawful};
 ghost use Rattle.class_builder.specs.Built.{IsNamed, Grows, LacksRoom};
+ghost use Rattle.class_builder.specs.Mentioned.{Mentions, mentioned};
 
 use crate::ascii::characters_of;
 use crate::error::BuildError;
@@ -26,6 +27,7 @@ pub fn field_slots(
     ensures there { IfOk result (λ slots. IsNamed pool.new slots name.now descriptor.now) }
     ensures lawful { OnOk result ((is_member_name name.now && is_field_descriptor descriptor.now) ≡ true) }
     ensures grown { Grows pool.old pool.new 2 }
+    ensures mentions { OnOk result (Mentions pool.new (mentioned pool.old)) }
     ensures full { result ≡ Err Full → LacksRoom pool.old 2 (name.now ∷ descriptor.now ∷ []) }
     ensures unlawful { result ≡ Err Unlawful → (is_member_name name.now && is_field_descriptor descriptor.now) ≡ false }
 {
@@ -47,6 +49,7 @@ pub fn method_slots(
     ensures there { IfOk result (λ slots. IsNamed pool.new slots name.now descriptor.now) }
     ensures lawful { OnOk result ((is_member_name name.now && is_own_descriptor descriptor.now) ≡ true) }
     ensures grown { Grows pool.old pool.new 2 }
+    ensures mentions { OnOk result (Mentions pool.new (mentioned pool.old)) }
     ensures full { result ≡ Err Full → LacksRoom pool.old 2 (name.now ∷ descriptor.now ∷ []) }
     ensures unlawful { result ≡ Err Unlawful → (is_member_name name.now && is_own_descriptor descriptor.now) ≡ false }
 {
@@ -67,6 +70,7 @@ fn is_own_descriptor(descriptor: &[u16]) -> bool
 fn slots_of(pool: &mut SoundPool, name: Vec<u16>, descriptor: Vec<u16>) -> Result<Member, PoolError>
     ensures there { IfOk result (λ slots. IsNamed pool.new slots name.items descriptor.items) }
     ensures grown { Grows pool.old pool.new 2 }
+    ensures mentions { OnOk result (Mentions pool.new (mentioned pool.old)) }
     ensures full { result ≡ Err pools.Full → LacksRoom pool.old 2 (name.items ∷ descriptor.items ∷ []) }
 {
     let name = pool.add_text(name)?;

@@ -1,11 +1,12 @@
 //! What code names: classes, fields and methods (JVM Specification, 4.4.1, 4.4.2 and 4.4.6).
-ghost use Rattle.std.specs.Prelude.{◌≡◌, true, false, Some, None, [], ◌∷◌, IfOk, Err};
+ghost use Rattle.std.specs.Prelude.{◌≡◌, true, false, Some, None, [], ◌∷◌, ◌++◌, IfOk, OnOk, Err};
 ghost use Rattle.constant_pool.specs.Checks.{pair_fault};
 ghost use Rattle.constant_pool.specs.declared.error.PoolError.TheVariants as pools;
 ghost use Rattle.class_builder.specs.declared.error.BuildError.TheVariants.{Full, Unlawful};
 ghost use Rattle.class_builder.specs.Named.{IsClassAt, IsPairAt, IsMemberAt};
 ghost use Rattle.class_builder.specs.Lawful.{names_class, member_entry, is_member};
 ghost use Rattle.class_builder.specs.Built.{Grows, LacksRoom};
+ghost use Rattle.class_builder.specs.Mentioned.{Mentions, MentionsOf, OfClass, member_mention, mentioned};
 
 use crate::ascii::characters_of;
 use crate::error::BuildError;
@@ -18,6 +19,7 @@ use std::alloc::Global;
 pub fn class_slot(alloc: Global, pool: &mut SoundPool, name: &str) -> Result<u16, BuildError>
     ensures there { IfOk result (λ slot. IsClassAt pool.new slot name.now) }
     ensures grown { Grows pool.old pool.new 2 }
+    ensures mentions { OnOk result (Mentions pool.new (mentioned pool.old ++ OfClass name.now ∷ [])) }
     ensures full { result ≡ Err Full → LacksRoom pool.old 2 (name.now ∷ []) }
     ensures unlawful { result ≡ Err Unlawful → names_class name.now ≡ false }
 {
@@ -39,6 +41,7 @@ pub fn add_class(pool: &mut SoundPool, name: Vec<u16>) -> Result<u16, PoolError>
     requires { names_class name.items ≡ true }
     ensures there { IfOk result (λ slot. IsClassAt pool.new slot name.items) }
     ensures grown { Grows pool.old pool.new 2 }
+    ensures mentions { OnOk result (Mentions pool.new (mentioned pool.old ++ OfClass name.items ∷ [])) }
     ensures full { result ≡ Err pools.Full → LacksRoom pool.old 2 (name.items ∷ []) }
 {
     let text = pool.add_text(name)?;
@@ -50,6 +53,7 @@ fn add_pair(pool: &mut SoundPool, name: Vec<u16>, descriptor: Vec<u16>) -> Resul
     requires { pair_fault (Some name.items) (Some descriptor.items) ≡ None }
     ensures there { IfOk result (λ slot. IsPairAt pool.new slot name.items descriptor.items) }
     ensures grown { Grows pool.old pool.new 3 }
+    ensures mentions { OnOk result (Mentions pool.new (mentioned pool.old)) }
     ensures full { result ≡ Err pools.Full → LacksRoom pool.old 3 (name.items ∷ descriptor.items ∷ []) }
 {
     let name = pool.add_text(name)?;
@@ -68,6 +72,7 @@ pub fn member_slot(
 ) -> Result<u16, BuildError>
     ensures there { IfOk result (λ slot. IsMemberAt (member_entry kind) pool.new slot class name.now descriptor.now) }
     ensures grown { Grows pool.old pool.new 4 }
+    ensures mentions { OnOk result (MentionsOf pool.old pool.new class (λ owner. member_mention kind owner name.now descriptor.now ∷ [])) }
     ensures full { result ≡ Err Full → LacksRoom pool.old 4 (name.now ∷ descriptor.now ∷ []) }
     ensures unlawful { result ≡ Err Unlawful → is_member kind pool.old class name.now descriptor.now ≡ false }
 {
@@ -89,6 +94,7 @@ fn add_member(
     requires { is_member kind pool.old class name.items descriptor.items ≡ true }
     ensures there { IfOk result (λ slot. IsMemberAt (member_entry kind) pool.new slot class name.items descriptor.items) }
     ensures grown { Grows pool.old pool.new 4 }
+    ensures mentions { OnOk result (MentionsOf pool.old pool.new class (λ owner. member_mention kind owner name.items descriptor.items ∷ [])) }
     ensures full { result ≡ Err pools.Full → LacksRoom pool.old 4 (name.items ∷ descriptor.items ∷ []) }
 {
     let pair = add_pair(pool, name, descriptor)?;

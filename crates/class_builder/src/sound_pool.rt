@@ -1,5 +1,5 @@
 //! A constant pool whose entries keep the rules of class files.
-ghost use Rattle.std.specs.Prelude.{◌≡◌, ◌+◌, ◌<◌, ◌≤◌, true, [], ◌∷◌, length, Some, None, IfOk, Err};
+ghost use Rattle.std.specs.Prelude.{◌≡◌, ◌+◌, ◌<◌, ◌≤◌, true, [], ◌∷◌, ◌++◌, length, Some, None, IfOk, OnOk, Err};
 ghost use Rattle.constant_pool.specs.Text.{is_text};
 ghost use Rattle.constant_pool.specs.Checks.{entry_at};
 ghost use Rattle.constant_pool.specs.Slots.{IsAt};
@@ -10,6 +10,7 @@ ghost use Rattle.class_builder.specs.Named.{IsTextAt};
 ghost use Rattle.class_builder.specs.Lawful.{has_class, has_text};
 ghost use Rattle.class_builder.specs.Code.{has_texts, has_its_text, is_code};
 ghost use Rattle.class_builder.specs.Sound.{kind_of, MayJoin};
+ghost use Rattle.class_builder.specs.Mentioned.{Mentions, mentioned, mentions_in};
 ghost use Rattle.class_builder.specs.Built.{Grows, LacksRoom, is_long_text};
 ghost use Rattle.constant_pool.specs.declared.error.PoolError.TheVariants.{Full};
 
@@ -86,6 +87,7 @@ impl SoundPool {
         requires { MayJoin self.old entry }
         ensures there { IfOk result (λ slot. IsAt self.new slot entry) }
         ensures grown { Grows self.old self.new 1 }
+        ensures mentions { OnOk result (Mentions self.new (mentioned self.old ++ mentions_in self.new entry)) }
         ensures full { result ≡ Err Full → 65534 < length self.old + 1 }
     {
         let kind = kind_of(&entry);
@@ -98,6 +100,7 @@ impl SoundPool {
     pub fn add_text(&mut self, characters: Vec<u16>) -> Result<u16, PoolError>
         ensures there { IfOk result (λ slot. IsTextAt self.new slot characters.items) }
         ensures grown { Grows self.old self.new 1 }
+        ensures mentions { OnOk result (Mentions self.new (mentioned self.old)) }
         ensures full { result ≡ Err Full → LacksRoom self.old 1 (characters.items ∷ []) }
     {
         if is_long_text(&characters) {
@@ -151,6 +154,7 @@ impl SoundPool {
         ensures lines { IfOk result (λ bytes. AreLinked references.now self.new code.now (lines_of bytes.items)) }
         ensures sound { IfOk result (λ bytes. code_fault bytes.items ≡ None) }
         ensures grown { Grows self.old self.new (slots_of code.now) }
+        ensures mentions { Mentions self.new (mentioned self.old) }
         ensures full { result ≡ Err Full → 65534 < length self.old + slots_of code.now }
     {
         let bytes = method_code(alloc, code, references, &mut self.pool);

@@ -1,3 +1,4 @@
 pub mod ZipLemmas
 pub mod MakingLemmas
+pub mod NamingLemmas
 pub mod GrowingLemmas

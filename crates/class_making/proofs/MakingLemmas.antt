@@ -12,7 +12,9 @@ use Rattle.code_assembly.specs.Assembling.{Extends}
 use Rattle.class_builder.specs.Built.{AddsMethod, GrowsPool}
 use Rattle.code_assembly.proofs.Pools.{extends-itself, extends-further}
 use Rattle.class_builder.specs.Named.{IsClassAt}
+use Rattle.class_builder.specs.Mentioned.{mentioned, Mentions}
 use Rattle.class_builder.proofs.Made.{text-later, class-later}
+use Rattle.class_builder.proofs.Mentions.{mentions-itself, mentions-still}
 use Rattle.class_making.specs.Making.{Plan, IsMade, AddsMethods}
 use Rattle.class_making.proofs.ZipLemmas.{zip-through, zip-joined, zip-none}
 
@@ -33,6 +35,7 @@ adds-none c = record {
   added = [];
   made = tt;
   pool = extends-itself c.pool;
+  mentions = mentions-itself c.pool;
   others = ap (λ methods. record c { methods = methods }) (sym (append-nil c.methods));
 }
 
@@ -53,15 +56,17 @@ adds-one old new name descriptor locals r code is = record {
     tt,
   );
   pool = is.pool.kept;
+  mentions = is.mentions;
   others = is.others;
 }
 
 -- none, where only the pool grows
-pub adds-slots : (old new : Class) (slots : ℕ) → GrowsPool old new slots → AddsMethods old new []
-adds-slots old new slots grown = record {
+pub adds-slots : (old new : Class) (slots : ℕ) → GrowsPool old new slots → Mentions new.pool (mentioned old.pool) → AddsMethods old new []
+adds-slots old new slots grown named = record {
   added = [];
   made = tt;
   pool = grown.pool.kept;
+  mentions = named;
   others = grown.others ∙ ap (λ methods. record old { pool = new.pool; methods = methods }) (sym (append-nil old.methods));
 }
 
@@ -71,6 +76,7 @@ adds-more a b c ps qs first second = record {
   added = first.added ++ second.added;
   made = zip-joined (IsMade c.pool) first.added ps second.added qs (all-later b.pool c.pool second.pool first.added ps first.made) second.made;
   pool = extends-further a.pool b.pool c.pool first.pool second.pool;
+  mentions = mentions-still b.pool c.pool (mentioned a.pool) first.mentions second.mentions;
   others =
       second.others
       ∙ ap (λ (x : Class). record x { pool = c.pool; methods = x.methods ++ second.added }) first.others

@@ -1,4 +1,4 @@
--- How the methods of a class are made.
+-- How the methods of a class are made, and what its pool names by then.
 use Rattle.std.specs.Prelude.{◌≡◌, ℕ, List, ◌++◌, codes}
 use Rattle.std.specs.List.{AllZip}
 use Rattle.constant_pool.specs.declared.entry.Entry.{Entry}
@@ -9,6 +9,7 @@ use Rattle.code_steps.specs.declared.step.Step.{Step}
 use Rattle.code_assembly.specs.declared.references.References.{References}
 use Rattle.code_assembly.specs.Assembling.{AreLinked, Extends}
 use Rattle.class_builder.specs.Named.{IsTextAt}
+use Rattle.class_builder.specs.Mentioned.{Mention, mentioned, Mentions}
 
 -- a method that is to be made: its name and descriptor, its local variables, its code, and where the class has what the code names
 pub record Plan : Type 0 where
@@ -29,9 +30,16 @@ pub record IsMade (pool : List Entry) (m : Method) (p : Plan) : Type 0 where
 abbrev pub nothing : List ℕ
 nothing = codes "()V"
 
--- The same class with methods behind its methods, which are made as planned.
+-- The same class with methods behind its methods, which are made as planned. Its pool goes on, and names no more than before.
 pub record AddsMethods (old new : Class) (plans : List Plan) : Type 0 where
   pub added : List Method
   pub made : AllZip (IsMade new.pool) added plans
   pub pool : Extends old.pool new.pool
+  pub mentions : Mentions new.pool (mentioned old.pool)
   pub others : new ≡ record old { pool = new.pool; methods = old.methods ++ added }
+
+-- The same class, whose pool goes on and names these behind what it named.
+pub record NamesMore (old new : Class) (names : List Mention) : Type 0 where
+  pub pool : Extends old.pool new.pool
+  pub mentions : Mentions new.pool (mentioned old.pool ++ names)
+  pub others : new ≡ record old { pool = new.pool }

@@ -12,13 +12,14 @@ use Rattle.span_code.specs.Locals.{locals_of}
 use Rattle.trampoline.specs.declared.start.Start.{Start}
 use Rattle.trampoline.specs.Choosers.{class_chooser}
 use Rattle.class_builder.specs.Named.{IsClassAt}
+use Rattle.class_builder.specs.Mentioned.{Mentions}
 use Rattle.class_members.specs.ClassNames.{code_class_name, span_name}
 use Rattle.program_names.specs.declared.names.Names.{Names}
 use Rattle.program_names.specs.Named.{AreNames, AreHelpers}
 use Rattle.program_names.specs.Tables.{references_of}
 use Rattle.code_classes.specs.declared.part.Part.{Part}
 use Rattle.class_making.specs.Making.{Plan, IsMade, nothing}
-use Rattle.code_classes.specs.Naming.{AreSpanMethods}
+use Rattle.code_classes.specs.Naming.{AreSpanMethods, code_mentions}
 
 abbrev pub span_at : List Span → ℕ → Span
 span_at spans k = slice_index_or spans k (record { first = 0; words = 0 })
@@ -78,6 +79,7 @@ pub record IsCodeClass (main : List ℕ) (number : ℕ) (part : Part) (spans : L
   pub own_is : IsClassAt class.pool own (code_class_name main number)
   pub own_methods : List ℕ
   pub own_are : AreSpanMethods class.pool own own_methods (length spans)
+  pub mentions : Mentions class.pool (code_mentions (code_class_name main number) main (length spans))
   pub methods : AllZip (IsMade class.pool) class.methods
       (span_plans part spans (references_of names 0 helpers) (length spans)
       ++ run_plan part spans first_method (references_of names first_method own_methods) ∷ [])

@@ -1,10 +1,11 @@
 //! What a class of code names.
-ghost use Rattle.std.specs.Prelude.{◌*◌, IfOk, OnOk};
+ghost use Rattle.std.specs.Prelude.{◌*◌, [], ◌∷◌, IfOk, OnOk};
 ghost use Rattle.class_builder.specs.Built.{GrowsPool};
+ghost use Rattle.class_builder.specs.Mentioned.{MentionsOf, method_mention};
 ghost use Rattle.class_builder.specs.Named.{IsMethodAt};
 ghost use Rattle.class_members.specs.ClassNames.{span_name};
 ghost use Rattle.class_making.specs.Making.{nothing};
-ghost use Rattle.code_classes.specs.Naming.{AreSpanMethods, IsNamedClass};
+ghost use Rattle.code_classes.specs.Naming.{AreSpanMethods, IsNamedClass, span_mentions};
 
 use class_builder::{BuildError, ClassBuilder};
 use class_making::ClassError;
@@ -57,6 +58,7 @@ fn span_references(
 ) -> Result<Vec<u16>, BuildError>
     ensures there { IfOk result (λ slots. AreSpanMethods class.new.pool own slots.items spans) }
     ensures grown { OnOk result (GrowsPool class.old class.new (4 * spans)) }
+    ensures mentions { OnOk result (MentionsOf class.old.pool class.new.pool own (λ owner. span_mentions owner spans)) }
 {
     let mut slots = Vec::new(alloc);
     for k in 0..spans {
@@ -73,6 +75,8 @@ fn span_reference(
 ) -> Result<u16, BuildError>
     ensures there { IfOk result (λ slot. IsMethodAt class.new.pool slot own (span_name k) nothing) }
     ensures grown { OnOk result (GrowsPool class.old class.new 4) }
+    ensures mentions { OnOk result (MentionsOf class.old.pool class.new.pool own
+        (λ owner. method_mention owner (span_name k) nothing ∷ [])) }
 {
     let name = span_name(alloc, k)?;
     class.method_reference(alloc, own, name.as_str(), "()V")

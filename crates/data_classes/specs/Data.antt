@@ -8,12 +8,13 @@ use Rattle.loading_code.specs.declared.page_slot.PageSlot.{PageSlot}
 use Rattle.loading_code.specs.Words.{words_code}
 use Rattle.loading_code.specs.Filling.{fill_code}
 use Rattle.class_builder.specs.Named.{IsClassAt}
+use Rattle.class_builder.specs.Mentioned.{Mentions}
 use Rattle.class_members.specs.ClassNames.{data_class_name}
 use Rattle.class_making.specs.Making.{Plan, IsMade, nothing}
 use Rattle.program_names.specs.declared.names.Names.{Names}
 use Rattle.program_names.specs.Tables.{references_of}
 use Rattle.data_classes.specs.Pages.{Page}
-use Rattle.data_classes.specs.Naming.{AreDataNames, words_descriptor}
+use Rattle.data_classes.specs.Naming.{AreDataNames, words_descriptor, data_mentions}
 
 abbrev pub words_plan : References → Plan
 words_plan references =
@@ -40,6 +41,7 @@ pub record IsDataClass (main : List ℕ) (number class_number first_method : ℕ
   pub words : ℕ
   pub texts : List PageSlot
   pub names_are : AreDataNames class.pool (data_class_name main number) main pages names own words texts
+  pub mentions : Mentions class.pool (data_mentions (data_class_name main number) main)
   pub methods : AllZip (IsMade class.pool) class.methods
       (words_plan (references_of names first_method (words ∷ []))
       ∷ fill_plan texts class_number first_method (references_of names first_method (words ∷ []))

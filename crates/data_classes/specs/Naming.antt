@@ -1,11 +1,14 @@
 -- What a class of data names.
-use Rattle.std.specs.Prelude.{◌≡◌, ℕ, List, [], codes}
+use Rattle.std.specs.Prelude.{◌≡◌, ℕ, List, [], ◌∷◌, ◌++◌, codes}
 use Rattle.std.specs.List.{AllZip}
 use Rattle.constant_pool.specs.declared.entry.Entry.{Entry}
+use Rattle.name_resolution.specs.Names.{object_name}
 use Rattle.class_builder.specs.Named.{IsClassAt, IsMethodAt}
+use Rattle.class_builder.specs.Mentioned.{Mention, OfClass, method_mention, Mentions}
 use Rattle.loading_code.specs.declared.page_slot.PageSlot.{PageSlot}
 use Rattle.program_names.specs.declared.names.Names.{Names}
 use Rattle.program_names.specs.Named.{AreNames}
+use Rattle.program_names.specs.Mentioned.{names_mentions}
 use Rattle.data_classes.specs.declared.naming.NamedClass.{NamedClass}
 use Rattle.data_classes.specs.Pages.{Page, IsPageSlot}
 
@@ -20,8 +23,15 @@ pub record AreDataNames (pool : List Entry) (name main : List ℕ) (pages : List
   pub words_is : IsMethodAt pool words own (codes "words") words_descriptor
   pub texts_are : AllZip (IsPageSlot pool) texts pages
 
+-- what a class of data of a name asks for in its pool, in order
+abbrev pub data_mentions : List ℕ → List ℕ → List Mention
+data_mentions name main =
+    (OfClass name ∷ OfClass object_name ∷ [])
+    ++ (OfClass name ∷ [] ++ names_mentions main ++ method_mention name (codes "words") words_descriptor ∷ [])
+
 pub record IsNamedClass (name main : List ℕ) (pages : List Page) (n : NamedClass) : Type 0 where
   pub no_methods : n.class.methods ≡ []
   pub no_fields : n.class.fields ≡ []
   pub named : IsClassAt n.class.pool n.class.this_class name
   pub names : AreDataNames n.class.pool name main pages n.names n.own n.words n.texts.items
+  pub mentions : Mentions n.class.pool (data_mentions name main)

@@ -18,8 +18,8 @@ use Rattle.main_classes.specs.declared.content.MainClass.{MainClass}
 use Rattle.code_classes.specs.Code.{address}
 use Rattle.code_files.specs.Classes.{Placed, run_of, is_last, starts_of_class, starts_of}
 use Rattle.data_files.specs.Files.{class_count, class_number, filled_pages, fill_of}
-use Rattle.nv_translate.specs.declared.built.Built.{Built}
-use Rattle.nv_translate.specs.Translation.{IsTranslation, code_methods}
+use Rattle.program_translation.specs.declared.built.Built.{Built}
+use Rattle.program_translation.specs.Translation.{IsTranslation, code_methods}
 use Rattle.linked_translations.specs.Images.{HasWholeCode}
 use Rattle.linked_translations.specs.Linked.{IsLinked, HasCodeClass, HasDataClass}
 use Rattle.linked_translations.proofs.Lists.{mapped-get, mapped-length, get-either, get-one}
@@ -151,6 +151,7 @@ module _ (names-law : NamesLaw) (lawful-law : LawfulLaw) (source : Source) (name
       let without = others-without source name method_bytes built t in
       record {
         code = t.code;
+        some = t.some;
         code_is = t.code_is;
         main = main;
         content = t.main_is.content;

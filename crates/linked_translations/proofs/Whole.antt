@@ -23,8 +23,8 @@ use Rattle.main_classes.specs.Main.{main_plans}
 use Rattle.code_files.specs.Classes.{Placed, Follow, IsCodeFile}
 use Rattle.data_classes.specs.Pages.{Page}
 use Rattle.data_files.specs.Files.{IsDataFile, class_count, class_number, filled_pages, first_method}
-use Rattle.nv_translate.specs.declared.built.Built.{Built}
-use Rattle.nv_translate.specs.Translation.{IsTranslation, code_methods}
+use Rattle.program_translation.specs.declared.built.Built.{Built}
+use Rattle.program_translation.specs.Translation.{IsTranslation, code_methods}
 use Rattle.linked_numbers.specs.Before.{methods_before}
 use Rattle.linked_numbers.specs.Distinct.{HasDistinctMembers}
 use Rattle.linked_numbers.specs.Translated.{class_names, methods_of_code}

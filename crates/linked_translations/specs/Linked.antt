@@ -25,9 +25,9 @@ use Rattle.data_classes.specs.Data.{words_plan, fill_plan}
 use Rattle.program_files.specs.declared.named_file.NamedFile.{NamedFile}
 use Rattle.code_files.specs.Classes.{Placed, AreCodeClasses, run_of, starts_of}
 use Rattle.data_files.specs.Files.{class_count, filled_pages, pages_of_class, class_number, first_method}
-use Rattle.nv_translate.specs.declared.built.Built.{Built}
-use Rattle.nv_translate.specs.MainFile.{IsContent}
-use Rattle.nv_translate.specs.Translation.{code_methods, fills_behind}
+use Rattle.program_translation.specs.declared.built.Built.{Built}
+use Rattle.program_translation.specs.MainFile.{IsContent}
+use Rattle.program_translation.specs.Translation.{code_methods, fills_behind}
 
 -- A method of a program is made by a plan.
 pub record IsPlanned (program : Program) (number : ℕ) (p : Plan) : Type 0 where
@@ -67,6 +67,7 @@ pub record HasDataClass (program : Program) (code_classes methods : ℕ) (pages 
 -- was planned to be, and has its number, and there are no others.
 pub record IsLinked (source : Source) (name : Text) (method_bytes : ℕ) (built : Built) : Type 0 where
   pub code : List Placed
+  pub some : 1 ≤ length code
   pub code_is : AreCodeClasses source method_bytes code
   pub main : MainClass
   pub content : IsContent source (starts_of code) (map run_of code) (fills_behind source code) main

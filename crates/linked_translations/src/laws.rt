@@ -4,8 +4,8 @@ ghost use Rattle.std.specs.Prelude.{ℕ};
 ghost use Rattle.command_words.specs.Word.{Text};
 ghost use Rattle.command_words.specs.Limits.{IsClassName};
 ghost use Rattle.elf_image.specs.Start.{Source};
-ghost use Rattle.nv_translate.specs.declared.built.Built.{Built};
-ghost use Rattle.nv_translate.specs.Translation.{IsTranslation};
+ghost use Rattle.program_translation.specs.declared.built.Built.{Built};
+ghost use Rattle.program_translation.specs.Translation.{IsTranslation};
 ghost use Rattle.linked_translations.specs.Images.{HasWholeCode};
 ghost use Rattle.linked_translations.specs.Linked.{IsLinked};
 

@@ -10,7 +10,9 @@ use Rattle.code_assembly.specs.Assembling.{Extends}
 use Rattle.code_assembly.proofs.Pools.{extends-itself, extends-further}
 use Rattle.class_builder.specs.Built.{AddsField}
 use Rattle.class_builder.specs.Named.{IsClassAt}
+use Rattle.class_builder.specs.Mentioned.{mentioned}
 use Rattle.class_builder.proofs.Made.{text-later, class-later}
+use Rattle.class_builder.proofs.Mentions.{mentions-itself, mentions-still}
 use Rattle.class_members.specs.Fields.{field_name, field_descriptor}
 use Rattle.class_making.proofs.ZipLemmas.{zip-through, range-more}
 use Rattle.main_classes.specs.Fields.{IsField, AreFields, AddsFields}
@@ -31,6 +33,7 @@ no-fields c = record {
   added = [];
   are = tt;
   pool = extends-itself c.pool;
+  mentions = mentions-itself c.pool;
   others = ap (λ fields. record c { fields = fields }) (sym (append-nil c.fields));
 }
 
@@ -43,6 +46,7 @@ field-next a b c k before one = record {
       (all_zipped_more (IsField c.pool) before.added (range_with_len 0 k) one.field k
       (fields-later b.pool c.pool one.pool.kept before.added k before.are) one.named);
   pool = extends-further a.pool b.pool c.pool before.pool one.pool.kept;
+  mentions = mentions-still b.pool c.pool (mentioned a.pool) before.mentions one.mentions;
   others =
       one.others
       ∙ ap (λ (x : Class). record x { pool = c.pool; fields = x.fields ++ one.field ∷ [] }) before.others

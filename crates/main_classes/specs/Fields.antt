@@ -6,6 +6,7 @@ use Rattle.jvm_code.specs.declared.class.Class.{Class}
 use Rattle.jvm_code.specs.declared.member.Member.{Member}
 use Rattle.code_assembly.specs.Assembling.{Extends}
 use Rattle.class_builder.specs.Built.{IsNamed}
+use Rattle.class_builder.specs.Mentioned.{mentioned, Mentions}
 use Rattle.class_members.specs.Fields.{field_name, field_descriptor}
 
 -- the field of a number
@@ -16,9 +17,10 @@ IsField pool field number = IsNamed pool field (field_name number) (field_descri
 abbrev pub AreFields : List Entry → List Member → ℕ → Type 0
 AreFields pool fields count = AllZip (IsField pool) fields (range_with_len 0 count)
 
--- The same class with these fields behind its fields.
+-- The same class with these fields behind its fields, whose pool names no more than before.
 pub record AddsFields (old new : Class) (count : ℕ) : Type 0 where
   pub added : List Member
   pub are : AreFields new.pool added count
   pub pool : Extends old.pool new.pool
+  pub mentions : Mentions new.pool (mentioned old.pool)
   pub others : new ≡ record old { pool = new.pool; fields = old.fields ++ added }

@@ -11,6 +11,7 @@ use Rattle.trampoline.specs.Choosers.{main_chooser, missing_code}
 use Rattle.loading_code.specs.Pages.{pages_code}
 use Rattle.loading_code.specs.Starting.{run_code}
 use Rattle.class_builder.specs.Named.{IsClassAt}
+use Rattle.class_builder.specs.Mentioned.{Mentions}
 use Rattle.class_members.specs.Helpers.{helper_name, helper_descriptor}
 use Rattle.class_members.specs.Numbers.{choose_number, pages_number, missing_number}
 use Rattle.class_making.specs.Making.{Plan, IsMade, nothing}
@@ -19,6 +20,7 @@ use Rattle.program_names.specs.Tables.{references_of}
 use Rattle.main_classes.specs.declared.content.MainClass.{MainClass}
 use Rattle.main_classes.specs.Fields.{AreFields}
 use Rattle.main_classes.specs.Called.{pages_descriptor}
+use Rattle.main_classes.specs.Mentioned.{main_mentions}
 use Rattle.main_classes.specs.Naming.{AreMainNames}
 
 -- ---- the helper methods
@@ -83,4 +85,5 @@ pub record IsMainClass (name : List ℕ) (main : MainClass) (bytes : List ℕ) :
   pub slots : List ℕ
   pub texts : List ℕ
   pub names_are : AreMainNames class.pool name main names slots texts
+  pub mentions : Mentions class.pool (main_mentions name main)
   pub methods : AllZip (IsMade class.pool) class.methods (main_plans main texts (references_of names 0 slots))

@@ -3,6 +3,7 @@ use Rattle.std.specs.Prelude.{◌≡◌, ℕ, List, []}
 use Rattle.std.specs.List.{AllZip}
 use Rattle.constant_pool.specs.declared.entry.Entry.{Entry}
 use Rattle.class_builder.specs.Named.{IsTextAt, IsClassAt}
+use Rattle.class_builder.specs.Mentioned.{Mentions}
 use Rattle.program_names.specs.declared.names.Names.{Names}
 use Rattle.program_names.specs.Named.{AreNames}
 use Rattle.main_classes.specs.declared.content.MainClass.{MainClass}
@@ -10,6 +11,7 @@ use Rattle.main_classes.specs.declared.naming.NamedClass.{NamedClass}
 use Rattle.main_classes.specs.Content.{share_texts}
 use Rattle.main_classes.specs.Fields.{AreFields}
 use Rattle.main_classes.specs.Called.{AreMainMethods}
+use Rattle.main_classes.specs.Mentioned.{main_mentions}
 
 -- the slots of all that the main class names: what every class names, the methods that it calls, and the texts of pages
 pub record AreMainNames (pool : List Entry) (name : List ℕ) (main : MainClass) (names : Names) (methods texts : List ℕ) : Type 0 where
@@ -22,3 +24,4 @@ pub record IsNamedClass (name : List ℕ) (main : MainClass) (n : NamedClass) : 
   pub fields_are : AreFields n.class.pool n.class.fields 38
   pub named : IsClassAt n.class.pool n.class.this_class name
   pub names : AreMainNames n.class.pool name main n.names n.methods.items n.texts.items
+  pub mentions : Mentions n.class.pool (main_mentions name main)

@@ -1,8 +1,10 @@
 //! The methods that the main class calls.
-ghost use Rattle.std.specs.Prelude.{◌≡◌, ◌+◌, ◌≤◌, ◌<◌, ◌^◌, [], IfOk, OnOk, length};
-ghost use Rattle.class_making.specs.Making.{AddsMethods};
+ghost use Rattle.std.specs.Prelude.{◌≡◌, ℕ, ◌+◌, ◌≤◌, ◌<◌, ◌^◌, List, IfOk, OnOk, length};
+ghost use Rattle.class_builder.specs.Named.{IsClassAt};
+ghost use Rattle.class_making.specs.Making.{NamesMore};
 ghost use Rattle.main_classes.specs.Content.{IsMain, RiseFrom, behind};
 ghost use Rattle.main_classes.specs.Called.{AreMainMethods, AreOthers, AreOwnMethods, BeginsWith, IsOther};
+ghost use Rattle.main_classes.specs.Mentioned.{called_mentions, other_mention, other_mentions, own_mentions};
 
 use crate::content::MainClass;
 use crate::other_class::OtherClass;
@@ -21,7 +23,7 @@ pub fn method_references(
 ) -> Result<Vec<u16>, ClassError>
     requires { IsMain main.now }
     ensures there { IfOk result (λ slots. AreMainMethods class.new.pool name.now own main.now slots.items) }
-    ensures grown { OnOk result (AddsMethods class.old class.new []) }
+    ensures grown { OnOk result (IsClassAt class.old.pool own name.now → NamesMore class.old class.new (called_mentions name.now main.now)) }
 {
     let mut slots = own_references(alloc, class, own)?;
     add_references(alloc, class, name, OtherClass::Code, main.code, &mut slots)?;
@@ -33,7 +35,7 @@ pub fn method_references(
 fn own_references(alloc: Global, class: &mut ClassBuilder, own: u16) -> Result<Vec<u16>, ClassError>
     ensures there { IfOk result (λ slots. AreOwnMethods class.new.pool own slots.items) }
     ensures count { IfOk result (λ slots. length slots.items ≡ 24) }
-    ensures grown { OnOk result (AddsMethods class.old class.new []) }
+    ensures grown { OnOk result ((name : List ℕ) → IsClassAt class.old.pool own name → NamesMore class.old class.new (own_mentions name)) }
 {
     let mut slots = helper_references(alloc, class, own)?;
     let choose = class.method_reference(alloc, own, "choose", "()V")?;
@@ -60,7 +62,7 @@ fn add_references(
     ensures there { OnOk result (AreOthers class.new.pool name.now kind numbers.now slots.new.items (length numbers.now)) }
     ensures kept { OnOk result (BeginsWith slots.old.items slots.new.items) }
     ensures count { OnOk result (length slots.new.items ≡ behind (length slots.old.items) numbers.now) }
-    ensures grown { OnOk result (AddsMethods class.old class.new []) }
+    ensures grown { OnOk result (NamesMore class.old class.new (other_mentions name.now kind (length numbers.now))) }
 {
     for i in 0..numbers.len() as u32 {
         add_reference(alloc, class, name, kind, i, numbers[i as usize], slots)?;
@@ -82,7 +84,7 @@ fn add_reference(
     ensures there { OnOk result (IsOther class.new.pool name.now kind i slots.new.items number) }
     ensures kept { OnOk result (BeginsWith slots.old.items slots.new.items) }
     ensures count { OnOk result (length slots.new.items ≡ number + 1) }
-    ensures grown { OnOk result (AddsMethods class.old class.new []) }
+    ensures grown { OnOk result (NamesMore class.old class.new (other_mention name.now kind i)) }
 {
     let other = kind.name(alloc, name, i)?;
     let owner = class.class_reference(alloc, other.as_str())?;

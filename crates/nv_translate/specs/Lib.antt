@@ -1,3 +1,1 @@
-pub mod Bounds
-pub mod MainFile
-pub mod Translation
+pub mod Translated

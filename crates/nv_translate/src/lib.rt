@@ -1,15 +1,9 @@
 //! Translates MIPS programs to class files for the Java virtual machine.
 #![tactic(auto)]
 
-mod bounds;
-mod built;
-mod layout;
-mod main_file;
 mod translation;
 
-pub use bounds::{allow, need};
-pub use built::Built;
-pub use code_files::{BlockInfo, SpanInfo};
-pub use layout::Layout;
-pub use program_files::{NamedFile, TranslateError};
+pub use program_translation::{
+    BlockInfo, Built, Layout, NamedFile, SpanInfo, TranslateError, allow, need,
+};
 pub use translation::translate;

@@ -1,22 +1,23 @@
-ghost use Rattle.std.specs.Prelude.{◌≡◌, ◌∷◌, ◌++◌, IfOk};
+ghost use Rattle.std.specs.Prelude.{IfOk};
+ghost use Rattle.nv_words.specs.Words.{IsWord};
 ghost use Rattle.command_words.specs.Limits.{AreMethodBytes, IsClassName};
-ghost use Rattle.nv_translate.specs.Translation.{IsTranslation};
+ghost use Rattle.nv_translate.specs.Translated.{Translated};
 
-use crate::bounds::need;
-use crate::built::Built;
-use crate::layout::Layout;
-use crate::main_file::main_file;
-use code_files::code_of;
-use data_files::data_of;
 use elf_image::Image;
-use program_files::{NamedFile, TranslateError};
+use linked_translations::laws::translations_link;
+use program_translation::{Built, TranslateError};
 use std::alloc::Global;
+use translated_types::laws::translations_are_typed;
+use translation_laws::laws::translations_run_alike;
 
 /// Translates a program to class files.
 ///
 /// The main class has the name `name`: a letter, then letters and digits, in ASCII, 64 at most. The classes of code have this name
 /// with `_0` and on, those of data with `_D0` and on. The code of each span's method has at most `method_bytes` bytes, which is
 /// 4,096 to 65,535.
+///
+/// The program of these classes runs as the program that was translated: it makes the same calls of the system, with the same bytes, and ends
+/// in the same way, for all answers of the system and every bound.
 ///
 /// # Errors
 /// `NoMemory`; `TooLarge` where the program needs more than class files hold, which is not proved never to be.
@@ -28,35 +29,18 @@ pub fn translate(
 ) -> Result<Built, TranslateError>
     requires name { IsClassName name.now }
     requires method_bytes { AreMethodBytes method_bytes }
-    ensures { IfOk result (IsTranslation image.now name.now method_bytes) }
+    ensures { IfOk result (Translated image.now name.now method_bytes) }
 {
-    let code = code_of(alloc, image, name, method_bytes)?;
-    let stored = data_of(alloc, image, name, code.files.len(), code.methods)?;
-    let main = main_file(alloc, image, name, &code, &stored)?;
-    Ok(Built {
-        files: files_of(alloc, main, code.files, stored.files)?,
-        layout: Layout {
-            spans: code.spans,
-            blocks: code.blocks,
-            need: need(image.mapped()),
-        },
-    })
+    image.laws();
+    let _mapped = image.mapped();
+    is_word(image.entry());
+    translations_link();
+    translations_are_typed();
+    translations_run_alike();
+    program_translation::translate(alloc, image, name, method_bytes)
 }
 
-// The main class, then those of code, then those of data.
-fn files_of(
-    alloc: Global,
-    main: NamedFile,
-    code: Vec<NamedFile>,
-    stored: Vec<NamedFile>,
-) -> Result<Vec<NamedFile>, TranslateError>
-    ensures { IfOk result (λ files. files.items ≡ main ∷ (code.items ++ stored.items)) }
-{
-    let mut code = code;
-    let mut stored = stored;
-    let mut files = Vec::new(alloc);
-    files.push(main)?;
-    files.append(&mut code)?;
-    files.append(&mut stored)?;
-    Ok(files)
-}
+// It does nothing: an address that code has at hand is a word.
+fn is_word(address: u32)
+    ensures { IsWord address }
+{}

@@ -1,8 +1,10 @@
 //! The fields of the main class.
-ghost use Rattle.std.specs.Prelude.{OnOk, IfOk};
+ghost use Rattle.std.specs.Prelude.{[], ◌∷◌, OnOk, IfOk};
 ghost use Rattle.class_builder.specs.Built.{GrowsPool};
+ghost use Rattle.class_builder.specs.Mentioned.{MentionsOf, field_mention};
 ghost use Rattle.class_builder.specs.Named.{IsFieldAt};
 ghost use Rattle.class_members.specs.Fields.{field_descriptor, field_name};
+ghost use Rattle.program_names.specs.Mentioned.{field_mentions};
 ghost use Rattle.program_names.specs.Named.{AreFields};
 
 use class_builder::{BuildError, ClassBuilder};
@@ -17,6 +19,7 @@ pub fn field_references(
 ) -> Result<Vec<u16>, BuildError>
     ensures there { IfOk result (λ slots. AreFields class.new.pool main slots.items 38) }
     ensures grown { OnOk result (GrowsPool class.old class.new 152) }
+    ensures mentions { OnOk result (MentionsOf class.old.pool class.new.pool main (λ owner. field_mentions owner 38)) }
 {
     let mut slots = Vec::new(alloc);
     for field in 0..FIELDS {
@@ -34,6 +37,8 @@ fn field_reference(
 ) -> Result<u16, BuildError>
     ensures there { IfOk result (λ slot. IsFieldAt class.new.pool slot main (field_name field) (field_descriptor field)) }
     ensures grown { OnOk result (GrowsPool class.old class.new 4) }
+    ensures mentions { OnOk result (MentionsOf class.old.pool class.new.pool main
+        (λ owner. field_mention owner (field_name field) (field_descriptor field) ∷ [])) }
 {
     let name = field_name(alloc, field)?;
     class.field_reference(alloc, main, name.as_str(), field_descriptor(field))

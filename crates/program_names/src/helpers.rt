@@ -1,8 +1,10 @@
 //! The helper methods of the main class.
-ghost use Rattle.std.specs.Prelude.{OnOk, IfOk};
+ghost use Rattle.std.specs.Prelude.{[], ◌∷◌, OnOk, IfOk};
 ghost use Rattle.class_builder.specs.Built.{GrowsPool};
+ghost use Rattle.class_builder.specs.Mentioned.{MentionsOf, method_mention};
 ghost use Rattle.class_builder.specs.Named.{IsMethodAt};
 ghost use Rattle.class_members.specs.Helpers.{helper_descriptor, helper_name};
+ghost use Rattle.program_names.specs.Mentioned.{helper_mentions};
 ghost use Rattle.program_names.specs.Named.{AreHelpers};
 
 use class_builder::{BuildError, ClassBuilder};
@@ -20,6 +22,7 @@ pub fn helper_references(
 ) -> Result<Vec<u16>, BuildError>
     ensures there { IfOk result (λ slots. AreHelpers class.new.pool main slots.items 20) }
     ensures grown { OnOk result (GrowsPool class.old class.new 80) }
+    ensures mentions { OnOk result (MentionsOf class.old.pool class.new.pool main (λ owner. helper_mentions owner 20)) }
 {
     let mut slots = Vec::new(alloc);
     for number in 0..HELPERS {
@@ -37,6 +40,8 @@ fn helper_reference(
 ) -> Result<u16, BuildError>
     ensures there { IfOk result (λ slot. IsMethodAt class.new.pool slot main (helper_name number) (helper_descriptor number)) }
     ensures grown { OnOk result (GrowsPool class.old class.new 4) }
+    ensures mentions { OnOk result (MentionsOf class.old.pool class.new.pool main
+        (λ owner. method_mention owner (helper_name number) (helper_descriptor number) ∷ [])) }
 {
     class.method_reference(alloc, main, helper_name(number), helper_descriptor(number))
 }

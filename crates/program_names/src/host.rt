@@ -1,6 +1,8 @@
 //! The host.
-ghost use Rattle.std.specs.Prelude.{OnOk, IfOk};
+ghost use Rattle.std.specs.Prelude.{◌++◌, OnOk, IfOk};
 ghost use Rattle.class_builder.specs.Built.{GrowsPool};
+ghost use Rattle.class_builder.specs.Mentioned.{Mentions, mentioned};
+ghost use Rattle.program_names.specs.Mentioned.{host_mentions};
 ghost use Rattle.program_names.specs.Named.{IsHost};
 
 use class_builder::{BuildError, ClassBuilder};
@@ -18,6 +20,7 @@ pub struct HostSlots {
 pub fn host_slots(alloc: Global, class: &mut ClassBuilder) -> Result<HostSlots, BuildError>
     ensures there { IfOk result (IsHost class.new.pool) }
     ensures grown { OnOk result (GrowsPool class.old class.new 10) }
+    ensures mentions { OnOk result (Mentions class.new.pool (mentioned class.old.pool ++ host_mentions)) }
 {
     let host = class.class_reference(alloc, "nestedvm/Host")?;
     let call = class.method_reference(alloc, host, "call", "([[I[[IIIIII)I")?;

@@ -1,6 +1,8 @@
 //! What every class names.
-ghost use Rattle.std.specs.Prelude.{OnOk, IfOk};
+ghost use Rattle.std.specs.Prelude.{◌++◌, OnOk, IfOk};
 ghost use Rattle.class_builder.specs.Built.{GrowsPool};
+ghost use Rattle.class_builder.specs.Mentioned.{Mentions, mentioned};
+ghost use Rattle.program_names.specs.Mentioned.{names_mentions};
 ghost use Rattle.program_names.specs.Named.{AreNames};
 
 use crate::fields::field_references;
@@ -30,6 +32,7 @@ impl Names {
     pub fn new(alloc: Global, class: &mut ClassBuilder, main: &str) -> Result<Names, BuildError>
         ensures there { IfOk result (AreNames class.new.pool main.now) }
         ensures grown { OnOk result (GrowsPool class.old class.new 176) }
+        ensures mentions { OnOk result (Mentions class.new.pool (mentioned class.old.pool ++ names_mentions main.now)) }
     {
         let main = class.class_reference(alloc, main)?;
         let fields = field_references(alloc, class, main)?;

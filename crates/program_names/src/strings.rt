@@ -1,6 +1,8 @@
 //! Strings.
-ghost use Rattle.std.specs.Prelude.{OnOk, IfOk};
+ghost use Rattle.std.specs.Prelude.{◌++◌, OnOk, IfOk};
 ghost use Rattle.class_builder.specs.Built.{GrowsPool};
+ghost use Rattle.class_builder.specs.Mentioned.{Mentions, mentioned};
+ghost use Rattle.program_names.specs.Mentioned.{string_mentions};
 ghost use Rattle.program_names.specs.Named.{AreStrings};
 
 use class_builder::{BuildError, ClassBuilder};
@@ -18,6 +20,7 @@ pub struct StringSlots {
 pub fn string_slots(alloc: Global, class: &mut ClassBuilder) -> Result<StringSlots, BuildError>
     ensures there { IfOk result (AreStrings class.new.pool) }
     ensures grown { OnOk result (GrowsPool class.old class.new 10) }
+    ensures mentions { OnOk result (Mentions class.new.pool (mentioned class.old.pool ++ string_mentions)) }
 {
     let string = class.class_reference(alloc, "java/lang/String")?;
     let length = class.method_reference(alloc, string, "length", "()I")?;

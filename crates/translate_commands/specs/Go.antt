@@ -7,8 +7,8 @@ use Rattle.jvm_code.specs.declared.class.Class.{Class}
 use Rattle.jvm_link.specs.Linking.{program_of}
 use Rattle.jvm_program.specs.Step.{loaded, loaded_turn}
 use Rattle.nv_outside.specs.Files.{Files}
-use Rattle.nv_translate.specs.Bounds.{allow, need}
-use Rattle.nv_translate.specs.declared.built.Built.{Built}
+use Rattle.program_translation.specs.Bounds.{allow, need}
+use Rattle.program_translation.specs.declared.built.Built.{Built}
 use Rattle.command_deeds.specs.Deeds.{Due}
 use Rattle.machine_launch.specs.Runs.{NamedFile, IsDueOfSession, IsDueOfSteps}
 use Rattle.translate_commands.specs.Classes.{IsDueOfFiles}

@@ -4,7 +4,7 @@ use Rattle.elf_image.specs.Start.{Source}
 use Rattle.class_members.specs.Numbers.{main_methods}
 use Rattle.code_files.specs.Classes.{Placed, AreCodeClasses, Follow, methods_behind, run_of}
 use Rattle.data_files.specs.Files.{class_count, filled_pages, first_method}
-use Rattle.nv_translate.specs.Translation.{code_methods}
+use Rattle.program_translation.specs.Translation.{code_methods}
 use Rattle.translated_loading.specs.Loading.{TakesNoPart}
 
 pub code-takes-no-part : (source : Source) (code : List Placed) (m : ℕ) → main_methods ≤ m → m < code_methods code → TakesNoPart source code m

@@ -8,8 +8,8 @@ use Rattle.main_classes.specs.Content.{text_runs}
 use Rattle.code_files.specs.Classes.{Placed}
 use Rattle.data_files.specs.Pages.{page_words}
 use Rattle.data_files.specs.Files.{class_count, filled_pages, first_method, fill_of}
-use Rattle.nv_translate.specs.MainFile.{beginning_of}
-use Rattle.nv_translate.specs.Translation.{code_methods}
+use Rattle.program_translation.specs.MainFile.{beginning_of}
+use Rattle.program_translation.specs.Translation.{code_methods}
 use Rattle.loading_laws.specs.Loaded.{Filler, MakesMemory, run_shares, memory_turns}
 use Rattle.loading_laws.specs.Made.{IsProgram}
 

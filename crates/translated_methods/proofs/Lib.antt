@@ -10,5 +10,4 @@ mod Words
 mod Classes
 mod Together
 mod Areas
-mod Accepted
 mod Standing

@@ -137,11 +137,6 @@ places-more r ranges =
     length-append (places_in r) (places_of ranges)
     ∙ ap (λ n. n + length (places_of ranges)) (length-map-range_with_len (place_at r) 0 (share_count 6144 r.words))
 
-pub places-some : (ranges : List Range) → 1 ≤ length ranges → AllByRecursion (λ (r : Range). 1 ≤ r.words) ranges → 1 ≤ length (places_of ranges)
-places-some [] some filled = absurd (omega arith)
-places-some (r ∷ ranges) some filled =
-    omega (arith, places-more r ranges, some-shares r.words filled.0)
-
 pub places-few : (ranges : List Range) → 6144 * length (places_of ranges) ≤ code_words ranges + 6144 * length ranges
 places-few [] = omega arith
 places-few (r ∷ ranges) =

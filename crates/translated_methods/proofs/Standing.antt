@@ -13,15 +13,16 @@ use Rattle.trampoline.specs.Choosers.{main_chooser}
 use Rattle.method_outcomes.specs.Helpers.{HasHelpers}
 use Rattle.class_members.specs.Numbers.{main_methods, choose_number, missing_number}
 use Rattle.code_files.specs.Places.{Place, places_of}
-use Rattle.nv_translate.specs.declared.built.Built.{Built}
+use Rattle.code_files.specs.Classes.{IsPlaced}
+use Rattle.program_translation.specs.declared.built.Built.{Built}
 use Rattle.linked_translations.specs.Linked.{IsLinked}
 use Rattle.translated_programs.specs.Classes.{CodeClass, starts_of}
 use Rattle.translated_programs.specs.Programs.{IsInClass, IsTranslated}
+use Rattle.std.proofs.lemmas.Slice.Zip.{AllZip-long}
 use Rattle.translated_methods.specs.Images.{HasAcceptedCode}
 use Rattle.translated_methods.specs.Standing.{Stands}
-use Rattle.translated_methods.proofs.Accepted.{accepted-has-runs}
 use Rattle.translated_methods.proofs.Main.{has-helpers, choose-lies, missing-is, missing-lies}
-use Rattle.translated_methods.proofs.Places.{IsGood, good-places, places-rise, places-some, places-few}
+use Rattle.translated_methods.proofs.Places.{IsGood, good-places, places-rise, places-few}
 use Rattle.translated_methods.proofs.Words.{words-at}
 use Rattle.translated_methods.proofs.Areas.{in-area}
 use Rattle.translated_methods.proofs.Together.{classes_of, are-classes, have-classes, have-ranges, as-many, numbered, ordered, starts-are, has-words, few-starts}
@@ -99,7 +100,8 @@ module _ (source : Source) (name : Text) (method_bytes : ℕ) (built : Built) (g
         omega (
           arith,
           as-many code method_bytes places l.code l.code_is.placed.each,
-          places-some ranges (accepted-has-runs source.file ranges guest.accepted l.code_is.ranges_are) filled,
+          AllZip-long (IsPlaced code method_bytes) places l.code l.code_is.placed.each,
+          l.some,
         );
     few = few;
     numbered = numbered code method_bytes places l.code l.code_is.placed.each 0 main_methods l.code_is.placed.follow;

@@ -4,7 +4,7 @@ ghost use Rattle.std.specs.Prelude.{ℕ, ◌≤◌};
 ghost use Rattle.command_words.specs.Word.{Text};
 ghost use Rattle.elf_image.specs.Start.{Source};
 ghost use Rattle.jvm_link.specs.Linking.{program_of};
-ghost use Rattle.nv_translate.specs.declared.built.Built.{Built};
+ghost use Rattle.program_translation.specs.declared.built.Built.{Built};
 ghost use Rattle.linked_translations.specs.Linked.{IsLinked};
 ghost use Rattle.translated_methods.specs.Images.{HasAcceptedCode};
 ghost use Rattle.translated_methods.specs.Standing.{Stands};

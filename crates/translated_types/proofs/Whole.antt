@@ -14,8 +14,8 @@ use Rattle.code_classes.specs.Code.{address}
 use Rattle.code_files.specs.Places.{places_of}
 use Rattle.code_files.specs.Classes.{Placed, IsPlaced, run_of, is_last, starts_of_class}
 use Rattle.data_files.specs.Files.{class_count, filled_pages, first_method, fill_of}
-use Rattle.nv_translate.specs.declared.built.Built.{Built}
-use Rattle.nv_translate.specs.Translation.{code_methods}
+use Rattle.program_translation.specs.declared.built.Built.{Built}
+use Rattle.program_translation.specs.Translation.{code_methods}
 use Rattle.typed_steps.specs.Judging.{TakesGives}
 use Rattle.typed_code.specs.Knowing.{HelperTypes}
 use Rattle.typed_methods.specs.Methods.{IsStart}

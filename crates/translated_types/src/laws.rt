@@ -5,7 +5,7 @@ ghost use Rattle.command_words.specs.Word.{Text};
 ghost use Rattle.elf_image.specs.Start.{Source};
 ghost use Rattle.jvm_program.specs.Typing.{AllTyped};
 ghost use Rattle.jvm_link.specs.Linking.{program_of};
-ghost use Rattle.nv_translate.specs.declared.built.Built.{Built};
+ghost use Rattle.program_translation.specs.declared.built.Built.{Built};
 ghost use Rattle.linked_translations.specs.Images.{HasWholeCode};
 ghost use Rattle.linked_translations.specs.Linked.{IsLinked};
 

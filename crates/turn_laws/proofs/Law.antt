@@ -1,5 +1,5 @@
 -- The law of a turn.
-use Rattle.std.proofs.Common.{◌≡◌, ℕ, zero, suc, ◌+◌, ◌*◌, ◌≤◌, inl, inr, Bool, List, [], ◌∷◌, ◌++◌, Option, Some, None, refl, ap, sym, subst, arith}
+use Rattle.std.proofs.Common.{◌≡◌, ℕ, ◌+◌, ◌*◌, ◌≤◌, inl, inr, Bool, List, [], ◌∷◌, ◌++◌, Option, Some, None, refl, ap, sym, subst, arith}
 use Rattle.std.specs.List.{sum_by}
 use Rattle.nv_words.specs.declared.order.Order.{Order}
 use Rattle.nv_events.specs.Turn.{Turn, moves, ends, leaves, asks, «fault»}
@@ -7,20 +7,18 @@ use Rattle.run_laws.specs.Trail.{went, stood, moved}
 use Rattle.run_laws.specs.Turns.{Pair, ComesToRest, Stands, Alike, Follows, LawOfTurn, Passes}
 use Rattle.run_laws.proofs.Passing.{passes_before}
 use Rattle.mips_decode.specs.State as guest
-use Rattle.mips_decode.specs.Step as guest_step
 use Rattle.jvm_program.specs.Program.{Program}
 use Rattle.jvm_program.specs.Step.{State, turn}
-use Rattle.machine_counts.specs.Classes.{executed}
 use Rattle.choice_laws.specs.Coming.{stray_fault}
 use Rattle.translated_programs.specs.Classes.{CodeClass, is_span, run_of}
 use Rattle.choice_passes.specs.Going.{ComesTo}
 use Rattle.choice_passes.specs.Standing.{IsGuest, IsStray, AtChoose, AtRun, AtWord, EndsStray}
-use Rattle.turn_laws.specs.Counted.{Counted, weight, paid, credit, pair}
+use Rattle.turn_laws.specs.Counted.{Counted, paid, credit, pair}
 use Rattle.turn_laws.specs.Rests.{AtUnit, Rests, StandsSomewhere}
 use Rattle.turn_laws.specs.Marks.{MarksPieces}
 use Rattle.turn_laws.proofs.Given.{UnitLaws, SpanLaws, ProgramFacts}
 use Rattle.turn_laws.proofs.Inner.{is_outer_turn}
-use Rattle.turn_laws.proofs.Turning.{HasTurns, IsLike, Walks, outer-follows, trail_to}
+use Rattle.turn_laws.proofs.Turning.{HasTurns, IsLike, Walks, classes-pass, outer-follows, trail_to}
 use Rattle.turn_laws.proofs.Credits.{credit-choosing, credit-in-span, entry, goes-none, goes-one}
 use Rattle.turn_laws.proofs.Units.{piece-follows, word-follows, word_limit}
 
@@ -99,22 +97,12 @@ module _ (unit_laws : UnitLaws) (laws : SpanLaws) (program : Program) (words : �
 
   -- ---- where a span is chosen first
 
-  no-turns : (i : Counted) (n : ℕ) → n ≤ 0 → (y : State) (g : guest.State) → sum_by (executed program (weight classes i)) (moved (turn program words) n y) ≤ credit classes i y + sum_by (paid classes i) (moved guest_step.turn n g)
-  no-turns i zero less y g = omega arith
-  no-turns i (suc n) less y g = absurd (omega (arith, less))
-
   chosen-turn : (t : guest.State) (y : State) → IsGuest order code t → ((i : Counted) → credit classes i y ≡ entry i) → ComesTo program words (is_span classes) 150 0 1 (Words t) y → Follows machines Rest (λ n. 132 * n + 295) t y
   chosen-turn t y guest_is one c =
       let walks : Walks program words classes entry c.turns y c.after = goes-one classes program words c.turns y c.after c.goes in
       let in_time = c.in_time in
-      let part : Passes machines 0 c.turns t y t c.after = record {
-        guest_comes = refl;
-        class_comes = walks.comes;
-        no_sooner = omega arith;
-        unmarked = λ n u some less is. absurd (omega (arith, some, less));
-        early = λ i n less. no-turns i n less y t;
-        counted = λ i. let cost = walks.costs i in let none = word-credit i t c.after c.arrives in let there = one i in omega (arith, cost, none, there);
-      } in
+      let part : Passes machines 0 c.turns t y t c.after = classes-pass program words classes marked Rest entry c.turns t y c.after walks
+      (λ i. let none = word-credit i t c.after c.arrives in let there = one i in omega (arith, none, there)) in
       passes_before machines 0 c.turns t y t c.after part Rest word_limit (λ n. 132 * n + 295) (word-turn t c.after guest_is c.arrives)
       (λ some. absurd (omega (arith, some))) (λ n. omega (arith, in_time))
 

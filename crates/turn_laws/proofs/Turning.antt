@@ -1,5 +1,5 @@
 -- From turns of the guest and the way of the classes beside them to turns that follow.
-use Rattle.std.proofs.Common.{◌≡◌, ℕ, zero, suc, ◌+◌, ◌≤◌, Bool, true, false, IsTrue, List, [], ◌∷◌, ◌++◌, inl, inr, Option, Some, None, ap, sym, subst, ◌∙◌, arith}
+use Rattle.std.proofs.Common.{◌≡◌, ℕ, zero, suc, ◌+◌, ◌≤◌, Bool, true, false, IsTrue, List, [], ◌∷◌, ◌++◌, inl, inr, Option, Some, None, refl, ap, sym, subst, ◌∙◌, arith}
 use Rattle.std.proofs.lemmas.Bool.{cases_lt}
 use Rattle.std.proofs.lemmas.List.Sums.{sum_by-append, sum_by_push}
 use Rattle.std.specs.List.{sum_by}
@@ -78,6 +78,25 @@ module _ (program : Program) (words : ℕ) (classes : List CodeClass) (marked : 
   IsLike used allowed extra (asks q next) (asks r then) =
       (r ≡ q) × ((i : Counted) → used i ≡ 0) × ((a : Answer) → IsTrue (fits a q) → Answers used (allowed (next a)) extra (next a) (then a))
   IsLike used allowed extra _ _ = ⊥
+
+  -- ---- turns of the classes alone
+
+  no-turns : (i : Counted) (n : ℕ) → n ≤ 0 → (y : State) (g : guest.State) → class_sum i (moved (turn program words) n y) ≤ credit classes i y + guest_sum i (moved guest_step.turn n g)
+  no-turns i zero less y g = omega arith
+  no-turns i (suc n) less y g = absurd (omega (arith, less))
+
+  -- they are a part of a turn, where what they count and the credit behind them are within the credit before them
+  pub classes-pass : (used : Counted → ℕ) (n : ℕ) (g : guest.State) (y z : State) → Walks program words classes used n y z → ((i : Counted) → used i + credit classes i z ≤ credit classes i y) → Passes machines 0 n g y g z
+  classes-pass used n g y z walks within = record {
+    guest_comes = refl;
+    class_comes = walks.comes;
+    no_sooner = omega arith;
+    unmarked = λ m t one less is. absurd (omega (arith, one, less));
+    early = λ i m less. no-turns i m less y g;
+    counted = λ i. let cost = walks.costs i in let room = within i in omega (arith, cost, room);
+  }
+
+  -- ---- turns of both
 
   module _ (g : guest.State) (j : State) (last : Turn guest.State) (made : HasTurns marked g last) (used : Counted → ℕ) (turns : ℕ) (after : State) (walks : Walks program words classes used turns j after) (first : 1 ≤ made.earlier → (i : Counted) → class_sum i (moved (turn program words) 1 j) ≡ 0) (limit : ℕ → ℕ) where
     abbrev trail : Option guest.State → List (Step guest.State)

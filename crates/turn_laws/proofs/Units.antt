@@ -1,21 +1,19 @@
 -- The classes follow the guest's turns through the unit at which it stands.
-use Rattle.std.proofs.Common.{◌≡◌, ℕ, zero, suc, ◌+◌, ◌*◌, ◌<◌, ◌≤◌, ◌⊎◌, inl, inr, Bool, true, false, List, [], ◌∷◌, ◌++◌, length, length-append, slice_get, Option, Some, None, refl, ap, sym, subst, ◌∙◌, arith}
+use Rattle.std.proofs.Common.{◌≡◌, ℕ, suc, ◌+◌, ◌*◌, ◌<◌, ◌≤◌, ◌⊎◌, inl, inr, Bool, true, false, List, [], ◌∷◌, ◌++◌, length, length-append, slice_get, Option, Some, None, refl, ap, sym, subst, ◌∙◌, arith}
 use Rattle.std.specs.List.{sum_by}
 use Rattle.std.proofs.lemmas.Bool.{true≢false}
 use Rattle.std.proofs.lemmas.Option.{slice_get-get_or}
 use Rattle.nv_words.specs.Words.{IsWord}
 use Rattle.nv_words.specs.declared.order.Order.{Order}
 use Rattle.nv_events.specs.Turn.{Turn, moves, ends, leaves, asks}
-use Rattle.run_laws.specs.Trail.{Step, moved}
+use Rattle.run_laws.specs.Trail.{Step}
 use Rattle.run_laws.specs.Turns.{Follows, Passes}
 use Rattle.run_laws.proofs.Passing.{passes_before}
 use Rattle.mips_decode.specs.State as guest
-use Rattle.mips_decode.specs.Step as guest_step
 use Rattle.jvm_program.specs.declared.instruction.Instruction.{Instruction}
 use Rattle.jvm_program.specs.Program.{Program}
 use Rattle.jvm_program.specs.Effect.{Workspace}
-use Rattle.jvm_program.specs.Step.{State, Frame, turn}
-use Rattle.machine_counts.specs.Classes.{executed}
+use Rattle.jvm_program.specs.Step.{State, Frame}
 use Rattle.machine_counts.specs.Guest.{Span, crossings, partial}
 use Rattle.delay_slots.specs.declared.unit.Unit.{Unit}
 use Rattle.delay_slots.specs.declared.unit.Unit.TheVariants as units
@@ -43,7 +41,7 @@ use Rattle.turn_laws.specs.Rests.{Rests}
 use Rattle.turn_laws.specs.Marks.{MarksPieces}
 use Rattle.turn_laws.proofs.Given.{UnitLaws, SpanLaws, ProgramFacts}
 use Rattle.turn_laws.proofs.Spans.{has-span}
-use Rattle.turn_laws.proofs.Turning.{HasTurns, Settles, trail_to}
+use Rattle.turn_laws.proofs.Turning.{HasTurns, Settles, classes-pass, trail_to}
 use Rattle.turn_laws.proofs.Guest.{UnitMade, either, unit-made, unit-crosses}
 use Rattle.turn_laws.proofs.Following.{ForEach, ReadsAlone, SilentToAsk, path-walks, paths-follow, spares, stays-walks}
 use Rattle.turn_laws.proofs.Credits.{credit-few, credit-in-span, goes-none, other-outside, rest-paid, same-jumps, word-inside}
@@ -409,6 +407,10 @@ module _ (unit_laws : UnitLaws) (laws : SpanLaws) (program : Program) (words : �
 
     -- ---- a word with which a piece begins
 
+    -- what the code weighs that comes before a piece's first unit
+    abbrev fetch_weight : ℕ → (Instruction → ℕ) → ℕ
+    fetch_weight k weight = whole_weight order (fetching (own_units all c.leads own k)) weight
+
     pub entered-follows : (x : guest.State) → IsGuest order code x → (k : ℕ) (w : Workspace) → StandsAt order own k w x → begins c.leads own k ≡ true → Follows (pair program words classes marked) Rest word_limit x (stands site (word_entry c j k) w)
     entered-follows x guest_is k w s begin =
         let e = laws.enters site order c.words c.leads own k w x has_span s begin in
@@ -417,22 +419,12 @@ module _ (unit_laws : UnitLaws) (laws : SpanLaws) (program : Program) (words : �
         let v = comes.after in
         let end = stands site (offset_in all c.leads own k []) v in
         let in_time = comes.in_time in
-        let walks = path-walks program words classes (c.first_method + j) (word_entry c j k) (offset_in all c.leads own k []) comes.turns (whole_weight order (fetching (own_units all c.leads own k))) start end comes.path in
-        let part : Passes (pair program words classes marked) 0 comes.turns x start x end = record {
-          guest_comes = refl;
-          class_comes = walks.comes;
-          no_sooner = omega arith;
-          unmarked = λ n t one less is. absurd (omega (arith, one, less));
-          early = λ i n less. no-turns i n less start x;
-          counted = λ i. let cost = walks.costs i in let free = laws.enters_spared order (weight classes i) (own_units all c.leads own k) (spares classes i) in let none = in-span i end (offset_in all c.leads own k []) v refl in omega (arith, cost, free, none);
-        } in
+        let walks = path-walks program words classes (c.first_method + j) (word_entry c j k) (offset_in all c.leads own k []) comes.turns (fetch_weight k) start end comes.path in
+        let part : Passes (pair program words classes marked) 0 comes.turns x start x end = classes-pass program words classes marked Rest (λ i. fetch_weight k (weight classes i)) comes.turns x start end walks
+        (λ i. let free = laws.enters_spared order (weight classes i) (own_units all c.leads own k) (spares classes i) in let none = in-span i end (offset_in all c.leads own k []) v refl in omega (arith, free, none)) in
         passes_before (pair program words classes marked) 0 comes.turns x start x end part Rest (λ n. 132 * n + 83) word_limit
         (piece-follows x guest_is k [] e.unit e.rest v comes.arrives)
         (λ some. absurd (omega (arith, some))) (λ n. omega (arith, in_time))
-      where
-        no-turns : (i : Counted) (n : ℕ) → n ≤ 0 → (y : State) (g : guest.State) → sum_by (executed program (weight classes i)) (moved (turn program words) n y) ≤ credit classes i y + sum_by (paid classes i) (moved guest_step.turn n g)
-        no-turns i zero less y g = omega arith
-        no-turns i (suc n) less y g = absurd (omega (arith, less))
 
     pub word-follows : (x : guest.State) → IsGuest order code x → (k : ℕ) (w : Workspace) → StandsAt order own k w x → Follows (pair program words classes marked) Rest word_limit x (stands site (word_entry c j k) w)
     word-follows x guest_is k w s = by_begin (either (begins c.leads own k))

@@ -1,7 +1,8 @@
 use Rattle.std.proofs.Common.{arith}
-use Rattle.std.proofs.lemmas.Result.{IfOk-weaker}
+use Rattle.std.proofs.lemmas.Result.{IfOk-weaker, on_ok_weaker}
 use Rattle.class_builder.proofs.Joining.{class-joins}
 use Rattle.class_builder.proofs.Made.{class-made}
+use Rattle.class_builder.proofs.Mentions.{class-mentioned}
 use Rattle.class_builder.proofs.references.add_class.Goals as goal
 
 pub add-requires : goal.add-requires
@@ -12,3 +13,9 @@ returns-clause-there c =
     IfOk-weaker c.add.result _ _
     (λ slot at. class-made c.add_text.new.self c.add.new.self c.in_ok-text.text slot c.args.name.items c.add.ensures.grown.kept
     c.in_ok-text.ensures.there at) c.add.ensures.there
+
+pub returns-clause-mentions : goal.returns-clause-mentions
+returns-clause-mentions c =
+    on_ok_weaker c.add.result
+    (class-mentioned c.args.pool.now c.add_text.new.self c.add.new.self c.in_ok-text.text c.args.name.items c.in_ok-text.ensures.mentions
+    c.add.ensures.grown.kept c.in_ok-text.ensures.there) c.add.ensures.mentions

@@ -1,8 +1,9 @@
 use Rattle.std.proofs.Common.{arith}
-use Rattle.std.proofs.lemmas.Result.{IfOk-weaker}
+use Rattle.std.proofs.lemmas.Result.{IfOk-weaker, on_ok_weaker}
 use Rattle.class_builder.specs.Lawful.{member_entry}
 use Rattle.class_builder.proofs.Joining.{member-joins, member-class, member-lawful, pair-lawful}
 use Rattle.class_builder.proofs.Made.{has_class-later, member-made}
+use Rattle.class_builder.proofs.Mentions.{member-mentioned}
 use Rattle.class_builder.proofs.references.add_member.Goals as goal
 
 pub add_pair-requires : goal.add_pair-requires
@@ -28,3 +29,10 @@ returns-clause-there c =
     IfOk-weaker c.add.result _ _
     (λ slot at. member-made kind c.add_pair.new.pool c.add.new.self c.args.class c.in_ok-pair.pair slot c.args.name.items
     c.args.descriptor.items c.entry.result c.add.ensures.grown.kept c.in_ok-pair.ensures.there c.entry.ensures at) c.add.ensures.there
+
+pub returns-clause-mentions : goal.returns-clause-mentions
+returns-clause-mentions c =
+    on_ok_weaker c.add.result
+    (λ put owner of. member-mentioned c.args.pool.now c.add_pair.new.pool c.add.new.self c.args.class c.in_ok-pair.pair owner
+    c.args.name.items c.args.descriptor.items c.in_ok-pair.ensures.mentions c.add_pair.ensures.grown.kept c.add.ensures.grown.kept of
+    c.in_ok-pair.ensures.there c.args.kind c.entry.result c.entry.ensures put) c.add.ensures.mentions

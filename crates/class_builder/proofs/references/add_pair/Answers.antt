@@ -1,7 +1,8 @@
 use Rattle.std.proofs.Common.{arith}
-use Rattle.std.proofs.lemmas.Result.{IfOk-weaker}
+use Rattle.std.proofs.lemmas.Result.{IfOk-weaker, on_ok_weaker}
 use Rattle.class_builder.proofs.Joining.{pair-joins}
 use Rattle.class_builder.proofs.Made.{text-later, pair-made}
+use Rattle.class_builder.proofs.Mentions.{pair-mentioned}
 use Rattle.class_builder.proofs.references.add_pair.Goals as goal
 
 pub add-requires : goal.add-requires
@@ -19,3 +20,9 @@ returns-clause-there c =
     c.args.name.items c.args.descriptor.items
     c.add_text-2.ensures.grown.kept c.add.ensures.grown.kept c.in_ok-name.ensures.there c.in_ok-descriptor.ensures.there at)
     c.add.ensures.there
+
+pub returns-clause-mentions : goal.returns-clause-mentions
+returns-clause-mentions c =
+    on_ok_weaker c.add.result
+    (pair-mentioned c.args.pool.now c.add_text.new.self c.add_text-2.new.self c.add.new.self c.in_ok-name.name
+    c.in_ok-descriptor.descriptor c.in_ok-name.ensures.mentions c.in_ok-descriptor.ensures.mentions) c.add.ensures.mentions

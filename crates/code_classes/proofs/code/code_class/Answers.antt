@@ -2,11 +2,14 @@ use Rattle.std.proofs.Common.{◌≡◌, ◌∷◌, [], ◌++◌, length, ap, �
 use Rattle.constant_pool.specs.declared.entry.Entry.TheVariants.{MethodRef}
 use Rattle.code_assembly.specs.declared.references.References.{References}
 use Rattle.class_builder.specs.Named.{IsClassAt}
+use Rattle.class_builder.specs.Mentioned.{Mentions}
+use Rattle.class_builder.proofs.Mentions.{mentions-still}
 use Rattle.class_members.specs.ClassNames.{span_name}
 use Rattle.class_members.specs.Helpers.{helper_name, helper_descriptor}
 use Rattle.program_names.specs.Tables.{references_of}
 use Rattle.program_names.proofs.NamedLemmas.{class-later, members-later, names-later}
 use Rattle.class_making.specs.Making.{AddsMethods, nothing}
+use Rattle.code_classes.specs.Naming.{code_mentions}
 use Rattle.code_classes.specs.Code.{span_plans, run_plan}
 use Rattle.class_making.proofs.MakingLemmas.{adds-more, made-all, adds-fields, adds-name}
 use Rattle.code_classes.proofs.code.code_class.Goals as goal
@@ -47,5 +50,8 @@ returns c =
       own_methods = named.own_methods.items;
       own_are =
           members-later named.class.pool final.pool all.pool MethodRef span_name (λ k. nothing) named.own named.own_methods.items (length spans) told.own_are;
+      mentions =
+          subst (λ name. Mentions final.pool (code_mentions name c.args.main.now (length spans))) name_is
+          (mentions-still named.class.pool final.pool _ told.mentions all.mentions);
       methods = made-all named.class final (before ++ last) all told.no_methods;
     }

@@ -1,10 +1,12 @@
 use Rattle.std.proofs.Common.{◌≡◌, ◌∷◌, [], ◌++◌, ap, ◌∙◌, subst, map}
 use Rattle.class_builder.specs.Named.{IsClassAt}
+use Rattle.class_builder.specs.Mentioned.{Mentions}
+use Rattle.class_builder.proofs.Mentions.{mentions-still}
 use Rattle.class_making.specs.Making.{AddsMethods}
 use Rattle.class_making.proofs.MakingLemmas.{adds-more, made-all, adds-fields, adds-name}
 use Rattle.program_names.specs.Tables.{references_of}
 use Rattle.data_classes.specs.Pages.{page_of}
-use Rattle.data_classes.specs.Naming.{AreDataNames}
+use Rattle.data_classes.specs.Naming.{AreDataNames, data_mentions}
 use Rattle.data_classes.specs.Data.{words_plan, fill_plan}
 use Rattle.data_classes.proofs.NameLemmas.{data-names-later}
 use Rattle.data_classes.proofs.class.data_class.Goals as goal
@@ -45,5 +47,8 @@ returns c =
           (λ name. AreDataNames final.pool name c.args.main.now (map page_of c.args.pages.now) named.names named.own named.words named.texts.items)
           name_is
           (data-names-later named.class.pool final.pool all.pool _ _ _ named.names named.own named.words named.texts.items told.names);
+      mentions =
+          subst (λ name. Mentions final.pool (data_mentions name c.args.main.now)) name_is
+          (mentions-still named.class.pool final.pool _ told.mentions all.mentions);
       methods = made-all named.class final plans all told.no_methods;
     }

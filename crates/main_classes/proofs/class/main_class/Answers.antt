@@ -1,4 +1,5 @@
 use Rattle.std.proofs.Common.{◌≡◌, sym, subst}
+use Rattle.class_builder.proofs.Mentions.{mentions-still}
 use Rattle.class_making.specs.Making.{AddsMethods}
 use Rattle.class_making.proofs.MakingLemmas.{adds-more, made-all, adds-fields, adds-name}
 use Rattle.program_names.specs.Tables.{references_of}
@@ -37,5 +38,6 @@ returns c =
       slots = named.methods.items;
       texts = named.texts.items;
       names_are = main-names-later named.class.pool final.pool all.pool _ main named.names named.methods.items named.texts.items told.names;
+      mentions = mentions-still named.class.pool final.pool _ told.mentions all.mentions;
       methods = made-all named.class final plans all told.no_methods;
     }

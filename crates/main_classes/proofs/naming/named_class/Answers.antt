@@ -1,7 +1,10 @@
-use Rattle.std.proofs.Common.{[], sym, ◌∙◌, subst}
-use Rattle.class_making.proofs.MakingLemmas.{adds-slots, adds-nothing, keeps-methods, adds-fields, adds-name}
+use Rattle.std.proofs.Common.{◌++◌, sym, ◌∙◌, subst}
+use Rattle.class_builder.proofs.Mentions.{mentions-still}
+use Rattle.class_making.proofs.NamingLemmas.{names-slots, names-more, names-still, names-all, named-methods, named-fields, named-name}
+use Rattle.program_names.specs.Mentioned.{names_mentions}
 use Rattle.program_names.proofs.NamedLemmas.{names-later}
 use Rattle.main_classes.specs.Fields.{AreFields}
+use Rattle.main_classes.specs.Mentioned.{called_mentions}
 use Rattle.main_classes.proofs.FieldLemmas.{fields-later, fields-made, fields-keep-methods, fields-keep-name}
 use Rattle.main_classes.proofs.CalledLemmas.{methods-later}
 use Rattle.main_classes.proofs.naming.named_class.Goals as goal
@@ -14,18 +17,23 @@ returns c =
     let third = c.method_references.new.class in
     let fourth = c.text_slots.new.class in
     let fields = c.in_ok-add_fields.ensures in
+    let names = names_mentions c.args.name.now in
+    let called = called_mentions c.args.name.now c.args.main.now in
     let from_third = c.in_ok-texts.ensures.grown in
-    let from_second = adds-nothing second third fourth c.in_ok-methods.ensures.grown from_third in
-    let all = adds-nothing first second fourth (adds-slots first second 176 c.in_ok-names.ensures.grown) from_second in
+    let from_second = names-still second third fourth called (c.in_ok-methods.ensures.grown c.in_ok-names.ensures.there.main_is) from_third in
+    let all = names-more first second fourth names called
+    (names-slots first second 176 names c.in_ok-names.ensures.grown c.in_ok-names.ensures.mentions) from_second in
+    let more = names ++ called in
     record {
-      no_methods = keeps-methods first fourth all ∙ fields-keep-methods begun first 38 fields ∙ c.in_ok-class.ensures.methods;
+      no_methods = named-methods first fourth more all ∙ fields-keep-methods begun first 38 fields ∙ c.in_ok-class.ensures.methods;
       fields_are =
-          subst (λ l. AreFields fourth.pool l 38) (sym (adds-fields first fourth [] all))
+          subst (λ l. AreFields fourth.pool l 38) (sym (named-fields first fourth more all))
           (fields-later first.pool fourth.pool all.pool first.fields 38 (fields-made begun first 38 fields c.in_ok-class.ensures.fields));
-      named = adds-name first fourth [] _ all (fields-keep-name begun first 38 _ fields c.in_ok-class.ensures.named);
+      named = named-name first fourth more _ all (fields-keep-name begun first 38 _ fields c.in_ok-class.ensures.named);
       names = record {
         names_are = names-later second.pool fourth.pool from_second.pool _ c.in_ok-names.names c.in_ok-names.ensures.there;
         methods_are = methods-later third.pool fourth.pool from_third.pool _ _ _ c.in_ok-methods.methods.items c.in_ok-methods.ensures.there;
         texts_are = c.in_ok-texts.ensures.there;
       };
+      mentions = names-all first fourth _ more (mentions-still begun.pool first.pool _ c.in_ok-class.ensures.mentions fields.mentions) all;
     }

@@ -1,10 +1,11 @@
-use Rattle.std.proofs.Common.{◌≡◌, ◌+◌, length, ap, sym, ◌∙◌, arith, subst}
+use Rattle.std.proofs.Common.{◌≡◌, ◌+◌, [], ◌∷◌, ◌++◌, length, ap, sym, ◌∙◌, arith, subst}
 use Rattle.std.proofs.lemmas.List.{length_push, get_or_push}
 use Rattle.class_builder.specs.Named.{IsClassAt, IsMethodAt}
+use Rattle.class_builder.specs.Mentioned.{OfClass, method_mention, mentioned, Mentions}
 use Rattle.class_builder.proofs.Made.{class-later}
 use Rattle.class_making.specs.Making.{nothing}
-use Rattle.class_making.proofs.MakingLemmas.{adds-slots, adds-nothing}
-use Rattle.main_classes.specs.Called.{BeginsWith, method_name, slot_of}
+use Rattle.class_making.proofs.NamingLemmas.{names-slots, names-more}
+use Rattle.main_classes.specs.Called.{BeginsWith, class_name, method_name, slot_of}
 use Rattle.main_classes.proofs.CalledLemmas.{begins-more}
 use Rattle.main_classes.proofs.references.add_reference.Goals as goal
 
@@ -18,6 +19,14 @@ returns c =
     let count = c.in_ok-fill_up.ensures.count in
     let name_is = c.as_str.ensures.value ∙ c.in_ok-other.ensures in
     let grown = c.in_ok-slot.ensures.grown in
+    let start = c.args.class.now in
+    let of = class_name c.args.kind c.args.name.now c.args.i in
+    let called = method_name c.args.kind in
+    let owner_named : Mentions first.pool (mentioned start.pool ++ OfClass of ∷ []) =
+    subst (λ name. Mentions first.pool (mentioned start.pool ++ OfClass name ∷ [])) name_is c.in_ok-owner.ensures.mentions in
+    let method_named : Mentions second.pool (mentioned first.pool ++ method_mention of called nothing ∷ []) =
+    subst (λ name. Mentions second.pool (mentioned first.pool ++ method_mention of name nothing ∷ [])) c.method.ensures
+    (c.in_ok-slot.ensures.mentions of (subst (IsClassAt first.pool c.in_ok-owner.owner) name_is c.in_ok-owner.ensures.there)) in
     let at : slot_of c.push.new.self.items c.args.number ≡ slot =
     ap (λ l. slot_of l c.args.number) pushed ∙ get_or_push filled slot 0 c.args.number count in
     let more : length c.push.new.self.items ≡ c.args.number + 1 = omega (arith, ap length pushed, length_push filled slot, count) in
@@ -36,6 +45,7 @@ returns c =
           subst (BeginsWith c.args.slots.now.items) (sym pushed) (begins-more c.args.slots.now.items filled slot c.in_ok-fill_up.ensures.kept);
       count = more;
       grown =
-          adds-nothing c.args.class.now first second (adds-slots c.args.class.now first 2 c.in_ok-owner.ensures.grown)
-          (adds-slots first second 4 grown);
+          names-more start first second (OfClass of ∷ []) (method_mention of called nothing ∷ [])
+          (names-slots start first 2 (OfClass of ∷ []) c.in_ok-owner.ensures.grown owner_named)
+          (names-slots first second 4 (method_mention of called nothing ∷ []) grown method_named);
     }

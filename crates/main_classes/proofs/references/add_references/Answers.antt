@@ -1,14 +1,17 @@
 use Rattle.std.proofs.Common.{◌+◌, ◌<◌, length, drop, refl, ap, sym, ◌∙◌, arith, subst}
 use Rattle.std.proofs.lemmas.List.{take_all}
-use Rattle.class_making.proofs.MakingLemmas.{adds-none, adds-nothing}
+use Rattle.class_making.specs.Making.{NamesMore}
+use Rattle.class_making.proofs.NamingLemmas.{names-none}
 use Rattle.main_classes.specs.Content.{RiseFrom, behind}
 use Rattle.main_classes.proofs.RiseLemmas.{rise-next, behind-more}
+use Rattle.main_classes.specs.Mentioned.{other_mentions}
+use Rattle.main_classes.proofs.OtherLemmas.{names-next}
 use Rattle.main_classes.proofs.CalledLemmas.{begins-itself, begins-further, others-more}
 use Rattle.main_classes.proofs.references.add_references.Goals as goal
 
 pub loop-i-init : goal.loop-i-init
 loop-i-init c =
-    (λ i less. absurd (omega (arith, less)), begins-itself c.args.slots.now.items, refl, c.requires.rise, adds-none c.args.class.now)
+    (λ i less. absurd (omega (arith, less)), begins-itself c.args.slots.now.items, refl, c.requires.rise, names-none c.args.class.now)
 
 pub add_reference-requires : goal.add_reference-requires
 add_reference-requires c =
@@ -28,9 +31,14 @@ loop-i-preserved c =
       begins-further c.args.slots.now.items front all c.loop-i.invariant.1 told.kept,
       told.count ∙ sym (behind-more (length c.args.slots.now.items) numbers i 0 less),
       subst (λ n. RiseFrom n (drop (i + 1) numbers)) (sym told.count) (rise-next (length front) numbers i 0 less c.loop-i.invariant.3).1,
-      adds-nothing c.args.class.now old new c.loop-i.invariant.4 told.grown,
+      names-next c.args.class.now old new c.args.name.now c.args.kind i c.loop-i.invariant.4 told.grown,
     )
 
 pub returns-clause-count : goal.returns-clause-count
 returns-clause-count c =
     c.loop-i.invariant.2 ∙ ap (behind (length c.args.slots.now.items)) (take_all c.loop-i.i c.args.numbers.now (omega arith))
+
+pub returns-clause-grown : goal.returns-clause-grown
+returns-clause-grown c =
+    subst (λ count. NamesMore c.args.class.now c.loop-i.class (other_mentions c.args.name.now c.args.kind count)) (omega arith)
+    c.loop-i.invariant.4

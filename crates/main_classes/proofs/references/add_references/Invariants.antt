@@ -1,7 +1,8 @@
-use Rattle.std.proofs.Common.{◌≡◌, [], length, take, drop}
-use Rattle.class_making.specs.Making.{AddsMethods}
+use Rattle.std.proofs.Common.{◌≡◌, length, take, drop}
+use Rattle.class_making.specs.Making.{NamesMore}
 use Rattle.main_classes.specs.Content.{RiseFrom, behind}
 use Rattle.main_classes.specs.Called.{AreOthers, BeginsWith}
+use Rattle.main_classes.specs.Mentioned.{other_mentions}
 use Rattle.main_classes.proofs.references.add_references.Given as goal
 
 abbrev pub invariant-loop-i : goal.invariant-loop-i
@@ -10,4 +11,4 @@ invariant-loop-i l =
     × BeginsWith l.initial.slots.items l.slots.items
     × (length l.slots.items ≡ behind (length l.initial.slots.items) (take l.i l.numbers))
     × RiseFrom (length l.slots.items) (drop l.i l.numbers)
-    × AddsMethods l.initial.class l.class []
+    × NamesMore l.initial.class l.class (other_mentions l.name l.kind l.i)

@@ -1,6 +1,7 @@
-use Rattle.std.proofs.Common.{length, ap, sym, ◌∙◌, arith, subst}
-use Rattle.class_making.proofs.MakingLemmas.{adds-nothing}
-use Rattle.main_classes.specs.declared.other_class.OtherClass.TheVariants.{Code}
+use Rattle.std.proofs.Common.{◌++◌, length, ap, sym, ◌∙◌, arith, subst}
+use Rattle.class_making.proofs.NamingLemmas.{names-more}
+use Rattle.main_classes.specs.declared.other_class.OtherClass.TheVariants.{Code, Data}
+use Rattle.main_classes.specs.Mentioned.{own_mentions, other_mentions}
 use Rattle.main_classes.specs.Content.{RiseFrom, behind}
 use Rattle.main_classes.proofs.RiseLemmas.{rise-front, rise-back}
 use Rattle.main_classes.proofs.CalledLemmas.{begins-further, own-behind, own-later, others-behind, others-later}
@@ -29,7 +30,9 @@ returns c =
     let all = c.add_references-2.new.slots.items in
     let code = c.in_ok-add_references.ensures in
     let last = c.in_ok-add_references-2.ensures in
-    let grown = adds-nothing first second third code.grown last.grown in
+    let codes = other_mentions name Code (length main.code.now) in
+    let datas = other_mentions name Data (length main.data.now) in
+    let grown = names-more first second third codes datas code.grown last.grown in
     record {
       there = record {
         own_are =
@@ -40,5 +43,7 @@ returns c =
             (others-later second.pool third.pool last.grown.pool name Code main.code.now some (length main.code.now) code.there);
         data_are = last.there;
       };
-      grown = adds-nothing c.args.class.now first third c.in_ok-slots.ensures.grown grown;
+      grown = λ of.
+          names-more c.args.class.now second third (own_mentions name ++ codes) datas
+          (names-more c.args.class.now first second (own_mentions name) codes (c.in_ok-slots.ensures.grown name of) code.grown) last.grown;
     }

@@ -1,9 +1,14 @@
-use Rattle.std.proofs.Common.{◌≡◌, ◌∷◌, [], ◌++◌, ap, sym, ◌∙◌, subst}
+use Rattle.std.proofs.Common.{◌≡◌, ◌∷◌, [], ◌++◌, ap, sym, ◌∙◌, subst, codes}
 use Rattle.constant_pool.specs.declared.entry.Entry.TheVariants.{MethodRef}
 use Rattle.class_members.specs.Helpers.{helper_name, helper_descriptor}
-use Rattle.class_making.proofs.MakingLemmas.{adds-slots, adds-nothing}
+use Rattle.code_assembly.proofs.Pools.{extends-further}
+use Rattle.class_builder.specs.Mentioned.{method_mention}
+use Rattle.class_builder.proofs.Made.{class-later}
+use Rattle.class_making.specs.Making.{nothing}
+use Rattle.class_making.proofs.NamingLemmas.{names-slots, names-more}
+use Rattle.program_names.specs.Mentioned.{helper_mentions}
 use Rattle.program_names.proofs.NamedLemmas.{member-later, members-later}
-use Rattle.main_classes.specs.Called.{AreOwnMethods}
+use Rattle.main_classes.specs.Called.{AreOwnMethods, pages_descriptor}
 use Rattle.main_classes.proofs.CalledLemmas.{four-pushed, own-made}
 use Rattle.main_classes.proofs.references.own_references.Goals as goal
 
@@ -13,12 +18,9 @@ returns-clause-there c =
     let second = c.method_reference.new.self in
     let third = c.method_reference-2.new.self in
     let fourth = c.method_reference-3.new.self in
-    let from_third = (adds-slots third fourth 4 c.in_ok-missing.ensures.grown).pool in
-    let from_second = (adds-nothing second third fourth (adds-slots second third 4 c.in_ok-pages.ensures.grown)
-    (adds-slots third fourth 4 c.in_ok-missing.ensures.grown)).pool in
-    let all = adds-nothing first second fourth (adds-slots first second 4 c.in_ok-choose.ensures.grown)
-    (adds-nothing second third fourth (adds-slots second third 4 c.in_ok-pages.ensures.grown)
-    (adds-slots third fourth 4 c.in_ok-missing.ensures.grown)) in
+    let from_third = c.in_ok-missing.ensures.grown.pool.kept in
+    let from_second = extends-further second.pool third.pool fourth.pool c.in_ok-pages.ensures.grown.pool.kept from_third in
+    let all = extends-further first.pool second.pool fourth.pool c.in_ok-choose.ensures.grown.pool.kept from_second in
     let own = c.args.own in
     let helpers = c.in_ok-slots.slots.items in
     let choose = c.in_ok-choose.choose in
@@ -31,19 +33,30 @@ returns-clause-there c =
     ∙ four-pushed helpers 0 choose pages missing in
     subst (AreOwnMethods fourth.pool own) (sym pushed)
     (own-made fourth.pool own helpers 0 choose pages missing
-    (members-later first.pool fourth.pool all.pool MethodRef helper_name helper_descriptor own helpers 20 c.in_ok-slots.ensures.there)
+    (members-later first.pool fourth.pool all MethodRef helper_name helper_descriptor own helpers 20 c.in_ok-slots.ensures.there)
     (member-later second.pool fourth.pool from_second MethodRef choose own _ _ c.in_ok-choose.ensures.there)
     (member-later third.pool fourth.pool from_third MethodRef pages own _ _ c.in_ok-pages.ensures.there)
     c.in_ok-missing.ensures.there)
 
 pub returns-clause-grown : goal.returns-clause-grown
 returns-clause-grown c =
+    λ name of.
+    let own = c.args.own in
     let start = c.args.class.now in
     let first = c.helper_references.new.class in
     let second = c.method_reference.new.self in
     let third = c.method_reference-2.new.self in
     let fourth = c.method_reference-3.new.self in
-    adds-nothing start first fourth (adds-slots start first 80 c.in_ok-slots.ensures.grown)
-    (adds-nothing first second fourth (adds-slots first second 4 c.in_ok-choose.ensures.grown)
-    (adds-nothing second third fourth (adds-slots second third 4 c.in_ok-pages.ensures.grown)
-    (adds-slots third fourth 4 c.in_ok-missing.ensures.grown)))
+    let choose = method_mention name (codes "choose") nothing ∷ [] in
+    let pages = method_mention name (codes "pages") pages_descriptor ∷ [] in
+    let missing = method_mention name (codes "missing") nothing ∷ [] in
+    let of_first = class-later start.pool first.pool own name c.in_ok-slots.ensures.grown.pool.kept of in
+    let of_second = class-later first.pool second.pool own name c.in_ok-choose.ensures.grown.pool.kept of_first in
+    let of_third = class-later second.pool third.pool own name c.in_ok-pages.ensures.grown.pool.kept of_second in
+    names-more start first fourth (helper_mentions name 20) (choose ++ (pages ++ missing))
+    (names-slots start first 80 (helper_mentions name 20) c.in_ok-slots.ensures.grown (c.in_ok-slots.ensures.mentions name of))
+    (names-more first second fourth choose (pages ++ missing)
+    (names-slots first second 4 choose c.in_ok-choose.ensures.grown (c.in_ok-choose.ensures.mentions name of_first))
+    (names-more second third fourth pages missing
+    (names-slots second third 4 pages c.in_ok-pages.ensures.grown (c.in_ok-pages.ensures.mentions name of_second))
+    (names-slots third fourth 4 missing c.in_ok-missing.ensures.grown (c.in_ok-missing.ensures.mentions name of_third))))

@@ -1,56 +1,42 @@
-use Rattle.std.proofs.Common.{◌≡◌, ◌++◌, length, map, sym, ap, ◌∙◌, arith, subst}
-use Rattle.std.proofs.lemmas.Slice.Zip.{AllZip-long}
-use Rattle.class_members.specs.Numbers.{main_methods}
-use Rattle.main_classes.specs.Content.{RiseFrom}
-use Rattle.code_files.specs.Classes.{IsCodeFile, run_of}
-use Rattle.data_files.specs.Files.{AreDataFiles, class_count, filled_pages, fills_of}
-use Rattle.nv_translate.specs.Bounds.{need}
-use Rattle.nv_translate.specs.MainFile.{IsMainFile}
-use Rattle.nv_translate.specs.Translation.{code_methods, fills_behind}
-use Rattle.nv_translate.proofs.RiseLemmas.{rise-calls}
+use Rattle.std.proofs.Common.{IfOk, Result, Ok, Err, ◌≡◌, ℕ, ◌<◌, ◌≤◌, sym, subst, ◌∙◌, arith}
+use Rattle.nv_words.specs.Words.{IsWord}
+use Rattle.command_words.specs.Word.{Text}
+use Rattle.elf_image.specs.Start.{Source, image_of}
+use Rattle.linked_translations.specs.Images.{HasWholeCode}
+use Rattle.linked_translations.specs.Linked.{IsLinked}
+use Rattle.translation_laws.specs.Images.{IsImage}
+use Rattle.program_translation.specs.declared.built.Built.{Built}
+use Rattle.program_translation.specs.Translation.{IsTranslation}
+use Rattle.nv_translate.specs.Translated.{Translated}
 use Rattle.nv_translate.proofs.translation.translate.Goals as goal
 
-pub main_file-requires : goal.main_file-requires
-main_file-requires c =
-    let coded = c.in_ok-code.ensures in
-    let classes = coded.classes in
-    let count = class_count (filled_pages c.args.image.now) in
-    let rise = rise-calls 0 classes count coded.classes_are.placed.follow in
-    subst (λ runs. RiseFrom main_methods (runs ++ c.in_ok-stored.stored.fills.items)) (sym coded.told.runs_are)
-    (subst (λ fills. RiseFrom main_methods (map run_of classes ++ fills))
-    (sym (c.in_ok-stored.ensures.fills_are ∙ ap (λ methods. fills_of methods count) coded.told.methods_are)) rise)
+-- what holds of a value that was made
+if-made : {A E : Type 0} (P Q : A → Type 0) → ((a : A) → P a → Q a) → (r : Result A E) → IfOk r P → IfOk r Q
+if-made P Q map (Ok a) p = map a p
+if-made P Q map (Err e) p = tt
 
 pub returns : goal.returns
 returns c =
-    let source = c.args.image.now in
-    let name = c.args.name.now in
-    let coded = c.in_ok-code.ensures in
-    let code = coded.classes in
-    let pages = filled_pages source in
-    let count = class_count pages in
-    let stored = c.in_ok-stored.ensures in
-    let files = c.in_ok-code.code.files.items in
-    let counted : c.len.result ≡ length files = omega (arith, c.len.ensures) in
-    let many : c.len.result ≡ length code = counted ∙ AllZip-long (IsCodeFile name) code files coded.told.files_are in
-    let methods : c.in_ok-code.code.methods ≡ code_methods code = coded.told.methods_are in
-    let data_files = c.in_ok-stored.stored.files.items in
-    let fills : c.in_ok-stored.stored.fills.items ≡ fills_behind source code = stored.fills_are ∙ ap (λ m. fills_of m count) methods in
-    record {
-      code = code;
-      code_is = coded.classes_are;
-      main_file = c.in_ok-main.main;
-      code_files = files;
-      data_files = data_files;
-      files_are = c.in_ok-files_of.ensures;
-      main_is =
-          subst (λ starts. IsMainFile source name starts (map run_of code) (fills_behind source code) c.in_ok-main.main) coded.told.starts_are
-          (subst (λ runs. IsMainFile source name c.in_ok-code.code.starts.items runs (fills_behind source code) c.in_ok-main.main) coded.told.runs_are
-          (subst (λ fills. IsMainFile source name c.in_ok-code.code.starts.items c.in_ok-code.code.runs.items fills c.in_ok-main.main) fills
-          c.in_ok-main.ensures));
-      code_are = coded.told.files_are;
-      data_are =
-          subst (λ classes. AreDataFiles name classes (code_methods code) pages count data_files) many
-          (subst (λ m. AreDataFiles name c.len.result m pages count data_files) methods stored.files_are);
-      spans_are = coded.told.spans_are;
-      need_is = c.need.ensures ∙ ap need c.mapped.ensures.sum;
-    }
+    let source : Source = c.args.image.now in
+    let name : Text = c.args.name.now in
+    let bytes : ℕ = c.args.method_bytes in
+    let whole : HasWholeCode source = record { words = c.laws.ensures.words; whole = c.laws.ensures.whole } in
+    let image : IsImage source = record {
+      code = record { whole = whole; few = c.laws.ensures.runs };
+      pages = record {
+        whole = record { lanes = c.laws.ensures.lanes; zeros = c.laws.ensures.zeros; low = c.laws.ensures.pages };
+        mapped = sym c.mapped-mapped.ensures.sum ∙ c.mapped-mapped.ensures.count;
+      };
+      entry = subst IsWord c.entry.ensures c.is_word.ensures;
+    } in
+    if-made (IsTranslation source name bytes) (Translated source name bytes)
+    (λ built t.
+    let linked : IsLinked source name bytes built = c.translations_link.ensures source name bytes built whole c.requires.name t in
+    let translated : Translated source name bytes built = record {
+      is = t;
+      linked = linked;
+      typed = c.translations_are_typed.ensures source name bytes built whole linked;
+      runs = c.translations_run_alike.ensures source name bytes built image c.requires.method_bytes.0 linked;
+    } in
+    translated)
+    c.translate.result c.translate.ensures

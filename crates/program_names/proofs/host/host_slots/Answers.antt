@@ -1,6 +1,7 @@
 use Rattle.constant_pool.specs.declared.entry.Entry.TheVariants.{MethodRef}
 use Rattle.code_assembly.proofs.Pools.{extends-further}
 use Rattle.program_names.proofs.NamedLemmas.{class-later, member-later, grown-further}
+use Rattle.program_names.proofs.MentionLemmas.{mentions-two}
 use Rattle.program_names.proofs.host.host_slots.Goals as goal
 
 pub returns-clause-there : goal.returns-clause-there
@@ -23,3 +24,9 @@ returns-clause-grown c =
     let third = c.method_reference-2.new.self in
     grown-further c.args.class.now second third 6 4
     (grown-further c.args.class.now first second 2 4 c.in_ok-host.ensures.grown c.in_ok-call.ensures.grown) c.in_ok-fault.ensures.grown
+
+pub returns-clause-mentions : goal.returns-clause-mentions
+returns-clause-mentions c =
+    mentions-two c.args.class.now.pool c.class_reference.new.self.pool c.method_reference.new.self.pool c.method_reference-2.new.self.pool
+    c.in_ok-host.host _ _ _ _ c.in_ok-call.ensures.grown.pool.kept c.in_ok-host.ensures.mentions c.in_ok-host.ensures.there
+    c.in_ok-call.ensures.mentions c.in_ok-fault.ensures.mentions

@@ -2,7 +2,7 @@ use Rattle.std.proofs.Common.{ap, ◌∙◌}
 use Rattle.elf_image.specs.Start.{image_of}
 use Rattle.jvm_link.specs.Linking.{program_of}
 use Rattle.jvm_program.specs.Step.{loaded, loaded_turn}
-use Rattle.nv_translate.specs.Bounds.{allow, need}
+use Rattle.program_translation.specs.Bounds.{allow, need}
 use Rattle.machine_launch.specs.Runs.{answer_of, run_alone}
 use Rattle.translate_commands.specs.Make.{made_name}
 use Rattle.translate_commands.proofs.alone_runs.run_verified.Goals as goal

@@ -2,7 +2,7 @@ use Rattle.std.proofs.Common.{ap, ◌∙◌, subst}
 use Rattle.elf_image.specs.Start.{image_of}
 use Rattle.jvm_link.specs.Linking.{program_of}
 use Rattle.jvm_program.specs.Step.{loaded, loaded_turn}
-use Rattle.nv_translate.specs.Bounds.{allow, need}
+use Rattle.program_translation.specs.Bounds.{allow, need}
 use Rattle.command_deeds.specs.Deeds.{Comes, world}
 use Rattle.machine_launch.specs.Runs.{IsDueOfSteps}
 use Rattle.translate_commands.proofs.running.run_verified.Goals as goal

@@ -9,9 +9,9 @@ use Rattle.page_runs.specs.Runs.{pages_of}
 use Rattle.class_members.specs.Numbers.{pages_number}
 use Rattle.main_classes.specs.Content.{text_runs}
 use Rattle.data_files.specs.Pages.{page_words, filled_below}
-use Rattle.nv_translate.specs.Bounds.{need}
-use Rattle.nv_translate.specs.MainFile.{beginning_of}
-use Rattle.nv_translate.specs.Translation.{code_methods}
+use Rattle.program_translation.specs.Bounds.{need}
+use Rattle.program_translation.specs.MainFile.{beginning_of}
+use Rattle.program_translation.specs.Translation.{code_methods}
 use Rattle.loading_laws.specs.Loaded.{Filler, MakesMemory, TellsRuns, run_shares, pages_told, slots_of, memory_turns}
 use Rattle.loading_laws.specs.Made.{IsProgram}
 use Rattle.translated_loading.proofs.Pages.{numbers_of_pages, pages_of_slots, pages-counted}

@@ -40,5 +40,5 @@ returns-clause-added c =
     method-added c.self.inside c.args.self.now c.method_slots.new.pool c.add_code.new.self c.push.new.self c.in_ok-slots.slots
     c.args.locals c.args.references.now c.args.code.now
     c.in_ok-bytes.bytes.items c.new.result c.args.name.now c.args.descriptor.now c.self.view_is c.method_slots.ensures.grown
-    c.add_code.ensures.grown c.in_ok-slots.ensures.there
+    c.add_code.ensures.grown c.in_ok-slots.ensures.mentions c.add_code.ensures.mentions c.in_ok-slots.ensures.there
     c.in_ok-bytes.ensures.lines c.new.ensures c.in_ok-push.ensures.items

@@ -1,4 +1,5 @@
 use Rattle.std.proofs.Common.{arith, refl}
+use Rattle.class_builder.proofs.Mentions.{begun-mentions}
 use Rattle.class_builder.proofs.Written.{begun-name, written-begun}
 use Rattle.class_builder.proofs.builder.ClassBuilder.new.Goals as goal
 
@@ -14,3 +15,8 @@ returns-clause-named c =
     begun-name c.in_ok-pool.pool c.own_slot.new.pool c.object_slot.new.pool c.code_slot.new.pool c.in_ok-pool.ensures
     c.own_slot.ensures.grown c.object_slot.ensures.grown c.code_slot.ensures.grown
     c.in_ok-this_class.this_class c.args.name.now c.in_ok-this_class.ensures.there
+
+pub returns-clause-mentions : goal.returns-clause-mentions
+returns-clause-mentions c =
+    begun-mentions c.in_ok-pool.pool c.own_slot.new.pool c.object_slot.new.pool c.code_slot.new.pool c.args.name.now _ c.in_ok-pool.ensures
+    c.in_ok-this_class.ensures.mentions c.in_ok-super_class.ensures.mentions c.in_ok-code.ensures.mentions

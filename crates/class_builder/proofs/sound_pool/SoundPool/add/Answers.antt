@@ -3,6 +3,7 @@ use Rattle.std.proofs.lemmas.Result.{err_from_is_err_and}
 use Rattle.constant_pool.specs.declared.error.PoolError.TheVariants.{Full}
 use Rattle.class_builder.proofs.Joined.{joined, no_rest, one_more, kept-joined}
 use Rattle.class_builder.proofs.Growing.{grows-not, grows-joined}
+use Rattle.class_builder.proofs.Mentions.{mentions-joined}
 use Rattle.class_builder.proofs.sound_pool.SoundPool.add.Goals as goal
 
 pub add-requires : goal.add-requires
@@ -31,3 +32,10 @@ returns-clause-grown c =
     let j = joined c.self.inside.pool c.add.new.self c.in_ok-slot.slot c.args.entry c.self.invariant.sound may
     c.in_ok-slot.ensures.there c.in_ok-slot.ensures.present c.in_ok-slot.ensures.full c.in_ok-slot.ensures.grown in
     grows-joined c.self.inside.pool c.args.self.now c.add.new.self c.in_ok-slot.slot c.args.entry c.self.view_is may j
+
+pub returns-clause-mentions : goal.returns-clause-mentions
+returns-clause-mentions c =
+    let may = rw (← c.self.view_is) at c.requires in
+    let j = joined c.self.inside.pool c.add.new.self c.in_ok-slot.slot c.args.entry c.self.invariant.sound may
+    c.in_ok-slot.ensures.there c.in_ok-slot.ensures.present c.in_ok-slot.ensures.full c.in_ok-slot.ensures.grown in
+    rw (← c.self.view_is) (mentions-joined c.self.inside.pool c.add.new.self c.in_ok-slot.slot c.args.entry c.self.invariant.sound j)

@@ -1,4 +1,5 @@
 use Rattle.class_builder.proofs.Coded.{known, kept-coded}
+use Rattle.class_builder.proofs.Mentions.{mentions-coded}
 use Rattle.class_builder.proofs.sound_pool.SoundPool.add_code.Goals as goal
 
 pub invariant_of-self : goal.invariant_of-self
@@ -19,3 +20,8 @@ returns-clause-grown c =
       sound = λ _.
           kept.sound;
     })
+
+pub returns-clause-mentions : goal.returns-clause-mentions
+returns-clause-mentions c =
+    rw (← c.self.view_is) (mentions-coded c.args.code.now c.self.inside.pool c.method_code-bytes.new.pool c.self.invariant.sound
+    c.method_code-bytes.ensures.added)

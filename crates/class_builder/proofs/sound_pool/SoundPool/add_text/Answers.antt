@@ -1,5 +1,8 @@
 use Rattle.std.proofs.Common.{sym, inr}
+use Rattle.std.proofs.lemmas.Result.{on_ok_weaker}
+use Rattle.class_builder.specs.Mentioned.{mentioned}
 use Rattle.class_builder.proofs.Joining.{text-joins, one_long}
+use Rattle.class_builder.proofs.Mentions.{mentions-nothing}
 use Rattle.class_builder.proofs.sound_pool.SoundPool.add_text.Goals as goal
 
 pub add-requires : goal.add-requires
@@ -11,3 +14,7 @@ add-requires c =
 pub returns-then-is_long_text-clause-full : goal.returns-then-is_long_text-clause-full
 returns-then-is_long_text-clause-full c = λ _. inr (one_long c.args.characters.items
     (rw c.deref.ensures.value at (sym c.if-is_long_text.ensures.long)))
+
+pub returns-clause-mentions : goal.returns-clause-mentions
+returns-clause-mentions c =
+    on_ok_weaker c.add.result (mentions-nothing c.add.new.self (mentioned c.args.self.now)) c.add.ensures.mentions

@@ -2,6 +2,8 @@ use Rattle.constant_pool.specs.declared.entry.Entry.TheVariants.{FieldRef}
 use Rattle.code_assembly.proofs.Pools.{extends-further}
 use Rattle.class_members.specs.Fields.{field_name, field_descriptor}
 use Rattle.program_names.proofs.NamedLemmas.{class-later, members-later, host-later, strings-later, grown-further}
+use Rattle.program_names.specs.Mentioned.{field_mentions, host_mentions, string_mentions}
+use Rattle.program_names.proofs.MentionLemmas.{mentions-all}
 use Rattle.program_names.proofs.names.Names.new.Goals as goal
 
 pub returns-clause-there : goal.returns-clause-there
@@ -38,3 +40,10 @@ returns-clause-grown c =
     c.in_ok-host.ensures.grown)
     c.in_ok-strings.ensures.grown)
     c.in_ok-ints.ensures.grown
+
+pub returns-clause-mentions : goal.returns-clause-mentions
+returns-clause-mentions c =
+    mentions-all c.args.class.now.pool c.class_reference.new.self.pool c.field_references.new.class.pool c.host_slots.new.class.pool
+    c.string_slots.new.class.pool c.class_reference-2.new.self.pool c.in_ok-main.main _ _ (λ owner. field_mentions owner 38) host_mentions
+    string_mentions _ c.in_ok-main.ensures.mentions c.in_ok-main.ensures.there c.in_ok-fields.ensures.mentions
+    c.in_ok-host.ensures.mentions c.in_ok-strings.ensures.mentions c.in_ok-ints.ensures.mentions

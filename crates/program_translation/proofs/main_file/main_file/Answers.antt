@@ -4,7 +4,7 @@ use Rattle.page_runs.specs.Runs.{IsRun, pages_of, pages_below, run_pages}
 use Rattle.class_members.specs.Numbers.{main_methods}
 use Rattle.main_classes.specs.declared.content.MainClass.{MainClass}
 use Rattle.main_classes.specs.Content.{RiseFrom}
-use Rattle.nv_translate.proofs.main_file.main_file.Goals as goal
+use Rattle.program_translation.proofs.main_file.main_file.Goals as goal
 
 pub main_class-requires : goal.main_class-requires
 main_class-requires c = record {
@@ -18,8 +18,11 @@ main_class-requires c = record {
       (subst (λ fills. RiseFrom main_methods (c.args.code.now.runs.items ++ fills)) (sym c.as_slice-4.ensures.value) c.requires);
 }
 
-pub returns : goal.returns
-returns c =
+pub returns-clause-some : goal.returns-clause-some
+returns-clause-some c = search rules
+
+pub returns-clause-file : goal.returns-clause-file
+returns-clause-file c =
     let source = c.args.image.now in
     let main : MainClass = record {
       beginning = c.beginning_of.result;

@@ -2,7 +2,7 @@
 ghost use Rattle.std.specs.Prelude.{◌≡◌, ◌<◌, ◌≤◌, ◌^◌, ◌++◌, IfOk, IsTrue, length};
 ghost use Rattle.class_members.specs.Numbers.{main_methods};
 ghost use Rattle.main_classes.specs.Content.{RiseFrom};
-ghost use Rattle.nv_translate.specs.MainFile.{IsMainFile, beginning_of};
+ghost use Rattle.program_translation.specs.MainFile.{IsMainFile, beginning_of};
 
 use class_members::file_name;
 use code_files::Code;
@@ -27,7 +27,8 @@ pub fn main_file(
     stored: &Data,
 ) -> Result<NamedFile, TranslateError>
     requires { RiseFrom main_methods (code.now.runs.items ++ stored.now.fills.items) }
-    ensures { IfOk result (IsMainFile image.now name.now code.now.starts.items code.now.runs.items stored.now.fills.items) }
+    ensures file { IfOk result (IsMainFile image.now name.now code.now.starts.items code.now.runs.items stored.now.fills.items) }
+    ensures some { IfOk result (λ file. 1 ≤ length code.now.starts.items) }
 {
     if !is_small(code, stored) {
         return Err(TranslateError::TooLarge);

@@ -1,5 +1,5 @@
 ghost use Rattle.std.specs.Prelude.{◌≡◌, ◌≤◌, ◌^◌};
-ghost use Rattle.nv_translate.specs.Bounds.{need, allow};
+ghost use Rattle.program_translation.specs.Bounds.{need, allow};
 
 /// How many words of the region the classes of a program with so many mapped pages take: two tables of all pages, an array for
 /// each mapped page, and some for the texts of pages.

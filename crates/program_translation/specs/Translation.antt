@@ -1,5 +1,5 @@
 -- What a translation of a program is.
-use Rattle.std.specs.Prelude.{◌≡◌, ℕ, List, ◌∷◌, ◌++◌, map, length}
+use Rattle.std.specs.Prelude.{◌≡◌, ℕ, ◌≤◌, List, ◌∷◌, ◌++◌, map, length}
 use Rattle.std.specs.List.{AllZip}
 use Rattle.command_words.specs.Word.{Text}
 use Rattle.elf_image.specs.Start.{Source, image_of}
@@ -7,9 +7,9 @@ use Rattle.class_members.specs.Numbers.{main_methods}
 use Rattle.program_files.specs.declared.named_file.NamedFile.{NamedFile}
 use Rattle.code_files.specs.Classes.{Placed, AreCodeClasses, IsCodeFile, methods_behind, run_of, starts_of, spans_of}
 use Rattle.data_files.specs.Files.{AreDataFiles, class_count, filled_pages, fills_of}
-use Rattle.nv_translate.specs.declared.built.Built.{Built}
-use Rattle.nv_translate.specs.Bounds.{need}
-use Rattle.nv_translate.specs.MainFile.{IsMainFile}
+use Rattle.program_translation.specs.declared.built.Built.{Built}
+use Rattle.program_translation.specs.Bounds.{need}
+use Rattle.program_translation.specs.MainFile.{IsMainFile}
 
 -- how many methods the main class and classes of code have
 abbrev pub code_methods : List Placed → ℕ
@@ -19,10 +19,11 @@ code_methods code = methods_behind main_methods code
 abbrev pub fills_behind : Source → List Placed → List ℕ
 fills_behind source code = fills_of (code_methods code) (class_count (filled_pages source))
 
--- The files: the main class, then the classes of code, then those of data. The layout has the spans of the classes of code, and its need is
+-- The files: the main class, then the classes of code, of which there is one at least, then those of data. The layout has the spans of the classes of code, and its need is
 -- that of the mapped pages.
 pub record IsTranslation (source : Source) (name : Text) (method_bytes : ℕ) (built : Built) : Type 0 where
   pub code : List Placed
+  pub some : 1 ≤ length code
   pub code_is : AreCodeClasses source method_bytes code
   pub main_file : NamedFile
   pub code_files : List NamedFile

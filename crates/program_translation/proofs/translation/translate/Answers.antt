@@ -1,0 +1,61 @@
+use Rattle.std.proofs.Common.{◌≡◌, ◌≤◌, List, [], ◌∷◌, ◌++◌, length, map, sym, ap, ◌∙◌, arith, subst}
+use Rattle.std.proofs.lemmas.Slice.Zip.{AllZip-long}
+use Rattle.class_members.specs.Numbers.{main_methods}
+use Rattle.main_classes.specs.Content.{RiseFrom}
+use Rattle.code_files.specs.Classes.{Placed, IsCodeFile, run_of, starts_of}
+use Rattle.data_files.specs.Files.{AreDataFiles, class_count, filled_pages, fills_of}
+use Rattle.program_translation.specs.Bounds.{need}
+use Rattle.program_translation.specs.MainFile.{IsMainFile}
+use Rattle.program_translation.specs.Translation.{code_methods, fills_behind}
+use Rattle.program_translation.proofs.RiseLemmas.{rise-calls}
+use Rattle.program_translation.proofs.translation.translate.Goals as goal
+
+some-code : (code : List Placed) → 1 ≤ length (starts_of code) → 1 ≤ length code
+some-code [] some = absurd (omega (arith, some))
+some-code (c ∷ code) some = omega arith
+
+pub main_file-requires : goal.main_file-requires
+main_file-requires c =
+    let coded = c.in_ok-code.ensures in
+    let classes = coded.classes in
+    let count = class_count (filled_pages c.args.image.now) in
+    let rise = rise-calls 0 classes count coded.classes_are.placed.follow in
+    subst (λ runs. RiseFrom main_methods (runs ++ c.in_ok-stored.stored.fills.items)) (sym coded.told.runs_are)
+    (subst (λ fills. RiseFrom main_methods (map run_of classes ++ fills))
+    (sym (c.in_ok-stored.ensures.fills_are ∙ ap (λ methods. fills_of methods count) coded.told.methods_are)) rise)
+
+pub returns : goal.returns
+returns c =
+    let source = c.args.image.now in
+    let name = c.args.name.now in
+    let coded = c.in_ok-code.ensures in
+    let code = coded.classes in
+    let pages = filled_pages source in
+    let count = class_count pages in
+    let stored = c.in_ok-stored.ensures in
+    let files = c.in_ok-code.code.files.items in
+    let counted : c.len.result ≡ length files = omega (arith, c.len.ensures) in
+    let many : c.len.result ≡ length code = counted ∙ AllZip-long (IsCodeFile name) code files coded.told.files_are in
+    let methods : c.in_ok-code.code.methods ≡ code_methods code = coded.told.methods_are in
+    let data_files = c.in_ok-stored.stored.files.items in
+    let fills : c.in_ok-stored.stored.fills.items ≡ fills_behind source code = stored.fills_are ∙ ap (λ m. fills_of m count) methods in
+    record {
+      code = code;
+      some = some-code code (subst (λ starts. 1 ≤ length starts) coded.told.starts_are c.in_ok-main.ensures.some);
+      code_is = coded.classes_are;
+      main_file = c.in_ok-main.main;
+      code_files = files;
+      data_files = data_files;
+      files_are = c.in_ok-files_of.ensures;
+      main_is =
+          subst (λ starts. IsMainFile source name starts (map run_of code) (fills_behind source code) c.in_ok-main.main) coded.told.starts_are
+          (subst (λ runs. IsMainFile source name c.in_ok-code.code.starts.items runs (fills_behind source code) c.in_ok-main.main) coded.told.runs_are
+          (subst (λ fills. IsMainFile source name c.in_ok-code.code.starts.items c.in_ok-code.code.runs.items fills c.in_ok-main.main) fills
+          c.in_ok-main.ensures.file));
+      code_are = coded.told.files_are;
+      data_are =
+          subst (λ classes. AreDataFiles name classes (code_methods code) pages count data_files) many
+          (subst (λ m. AreDataFiles name c.len.result m pages count data_files) methods stored.files_are);
+      spans_are = coded.told.spans_are;
+      need_is = c.need.ensures ∙ ap need c.mapped.ensures.sum;
+    }

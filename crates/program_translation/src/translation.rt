@@ -1,0 +1,62 @@
+ghost use Rattle.std.specs.Prelude.{◌≡◌, ◌∷◌, ◌++◌, IfOk};
+ghost use Rattle.command_words.specs.Limits.{AreMethodBytes, IsClassName};
+ghost use Rattle.program_translation.specs.Translation.{IsTranslation};
+
+use crate::bounds::need;
+use crate::built::Built;
+use crate::layout::Layout;
+use crate::main_file::main_file;
+use code_files::code_of;
+use data_files::data_of;
+use elf_image::Image;
+use program_files::{NamedFile, TranslateError};
+use std::alloc::Global;
+
+/// The classes of a program, as files.
+///
+/// The main class has the name `name`: a letter, then letters and digits, in ASCII, 64 at most. The classes of code have this name
+/// with `_0` and on, those of data with `_D0` and on. The code of each span's method has at most `method_bytes` bytes, which is
+/// 4,096 to 65,535.
+///
+/// # Errors
+/// `NoMemory`; `TooLarge` where the program needs more than class files hold, which is not proved never to be.
+pub fn translate(
+    alloc: Global,
+    image: &Image,
+    name: &str,
+    method_bytes: u32,
+) -> Result<Built, TranslateError>
+    requires name { IsClassName name.now }
+    requires method_bytes { AreMethodBytes method_bytes }
+    ensures { IfOk result (IsTranslation image.now name.now method_bytes) }
+{
+    let code = code_of(alloc, image, name, method_bytes)?;
+    let stored = data_of(alloc, image, name, code.files.len(), code.methods)?;
+    let main = main_file(alloc, image, name, &code, &stored)?;
+    Ok(Built {
+        files: files_of(alloc, main, code.files, stored.files)?,
+        layout: Layout {
+            spans: code.spans,
+            blocks: code.blocks,
+            need: need(image.mapped()),
+        },
+    })
+}
+
+// The main class, then those of code, then those of data.
+fn files_of(
+    alloc: Global,
+    main: NamedFile,
+    code: Vec<NamedFile>,
+    stored: Vec<NamedFile>,
+) -> Result<Vec<NamedFile>, TranslateError>
+    ensures { IfOk result (λ files. files.items ≡ main ∷ (code.items ++ stored.items)) }
+{
+    let mut code = code;
+    let mut stored = stored;
+    let mut files = Vec::new(alloc);
+    files.push(main)?;
+    files.append(&mut code)?;
+    files.append(&mut stored)?;
+    Ok(files)
+}

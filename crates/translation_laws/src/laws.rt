@@ -1,0 +1,27 @@
+//! That the classes of a translation do what the program does. Each call here does nothing: its contract is the law.
+
+ghost use Rattle.std.specs.Prelude.{ℕ, ◌≤◌};
+ghost use Rattle.command_words.specs.Word.{Text};
+ghost use Rattle.elf_image.specs.Start.{Source};
+ghost use Rattle.jvm_link.specs.Linking.{program_of};
+ghost use Rattle.program_translation.specs.declared.built.Built.{Built};
+ghost use Rattle.linked_translations.specs.Linked.{IsLinked};
+ghost use Rattle.translation_laws.specs.Images.{IsImage};
+ghost use Rattle.translation_laws.specs.Running.{RunsAlike};
+
+use loading_laws::laws::images_are_pages;
+use translated_loading::laws::{others_do_not_load, translations_load};
+use translated_methods::laws::translations_stand;
+use translation_runs::laws::translated_programs_run_alike;
+
+/// The classes of a translation run as the program does: for every list of answers of the system and every bound, both ways.
+pub fn translations_run_alike()
+    ensures { (source : Source) (name : Text) (method_bytes : ℕ) (built : Built) → IsImage source → 4096 ≤ method_bytes
+        → (l : IsLinked source name method_bytes built) → RunsAlike source (program_of l.classes) }
+{
+    images_are_pages();
+    others_do_not_load();
+    translations_load();
+    translations_stand();
+    translated_programs_run_alike();
+}
