@@ -13,7 +13,7 @@ use Rattle.mips_asm.specs.File.{IsFileOf}
 use Rattle.mips_decode.specs.Step.{turn}
 use Rattle.mips_machine.specs.Loading.{start_of}
 use Rattle.program_translation.specs.Bounds.{allow, need}
-use Rattle.nv_translate.specs.Translated.{Translated}
+use Rattle.program_translation.specs.Translation.{IsTranslation}
 use Rattle.program_translation.specs.declared.built.Built.{Built}
 use Rattle.program_files.specs.declared.named_file.NamedFile.{NamedFile}
 use Rattle.command_deeds.specs.declared.done.Done.{Done}
@@ -82,7 +82,7 @@ IsEndOfFiles steps moment source files None = IsDueOfFiles files (λ classes due
 -- a translation ends so, or it was not made, or is refused
 abbrev pub IsEndOfTranslation : ℕ → ℕ → Source → ℕ → Option Done → Type 0
 IsEndOfTranslation steps moment source method_bytes (Some end) =
-    (built : Built) × Translated source made_name method_bytes built × IsEndOfFiles steps moment source built.files.items (Some end)
+    (built : Built) × IsTranslation source made_name method_bytes built × IsEndOfFiles steps moment source built.files.items (Some end)
 IsEndOfTranslation steps moment source method_bytes None =
     IsDueOfTranslation source made_name method_bytes (λ built. IsDueOfFiles built.files.items (λ classes due. ⊥)) (answers NotBuilt)
 

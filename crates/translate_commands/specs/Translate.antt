@@ -4,7 +4,7 @@ use Rattle.command_words.specs.Word.{Text}
 use Rattle.command_words.specs.declared.pages.Pages.{Pages}
 use Rattle.elf_image.specs.Start.{Source}
 use Rattle.guest_commands.specs.Imaging.{IsDueOfProgram}
-use Rattle.nv_translate.specs.Translated.{Translated}
+use Rattle.program_translation.specs.Translation.{IsTranslation}
 use Rattle.program_translation.specs.declared.built.Built.{Built}
 use Rattle.command_deeds.specs.declared.done.Done.TheVariants.{Good, NotBuilt}
 use Rattle.command_deeds.specs.Deeds.{Due, prints, answers}
@@ -14,7 +14,7 @@ use Rattle.translate_commands.specs.Stores.{stored}
 -- What is due of a translation of a program under a name. A program that needs more than class files hold is not translated.
 abbrev pub IsDueOfTranslation : Source → Text → ℕ → (Built → Due → Type 0) → Due → Type 0
 IsDueOfTranslation source name method_bytes IsDueWith due =
-    (due ≡ answers NotBuilt) ⊎ ((built : Built) × Translated source name method_bytes built × IsDueWith built due)
+    (due ≡ answers NotBuilt) ⊎ ((built : Built) × IsTranslation source name method_bytes built × IsDueWith built due)
 
 -- how many files there are, and the words of the region in which they run
 abbrev pub counts_line : Built → List ℕ
