@@ -1,0 +1,14 @@
+mod Passing
+mod Lists
+mod Meant
+mod Having
+mod Asking
+mod Growing
+mod Few
+mod Mentions
+mod Classes
+mod MainMeant
+mod OthersMeant
+mod Linking
+mod Asked
+mod Sets
