@@ -1,14 +1,21 @@
 //! That the classes of a translation do what the program does. Each call here does nothing: its contract is the law.
 
 ghost use Rattle.std.specs.Prelude.{ℕ, ◌≤◌};
+ghost use Rattle.nv_words.specs.Words.{IsWord};
+ghost use Rattle.command_words.specs.Limits.{IsClassName};
 ghost use Rattle.command_words.specs.Word.{Text};
 ghost use Rattle.elf_image.specs.Start.{Source};
 ghost use Rattle.jvm_link.specs.Linking.{program_of};
 ghost use Rattle.program_translation.specs.declared.built.Built.{Built};
+ghost use Rattle.program_translation.specs.Translation.{IsTranslation};
 ghost use Rattle.linked_translations.specs.Linked.{IsLinked};
 ghost use Rattle.translation_laws.specs.Images.{IsImage};
 ghost use Rattle.translation_laws.specs.Running.{RunsAlike};
+ghost use Rattle.translation_laws.specs.Translated.{Translated};
 
+use accepted_translations::laws::translations_are_accepted;
+use elf_image::Image;
+use linked_translations::laws::translations_link;
 use loading_laws::laws::images_are_pages;
 use translated_loading::laws::{others_do_not_load, translations_load};
 use translated_methods::laws::translations_stand;
@@ -25,3 +32,21 @@ pub fn translations_run_alike()
     translations_stand();
     translated_programs_run_alike();
 }
+
+/// Every translation of an image is so: its classes are accepted, and run as the image's program.
+pub fn images_are_translated(image: &Image)
+    ensures { (name : Text) (method_bytes : ℕ) (built : Built) → IsClassName name → 4096 ≤ method_bytes
+        → IsTranslation image.now name method_bytes built → Translated image.now name method_bytes built }
+{
+    image.laws();
+    let _mapped = image.mapped();
+    is_word(image.entry());
+    translations_link();
+    translations_are_accepted();
+    translations_run_alike();
+}
+
+// It does nothing: an address that code has at hand is a word.
+fn is_word(address: u32)
+    ensures { IsWord address }
+{}

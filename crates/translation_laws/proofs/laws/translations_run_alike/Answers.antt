@@ -1,4 +1,4 @@
-use Rattle.std.proofs.Common.{◌≡◌, ℕ, ◌+◌, ◌*◌, ◌≤◌, refl, subst, arith}
+use Rattle.std.proofs.Common.{ℕ, ◌+◌, ◌*◌, refl, subst, arith}
 use Rattle.nv_events.specs.Answer.{next_answer}
 use Rattle.nv_events.specs.Memory.{Memory}
 use Rattle.run_laws.specs.Runs.{SameRuns}

@@ -1,0 +1,28 @@
+use Rattle.std.proofs.Common.{sym, subst, ◌∙◌}
+use Rattle.nv_words.specs.Words.{IsWord}
+use Rattle.elf_image.specs.Start.{Source}
+use Rattle.linked_translations.specs.Images.{HasWholeCode}
+use Rattle.linked_translations.specs.Linked.{IsLinked}
+use Rattle.translated_methods.specs.Images.{HasAcceptedCode}
+use Rattle.translation_laws.specs.Images.{IsImage}
+use Rattle.translation_laws.proofs.laws.images_are_translated.Goals as goal
+
+pub returns : goal.returns
+returns c name method_bytes built lawful large is =
+    let source : Source = c.args.image.now in
+    let whole : HasWholeCode source = record { words = c.laws.ensures.words; whole = c.laws.ensures.whole } in
+    let code : HasAcceptedCode source = record { whole = whole; few = c.laws.ensures.runs } in
+    let image : IsImage source = record {
+      code = code;
+      pages = record {
+        whole = record { lanes = c.laws.ensures.lanes; zeros = c.laws.ensures.zeros; low = c.laws.ensures.pages };
+        mapped = sym c.mapped-mapped.ensures.sum ∙ c.mapped-mapped.ensures.count;
+      };
+      entry = subst IsWord c.entry.ensures c.is_word.ensures;
+    } in
+    let linked : IsLinked source name method_bytes built = c.translations_link.ensures source name method_bytes built whole lawful is in
+    record {
+      linked = linked;
+      accepted = c.translations_are_accepted.ensures.all source name method_bytes built code lawful is linked;
+      runs = c.translations_run_alike.ensures source name method_bytes built image large linked;
+    }
