@@ -1,0 +1,5 @@
+pub mod InstructionLaws
+mod AccessLaws
+pub mod UnitLaws
+pub mod PieceLaws
+mod UnitCounts

@@ -2,22 +2,21 @@
 
 ghost use Rattle.std.specs.Prelude.{◌≢◌, All, List, []};
 ghost use Rattle.delay_slots.specs.declared.unit.Unit.{Unit};
-ghost use Rattle.lawful_units.specs.Lawful.{IsLawful};
-ghost use Rattle.unit_laws.specs.Units.{AllFollow, UnitFollows};
-ghost use Rattle.piece_laws.specs.Pieces.{AreStraight, PieceFollows};
+ghost use Rattle.guest_follows.specs.Lawful.{IsLawful};
+ghost use Rattle.emitted_laws.specs.Units.{AllFollow, UnitFollows};
+ghost use Rattle.emitted_laws.specs.Pieces.{AreStraight, PieceFollows};
 
-use access_laws::laws::{
+use crate::access_laws::{
     conditional_stores_are_followed, linked_loads_are_followed, loads_are_followed,
     products_are_followed, stores_are_followed,
 };
-use instruction_laws::laws::{
+use crate::instruction_laws::{
     arithmetic_immediates_are_followed, arithmetic_is_followed, breaks_are_followed,
     load_upper_is_followed, logical_immediates_are_followed, moves_from_are_followed,
     moves_to_are_followed, reserved_words_are_followed, shifts_are_followed, syncs_are_followed,
     trap_immediates_are_followed, traps_are_followed, variable_shifts_are_followed,
 };
-use piece_laws::laws as pieces;
-use unit_laws::laws as units;
+use crate::{piece_laws as pieces, unit_laws as units};
 
 /// The code of every instruction that can stand alone or in a delay slot follows it, wherever it lies and however it reaches registers.
 pub fn instructions_are_followed()

@@ -1,6 +1,3 @@
-pub mod Weights
-pub mod Elsewhere
-pub mod Outcomes
-pub mod Ends
-pub mod Calls
-pub mod CodeLaws
+pub mod RegisterLaws
+pub mod GuestFollows
+mod LawfulUnits

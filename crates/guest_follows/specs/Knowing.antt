@@ -7,7 +7,7 @@ use Rattle.mips_decode.specs.declared.inst.Inst.{Inst}
 use Rattle.mips_decode.specs.declared.inst.Inst.TheVariants as inst
 use Rattle.block_builder.specs.Registers.{Register, general, special, read_by, written_by}
 use Rattle.guest_match.specs.Match.{pc_field}
-use Rattle.register_laws.specs.Holding.{HoldsOn, IsKnown, Keeps, KeepsGoal, gaining}
+use Rattle.guest_follows.specs.Holding.{HoldsOn, IsKnown, Keeps, KeepsGoal, gaining}
 
 -- code that reads registers finds each of them known
 abbrev pub AreKnown : (ℕ → Bool) → List Register → Type 0

@@ -1,5 +1,7 @@
-//! How code of the class machine follows the guest, wherever it lies: by what its list of steps comes to, and by what the methods come to that
-//! it calls. Each law is the contract of a call that does nothing.
+//! When code follows the guest, wherever it lies: states that are held over a bank of registers, what calls of methods come to, and what
+//! holds of units because words spell them. Each law is the contract of a call that does nothing.
 #![tactic(auto)]
 
+pub mod lawful_units;
 pub mod laws;
+pub mod register_laws;

@@ -1,11 +1,2 @@
-pub mod Quietly
-pub mod Texts
-pub mod Fills
-pub mod Held
-pub mod Making
-pub mod Asking
-pub mod Loading
-pub mod Images
-pub mod Bounds
-pub mod Runs
-pub mod Shares
+pub mod FillingLaws
+pub mod LoadingLaws

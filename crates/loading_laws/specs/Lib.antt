@@ -1,3 +1,9 @@
+pub mod Texts
+pub mod Arrays
+pub mod Leading
+pub mod Filled
+pub mod MadePages
+pub mod Memory
 pub mod Quiet
 pub mod Loaded
 pub mod Made

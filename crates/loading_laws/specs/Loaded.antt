@@ -15,9 +15,9 @@ use Rattle.loading_code.specs.Filling.{fill_code}
 use Rattle.loading_code.specs.Pages.{pages_code}
 use Rattle.page_runs.specs.declared.page_run.PageRun.{PageRun}
 use Rattle.page_runs.specs.Runs.{text_of, pages_of, run_pages, IsRun}
-use Rattle.filling_laws.specs.Texts.{AreWords}
-use Rattle.filling_laws.specs.Leading.{IsMethod}
-use Rattle.filling_laws.specs.Filled.{RiseFrom}
+use Rattle.loading_laws.specs.Texts.{AreWords}
+use Rattle.loading_laws.specs.Leading.{IsMethod}
+use Rattle.loading_laws.specs.Filled.{RiseFrom}
 
 -- ---- texts that tell pages
 

@@ -20,8 +20,8 @@ use Rattle.guest_match.specs.Match.{HoldsMemory, pc_field, readable_field, writa
 use Rattle.guest_code.specs.Fields.{linked_field}
 use Rattle.loading_code.specs.declared.beginning.Beginning.{Beginning}
 use Rattle.loading_code.specs.Starting.{run_code}
-use Rattle.register_laws.specs.Holding.{HoldsOn}
-use Rattle.filling_laws.specs.Leading.{Reaches, IsMethod}
+use Rattle.guest_follows.specs.Holding.{HoldsOn}
+use Rattle.loading_laws.specs.Leading.{Reaches, IsMethod}
 use Rattle.loading_laws.specs.Quiet.{Quietly, ComesTo}
 use Rattle.loading_laws.specs.Loaded.{Filler, numbers_of}
 

@@ -7,7 +7,7 @@ use Rattle.jvm_program.specs.Step.{State, Frame, placed}
 use Rattle.machine_counts.specs.Classes.{reads, switches}
 use Rattle.code_steps.specs.declared.step.Step.{Step}
 use Rattle.code_steps.specs.Placing.{LiesAt}
-use Rattle.filling_laws.specs.Leading.{Reaches}
+use Rattle.loading_laws.specs.Leading.{Reaches}
 
 abbrev pub IsQuiet : ((Instruction → ℕ) → ℕ) → Type 0
 IsQuiet total = (total reads ≡ 0) × (total switches ≡ 0)

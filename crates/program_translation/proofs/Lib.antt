@@ -1,1 +1,3 @@
-mod RiseLemmas
+pub mod CodeFiles
+pub mod DataFiles
+mod ProgramTranslation

@@ -1,3 +1,11 @@
+pub mod Files
+pub mod Spans
+pub mod Places
+pub mod Classes
+pub mod Parts
+pub mod Adding
+pub mod Pages
+pub mod DataFiles
 pub mod Bounds
 pub mod MainFile
 pub mod Translation

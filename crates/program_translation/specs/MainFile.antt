@@ -6,10 +6,10 @@ use Rattle.loading_code.specs.declared.beginning.Beginning.{Beginning}
 use Rattle.page_runs.specs.Runs.{IsRun, pages_of, pages_below, run_pages}
 use Rattle.trampoline.specs.declared.start.Start.{Start}
 use Rattle.class_members.specs.ClassNames.{file_name}
-use Rattle.main_classes.specs.declared.content.MainClass.{MainClass}
-use Rattle.main_classes.specs.Main.{IsMainClass}
-use Rattle.program_files.specs.declared.named_file.NamedFile.{NamedFile}
-use Rattle.program_files.specs.Files.{name_of}
+use Rattle.program_classes.specs.declared.content.MainClass.{MainClass}
+use Rattle.program_classes.specs.Main.{IsMainClass}
+use Rattle.program_translation.specs.declared.named_file.NamedFile.{NamedFile}
+use Rattle.program_translation.specs.Files.{name_of}
 
 -- with what a program begins
 abbrev pub beginning_of : Source → Beginning

@@ -4,9 +4,9 @@ use Rattle.std.specs.List.{AllZip}
 use Rattle.command_words.specs.Word.{Text}
 use Rattle.elf_image.specs.Start.{Source, image_of}
 use Rattle.class_members.specs.Numbers.{main_methods}
-use Rattle.program_files.specs.declared.named_file.NamedFile.{NamedFile}
-use Rattle.code_files.specs.Classes.{Placed, AreCodeClasses, IsCodeFile, methods_behind, run_of, starts_of, spans_of}
-use Rattle.data_files.specs.Files.{AreDataFiles, class_count, filled_pages, fills_of}
+use Rattle.program_translation.specs.declared.named_file.NamedFile.{NamedFile}
+use Rattle.program_translation.specs.Classes.{Placed, AreCodeClasses, IsCodeFile, methods_behind, run_of, starts_of, spans_of}
+use Rattle.program_translation.specs.DataFiles.{AreDataFiles, class_count, filled_pages, fills_of}
 use Rattle.program_translation.specs.declared.built.Built.{Built}
 use Rattle.program_translation.specs.Bounds.{need}
 use Rattle.program_translation.specs.MainFile.{IsMainFile}

@@ -1,5 +1,5 @@
+use crate::NamedFile;
 use crate::layout::Layout;
-use program_files::NamedFile;
 
 /// What a program is translated to.
 #[derive(Debug, Drop)]

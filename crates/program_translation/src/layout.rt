@@ -1,4 +1,4 @@
-use code_files::{BlockInfo, SpanInfo};
+use crate::{BlockInfo, SpanInfo};
 
 /// Where the words of a program stand in its classes, and how much memory a run of them takes.
 #[derive(Debug, Drop)]

@@ -1,17 +1,15 @@
 //! The main class as a file.
 ghost use Rattle.std.specs.Prelude.{◌≡◌, ◌<◌, ◌≤◌, ◌^◌, ◌++◌, IfOk, IsTrue, length};
 ghost use Rattle.class_members.specs.Numbers.{main_methods};
-ghost use Rattle.main_classes.specs.Content.{RiseFrom};
+ghost use Rattle.program_classes.specs.Content.{RiseFrom};
 ghost use Rattle.program_translation.specs.MainFile.{IsMainFile, beginning_of};
 
+use crate::{Code, Data, NamedFile, TranslateError};
 use class_members::file_name;
-use code_files::Code;
-use data_files::Data;
 use elf_image::Image;
 use loading_code::Beginning;
-use main_classes::{MainClass, main_class};
 use page_runs::page_runs;
-use program_files::{NamedFile, TranslateError};
+use program_classes::{MainClass, main_class};
 use std::alloc::Global;
 
 /// How many classes, and how many places at which one of them begins or the code has a gap, there can be.

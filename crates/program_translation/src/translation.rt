@@ -6,10 +6,8 @@ use crate::bounds::need;
 use crate::built::Built;
 use crate::layout::Layout;
 use crate::main_file::main_file;
-use code_files::code_of;
-use data_files::data_of;
+use crate::{NamedFile, TranslateError, code_of, data_of};
 use elf_image::Image;
-use program_files::{NamedFile, TranslateError};
 use std::alloc::Global;
 
 /// The classes of a program, as files.

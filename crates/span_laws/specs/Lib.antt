@@ -3,3 +3,5 @@ pub mod Resuming
 pub mod Spans
 pub mod Counting
 pub mod Made
+pub mod InPieces
+pub mod Following

@@ -16,7 +16,7 @@ use Rattle.guest_match.specs.Match.{pc_field}
 use Rattle.word_emitter.specs.Exits.{returns}
 use Rattle.guest_follows.specs.Sites.{Site, PathIn, stands}
 use Rattle.guest_follows.specs.Following.{ComesToTurn}
-use Rattle.piece_laws.specs.Pieces.{HoldsAll}
+use Rattle.emitted_laws.specs.Pieces.{HoldsAll}
 use Rattle.span_code.specs.declared.span_words.SpanWords.{SpanWords}
 use Rattle.span_code.specs.Neighbours.{address}
 use Rattle.span_code.specs.Laying.{entry_at}

@@ -13,7 +13,7 @@ use Rattle.code_steps.specs.Widths.{size}
 use Rattle.code_steps.specs.Placing.{LiesAt}
 use Rattle.word_emitter.specs.Pieces.{piece_units}
 use Rattle.guest_follows.specs.Sites.{Site, stands, whole_weight}
-use Rattle.piece_laws.specs.Pieces.{piece_turns}
+use Rattle.emitted_laws.specs.Pieces.{piece_turns}
 use Rattle.span_code.specs.declared.span_words.SpanWords.{SpanWords}
 use Rattle.span_code.specs.Pieces.{piece_at}
 use Rattle.span_code.specs.Neighbours.{address}

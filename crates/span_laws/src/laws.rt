@@ -18,7 +18,7 @@ ghost use Rattle.span_code.specs.Laying.{entry_at, return_offset, span_code};
 ghost use Rattle.nv_words.specs.declared.order.Order.{Order};
 ghost use Rattle.mips_decode.specs.State.{State};
 ghost use Rattle.delay_slots.specs.Units.{units_of};
-ghost use Rattle.instruction_laws.specs.Instructions.{IsReady};
+ghost use Rattle.emitted_laws.specs.Instructions.{IsReady};
 ghost use Rattle.span_code.specs.Pieces.{begins};
 ghost use Rattle.jvm_program.specs.declared.instruction.Instruction.{Instruction};
 ghost use Rattle.block_builder.specs.Blocks.{unit_at};
@@ -34,7 +34,7 @@ ghost use Rattle.jvm_program.specs.Step.{returned_to};
 ghost use Rattle.delay_slots.specs.Units.{HasNoFloat};
 ghost use Rattle.delay_slots.specs.Turns as guest;
 ghost use Rattle.guest_follows.specs.Sites.{stands, turn_in};
-ghost use Rattle.piece_laws.specs.Pieces.{HoldsAll, piece_turns};
+ghost use Rattle.emitted_laws.specs.Pieces.{HoldsAll, piece_turns};
 ghost use Rattle.span_laws.specs.Made.{AreTurns};
 ghost use Rattle.span_laws.specs.Entering.{entering, IsEntered};
 ghost use Rattle.span_laws.specs.Spans.{HasSpan, StandsAt, FollowsUnit, FollowsPiece};
@@ -42,8 +42,8 @@ ghost use Rattle.span_laws.specs.Spans.{HasSpan, StandsAt, FollowsUnit, FollowsP
 use block_builder::instructions_keep_to_their_registers;
 use delay_slots::{unit_is_its_steps, unit_leads_on};
 use emitted_laws::laws as emitted;
+use guest_follows::lawful_units::{needed_is_known, units_are_lawful};
 use guest_follows::laws::code_is_paths;
-use lawful_units::laws::{needed_is_known, units_are_lawful};
 use span_code::laws::pieces_are_of_blocks;
 
 /// Where field pc has the address of a word of the span, the method goes from its beginning to the code of that word; where it has another

@@ -1,7 +1,7 @@
 -- What is due of the classes of a program that is run.
 use Rattle.std.proofs.Common.{◌≡◌, List, Result, Ok, subst}
 use Rattle.jvm_code.specs.declared.class.Class.{Class}
-use Rattle.program_files.specs.declared.named_file.NamedFile.{NamedFile}
+use Rattle.program_translation.specs.declared.named_file.NamedFile.{NamedFile}
 use Rattle.type_verifier.specs.declared.verified.Verified.{Verified}
 use Rattle.std.specs.Prelude.{Option, Some, None}
 use Rattle.command_deeds.specs.declared.done.Done.{Done}

@@ -1,7 +1,7 @@
 -- Files that are stored one after the other, and work behind them.
 use Rattle.std.proofs.Common.{◌≡◌, ℕ, ◌+◌, ◌<◌, List, [], ◌∷◌, ◌++◌, length, map, take, drop, get_or, Result, Ok, Err, refl, sym, ap, ◌∙◌, subst, inl, inr}
 use Rattle.std.proofs.lemmas.List.{map-append, map_more, take-append-drop}
-use Rattle.program_files.specs.declared.named_file.NamedFile.{NamedFile}
+use Rattle.program_translation.specs.declared.named_file.NamedFile.{NamedFile}
 use Rattle.command_deeds.specs.declared.done.Done.{Done}
 use Rattle.command_deeds.specs.declared.done.Done.TheVariants.{NoMemory}
 use Rattle.command_deeds.specs.declared.stop.Stop.{Stop}

@@ -3,7 +3,7 @@ use Rattle.std.proofs.Common.{◌≡◌, ℕ, List, refl, subst, inl, inr, Optio
 use Rattle.elf_image.specs.Start.{Source}
 use Rattle.program_translation.specs.Translation.{IsTranslation}
 use Rattle.program_translation.specs.declared.built.Built.{Built}
-use Rattle.program_files.specs.declared.named_file.NamedFile.{NamedFile}
+use Rattle.program_translation.specs.declared.named_file.NamedFile.{NamedFile}
 use Rattle.command_deeds.specs.declared.done.Done.{Done}
 use Rattle.command_deeds.specs.declared.done.Done.TheVariants.{NotBuilt}
 use Rattle.command_deeds.specs.declared.stop.Stop.{Stop}

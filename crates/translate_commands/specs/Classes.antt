@@ -8,7 +8,7 @@ use Rattle.name_resolution.specs.Faults.{link_fault}
 use Rattle.nv_faults.specs.declared.class_fault.ClassFault.{ClassFault}
 use Rattle.nv_faults.specs.declared.link_fault.LinkFault.{LinkFault}
 use Rattle.nv_faults.specs.declared.verify_fault.VerifyFault.{VerifyFault}
-use Rattle.program_files.specs.declared.named_file.NamedFile.{NamedFile}
+use Rattle.program_translation.specs.declared.named_file.NamedFile.{NamedFile}
 use Rattle.type_verifier.specs.Refusal.{IsAtFault}
 use Rattle.type_verifier.specs.declared.verified.Verified.{Verified}
 use Rattle.command_deeds.specs.declared.done.Done.TheVariants.{NotBuilt}

@@ -15,7 +15,7 @@ use Rattle.mips_machine.specs.Loading.{start_of}
 use Rattle.program_translation.specs.Bounds.{allow, need}
 use Rattle.program_translation.specs.Translation.{IsTranslation}
 use Rattle.program_translation.specs.declared.built.Built.{Built}
-use Rattle.program_files.specs.declared.named_file.NamedFile.{NamedFile}
+use Rattle.program_translation.specs.declared.named_file.NamedFile.{NamedFile}
 use Rattle.command_deeds.specs.declared.done.Done.{Done}
 use Rattle.command_deeds.specs.declared.done.Done.TheVariants.{Good, NotBuilt}
 use Rattle.command_deeds.specs.Deeds.{Due, prints, answers}

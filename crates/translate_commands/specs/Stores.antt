@@ -1,7 +1,7 @@
 -- The files of a translation are stored one after the other, and then a command goes on.
 use Rattle.std.specs.Prelude.{◌≡◌, ◌⊎◌, List, ◌∷◌, ◌++◌, map}
-use Rattle.program_files.specs.Files.{name_of}
-use Rattle.program_files.specs.declared.named_file.NamedFile.{NamedFile}
+use Rattle.program_translation.specs.Files.{name_of}
+use Rattle.program_translation.specs.declared.named_file.NamedFile.{NamedFile}
 use Rattle.command_deeds.specs.declared.done.Done.TheVariants.{NoMemory}
 use Rattle.command_deeds.specs.Deeds.{Deed, Due, prepares, stores, answers}
 

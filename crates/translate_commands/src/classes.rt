@@ -1,7 +1,7 @@
 //! From the files of a translation to classes that may be run.
 ghost use Rattle.std.specs.Prelude.{◌≡◌, ◌++◌, ◌∷◌, [], All, List, IfOk, IfSome, OnOk, Some, option_map};
 ghost use Rattle.name_resolution.specs.Kept.{IsClass};
-ghost use Rattle.program_files.specs.declared.named_file.NamedFile.{NamedFile};
+ghost use Rattle.program_translation.specs.declared.named_file.NamedFile.{NamedFile};
 ghost use Rattle.translate_commands.specs.Classes.{IsVerified, classes_of};
 
 use class_commands::{Accepted, accept_classes};

@@ -1,10 +1,2 @@
-mod Elements
-mod Choosing
-mod Spans
-mod Words
-mod Order
-mod Starts
-mod Strays
-mod Numbers
-mod Apart
-mod Programs
+mod ChoiceLaws
+mod TranslatedPrograms

@@ -9,7 +9,7 @@ use Rattle.machine_counts.specs.Guest as counted
 use Rattle.code_steps.specs.Placing.{LiesAt}
 use Rattle.trampoline.specs.declared.start.Start.{Start}
 use Rattle.trampoline.specs.Choosers.{class_chooser}
-use Rattle.choice_laws.specs.Choosing.{IsMethod}
+use Rattle.translated_programs.specs.Choosing.{IsMethod}
 use Rattle.span_code.specs.declared.span_words.SpanWords.{SpanWords}
 use Rattle.span_code.specs.Pieces.{span_of}
 use Rattle.span_code.specs.Laying.{span_code}

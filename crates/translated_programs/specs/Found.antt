@@ -1,6 +1,6 @@
 -- The span that has a word of a class.
 use Rattle.std.specs.Prelude.{◌≡◌, ℕ, ◌+◌, ◌<◌, ◌≤◌, length}
-use Rattle.choice_laws.specs.Choosing.{chosen}
+use Rattle.translated_programs.specs.Choosing.{chosen}
 use Rattle.translated_programs.specs.Classes.{CodeClass, address, span_at, span_starts}
 
 -- A word of a class lies in one of its spans, whose method is chosen for the word's address.

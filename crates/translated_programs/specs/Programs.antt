@@ -6,8 +6,8 @@ use Rattle.delay_slots.specs.Turns.{HasRange}
 use Rattle.jvm_program.specs.Program.{Program}
 use Rattle.code_steps.specs.Placing.{LiesAt}
 use Rattle.trampoline.specs.Choosers.{main_chooser, missing_code}
-use Rattle.choice_laws.specs.Choosing.{IsMethod}
-use Rattle.method_outcomes.specs.Helpers.{HasHelpers, helper_count}
+use Rattle.translated_programs.specs.Choosing.{IsMethod}
+use Rattle.guest_follows.specs.Helpers.{HasHelpers, helper_count}
 use Rattle.translated_programs.specs.Classes.{CodeClass, HasClass, AreNumbered, AreOrdered, address, starts_of}
 
 -- One of the words of classes stands at an address.

@@ -5,7 +5,7 @@ ghost use Rattle.nv_words.specs.declared.order.Order.{Order};
 ghost use Rattle.delay_slots.specs.Turns.{HasRange};
 ghost use Rattle.jvm_program.specs.Program.{Program};
 ghost use Rattle.machine_counts.specs.Guest.{holds, in_one_span};
-ghost use Rattle.choice_laws.specs.Choosing.{chosen, Rise, AreMethods, IsWithin, IsReached};
+ghost use Rattle.translated_programs.specs.Choosing.{chosen, Rise, AreMethods, IsWithin, IsReached};
 ghost use Rattle.translated_programs.specs.Classes.{CodeClass, IsClass, HasClass, address, end_of, span_at, run_of, span_words, span_starts, starts_of, is_span, counted_span, counted_spans};
 ghost use Rattle.translated_programs.specs.Programs.{IsTranslated};
 ghost use Rattle.translated_programs.specs.Found.{FoundSpan};

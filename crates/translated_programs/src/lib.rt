@@ -1,5 +1,6 @@
-//! What a program is that is the translation of a guest's code, and which of its methods is chosen for an address. Each law is the contract of
-//! a call that does nothing.
+//! Which method a translated program chooses for an address, and what the methods do that choose. Each law is the contract of a call that
+//! does nothing.
 #![tactic(auto)]
 
+pub mod choice_laws;
 pub mod laws;

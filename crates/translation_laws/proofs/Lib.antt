@@ -1,0 +1,5 @@
+mod LinkedTranslations
+mod TranslatedMethods
+mod TranslatedLoading
+mod TranslatedTypes
+mod AcceptedTranslations

@@ -1,8 +1,8 @@
 -- What holds of each image.
 use Rattle.nv_words.specs.Words.{IsWord}
 use Rattle.elf_image.specs.Start.{Source, image_of}
-use Rattle.translated_methods.specs.Images.{HasAcceptedCode}
-use Rattle.translated_loading.specs.Images.{HasMappedPages}
+use Rattle.translation_laws.specs.AcceptedCode.{HasAcceptedCode}
+use Rattle.translation_laws.specs.MappedPages.{HasMappedPages}
 
 -- Its code is whole and not too much, its memory is pages of words, and it begins at an address of 32 bits.
 pub record IsImage (source : Source) : Type 0 where

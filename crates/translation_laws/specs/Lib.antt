@@ -1,3 +1,11 @@
+pub mod WholeCode
+pub mod Linked
+pub mod AcceptedCode
+pub mod Standing
+pub mod MappedPages
+pub mod Loading
+pub mod Accepted
+pub mod Stored
 pub mod Images
 pub mod Running
 pub mod Translated

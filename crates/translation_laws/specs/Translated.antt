@@ -4,7 +4,7 @@ use Rattle.command_words.specs.Word.{Text}
 use Rattle.elf_image.specs.Start.{Source}
 use Rattle.jvm_link.specs.Linking.{Accepted, program_of}
 use Rattle.program_translation.specs.declared.built.Built.{Built}
-use Rattle.linked_translations.specs.Linked.{IsLinked}
+use Rattle.translation_laws.specs.Linked.{IsLinked}
 use Rattle.translation_laws.specs.Running.{RunsAlike}
 
 -- Its files spell classes in which each field and method is what it was planned to be. They link, all their methods are typed, and the program that they

@@ -8,17 +8,17 @@ ghost use Rattle.elf_image.specs.Start.{Source};
 ghost use Rattle.jvm_link.specs.Linking.{program_of};
 ghost use Rattle.program_translation.specs.declared.built.Built.{Built};
 ghost use Rattle.program_translation.specs.Translation.{IsTranslation};
-ghost use Rattle.linked_translations.specs.Linked.{IsLinked};
+ghost use Rattle.translation_laws.specs.Linked.{IsLinked};
 ghost use Rattle.translation_laws.specs.Images.{IsImage};
 ghost use Rattle.translation_laws.specs.Running.{RunsAlike};
 ghost use Rattle.translation_laws.specs.Translated.{Translated};
 
-use accepted_translations::laws::translations_are_accepted;
+use crate::accepted_translations::translations_are_accepted;
+use crate::linked_translations::translations_link;
+use crate::translated_loading::{others_do_not_load, translations_load};
+use crate::translated_methods::translations_stand;
 use elf_image::Image;
-use linked_translations::laws::translations_link;
 use loading_laws::laws::images_are_pages;
-use translated_loading::laws::{others_do_not_load, translations_load};
-use translated_methods::laws::translations_stand;
 use translation_runs::laws::translated_programs_run_alike;
 
 /// The classes of a translation run as the program does: for every list of answers of the system and every bound, both ways.

@@ -1,4 +1,9 @@
-//! What holds of the classes of a translation. Each law is the contract of a call that does nothing.
+//! A translation is accepted, and runs as its program. Each law is the contract of a call that does nothing.
 #![tactic(auto)]
 
+pub mod accepted_translations;
 pub mod laws;
+pub mod linked_translations;
+pub mod translated_loading;
+pub mod translated_methods;
+pub mod translated_types;

@@ -1,4 +1,3 @@
-pub mod Given
-pub mod Counting
-pub mod Loading
-pub mod Running
+mod ChoicePasses
+mod TurnLaws
+pub mod TranslationRuns

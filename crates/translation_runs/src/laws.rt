@@ -11,14 +11,14 @@ ghost use Rattle.machine_counts.specs.Guest.{crossings, partial};
 ghost use Rattle.mips_decode.specs.State as guest;
 ghost use Rattle.mips_decode.specs.Step as guest_step;
 ghost use Rattle.translated_programs.specs.Classes.{is_span, counted_spans};
-ghost use Rattle.turn_laws.specs.Marks.{MarksPieces, AtPiece};
+ghost use Rattle.translation_runs.specs.Marks.{MarksPieces, AtPiece};
 ghost use Rattle.translation_runs.specs.Translated.{Translated, IsTranslation, LoadsWithin, guest_start, guest_run, guest_trail, class_trail};
 
-use choice_passes::laws::begun_programs_choose;
+use crate::choice_passes::begun_programs_choose;
+use crate::turn_laws::{marks_are_reached, turns_are_followed};
 use code_paths::laws::weights;
 use loading_laws::laws::programs_load;
 use translated_programs::laws::spans_are_numbered;
-use turn_laws::laws::{marks_are_reached, turns_are_followed};
 
 /// For every list of answers the classes run as the guest does, both ways: they ask the same, and end in the same way. For n turns of the guest they
 /// have 512 turns n + 1 times, and so many more that these and two times 512 are enough for loading.

@@ -1,7 +1,4 @@
-pub mod Registers
-pub mod Instructions
-pub mod Units
-pub mod Sets
-pub mod Pieces
-pub mod Exits
-pub mod Parts
+pub mod TypedSteps
+pub mod TypedCode
+pub mod TypedMethods
+mod TypedSpans

@@ -13,10 +13,10 @@ use Rattle.guest_code.specs.Units.{instruction_code, unit_code}
 use Rattle.word_emitter.specs.declared.extent.Extent.{Extent}
 use Rattle.word_emitter.specs.Pieces.{warm_code}
 use Rattle.word_emitter.specs.Exits.{has, exit_code}
-use Rattle.method_outcomes.specs.Helpers.{helper_parameters, helper_count}
+use Rattle.guest_follows.specs.Helpers.{helper_parameters, helper_count}
 use Rattle.guest_follows.specs.Knowing.{AreKnown, gained}
-use Rattle.lawful_units.specs.Lawful.{IsLawful, KnownByUnit}
-use Rattle.typed_steps.specs.Judging.{Rules, TakesGives, Leads, Meets}
+use Rattle.guest_follows.specs.Lawful.{IsLawful, KnownByUnit}
+use Rattle.typed_code.specs.Judging.{Rules, TakesGives, Leads, Meets}
 
 -- Registers that are known and kept in local variables are ints there. Local variable 0, where the goal of a branch is put, has a type of
 -- its own.

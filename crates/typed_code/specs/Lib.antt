@@ -1,1 +1,6 @@
+pub mod Judging
+pub mod Flowing
+pub mod Bodies
 pub mod Knowing
+pub mod Methods
+pub mod Spans

@@ -6,7 +6,7 @@ ghost use Rattle.delay_slots.specs.declared.unit.Unit.{Unit};
 ghost use Rattle.delay_slots.specs.Units.{is_branch};
 ghost use Rattle.typed_code.specs.Knowing.{ColdPartTyped, ExitTyped, InstructionTyped, PieceTyped, UnitTyped, WarmPartTyped, WordTyped};
 
-use lawful_units::laws::{
+use guest_follows::lawful_units::{
     gained_is_membership, is_in_is_membership, needed_is_known, units_are_lawful,
 };
 

@@ -1,4 +1,4 @@
-use Rattle.loading_laws.proofs.Images.{memory-is, pages-are, slots-few}
+use Rattle.loading_laws.proofs.LoadingLaws.Images.{memory-is, pages-are, slots-few}
 use Rattle.loading_laws.proofs.laws.images_are_pages.Goals as goal
 
 pub returns-clause-memory : goal.returns-clause-memory

@@ -1,4 +1,4 @@
-use Rattle.loading_laws.proofs.Bounds.{turns-few}
+use Rattle.loading_laws.proofs.LoadingLaws.Bounds.{turns-few}
 use Rattle.loading_laws.proofs.laws.loading_takes.Goals as goal
 
 pub returns : goal.returns

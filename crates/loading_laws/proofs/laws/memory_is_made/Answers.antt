@@ -1,4 +1,4 @@
-use Rattle.loading_laws.proofs.Making.{makes-memory}
+use Rattle.loading_laws.proofs.LoadingLaws.Making.{makes-memory}
 use Rattle.loading_laws.proofs.laws.memory_is_made.Goals as goal
 
 pub returns : goal.returns

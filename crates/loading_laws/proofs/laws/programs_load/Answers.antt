@@ -1,4 +1,4 @@
-use Rattle.loading_laws.proofs.Loading.{program-loads}
+use Rattle.loading_laws.proofs.LoadingLaws.Loading.{program-loads}
 use Rattle.loading_laws.proofs.laws.programs_load.Goals as goal
 
 pub returns : goal.returns

@@ -3,7 +3,7 @@ use Rattle.jvm_program.specs.Program.{Program}
 use Rattle.jvm_program.specs.Step.{State}
 use Rattle.mips_decode.specs.State as guest
 use Rattle.loading_laws.specs.Made.{Begins, HasBegun, begun_at}
-use Rattle.loading_laws.proofs.Runs.{loads-in-runs}
+use Rattle.loading_laws.proofs.LoadingLaws.Runs.{loads-in-runs}
 use Rattle.loading_laws.proofs.laws.programs_load_in_runs.Goals as goal
 
 begun : (program : Program) (words own m choose : ℕ) (x : State) (t : guest.State) (b : Begins program words own m choose 8 x t) → HasBegun own choose t (begun_at program words own m choose 8 x t b)

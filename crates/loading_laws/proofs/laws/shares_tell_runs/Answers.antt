@@ -1,4 +1,4 @@
-use Rattle.loading_laws.proofs.Shares.{texts-tell, runs-told, shares-some}
+use Rattle.loading_laws.proofs.LoadingLaws.Shares.{texts-tell, runs-told, shares-some}
 use Rattle.loading_laws.proofs.laws.shares_tell_runs.Goals as goal
 
 pub returns-clause-tell : goal.returns-clause-tell

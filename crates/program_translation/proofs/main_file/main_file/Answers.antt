@@ -2,8 +2,8 @@ use Rattle.std.proofs.Common.{◌≡◌, ◌++◌, All, flat_map, sym, subst, ru
 use Rattle.elf_image.specs.Start.{readable, writable}
 use Rattle.page_runs.specs.Runs.{IsRun, pages_of, pages_below, run_pages}
 use Rattle.class_members.specs.Numbers.{main_methods}
-use Rattle.main_classes.specs.declared.content.MainClass.{MainClass}
-use Rattle.main_classes.specs.Content.{RiseFrom}
+use Rattle.program_classes.specs.declared.content.MainClass.{MainClass}
+use Rattle.program_classes.specs.Content.{RiseFrom}
 use Rattle.program_translation.proofs.main_file.main_file.Goals as goal
 
 pub main_class-requires : goal.main_class-requires

@@ -1,13 +1,13 @@
 use Rattle.std.proofs.Common.{◌≡◌, ◌≤◌, List, [], ◌∷◌, ◌++◌, length, map, sym, ap, ◌∙◌, arith, subst}
 use Rattle.std.proofs.lemmas.Slice.Zip.{AllZip-long}
 use Rattle.class_members.specs.Numbers.{main_methods}
-use Rattle.main_classes.specs.Content.{RiseFrom}
-use Rattle.code_files.specs.Classes.{Placed, IsCodeFile, run_of, starts_of}
-use Rattle.data_files.specs.Files.{AreDataFiles, class_count, filled_pages, fills_of}
+use Rattle.program_classes.specs.Content.{RiseFrom}
+use Rattle.program_translation.specs.Classes.{Placed, IsCodeFile, run_of, starts_of}
+use Rattle.program_translation.specs.DataFiles.{AreDataFiles, class_count, filled_pages, fills_of}
 use Rattle.program_translation.specs.Bounds.{need}
 use Rattle.program_translation.specs.MainFile.{IsMainFile}
 use Rattle.program_translation.specs.Translation.{code_methods, fills_behind}
-use Rattle.program_translation.proofs.RiseLemmas.{rise-calls}
+use Rattle.program_translation.proofs.ProgramTranslation.RiseLemmas.{rise-calls}
 use Rattle.program_translation.proofs.translation.translate.Goals as goal
 
 some-code : (code : List Placed) → 1 ≤ length (starts_of code) → 1 ≤ length code

@@ -1,4 +1,4 @@
-use Rattle.span_laws.proofs.Guest.{held-again}
+use Rattle.span_laws.proofs.SpanLaws.Guest.{held-again}
 use Rattle.span_laws.proofs.laws.fields_hold_all.Goals as goal
 
 pub returns : goal.returns

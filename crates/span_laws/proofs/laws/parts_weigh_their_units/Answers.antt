@@ -1,7 +1,7 @@
 use Rattle.std.proofs.Common.{refl}
 use Rattle.machine_counts.specs.Classes.{reads, chars, switches}
 use Rattle.span_laws.specs.Counting.{SparesMoves}
-use Rattle.span_laws.proofs.Counting.{piece-weighs, word-weighs}
+use Rattle.span_laws.proofs.SpanLaws.Counting.{piece-weighs, word-weighs}
 use Rattle.span_laws.proofs.laws.parts_weigh_their_units.Goals as goal
 
 pub returns-clause-words : goal.returns-clause-words

@@ -1,7 +1,7 @@
 use Rattle.std.proofs.Common.{refl, arith}
 use Rattle.delay_slots.specs.Units.{units_of}
-use Rattle.span_laws.proofs.Guest.{own-made}
-use Rattle.span_laws.proofs.Words.{units-length}
+use Rattle.span_laws.proofs.SpanLaws.Guest.{own-made}
+use Rattle.span_laws.proofs.SpanLaws.Words.{units-length}
 use Rattle.span_laws.proofs.laws.pieces_are_made.Goals as goal
 
 pub returns-clause-turns : goal.returns-clause-turns

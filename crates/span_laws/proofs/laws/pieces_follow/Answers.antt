@@ -1,4 +1,4 @@
-use Rattle.span_laws.proofs.Warm.{warm-follows}
+use Rattle.span_laws.proofs.SpanLaws.Warm.{warm-follows}
 use Rattle.span_laws.proofs.laws.pieces_follow.Goals as goal
 
 pub returns : goal.returns

@@ -1,4 +1,4 @@
-use Rattle.span_laws.proofs.Guest.{return-turn}
+use Rattle.span_laws.proofs.SpanLaws.Guest.{return-turn}
 use Rattle.span_laws.proofs.laws.returns_give_back.Goals as goal
 
 pub returns : goal.returns

@@ -1,4 +1,4 @@
-use Rattle.span_laws.proofs.Entering.{other-entered, return-lies, word-entered}
+use Rattle.span_laws.proofs.SpanLaws.Entering.{other-entered, return-lies, word-entered}
 use Rattle.span_laws.proofs.laws.spans_are_entered.Goals as goal
 
 pub returns-clause-words : goal.returns-clause-words

@@ -1,4 +1,4 @@
-use Rattle.span_laws.proofs.Counting.{stretch-from, stretch-to}
+use Rattle.span_laws.proofs.SpanLaws.Counting.{stretch-from, stretch-to}
 use Rattle.span_laws.proofs.laws.stretches_are_of_pieces.Goals as goal
 
 pub returns-clause-from : goal.returns-clause-from

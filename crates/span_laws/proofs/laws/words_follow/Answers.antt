@@ -1,4 +1,4 @@
-use Rattle.span_laws.proofs.Words.{word-follows}
+use Rattle.span_laws.proofs.SpanLaws.Words.{word-follows}
 use Rattle.span_laws.proofs.laws.words_follow.Goals as goal
 
 pub returns : goal.returns

@@ -1,4 +1,4 @@
-use Rattle.translated_programs.proofs.Programs.{methods, span-methods}
+use Rattle.translated_programs.proofs.TranslatedPrograms.Programs.{methods, span-methods}
 use Rattle.translated_programs.proofs.laws.chosen_are_methods.Goals as goal
 
 pub returns-clause-classes : goal.returns-clause-classes

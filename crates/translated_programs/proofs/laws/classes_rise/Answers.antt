@@ -1,4 +1,4 @@
-use Rattle.translated_programs.proofs.Programs.{rise, some}
+use Rattle.translated_programs.proofs.TranslatedPrograms.Programs.{rise, some}
 use Rattle.translated_programs.proofs.laws.classes_rise.Goals as goal
 
 pub returns-clause-rise : goal.returns-clause-rise

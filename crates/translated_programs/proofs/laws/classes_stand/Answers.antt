@@ -1,4 +1,4 @@
-use Rattle.translated_programs.proofs.Programs.{has-class, has-range}
+use Rattle.translated_programs.proofs.TranslatedPrograms.Programs.{has-class, has-range}
 use Rattle.translated_programs.proofs.laws.classes_stand.Goals as goal
 
 pub returns-clause-stand : goal.returns-clause-stand

@@ -1,7 +1,7 @@
 use Rattle.std.proofs.Common.{◌∙◌}
 use Rattle.translated_programs.specs.Classes.{counted_spans}
-use Rattle.translated_programs.proofs.Programs.{are-classes}
-use Rattle.translated_programs.proofs.Apart.{one-span-turned, none-has-both}
+use Rattle.translated_programs.proofs.TranslatedPrograms.Programs.{are-classes}
+use Rattle.translated_programs.proofs.TranslatedPrograms.Apart.{one-span-turned, none-has-both}
 use Rattle.translated_programs.proofs.laws.spans_are_apart.Goals as goal
 
 pub returns-clause-out : goal.returns-clause-out

@@ -1,4 +1,4 @@
-use Rattle.translated_programs.proofs.Numbers.{lower-none, class-above, run-none, span-is}
+use Rattle.translated_programs.proofs.TranslatedPrograms.Numbers.{lower-none, class-above, run-none, span-is}
 use Rattle.translated_programs.proofs.laws.spans_are_numbered.Goals as goal
 
 pub returns-clause-spans : goal.returns-clause-spans

@@ -1,4 +1,4 @@
-use Rattle.translated_programs.proofs.Words.{span-in, span-end}
+use Rattle.translated_programs.proofs.TranslatedPrograms.Words.{span-in, span-end}
 use Rattle.translated_programs.proofs.laws.spans_lie_in_classes.Goals as goal
 
 pub returns-clause-some : goal.returns-clause-some

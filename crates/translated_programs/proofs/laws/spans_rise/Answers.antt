@@ -1,4 +1,4 @@
-use Rattle.translated_programs.proofs.Words.{starts-rise, starts-some, starts-few}
+use Rattle.translated_programs.proofs.TranslatedPrograms.Words.{starts-rise, starts-some, starts-few}
 use Rattle.translated_programs.proofs.laws.spans_rise.Goals as goal
 
 pub returns-clause-rise : goal.returns-clause-rise

@@ -1,4 +1,4 @@
-use Rattle.translated_programs.proofs.Programs.{stray-missing}
+use Rattle.translated_programs.proofs.TranslatedPrograms.Programs.{stray-missing}
 use Rattle.translated_programs.proofs.laws.strays_are_missing.Goals as goal
 
 pub returns : goal.returns

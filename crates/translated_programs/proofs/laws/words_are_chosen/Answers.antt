@@ -1,4 +1,4 @@
-use Rattle.translated_programs.proofs.Programs.{word-chosen, word-reached}
+use Rattle.translated_programs.proofs.TranslatedPrograms.Programs.{word-chosen, word-reached}
 use Rattle.translated_programs.proofs.laws.words_are_chosen.Goals as goal
 
 pub returns-clause-own : goal.returns-clause-own

@@ -1,4 +1,4 @@
-use Rattle.translated_programs.proofs.Words.{word-found}
+use Rattle.translated_programs.proofs.TranslatedPrograms.Words.{word-found}
 use Rattle.translated_programs.proofs.laws.words_are_in_spans.Goals as goal
 
 pub returns : goal.returns

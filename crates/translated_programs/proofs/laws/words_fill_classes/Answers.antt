@@ -1,4 +1,4 @@
-use Rattle.translated_programs.proofs.Words.{word-within, word-only, first-low, end-low}
+use Rattle.translated_programs.proofs.TranslatedPrograms.Words.{word-within, word-only, first-low, end-low}
 use Rattle.translated_programs.proofs.laws.words_fill_classes.Goals as goal
 
 pub returns-clause-within : goal.returns-clause-within

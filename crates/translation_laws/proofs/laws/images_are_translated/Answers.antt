@@ -1,9 +1,9 @@
 use Rattle.std.proofs.Common.{sym, subst, ◌∙◌}
 use Rattle.nv_words.specs.Words.{IsWord}
 use Rattle.elf_image.specs.Start.{Source}
-use Rattle.linked_translations.specs.Images.{HasWholeCode}
-use Rattle.linked_translations.specs.Linked.{IsLinked}
-use Rattle.translated_methods.specs.Images.{HasAcceptedCode}
+use Rattle.translation_laws.specs.WholeCode.{HasWholeCode}
+use Rattle.translation_laws.specs.Linked.{IsLinked}
+use Rattle.translation_laws.specs.AcceptedCode.{HasAcceptedCode}
 use Rattle.translation_laws.specs.Images.{IsImage}
 use Rattle.translation_laws.proofs.laws.images_are_translated.Goals as goal
 

@@ -3,15 +3,15 @@ use Rattle.nv_events.specs.Answer.{next_answer}
 use Rattle.nv_events.specs.Memory.{Memory}
 use Rattle.run_laws.specs.Runs.{SameRuns}
 use Rattle.elf_image.specs.Start.{image_of, readable, writable}
-use Rattle.data_files.specs.Pages.{page_words}
+use Rattle.program_translation.specs.Pages.{page_words}
 use Rattle.mips_decode.specs.State as guest_state
 use Rattle.mips_decode.specs.Step as guest
 use Rattle.jvm_program.specs.Program.{Program}
 use Rattle.jvm_program.specs.Step.{start, turn}
 use Rattle.jvm_link.specs.Linking.{program_of}
 use Rattle.class_members.specs.Numbers.{run_number, choose_number, pages_number, missing_number}
-use Rattle.data_files.specs.Files.{class_count, filled_pages, first_method}
-use Rattle.main_classes.specs.Content.{text_runs}
+use Rattle.program_translation.specs.DataFiles.{class_count, filled_pages, first_method}
+use Rattle.program_classes.specs.Content.{text_runs}
 use Rattle.loading_laws.specs.Loaded.{run_shares}
 use Rattle.program_translation.specs.Bounds.{allow}
 use Rattle.program_translation.specs.MainFile.{beginning_of}

@@ -1,5 +1,5 @@
-use Rattle.translation_runs.proofs.Given.{LoadingLaws}
-use Rattle.translation_runs.proofs.Running.{comes-to-marks}
+use Rattle.translation_runs.proofs.TranslationRuns.Given.{LoadingLaws}
+use Rattle.translation_runs.proofs.TranslationRuns.Running.{comes-to-marks}
 use Rattle.translation_runs.proofs.laws.translated_programs_come_to_marks.Goals as goal
 
 pub returns : goal.returns

@@ -1,5 +1,5 @@
-use Rattle.translation_runs.proofs.Given.{LoadingLaws}
-use Rattle.translation_runs.proofs.Running.{counts-reads, counts-chars, counts-switches, counts-entries}
+use Rattle.translation_runs.proofs.TranslationRuns.Given.{LoadingLaws}
+use Rattle.translation_runs.proofs.TranslationRuns.Running.{counts-reads, counts-chars, counts-switches, counts-entries}
 use Rattle.translation_runs.proofs.laws.translated_programs_count_alike.Goals as goal
 
 pub returns : goal.returns

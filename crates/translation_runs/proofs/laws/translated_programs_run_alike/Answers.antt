@@ -1,5 +1,5 @@
-use Rattle.translation_runs.proofs.Given.{LoadingLaws}
-use Rattle.translation_runs.proofs.Running.{runs-alike}
+use Rattle.translation_runs.proofs.TranslationRuns.Given.{LoadingLaws}
+use Rattle.translation_runs.proofs.TranslationRuns.Running.{runs-alike}
 use Rattle.translation_runs.proofs.laws.translated_programs_run_alike.Goals as goal
 
 pub returns : goal.returns

@@ -1,4 +1,4 @@
-use Rattle.typed_code.proofs.Exits.{exit-leads}
+use Rattle.typed_code.proofs.TypedCode.Exits.{exit-leads}
 use Rattle.typed_code.proofs.laws.exits_are_typed.Goals as goal
 
 pub returns : goal.returns

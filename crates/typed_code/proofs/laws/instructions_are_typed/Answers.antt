@@ -1,4 +1,4 @@
-use Rattle.typed_code.proofs.Instructions.{instruction-typed}
+use Rattle.typed_code.proofs.TypedCode.Instructions.{instruction-typed}
 use Rattle.typed_code.proofs.laws.instructions_are_typed.Goals as goal
 
 pub returns : goal.returns

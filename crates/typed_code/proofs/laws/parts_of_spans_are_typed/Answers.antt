@@ -1,6 +1,6 @@
-use Rattle.typed_code.proofs.Sets.{SetLaws}
-use Rattle.typed_code.proofs.Pieces.{Needing}
-use Rattle.typed_code.proofs.Parts.{warm-part-leads, cold-part-leads}
+use Rattle.typed_code.proofs.TypedCode.Sets.{SetLaws}
+use Rattle.typed_code.proofs.TypedCode.Pieces.{Needing}
+use Rattle.typed_code.proofs.TypedCode.Parts.{warm-part-leads, cold-part-leads}
 use Rattle.typed_code.proofs.laws.parts_of_spans_are_typed.Goals as goal
 
 pub returns-clause-warm : goal.returns-clause-warm

@@ -1,5 +1,5 @@
-use Rattle.typed_code.proofs.Sets.{SetLaws}
-use Rattle.typed_code.proofs.Pieces.{Needing, warm-lead, cold-lead}
+use Rattle.typed_code.proofs.TypedCode.Sets.{SetLaws}
+use Rattle.typed_code.proofs.TypedCode.Pieces.{Needing, warm-lead, cold-lead}
 use Rattle.typed_code.proofs.laws.pieces_are_typed.Goals as goal
 
 pub returns-clause-pieces : goal.returns-clause-pieces

@@ -1,4 +1,4 @@
-use Rattle.typed_code.proofs.Units.{unit-typed}
+use Rattle.typed_code.proofs.TypedCode.Units.{unit-typed}
 use Rattle.typed_code.proofs.laws.units_are_typed.Goals as goal
 
 pub returns : goal.returns

@@ -1,8 +1,0 @@
-mod Arranging
-mod Called
-mod Orders
-mod Loading
-mod Linking
-mod Multiplying
-mod Storing
-mod Conditional

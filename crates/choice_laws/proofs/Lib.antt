@@ -1,7 +1,0 @@
-mod Tests
-mod Passing
-mod Chosen
-mod Trees
-mod Choosers
-mod Weighing
-mod Calls

@@ -1,3 +1,0 @@
-pub mod Choosing
-pub mod Coming
-pub mod Weights

@@ -1,7 +1,0 @@
-mod Given
-mod Going
-mod Choosing
-mod Ranges
-mod Classes
-mod Strays
-mod Returning

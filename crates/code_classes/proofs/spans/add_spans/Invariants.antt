@@ -1,6 +1,0 @@
-use Rattle.class_making.specs.Making.{AddsMethods}
-use Rattle.code_classes.specs.Code.{span_plans}
-use Rattle.code_classes.proofs.spans.add_spans.Given as goal
-
-abbrev pub invariant-loop-k : goal.invariant-loop-k
-invariant-loop-k l = AddsMethods l.initial.class l.class (span_plans l.part l.spans l.references l.k)

@@ -1,4 +1,0 @@
-pub mod SpanLemmas
-pub mod PlaceLemmas
-mod WordLemmas
-pub mod ClassLemmas

@@ -1,6 +1,0 @@
-use Rattle.std.proofs.Common.{◌≡◌, ◌≤◌, All, length}
-use Rattle.code_files.specs.Spans.{weights_of}
-use Rattle.code_files.proofs.spans.weights_of.Given as goal
-
-abbrev pub invariant-loop-k : goal.invariant-loop-k
-invariant-loop-k l = (l.weights.items ≡ weights_of l.part l.k) × (length l.weights.items ≡ l.k) × All (λ w. w ≤ 412) l.weights.items

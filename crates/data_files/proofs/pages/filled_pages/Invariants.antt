@@ -1,7 +1,0 @@
-use Rattle.std.proofs.Common.{◌≡◌, map}
-use Rattle.data_classes.specs.Pages.{page_of}
-use Rattle.data_files.specs.Pages.{filled_below}
-use Rattle.data_files.proofs.pages.filled_pages.Given as goal
-
-abbrev pub invariant-loop-page : goal.invariant-loop-page
-invariant-loop-page l = map page_of l.pages.items ≡ filled_below l.image l.page

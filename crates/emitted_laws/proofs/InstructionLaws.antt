@@ -1,0 +1,14 @@
+pub mod Words
+pub mod Running
+pub mod Results
+pub mod Settings
+pub mod Endings
+pub mod Combined
+pub mod Differences
+pub mod Checked
+pub mod Arithmetic
+pub mod Shifts
+pub mod Immediates
+pub mod Moves
+pub mod Traps
+pub mod Faults

@@ -1,0 +1,9 @@
+pub mod Weights
+pub mod Helpers
+pub mod Instructions
+pub mod Transfers
+pub mod Ways
+pub mod Units
+pub mod Found
+pub mod Trails
+pub mod Addresses

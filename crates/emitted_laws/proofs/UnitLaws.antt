@@ -1,0 +1,11 @@
+pub mod Joining
+pub mod Goals
+pub mod Links
+pub mod Reaching
+pub mod Tests
+pub mod Within
+pub mod Suffixes
+pub mod Fronts
+pub mod Transfers
+pub mod Calls
+pub mod Units

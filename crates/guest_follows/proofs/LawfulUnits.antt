@@ -1,0 +1,4 @@
+pub mod Spelling
+pub mod Units
+pub mod Sets
+pub mod Needing

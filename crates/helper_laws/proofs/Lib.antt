@@ -1,0 +1,2 @@
+pub mod LoadLaws
+mod StoreLaws

@@ -1,6 +1,0 @@
-use Rattle.guest_follows.proofs.CodeLaws.{code-laws}
-use Rattle.instruction_laws.proofs.Shifts.{variable-shift-follows}
-use Rattle.instruction_laws.proofs.laws.variable_shifts_are_followed.Goals as goal
-
-pub returns : goal.returns
-returns c = variable-shift-follows (code-laws c.code_is_paths.ensures)

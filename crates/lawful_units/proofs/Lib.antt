@@ -1,4 +1,0 @@
-mod Spelling
-mod Units
-mod Sets
-mod Needing

@@ -1,0 +1,2 @@
+pub mod LinkedNumbers
+pub mod NamedCode

@@ -1,5 +1,0 @@
-pub mod Before
-pub mod Places
-pub mod Distinct
-pub mod Planned
-pub mod Translated

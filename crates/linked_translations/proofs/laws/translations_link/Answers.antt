@@ -1,6 +1,0 @@
-use Rattle.linked_translations.proofs.Linking.{translation-links}
-use Rattle.linked_translations.proofs.laws.translations_link.Goals as goal
-
-pub returns : goal.returns
-returns c source name method_bytes built whole class_name t =
-    translation-links c.names_are_meant.ensures c.units_are_lawful.ensures.all source name method_bytes built whole class_name t

@@ -1,0 +1,11 @@
+pub mod Quietly
+pub mod Texts
+pub mod Fills
+pub mod Held
+pub mod Making
+pub mod Asking
+pub mod Loading
+pub mod Images
+pub mod Bounds
+pub mod Runs
+pub mod Shares

@@ -1,8 +1,0 @@
-pub mod Fetching
-pub mod Within
-pub mod Turns
-pub mod Sets
-pub mod Behind
-pub mod Running
-pub mod Arriving
-mod Pieces

@@ -1,0 +1,4 @@
+pub mod ClassMaking
+pub mod ProgramNames
+pub mod DataClasses
+pub mod MainClasses

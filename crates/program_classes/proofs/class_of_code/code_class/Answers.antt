@@ -1,0 +1,57 @@
+use Rattle.std.proofs.Common.{◌≡◌, ◌∷◌, [], ◌++◌, length, ap, ◌∙◌, subst}
+use Rattle.constant_pool.specs.declared.entry.Entry.TheVariants.{MethodRef}
+use Rattle.code_assembly.specs.declared.references.References.{References}
+use Rattle.class_builder.specs.Named.{IsClassAt}
+use Rattle.class_builder.specs.Mentioned.{Mentions}
+use Rattle.class_builder.proofs.Mentions.{mentions-still}
+use Rattle.class_members.specs.ClassNames.{span_name}
+use Rattle.class_members.specs.Helpers.{helper_name, helper_descriptor}
+use Rattle.program_classes.specs.Tables.{references_of}
+use Rattle.program_classes.proofs.ProgramNames.NamedLemmas.{class-later, members-later, names-later}
+use Rattle.program_classes.specs.Making.{AddsMethods, nothing}
+use Rattle.program_classes.specs.CodeNaming.{code_mentions}
+use Rattle.program_classes.specs.Code.{span_plans, run_plan}
+use Rattle.program_classes.proofs.ClassMaking.MakingLemmas.{adds-more, made-all, adds-fields, adds-name}
+use Rattle.program_classes.proofs.class_of_code.code_class.Goals as goal
+
+pub returns : goal.returns
+returns c =
+    let part = c.args.part.now in
+    let spans = c.args.spans.now in
+    let named = c.in_ok-named.named in
+    let told = c.in_ok-named.ensures in
+    let middle = c.add_spans.new.class in
+    let final = c.add_run.new.class in
+    let first = references_of named.names 0 named.helpers.items in
+    let own = references_of named.names c.args.first_method named.own_methods.items in
+    let other : record c.with_methods-references.result { first_method = c.args.first_method; methods = c.new.result } ≡ own =
+    ap (λ (r : References). record r { first_method = c.args.first_method; methods = c.new.result }) c.with_methods-references.ensures
+    ∙ ap (λ methods. references_of named.names c.args.first_method methods) c.new.ensures in
+    let before = span_plans part spans first (length spans) in
+    let last = run_plan part spans c.args.first_method own ∷ [] in
+    let spans_added : AddsMethods named.class middle before =
+    subst (λ r. AddsMethods named.class middle (span_plans part spans r (length spans))) c.with_methods-references.ensures c.in_ok-pieces.ensures in
+    let run_added : AddsMethods middle final last =
+    subst (λ r. AddsMethods middle final (run_plan part spans c.args.first_method r ∷ [])) other c.in_ok-add_run.ensures in
+    let all = adds-more named.class middle final before last spans_added run_added in
+    let name_is = c.as_str.ensures.value ∙ c.in_ok-name.ensures in
+    record {
+      class = final;
+      spells = c.in_ok-bytes.ensures.spelled;
+      named = subst (λ name. IsClassAt final.pool final.this_class name) name_is (adds-name named.class final (before ++ last) _ all told.named);
+      no_fields = adds-fields named.class final (before ++ last) all ∙ told.no_fields;
+      names = named.names;
+      names_are = names-later named.class.pool final.pool all.pool _ named.names told.names_are;
+      helpers = named.helpers.items;
+      helpers_are =
+          members-later named.class.pool final.pool all.pool MethodRef helper_name helper_descriptor named.names.main named.helpers.items 20 told.helpers_are;
+      own = named.own;
+      own_is = subst (λ name. IsClassAt final.pool named.own name) name_is (class-later named.class.pool final.pool all.pool named.own _ told.own_is);
+      own_methods = named.own_methods.items;
+      own_are =
+          members-later named.class.pool final.pool all.pool MethodRef span_name (λ k. nothing) named.own named.own_methods.items (length spans) told.own_are;
+      mentions =
+          subst (λ name. Mentions final.pool (code_mentions name c.args.main.now (length spans))) name_is
+          (mentions-still named.class.pool final.pool _ told.mentions all.mentions);
+      methods = made-all named.class final (before ++ last) all told.no_methods;
+    }

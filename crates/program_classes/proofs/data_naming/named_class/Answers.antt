@@ -1,0 +1,43 @@
+use Rattle.std.proofs.Common.{[], ◌∷◌, ◌++◌, ◌∙◌, codes}
+use Rattle.constant_pool.specs.declared.entry.Entry.TheVariants.{MethodRef}
+use Rattle.class_builder.specs.Mentioned.{OfClass, method_mention}
+use Rattle.program_classes.specs.Mentioned.{names_mentions}
+use Rattle.program_classes.proofs.ProgramNames.NamedLemmas.{class-later, member-later, names-later}
+use Rattle.program_classes.proofs.ClassMaking.NamingLemmas.{names-slots, names-more, names-still, names-all, named-methods, named-fields, named-name}
+use Rattle.program_classes.specs.DataNaming.{words_descriptor}
+use Rattle.program_classes.proofs.data_naming.named_class.Goals as goal
+
+pub returns : goal.returns
+returns c =
+    let name = c.args.name.now in
+    let main = c.args.main.now in
+    let begun = c.in_ok-class.class in
+    let first = c.class_reference.new.self in
+    let second = c.new-2.new.class in
+    let third = c.method_reference.new.self in
+    let fourth = c.page_slots.new.class in
+    let own = OfClass name ∷ [] in
+    let others = names_mentions main in
+    let words = method_mention name (codes "words") words_descriptor ∷ [] in
+    let own_named = names-slots begun first 2 own c.in_ok-own.ensures.grown c.in_ok-own.ensures.mentions in
+    let others_named = names-slots first second 176 others c.in_ok-names.ensures.grown c.in_ok-names.ensures.mentions in
+    let own_is = class-later first.pool second.pool others_named.pool c.in_ok-own.own name c.in_ok-own.ensures.there in
+    let words_named = names-slots second third 4 words c.in_ok-words.ensures.grown (c.in_ok-words.ensures.mentions name own_is) in
+    let last = c.in_ok-texts.ensures.grown in
+    let from_second = names-still second third fourth words words_named last in
+    let from_first = names-more first second fourth others words others_named from_second in
+    let more = own ++ others ++ words in
+    let all = names-still begun third fourth more
+    (names-more begun second third (own ++ others) words (names-more begun first second own others own_named others_named) words_named) last in
+    record {
+      no_methods = named-methods begun fourth more all ∙ c.in_ok-class.ensures.methods;
+      no_fields = named-fields begun fourth more all ∙ c.in_ok-class.ensures.fields;
+      named = named-name begun fourth more _ all c.in_ok-class.ensures.named;
+      names = record {
+        names_are = names-later second.pool fourth.pool from_second.pool _ c.in_ok-names.names c.in_ok-names.ensures.there;
+        own_is = class-later first.pool fourth.pool from_first.pool c.in_ok-own.own _ c.in_ok-own.ensures.there;
+        words_is = member-later third.pool fourth.pool last.pool MethodRef c.in_ok-words.words c.in_ok-own.own _ _ c.in_ok-words.ensures.there;
+        texts_are = c.in_ok-texts.ensures.there;
+      };
+      mentions = names-all begun fourth _ more c.in_ok-class.ensures.mentions all;
+    }

@@ -1,0 +1,5 @@
+use Rattle.program_classes.specs.Fields.{AddsFields}
+use Rattle.program_classes.proofs.main_fields.add_fields.Given as goal
+
+abbrev pub invariant-loop-field : goal.invariant-loop-field
+invariant-loop-field l = AddsFields l.initial.class l.class l.field

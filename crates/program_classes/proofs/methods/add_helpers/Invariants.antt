@@ -1,0 +1,6 @@
+use Rattle.program_classes.specs.Making.{AddsMethods}
+use Rattle.program_classes.specs.Main.{helper_plans}
+use Rattle.program_classes.proofs.methods.add_helpers.Given as goal
+
+abbrev pub invariant-loop-number : goal.invariant-loop-number
+invariant-loop-number l = AddsMethods l.initial.class l.class (helper_plans l.order l.references l.number)

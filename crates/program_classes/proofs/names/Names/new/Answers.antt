@@ -1,0 +1,49 @@
+use Rattle.constant_pool.specs.declared.entry.Entry.TheVariants.{FieldRef}
+use Rattle.code_assembly.proofs.Pools.{extends-further}
+use Rattle.class_members.specs.Fields.{field_name, field_descriptor}
+use Rattle.program_classes.proofs.ProgramNames.NamedLemmas.{class-later, members-later, host-later, strings-later, grown-further}
+use Rattle.program_classes.specs.Mentioned.{field_mentions, host_mentions, string_mentions}
+use Rattle.program_classes.proofs.ProgramNames.MentionLemmas.{mentions-all}
+use Rattle.program_classes.proofs.names.Names.new.Goals as goal
+
+pub returns-clause-there : goal.returns-clause-there
+returns-clause-there c =
+    let first = c.class_reference.new.self in
+    let second = c.field_references.new.class in
+    let third = c.host_slots.new.class in
+    let fourth = c.string_slots.new.class in
+    let fifth = c.class_reference-2.new.self in
+    let from_fourth = c.in_ok-ints.ensures.grown.pool.kept in
+    let from_third = extends-further third.pool fourth.pool fifth.pool c.in_ok-strings.ensures.grown.pool.kept from_fourth in
+    let from_second = extends-further second.pool third.pool fifth.pool c.in_ok-host.ensures.grown.pool.kept from_third in
+    let from_first = extends-further first.pool second.pool fifth.pool c.in_ok-fields.ensures.grown.pool.kept from_second in
+    record {
+      main_is = class-later first.pool fifth.pool from_first c.in_ok-main.main _ c.in_ok-main.ensures.there;
+      fields_are = members-later second.pool fifth.pool from_second FieldRef field_name field_descriptor c.in_ok-main.main c.in_ok-fields.fields.items 38 c.in_ok-fields.ensures.there;
+      host_is = host-later third.pool fifth.pool from_third c.in_ok-host.host c.in_ok-host.ensures.there;
+      strings_are = strings-later fourth.pool fifth.pool from_fourth c.in_ok-strings.strings c.in_ok-strings.ensures.there;
+      ints_is = c.in_ok-ints.ensures.there;
+    }
+
+pub returns-clause-grown : goal.returns-clause-grown
+returns-clause-grown c =
+    let start = c.args.class.now in
+    let first = c.class_reference.new.self in
+    let second = c.field_references.new.class in
+    let third = c.host_slots.new.class in
+    let fourth = c.string_slots.new.class in
+    let fifth = c.class_reference-2.new.self in
+    grown-further start fourth fifth 174 2
+    (grown-further start third fourth 164 10
+    (grown-further start second third 154 10
+    (grown-further start first second 2 152 c.in_ok-main.ensures.grown c.in_ok-fields.ensures.grown)
+    c.in_ok-host.ensures.grown)
+    c.in_ok-strings.ensures.grown)
+    c.in_ok-ints.ensures.grown
+
+pub returns-clause-mentions : goal.returns-clause-mentions
+returns-clause-mentions c =
+    mentions-all c.args.class.now.pool c.class_reference.new.self.pool c.field_references.new.class.pool c.host_slots.new.class.pool
+    c.string_slots.new.class.pool c.class_reference-2.new.self.pool c.in_ok-main.main _ _ (λ owner. field_mentions owner 38) host_mentions
+    string_mentions _ c.in_ok-main.ensures.mentions c.in_ok-main.ensures.there c.in_ok-fields.ensures.mentions
+    c.in_ok-host.ensures.mentions c.in_ok-strings.ensures.mentions c.in_ok-ints.ensures.mentions

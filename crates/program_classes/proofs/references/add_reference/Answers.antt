@@ -1,0 +1,51 @@
+use Rattle.std.proofs.Common.{◌≡◌, ◌+◌, [], ◌∷◌, ◌++◌, length, ap, sym, ◌∙◌, arith, subst}
+use Rattle.std.proofs.lemmas.List.{length_push, get_or_push}
+use Rattle.class_builder.specs.Named.{IsClassAt, IsMethodAt}
+use Rattle.class_builder.specs.Mentioned.{OfClass, method_mention, mentioned, Mentions}
+use Rattle.class_builder.proofs.Made.{class-later}
+use Rattle.program_classes.specs.Making.{nothing}
+use Rattle.program_classes.proofs.ClassMaking.NamingLemmas.{names-slots, names-more}
+use Rattle.program_classes.specs.Called.{BeginsWith, class_name, method_name, slot_of}
+use Rattle.program_classes.proofs.MainClasses.CalledLemmas.{begins-more}
+use Rattle.program_classes.proofs.references.add_reference.Goals as goal
+
+pub returns : goal.returns
+returns c =
+    let first = c.class_reference.new.self in
+    let second = c.method_reference.new.self in
+    let filled = c.fill_up.new.slots.items in
+    let slot = c.in_ok-slot.slot in
+    let pushed = c.in_ok-push.ensures.items in
+    let count = c.in_ok-fill_up.ensures.count in
+    let name_is = c.as_str.ensures.value ∙ c.in_ok-other.ensures in
+    let grown = c.in_ok-slot.ensures.grown in
+    let start = c.args.class.now in
+    let of = class_name c.args.kind c.args.name.now c.args.i in
+    let called = method_name c.args.kind in
+    let owner_named : Mentions first.pool (mentioned start.pool ++ OfClass of ∷ []) =
+    subst (λ name. Mentions first.pool (mentioned start.pool ++ OfClass name ∷ [])) name_is c.in_ok-owner.ensures.mentions in
+    let method_named : Mentions second.pool (mentioned first.pool ++ method_mention of called nothing ∷ []) =
+    subst (λ name. Mentions second.pool (mentioned first.pool ++ method_mention of name nothing ∷ [])) c.method.ensures
+    (c.in_ok-slot.ensures.mentions of (subst (IsClassAt first.pool c.in_ok-owner.owner) name_is c.in_ok-owner.ensures.there)) in
+    let at : slot_of c.push.new.self.items c.args.number ≡ slot =
+    ap (λ l. slot_of l c.args.number) pushed ∙ get_or_push filled slot 0 c.args.number count in
+    let more : length c.push.new.self.items ≡ c.args.number + 1 = omega (arith, ap length pushed, length_push filled slot, count) in
+    record {
+      there = record {
+        within = omega (arith, more);
+        owner = c.in_ok-owner.owner;
+        owner_is =
+            subst (IsClassAt second.pool c.in_ok-owner.owner) name_is
+            (class-later first.pool second.pool c.in_ok-owner.owner _ grown.pool.kept c.in_ok-owner.ensures.there);
+        method_is =
+            subst (λ s. IsMethodAt second.pool s c.in_ok-owner.owner (method_name c.args.kind) nothing) (sym at)
+            (subst (λ name. IsMethodAt second.pool slot c.in_ok-owner.owner name nothing) c.method.ensures c.in_ok-slot.ensures.there);
+      };
+      kept =
+          subst (BeginsWith c.args.slots.now.items) (sym pushed) (begins-more c.args.slots.now.items filled slot c.in_ok-fill_up.ensures.kept);
+      count = more;
+      grown =
+          names-more start first second (OfClass of ∷ []) (method_mention of called nothing ∷ [])
+          (names-slots start first 2 (OfClass of ∷ []) c.in_ok-owner.ensures.grown owner_named)
+          (names-slots first second 4 (method_mention of called nothing ∷ []) grown method_named);
+    }

@@ -1,0 +1,44 @@
+use Rattle.std.proofs.Common.{◌+◌, ◌<◌, length, drop, refl, ap, sym, ◌∙◌, arith, subst}
+use Rattle.std.proofs.lemmas.List.{take_all}
+use Rattle.program_classes.specs.Making.{NamesMore}
+use Rattle.program_classes.proofs.ClassMaking.NamingLemmas.{names-none}
+use Rattle.program_classes.specs.Content.{RiseFrom, behind}
+use Rattle.program_classes.proofs.MainClasses.RiseLemmas.{rise-next, behind-more}
+use Rattle.program_classes.specs.MainMentioned.{other_mentions}
+use Rattle.program_classes.proofs.MainClasses.OtherLemmas.{names-next}
+use Rattle.program_classes.proofs.MainClasses.CalledLemmas.{begins-itself, begins-further, others-more}
+use Rattle.program_classes.proofs.references.add_references.Goals as goal
+
+pub loop-i-init : goal.loop-i-init
+loop-i-init c =
+    (λ i less. absurd (omega (arith, less)), begins-itself c.args.slots.now.items, refl, c.requires.rise, names-none c.args.class.now)
+
+pub add_reference-requires : goal.add_reference-requires
+add_reference-requires c =
+    (rise-next (length c.loop-i.slots.items) c.args.numbers.now c.loop-i.i 0 (omega arith) c.loop-i.invariant.3).0
+
+pub loop-i-preserved : goal.loop-i-preserved
+loop-i-preserved c =
+    let numbers = c.args.numbers.now in
+    let i = c.loop-i.i in
+    let old = c.loop-i.class in
+    let new = c.add_reference.new.class in
+    let front = c.loop-i.slots.items in
+    let all = c.add_reference.new.slots.items in
+    let told = c.in_ok-add_reference.ensures in
+    let less : i < length numbers = omega arith in (
+      others-more old.pool new.pool told.grown.pool c.args.name.now c.args.kind numbers front all i told.kept c.loop-i.invariant.0 told.there,
+      begins-further c.args.slots.now.items front all c.loop-i.invariant.1 told.kept,
+      told.count ∙ sym (behind-more (length c.args.slots.now.items) numbers i 0 less),
+      subst (λ n. RiseFrom n (drop (i + 1) numbers)) (sym told.count) (rise-next (length front) numbers i 0 less c.loop-i.invariant.3).1,
+      names-next c.args.class.now old new c.args.name.now c.args.kind i c.loop-i.invariant.4 told.grown,
+    )
+
+pub returns-clause-count : goal.returns-clause-count
+returns-clause-count c =
+    c.loop-i.invariant.2 ∙ ap (behind (length c.args.slots.now.items)) (take_all c.loop-i.i c.args.numbers.now (omega arith))
+
+pub returns-clause-grown : goal.returns-clause-grown
+returns-clause-grown c =
+    subst (λ count. NamesMore c.args.class.now c.loop-i.class (other_mentions c.args.name.now c.args.kind count)) (omega arith)
+    c.loop-i.invariant.4

@@ -1,0 +1,62 @@
+use Rattle.std.proofs.Common.{◌≡◌, ◌∷◌, [], ◌++◌, ap, sym, ◌∙◌, subst, codes}
+use Rattle.constant_pool.specs.declared.entry.Entry.TheVariants.{MethodRef}
+use Rattle.class_members.specs.Helpers.{helper_name, helper_descriptor}
+use Rattle.code_assembly.proofs.Pools.{extends-further}
+use Rattle.class_builder.specs.Mentioned.{method_mention}
+use Rattle.class_builder.proofs.Made.{class-later}
+use Rattle.program_classes.specs.Making.{nothing}
+use Rattle.program_classes.proofs.ClassMaking.NamingLemmas.{names-slots, names-more}
+use Rattle.program_classes.specs.Mentioned.{helper_mentions}
+use Rattle.program_classes.proofs.ProgramNames.NamedLemmas.{member-later, members-later}
+use Rattle.program_classes.specs.Called.{AreOwnMethods, pages_descriptor}
+use Rattle.program_classes.proofs.MainClasses.CalledLemmas.{four-pushed, own-made}
+use Rattle.program_classes.proofs.references.own_references.Goals as goal
+
+pub returns-clause-there : goal.returns-clause-there
+returns-clause-there c =
+    let first = c.helper_references.new.class in
+    let second = c.method_reference.new.self in
+    let third = c.method_reference-2.new.self in
+    let fourth = c.method_reference-3.new.self in
+    let from_third = c.in_ok-missing.ensures.grown.pool.kept in
+    let from_second = extends-further second.pool third.pool fourth.pool c.in_ok-pages.ensures.grown.pool.kept from_third in
+    let all = extends-further first.pool second.pool fourth.pool c.in_ok-choose.ensures.grown.pool.kept from_second in
+    let own = c.args.own in
+    let helpers = c.in_ok-slots.slots.items in
+    let choose = c.in_ok-choose.choose in
+    let pages = c.in_ok-pages.pages in
+    let missing = c.in_ok-missing.missing in
+    let pushed : c.push-4.new.self.items ≡ helpers ++ 0 ∷ choose ∷ pages ∷ missing ∷ [] =
+    c.in_ok-push-4.ensures.items
+    ∙ ap (λ l. l ++ missing ∷ []) (c.in_ok-push-3.ensures.items
+    ∙ ap (λ l. l ++ pages ∷ []) (c.in_ok-push-2.ensures.items ∙ ap (λ l. l ++ choose ∷ []) c.in_ok-push.ensures.items))
+    ∙ four-pushed helpers 0 choose pages missing in
+    subst (AreOwnMethods fourth.pool own) (sym pushed)
+    (own-made fourth.pool own helpers 0 choose pages missing
+    (members-later first.pool fourth.pool all MethodRef helper_name helper_descriptor own helpers 20 c.in_ok-slots.ensures.there)
+    (member-later second.pool fourth.pool from_second MethodRef choose own _ _ c.in_ok-choose.ensures.there)
+    (member-later third.pool fourth.pool from_third MethodRef pages own _ _ c.in_ok-pages.ensures.there)
+    c.in_ok-missing.ensures.there)
+
+pub returns-clause-grown : goal.returns-clause-grown
+returns-clause-grown c =
+    λ name of.
+    let own = c.args.own in
+    let start = c.args.class.now in
+    let first = c.helper_references.new.class in
+    let second = c.method_reference.new.self in
+    let third = c.method_reference-2.new.self in
+    let fourth = c.method_reference-3.new.self in
+    let choose = method_mention name (codes "choose") nothing ∷ [] in
+    let pages = method_mention name (codes "pages") pages_descriptor ∷ [] in
+    let missing = method_mention name (codes "missing") nothing ∷ [] in
+    let of_first = class-later start.pool first.pool own name c.in_ok-slots.ensures.grown.pool.kept of in
+    let of_second = class-later first.pool second.pool own name c.in_ok-choose.ensures.grown.pool.kept of_first in
+    let of_third = class-later second.pool third.pool own name c.in_ok-pages.ensures.grown.pool.kept of_second in
+    names-more start first fourth (helper_mentions name 20) (choose ++ (pages ++ missing))
+    (names-slots start first 80 (helper_mentions name 20) c.in_ok-slots.ensures.grown (c.in_ok-slots.ensures.mentions name of))
+    (names-more first second fourth choose (pages ++ missing)
+    (names-slots first second 4 choose c.in_ok-choose.ensures.grown (c.in_ok-choose.ensures.mentions name of_first))
+    (names-more second third fourth pages missing
+    (names-slots second third 4 pages c.in_ok-pages.ensures.grown (c.in_ok-pages.ensures.mentions name of_second))
+    (names-slots third fourth 4 missing c.in_ok-missing.ensures.grown (c.in_ok-missing.ensures.mentions name of_third))))

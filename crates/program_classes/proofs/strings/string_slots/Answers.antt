@@ -1,0 +1,32 @@
+use Rattle.constant_pool.specs.declared.entry.Entry.TheVariants.{MethodRef}
+use Rattle.code_assembly.proofs.Pools.{extends-further}
+use Rattle.program_classes.proofs.ProgramNames.NamedLemmas.{class-later, member-later, grown-further}
+use Rattle.program_classes.proofs.ProgramNames.MentionLemmas.{mentions-two}
+use Rattle.program_classes.proofs.strings.string_slots.Goals as goal
+
+pub returns-clause-there : goal.returns-clause-there
+returns-clause-there c =
+    let first = c.class_reference.new.self in
+    let second = c.method_reference.new.self in
+    let third = c.method_reference-2.new.self in
+    let last = c.in_ok-char_at.ensures.grown.pool.kept in
+    let both = extends-further first.pool second.pool third.pool c.in_ok-length.ensures.grown.pool.kept last in
+    record {
+      class_is = class-later first.pool third.pool both c.in_ok-string.string _ c.in_ok-string.ensures.there;
+      length_is = member-later second.pool third.pool last MethodRef c.in_ok-length.length c.in_ok-string.string _ _ c.in_ok-length.ensures.there;
+      char_at_is = c.in_ok-char_at.ensures.there;
+    }
+
+pub returns-clause-grown : goal.returns-clause-grown
+returns-clause-grown c =
+    let first = c.class_reference.new.self in
+    let second = c.method_reference.new.self in
+    let third = c.method_reference-2.new.self in
+    grown-further c.args.class.now second third 6 4
+    (grown-further c.args.class.now first second 2 4 c.in_ok-string.ensures.grown c.in_ok-length.ensures.grown) c.in_ok-char_at.ensures.grown
+
+pub returns-clause-mentions : goal.returns-clause-mentions
+returns-clause-mentions c =
+    mentions-two c.args.class.now.pool c.class_reference.new.self.pool c.method_reference.new.self.pool c.method_reference-2.new.self.pool
+    c.in_ok-string.string _ _ _ _ c.in_ok-length.ensures.grown.pool.kept c.in_ok-string.ensures.mentions c.in_ok-string.ensures.there
+    c.in_ok-length.ensures.mentions c.in_ok-char_at.ensures.mentions

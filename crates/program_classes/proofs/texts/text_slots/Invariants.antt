@@ -1,0 +1,10 @@
+use Rattle.std.proofs.Common.{[], map}
+use Rattle.std.specs.List.{AllZip, range_with_len}
+use Rattle.class_builder.specs.Named.{IsTextAt}
+use Rattle.program_classes.specs.Making.{AddsMethods}
+use Rattle.program_classes.specs.Content.{share_text}
+use Rattle.program_classes.proofs.texts.text_slots.Given as goal
+
+abbrev pub invariant-loop-k : goal.invariant-loop-k
+invariant-loop-k l =
+    AllZip (IsTextAt l.class.pool) l.slots.items (map (share_text l.runs) (range_with_len 0 l.k)) × AddsMethods l.initial.class l.class []

@@ -1,0 +1,41 @@
+-- What the main class is made of.
+use Rattle.std.specs.Prelude.{ℕ, ◌+◌, ◌≤◌, ◌<◌, ◌^◌, List, [], ◌∷◌, ◌++◌, map, length, All, ⊤}
+use Rattle.std.specs.List.{range_with_len}
+use Rattle.equal_shares.specs.Shares.{share_at, share_count, shared}
+use Rattle.page_runs.specs.declared.page_run.PageRun.{PageRun}
+use Rattle.page_runs.specs.Runs.{IsRun, text_of}
+use Rattle.class_members.specs.Numbers.{main_methods}
+use Rattle.program_classes.specs.declared.content.MainClass.{MainClass}
+
+-- numbers that rise, from one on
+abbrev pub RiseFrom : ℕ → List ℕ → Type 0
+RiseFrom low [] = ⊤
+RiseFrom low (n ∷ numbers) = (low ≤ n) × RiseFrom (n + 1) numbers
+
+-- the number behind the last of them
+abbrev pub behind : ℕ → List ℕ → ℕ
+behind low [] = low
+behind low (n ∷ numbers) = behind (n + 1) numbers
+
+-- The code begins somewhere and in few places, there are few classes, their methods that are called have rising numbers behind those of the
+-- main class, and the runs of pages are runs.
+pub record IsMain (main : MainClass) : Type 0 where
+  pub some : 1 ≤ length main.starts.now
+  pub few : length main.starts.now ≤ 2048
+  pub few_code : length main.code.now < 2 ^ 16
+  pub few_data : length main.data.now < 2 ^ 16
+  pub runs : All IsRun main.runs.now
+  pub rise : RiseFrom main_methods (main.code.now ++ main.data.now)
+
+-- ---- the texts of pages
+
+-- how many runs of pages one text holds
+abbrev pub text_runs : ℕ
+text_runs = 8000
+
+-- the text of a number
+abbrev pub share_text : List PageRun → ℕ → List ℕ
+share_text runs k = text_of (shared runs (share_at text_runs (length runs) k))
+
+abbrev pub share_texts : List PageRun → List (List ℕ)
+share_texts runs = map (share_text runs) (range_with_len 0 (share_count text_runs (length runs)))

@@ -1,0 +1,16 @@
+pub mod Making
+pub mod Named
+pub mod Mentioned
+pub mod Tables
+pub mod Parts
+pub mod CodeNaming
+pub mod Code
+pub mod Pages
+pub mod DataNaming
+pub mod Data
+pub mod Content
+pub mod Fields
+pub mod Called
+pub mod MainMentioned
+pub mod MainNaming
+pub mod Main

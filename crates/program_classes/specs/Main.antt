@@ -1,0 +1,89 @@
+-- The main class: the helper methods, and behind them the methods that begin the program, choose a class of code, make pages, and end the
+-- run outside all code.
+use Rattle.std.specs.Prelude.{ℕ, List, [], ◌∷◌, ◌++◌, map, codes}
+use Rattle.std.specs.List.{range_with_len, AllZip}
+use Rattle.nv_words.specs.declared.order.Order.{Order}
+use Rattle.jvm_code.specs.declared.class.Class.{Class}
+use Rattle.class_file.specs.ClassFile.{Spells}
+use Rattle.code_assembly.specs.declared.references.References.{References}
+use Rattle.mem_helpers.specs.Methods.{helper_code}
+use Rattle.trampoline.specs.Choosers.{main_chooser, missing_code}
+use Rattle.loading_code.specs.Pages.{pages_code}
+use Rattle.loading_code.specs.Starting.{run_code}
+use Rattle.class_builder.specs.Named.{IsClassAt}
+use Rattle.class_builder.specs.Mentioned.{Mentions}
+use Rattle.class_members.specs.Helpers.{helper_name, helper_descriptor}
+use Rattle.class_members.specs.Numbers.{choose_number, pages_number, missing_number}
+use Rattle.program_classes.specs.Making.{Plan, IsMade, nothing}
+use Rattle.program_classes.specs.declared.names.Names.{Names}
+use Rattle.program_classes.specs.Tables.{references_of}
+use Rattle.program_classes.specs.declared.content.MainClass.{MainClass}
+use Rattle.program_classes.specs.Fields.{AreFields}
+use Rattle.program_classes.specs.Called.{pages_descriptor}
+use Rattle.program_classes.specs.MainMentioned.{main_mentions}
+use Rattle.program_classes.specs.MainNaming.{AreMainNames}
+
+-- ---- the helper methods
+
+abbrev pub helper_plan : Order → References → ℕ → Plan
+helper_plan order references number = record {
+  name = helper_name number;
+  descriptor = helper_descriptor number;
+  locals = 4;
+  references = references;
+  code = helper_code order number;
+}
+
+abbrev pub helper_plans : Order → References → ℕ → List Plan
+helper_plans order references count = map (helper_plan order references) (range_with_len 0 count)
+
+-- ---- the other methods
+
+-- the texts of pages are those of the main class, which is the first of the program
+abbrev pub run_plan : MainClass → List ℕ → References → Plan
+run_plan main texts references = record {
+  name = codes "run";
+  descriptor = nothing;
+  locals = 0;
+  references = references;
+  code = run_code main.beginning texts 0 pages_number main.data.now choose_number;
+}
+
+abbrev pub choose_plan : MainClass → References → Plan
+choose_plan main references = record {
+  name = codes "choose";
+  descriptor = nothing;
+  locals = 1;
+  references = references;
+  code = main_chooser main.starts.now missing_number;
+}
+
+abbrev pub pages_plan : References → Plan
+pages_plan references =
+    record { name = codes "pages"; descriptor = pages_descriptor; locals = 5; references = references; code = pages_code }
+
+abbrev pub missing_plan : References → Plan
+missing_plan references =
+    record { name = codes "missing"; descriptor = nothing; locals = 1; references = references; code = missing_code }
+
+abbrev pub other_plans : MainClass → List ℕ → References → List Plan
+other_plans main texts references =
+    run_plan main texts references ∷ choose_plan main references ∷ pages_plan references ∷ missing_plan references ∷ []
+
+abbrev pub main_plans : MainClass → List ℕ → References → List Plan
+main_plans main texts references = helper_plans main.beginning.order references 20 ++ other_plans main texts references
+
+-- ---- the class
+
+-- The main class of a name: its fields, what it names, and its methods.
+pub record IsMainClass (name : List ℕ) (main : MainClass) (bytes : List ℕ) : Type 0 where
+  pub class : Class
+  pub spells : Spells bytes class
+  pub named : IsClassAt class.pool class.this_class name
+  pub fields_are : AreFields class.pool class.fields 38
+  pub names : Names
+  pub slots : List ℕ
+  pub texts : List ℕ
+  pub names_are : AreMainNames class.pool name main names slots texts
+  pub mentions : Mentions class.pool (main_mentions name main)
+  pub methods : AllZip (IsMade class.pool) class.methods (main_plans main texts (references_of names 0 slots))

@@ -1,0 +1,45 @@
+-- What the classes of a program name in their pools.
+use Rattle.std.specs.Prelude.{◌≡◌, ℕ, ◌<◌, List, codes, length, slice_index_or}
+use Rattle.constant_pool.specs.declared.entry.Entry.{Entry}
+use Rattle.constant_pool.specs.declared.entry.Entry.TheVariants.{FieldRef, MethodRef}
+use Rattle.name_resolution.specs.Names.{Signature, string_name, host_name, length_signature, char_at_signature, host_call_signature, host_fault_signature}
+use Rattle.class_builder.specs.Named.{IsClassAt, IsMemberAt, IsMethodAt}
+use Rattle.class_members.specs.Fields.{field_name, field_descriptor}
+use Rattle.class_members.specs.Helpers.{helper_name, helper_descriptor}
+use Rattle.program_classes.specs.declared.host.HostSlots.{HostSlots}
+use Rattle.program_classes.specs.declared.strings.StringSlots.{StringSlots}
+use Rattle.program_classes.specs.declared.names.Names.{Names}
+
+-- slots of the first members of the class in a slot, by their names and descriptors
+pub record AreMembers (kind : ℕ → ℕ → Entry) (name descriptor : ℕ → List ℕ) (pool : List Entry) (class : ℕ) (slots : List ℕ) (count : ℕ) : Type 0 where
+  pub count_is : length slots ≡ count
+  pub each : (k : ℕ) → k < count → IsMemberAt kind pool (slice_index_or slots k 0) class (name k) (descriptor k)
+
+-- slots of the first fields of the main class, which is in a slot
+abbrev pub AreFields : List Entry → ℕ → List ℕ → ℕ → Type 0
+AreFields pool main slots count = AreMembers FieldRef field_name field_descriptor pool main slots count
+
+-- slots of its first helper methods
+abbrev pub AreHelpers : List Entry → ℕ → List ℕ → ℕ → Type 0
+AreHelpers pool main slots count = AreMembers MethodRef helper_name helper_descriptor pool main slots count
+
+-- a method of a class in a slot, by name and descriptor
+abbrev pub IsCalled : List Entry → ℕ → ℕ → Signature → Type 0
+IsCalled pool slot class s = IsMethodAt pool slot class s.name s.descriptor
+
+pub record IsHost (pool : List Entry) (host : HostSlots) : Type 0 where
+  pub class_is : IsClassAt pool host.class host_name
+  pub call_is : IsCalled pool host.call host.class host_call_signature
+  pub fault_is : IsCalled pool host.fault host.class host_fault_signature
+
+pub record AreStrings (pool : List Entry) (strings : StringSlots) : Type 0 where
+  pub class_is : IsClassAt pool strings.class string_name
+  pub length_is : IsCalled pool strings.length strings.class length_signature
+  pub char_at_is : IsCalled pool strings.char_at strings.class char_at_signature
+
+pub record AreNames (pool : List Entry) (main : List ℕ) (names : Names) : Type 0 where
+  pub main_is : IsClassAt pool names.main main
+  pub fields_are : AreFields pool names.main names.fields.items 38
+  pub host_is : IsHost pool names.host
+  pub strings_are : AreStrings pool names.strings
+  pub ints_is : IsClassAt pool names.ints (codes "[I")

@@ -1,0 +1,17 @@
+-- Names as tables for code.
+use Rattle.std.specs.Prelude.{ℕ, List}
+use Rattle.code_assembly.specs.declared.references.References.{References}
+use Rattle.program_classes.specs.declared.names.Names.{Names}
+
+-- the table of these with the slots of methods, whose numbers in the program follow each other from a first one on
+abbrev pub references_of : Names → ℕ → List ℕ → References
+references_of names first methods = record {
+  fields = names.fields.items;
+  first_method = first;
+  methods = methods;
+  host_call = names.host.call;
+  host_fault = names.host.fault;
+  string_length = names.strings.length;
+  string_char_at = names.strings.char_at;
+  ints_class = names.ints;
+}

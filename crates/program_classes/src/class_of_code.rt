@@ -1,0 +1,54 @@
+//! Classes of code.
+ghost use Rattle.std.specs.Prelude.{◌≡◌, ◌+◌, ◌≤◌, ◌<◌, ◌^◌, All, IfOk, OnOk, length};
+ghost use Rattle.program_classes.specs.Parts.{IsPart, IsSpan};
+ghost use Rattle.program_classes.specs.Code.{IsCodeClass};
+
+use crate::ClassError;
+use crate::code_naming::named_class;
+use crate::part::Part;
+use crate::piece::Piece;
+use crate::running::add_run;
+use crate::spans::add_spans;
+use class_format::Sequence;
+use class_members::code_class_name;
+use method_splitter::Span;
+use std::alloc::Global;
+
+/// A class of code as a class file, with where its pieces stand.
+#[derive(Drop)]
+pub struct CodeClass {
+    pub bytes: Vec<u8>,
+    pub pieces: Vec<Piece>,
+}
+
+/// The class of code of a number, with the main class `main`: a method for each span, whose number in the program is that of the first one
+/// and the span's, and behind them `run()V`, which calls these methods as long as the guest stands in the class's words.
+///
+/// # Errors
+/// TooLarge where the class has more than a class file can hold, and NoMemory.
+pub fn code_class(
+    alloc: Global,
+    main: &str,
+    number: u32,
+    part: &Part,
+    spans: &[Span],
+    first_method: u32,
+) -> Result<CodeClass, ClassError>
+    requires part { IsPart part.now }
+    requires spans { All (IsSpan part.now.words) spans.now }
+    requires some { 1 ≤ length spans.now }
+    requires few { length spans.now ≤ 2048 }
+    requires methods { first_method + length spans.now < 2 ^ 32 }
+    ensures { IfOk result (λ made. IsCodeClass main.now number part.now spans.now first_method made.bytes.items) }
+{
+    let name = code_class_name(alloc, main, number)?;
+    let named = named_class(alloc, name.as_str(), main, spans.len() as u32)?;
+    let mut class = named.class;
+    let mut references = named.names.with_methods(0, named.helpers);
+    let pieces = add_spans(alloc, &mut class, part, spans, &references)?;
+    references.first_method = first_method;
+    references.methods = Sequence::new(named.own_methods);
+    add_run(alloc, &mut class, part, spans, &references)?;
+    let bytes = class.finish(alloc)?;
+    Ok(CodeClass { bytes, pieces })
+}

@@ -1,0 +1,45 @@
+//! A class of data.
+ghost use Rattle.std.specs.Prelude.{IfOk, map};
+ghost use Rattle.program_classes.specs.Pages.{page_of};
+ghost use Rattle.program_classes.specs.Data.{IsDataClass};
+
+use crate::ClassError;
+use crate::data_naming::named_class;
+use crate::filling::{add_fill, add_words};
+use crate::page_data::PageData;
+use class_members::data_class_name;
+use std::alloc::Global;
+
+/// The class of data of this number as a class file: the text of each of its pages, `words([ILjava/lang/String;)V`, which puts a text's
+/// words into a page, and `fill()V`, which does so for each page. `class` is the number of the class in the program and `first_method` that
+/// of `words`, the first of its two methods.
+///
+/// # Errors
+/// TooLarge where the class has more than a class file can hold, and NoMemory.
+pub fn data_class(
+    alloc: Global,
+    main: &str,
+    number: u32,
+    class: u16,
+    first_method: u32,
+    pages: &[PageData],
+) -> Result<Vec<u8>, ClassError>
+    ensures { IfOk result (λ bytes. IsDataClass main.now number class first_method (map page_of pages.now) bytes.items) }
+{
+    let name = data_class_name(alloc, main, number)?;
+    let named = named_class(alloc, name.as_str(), main, pages)?;
+    let mut made = named.class;
+    let mut methods = Vec::new(alloc);
+    methods.push(named.words)?;
+    let references = named.names.with_methods(first_method, methods);
+    add_words(alloc, &mut made, &references)?;
+    add_fill(
+        alloc,
+        &mut made,
+        named.texts.as_slice(),
+        class,
+        first_method,
+        &references,
+    )?;
+    Ok(made.finish(alloc)?)
+}

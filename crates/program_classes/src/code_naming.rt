@@ -1,0 +1,82 @@
+//! What a class of code names.
+ghost use Rattle.std.specs.Prelude.{◌*◌, [], ◌∷◌, IfOk, OnOk};
+ghost use Rattle.class_builder.specs.Built.{GrowsPool};
+ghost use Rattle.class_builder.specs.Mentioned.{MentionsOf, method_mention};
+ghost use Rattle.class_builder.specs.Named.{IsMethodAt};
+ghost use Rattle.class_members.specs.ClassNames.{span_name};
+ghost use Rattle.program_classes.specs.Making.{nothing};
+ghost use Rattle.program_classes.specs.CodeNaming.{AreSpanMethods, IsNamedClass, span_mentions};
+
+use crate::{ClassError, Names, helper_references};
+use class_builder::{BuildError, ClassBuilder};
+use class_members::span_name;
+use std::alloc::Global;
+
+/// A class of code without methods, with the slots of all that its methods name.
+#[derive(Drop)]
+pub struct NamedClass {
+    pub class: ClassBuilder,
+    pub names: Names,
+    /// The helper methods, by their numbers.
+    pub helpers: Vec<u16>,
+    /// The class itself.
+    pub own: u16,
+    /// Its methods of spans, by their numbers.
+    pub own_methods: Vec<u16>,
+}
+
+/// The class of this name, with so many spans, of the program whose main class is called `main`.
+pub fn named_class(
+    alloc: Global,
+    name: &str,
+    main: &str,
+    spans: u32,
+) -> Result<NamedClass, ClassError>
+    ensures { IfOk result (IsNamedClass name.now main.now spans) }
+{
+    let mut class = ClassBuilder::new(alloc, name)?;
+    let names = Names::new(alloc, &mut class, main)?;
+    let helpers = helper_references(alloc, &mut class, names.main)?;
+    let own = class.class_reference(alloc, name)?;
+    let own_methods = span_references(alloc, &mut class, own, spans)?;
+    Ok(NamedClass {
+        class,
+        names,
+        helpers,
+        own,
+        own_methods,
+    })
+}
+
+// The slots of the methods of so many spans of the class in a slot.
+fn span_references(
+    alloc: Global,
+    class: &mut ClassBuilder,
+    own: u16,
+    spans: u32,
+) -> Result<Vec<u16>, BuildError>
+    ensures there { IfOk result (λ slots. AreSpanMethods class.new.pool own slots.items spans) }
+    ensures grown { OnOk result (GrowsPool class.old class.new (4 * spans)) }
+    ensures mentions { OnOk result (MentionsOf class.old.pool class.new.pool own (λ owner. span_mentions owner spans)) }
+{
+    let mut slots = Vec::new(alloc);
+    for k in 0..spans {
+        slots.push(span_reference(alloc, class, own, k)?)?;
+    }
+    Ok(slots)
+}
+
+fn span_reference(
+    alloc: Global,
+    class: &mut ClassBuilder,
+    own: u16,
+    k: u32,
+) -> Result<u16, BuildError>
+    ensures there { IfOk result (λ slot. IsMethodAt class.new.pool slot own (span_name k) nothing) }
+    ensures grown { OnOk result (GrowsPool class.old class.new 4) }
+    ensures mentions { OnOk result (MentionsOf class.old.pool class.new.pool own
+        (λ owner. method_mention owner (span_name k) nothing ∷ [])) }
+{
+    let name = span_name(alloc, k)?;
+    class.method_reference(alloc, own, name.as_str(), "()V")
+}

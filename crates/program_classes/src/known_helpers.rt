@@ -1,0 +1,47 @@
+//! The helper methods of the main class.
+ghost use Rattle.std.specs.Prelude.{[], ◌∷◌, OnOk, IfOk};
+ghost use Rattle.class_builder.specs.Built.{GrowsPool};
+ghost use Rattle.class_builder.specs.Mentioned.{MentionsOf, method_mention};
+ghost use Rattle.class_builder.specs.Named.{IsMethodAt};
+ghost use Rattle.class_members.specs.Helpers.{helper_descriptor, helper_name};
+ghost use Rattle.program_classes.specs.Mentioned.{helper_mentions};
+ghost use Rattle.program_classes.specs.Named.{AreHelpers};
+
+use class_builder::{BuildError, ClassBuilder};
+use class_members::{HELPERS, helper_descriptor, helper_name};
+use std::alloc::Global;
+
+/// The slots of the helper methods of the main class, by their numbers; `main` is the slot of that class.
+///
+/// # Errors
+/// Those of [`ClassBuilder::method_reference`].
+pub fn helper_references(
+    alloc: Global,
+    class: &mut ClassBuilder,
+    main: u16,
+) -> Result<Vec<u16>, BuildError>
+    ensures there { IfOk result (λ slots. AreHelpers class.new.pool main slots.items 20) }
+    ensures grown { OnOk result (GrowsPool class.old class.new 80) }
+    ensures mentions { OnOk result (MentionsOf class.old.pool class.new.pool main (λ owner. helper_mentions owner 20)) }
+{
+    let mut slots = Vec::new(alloc);
+    for number in 0..HELPERS {
+        slots.push(helper_reference(alloc, class, main, number)?)?;
+    }
+    Ok(slots)
+}
+
+// The slot of one helper method.
+fn helper_reference(
+    alloc: Global,
+    class: &mut ClassBuilder,
+    main: u16,
+    number: u32,
+) -> Result<u16, BuildError>
+    ensures there { IfOk result (λ slot. IsMethodAt class.new.pool slot main (helper_name number) (helper_descriptor number)) }
+    ensures grown { OnOk result (GrowsPool class.old class.new 4) }
+    ensures mentions { OnOk result (MentionsOf class.old.pool class.new.pool main
+        (λ owner. method_mention owner (helper_name number) (helper_descriptor number) ∷ [])) }
+{
+    class.method_reference(alloc, main, helper_name(number), helper_descriptor(number))
+}

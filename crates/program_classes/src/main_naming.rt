@@ -1,0 +1,41 @@
+//! What the main class names.
+ghost use Rattle.std.specs.Prelude.{IfOk};
+ghost use Rattle.program_classes.specs.Content.{IsMain};
+ghost use Rattle.program_classes.specs.MainNaming.{IsNamedClass};
+
+use crate::content::MainClass;
+use crate::main_fields::add_fields;
+use crate::references::method_references;
+use crate::texts::text_slots;
+use crate::{ClassError, Names};
+use class_builder::ClassBuilder;
+use std::alloc::Global;
+
+/// The main class without methods, with the slots of all that its methods name.
+#[derive(Drop)]
+pub struct NamedClass {
+    pub class: ClassBuilder,
+    pub names: Names,
+    /// The methods that are called, by their numbers in the program.
+    pub methods: Vec<u16>,
+    /// The texts of pages.
+    pub texts: Vec<u16>,
+}
+
+/// The main class of this name, with its fields.
+pub fn named_class(alloc: Global, name: &str, main: &MainClass) -> Result<NamedClass, ClassError>
+    requires { IsMain main.now }
+    ensures { IfOk result (IsNamedClass name.now main.now) }
+{
+    let mut class = ClassBuilder::new(alloc, name)?;
+    add_fields(alloc, &mut class)?;
+    let names = Names::new(alloc, &mut class, name)?;
+    let methods = method_references(alloc, &mut class, name, names.main, main)?;
+    let texts = text_slots(alloc, &mut class, main.runs)?;
+    Ok(NamedClass {
+        class,
+        names,
+        methods,
+        texts,
+    })
+}

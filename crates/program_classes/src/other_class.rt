@@ -1,0 +1,36 @@
+//! The classes beside the main class, of which it calls one method each.
+ghost use Rattle.std.specs.Prelude.{◌≡◌, IfOk, string_bytes};
+ghost use Rattle.program_classes.specs.Called as called;
+
+use crate::ClassError;
+use class_members::{code_class_name, data_class_name};
+use std::alloc::Global;
+
+/// Whether a class has code or data.
+#[derive(Clone, Copy)]
+pub enum OtherClass {
+    Code,
+    Data,
+}
+
+impl OtherClass {
+    /// The name of the class of this kind and number, of the program whose main class is called `main`.
+    pub fn name(self, alloc: Global, main: &str, i: u32) -> Result<String, ClassError>
+        ensures { IfOk result (λ text. string_bytes text ≡ called.class_name self main.now i) }
+    {
+        match self {
+            OtherClass::Code => Ok(code_class_name(alloc, main, i)?),
+            OtherClass::Data => Ok(data_class_name(alloc, main, i)?),
+        }
+    }
+
+    /// The name of the method that is called, which has no arguments.
+    pub fn method(self) -> &'static str
+        ensures { result.now ≡ called.method_name self }
+    {
+        match self {
+            OtherClass::Code => "run",
+            OtherClass::Data => "fill",
+        }
+    }
+}

@@ -1,0 +1,74 @@
+-- The classes of code so far, and one more.
+use Rattle.std.proofs.Common.{◌≡◌, ℕ, ◌+◌, List, [], ◌∷◌, ◌++◌, length, Option, refl, ap, sym, ◌∙◌, arith, subst}
+use Rattle.std.specs.List.{AllZip}
+use Rattle.std.proofs.lemmas.List.{map_push, flat_map_more}
+use Rattle.std.proofs.lemmas.Slice.Zip.{all_zipped_more, AllZip-long}
+use Rattle.command_words.specs.Word.{Text}
+use Rattle.class_members.specs.Numbers.{main_methods}
+use Rattle.program_classes.specs.declared.part.Part.{Part}
+use Rattle.program_translation.specs.declared.code_files.Code.{Code}
+use Rattle.program_translation.specs.Places.{Place, IsPartAt}
+use Rattle.program_translation.specs.Classes.{Placed, Follow, run_of, methods_behind, IsPlaced, ArePlaced, IsCodeFile, starts_of_class, spans_of_class}
+use Rattle.program_translation.specs.Adding.{IsTold, AddsClass, HasPlaces}
+
+follow-push : (number first : ℕ) (classes : List Placed) (c : Placed) → Follow number first classes → c.number ≡ number + length classes
+    → c.first_method ≡ methods_behind first classes → Follow number first (classes ++ c ∷ [])
+follow-push number first [] c follow n m = (omega (arith, n), m, tt)
+follow-push number first (x ∷ classes) c follow n m =
+    let e : c.number ≡ (number + 1) + length classes = omega (arith, n) in
+    (follow.0, follow.1, follow-push (number + 1) (run_of x + 1) classes c follow.2 e m)
+
+behind-push : (first : ℕ) (classes : List Placed) (c : Placed) → methods_behind first (classes ++ c ∷ []) ≡ run_of c + 1
+behind-push first [] c = refl
+behind-push first (x ∷ classes) c = behind-push (run_of x + 1) classes c
+
+pub no-places : (code : ℕ → Option ℕ) (name : Text) (method_bytes : ℕ) (c : Code) → c.files.items ≡ [] → c.starts.items ≡ [] → c.runs.items ≡ []
+    → c.spans.items ≡ [] → c.methods ≡ main_methods → HasPlaces code name method_bytes [] c
+no-places code name method_bytes c files starts runs spans methods = record {
+  classes = [];
+  placed = record { follow = tt; each = tt };
+  told = record {
+    files_are = subst (AllZip (IsCodeFile name) []) (sym files) tt;
+    starts_are = starts;
+    runs_are = runs;
+    spans_are = spans;
+    methods_are = methods;
+  };
+}
+
+module _ (name : Text) (method_bytes : ℕ) (part : Part) (old new : Code) (adds : AddsClass name method_bytes part old new)
+    (classes : List Placed) where
+  told-more : IsTold name classes old → IsTold name (classes ++ adds.class ∷ []) new
+  told-more told = record {
+    files_are =
+        subst (AllZip (IsCodeFile name) (classes ++ adds.class ∷ [])) (sym adds.files_are)
+        (all_zipped_more (IsCodeFile name) classes old.files.items adds.class adds.file told.files_are adds.file_is);
+    starts_are =
+        adds.starts_are ∙ ap (λ l. l ++ starts_of_class adds.class) told.starts_are ∙ flat_map_more starts_of_class [] classes adds.class;
+    runs_are = adds.runs_are ∙ ap (λ l. l ++ run_of adds.class ∷ []) told.runs_are ∙ sym (map_push run_of classes adds.class);
+    spans_are =
+        adds.spans_are ∙ ap (λ l. l ++ spans_of_class adds.class) told.spans_are ∙ flat_map_more spans_of_class [] classes adds.class;
+    methods_are = adds.methods_are ∙ sym (behind-push main_methods classes adds.class);
+  }
+
+  placed-more : (code : ℕ → Option ℕ) (places : List Place) (place : Place) → IsTold name classes old → IsPartAt code place part
+      → ArePlaced code method_bytes places classes → ArePlaced code method_bytes (places ++ place ∷ []) (classes ++ adds.class ∷ [])
+  placed-more code places place told is placed =
+      let number : adds.class.number ≡ 0 + length classes =
+      omega (arith, adds.class_is.number_is, AllZip-long (IsCodeFile name) classes old.files.items told.files_are) in
+      let method = adds.class_is.first_is ∙ told.methods_are in
+      let own : IsPlaced code method_bytes place adds.class =
+      record { part_is = subst (IsPartAt code place) (sym adds.class_is.part_is) is; spans_are = adds.class_is.spans_are } in
+      record {
+        follow = follow-push 0 main_methods classes adds.class placed.follow number method;
+        each = all_zipped_more (IsPlaced code method_bytes) places classes place adds.class placed.each own;
+      }
+
+pub class-more : (code : ℕ → Option ℕ) (name : Text) (method_bytes : ℕ) (part : Part) (old new : Code) (places : List Place) (place : Place)
+    → AddsClass name method_bytes part old new → IsPartAt code place part → HasPlaces code name method_bytes places old
+    → HasPlaces code name method_bytes (places ++ place ∷ []) new
+class-more code name method_bytes part old new places place adds is has = record {
+  classes = has.classes ++ adds.class ∷ [];
+  placed = placed-more name method_bytes part old new adds has.classes code places place has.told is has.placed;
+  told = told-more name method_bytes part old new adds has.classes has.told;
+}

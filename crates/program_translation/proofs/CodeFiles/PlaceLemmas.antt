@@ -1,0 +1,45 @@
+-- The places of words, one more, and the parts at them.
+use Rattle.std.proofs.Common.{◌≡◌, ℕ, ◌+◌, ◌<◌, List, [], ◌∷◌, ◌++◌, length, take, get_or, Option, ap, sym, ◌∙◌, arith, subst, append_assoc}
+use Rattle.std.proofs.lemmas.List.{append-nil, take_more}
+use Rattle.std.proofs.lemmas.List.Concat.{flat_map-append}
+use Rattle.std.proofs.lemmas.List.FromFn.{map-range_with_len_more}
+use Rattle.elf_reader.specs.declared.range.Range.{Range}
+use Rattle.elf_image.specs.Whole.{IsWholeRange}
+use Rattle.code_ranges.specs.declared.code.RangeCode.{RangeCode}
+use Rattle.code_ranges.specs.Ranges.{IsRangeCode}
+use Rattle.program_classes.specs.declared.part.Part.{Part}
+use Rattle.program_translation.specs.Places.{Place, place_at, first_places, places_in, places_of, IsPartAt}
+use Rattle.program_translation.specs.Parts.{IsLow, IsPartOf}
+
+pub place-more : (before : List Place) (range : Range) (k : ℕ)
+    → before ++ first_places range (k + 1) ≡ (before ++ first_places range k) ++ place_at range k ∷ []
+place-more before range k =
+    ap (λ l. before ++ l) (map-range_with_len_more (place_at range) 0 k k (omega arith))
+    ∙ sym (append_assoc before (first_places range k) (place_at range k ∷ []))
+
+pub range-more : (ranges : List Range) (k : ℕ) (d : Range) → k < length ranges
+    → places_of (take (k + 1) ranges) ≡ places_of (take k ranges) ++ places_in (get_or ranges k d)
+range-more ranges k d less =
+    ap places_of (take_more ranges k d less)
+    ∙ flat_map-append places_in (take k ranges) (get_or ranges k d ∷ [])
+    ∙ ap (λ l. places_of (take k ranges) ++ l) (append-nil (places_in (get_or ranges k d)))
+
+-- the part at a place is that of the class of a number
+pub part-at : (code : ℕ → Option ℕ) (range : Range) (c : RangeCode) (k : ℕ) (part : Part) → IsRangeCode code range c.units.items c.leads.items
+    → c.start ≡ range.first → IsPartOf c range.words k part → IsPartAt code (place_at range k) part
+part-at code range c k part coded start is = record {
+  range_is =
+      subst (λ units. IsRangeCode code range units part.leads.now) (sym is.units_are)
+      (subst (λ leads. IsRangeCode code range c.units.items leads) (sym is.leads_are) coded);
+  start_is = is.start_is ∙ start;
+  first_is = is.first_is;
+  words_are = is.words_are;
+}
+
+pub range-low : (code : ℕ → Option ℕ) (range : Range) (c : RangeCode) → IsWholeRange code range → IsRangeCode code range c.units.items c.leads.items
+    → c.start ≡ range.first → length c.units.items ≡ range.words → IsLow c range.words
+range-low code range c whole coded start count = record {
+  units = count;
+  leads = coded.leads_are.same_len ∙ count;
+  low = omega (arith, whole.low, start);
+}

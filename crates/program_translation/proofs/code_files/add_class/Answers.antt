@@ -1,0 +1,26 @@
+use Rattle.std.proofs.Common.{◌≡◌, ◌+◌, ◌++◌, ◌∷◌, [], length, ap, sym, ◌∙◌, arith}
+use Rattle.program_translation.specs.Classes.{run_of, starts_at}
+use Rattle.program_translation.proofs.code_files.add_class.Goals as goal
+
+pub returns : goal.returns
+returns c =
+    let old = c.args.code.now in
+    let made = c.in_ok-file.ensures.value in
+    let class = made.class in
+    let is = made.class_is in
+    let added = c.in_ok-add_file.ensures in
+    let count : c.len.result ≡ length old.files.items = omega (arith, c.len.ensures) in
+    record {
+      class = class;
+      class_is = record { number_is = is.number_is ∙ count; first_is = is.first_is; part_is = is.part_is; spans_are = is.spans_are };
+      file = c.in_ok-file.file.file;
+      file_is = made.file_is;
+      files_are = added.files;
+      starts_are =
+          added.starts
+          ∙ ap (λ run. old.starts.items ++ starts_at c.args.part.now run) made.run_is
+          ∙ ap (λ part. old.starts.items ++ starts_at part (run_of class)) (sym is.part_is);
+      runs_are = added.runs ∙ ap (λ run. old.runs.items ++ run ∷ []) made.run_is;
+      spans_are = added.spans ∙ ap (λ l. old.spans.items ++ l) made.spans_are;
+      methods_are = added.methods ∙ ap (λ run. run + 1) made.run_is;
+    }

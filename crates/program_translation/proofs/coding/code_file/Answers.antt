@@ -1,0 +1,29 @@
+use Rattle.std.proofs.Common.{◌+◌, length, refl, ap, ◌∙◌, subst}
+use Rattle.class_members.specs.ClassNames.{file_name}
+use Rattle.program_classes.specs.Code.{IsCodeClass}
+use Rattle.program_translation.specs.Classes.{Placed, span_infos}
+use Rattle.program_translation.proofs.coding.code_file.Goals as goal
+
+pub returns-clause-value : goal.returns-clause-value
+returns-clause-value c =
+    let name = c.args.name.now in
+    let part = c.args.part.now in
+    let first = c.args.first_method in
+    let spans = c.in_ok-spans.spans.items in
+    let number = c.from-number.result in
+    let class : Placed = record { number = number; part = part; spans = spans; first_method = first } in
+    record {
+      class = class;
+      class_is = record {
+        number_is = c.from-number.ensures ∙ c.in_ok-index.ensures.value;
+        first_is = refl;
+        part_is = refl;
+        spans_are = c.in_ok-spans.ensures.value;
+      };
+      file_is = record {
+        named = c.in_ok-file_name.ensures ∙ ap file_name (c.as_str.ensures.value ∙ c.in_ok-class_name.ensures);
+        class = subst (λ s. IsCodeClass name number part s first c.in_ok-made.made.bytes.items) c.as_slice-2.ensures.value c.in_ok-made.ensures;
+      };
+      spans_are = c.in_ok-infos.ensures ∙ ap (λ s. span_infos number part s (length s)) c.as_slice-4.ensures.value;
+      run_is = c.in_ok-run.ensures.value ∙ ap (λ s. first + length s) c.as_slice.ensures.value;
+    }

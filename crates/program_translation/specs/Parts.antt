@@ -1,0 +1,20 @@
+-- A range of code, from which the words of a class are taken.
+use Rattle.std.specs.Prelude.{◌≡◌, ◌+◌, ◌*◌, ◌^◌, ◌<◌, ℕ, length}
+use Rattle.equal_shares.specs.Shares.{share_at}
+use Rattle.code_ranges.specs.declared.code.RangeCode.{RangeCode}
+use Rattle.program_classes.specs.declared.part.Part.{Part}
+use Rattle.program_translation.specs.Places.{class_words}
+
+-- so many words that end low, with a unit and a flag for each
+pub record IsLow (code : RangeCode) (words : ℕ) : Type 0 where
+  pub units : length code.units.items ≡ words
+  pub leads : length code.leads.items ≡ words
+  pub low : code.start + 4 * words < 2 ^ 31
+
+-- the words of the class of a number among the classes of the range
+pub record IsPartOf (code : RangeCode) (words k : ℕ) (part : Part) : Type 0 where
+  pub units_are : part.units.now ≡ code.units.items
+  pub leads_are : part.leads.now ≡ code.leads.items
+  pub start_is : part.start ≡ code.start
+  pub first_is : part.first ≡ (share_at class_words words k).first
+  pub words_are : part.words ≡ (share_at class_words words k).count

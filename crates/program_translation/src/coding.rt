@@ -1,0 +1,109 @@
+//! One class of code as a file.
+ghost use Rattle.std.specs.Prelude.{◌≡◌, ◌≤◌, ◌<◌, ◌^◌, ◌-◌, All, IfOk, length};
+ghost use Rattle.command_words.specs.Limits.{AreMethodBytes};
+ghost use Rattle.program_classes.specs.Parts.{IsPart, IsSpan};
+ghost use Rattle.program_translation.specs.Adding.{IsFileOfCode};
+ghost use Rattle.program_translation.specs.Classes.{span_info, span_infos};
+
+use crate::block_info::BlockInfo;
+use crate::span_info::SpanInfo;
+use crate::spans::spans_of;
+use crate::{NamedFile, TranslateError, class_number, method_number};
+use class_members::{code_class_name, file_name};
+use method_splitter::Span;
+use program_classes::{Part, Piece, code_class};
+use std::alloc::Global;
+
+/// A class of code as a file, and where its words stand.
+#[derive(Drop)]
+pub struct FileOfCode {
+    pub file: NamedFile,
+    pub spans: Vec<SpanInfo>,
+    /// The blocks, with their spans counted in the class.
+    pub blocks: Vec<BlockInfo>,
+    /// The number of its method `run()V`, which is its last, in the program.
+    pub run: u32,
+}
+
+/// The class of code behind so many others, of a part of the code. Its first method has the number `first_method` in the program.
+pub fn code_file(
+    alloc: Global,
+    part: &Part,
+    name: &str,
+    classes: usize,
+    first_method: u32,
+    method_bytes: u32,
+) -> Result<FileOfCode, TranslateError>
+    requires part { IsPart part.now }
+    requires some { 1 ≤ part.now.words }
+    requires few { part.now.words ≤ 6144 }
+    requires bytes { AreMethodBytes method_bytes }
+    ensures value { IfOk result (IsFileOfCode name.now method_bytes classes first_method part.now) }
+    ensures run { IfOk result (λ made. made.run < 2 ^ 32 - 1) }
+{
+    let spans = spans_of(alloc, part, method_bytes)?;
+    let index = class_number(classes)?;
+    let number = u32::from(index);
+    let run = method_number(first_method, spans.as_slice().len())?;
+    let made = code_class(alloc, name, number, part, spans.as_slice(), first_method)?;
+    let blocks = block_infos(alloc, made.pieces.as_slice())?;
+    let infos = span_infos(alloc, part, number, spans.as_slice())?;
+    let class_name = code_class_name(alloc, name, number)?;
+    let file_name = file_name(alloc, class_name.as_str())?;
+    Ok(FileOfCode {
+        file: NamedFile {
+            name: file_name,
+            bytes: made.bytes,
+        },
+        spans: infos,
+        blocks,
+        run,
+    })
+}
+
+fn span_infos(
+    alloc: Global,
+    part: &Part,
+    class: u32,
+    spans: &[Span],
+) -> Result<Vec<SpanInfo>, TranslateError>
+    requires part { IsPart part.now }
+    requires spans { All (IsSpan part.now.words) spans.now }
+    requires few { length spans.now ≤ 2048 }
+    ensures { IfOk result (λ infos. infos.items ≡ span_infos class part.now spans.now (length spans.now)) }
+{
+    let mut infos = Vec::new(alloc);
+    for k in 0..spans.len() as u32 {
+        infos.push(span_info(part, class, spans, k))?;
+    }
+    Ok(infos)
+}
+
+fn span_info(part: &Part, class: u32, spans: &[Span], k: u32) -> SpanInfo
+    requires part { IsPart part.now }
+    requires spans { All (IsSpan part.now.words) spans.now }
+    requires within { k < length spans.now }
+    ensures { result ≡ span_info class part.now spans.now k }
+{
+    let span = &spans[k as usize];
+    SpanInfo {
+        class,
+        method: k,
+        first: part.start + 4 * (part.first + span.first),
+        words: span.words,
+    }
+}
+
+fn block_infos(alloc: Global, pieces: &[Piece]) -> Result<Vec<BlockInfo>, TranslateError> {
+    let mut infos = Vec::new(alloc);
+    for piece in pieces {
+        infos.push(BlockInfo {
+            span: piece.span,
+            from: piece.from,
+            to: piece.to,
+            first: piece.first,
+            words: piece.words,
+        })?;
+    }
+    Ok(infos)
+}

@@ -1,0 +1,71 @@
+//! The classes of data.
+ghost use Rattle.std.specs.Prelude.{◌≡◌, ◌+◌, ◌<◌, ◌++◌, ◌∷◌, [], IfOk, OnOk, length, map};
+ghost use Rattle.equal_shares.specs.Shares.{share_at, share_count, shared};
+ghost use Rattle.program_classes.specs.Pages.{page_of};
+ghost use Rattle.program_translation.specs.DataFiles.{AddsFile, IsDataOf, class_pages};
+
+use crate::one_file::data_file;
+use crate::pages::filled_pages;
+use crate::{NamedFile, TranslateError, class_number, method_number};
+use elf_image::Image;
+use equal_shares::{share_at, share_count, shared};
+use program_classes::PageData;
+use std::alloc::Global;
+
+/// How many pages one class of data holds at most.
+const CLASS_PAGES: usize = 1_024;
+
+/// The classes of data so far, in the order of the pages.
+#[derive(Drop)]
+pub struct Data {
+    pub files: Vec<NamedFile>,
+    /// The number of the method `fill()V` of each class.
+    pub fills: Vec<u32>,
+}
+
+/// All classes of data of an image: its pages that are not all zero, 1,024 in each class but the last. Before them the program has the main
+/// class and so many classes of code, with so many methods.
+///
+/// # Errors
+/// TooLarge where a class has more than a class file can hold, and NoMemory.
+pub fn data_of(
+    alloc: Global,
+    image: &Image,
+    name: &str,
+    code_classes: usize,
+    methods: u32,
+) -> Result<Data, TranslateError>
+    ensures { IfOk result (IsDataOf image.now name.now code_classes methods) }
+{
+    let pages = filled_pages(alloc, image)?;
+    let mut made = Data {
+        files: Vec::new(alloc),
+        fills: Vec::new(alloc),
+    };
+    for k in 0..share_count(pages.len(), CLASS_PAGES) {
+        let own = shared(pages.as_slice(), share_at(pages.len(), CLASS_PAGES, k));
+        add_class(alloc, &mut made, name, code_classes, methods, k, own)?;
+    }
+    Ok(made)
+}
+
+// The class of a number, of these pages.
+fn add_class(
+    alloc: Global,
+    made: &mut Data,
+    name: &str,
+    code_classes: usize,
+    methods: u32,
+    k: usize,
+    pages: &[PageData],
+) -> Result<(), TranslateError>
+    ensures { OnOk result (AddsFile name.now code_classes methods k (map page_of pages.now) made.old made.new) }
+{
+    let number = class_number(k)?;
+    let before = class_number(code_classes)?;
+    let first = method_number(methods, 2 * usize::from(number))?;
+    let file = data_file(alloc, name, number, before + 1 + number, first, pages)?;
+    made.fills.push(first + 1)?;
+    made.files.push(file)?;
+    Ok(())
+}

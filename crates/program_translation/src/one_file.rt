@@ -1,0 +1,29 @@
+//! One class of data as a file.
+ghost use Rattle.std.specs.Prelude.{◌≡◌, ◌+◌, ◌*◌, ◌<◌, ◌^◌, IfOk, map};
+ghost use Rattle.program_classes.specs.Pages.{page_of};
+ghost use Rattle.program_translation.specs.DataFiles.{IsFileOfPages};
+
+use crate::{NamedFile, TranslateError};
+use class_members::{data_class_name, file_name};
+use program_classes::{PageData, data_class};
+use std::alloc::Global;
+
+/// The class of data of a number, with these pages, as a file. `class` is its number in the program, and `first_method` that of its first
+/// method.
+pub fn data_file(
+    alloc: Global,
+    name: &str,
+    number: u16,
+    class: u16,
+    first_method: u32,
+    pages: &[PageData],
+) -> Result<NamedFile, TranslateError>
+    ensures { IfOk result (IsFileOfPages name.now number class first_method (map page_of pages.now)) }
+{
+    let bytes = data_class(alloc, name, u32::from(number), class, first_method, pages)?;
+    let class_name = data_class_name(alloc, name, u32::from(number))?;
+    Ok(NamedFile {
+        name: file_name(alloc, class_name.as_str())?,
+        bytes,
+    })
+}

@@ -1,0 +1,45 @@
+//! The pages of an image that are not all zero.
+ghost use Rattle.std.specs.Prelude.{◌≡◌, ◌+◌, ◌≤◌, IfOk, OnOk, length, map};
+ghost use Rattle.elf_image.specs.Pages.{pages_below};
+ghost use Rattle.program_classes.specs.Pages.{page_of};
+ghost use Rattle.program_translation.specs.Pages.{filled_below};
+
+use crate::TranslateError;
+use elf_image::Image;
+use program_classes::PageData;
+use std::alloc::Global;
+
+/// The number of pages below 80000000 (hexadecimal): no other can be read.
+const PAGES: u32 = 1 << 19;
+
+/// The pages of an image that are not all zero, in rising order.
+pub fn filled_pages<'a>(
+    alloc: Global,
+    image: &'a Image,
+) -> Result<Vec<PageData<'a>>, TranslateError>
+    ensures { IfOk result (λ pages. map page_of pages.items ≡ filled_below image.now pages_below) }
+{
+    let mut pages = Vec::new(alloc);
+    for page in 0..PAGES {
+        add_page(image, page, &mut pages)?;
+    }
+    Ok(pages)
+}
+
+// A page behind those below it, unless it is all zero.
+fn add_page<'a>(
+    image: &'a Image,
+    page: u32,
+    pages: &mut Vec<PageData<'a>>,
+) -> Result<(), TranslateError>
+    requires { map page_of pages.old.items ≡ filled_below image.now page }
+    ensures { OnOk result (map page_of pages.new.items ≡ filled_below image.now (page + 1)) }
+{
+    match image.page(page) {
+        Some(words) => {
+            pages.push(PageData { page, words })?;
+            Ok(())
+        }
+        None => Ok(()),
+    }
+}

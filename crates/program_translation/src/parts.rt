@@ -1,0 +1,39 @@
+//! Which words of a range each class of code has.
+ghost use Rattle.std.specs.Prelude.{◌≡◌, ◌<◌, ◌≤◌};
+ghost use Rattle.equal_shares.specs.Shares.{share_count};
+ghost use Rattle.program_classes.specs.Parts.{IsPart};
+ghost use Rattle.program_translation.specs.Parts.{IsLow, IsPartOf};
+ghost use Rattle.program_translation.specs.Places.{class_words};
+
+use code_ranges::RangeCode;
+use equal_shares::{share_at, share_count};
+use program_classes::Part;
+
+/// How many words one class of code holds at most.
+const CLASS_WORDS: usize = 6_144;
+
+/// How many classes a range of so many words has.
+pub fn part_count(words: u32) -> usize
+    ensures { result ≡ share_count class_words words }
+{
+    share_count(words as usize, CLASS_WORDS)
+}
+
+/// The words of the class of a number among the classes of a range, which has so many words.
+pub fn part_at(range: &RangeCode, words: u32, k: usize) -> Part<'_>
+    requires low { IsLow range.now words }
+    requires within { k < share_count class_words words }
+    ensures value { IsPartOf range.now words k result }
+    ensures part { IsPart result }
+    ensures some { 1 ≤ result.words }
+    ensures few { result.words ≤ 6144 }
+{
+    let share = share_at(words as usize, CLASS_WORDS, k);
+    Part {
+        units: range.units.as_slice(),
+        leads: range.leads.as_slice(),
+        start: range.start,
+        first: share.first as u32,
+        words: share.count as u32,
+    }
+}

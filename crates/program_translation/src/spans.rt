@@ -1,0 +1,60 @@
+//! The spans of a part of the code.
+ghost use Rattle.std.specs.Prelude.{◌≡◌, ◌≤◌, ◌<◌, All, IfOk, length};
+ghost use Rattle.command_words.specs.Limits.{AreMethodBytes};
+ghost use Rattle.program_classes.specs.Parts.{IsPart, IsSpan};
+ghost use Rattle.program_translation.specs.Spans.{AreSpans, weight_at, weights_of};
+
+use crate::TranslateError;
+use method_splitter::{Span, cut};
+use program_classes::Part;
+use std::alloc::Global;
+use word_weights::weight;
+
+/// The greatest number of methods of spans in a class.
+const MOST_SPANS: usize = 2_048;
+
+/// The spans of a part, of at most 6,144 words: as few as there can be with at most `method_bytes` bytes each, and each but the last would
+/// have more with the next word.
+///
+/// # Errors
+/// TooLarge where there are more than 2,048, and NoMemory.
+pub fn spans_of(alloc: Global, part: &Part, method_bytes: u32) -> Result<Vec<Span>, TranslateError>
+    requires part { IsPart part.now }
+    requires some { 1 ≤ part.now.words }
+    requires few { part.now.words ≤ 6144 }
+    requires bytes { AreMethodBytes method_bytes }
+    ensures value { IfOk result (λ spans. AreSpans part.now method_bytes spans.items) }
+    ensures within { IfOk result (λ spans. All (IsSpan part.now.words) spans.items) }
+    ensures some { IfOk result (λ spans. 1 ≤ length spans.items) }
+    ensures few { IfOk result (λ spans. length spans.items ≤ 2048) }
+{
+    let weights = weights_of(alloc, part)?;
+    let spans = cut(alloc, weights.as_slice(), method_bytes)?;
+    if MOST_SPANS < spans.len() {
+        return Err(TranslateError::TooLarge);
+    }
+    Ok(spans)
+}
+
+// The weights of the words of a part.
+fn weights_of(alloc: Global, part: &Part) -> Result<Vec<u32>, TranslateError>
+    requires { IsPart part.now }
+    ensures value { IfOk result (λ weights. weights.items ≡ weights_of part.now part.now.words) }
+    ensures count { IfOk result (λ weights. length weights.items ≡ part.now.words) }
+    ensures bound { IfOk result (λ weights. All (λ w. w ≤ 412) weights.items) }
+{
+    let mut weights = Vec::new(alloc);
+    for k in 0..part.words {
+        weights.push(weight_at(part, k))?;
+    }
+    Ok(weights)
+}
+
+fn weight_at(part: &Part, k: u32) -> u32
+    requires part { IsPart part.now }
+    requires within { k < part.now.words }
+    ensures value { result ≡ weight_at part.now k }
+    ensures bound { result ≤ 412 }
+{
+    weight(&part.units[(part.first + k) as usize])
+}

@@ -1,0 +1,13 @@
+pub mod Index
+pub mod Entering
+pub mod Joining
+pub mod Leading
+pub mod Exits
+pub mod Parts
+pub mod Going
+pub mod Words
+pub mod Straight
+pub mod Warm
+pub mod Counting
+pub mod Made
+pub mod Guest

@@ -1,2 +1,0 @@
-pub mod InPieces
-pub mod Following

@@ -1,4 +1,0 @@
-pub mod Storing
-pub mod Linking
-pub mod Multiplying
-pub mod Counting

@@ -1,6 +1,0 @@
-mod Lines
-mod Planned
-mod Pages
-mod Fillers
-mod Beginning
-mod Others

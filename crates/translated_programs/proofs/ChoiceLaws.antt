@@ -1,0 +1,7 @@
+pub mod Tests
+pub mod Passing
+pub mod Chosen
+pub mod Trees
+pub mod Choosers
+pub mod Weighing
+pub mod Calls

@@ -1,0 +1,10 @@
+pub mod Elements
+pub mod Choosing
+pub mod Spans
+pub mod Words
+pub mod Order
+pub mod Starts
+pub mod Strays
+pub mod Numbers
+pub mod Apart
+pub mod Programs

@@ -1,9 +1,0 @@
-mod Lists
-mod Planned
-mod Lower
-mod MainMethods
-mod CodeMethods
-mod DataMethods
-mod CodeWords
-mod Numbers
-mod Whole

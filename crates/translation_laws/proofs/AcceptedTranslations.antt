@@ -1,0 +1,14 @@
+pub mod Passing
+pub mod Lists
+pub mod Meant
+pub mod Having
+pub mod Asking
+pub mod Growing
+pub mod Few
+pub mod Mentions
+pub mod Classes
+pub mod MainMeant
+pub mod OthersMeant
+pub mod Linking
+pub mod Asked
+pub mod Sets

@@ -1,0 +1,12 @@
+pub mod Lists
+pub mod Few
+pub mod Lawful
+pub mod Planned
+pub mod Classes
+pub mod Numbers
+pub mod Knowing
+pub mod CodeMethods
+pub mod DataMethods
+pub mod MainMethods
+pub mod Whole
+pub mod Linking

@@ -1,0 +1,6 @@
+pub mod Lines
+pub mod Planned
+pub mod Pages
+pub mod Fillers
+pub mod Beginning
+pub mod Others

@@ -1,0 +1,13 @@
+pub mod Lines
+pub mod Planned
+pub mod Main
+pub mod Elements
+pub mod Weights
+pub mod Cutting
+pub mod Shares
+pub mod Places
+pub mod Words
+pub mod Classes
+pub mod Together
+pub mod Areas
+pub mod Standing

@@ -1,0 +1,9 @@
+pub mod Lists
+pub mod Planned
+pub mod Lower
+pub mod MainMethods
+pub mod CodeMethods
+pub mod DataMethods
+pub mod CodeWords
+pub mod Numbers
+pub mod Whole

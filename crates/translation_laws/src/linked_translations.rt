@@ -1,0 +1,30 @@
+//! What links of a translation. Each call here does nothing: its contract is the law.
+
+ghost use Rattle.std.specs.Prelude.{ℕ};
+ghost use Rattle.command_words.specs.Word.{Text};
+ghost use Rattle.command_words.specs.Limits.{IsClassName};
+ghost use Rattle.elf_image.specs.Start.{Source};
+ghost use Rattle.program_translation.specs.declared.built.Built.{Built};
+ghost use Rattle.program_translation.specs.Translation.{IsTranslation};
+ghost use Rattle.translation_laws.specs.WholeCode.{HasWholeCode};
+ghost use Rattle.translation_laws.specs.Linked.{IsLinked};
+
+use elf_image::Image;
+use guest_follows::lawful_units::units_are_lawful;
+use linked_names::named_code::names_are_meant;
+
+/// The code of an image is whole: its file was accepted.
+pub fn images_have_whole_code(image: &Image)
+    ensures { HasWholeCode image.now }
+{
+    image.laws();
+}
+
+/// The classes of a translation of a program that was accepted are the program that they were planned to be.
+pub fn translations_link()
+    ensures { (source : Source) (name : Text) (method_bytes : ℕ) (built : Built) → HasWholeCode source → IsClassName name
+        → IsTranslation source name method_bytes built → IsLinked source name method_bytes built }
+{
+    names_are_meant();
+    units_are_lawful();
+}

@@ -1,0 +1,7 @@
+pub mod Given
+pub mod Going
+pub mod Choosing
+pub mod Ranges
+pub mod Classes
+pub mod Strays
+pub mod Returning

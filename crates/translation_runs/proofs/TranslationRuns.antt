@@ -1,0 +1,4 @@
+pub mod Given
+pub mod Counting
+pub mod Loading
+pub mod Running

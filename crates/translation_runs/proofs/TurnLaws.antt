@@ -1,0 +1,10 @@
+pub mod Inner
+pub mod Turning
+pub mod Guest
+pub mod Following
+pub mod Credits
+pub mod Given
+pub mod Spans
+pub mod Units
+pub mod Law
+pub mod Marks

@@ -1,5 +1,0 @@
-mod Names
-mod Places
-mod Parts
-mod Fronts
-mod Whole

@@ -1,9 +1,0 @@
-mod Weights
-mod Helpers
-mod Instructions
-mod Transfers
-mod Ways
-mod Units
-mod Found
-mod Trails
-mod Addresses
