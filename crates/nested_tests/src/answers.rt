@@ -1,5 +1,5 @@
 //! What each command answers, with its line.
-use crate::calls::{Case, check, expect};
+use call_cases::calls::{Case, check, expect};
 use nested_cli::Done;
 use nv_events::Fault;
 use nv_faults::{AsmFault, ElfFault, ImageFault};
@@ -58,7 +58,7 @@ fn a_program_runs_once_its_class_is_stored(rt: HostRuntime) -> Result<(), Fail> 
     ] {
         let ends = expect(done, line);
         check(
-            &rt,
+            rt.alloc(),
             "go|a",
             file,
             &Case {
@@ -89,7 +89,7 @@ fn each_refusal_has_its_line(rt: HostRuntime) -> Result<(), Fail> {
         ("list|a", Done::NoInput(1), "nested: no file a\n"),
         ("translate|a", Done::NoInput(1), "nested: no file a\n"),
     ] {
-        check(&rt, words, None, &expect(done, line))?;
+        check(rt.alloc(), words, None, &expect(done, line))?;
     }
     for (words, size, done, line) in [
         ("go|a", 0, refused_elf(1), "nested: elf 1 0 0\n"),
@@ -101,12 +101,12 @@ fn each_refusal_has_its_line(rt: HostRuntime) -> Result<(), Fail> {
         ("interp|a", 52, refused_elf(10), "nested: elf 10 0 0\n"),
         ("list|a", 95, refused_elf(12), "nested: elf 12 0 0\n"),
     ] {
-        check(&rt, words, EXIT_7.get(..size), &expect(done, line))?;
+        check(rt.alloc(), words, EXIT_7.get(..size), &expect(done, line))?;
     }
     let mut other = EXIT_7;
     other[3] = 0x47;
     let foreign = expect(refused_elf(2), "nested: elf 2 0 0\n");
-    check(&rt, "go|a", Some(&other), &foreign)
+    check(rt.alloc(), "go|a", Some(&other), &foreign)
 }
 
 #[test]
@@ -117,7 +117,7 @@ fn a_listing_has_a_line_for_each_word(rt: HostRuntime) -> Result<(), Fail> {
     for (out_fails, done, printed) in [(0, Done::Good, whole), (7, Done::WriteFault, first)] {
         let lists = expect(done, "");
         check(
-            &rt,
+            rt.alloc(),
             "list|a",
             Some(&EXIT_7),
             &Case {
@@ -136,14 +136,14 @@ fn a_listing_has_a_line_for_each_word(rt: HostRuntime) -> Result<(), Fail> {
         word: 0x4600_0000,
     });
     let refused = expect(fault, "nested: image 7 4194312 46000000\n");
-    check(&rt, "list|a", Some(&float), &refused)
+    check(rt.alloc(), "list|a", Some(&float), &refused)
 }
 
 #[test]
 fn a_text_is_assembled_into_a_file(rt: HostRuntime) -> Result<(), Fail> {
     let good = expect(Done::Good, "");
     check(
-        &rt,
+        rt.alloc(),
         "asm|a|f",
         Some(b"addiu $2,$0,1\naddiu $4,$0,7\nsyscall 0\n"),
         &Case {
@@ -154,7 +154,7 @@ fn a_text_is_assembled_into_a_file(rt: HostRuntime) -> Result<(), Fail> {
     )?;
     let fault = AsmFault { line: 2, kind: 1 };
     check(
-        &rt,
+        rt.alloc(),
         "asm|a|f",
         Some(b"addiu $2,$0,1\nfrob $1\nsyscall 0\n"),
         &expect(Done::AsmRefused(fault), "nested: asm 2 1\n"),

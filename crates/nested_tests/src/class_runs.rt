@@ -1,18 +1,18 @@
 //! Commands on classes.
-use crate::calls::{Case, check_over, expect};
-use crate::class_texts::{
+use call_cases::calls::{Case, check_over, expect};
+use call_cases::class_texts::{
     MAIN, OWN_METHOD, Source, TWO_METHODS, bytes_of, calling, chain, main_class, shelf_of,
     shelf_with,
 };
 use nested_cli::Done;
 use nv_faults::{LinkFault, VerifyFault};
 use nv_outside::MemShelf;
-use std::process::Abort;
+use std::alloc::Global;
 use std::test::Fail;
 
 /// Calls `verify Main` over a shelf.
 fn check_verify(
-    rt: &(impl Abort + AllocGlobal),
+    alloc: Global,
     shelf: MemShelf,
     done: Done,
     printed: &str,
@@ -21,7 +21,7 @@ fn check_verify(
     let class = shelf.get("Main.class").is_some();
     let ends = expect(done, line);
     check_over(
-        rt,
+        alloc,
         "verify|Main",
         shelf,
         &Case {
@@ -72,10 +72,10 @@ fn a_class_is_read_linked_and_verified(rt: HostRuntime) -> Result<(), Fail> {
         ),
         (untyped.as_slice(), fault, "", "nested: verify 0 0 9\n"),
     ] {
-        check_verify(&rt, shelf_of(alloc, bytes)?, done, printed, line)?;
+        check_verify(alloc, shelf_of(alloc, bytes)?, done, printed, line)?;
     }
     let none = MemShelf::new(alloc, Vec::new(alloc));
-    check_verify(&rt, none, Done::NoInput(1), "", "nested: no file Main\n")
+    check_verify(alloc, none, Done::NoInput(1), "", "nested: no file Main\n")
 }
 
 #[test]
@@ -131,7 +131,7 @@ fn a_set_is_loaded_by_the_names_in_its_classes(rt: HostRuntime) -> Result<(), Fa
             "nested: link 2 0 11\n",
         ),
     ] {
-        check_verify(&rt, shelf_with(alloc, classes)?, done, printed, line)?;
+        check_verify(alloc, shelf_with(alloc, classes)?, done, printed, line)?;
     }
     Ok(())
 }
@@ -140,24 +140,24 @@ fn a_set_is_loaded_by_the_names_in_its_classes(rt: HostRuntime) -> Result<(), Fa
 fn a_set_has_1024_classes_at_most(rt: HostRuntime) -> Result<(), Fail> {
     let alloc = rt.alloc();
     let most = chain(alloc, 2023)?;
-    check_verify(&rt, most, Done::Good, "classes 1024 methods 1024\n", "")?;
+    check_verify(alloc, most, Done::Good, "classes 1024 methods 1024\n", "")?;
     let more = chain(alloc, 2024)?;
     let line = "nested: link 7 1024 0\n";
-    check_verify(&rt, more, link_fault(7, 1024, 0), "", line)
+    check_verify(alloc, more, link_fault(7, 1024, 0), "", line)
 }
 
 /// Calls the program with these words over a class.
 fn check_run(
-    rt: &(impl Abort + AllocGlobal),
+    alloc: Global,
     typed: &str,
     class: &Source<'_>,
     done: Done,
     line: &str,
 ) -> Result<(), Fail> {
-    let shelf = shelf_with(rt.alloc(), &[*class])?;
+    let shelf = shelf_with(alloc, &[*class])?;
     let ends = expect(done, line);
     check_over(
-        rt,
+        alloc,
         typed,
         shelf,
         &Case {
@@ -169,6 +169,7 @@ fn check_run(
 
 #[test]
 fn a_class_runs_to_its_end(rt: HostRuntime) -> Result<(), Fail> {
+    let alloc = rt.alloc();
     let spent = (Done::Spent, "nested: spent\n");
     // 1 by 0; the length of null; element 0 of none; -1 elements; no room, and room, for two words
     for (typed, code, (done, line)) in [
@@ -209,7 +210,7 @@ fn a_class_runs_to_its_end(rt: HostRuntime) -> Result<(), Fail> {
             (Done::Exited(0), ""),
         ),
     ] {
-        check_run(&rt, typed, &main_class(code), done, line)?;
+        check_run(alloc, typed, &main_class(code), done, line)?;
     }
     // run()V calls itself
     let own = Source {
@@ -218,14 +219,14 @@ fn a_class_runs_to_its_end(rt: HostRuntime) -> Result<(), Fail> {
         ..main_class(&[0xB8, 0, 9, 0xB1])
     };
     check_run(
-        &rt,
+        alloc,
         "run|Main|--steps|63",
         &own,
         Done::Spent,
         "nested: spent\n",
     )?;
     check_run(
-        &rt,
+        alloc,
         "run|Main|--steps|64",
         &own,
         Done::Trapped(5),
@@ -238,5 +239,5 @@ fn a_class_runs_to_its_end(rt: HostRuntime) -> Result<(), Fail> {
         method: 0,
         at: 9,
     });
-    check_run(&rt, "run|Main", &untyped, fault, "nested: verify 0 0 9\n")
+    check_run(alloc, "run|Main", &untyped, fault, "nested: verify 0 0 9\n")
 }

@@ -1,18 +1,13 @@
 //! Guests on the reference machine. Words of programs are hexadecimal.
-use crate::calls::{Case, check, expect};
-use crate::guest_texts::{
+use call_cases::calls::{Case, check, expect, fault};
+use call_cases::guest_texts::{
     BEHIND_THE_SIZE, ECHO, ECHO_HEADERS, ECHO_SECTIONS, FILL, READ, SECTIONED, STORE, WRITES,
     assembled, bytes_of, program,
 };
 use nested_cli::Done;
-use nv_events::Fault;
 use nv_faults::ImageFault;
 use std::alloc::Global;
 use std::test::Fail;
-
-fn fault(kind: u32, pc: u32, value: u32) -> Done {
-    Done::Faulted(Fault { kind, pc, value })
-}
 
 /// Programs, how each ends over the input `ab`, an end of line and `cd`, and its line.
 pub fn ends() -> [(&'static str, Done, &'static str); 21] {
@@ -129,7 +124,7 @@ fn guests_end_as_the_manual_says(rt: HostRuntime) -> Result<(), Fail> {
         let file = program(rt.alloc(), words)?;
         let ends = expect(done, line);
         check(
-            &rt,
+            rt.alloc(),
             "interp|a",
             Some(file.as_slice()),
             &Case {
@@ -175,7 +170,12 @@ fn partial_loads_and_stores_move_the_lanes_of_a_word(rt: HostRuntime) -> Result<
     for (access, then, word) in LANES {
         let file = lane_program(alloc, access, then)?;
         let done = Done::Exited(word.cast_signed());
-        check(&rt, "interp|a", Some(file.as_slice()), &expect(done, ""))?;
+        check(
+            rt.alloc(),
+            "interp|a",
+            Some(file.as_slice()),
+            &expect(done, ""),
+        )?;
     }
     Ok(())
 }
@@ -194,7 +194,7 @@ pub fn branches(alloc: Global) -> Result<Vec<u8>, Fail> {
 fn a_thousand_branches_with_their_slots(rt: HostRuntime) -> Result<(), Fail> {
     let file = branches(rt.alloc())?;
     let exits = expect(Done::Exited(1001), "");
-    check(&rt, "interp|a", Some(file.as_slice()), &exits)
+    check(rt.alloc(), "interp|a", Some(file.as_slice()), &exits)
 }
 
 #[test]
@@ -224,7 +224,7 @@ fn a_run_stops_at_its_bound_or_at_a_failed_stream(rt: HostRuntime) -> Result<(),
     ] {
         let file = program(rt.alloc(), words)?;
         check(
-            &rt,
+            rt.alloc(),
             command,
             Some(file.as_slice()),
             &Case {
@@ -276,7 +276,7 @@ fn a_file_with_sections_runs_unless_its_code_has_a_floating_point_word(
         let file = bytes_of(alloc, text)?;
         let ends = expect(done, line);
         check(
-            &rt,
+            rt.alloc(),
             command,
             Some(file.as_slice()),
             &Case {
@@ -331,7 +331,7 @@ fn a_guest_keeps_its_file_on_a_disk_that_has_room(rt: HostRuntime) -> Result<(),
     ] {
         let file = assembled(rt.alloc(), text)?;
         check(
-            &rt,
+            rt.alloc(),
             words,
             Some(file.as_slice()),
             &Case {
@@ -352,8 +352,8 @@ fn arguments_have_a_limit(rt: HostRuntime) -> Result<(), Fail> {
         words.push('x')?;
     }
     let fits = expect(Done::Exited(0), "");
-    check(&rt, words.as_str(), Some(file.as_slice()), &fits)?;
+    check(rt.alloc(), words.as_str(), Some(file.as_slice()), &fits)?;
     words.push('x')?;
     let many = expect(Done::ArgsTooLong(4097), "nested: arguments 4097\n");
-    check(&rt, words.as_str(), Some(file.as_slice()), &many)
+    check(rt.alloc(), words.as_str(), Some(file.as_slice()), &many)
 }

@@ -1,18 +1,12 @@
-//! Tests of whole calls of the program: what a call answers, what it prints and stores, and what becomes of a failure of the outside.
+//! Tests of whole calls of the program: what a call answers, what it prints and stores, and how guests and classes end.
 #![tactic(auto)]
 
 #[cfg(test)]
 mod answers;
 #[cfg(test)]
-mod calls;
-#[cfg(test)]
 mod class_runs;
 #[cfg(test)]
-mod class_texts;
-#[cfg(test)]
 mod guest_runs;
-#[cfg(test)]
-mod guest_texts;
 #[cfg(test)]
 mod little_guests;
 #[cfg(test)]

@@ -1,6 +1,6 @@
 //! Little-endian guests on the reference machine. Numbers are hexadecimal.
-use crate::calls::{Case, check, expect};
-use crate::guest_texts::{ECHO, ECHO_SECTIONS};
+use call_cases::calls::{Case, check, expect};
+use call_cases::guest_texts::{ECHO, ECHO_SECTIONS};
 use nested_cli::Done;
 use nv_faults::ElfFault;
 use std::alloc::Global;
@@ -66,14 +66,19 @@ fn the_file_names_the_order_of_its_numbers(rt: HostRuntime) -> Result<(), Fail> 
     ] {
         let mut file = EXIT_7;
         file[5] = order;
-        check(&rt, "interp|a", Some(file.as_slice()), &expect(done, line))?;
+        check(
+            rt.alloc(),
+            "interp|a",
+            Some(file.as_slice()),
+            &expect(done, line),
+        )?;
     }
     let printed = "00400000: 24020001 addiu $2,$0,1\n\
 00400004: 24040007 addiu $4,$0,7\n\
 00400008: 0000000C syscall 0\n";
     let good = expect(Done::Good, "");
     check(
-        &rt,
+        rt.alloc(),
         "list|a",
         Some(EXIT_7.as_slice()),
         &Case { printed, ..good },
@@ -114,7 +119,12 @@ fn partial_loads_and_stores_of_little_endian_words(rt: HostRuntime) -> Result<()
         )?;
         let file = program(alloc, words.as_str())?;
         let done = Done::Exited(word.cast_signed());
-        check(&rt, "interp|a", Some(file.as_slice()), &expect(done, ""))?;
+        check(
+            rt.alloc(),
+            "interp|a",
+            Some(file.as_slice()),
+            &expect(done, ""),
+        )?;
     }
     Ok(())
 }
@@ -134,7 +144,7 @@ fn a_little_endian_guest_prints_its_argument(rt: HostRuntime) -> Result<(), Fail
         let ends = expect(done, line);
         let printed = "hello";
         check(
-            &rt,
+            rt.alloc(),
             command,
             Some(file.as_slice()),
             &Case { printed, ..ends },

@@ -1,14 +1,11 @@
 //! Programs that are translated, and their classes. Words of programs are hexadecimal.
-use crate::calls::{Case, call_over, check, expect};
 use crate::guest_runs::{LANES, branches, ends, lane_program};
-use crate::guest_texts::{ECHO, FILL, READ, STORE, WRITES, assembled, program};
+use call_cases::calls::{Case, call_over, check, expect};
+use call_cases::guest_texts::{ECHO, EXIT_7, FILL, READ, STORE, WRITES, assembled, program};
 use nested_cli::Done;
 use nv_faults::LinkFault;
 use nv_outside::MemShelf;
 use std::test::Fail;
-
-/// A program that leaves with status 7.
-const EXIT_7: &str = "24020001 24040007 0000000C";
 
 #[test]
 fn classes_end_as_their_guests(rt: HostRuntime) -> Result<(), Fail> {
@@ -17,7 +14,7 @@ fn classes_end_as_their_guests(rt: HostRuntime) -> Result<(), Fail> {
         let file = program(alloc, words)?;
         let ends = expect(done, line);
         check(
-            &rt,
+            rt.alloc(),
             "go|a",
             Some(file.as_slice()),
             &Case {
@@ -31,7 +28,7 @@ fn classes_end_as_their_guests(rt: HostRuntime) -> Result<(), Fail> {
         let file = lane_program(alloc, access, then)?;
         let ends = expect(Done::Exited(word.cast_signed()), "");
         check(
-            &rt,
+            rt.alloc(),
             "go|a",
             Some(file.as_slice()),
             &Case {
@@ -55,7 +52,7 @@ fn a_translation_is_the_same_program_in_methods_of_any_size(rt: HostRuntime) -> 
     ] {
         let ends = expect(Done::Exited(1001), "");
         check(
-            &rt,
+            rt.alloc(),
             words,
             Some(file.as_slice()),
             &Case {
@@ -85,7 +82,7 @@ fn classes_stop_at_their_bound_or_at_a_failed_stream(rt: HostRuntime) -> Result<
     ] {
         let file = program(rt.alloc(), words)?;
         check(
-            &rt,
+            rt.alloc(),
             command,
             Some(file.as_slice()),
             &Case {
@@ -124,7 +121,7 @@ fn classes_keep_files_on_a_disk_that_has_room(rt: HostRuntime) -> Result<(), Fai
     ] {
         let file = assembled(rt.alloc(), text)?;
         check(
-            &rt,
+            rt.alloc(),
             words,
             Some(file.as_slice()),
             &Case {
@@ -153,7 +150,7 @@ fn a_translation_is_stored_and_counted(rt: HostRuntime) -> Result<(), Fail> {
         ("translate|a", untold, 0, 2, true, "classes "),
     ] {
         check(
-            &rt,
+            rt.alloc(),
             words,
             Some(file.as_slice()),
             &Case {
@@ -208,7 +205,7 @@ fn a_made_program_ends_alike_in_both_machines(rt: HostRuntime) -> Result<(), Fai
         ("make|1", untold, 3, "words 9"),
     ] {
         check(
-            &rt,
+            rt.alloc(),
             words,
             None,
             &Case {

@@ -1,8 +1,10 @@
 //! Translates MIPS programs to class files for the Java virtual machine.
 #![tactic(auto)]
 
+mod layouts;
 mod translation;
 
+pub use layouts::layouts_are_one;
 pub use program_translation::{
     BlockInfo, Built, Layout, NamedFile, SpanInfo, TranslateError, allow, need,
 };

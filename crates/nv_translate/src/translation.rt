@@ -1,16 +1,20 @@
 ghost use Rattle.std.specs.Prelude.{IfOk};
 ghost use Rattle.command_words.specs.Limits.{AreMethodBytes, IsClassName};
-ghost use Rattle.program_translation.specs.Translation.{IsTranslation};
+ghost use Rattle.translation_laws.specs.Translated.{Translated};
 
 use elf_image::Image;
 use program_translation::{Built, TranslateError};
 use std::alloc::Global;
+use translation_laws::laws::images_are_translated;
 
 /// Translates a program to class files.
 ///
 /// The main class has the name `name`: a letter, then letters and digits, in ASCII, 64 at most. The classes of code have this name
 /// with `_0` and on, those of data with `_D0` and on. The code of each span's method has at most `method_bytes` bytes, which is
 /// 4,096 to 65,535.
+///
+/// These classes link, each method of theirs is typed, and they run as the program that was translated: they make the same calls of the
+/// system, with the same bytes, and end in the same way, for all answers of the system and every bound.
 ///
 /// # Errors
 /// `NoMemory`; `TooLarge` where the program needs more than class files hold, which is not proved never to be.
@@ -22,7 +26,8 @@ pub fn translate(
 ) -> Result<Built, TranslateError>
     requires name { IsClassName name.now }
     requires method_bytes { AreMethodBytes method_bytes }
-    ensures { IfOk result (IsTranslation image.now name.now method_bytes) }
+    ensures { IfOk result (Translated image.now name.now method_bytes) }
 {
+    images_are_translated(image);
     program_translation::translate(alloc, image, name, method_bytes)
 }

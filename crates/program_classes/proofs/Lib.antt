@@ -1,4 +1,5 @@
 pub mod ClassMaking
+pub mod CodeBlocks
 pub mod ProgramNames
 pub mod DataClasses
 pub mod MainClasses

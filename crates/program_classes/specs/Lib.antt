@@ -5,6 +5,7 @@ pub mod Tables
 pub mod Parts
 pub mod CodeNaming
 pub mod Code
+pub mod Blocks
 pub mod Pages
 pub mod DataNaming
 pub mod Data

@@ -2,6 +2,7 @@
 ghost use Rattle.std.specs.Prelude.{◌≡◌, ◌+◌, ◌≤◌, ◌<◌, ◌^◌, All, IfOk, OnOk, length};
 ghost use Rattle.program_classes.specs.Parts.{IsPart, IsSpan};
 ghost use Rattle.program_classes.specs.Code.{IsCodeClass};
+ghost use Rattle.program_classes.specs.Blocks.{pieces_of_class};
 
 use crate::ClassError;
 use crate::code_naming::named_class;
@@ -39,7 +40,9 @@ pub fn code_class(
     requires some { 1 ≤ length spans.now }
     requires few { length spans.now ≤ 2048 }
     requires methods { first_method + length spans.now < 2 ^ 32 }
-    ensures { IfOk result (λ made. IsCodeClass main.now number part.now spans.now first_method made.bytes.items) }
+    ensures class { IfOk result (λ made. IsCodeClass main.now number part.now spans.now first_method made.bytes.items) }
+    ensures pieces { IfOk result (λ made. made.pieces.items ≡ pieces_of_class part.now spans.now) }
+    ensures pieces_within { IfOk result (λ made. All (λ p. p.span < length spans.now) made.pieces.items) }
 {
     let name = code_class_name(alloc, main, number)?;
     let named = named_class(alloc, name.as_str(), main, spans.len() as u32)?;

@@ -1,9 +1,12 @@
 //! The methods of spans.
-ghost use Rattle.std.specs.Prelude.{◌≡◌, ◌≤◌, ◌<◌, ◌∷◌, [], All, IfOk, OnOk, length};
+ghost use Rattle.std.specs.Prelude.{◌≡◌, ◌+◌, ◌≤◌, ◌<◌, ◌∷◌, ◌++◌, [], All, IfOk, OnOk, length, zip};
 ghost use Rattle.span_code.specs.Locals.{locals_of};
+ghost use Rattle.span_code.specs.Pieces.{flagged, pieces_of, span_of};
+ghost use Rattle.span_code.specs.Laying.{stretches_of};
 ghost use Rattle.program_classes.specs.Parts.{IsPart, IsSpan};
 ghost use Rattle.program_classes.specs.Making.{AddsMethods};
 ghost use Rattle.program_classes.specs.Code.{code_of_span, span_plan, span_plans};
+ghost use Rattle.program_classes.specs.Blocks.{first_pieces, is_slot, is_told, placed, span_words, told_pieces};
 
 use crate::ClassError;
 use crate::part::Part;
@@ -28,7 +31,8 @@ pub fn add_spans(
     requires part { IsPart part.now }
     requires spans { All (IsSpan part.now.words) spans.now }
     requires few { length spans.now ≤ 2048 }
-    ensures { OnOk result (AddsMethods class.old class.new (span_plans part.now spans.now references.now (length spans.now))) }
+    ensures methods { OnOk result (AddsMethods class.old class.new (span_plans part.now spans.now references.now (length spans.now))) }
+    ensures pieces { IfOk result (λ pieces. pieces.items ≡ first_pieces part.now spans.now (length spans.now)) }
 {
     let mut pieces = Vec::new(alloc);
     for k in 0..spans.len() as u32 {
@@ -50,7 +54,10 @@ fn add_span(
     requires part { IsPart part.now }
     requires spans { All (IsSpan part.now.words) spans.now }
     requires within { k < length spans.now }
-    ensures { OnOk result (AddsMethods class.old class.new (span_plan part.now spans.now references.now k ∷ [])) }
+    ensures method { OnOk result (AddsMethods class.old class.new (span_plan part.now spans.now references.now k ∷ [])) }
+    ensures pieces { IfOk result (λ m. m.pieces.items ≡ pieces_of part.now.units.now (flagged part.now.leads.now) (span_words part.now spans.now k)) }
+    ensures stretches { IfOk result (λ m.
+        m.stretches.items ≡ stretches_of part.now.units.now (flagged part.now.leads.now) (span_words part.now spans.now k)) }
 {
     let span = &spans[k as usize];
     let method = method_of(alloc, part, span)?;
@@ -71,6 +78,10 @@ fn method_of(alloc: Global, part: &Part, span: &Span) -> Result<SpanMethod, Clas
     requires span { IsSpan part.now.words span.now }
     ensures code { IfOk result (λ m. m.code.items ≡ code_of_span part.now span.now) }
     ensures locals { IfOk result (λ m. m.locals ≡ locals_of (code_of_span part.now span.now)) }
+    ensures pieces { IfOk result (λ m. m.pieces.items ≡ pieces_of part.now.units.now (flagged part.now.leads.now)
+        (span_of part.now.start (part.now.first + span.now.first) span.now.words)) }
+    ensures stretches { IfOk result (λ m. m.stretches.items ≡ stretches_of part.now.units.now (flagged part.now.leads.now)
+        (span_of part.now.start (part.now.first + span.now.first) span.now.words)) }
 {
     let first = part.first + span.first;
     match span_method(alloc, part.units, part.leads, part.start, first, span.words) {
@@ -86,31 +97,54 @@ fn append_pieces(
     k: u32,
     method: &SpanMethod,
     pieces: &mut Vec<Piece>,
-) -> Result<(), ClassError> {
+) -> Result<(), ClassError>
+    requires part { IsPart part.now }
+    requires within { All (λ p. p.first < length part.now.units.now) method.now.pieces.items }
+    ensures { OnOk result (pieces.new.items ≡ pieces.old.items ++ told_pieces part.now k (zip method.now.pieces.items method.now.stretches.items)) }
+{
     for (piece, stretch) in method.pieces.iter().zip(method.stretches.iter()) {
-        if !is_slot(part, piece) {
-            pieces.push(placed(part, k, piece, stretch))?;
-        }
+        append_piece(part, k, piece, stretch, pieces)?;
     }
     Ok(())
 }
 
-// Whether a piece is only a delay slot: the word before it is a branch, and no block begins with it.
-fn is_slot(part: &Part, piece: &Block) -> bool {
-    let first = piece.first as usize;
-    piece.first > 0
-        && first < part.units.len()
-        && first < part.leads.len()
-        && !part.leads[first]
-        && matches!(part.units[first - 1], Unit::Branch { .. })
+fn append_piece(
+    part: &Part,
+    k: u32,
+    piece: &Block,
+    stretch: &Stretch,
+    pieces: &mut Vec<Piece>,
+) -> Result<(), ClassError>
+    requires part { IsPart part.now }
+    requires within { piece.now.first < length part.now.units.now }
+    ensures { OnOk result (pieces.new.items ≡ pieces.old.items ++ told_pieces part.now k ((piece.now, stretch.now) ∷ [])) }
+{
+    if !is_slot(part, piece.first) {
+        pieces.push(placed(part, k, piece, stretch))?;
+    }
+    Ok(())
 }
 
-fn placed(part: &Part, k: u32, piece: &Block, stretch: &Stretch) -> Piece {
+// Whether a word is the delay slot of the branch before it, and no block begins with it.
+fn is_slot(part: &Part, word: u32) -> bool
+    requires part { IsPart part.now }
+    requires within { word < length part.now.units.now }
+    ensures { result ≡ is_slot part.now.units.now (flagged part.now.leads.now) word }
+{
+    let k = word as usize;
+    k != 0 && !part.leads[k] && matches!(part.units[k - 1], Unit::Branch { .. })
+}
+
+fn placed(part: &Part, k: u32, piece: &Block, stretch: &Stretch) -> Piece
+    requires part { IsPart part.now }
+    requires within { piece.now.first < length part.now.units.now }
+    ensures { result ≡ placed part.now k (piece.now, stretch.now) }
+{
     Piece {
         span: k,
         from: stretch.from,
         to: stretch.to,
-        first: part.start.wrapping_add(piece.first.wrapping_mul(4)),
+        first: part.start + 4 * piece.first,
         words: piece.words,
     }
 }

@@ -1,4 +1,5 @@
 pub mod SpanLemmas
 pub mod PlaceLemmas
 pub mod WordLemmas
+pub mod BlockLemmas
 pub mod ClassLemmas

@@ -5,12 +5,14 @@ use Rattle.command_words.specs.Word.{Text}
 use Rattle.class_members.specs.Numbers.{main_methods}
 use Rattle.elf_image.specs.Start.{Source}
 use Rattle.program_classes.specs.declared.part.Part.{Part}
+use Rattle.program_classes.specs.Blocks.{pieces_of_class}
 use Rattle.program_translation.specs.declared.named_file.NamedFile.{NamedFile}
 use Rattle.program_translation.specs.declared.coding.FileOfCode.{FileOfCode}
 use Rattle.program_translation.specs.declared.code_files.Code.{Code}
 use Rattle.program_translation.specs.Spans.{AreSpans}
 use Rattle.program_translation.specs.Places.{Place}
 use Rattle.program_translation.specs.Classes.{Placed, run_of, methods_behind, ArePlaced, AreCodeClasses, IsCodeFile, starts_of_class, starts_of, spans_of_class, spans_of}
+use Rattle.program_translation.specs.Blocks.{blocks_of_class, blocks_of}
 
 -- the class of these words, with numbers that are given
 pub record IsClassOf (method_bytes number first_method : ℕ) (part : Part) (c : Placed) : Type 0 where
@@ -19,20 +21,22 @@ pub record IsClassOf (method_bytes number first_method : ℕ) (part : Part) (c :
   pub part_is : c.part ≡ part
   pub spans_are : AreSpans c.part method_bytes c.spans
 
--- its file, its spans, and the number of its method `run`
+-- its file, its spans with their pieces, and the number of its method `run`
 pub record IsFileOfCode (name : Text) (method_bytes number first_method : ℕ) (part : Part) (f : FileOfCode) : Type 0 where
   pub class : Placed
   pub class_is : IsClassOf method_bytes number first_method part class
   pub file_is : IsCodeFile name class f.file
   pub spans_are : f.spans.items ≡ spans_of_class class
+  pub pieces_are : f.pieces.items ≡ pieces_of_class class.part class.spans
   pub run_is : f.run ≡ run_of class
 
--- what is told of classes: their files, where they begin, the numbers of their methods `run`, their spans, and how many methods there are
+-- what is told of classes: their files, where they begin, the numbers of their methods `run`, their spans and blocks, and how many methods there are
 pub record IsTold (name : Text) (classes : List Placed) (code : Code) : Type 0 where
   pub files_are : AllZip (IsCodeFile name) classes code.files.items
   pub starts_are : code.starts.items ≡ starts_of classes
   pub runs_are : code.runs.items ≡ map run_of classes
   pub spans_are : code.spans.items ≡ spans_of classes
+  pub blocks_are : code.blocks.items ≡ blocks_of 0 classes
   pub methods_are : code.methods ≡ methods_behind main_methods classes
 
 -- the same with one class more
@@ -45,6 +49,7 @@ pub record AddsClass (name : Text) (method_bytes : ℕ) (part : Part) (old new :
   pub starts_are : new.starts.items ≡ old.starts.items ++ starts_of_class class
   pub runs_are : new.runs.items ≡ old.runs.items ++ run_of class ∷ []
   pub spans_are : new.spans.items ≡ old.spans.items ++ spans_of_class class
+  pub blocks_are : new.blocks.items ≡ old.blocks.items ++ blocks_of_class (length old.spans.items) class
   pub methods_are : new.methods ≡ run_of class + 1
 
 -- the classes of the words at these places

@@ -2,6 +2,7 @@ pub mod Files
 pub mod Spans
 pub mod Places
 pub mod Classes
+pub mod Blocks
 pub mod Parts
 pub mod Adding
 pub mod Pages

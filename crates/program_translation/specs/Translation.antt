@@ -6,6 +6,7 @@ use Rattle.elf_image.specs.Start.{Source, image_of}
 use Rattle.class_members.specs.Numbers.{main_methods}
 use Rattle.program_translation.specs.declared.named_file.NamedFile.{NamedFile}
 use Rattle.program_translation.specs.Classes.{Placed, AreCodeClasses, IsCodeFile, methods_behind, run_of, starts_of, spans_of}
+use Rattle.program_translation.specs.Blocks.{blocks_of}
 use Rattle.program_translation.specs.DataFiles.{AreDataFiles, class_count, filled_pages, fills_of}
 use Rattle.program_translation.specs.declared.built.Built.{Built}
 use Rattle.program_translation.specs.Bounds.{need}
@@ -19,8 +20,8 @@ code_methods code = methods_behind main_methods code
 abbrev pub fills_behind : Source → List Placed → List ℕ
 fills_behind source code = fills_of (code_methods code) (class_count (filled_pages source))
 
--- The files: the main class, then the classes of code, of which there is one at least, then those of data. The layout has the spans of the classes of code, and its need is
--- that of the mapped pages.
+-- The files: the main class, then the classes of code, of which there is one at least, then those of data. The layout has the spans of the classes
+-- of code and their blocks, and its need is that of the mapped pages.
 pub record IsTranslation (source : Source) (name : Text) (method_bytes : ℕ) (built : Built) : Type 0 where
   pub code : List Placed
   pub some : 1 ≤ length code
@@ -33,4 +34,5 @@ pub record IsTranslation (source : Source) (name : Text) (method_bytes : ℕ) (b
   pub code_are : AllZip (IsCodeFile name) code code_files
   pub data_are : AreDataFiles name (length code) (code_methods code) (filled_pages source) (class_count (filled_pages source)) data_files
   pub spans_are : built.layout.spans.items ≡ spans_of code
+  pub blocks_are : built.layout.blocks.items ≡ blocks_of 0 code
   pub need_is : built.layout.need ≡ need (image_of source).mapped

@@ -1,11 +1,12 @@
 //! The classes of code.
-ghost use Rattle.std.specs.Prelude.{◌≡◌, ◌+◌, ◌-◌, ◌≤◌, ◌<◌, ◌^◌, ◌++◌, ◌∷◌, [], List, IfOk, OnOk};
+ghost use Rattle.std.specs.Prelude.{◌≡◌, ◌+◌, ◌-◌, ◌≤◌, ◌<◌, ◌^◌, ◌++◌, ◌∷◌, [], All, List, IfOk, OnOk, length, map};
 ghost use Rattle.command_words.specs.Limits.{AreMethodBytes};
 ghost use Rattle.elf_image.specs.Start.{image_of};
 ghost use Rattle.elf_image.specs.Whole.{IsWholeRange};
 ghost use Rattle.program_classes.specs.Parts.{IsPart};
 ghost use Rattle.program_translation.specs.Places.{Place, places_in};
 ghost use Rattle.program_translation.specs.Classes.{starts_at};
+ghost use Rattle.program_translation.specs.Blocks.{block_of};
 ghost use Rattle.program_translation.specs.Adding.{AddsClass, HasPlaces, IsCodeOf};
 
 use crate::block_info::BlockInfo;
@@ -117,14 +118,16 @@ fn add_class(
 fn add_file(code: &mut Code, part: &Part, file: FileOfCode) -> Result<(), TranslateError>
     requires part { IsPart part.now }
     requires run { file.run < 2 ^ 32 - 1 }
+    requires pieces { All (λ p. p.span < 2048) file.pieces.items }
     ensures files { OnOk result (code.new.files.items ≡ code.old.files.items ++ file.file ∷ []) }
     ensures starts { OnOk result (code.new.starts.items ≡ code.old.starts.items ++ starts_at part.now file.run) }
     ensures runs { OnOk result (code.new.runs.items ≡ code.old.runs.items ++ file.run ∷ []) }
     ensures spans { OnOk result (code.new.spans.items ≡ code.old.spans.items ++ file.spans.items) }
+    ensures blocks { OnOk result (code.new.blocks.items ≡ code.old.blocks.items ++ map (block_of (length code.old.spans.items)) file.pieces.items) }
     ensures methods { OnOk result (code.new.methods ≡ file.run + 1) }
 {
     let before = method_number(0, code.spans.len())?;
-    add_blocks(&mut code.blocks, before, file.blocks.as_slice())?;
+    add_blocks(&mut code.blocks, before, file.pieces.as_slice())?;
     let mut spans = file.spans;
     code.spans.append(&mut spans)?;
     add_starts(&mut code.starts, part, file.run)?;

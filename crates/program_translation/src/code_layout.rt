@@ -1,24 +1,32 @@
 //! Where the words of classes stand.
-ghost use Rattle.std.specs.Prelude.{◌≡◌, ◌++◌, OnOk};
+ghost use Rattle.std.specs.Prelude.{◌≡◌, ◌+◌, ◌<◌, ◌^◌, ◌++◌, All, OnOk, map};
 ghost use Rattle.program_classes.specs.Parts.{IsPart};
+ghost use Rattle.program_translation.specs.Blocks.{block_of};
 ghost use Rattle.program_translation.specs.Classes.{starts_at};
 
 use crate::TranslateError;
 use crate::block_info::BlockInfo;
 use class_members::MISSING;
-use program_classes::Part;
+use program_classes::{Part, Piece};
 use trampoline::Start;
 
-/// The blocks of a class behind those of others, which have so many spans.
+/// The pieces of a class as blocks behind those of others, which have so many spans.
 pub fn add_blocks(
     blocks: &mut Vec<BlockInfo>,
     before: u32,
-    own: &[BlockInfo],
-) -> Result<(), TranslateError> {
-    for block in own {
+    pieces: &[Piece],
+) -> Result<(), TranslateError>
+    requires low { before < 2 ^ 31 }
+    requires spans { All (λ p. p.span < 2048) pieces.now }
+    ensures { OnOk result (blocks.new.items ≡ blocks.old.items ++ map (block_of before) pieces.now) }
+{
+    for piece in pieces {
         blocks.push(BlockInfo {
-            span: before.saturating_add(block.span),
-            ..*block
+            span: before + piece.span,
+            from: piece.from,
+            to: piece.to,
+            first: piece.first,
+            words: piece.words,
         })?;
     }
     Ok(())

@@ -5,7 +5,6 @@ ghost use Rattle.program_classes.specs.Parts.{IsPart, IsSpan};
 ghost use Rattle.program_translation.specs.Adding.{IsFileOfCode};
 ghost use Rattle.program_translation.specs.Classes.{span_info, span_infos};
 
-use crate::block_info::BlockInfo;
 use crate::span_info::SpanInfo;
 use crate::spans::spans_of;
 use crate::{NamedFile, TranslateError, class_number, method_number};
@@ -19,8 +18,8 @@ use std::alloc::Global;
 pub struct FileOfCode {
     pub file: NamedFile,
     pub spans: Vec<SpanInfo>,
-    /// The blocks, with their spans counted in the class.
-    pub blocks: Vec<BlockInfo>,
+    /// The pieces of the spans, which are counted in the class.
+    pub pieces: Vec<Piece>,
     /// The number of its method `run()V`, which is its last, in the program.
     pub run: u32,
 }
@@ -40,13 +39,13 @@ pub fn code_file(
     requires bytes { AreMethodBytes method_bytes }
     ensures value { IfOk result (IsFileOfCode name.now method_bytes classes first_method part.now) }
     ensures run { IfOk result (λ made. made.run < 2 ^ 32 - 1) }
+    ensures pieces { IfOk result (λ made. All (λ p. p.span < 2048) made.pieces.items) }
 {
     let spans = spans_of(alloc, part, method_bytes)?;
     let index = class_number(classes)?;
     let number = u32::from(index);
     let run = method_number(first_method, spans.as_slice().len())?;
     let made = code_class(alloc, name, number, part, spans.as_slice(), first_method)?;
-    let blocks = block_infos(alloc, made.pieces.as_slice())?;
     let infos = span_infos(alloc, part, number, spans.as_slice())?;
     let class_name = code_class_name(alloc, name, number)?;
     let file_name = file_name(alloc, class_name.as_str())?;
@@ -56,7 +55,7 @@ pub fn code_file(
             bytes: made.bytes,
         },
         spans: infos,
-        blocks,
+        pieces: made.pieces,
         run,
     })
 }
@@ -92,18 +91,4 @@ fn span_info(part: &Part, class: u32, spans: &[Span], k: u32) -> SpanInfo
         first: part.start + 4 * (part.first + span.first),
         words: span.words,
     }
-}
-
-fn block_infos(alloc: Global, pieces: &[Piece]) -> Result<Vec<BlockInfo>, TranslateError> {
-    let mut infos = Vec::new(alloc);
-    for piece in pieces {
-        infos.push(BlockInfo {
-            span: piece.span,
-            from: piece.from,
-            to: piece.to,
-            first: piece.first,
-            words: piece.words,
-        })?;
-    }
-    Ok(infos)
 }

@@ -25,6 +25,7 @@ pub fn class_number(classes: usize) -> Result<u16, TranslateError>
 pub fn method_number(first: u32, methods: usize) -> Result<u32, TranslateError>
     ensures value { IfOk result (λ number. number ≡ first + methods) }
     ensures bound { IfOk result (λ number. number < 2 ^ 32 - 1) }
+    ensures near { IfOk result (λ number. number < first + 2 ^ 31) }
 {
     if first < MOST_METHODS && methods < MOST_METHODS as usize {
         Ok(first + methods as u32)

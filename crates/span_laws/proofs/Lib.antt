@@ -1,2 +1,3 @@
 pub mod SpanLaws
 mod SpanSteps
+mod PieceRegisters

@@ -5,3 +5,6 @@ pub mod Counting
 pub mod Made
 pub mod InPieces
 pub mod Following
+pub mod Registers
+pub mod EmittedLaws
+pub mod GuestFollows

@@ -1,108 +1,92 @@
--- The classes of files, one after the other, and what is due of them.
-use Rattle.std.proofs.Common.{◌≡◌, ℕ, suc, ◌+◌, ◌<◌, List, [], ◌∷◌, ◌++◌, length, drop, get_or, Option, Some, None, Result, Ok, Err, refl, sym, ap, ◌∙◌, subst, inl, inr, add-one, drop-cons}
-use Rattle.std.proofs.lemmas.List.Elements.{All-push}
+-- The classes that files spell.
+use Rattle.std.proofs.Common.{◌≡◌, ℕ, zero, suc, ◌+◌, ◌<◌, List, [], ◌∷◌, ◌++◌, length, take, get_or, Some}
+use Rattle.std.proofs.Common.{refl, sym, ap, ◌∙◌, subst, inl, inr, arith}
+use Rattle.std.proofs.lemmas.List.{take_more}
+use Rattle.std.proofs.lemmas.List.Elements.{All-cons, All-nil}
 use Rattle.std.proofs.lemmas.Option.{none-some}
 use Rattle.std.specs.List.{All}
-use Rattle.class_file.proofs.ClassLaws.{spelled_read}
+use Rattle.class_file.proofs.ClassLaws.{no_fault, same_class}
 use Rattle.class_file.specs.ClassFile as format
-use Rattle.class_format.specs.Format.{whole}
-use Rattle.class_format.specs.Kinds.{trailing}
-use Rattle.class_format.specs.declared.miss.Miss.{Miss}
-use Rattle.class_set.specs.ClassSets.{class_in, class_or_fault}
 use Rattle.class_set.specs.declared.loaded.Loaded.TheVariants.{Classes}
 use Rattle.class_commands.specs.Classes as set
 use Rattle.class_commands.specs.declared.accepted.Accepted.TheVariants as accepted
+use Rattle.command_deeds.specs.declared.done.Done.{Done}
+use Rattle.command_deeds.specs.Deeds.{Due, answers}
 use Rattle.jvm_code.specs.declared.class.Class.{Class}
-use Rattle.jvm_link.specs.Linking.{program_of}
-use Rattle.name_resolution.specs.Faults.{link_fault}
+use Rattle.jvm_link.specs.Linking as linking
+use Rattle.jvm_program.specs.Typing.{AllTyped}
 use Rattle.name_resolution.specs.Kept.{IsClass}
 use Rattle.nv_faults.specs.declared.class_fault.ClassFault.{ClassFault}
-use Rattle.nv_faults.specs.declared.link_fault.LinkFault.{LinkFault}
 use Rattle.program_translation.specs.declared.named_file.NamedFile.{NamedFile}
-use Rattle.type_inference.specs.Unique.{AllTyped-from_least}
-use Rattle.type_verifier.specs.declared.verified.Verified.{Verified}
-use Rattle.command_deeds.specs.declared.done.Done.{Done}
-use Rattle.command_deeds.specs.declared.done.Done.TheVariants.{NotBuilt}
-use Rattle.command_deeds.specs.Deeds.{Due, answers}
-use Rattle.translate_commands.specs.Classes.{AreAccepted, IsDueByClasses, IsDueByLink, IsDueOfFiles, IsVerified, class_then, classes_after, classes_of}
+use Rattle.translate_commands.specs.Classes.{HoldAccepted, SpellClasses}
 
 -- ---- reading
 
--- the file at a place, and those behind it
-here : (files : List NamedFile) (i : ℕ) (file : NamedFile) → i < length files → file ≡ get_or files i file → drop i files ≡ file ∷ drop (i + 1) files
-here files i file within is = rw add-one (drop-cons files i file within ∙ ap (λ f. f ∷ drop (suc i) files) (sym is))
+-- files spell one list of classes
+pub same_classes : (files : List NamedFile) (classes others : List Class) → SpellClasses files classes → SpellClasses files others → others ≡ classes
+same_classes [] [] [] p q = refl
+same_classes (f ∷ files) (c ∷ classes) (d ∷ others) p q =
+    ap (λ e. e ∷ others) (same_class f.bytes.items c d p.0 q.0) ∙ ap (λ cs. c ∷ cs) (same_classes files classes others p.1 q.1)
+same_classes [] [] (d ∷ others) p q = absurd q
+same_classes [] (c ∷ classes) others p q = absurd p
+same_classes (f ∷ files) [] others p q = absurd p
+same_classes (f ∷ files) (c ∷ classes) [] p q = absurd q
 
--- one more file spells a class
-pub one_more : (files : List NamedFile) (i : ℕ) (file : NamedFile) (bytes : List ℕ) (class : Class) (before after : List Class) → i < length files → file ≡ get_or files i file → bytes ≡ file.bytes.items → format.Spells bytes class → after ≡ before ++ class ∷ [] → classes_of files ≡ classes_after before (drop i files) → classes_of files ≡ classes_after after (drop (i + 1) files)
+-- they are sound
+pub all_kept : (files : List NamedFile) (classes : List Class) → SpellClasses files classes → All IsClass classes
+all_kept [] [] p = All-nil IsClass
+all_kept (f ∷ files) (c ∷ classes) p = All-cons IsClass c classes p.0.fits (all_kept files classes p.1)
+all_kept [] (c ∷ classes) p = absurd p
+all_kept (f ∷ files) [] p = absurd p
+
+spelled_push : (files : List NamedFile) (classes : List Class) (f : NamedFile) (c : Class) → SpellClasses files classes
+    → format.Spells f.bytes.items c → SpellClasses (files ++ f ∷ []) (classes ++ c ∷ [])
+spelled_push [] [] f c p spelled = (spelled, tt)
+spelled_push (g ∷ files) (d ∷ classes) f c p spelled = (p.0, spelled_push files classes f c p.1 spelled)
+spelled_push [] (d ∷ classes) f c p spelled = absurd p
+spelled_push (g ∷ files) [] f c p spelled = absurd p
+
+-- one more file is read
+pub one_more : (files : List NamedFile) (i : ℕ) (file : NamedFile) (bytes : List ℕ) (class : Class) (before after : List Class) → i < length files
+    → file ≡ get_or files i file → bytes ≡ file.bytes.items → format.Spells bytes class → after ≡ before ++ class ∷ []
+    → SpellClasses (take i files) before → SpellClasses (take (i + 1) files) after
 one_more files i file bytes class before after within is same spelled grown so_far =
-    let read : class_in file.bytes.items ≡ Ok class = ap class_in (sym same) ∙ ap (class_or_fault (length bytes)) (spelled_read bytes class spelled) in
-    so_far
-    ∙ ap (classes_after before) (here files i file within is)
-    ∙ ap (class_then (λ c. classes_after (before ++ c ∷ []) (drop (i + 1) files))) read
-    ∙ ap (λ cs. classes_after cs (drop (i + 1) files)) (sym grown)
+    let next : take (i + 1) files ≡ take i files ++ file ∷ [] = take_more files i file within ∙ ap (λ f. take i files ++ f ∷ []) (sym is) in
+    subst (λ fs. SpellClasses fs after) (sym next)
+    (subst (SpellClasses (take i files ++ file ∷ [])) (sym grown)
+    (spelled_push (take i files) before file class so_far (subst (λ b. format.Spells b class) same spelled)))
 
--- a class that was read is sound, and so are all with it
-pub kept_more : (classes more : List Class) (bytes : List ℕ) (class : Class) → All IsClass classes → format.Spells bytes class → more ≡ classes ++ class ∷ [] → All IsClass more
-kept_more classes more bytes class kept spelled grown = subst (All IsClass) (sym grown) (All-push IsClass classes class kept spelled.fits)
+-- the file at a place spells a class
+class_at : (files : List NamedFile) (classes : List Class) (i : ℕ) (file : NamedFile) → SpellClasses files classes → i < length files
+    → file ≡ get_or files i file → (c : Class) × format.Spells file.bytes.items c
+class_at [] classes i file p within is = absurd (omega (arith, within))
+class_at (f ∷ files) [] i file p within is = absurd p
+class_at (f ∷ files) (c ∷ classes) zero file p within is = (c, subst (λ g. format.Spells g.bytes.items c) (sym is) p.0)
+class_at (f ∷ files) (c ∷ classes) (suc i) file p within is = class_at files classes i file p.1 (omega (arith, within)) is
 
-no_class : (size : ℕ) (reading : Result Class Miss) (fault : ClassFault) (more : Class → Option (List Class)) → format.fault_of_reading size reading ≡ Some fault → class_then more (class_or_fault size reading) ≡ None
-no_class size (Ok class) fault more e = absurd (none-some fault e)
-no_class size (Err miss) fault more e = refl
-
--- a file spells none
-pub none_more : (files : List NamedFile) (i : ℕ) (file : NamedFile) (bytes : List ℕ) (fault : ClassFault) (before : List Class) → i < length files → file ≡ get_or files i file → bytes ≡ file.bytes.items → format.class_fault bytes ≡ Some fault → classes_of files ≡ classes_after before (drop i files) → classes_of files ≡ None
-none_more files i file bytes fault before within is same refused so_far =
-    so_far
-    ∙ ap (classes_after before) (here files i file within is)
-    ∙ ap (λ b. class_then (λ c. classes_after (before ++ c ∷ []) (drop (i + 1) files)) (class_in b)) (sym same)
-    ∙ no_class (length bytes) (whole format.class trailing bytes) fault (λ c. classes_after (before ++ c ∷ []) (drop (i + 1) files)) refused
+-- so it is at no fault
+pub no_refusal : (files : List NamedFile) (i : ℕ) (file : NamedFile) (bytes : List ℕ) (fault : ClassFault) → HoldAccepted files → i < length files
+    → file ≡ get_or files i file → bytes ≡ file.bytes.items → format.class_fault bytes ≡ Some fault → ⊥
+no_refusal files i file bytes fault held within is same refused =
+    let at = class_at files held.classes i file held.spelled within is in
+    none-some fault (sym (no_fault file.bytes.items at.0 at.1) ∙ ap format.class_fault (sym same) ∙ refused)
 
 -- ---- linking and typing
 
 abbrev Nothing : List Class → Due → Type 0
 Nothing classes due = ⊥
 
-refused_link : (found : Option LinkFault) (classes : List Class) (answer : Done) → set.IsDueByLink found Nothing classes (answers answer) → IsDueByLink found Nothing classes (answers NotBuilt)
-refused_link None classes answer (inl h) = absurd h.1
-refused_link None classes answer (inr h) = inr (h.0, h.1, refl)
-refused_link (Some fault) classes answer h = refl
+all_typed : (classes : List Class) (answer : Done) → AllTyped (linking.program_of classes) → set.IsDueByTypes Nothing classes (answers answer) → ⊥
+all_typed classes answer typed (inl h) = absurd h.1
+all_typed classes answer typed (inr h) =
+    let fault = h.1 in
+    let typing = typed _ fault.method fault.method_is in
+    fault.fails.fails typing.0 (typing.1 h.0.at)
 
--- classes that are refused are not run
-pub not_run : (files : List NamedFile) (classes : List Class) (answer : Done) → classes_of files ≡ Some classes → set.IsAccepted 0 (Classes classes) (accepted.Refused answer) → IsVerified files None
-not_run files classes answer read refused =
-    subst (λ found. IsDueByClasses found Nothing (answers NotBuilt)) (sym read) (refused_link (link_fault classes) classes answer refused)
+-- classes that are accepted are not refused
+pub not_refused : (classes : List Class) (answer : Done) → linking.Accepted classes → set.IsAccepted 0 (Classes classes) (accepted.Refused answer) → ⊥
+not_refused classes answer a refused =
+    all_typed classes answer a.typed (subst (λ found. set.IsDueByLink found Nothing classes (answers answer)) a.links refused)
 
-same_classes : (a b : List Class) → Classes a ≡ Classes b → a ≡ b
-same_classes a b e = cc
-
-pub are_accepted : (files : List NamedFile) (classes : List Class) (v : Verified) → classes_of files ≡ Some classes → Classes classes ≡ Classes v.linked.classes → AreAccepted files v.linked.classes
-are_accepted files classes v read same = record {
-  read = read ∙ ap Some (same_classes classes v.linked.classes same);
-  faultless = v.linked.faultless;
-  typed = AllTyped-from_least (program_of v.linked.classes) v.typed;
-}
-
--- no file
-pub none_read : (files : List NamedFile) → classes_of files ≡ None → IsVerified files None
-none_read files none = subst (λ found. IsDueByClasses found Nothing (answers NotBuilt)) (sym none) refl
-
--- ---- what is due
-
-refused_by_link : (found : Option LinkFault) (IsDueWith : List Class → Due → Type 0) (classes : List Class) (due : Due) → IsDueByLink found Nothing classes due → IsDueByLink found IsDueWith classes due
-refused_by_link None IsDueWith classes due (inl h) = absurd h.1
-refused_by_link None IsDueWith classes due (inr h) = inr h
-refused_by_link (Some fault) IsDueWith classes due h = h
-
-refused_classes : (found : Option (List Class)) (IsDueWith : List Class → Due → Type 0) (due : Due) → IsDueByClasses found Nothing due → IsDueByClasses found IsDueWith due
-refused_classes None IsDueWith due h = h
-refused_classes (Some classes) IsDueWith due h = refused_by_link (link_fault classes) IsDueWith classes due h
-
--- what is due of files that are refused
-pub refused_files : (files : List NamedFile) (IsDueWith : List Class → Due → Type 0) (due : Due) → IsDueOfFiles files Nothing due → IsDueOfFiles files IsDueWith due
-refused_files files IsDueWith due h = refused_classes (classes_of files) IsDueWith due h
-
--- what is due of files that are accepted
-pub accepted_files : (files : List NamedFile) (IsDueWith : List Class → Due → Type 0) (classes : List Class) (due : Due) → AreAccepted files classes → IsDueWith classes due → IsDueOfFiles files IsDueWith due
-accepted_files files IsDueWith classes due a h =
-    subst (λ found. IsDueByClasses found IsDueWith due) (sym a.read)
-    (subst (λ found. IsDueByLink found IsDueWith classes due) (sym a.faultless) (inl (a.typed, h)))
+pub accepted_are : (classes others : List Class) → Classes classes ≡ Classes others → others ≡ classes
+accepted_are classes others e = cc

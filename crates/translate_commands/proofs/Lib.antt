@@ -2,4 +2,3 @@ pub mod FileLemmas
 pub mod StoreLemmas
 pub mod TranslationLemmas
 pub mod MakeLemmas
-pub mod GoLemmas

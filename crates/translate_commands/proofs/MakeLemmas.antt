@@ -1,5 +1,5 @@
 -- What is due of the program that is made.
-use Rattle.std.proofs.Common.{◌≡◌, ℕ, List, [], Some, None, Result, Ok, ap, ◌∙◌, subst, inl, inr}
+use Rattle.std.proofs.Common.{◌≡◌, ℕ, List, [], Some, Result, Ok, ap, ◌∙◌, subst, inr}
 use Rattle.elf_image.specs.Start.{Source}
 use Rattle.elf_writer.specs.Fields.{words}
 use Rattle.guest_commands.proofs.ImagingLemmas.{due_of_program, refused_source}
@@ -9,28 +9,22 @@ use Rattle.guest_commands.specs.declared.imaged.Imaged.TheVariants.{Ready, Refus
 use Rattle.made_program.specs.Words.{made_words}
 use Rattle.mips_asm.specs.File.{IsFileOf}
 use Rattle.command_deeds.specs.declared.done.Done.{Done}
-use Rattle.command_deeds.specs.declared.done.Done.TheVariants.{NotBuilt}
 use Rattle.command_deeds.specs.declared.stop.Stop.{Stop}
 use Rattle.command_deeds.specs.Deeds.{Due, World, Comes, answers}
 use Rattle.command_deeds.specs.Line.{status_of}
 use Rattle.command_deeds.proofs.DeedLemmas.{answers_due, due_as}
 use Rattle.translate_commands.specs.Make.{IsDueOfMade, IsDueOfMake, IsEndOfTranslation, interp_end, made, made_pages, made_steps, told}
-use Rattle.translate_commands.proofs.FileLemmas.{accepted_files, refused_files}
 
 -- both runs ended
-pub statuses_told : (count method_bytes moment : ℕ) (source : Source) (interp classes : Done) (i k : ℕ) → interp ≡ interp_end (made_steps count) moment source → IsEndOfTranslation (made_steps count) moment source method_bytes (Some classes) → i ≡ status_of interp → k ≡ status_of classes → IsDueOfMade count method_bytes moment source (told count i k)
+pub statuses_told : (count method_bytes moment : ℕ) (source : Source) (interp classes : Done) (i k : ℕ)
+    → interp ≡ interp_end (made_steps count) moment source
+    → IsEndOfTranslation (made_steps count) moment source method_bytes (Some classes) → i ≡ status_of interp → k ≡ status_of classes
+    → IsDueOfMade count method_bytes moment source (told count i k)
 statuses_told count method_bytes moment source interp classes i k first second is_i is_k =
-    let end = second.2 in
-    let same : told count i k ≡ made count moment source end.0 =
+    let same : told count i k ≡ made count moment source second.1.linked.classes =
     ap (λ n. told count n k) (is_i ∙ ap status_of first)
-    ∙ ap (λ n. told count (status_of (interp_end (made_steps count) moment source)) n) (is_k ∙ ap status_of end.2) in
-    inr (second.0, second.1, accepted_files second.0.files.items (λ cs due. due ≡ made count moment source cs) end.0 (told count i k) end.1 same)
-
--- the program was not translated, or its classes are refused
-pub nothing_told : (count method_bytes moment : ℕ) (source : Source) → IsEndOfTranslation (made_steps count) moment source method_bytes None → IsDueOfMade count method_bytes moment source (answers NotBuilt)
-nothing_told count method_bytes moment source (inl e) = inl e
-nothing_told count method_bytes moment source (inr h) =
-    inr (h.0, h.1, refused_files h.0.files.items (λ cs due. due ≡ made count moment source cs) (answers NotBuilt) h.2)
+    ∙ ap (λ n. told count (status_of (interp_end (made_steps count) moment source)) n) (is_k ∙ ap status_of second.2) in
+    inr (second.0, second.1, same)
 
 -- the image of a file, or its refusal
 pub imaged_comes : (IsDueWith : Source → Due → Type 0) (source image : Source) (this : Imaged) (w v : World) (ended : Result Done Stop) → this ≡ Ready image → IsImagedFile source this → Comes (IsDueWith image) w v ended → Comes (IsDueOfSource IsDueWith source) w v ended

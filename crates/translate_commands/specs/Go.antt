@@ -11,7 +11,6 @@ use Rattle.program_translation.specs.Bounds.{allow, need}
 use Rattle.program_translation.specs.declared.built.Built.{Built}
 use Rattle.command_deeds.specs.Deeds.{Due}
 use Rattle.machine_launch.specs.Runs.{NamedFile, IsDueOfSession, IsDueOfSteps}
-use Rattle.translate_commands.specs.Classes.{IsDueOfFiles}
 use Rattle.translate_commands.specs.Stores.{IsDueBehind}
 use Rattle.translate_commands.specs.Translate.{IsDueOfTranslation}
 
@@ -23,10 +22,9 @@ IsDueOfRun plan source input found classes =
     IsDueOfSteps (allow mapped plan.session.steps) loaded_turn (loaded (program_of classes) (need mapped))
     plan.name plan.session plan.moment input found
 
--- the files of a translation are stored, and their classes run
-abbrev pub IsDueOfStored : Plan → Source → List ℕ → List NamedFile → Built → Due → Type 0
-IsDueOfStored plan source input found built =
-    IsDueBehind built.files.items (IsDueOfFiles built.files.items (IsDueOfRun plan source input found))
+-- the files of a translation are stored, and the classes that they spell run
+abbrev pub IsDueOfStored : Plan → Source → List ℕ → List NamedFile → Built → List Class → Due → Type 0
+IsDueOfStored plan source input found built classes = IsDueBehind built.files.items (IsDueOfRun plan source input found classes)
 
 abbrev pub IsDueOfFound : Plan → ℕ → Source → List ℕ → List NamedFile → Due → Type 0
 IsDueOfFound plan method_bytes source input found =

@@ -1,5 +1,5 @@
 -- What `make` is to do.
-use Rattle.std.specs.Prelude.{◌≡◌, ℕ, ◌+◌, ◌*◌, List, [], ◌∷◌, codes, decimal, Option, Some, None}
+use Rattle.std.specs.Prelude.{◌≡◌, ℕ, ◌+◌, ◌*◌, List, [], ◌∷◌, codes, decimal, Option, Some, None, ⊤}
 use Rattle.command_words.specs.Word.{Text}
 use Rattle.command_words.specs.declared.pages.Pages.{Pages}
 use Rattle.elf_image.specs.Start.{Source, image_of}
@@ -13,15 +13,13 @@ use Rattle.mips_asm.specs.File.{IsFileOf}
 use Rattle.mips_decode.specs.Step.{turn}
 use Rattle.mips_machine.specs.Loading.{start_of}
 use Rattle.program_translation.specs.Bounds.{allow, need}
-use Rattle.program_translation.specs.Translation.{IsTranslation}
 use Rattle.program_translation.specs.declared.built.Built.{Built}
-use Rattle.program_translation.specs.declared.named_file.NamedFile.{NamedFile}
+use Rattle.nv_translate.specs.Translated.{Translated}
 use Rattle.command_deeds.specs.declared.done.Done.{Done}
 use Rattle.command_deeds.specs.declared.done.Done.TheVariants.{Good, NotBuilt}
 use Rattle.command_deeds.specs.Deeds.{Due, prints, answers}
 use Rattle.command_deeds.specs.Line.{joined, status_of}
 use Rattle.machine_launch.specs.Runs.{answer_of, run_alone}
-use Rattle.translate_commands.specs.Classes.{AreAccepted, IsDueOfFiles}
 use Rattle.translate_commands.specs.declared.statuses.Statuses.{Statuses}
 use Rattle.translate_commands.specs.Translate.{IsDueOfTranslation}
 
@@ -58,12 +56,10 @@ abbrev pub made : ℕ → ℕ → Source → List Class → Due
 made count moment source classes =
     told count (status_of (interp_end (made_steps count) moment source)) (status_of (classes_end (made_steps count) moment source classes))
 
-abbrev pub IsDueOfClasses : ℕ → ℕ → Source → Built → Due → Type 0
-IsDueOfClasses count moment source built = IsDueOfFiles built.files.items (λ classes due. due ≡ made count moment source classes)
-
 -- what is due of the image of the program
 abbrev pub IsDueOfMade : ℕ → ℕ → ℕ → Source → Due → Type 0
-IsDueOfMade count method_bytes moment source = IsDueOfTranslation source made_name method_bytes (IsDueOfClasses count moment source)
+IsDueOfMade count method_bytes moment source =
+    IsDueOfTranslation source made_name method_bytes (λ built classes due. due ≡ made count moment source classes)
 
 -- what `make` is to do: it writes the file of the program for itself
 abbrev pub IsDueOfMake : ℕ → ℕ → ℕ → Due → Type 0
@@ -73,18 +69,11 @@ IsDueOfMake count method_bytes moment due =
 
 -- ---- the runs
 
--- the classes of files are accepted and end so, or they are refused
-abbrev pub IsEndOfFiles : ℕ → ℕ → Source → List NamedFile → Option Done → Type 0
-IsEndOfFiles steps moment source files (Some end) =
-    (classes : List Class) × AreAccepted files classes × (end ≡ classes_end steps moment source classes)
-IsEndOfFiles steps moment source files None = IsDueOfFiles files (λ classes due. ⊥) (answers NotBuilt)
-
--- a translation ends so, or it was not made, or is refused
+-- the classes of a translation end so, or none was made
 abbrev pub IsEndOfTranslation : ℕ → ℕ → Source → ℕ → Option Done → Type 0
 IsEndOfTranslation steps moment source method_bytes (Some end) =
-    (built : Built) × IsTranslation source made_name method_bytes built × IsEndOfFiles steps moment source built.files.items (Some end)
-IsEndOfTranslation steps moment source method_bytes None =
-    IsDueOfTranslation source made_name method_bytes (λ built. IsDueOfFiles built.files.items (λ classes due. ⊥)) (answers NotBuilt)
+    (built : Built) × (t : Translated source made_name method_bytes built) × (end ≡ classes_end steps moment source t.linked.classes)
+IsEndOfTranslation steps moment source method_bytes None = ⊤
 
 -- both statuses are told, or nothing is
 abbrev pub AreStatuses : ℕ → ℕ → ℕ → Source → Option Statuses → Type 0

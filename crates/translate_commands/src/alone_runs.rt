@@ -1,7 +1,9 @@
 //! The runs of a program on systems of their own, in both machines.
-ghost use Rattle.std.specs.Prelude.{◌≡◌, ◌≤◌, ◌^◌, IfOk};
+ghost use Rattle.std.specs.Prelude.{◌≡◌, ◌≤◌, ◌^◌, List, IfOk};
 ghost use Rattle.command_words.specs.Limits.{AreMethodBytes};
-ghost use Rattle.translate_commands.specs.Make.{IsEndOfFiles, IsEndOfTranslation, classes_end, interp_end};
+ghost use Rattle.jvm_code.specs.declared.class.Class.{Class};
+ghost use Rattle.translate_commands.specs.Classes.{HoldAccepted, SpellClasses};
+ghost use Rattle.translate_commands.specs.Make.{IsEndOfTranslation, classes_end, interp_end};
 
 use crate::classes::verified_files;
 use command_deeds::Done;
@@ -29,8 +31,7 @@ pub fn run_image(alloc: Global, image: &Image, steps: u64, moment: u64) -> Resul
     }
 }
 
-/// How the classes of a program end within as many instructions as so many steps allow. `None` where it was not translated, or its
-/// classes are refused.
+/// How the classes of a program end within as many instructions as so many steps allow. `None` where it was not translated.
 pub fn run_translated(
     alloc: Global,
     image: &Image,
@@ -45,31 +46,28 @@ pub fn run_translated(
     match translate(alloc, image, NAME, method_bytes) {
         Ok(built) => {
             let end = run_files(alloc, image, built.files.as_slice(), steps, moment)?;
-            Ok(end)
+            Ok(Some(end))
         }
         Err(TranslateError::TooLarge) => Ok(None),
         Err(TranslateError::NoMemory) => Err(AllocError),
     }
 }
 
-/// How the classes in files end. `None` where they are refused.
+/// How the classes that files spell end.
 fn run_files(
     alloc: Global,
     image: &Image,
     files: &[NamedFile],
     steps: u64,
     moment: u64,
-) -> Result<Option<Done>, AllocError>
+) -> Result<Done, AllocError>
+    requires accepted { HoldAccepted files.now }
     requires steps { steps ≤ 2 ^ 40 }
-    ensures { IfOk result (IsEndOfFiles steps moment image.now files.now) }
+    ensures { (classes : List Class) → SpellClasses files.now classes
+        → IfOk result (λ end. end ≡ classes_end steps moment image.now classes) }
 {
-    match verified_files(alloc, files)? {
-        Some(verified) => {
-            let end = run_verified(alloc, image, verified, steps, moment)?;
-            Ok(Some(end))
-        }
-        None => Ok(None),
-    }
+    let verified = verified_files(alloc, files)?;
+    run_verified(alloc, image, verified, steps, moment)
 }
 
 /// How verified classes of an image end, in the region that they need.

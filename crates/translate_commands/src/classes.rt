@@ -1,8 +1,8 @@
 //! From the files of a translation to classes that may be run.
-ghost use Rattle.std.specs.Prelude.{◌≡◌, ◌++◌, ◌∷◌, [], All, List, IfOk, IfSome, OnOk, Some, option_map};
+ghost use Rattle.std.specs.Prelude.{◌≡◌, ◌++◌, ◌∷◌, [], All, IfOk, OnOk};
+ghost use Rattle.jvm_link.specs.Linking as linking;
 ghost use Rattle.name_resolution.specs.Kept.{IsClass};
-ghost use Rattle.program_translation.specs.declared.named_file.NamedFile.{NamedFile};
-ghost use Rattle.translate_commands.specs.Classes.{IsVerified, classes_of};
+ghost use Rattle.translate_commands.specs.Classes.{HoldAccepted, SpellClasses};
 
 use class_commands::{Accepted, accept_classes};
 use class_reader::{ReadError, read_class};
@@ -11,44 +11,44 @@ use nv_translate::NamedFile;
 use std::alloc::{AllocError, Global};
 use type_verifier::Verified;
 
-/// The classes in files, linked and verified. `None` where the bytes of a file spell no class, or the classes do not link or are not
-/// typed.
-pub fn verified_files(alloc: Global, files: &[NamedFile]) -> Result<Option<Verified>, AllocError>
-    ensures { IfOk result (IsVerified files.now) }
+/// The classes that files spell, linked and verified.
+pub fn verified_files(alloc: Global, files: &[NamedFile]) -> Result<Verified, AllocError>
+    requires { HoldAccepted files.now }
+    ensures { IfOk result (λ verified. SpellClasses files.now verified.linked.classes) }
 {
     match read_files(alloc, files) {
-        Ok(Some(classes)) => verified_classes(alloc, classes),
-        Ok(None) => Ok(None),
+        Ok(classes) => verified_classes(alloc, classes),
         Err(error) => Err(error),
     }
 }
 
-/// Links classes and verifies them. `None` where they are refused.
-fn verified_classes(alloc: Global, classes: Vec<Class>) -> Result<Option<Verified>, AllocError>
-    requires { All IsClass classes.items }
-    ensures { (files : List NamedFile) → classes_of files ≡ Some classes.items → IfOk result (IsVerified files) }
+/// Links classes that are accepted, and verifies them.
+fn verified_classes(alloc: Global, classes: Vec<Class>) -> Result<Verified, AllocError>
+    requires kept { All IsClass classes.items }
+    requires accepted { linking.Accepted classes.items }
+    ensures { IfOk result (λ verified. verified.linked.classes ≡ classes.items) }
 {
     match accept_classes(alloc, classes) {
-        Ok(Accepted::Verified(verified)) => Ok(Some(verified)),
-        Ok(Accepted::Refused(_)) => Ok(None),
+        Ok(Accepted::Verified(verified)) => Ok(verified),
+        Ok(Accepted::Refused(_)) => unreachable!(),
         Err(_) => Err(AllocError),
     }
 }
 
-/// The classes in files. `None` where the bytes of one spell no class.
-fn read_files(alloc: Global, files: &[NamedFile]) -> Result<Option<Vec<Class>>, AllocError>
-    ensures read { IfOk result (λ found. classes_of files.now ≡ option_map (λ v. v.items) found) }
-    ensures kept { IfOk result (λ found. IfSome found (λ v. All IsClass v.items)) }
+/// The classes that files spell.
+fn read_files(alloc: Global, files: &[NamedFile]) -> Result<Vec<Class>, AllocError>
+    requires { HoldAccepted files.now }
+    ensures { IfOk result (λ classes. SpellClasses files.now classes.items) }
 {
     let mut classes = Vec::new(alloc);
     for file in files {
         match read_class(alloc, file.bytes.as_slice()) {
             Ok(class) => push(&mut classes, class)?,
-            Err(ReadError::Refused(_)) => return Ok(None),
+            Err(ReadError::Refused(_)) => unreachable!(),
             Err(ReadError::NoMemory) => return Err(AllocError),
         }
     }
-    Ok(Some(classes))
+    Ok(classes)
 }
 
 fn push(classes: &mut Vec<Class>, class: Class) -> Result<(), AllocError>

@@ -97,7 +97,7 @@ fn make_image<O: Sink>(
     }
 }
 
-/// The statuses of an image's runs in both machines. `None` where it was not translated, or its classes are refused.
+/// The statuses of an image's runs in both machines. `None` where it was not translated.
 fn statuses(
     alloc: Global,
     image: &Image,

@@ -1,5 +1,6 @@
 //! The run of the classes of a translation.
 ghost use Rattle.std.specs.Prelude.{◌≡◌, ◌≤◌, ◌^◌, ℕ, List, Some, IfOk, false, length};
+ghost use Rattle.jvm_code.specs.declared.class.Class.{Class};
 ghost use Rattle.nv_outside.specs.Faults.{CountsFailure};
 ghost use Rattle.unix_calls.specs.Serving.{counted};
 ghost use Rattle.unix_calls.specs.Starting.{Begins};
@@ -7,7 +8,7 @@ ghost use Rattle.command_deeds.specs.Counts.{StreamCauses, is_stop, shelf_stoppe
 ghost use Rattle.command_deeds.specs.Deeds.{Comes, world};
 ghost use Rattle.guest_commands.specs.Interp.{plan_of};
 ghost use Rattle.machine_launch.specs.Runs.{NamedFile as GuestFile, arguments_of};
-ghost use Rattle.translate_commands.specs.Classes.{IsDueOfFiles};
+ghost use Rattle.translate_commands.specs.Classes.{HoldAccepted, SpellClasses};
 ghost use Rattle.translate_commands.specs.Go.{IsDueOfRun};
 ghost use Rattle.translate_commands.specs.Stores.{IsDueBehind};
 
@@ -36,9 +37,16 @@ pub fn store_and_run<H: Shelf, S: Source, O: Sink, E: Sink>(
     out: &mut O,
     err: &mut E,
 ) -> Result<Done, Stop>
+    requires accepted { HoldAccepted files.now }
     requires steps { guest.now.launch.session.now.steps ≤ 2 ^ 40 }
     requires few { length unix.ahead ≤ 4096 }
-    ensures comes { (found : List GuestFile) (rest : List ℕ) → Begins unix guest.now.launch.session.now.disk guest.now.launch.moment found (arguments_of guest.now.launch.name.now guest.now.launch.session.now) → S.rest input.old ≡ Some rest → Comes (IsDueBehind files.now (IsDueOfFiles files.now (IsDueOfRun (plan_of guest.now) image.now rest found))) (world (H.files shelf.old) (S.rest input.old) (O.taken out.old) (E.taken err.old)) (world (H.files shelf.new) (S.rest input.new) (O.taken out.new) (E.taken err.new)) result }
+    ensures comes { (classes : List Class) (found : List GuestFile) (rest : List ℕ) → SpellClasses files.now classes
+        → Begins unix guest.now.launch.session.now.disk guest.now.launch.moment found
+        (arguments_of guest.now.launch.name.now guest.now.launch.session.now)
+        → S.rest input.old ≡ Some rest
+        → Comes (IsDueBehind files.now (IsDueOfRun (plan_of guest.now) image.now rest found classes))
+        (world (H.files shelf.old) (S.rest input.old) (O.taken out.old) (E.taken err.old))
+        (world (H.files shelf.new) (S.rest input.new) (O.taken out.new) (E.taken err.new)) result }
     ensures answer { IfOk result (λ d. is_stop d ≡ false) }
     ensures count { CountsFailure (shelf_stopped result) (H.faults shelf.old) (H.faults shelf.new) }
     ensures causes { StreamCauses (counted (S.faults input.old) (O.faults out.old) (E.faults err.old)) (counted (S.faults input.new) (O.faults out.new) (E.faults err.new)) result }
@@ -62,19 +70,23 @@ fn run_files<H: Shelf, S: Source, O: Sink, E: Sink>(
     out: &mut O,
     err: &mut E,
 ) -> Result<Done, Stop>
+    requires accepted { HoldAccepted files.now }
     requires steps { guest.now.launch.session.now.steps ≤ 2 ^ 40 }
     requires few { length unix.ahead ≤ 4096 }
-    ensures comes { (found : List GuestFile) (rest : List ℕ) → Begins unix guest.now.launch.session.now.disk guest.now.launch.moment found (arguments_of guest.now.launch.name.now guest.now.launch.session.now) → S.rest input.old ≡ Some rest → Comes (IsDueOfFiles files.now (IsDueOfRun (plan_of guest.now) image.now rest found)) (world (H.files shelf.old) (S.rest input.old) (O.taken out.old) (E.taken err.old)) (world (H.files shelf.new) (S.rest input.new) (O.taken out.new) (E.taken err.new)) result }
+    ensures comes { (classes : List Class) (found : List GuestFile) (rest : List ℕ) → SpellClasses files.now classes
+        → Begins unix guest.now.launch.session.now.disk guest.now.launch.moment found
+        (arguments_of guest.now.launch.name.now guest.now.launch.session.now)
+        → S.rest input.old ≡ Some rest
+        → Comes (IsDueOfRun (plan_of guest.now) image.now rest found classes)
+        (world (H.files shelf.old) (S.rest input.old) (O.taken out.old) (E.taken err.old))
+        (world (H.files shelf.new) (S.rest input.new) (O.taken out.new) (E.taken err.new)) result }
     ensures answer { IfOk result (λ d. is_stop d ≡ false) }
     ensures count { CountsFailure (shelf_stopped result) (H.faults shelf.old) (H.faults shelf.new) }
     ensures causes { StreamCauses (counted (S.faults input.old) (O.faults out.old) (E.faults err.old)) (counted (S.faults input.new) (O.faults out.new) (E.faults err.new)) result }
     ensures err_count { E.faults err.old ≤ E.faults err.new }
 {
     match verified_files(alloc, files) {
-        Ok(Some(verified)) => run_verified(
-            alloc, guest, image, verified, unix, shelf, input, out, err,
-        ),
-        Ok(None) => Ok(Done::NotBuilt),
+        Ok(verified) => run_verified(alloc, guest, image, verified, unix, shelf, input, out, err),
         Err(_) => Err(Stop::NoMemory),
     }
 }

@@ -1,2 +1,2 @@
 mod ChoiceLaws
-mod TranslatedPrograms
+pub mod TranslatedPrograms

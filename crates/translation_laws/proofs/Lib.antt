@@ -3,3 +3,5 @@ mod TranslatedMethods
 mod TranslatedLoading
 mod TranslatedTypes
 mod AcceptedTranslations
+mod CountedTranslations
+mod WarmTranslations

@@ -8,4 +8,9 @@ pub mod Accepted
 pub mod Stored
 pub mod Images
 pub mod Running
+pub mod Counts
+pub mod Staying
+pub mod Warm
+pub mod Sizes
+pub mod Ends
 pub mod Translated

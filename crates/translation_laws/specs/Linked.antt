@@ -23,7 +23,8 @@ use Rattle.program_classes.specs.Code as codes
 use Rattle.program_classes.specs.Pages.{Page}
 use Rattle.program_classes.specs.Data.{words_plan, fill_plan}
 use Rattle.program_translation.specs.declared.named_file.NamedFile.{NamedFile}
-use Rattle.program_translation.specs.Classes.{Placed, AreCodeClasses, run_of, starts_of}
+use Rattle.program_translation.specs.Classes.{Placed, AreCodeClasses, run_of, starts_of, spans_of}
+use Rattle.program_translation.specs.Blocks.{blocks_of}
 use Rattle.program_translation.specs.DataFiles.{class_count, filled_pages, pages_of_class, class_number, first_method}
 use Rattle.program_translation.specs.declared.built.Built.{Built}
 use Rattle.program_translation.specs.MainFile.{IsContent}
@@ -64,11 +65,13 @@ pub record HasDataClass (program : Program) (code_classes methods : ℕ) (pages 
       (words_plan by ∷ fill_plan texts (class_number code_classes k) (first_method methods k) by ∷ [])
 
 -- The files of a translation spell classes, in which no name stands twice. In the program that these are, each field and each method is what it
--- was planned to be, and has its number, and there are no others.
+-- was planned to be, and has its number, and there are no others. The layout has the spans of the classes of code, and their blocks.
 pub record IsLinked (source : Source) (name : Text) (method_bytes : ℕ) (built : Built) : Type 0 where
   pub code : List Placed
   pub some : 1 ≤ length code
   pub code_is : AreCodeClasses source method_bytes code
+  pub spans_are : built.layout.spans.items ≡ spans_of code
+  pub blocks_are : built.layout.blocks.items ≡ blocks_of 0 code
   pub main : MainClass
   pub content : IsContent source (starts_of code) (map run_of code) (fills_behind source code) main
   pub classes : List Class

@@ -10,8 +10,8 @@ use Rattle.program_translation.specs.Pages.{page_words}
 use Rattle.program_translation.specs.DataFiles.{class_count, filled_pages, first_method, fill_of}
 use Rattle.program_translation.specs.MainFile.{beginning_of}
 use Rattle.program_translation.specs.Translation.{code_methods}
-use Rattle.loading_laws.specs.Loaded.{Filler, MakesMemory, run_shares, memory_turns}
-use Rattle.loading_laws.specs.Made.{IsProgram}
+use Rattle.translation_runs.specs.LoadingLaws.Loaded.{Filler, MakesMemory, run_shares, memory_turns}
+use Rattle.translation_runs.specs.LoadingLaws.Made.{IsProgram}
 
 -- A method takes no part in loading: it is not the program's first one, nor the one that makes pages, nor one of a class of data.
 pub record TakesNoPart (source : Source) (code : List Placed) (m : ℕ) : Type 0 where

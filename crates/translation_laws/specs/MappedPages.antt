@@ -2,7 +2,7 @@
 use Rattle.std.specs.Prelude.{◌≡◌}
 use Rattle.elf_image.specs.Start.{Source, image_of, readable}
 use Rattle.elf_image.specs.Pages.{pages_below, count_below}
-use Rattle.loading_laws.specs.Images.{IsWhole}
+use Rattle.translation_runs.specs.LoadingLaws.Images.{IsWhole}
 
 -- It is pages of words, and as many are mapped as can be read. Each image is so.
 pub record HasMappedPages (source : Source) : Type 0 where

@@ -7,8 +7,8 @@ use Rattle.delay_slots.specs.Units.{units_of}
 use Rattle.span_code.specs.Pieces.{flagged}
 use Rattle.class_members.specs.Numbers.{choose_number, missing_number}
 use Rattle.program_translation.specs.Classes.{Placed}
-use Rattle.translated_programs.specs.Classes.{CodeClass}
-use Rattle.translated_programs.specs.Programs.{IsTranslated}
+use Rattle.translation_runs.specs.TranslatedPrograms.Classes.{CodeClass}
+use Rattle.translation_runs.specs.TranslatedPrograms.Programs.{IsTranslated}
 
 -- a class of a translation, whose range has these words
 abbrev pub class_of : Placed → List ℕ → CodeClass

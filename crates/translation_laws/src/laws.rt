@@ -13,12 +13,16 @@ ghost use Rattle.translation_laws.specs.Images.{IsImage};
 ghost use Rattle.translation_laws.specs.Running.{RunsAlike};
 ghost use Rattle.translation_laws.specs.Translated.{Translated};
 
-use crate::accepted_translations::translations_are_accepted;
+use crate::accepted_translations::{translations_are_accepted, translations_are_sets};
+use crate::counted_translations::translations_count_alike;
+use crate::ended_translations::runs_end_alike;
 use crate::linked_translations::translations_link;
+use crate::sized_translations::translated_spans_keep_to_the_limit;
 use crate::translated_loading::{others_do_not_load, translations_load};
 use crate::translated_methods::translations_stand;
+use crate::warm_translations::translations_are_warm;
 use elf_image::Image;
-use loading_laws::laws::images_are_pages;
+use translation_runs::images_are_pages;
 use translation_runs::laws::translated_programs_run_alike;
 
 /// The classes of a translation run as the program does: for every list of answers of the system and every bound, both ways.
@@ -33,7 +37,7 @@ pub fn translations_run_alike()
     translated_programs_run_alike();
 }
 
-/// Every translation of an image is so: its classes are accepted, and run as the image's program.
+/// Every translation of an image is so: its classes are accepted, and run as the image's program does; they count no more than it, and are warm.
 pub fn images_are_translated(image: &Image)
     ensures { (name : Text) (method_bytes : ℕ) (built : Built) → IsClassName name → 4096 ≤ method_bytes
         → IsTranslation image.now name method_bytes built → Translated image.now name method_bytes built }
@@ -43,7 +47,12 @@ pub fn images_are_translated(image: &Image)
     is_word(image.entry());
     translations_link();
     translations_are_accepted();
+    translations_are_sets();
+    translated_spans_keep_to_the_limit();
     translations_run_alike();
+    runs_end_alike();
+    translations_count_alike();
+    translations_are_warm();
 }
 
 // It does nothing: an address that code has at hand is a word.

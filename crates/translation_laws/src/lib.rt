@@ -2,8 +2,12 @@
 #![tactic(auto)]
 
 pub mod accepted_translations;
+pub mod counted_translations;
+pub mod ended_translations;
 pub mod laws;
 pub mod linked_translations;
+pub mod sized_translations;
 pub mod translated_loading;
 pub mod translated_methods;
 pub mod translated_types;
+pub mod warm_translations;

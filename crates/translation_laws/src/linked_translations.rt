@@ -10,8 +10,8 @@ ghost use Rattle.translation_laws.specs.WholeCode.{HasWholeCode};
 ghost use Rattle.translation_laws.specs.Linked.{IsLinked};
 
 use elf_image::Image;
-use guest_follows::lawful_units::units_are_lawful;
 use linked_names::named_code::names_are_meant;
+use translation_runs::units_are_lawful;
 
 /// The code of an image is whole: its file was accepted.
 pub fn images_have_whole_code(image: &Image)

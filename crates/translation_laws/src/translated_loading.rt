@@ -15,7 +15,7 @@ ghost use Rattle.translation_laws.specs.MappedPages.{HasMappedPages};
 ghost use Rattle.translation_laws.specs.Loading.{TakesNoPart, LoadsSource};
 
 use equal_shares::laws::shares_are_all;
-use loading_laws::laws::{images_are_pages, loading_takes, shares_tell_runs};
+use translation_runs::{images_are_pages, loading_takes, shares_tell_runs};
 
 /// A linked translation of a program that was accepted makes that program's memory and begins as it does, in a region of as many words as are
 /// needed, and no method that takes no part is run meanwhile.

@@ -1,3 +1,4 @@
 mod ChoicePasses
 mod TurnLaws
 pub mod TranslationRuns
+pub mod TranslatedPrograms

@@ -10,7 +10,7 @@ use Rattle.jvm_program.specs.Effect.{Workspace}
 use Rattle.jvm_program.specs.Step.{State, Frame, placed, turn}
 use Rattle.machine_counts.specs.Classes.{executed}
 use Rattle.code_paths.specs.Paths.{LooksAtNoTarget}
-use Rattle.emitted_laws.specs.Counting.{Counts}
+use Rattle.span_laws.specs.EmittedLaws.Counting.{Counts}
 
 -- So many turns that only move lead from one state to another, and count at most so much.
 pub record Goes (program : Program) (words : ℕ) (is_span : ℕ → Bool) (n most_reads most_entries : ℕ) (x y : State) : Type 0 where

@@ -4,3 +4,6 @@ pub mod Counted
 pub mod Rests
 pub mod Marks
 pub mod Translated
+pub mod LoadingLaws
+pub mod SpanLaws
+pub mod TranslatedPrograms

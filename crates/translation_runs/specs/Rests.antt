@@ -8,7 +8,7 @@ use Rattle.delay_slots.specs.Units.{units_of}
 use Rattle.jvm_program.specs.Program.{Program}
 use Rattle.jvm_program.specs.Effect.{Workspace}
 use Rattle.jvm_program.specs.Step.{State, Frame}
-use Rattle.guest_follows.specs.Sites.{stands}
+use Rattle.span_laws.specs.GuestFollows.Sites.{stands}
 use Rattle.span_laws.specs.InPieces.{StandsInPiece, offset_in}
 use Rattle.translated_programs.specs.Classes.{CodeClass, is_span, span_words}
 use Rattle.translation_runs.specs.Standing.{IsGuest, IsBelow, AtChoose, AtRun, AtWord, span_site}

@@ -11,9 +11,9 @@ use Rattle.delay_slots.specs.Units.{units_of}
 use Rattle.code_steps.specs.Placing.{LiesAt}
 use Rattle.guest_match.specs.Match.{pc_field}
 use Rattle.word_emitter.specs.Exits.{returns}
-use Rattle.guest_follows.specs.Sites as sites
-use Rattle.guest_follows.specs.Sites.{Site}
-use Rattle.emitted_laws.specs.Pieces.{HoldsAll}
+use Rattle.span_laws.specs.GuestFollows.Sites as sites
+use Rattle.span_laws.specs.GuestFollows.Sites.{Site}
+use Rattle.span_laws.specs.EmittedLaws.Pieces.{HoldsAll}
 use Rattle.span_code.specs.Laying.{entry_at}
 use Rattle.span_laws.specs.Spans.{StandsAt}
 use Rattle.translated_programs.specs.Coming.{stray_fault}

@@ -5,3 +5,11 @@
 pub mod choice_passes;
 pub mod laws;
 pub mod turn_laws;
+
+pub use loading_laws::laws::{images_are_pages, loading_takes, shares_tell_runs};
+pub use span_laws::laws::{
+    pieces_are_made, pieces_follow, spans_are_entered, stretches_are_of_pieces,
+};
+pub use span_laws::piece_registers::lines_of_pieces_read_and_write_registers_once;
+pub use span_laws::units_are_lawful;
+pub use translated_programs::laws::spans_are_numbered;

@@ -13,11 +13,11 @@ ghost use Rattle.translation_runs.specs.Marks.{AtPiece, MarksPieces};
 
 use crate::choice_passes::{choosers_lead_to_words, guests_fault_outside_code, spans_come_back};
 use delay_slots::{unit_is_its_steps, unit_leads_on};
-use emitted_laws::unit_counts::{pcs_are_words, units_are_counted, units_make_steps};
 use span_laws::span_steps::{
     last_units_in_pieces_are_followed, pieces_are_entered, units_in_pieces_are_followed,
     units_stand_in_pieces, words_alone_are_followed,
 };
+use span_laws::{pcs_are_words, units_are_counted, units_make_steps};
 use translated_programs::laws::{
     classes_stand, spans_are_apart, spans_are_numbered, spans_lie_in_classes,
 };

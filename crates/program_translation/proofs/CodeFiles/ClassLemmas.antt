@@ -9,7 +9,9 @@ use Rattle.program_classes.specs.declared.part.Part.{Part}
 use Rattle.program_translation.specs.declared.code_files.Code.{Code}
 use Rattle.program_translation.specs.Places.{Place, IsPartAt}
 use Rattle.program_translation.specs.Classes.{Placed, Follow, run_of, methods_behind, IsPlaced, ArePlaced, IsCodeFile, starts_of_class, spans_of_class}
+use Rattle.program_translation.specs.Blocks.{blocks_of_class}
 use Rattle.program_translation.specs.Adding.{IsTold, AddsClass, HasPlaces}
+use Rattle.program_translation.proofs.CodeFiles.BlockLemmas.{blocks-push}
 
 follow-push : (number first : ℕ) (classes : List Placed) (c : Placed) → Follow number first classes → c.number ≡ number + length classes
     → c.first_method ≡ methods_behind first classes → Follow number first (classes ++ c ∷ [])
@@ -23,8 +25,8 @@ behind-push first [] c = refl
 behind-push first (x ∷ classes) c = behind-push (run_of x + 1) classes c
 
 pub no-places : (code : ℕ → Option ℕ) (name : Text) (method_bytes : ℕ) (c : Code) → c.files.items ≡ [] → c.starts.items ≡ [] → c.runs.items ≡ []
-    → c.spans.items ≡ [] → c.methods ≡ main_methods → HasPlaces code name method_bytes [] c
-no-places code name method_bytes c files starts runs spans methods = record {
+    → c.spans.items ≡ [] → c.blocks.items ≡ [] → c.methods ≡ main_methods → HasPlaces code name method_bytes [] c
+no-places code name method_bytes c files starts runs spans blocks methods = record {
   classes = [];
   placed = record { follow = tt; each = tt };
   told = record {
@@ -32,6 +34,7 @@ no-places code name method_bytes c files starts runs spans methods = record {
     starts_are = starts;
     runs_are = runs;
     spans_are = spans;
+    blocks_are = blocks;
     methods_are = methods;
   };
 }
@@ -48,6 +51,10 @@ module _ (name : Text) (method_bytes : ℕ) (part : Part) (old new : Code) (adds
     runs_are = adds.runs_are ∙ ap (λ l. l ++ run_of adds.class ∷ []) told.runs_are ∙ sym (map_push run_of classes adds.class);
     spans_are =
         adds.spans_are ∙ ap (λ l. l ++ spans_of_class adds.class) told.spans_are ∙ flat_map_more spans_of_class [] classes adds.class;
+    blocks_are =
+        adds.blocks_are
+        ∙ ap (λ l. l ++ blocks_of_class (length old.spans.items) adds.class) told.blocks_are
+        ∙ sym (blocks-push 0 classes adds.class (length old.spans.items) (omega (arith, ap length told.spans_are)));
     methods_are = adds.methods_are ∙ sym (behind-push main_methods classes adds.class);
   }
 

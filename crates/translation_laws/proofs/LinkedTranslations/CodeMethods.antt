@@ -20,7 +20,7 @@ use Rattle.program_classes.specs.Tables.{references_of}
 use Rattle.program_classes.specs.Making.{Plan, nothing}
 use Rattle.program_classes.specs.Code.{IsCodeClass, span_at, code_of_span, span_plan, span_plans, start_at, starts_of, address, run_plan}
 use Rattle.program_translation.specs.Classes.{Placed, run_of}
-use Rattle.guest_follows.specs.Lawful.{IsLawful}
+use Rattle.translation_runs.specs.SpanLaws.Lawful.{IsLawful}
 use Rattle.linked_names.specs.Before.{methods_before}
 use Rattle.linked_names.specs.Planned.{planned, numbered}
 use Rattle.linked_names.specs.Translated.{methods_of_code}

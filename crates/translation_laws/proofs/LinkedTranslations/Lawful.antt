@@ -15,7 +15,7 @@ use Rattle.code_ranges.specs.Ranges.{IsRangeCode}
 use Rattle.program_translation.specs.Classes.{Placed, IsPlaced, AreCodeClasses}
 use Rattle.program_translation.specs.Places.{Place, class_words, place_at, places_in, places_of}
 use Rattle.delay_slots.specs.declared.unit.Unit.{Unit}
-use Rattle.guest_follows.specs.Lawful.{IsLawful}
+use Rattle.translation_runs.specs.SpanLaws.Lawful.{IsLawful}
 use Rattle.translation_laws.specs.WholeCode.{HasWholeCode}
 use Rattle.translation_laws.proofs.LinkedTranslations.Lists.{mapped-from, get-either, zip-second, all-got}
 

@@ -153,6 +153,8 @@ module _ (names-law : NamesLaw) (lawful-law : LawfulLaw) (source : Source) (name
         code = t.code;
         some = t.some;
         code_is = t.code_is;
+        spans_are = t.spans_are;
+        blocks_are = t.blocks_are;
         main = main;
         content = t.main_is.content;
         classes = classes;

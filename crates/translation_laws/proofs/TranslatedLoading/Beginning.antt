@@ -9,15 +9,15 @@ use Rattle.guest_code.specs.Fields.{linked_field}
 use Rattle.loading_code.specs.declared.beginning.Beginning.{Beginning}
 use Rattle.loading_code.specs.Starting.{run_code}
 use Rattle.loading_code.specs.Pages.{pages_code}
-use Rattle.loading_laws.specs.Leading.{IsMethod}
+use Rattle.translation_runs.specs.LoadingLaws.Leading.{IsMethod}
 use Rattle.class_members.specs.Fields.{field_descriptor}
 use Rattle.class_members.specs.Numbers.{run_number, choose_number, pages_number}
 use Rattle.program_classes.specs.Making.{Plan}
 use Rattle.program_classes.specs.declared.content.MainClass.{MainClass}
 use Rattle.program_classes.specs.Main.{helper_plan, helper_plans, run_plan, choose_plan, pages_plan, other_plans, main_plans}
 use Rattle.translation_laws.specs.Linked.{IsPlanned, ArePlanned}
-use Rattle.loading_laws.specs.Loaded.{Filler, numbers_of}
-use Rattle.loading_laws.specs.Made.{IsProgram}
+use Rattle.translation_runs.specs.LoadingLaws.Loaded.{Filler, numbers_of}
+use Rattle.translation_runs.specs.LoadingLaws.Made.{IsProgram}
 use Rattle.translation_laws.proofs.TranslatedLoading.Planned.{no-parameters, a-text, planned-method, planned-lies, planned-behind, counted-length}
 
 -- ---- fields

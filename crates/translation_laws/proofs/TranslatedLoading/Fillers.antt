@@ -12,7 +12,7 @@ use Rattle.program_classes.specs.Pages.{Page}
 use Rattle.program_classes.specs.Data.{words_plan, fill_plan}
 use Rattle.program_translation.specs.Pages.{page_words}
 use Rattle.program_translation.specs.DataFiles.{class_pages, class_count, class_number, filled_pages, pages_of_class, first_method, fill_of, fills_of}
-use Rattle.loading_laws.specs.Loaded.{Filler, IsFiller, HasSlots, numbers_of, slots_of}
+use Rattle.translation_runs.specs.LoadingLaws.Loaded.{Filler, IsFiller, HasSlots, numbers_of, slots_of}
 use Rattle.translation_laws.specs.Linked.{IsPlanned, HasDataClass}
 use Rattle.translation_laws.proofs.TranslatedLoading.Planned.{no-parameters, ints-and-text, planned-method, planned-lies, first-planned}
 use Rattle.translation_laws.proofs.TranslatedLoading.Pages.{numbers_of_pages, pages_of_slots, class-pages-are, pages-spelled, pages-named, numbers-shared, class-has-pages}

@@ -18,7 +18,7 @@ use Rattle.loading_code.specs.declared.page_slot.PageSlot.{PageSlot}
 use Rattle.program_classes.specs.Pages.{Page}
 use Rattle.program_translation.specs.Pages.{page_words, page_at, filled_below}
 use Rattle.program_translation.specs.DataFiles.{class_pages, class_count, filled_pages, pages_of_class}
-use Rattle.loading_laws.specs.Loaded.{HasPage}
+use Rattle.translation_runs.specs.LoadingLaws.Loaded.{HasPage}
 use Rattle.translation_laws.specs.Linked.{SpellsPage}
 
 abbrev pub numbers_of_pages : List Page → List ℕ

@@ -7,7 +7,7 @@ use Rattle.jvm_program.specs.declared.kind.Kind.TheVariants as kinds
 use Rattle.jvm_program.specs.Program.{Program}
 use Rattle.jvm_link.specs.Linking.{parameters_of, parameters_from}
 use Rattle.code_steps.specs.Placing.{LiesAt}
-use Rattle.loading_laws.specs.Leading.{IsMethod}
+use Rattle.translation_runs.specs.LoadingLaws.Leading.{IsMethod}
 use Rattle.program_classes.specs.Making.{Plan, nothing}
 use Rattle.program_classes.specs.Called.{pages_descriptor}
 use Rattle.program_classes.specs.DataNaming.{words_descriptor}

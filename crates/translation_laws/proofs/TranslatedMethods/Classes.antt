@@ -17,7 +17,7 @@ use Rattle.program_classes.specs.Code as codes
 use Rattle.program_translation.specs.Places.{Place}
 use Rattle.program_translation.specs.Classes.{Placed, IsPlaced}
 use Rattle.translation_laws.specs.Linked.{HasCodeClass, IsPlanned}
-use Rattle.translated_programs.specs.Classes.{CodeClass, IsClass, HasClass, run_of, span_words}
+use Rattle.translation_runs.specs.TranslatedPrograms.Classes.{CodeClass, IsClass, HasClass, run_of, span_words}
 use Rattle.translation_laws.specs.Standing.{class_of}
 use Rattle.translation_laws.proofs.TranslatedMethods.Planned.{planned-method, planned-lies, left-of, right-of, counted-first}
 use Rattle.translation_laws.proofs.TranslatedMethods.Cutting.{few-spans, joined-spans}

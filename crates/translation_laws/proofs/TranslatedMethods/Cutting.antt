@@ -8,7 +8,7 @@ use Rattle.method_splitter.specs.Cuts.{span_weight, Cuts, Fills}
 use Rattle.method_splitter.specs.declared.span.Span.{Span}
 use Rattle.program_classes.specs.declared.part.Part.{Part}
 use Rattle.program_translation.specs.Spans.{weight_at, weights_of}
-use Rattle.translated_programs.specs.Classes.{AreJoined}
+use Rattle.translation_runs.specs.TranslatedPrograms.Classes.{AreJoined}
 use Rattle.translation_laws.proofs.TranslatedMethods.Weights.{weight-small}
 use Rattle.translation_laws.proofs.TranslatedMethods.Elements.{all-counted}
 

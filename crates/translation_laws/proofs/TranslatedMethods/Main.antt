@@ -9,8 +9,8 @@ use Rattle.code_steps.specs.Placing.{LiesAt}
 use Rattle.code_assembly.specs.declared.references.References.{References}
 use Rattle.mem_helpers.specs.Methods.{helper_code}
 use Rattle.trampoline.specs.Choosers.{main_chooser, missing_code}
-use Rattle.translated_programs.specs.Choosing.{IsMethod}
-use Rattle.guest_follows.specs.Helpers.{HasHelpers, IsHelper, helper_parameters, helper_count}
+use Rattle.translation_runs.specs.TranslatedPrograms.Choosing.{IsMethod}
+use Rattle.translation_runs.specs.SpanLaws.Helpers.{HasHelpers, IsHelper, helper_parameters, helper_count}
 use Rattle.class_members.specs.Helpers.{helper_descriptor}
 use Rattle.class_members.specs.Numbers.{choose_number, missing_number}
 use Rattle.program_classes.specs.Making.{Plan}

@@ -5,7 +5,7 @@ use Rattle.constant_pool.specs.Names.{after_field}
 use Rattle.jvm_program.specs.Program.{Program}
 use Rattle.jvm_link.specs.Linking.{parameters_of, parameters_from}
 use Rattle.code_steps.specs.Placing.{LiesAt}
-use Rattle.translated_programs.specs.Choosing.{IsMethod}
+use Rattle.translation_runs.specs.TranslatedPrograms.Choosing.{IsMethod}
 use Rattle.program_classes.specs.Making.{Plan, nothing}
 use Rattle.translation_laws.specs.Linked.{IsPlanned}
 use Rattle.translation_laws.proofs.TranslatedMethods.Lines.{lies}

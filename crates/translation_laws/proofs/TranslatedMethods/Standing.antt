@@ -10,14 +10,14 @@ use Rattle.jvm_program.specs.Program.{Program}
 use Rattle.jvm_link.specs.Linking.{program_of}
 use Rattle.code_steps.specs.Placing.{LiesAt}
 use Rattle.trampoline.specs.Choosers.{main_chooser}
-use Rattle.guest_follows.specs.Helpers.{HasHelpers}
+use Rattle.translation_runs.specs.SpanLaws.Helpers.{HasHelpers}
 use Rattle.class_members.specs.Numbers.{main_methods, choose_number, missing_number}
 use Rattle.program_translation.specs.Places.{Place, places_of}
 use Rattle.program_translation.specs.Classes.{IsPlaced}
 use Rattle.program_translation.specs.declared.built.Built.{Built}
 use Rattle.translation_laws.specs.Linked.{IsLinked}
-use Rattle.translated_programs.specs.Classes.{CodeClass, starts_of}
-use Rattle.translated_programs.specs.Programs.{IsInClass, IsTranslated}
+use Rattle.translation_runs.specs.TranslatedPrograms.Classes.{CodeClass, starts_of}
+use Rattle.translation_runs.specs.TranslatedPrograms.Programs.{IsInClass, IsTranslated}
 use Rattle.std.proofs.lemmas.Slice.Zip.{AllZip-long}
 use Rattle.translation_laws.specs.AcceptedCode.{HasAcceptedCode}
 use Rattle.translation_laws.specs.Standing.{Stands}

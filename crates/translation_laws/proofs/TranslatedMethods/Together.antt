@@ -13,8 +13,8 @@ use Rattle.program_translation.specs.Places.{Place}
 use Rattle.program_translation.specs.Classes as files
 use Rattle.program_translation.specs.Classes.{Placed, IsPlaced, Follow}
 use Rattle.translation_laws.specs.Linked.{HasCodeClass}
-use Rattle.translated_programs.specs.Classes.{CodeClass, HasClass, AreNumbered, AreOrdered, GoesOn, address, end_of, is_last, run_of, class_starts, starts_of}
-use Rattle.translated_programs.specs.Programs.{IsInClass}
+use Rattle.translation_runs.specs.TranslatedPrograms.Classes.{CodeClass, HasClass, AreNumbered, AreOrdered, GoesOn, address, end_of, is_last, run_of, class_starts, starts_of}
+use Rattle.translation_runs.specs.TranslatedPrograms.Programs.{IsInClass}
 use Rattle.translation_laws.specs.Standing.{class_of, IsClassOf}
 use Rattle.translation_laws.proofs.TranslatedMethods.Places.{IsGood, Ends, GoesOnIn, BeginsBehind, AreRising}
 use Rattle.translation_laws.proofs.TranslatedMethods.Words.{IsAtPlace}

@@ -5,7 +5,7 @@ use Rattle.jvm_program.specs.declared.kind.Kind.TheVariants.{Int, Text}
 use Rattle.jvm_program.specs.Program.{Program}
 use Rattle.jvm_link.specs.Linking.{parameters_of, parameters_from, gives_int}
 use Rattle.code_assembly.specs.declared.references.References.{References}
-use Rattle.guest_follows.specs.Helpers.{helper_parameters}
+use Rattle.translation_runs.specs.SpanLaws.Helpers.{helper_parameters}
 use Rattle.class_members.specs.Helpers.{helper_descriptor}
 use Rattle.class_members.specs.Numbers.{run_number, choose_number, pages_number, missing_number}
 use Rattle.program_classes.specs.Making.{Plan}

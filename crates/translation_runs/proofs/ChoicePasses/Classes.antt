@@ -12,9 +12,9 @@ use Rattle.delay_slots.specs.Units.{units_of}
 use Rattle.code_steps.specs.declared.step.Step.{Step}
 use Rattle.code_paths.specs.Paths.{weigh}
 use Rattle.guest_match.specs.Match.{pc_field}
-use Rattle.guest_follows.specs.Sites as sites
-use Rattle.guest_follows.specs.Sites.{Site}
-use Rattle.emitted_laws.specs.Pieces.{HoldsAll}
+use Rattle.span_laws.specs.GuestFollows.Sites as sites
+use Rattle.span_laws.specs.GuestFollows.Sites.{Site}
+use Rattle.span_laws.specs.EmittedLaws.Pieces.{HoldsAll}
 use Rattle.span_code.specs.declared.span_words.SpanWords.{SpanWords}
 use Rattle.span_code.specs.Laying.{base}
 use Rattle.span_laws.specs.Entering.{entering, IsEntered}

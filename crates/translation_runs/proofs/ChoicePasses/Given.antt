@@ -20,8 +20,8 @@ use Rattle.code_steps.specs.Outcomes.{outcome_from, stopped}
 use Rattle.code_steps.specs.Placing.{LiesAt}
 use Rattle.code_paths.specs.Paths.{Path, PathWithin, step_weight, weigh}
 use Rattle.guest_match.specs.Match.{pc_field}
-use Rattle.guest_follows.specs.Sites.{Site}
-use Rattle.emitted_laws.specs.Pieces.{HoldsAll}
+use Rattle.span_laws.specs.GuestFollows.Sites.{Site}
+use Rattle.span_laws.specs.EmittedLaws.Pieces.{HoldsAll}
 use Rattle.span_code.specs.declared.span_words.SpanWords.{SpanWords}
 use Rattle.span_code.specs.Neighbours as span
 use Rattle.span_code.specs.Laying.{entry_at, span_code}

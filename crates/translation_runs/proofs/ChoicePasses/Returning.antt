@@ -8,7 +8,7 @@ use Rattle.mips_decode.specs.State as guest
 use Rattle.code_steps.specs.Placing.{placed_line, LiesAt}
 use Rattle.code_paths.proofs.Joining.{turn-path, turn-weighs, seen-within}
 use Rattle.word_emitter.specs.Exits.{returns}
-use Rattle.guest_follows.specs.Sites.{Site, stands, turn_in}
+use Rattle.span_laws.specs.GuestFollows.Sites.{Site, stands, turn_in}
 use Rattle.translated_programs.specs.Classes.{CodeClass, run_of, is_span}
 use Rattle.translation_runs.specs.Going.{ComesTo, with_frame}
 use Rattle.translation_runs.specs.Standing.{StandsChoosing, AtRun, AtReturn, span_site}

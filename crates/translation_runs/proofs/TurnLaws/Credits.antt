@@ -11,7 +11,7 @@ use Rattle.delay_slots.specs.declared.unit.Unit.{Unit}
 use Rattle.delay_slots.specs.declared.unit.Unit.TheVariants as units
 use Rattle.span_code.specs.Neighbours as span
 use Rattle.span_laws.specs.Resuming.{IsOutside, jumps_by_register}
-use Rattle.emitted_laws.specs.Steps.{begins_with_register_jump}
+use Rattle.span_laws.specs.EmittedLaws.Steps.{begins_with_register_jump}
 use Rattle.translated_programs.specs.Classes.{CodeClass, is_span, span_words, counted_span, counted_spans}
 use Rattle.translation_runs.specs.Going.{Goes}
 use Rattle.translation_runs.specs.Counted.{Counted, Reads, Chars, Switches, Entries, weight, paid, owed, credit}

@@ -15,8 +15,8 @@ use Rattle.jvm_program.specs.Effect.{Workspace}
 use Rattle.jvm_program.specs.Step.{State, Frame, placed, turn}
 use Rattle.machine_counts.specs.Classes.{executed, reads}
 use Rattle.code_paths.specs.Paths.{LooksAtNoTarget, Path}
-use Rattle.guest_follows.specs.Sites.{Site}
-use Rattle.guest_follows.specs.Following.{ComesToTurn}
+use Rattle.span_laws.specs.GuestFollows.Sites.{Site}
+use Rattle.span_laws.specs.GuestFollows.Following.{ComesToTurn}
 use Rattle.span_laws.specs.Counting.{SparesMoves}
 use Rattle.span_laws.specs.Resuming.{ComesTo, ComesToByAnswers, FollowsInSpan, LastInSpan}
 use Rattle.translated_programs.specs.Classes.{CodeClass}

@@ -19,18 +19,18 @@ use Rattle.block_builder.specs.Leaders.{is_plain}
 use Rattle.code_steps.specs.Placing.{LiesAt}
 use Rattle.guest_code.specs.Units.{unit_code}
 use Rattle.word_emitter.specs.Pieces.{bank_of}
-use Rattle.guest_follows.specs.Holding.{HoldsOn}
-use Rattle.guest_follows.specs.Sites.{Site, stands, whole_weight}
-use Rattle.guest_follows.specs.Following.{Follows}
-use Rattle.emitted_laws.specs.Instructions.{IsReady}
-use Rattle.guest_follows.specs.Lawful.{IsLawful, KnownByUnit}
+use Rattle.span_laws.specs.GuestFollows.Holding.{HoldsOn}
+use Rattle.span_laws.specs.GuestFollows.Sites.{Site, stands, whole_weight}
+use Rattle.span_laws.specs.GuestFollows.Following.{Follows}
+use Rattle.span_laws.specs.EmittedLaws.Instructions.{IsReady}
+use Rattle.span_laws.specs.GuestFollows.Lawful.{IsLawful, KnownByUnit}
 use Rattle.span_code.specs.declared.span_words.SpanWords.{SpanWords}
 use Rattle.span_code.specs.Pieces.{begins}
 use Rattle.span_code.specs.Laying.{entry_at}
 use Rattle.span_laws.specs.Counting.{SparesMoves}
 use Rattle.span_laws.specs.Spans.{HasSpan, StandsAt}
-use Rattle.emitted_laws.specs.Counting.{SparesHelpers, UnitCounts, unit_reads}
-use Rattle.emitted_laws.specs.Steps.{GoesThroughSlot, LeadsToWords, begins_with_register_jump, unit_trail}
+use Rattle.span_laws.specs.EmittedLaws.Counting.{SparesHelpers, UnitCounts, unit_reads}
+use Rattle.span_laws.specs.EmittedLaws.Steps.{GoesThroughSlot, LeadsToWords, begins_with_register_jump, unit_trail}
 use Rattle.span_laws.specs.InPieces.{HasUnit, StandsInPiece, fetching, known_behind, offset_in, own_units}
 use Rattle.span_laws.specs.Following.{EntersPiece, UnitFollowsBy, UnitGoesOn}
 use Rattle.translated_programs.specs.Coming.{stray_fault}

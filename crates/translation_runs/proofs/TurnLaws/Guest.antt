@@ -13,7 +13,7 @@ use Rattle.mips_decode.specs.Table.{inst}
 use Rattle.mips_decode.specs.Step.{turn, turn_by, executed, instruction_turn, effect, called, into_slot, past_slot, question_of, after_call, loader_question, after_loader}
 use Rattle.machine_counts.specs.Guest.{Span, holds, in_one_span, crosses, crossings, goes_out, is_by, is_register_jump, instruction_at}
 use Rattle.delay_slots.specs.Turns.{UnitTurns, one_turn, two_turns, turn_count, last_turn, AreMade}
-use Rattle.emitted_laws.specs.Steps.{unit_trail, GoesThroughSlot}
+use Rattle.span_laws.specs.EmittedLaws.Steps.{unit_trail, GoesThroughSlot}
 use Rattle.translation_runs.proofs.TurnLaws.Inner.{is_fault}
 use Rattle.translation_runs.proofs.TurnLaws.Turning.{HasTurns, trail_to}
 

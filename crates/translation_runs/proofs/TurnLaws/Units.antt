@@ -23,16 +23,16 @@ use Rattle.delay_slots.specs.Turns.{AreMade, HasRange, IsBetweenUnits, LeadsOn, 
 use Rattle.block_builder.specs.Blocks.{unit_at}
 use Rattle.block_builder.specs.Leaders.{is_plain}
 use Rattle.word_emitter.specs.Pieces.{bank_of}
-use Rattle.guest_follows.specs.Holding.{HoldsOn}
-use Rattle.guest_follows.specs.Sites.{Site, stands, turn_in, whole_weight}
-use Rattle.guest_follows.specs.Following as unit_follows
+use Rattle.span_laws.specs.GuestFollows.Holding.{HoldsOn}
+use Rattle.span_laws.specs.GuestFollows.Sites.{Site, stands, turn_in, whole_weight}
+use Rattle.span_laws.specs.GuestFollows.Following as unit_follows
 use Rattle.span_code.specs.declared.span_words.SpanWords.{SpanWords}
 use Rattle.span_code.specs.Neighbours.{address}
 use Rattle.span_code.specs.Pieces.{begins}
 use Rattle.span_laws.specs.Resuming.{ComesTo, FollowsInSpan, IsOutside, LastInSpan, Resumes, StandsAtReturn, StandsAtWord, jumps_by_register}
 use Rattle.span_laws.specs.Spans.{HasSpan, StandsAt}
-use Rattle.emitted_laws.specs.Counting.{ReadsNoneToCall, UnitCounts, unit_reads}
-use Rattle.emitted_laws.specs.Steps.{GoesThroughSlot, LeadsToWords, begins_with_register_jump, unit_trail}
+use Rattle.span_laws.specs.EmittedLaws.Counting.{ReadsNoneToCall, UnitCounts, unit_reads}
+use Rattle.span_laws.specs.EmittedLaws.Steps.{GoesThroughSlot, LeadsToWords, begins_with_register_jump, unit_trail}
 use Rattle.span_laws.specs.InPieces.{HasUnit, StandsInPiece, fetching, known_behind, offset_in, own_units}
 use Rattle.translated_programs.specs.Classes.{CodeClass, is_span, span_words, counted_span, counted_spans}
 use Rattle.translation_runs.specs.Standing.{IsGuest, IsBelow, span_site, word_entry}

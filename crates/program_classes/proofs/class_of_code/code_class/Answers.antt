@@ -1,4 +1,4 @@
-use Rattle.std.proofs.Common.{◌≡◌, ◌∷◌, [], ◌++◌, length, ap, ◌∙◌, subst}
+use Rattle.std.proofs.Common.{◌≡◌, ◌∷◌, [], ◌++◌, ◌<◌, All, length, ap, sym, ◌∙◌, subst}
 use Rattle.constant_pool.specs.declared.entry.Entry.TheVariants.{MethodRef}
 use Rattle.code_assembly.specs.declared.references.References.{References}
 use Rattle.class_builder.specs.Named.{IsClassAt}
@@ -12,10 +12,11 @@ use Rattle.program_classes.specs.Making.{AddsMethods, nothing}
 use Rattle.program_classes.specs.CodeNaming.{code_mentions}
 use Rattle.program_classes.specs.Code.{span_plans, run_plan}
 use Rattle.program_classes.proofs.ClassMaking.MakingLemmas.{adds-more, made-all, adds-fields, adds-name}
+use Rattle.program_classes.proofs.CodeBlocks.RisingLemmas.{pieces-numbered}
 use Rattle.program_classes.proofs.class_of_code.code_class.Goals as goal
 
-pub returns : goal.returns
-returns c =
+pub returns-clause-class : goal.returns-clause-class
+returns-clause-class c =
     let part = c.args.part.now in
     let spans = c.args.spans.now in
     let named = c.in_ok-named.named in
@@ -30,7 +31,8 @@ returns c =
     let before = span_plans part spans first (length spans) in
     let last = run_plan part spans c.args.first_method own ∷ [] in
     let spans_added : AddsMethods named.class middle before =
-    subst (λ r. AddsMethods named.class middle (span_plans part spans r (length spans))) c.with_methods-references.ensures c.in_ok-pieces.ensures in
+    subst (λ r. AddsMethods named.class middle (span_plans part spans r (length spans))) c.with_methods-references.ensures
+    c.in_ok-pieces.ensures.methods in
     let run_added : AddsMethods middle final last =
     subst (λ r. AddsMethods middle final (run_plan part spans c.args.first_method r ∷ [])) other c.in_ok-add_run.ensures in
     let all = adds-more named.class middle final before last spans_added run_added in
@@ -55,3 +57,8 @@ returns c =
           (mentions-still named.class.pool final.pool _ told.mentions all.mentions);
       methods = made-all named.class final (before ++ last) all told.no_methods;
     }
+
+pub returns-clause-pieces_within : goal.returns-clause-pieces_within
+returns-clause-pieces_within c =
+    let spans = c.args.spans.now in
+    subst (All (λ p. p.span < length spans)) (sym c.in_ok-pieces.ensures.pieces) (pieces-numbered c.args.part.now spans)

@@ -1,6 +1,9 @@
+use Rattle.std.proofs.Common.{◌≡◌}
 use Rattle.program_classes.specs.Making.{AddsMethods}
 use Rattle.program_classes.specs.Code.{span_plans}
+use Rattle.program_classes.specs.Blocks.{first_pieces}
 use Rattle.program_classes.proofs.spans.add_spans.Given as goal
 
 abbrev pub invariant-loop-k : goal.invariant-loop-k
-invariant-loop-k l = AddsMethods l.initial.class l.class (span_plans l.part l.spans l.references l.k)
+invariant-loop-k l =
+    AddsMethods l.initial.class l.class (span_plans l.part l.spans l.references l.k) × (l.pieces.items ≡ first_pieces l.part l.spans l.k)

@@ -11,7 +11,7 @@ use Rattle.program_translation.proofs.code_files.code_of.Goals as goal
 pub loop-range-init : goal.loop-range-init
 loop-range-init c =
     no-places (image_of c.args.image.now).code c.args.name.now c.args.method_bytes _ c.new.ensures.items c.new-4.ensures.items
-    c.new-5.ensures.items c.new-2.ensures.items refl
+    c.new-5.ensures.items c.new-2.ensures.items c.new-3.ensures.items refl
 
 pub loop-range-preserved : goal.loop-range-preserved
 loop-range-preserved c =

@@ -1,6 +1,9 @@
-use Rattle.std.proofs.Common.{◌+◌, length, refl, ap, ◌∙◌, subst}
+use Rattle.std.proofs.Common.{◌+◌, ◌<◌, ◌≤◌, length, refl, ap, ◌∙◌, arith, subst}
+use Rattle.std.proofs.lemmas.List.Elements.{All-weaker}
 use Rattle.class_members.specs.ClassNames.{file_name}
 use Rattle.program_classes.specs.Code.{IsCodeClass}
+use Rattle.program_classes.specs.declared.piece.Piece.{Piece}
+use Rattle.program_classes.specs.Blocks.{pieces_of_class}
 use Rattle.program_translation.specs.Classes.{Placed, span_infos}
 use Rattle.program_translation.proofs.coding.code_file.Goals as goal
 
@@ -22,8 +25,16 @@ returns-clause-value c =
       };
       file_is = record {
         named = c.in_ok-file_name.ensures ∙ ap file_name (c.as_str.ensures.value ∙ c.in_ok-class_name.ensures);
-        class = subst (λ s. IsCodeClass name number part s first c.in_ok-made.made.bytes.items) c.as_slice-2.ensures.value c.in_ok-made.ensures;
+        class = subst (λ s. IsCodeClass name number part s first c.in_ok-made.made.bytes.items) c.as_slice-2.ensures.value c.in_ok-made.ensures.class;
       };
-      spans_are = c.in_ok-infos.ensures ∙ ap (λ s. span_infos number part s (length s)) c.as_slice-4.ensures.value;
+      spans_are = c.in_ok-infos.ensures ∙ ap (λ s. span_infos number part s (length s)) c.as_slice-3.ensures.value;
+      pieces_are = c.in_ok-made.ensures.pieces ∙ ap (pieces_of_class part) c.as_slice-2.ensures.value;
       run_is = c.in_ok-run.ensures.value ∙ ap (λ s. first + length s) c.as_slice.ensures.value;
     }
+
+pub returns-clause-pieces : goal.returns-clause-pieces
+returns-clause-pieces c =
+    let spans = c.as_slice-2.result.now in
+    let few : length spans ≤ 2048 = omega (arith, ap length c.as_slice-2.ensures.value, c.in_ok-spans.ensures.few) in
+    All-weaker (λ (p : Piece). p.span < length spans) (λ (p : Piece). p.span < 2048) (λ p within. omega (arith, within, few))
+    c.in_ok-made.made.pieces.items c.in_ok-made.ensures.pieces_within

@@ -57,5 +57,6 @@ returns c =
           subst (λ classes. AreDataFiles name classes (code_methods code) pages count data_files) many
           (subst (λ m. AreDataFiles name c.len.result m pages count data_files) methods stored.files_are);
       spans_are = coded.told.spans_are;
+      blocks_are = coded.told.blocks_are;
       need_is = c.need.ensures ∙ ap need c.mapped.ensures.sum;
     }

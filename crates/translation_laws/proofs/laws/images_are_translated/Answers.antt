@@ -2,7 +2,9 @@ use Rattle.std.proofs.Common.{sym, subst, ◌∙◌}
 use Rattle.nv_words.specs.Words.{IsWord}
 use Rattle.elf_image.specs.Start.{Source}
 use Rattle.translation_laws.specs.WholeCode.{HasWholeCode}
+use Rattle.jvm_link.specs.Linking.{program_of}
 use Rattle.translation_laws.specs.Linked.{IsLinked}
+use Rattle.translation_laws.specs.Running.{RunsAlike}
 use Rattle.translation_laws.specs.AcceptedCode.{HasAcceptedCode}
 use Rattle.translation_laws.specs.Images.{IsImage}
 use Rattle.translation_laws.proofs.laws.images_are_translated.Goals as goal
@@ -21,8 +23,15 @@ returns c name method_bytes built lawful large is =
       entry = subst IsWord c.entry.ensures c.is_word.ensures;
     } in
     let linked : IsLinked source name method_bytes built = c.translations_link.ensures source name method_bytes built whole lawful is in
+    let alike : RunsAlike source (program_of linked.classes) = c.translations_run_alike.ensures source name method_bytes built image large linked in
     record {
+      is = is;
       linked = linked;
       accepted = c.translations_are_accepted.ensures.all source name method_bytes built code lawful is linked;
-      runs = c.translations_run_alike.ensures source name method_bytes built image large linked;
+      stored = λ files stored. c.translations_are_sets.ensures source name method_bytes built files code lawful is linked stored;
+      sized = c.translated_spans_keep_to_the_limit.ensures source method_bytes linked.code linked.code_is;
+      runs = alike;
+      ends = c.runs_end_alike.ensures source linked.classes alike;
+      counts = c.translations_count_alike.ensures source name method_bytes built image large linked;
+      warm = c.translations_are_warm.ensures source name method_bytes built image large linked;
     }

@@ -12,7 +12,7 @@ use Rattle.jvm_link.specs.Linking.{program_of}
 use Rattle.class_members.specs.Numbers.{run_number, choose_number, pages_number, missing_number}
 use Rattle.program_translation.specs.DataFiles.{class_count, filled_pages, first_method}
 use Rattle.program_classes.specs.Content.{text_runs}
-use Rattle.loading_laws.specs.Loaded.{run_shares}
+use Rattle.translation_runs.specs.LoadingLaws.Loaded.{run_shares}
 use Rattle.program_translation.specs.Bounds.{allow}
 use Rattle.program_translation.specs.MainFile.{beginning_of}
 use Rattle.program_translation.specs.Translation.{code_methods}

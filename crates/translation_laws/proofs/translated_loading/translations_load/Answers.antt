@@ -12,8 +12,8 @@ use Rattle.program_translation.specs.Pages.{page_words, filled_below}
 use Rattle.program_translation.specs.Bounds.{need}
 use Rattle.program_translation.specs.MainFile.{beginning_of}
 use Rattle.program_translation.specs.Translation.{code_methods}
-use Rattle.loading_laws.specs.Loaded.{Filler, MakesMemory, TellsRuns, run_shares, pages_told, slots_of, memory_turns}
-use Rattle.loading_laws.specs.Made.{IsProgram}
+use Rattle.translation_runs.specs.LoadingLaws.Loaded.{Filler, MakesMemory, TellsRuns, run_shares, pages_told, slots_of, memory_turns}
+use Rattle.translation_runs.specs.LoadingLaws.Made.{IsProgram}
 use Rattle.translation_laws.proofs.TranslatedLoading.Pages.{numbers_of_pages, pages_of_slots, pages-counted}
 use Rattle.translation_laws.proofs.TranslatedLoading.Fillers.{fillers, all-fill, all-have-slots, all-numbers, all-slots}
 use Rattle.translation_laws.proofs.TranslatedLoading.Beginning.{pages-method, pages-lie, main-begins}

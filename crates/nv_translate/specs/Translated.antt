@@ -1,0 +1,2 @@
+-- What is proved of a translation.
+pub use Rattle.translation_laws.specs.Translated.{Translated}

@@ -1,0 +1,4 @@
+pub mod Totals
+pub mod OwnWords
+pub mod SpanSizes
+pub mod CutSizes
