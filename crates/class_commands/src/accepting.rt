@@ -1,52 +1,40 @@
-ghost use Rattle.std.specs.Prelude.{◌≡◌, ◌⊎◌, ℕ, All, IfErr, IfOk, IfSome};
-ghost use Rattle.class_set.specs.ClassSets.{class_set};
+ghost use Rattle.std.specs.Prelude.{◌≡◌, ◌++◌, All, IfOk, codes, string_bytes};
+ghost use Rattle.class_set.specs.ClassSets.{file_of};
 ghost use Rattle.class_set.specs.Kept.{IsKept};
 ghost use Rattle.class_set.specs.declared.loaded.Loaded.TheVariants.{Classes};
 ghost use Rattle.name_resolution.specs.Kept.{IsClass};
-ghost use Rattle.nv_outside.specs.Faults.{CountsFailure};
-ghost use Rattle.nv_outside.specs.Files.{SameFiles};
-ghost use Rattle.class_commands.specs.Classes.{IsAccepted, IsNoStop};
-ghost use Rattle.command_deeds.specs.Counts.{shelf_stopped};
+ghost use Rattle.class_commands.specs.Classes.{AreVerified, IsAcceptedSet, IsRefusal, IsRefusedLoaded, IsRefusedSet};
+ghost use Rattle.command_deeds.specs.Ends.{Gives, Makes};
+ghost use Rattle.command_deeds.specs.World.{shelf_seen};
 
-use crate::accepted::Accepted;
 use class_set::{Loaded, load_set};
-use command_deeds::{Done, Stop};
+use command_deeds::{Done, Ending, Stop};
+use command_words::Named;
 use jvm_code::Class;
 use jvm_link::{LinkError, Linked, link};
-use nv_outside::{Shelf, ShelfError};
-use std::alloc::Global;
-use type_verifier::{VerifyError, verify};
+use nv_outside::Shelf;
+use std::alloc::{AllocError, Global};
+use type_verifier::{Verified, VerifyError, verify};
 
-/// Loads the set of a class, links it and verifies it. `word` is the word that names the class.
-pub fn accept<H: Shelf>(
-    alloc: Global,
-    word: u32,
-    name: &str,
-    shelf: &mut H,
-) -> Result<Accepted, Stop>
-    ensures accepted { IfSome (H.files shelf.old) (λ files. IfOk result (IsAccepted word (class_set files name.now))) }
-    ensures answer { IfOk result IsNoStop }
-    ensures same { SameFiles (H.files shelf.old) (H.files shelf.new) }
-    ensures stop { IfErr result (λ stop. (stop ≡ Stop.ShelfFault) ⊎ (stop ≡ Stop.NoMemory)) }
-    ensures count { CountsFailure (shelf_stopped result) (H.faults shelf.old) (H.faults shelf.new) }
+/// Loads the set of a class, links it and verifies it.
+pub fn accept<H: Shelf>(alloc: Global, name: &Named, shelf: &mut H) -> Result<Verified, Ending>
+    ensures gives { Gives (IsAcceptedSet name.now) (IsRefusedSet name.now) (shelf_seen H.Shelf shelf.old) (shelf_seen H.Shelf shelf.new) result }
 {
-    match load_set(alloc, shelf, name) {
-        Ok(loaded) => accept_loaded(alloc, word, loaded),
-        Err(ShelfError::Failed) => Err(Stop::ShelfFault),
-        Err(ShelfError::NoMemory) => Err(Stop::NoMemory),
-    }
+    let loaded = load_set(alloc, shelf, name.text.as_str())?;
+    accept_loaded(alloc, name, loaded)
 }
 
 /// Links and verifies a set that was loaded, if it was.
-fn accept_loaded(alloc: Global, word: u32, loaded: Loaded) -> Result<Accepted, Stop>
+fn accept_loaded(alloc: Global, name: &Named, loaded: Loaded) -> Result<Verified, Ending>
     requires kept { IsKept loaded }
-    ensures accepted { IfOk result (IsAccepted word loaded) }
-    ensures answer { IfOk result IsNoStop }
-    ensures stop { IfErr result (λ stop. stop ≡ Stop.NoMemory) }
+    ensures makes { Makes (λ verified. loaded ≡ Classes verified.linked.classes) (IsRefusedLoaded name.now loaded) result }
 {
     match loaded {
-        Loaded::NoFile => Ok(Accepted::Refused(Done::NoInput(word))),
-        Loaded::Faulty { class, fault } => Ok(Accepted::Refused(Done::ClassRefused {
+        Loaded::NoFile => Err(Ending::NoFile {
+            word: name.word,
+            name: class_file(alloc, name.text.as_str())?,
+        }),
+        Loaded::Faulty { class, fault } => Err(Ending::Refused(Done::ClassRefused {
             class,
             kind: fault.kind,
             at: fault.at,
@@ -55,29 +43,34 @@ fn accept_loaded(alloc: Global, word: u32, loaded: Loaded) -> Result<Accepted, S
     }
 }
 
+/// The file of a class.
+fn class_file(alloc: Global, name: &str) -> Result<String, AllocError>
+    ensures { IfOk result (λ file. string_bytes file ≡ file_of name.now) }
+{
+    let mut file = String::from_str(alloc, name)?;
+    file.push_str(".class")?;
+    Ok(file)
+}
+
 /// Links classes and verifies them.
-pub fn accept_classes(alloc: Global, classes: Vec<Class>) -> Result<Accepted, Stop>
+pub fn accept_classes(alloc: Global, classes: Vec<Class>) -> Result<Verified, Ending>
     requires kept { All IsClass classes.items }
-    ensures accepted { (word : ℕ) → IfOk result (IsAccepted word (Classes classes.items)) }
-    ensures answer { IfOk result IsNoStop }
-    ensures stop { IfErr result (λ stop. stop ≡ Stop.NoMemory) }
+    ensures makes { Makes (AreVerified classes.items) (IsRefusal classes.items) result }
 {
     match link(alloc, classes) {
         Ok(linked) => accept_linked(alloc, linked),
-        Err(LinkError::Refused(fault)) => Ok(Accepted::Refused(Done::LinkRefused(fault))),
-        Err(LinkError::NoMemory) => Err(Stop::NoMemory),
+        Err(LinkError::Refused(fault)) => Err(Ending::Refused(Done::LinkRefused(fault))),
+        Err(LinkError::NoMemory) => Err(Ending::Stopped(Stop::NoMemory)),
     }
 }
 
 /// Verifies linked classes.
-fn accept_linked(alloc: Global, linked: Linked) -> Result<Accepted, Stop>
-    ensures accepted { (word : ℕ) → IfOk result (IsAccepted word (Classes linked.classes)) }
-    ensures answer { IfOk result IsNoStop }
-    ensures stop { IfErr result (λ stop. stop ≡ Stop.NoMemory) }
+fn accept_linked(alloc: Global, linked: Linked) -> Result<Verified, Ending>
+    ensures makes { Makes (AreVerified linked.classes) (IsRefusal linked.classes) result }
 {
     match verify(alloc, linked) {
-        Ok(verified) => Ok(Accepted::Verified(verified)),
-        Err(VerifyError::Refused(fault)) => Ok(Accepted::Refused(Done::VerifyRefused(fault))),
-        Err(VerifyError::NoMemory) => Err(Stop::NoMemory),
+        Ok(verified) => Ok(verified),
+        Err(VerifyError::Refused(fault)) => Err(Ending::Refused(Done::VerifyRefused(fault))),
+        Err(VerifyError::NoMemory) => Err(Ending::Stopped(Stop::NoMemory)),
     }
 }

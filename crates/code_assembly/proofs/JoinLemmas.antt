@@ -12,7 +12,7 @@ use Rattle.code_steps.specs.Outcomes.{stays_within}
 use Rattle.code_steps.specs.Placing.{placed_instruction, placed_line, laid}
 use Rattle.code_steps.specs.Widths.{width, bytes_before, size}
 use Rattle.code_assembly.specs.declared.references.References.{References}
-use Rattle.code_assembly.specs.Assembling.{step_has_operation, have_operations, needs_no_padding, switches_are_placed, slots_of, AreKnown}
+use Rattle.code_assembly.specs.Assembling.{step_has_operation, have_operations, needs_no_padding, switches_are_placed, AreKnown}
 
 pub size-joined : (first second : List Step) → size (first ++ second) ≡ size first + size second
 size-joined [] second = omega arith
@@ -108,11 +108,7 @@ pub starts-joined : (at target : ℕ) (first second : List Step) → stays_withi
 starts-joined at target first second within =
     ap (λ ls. is_some (line_in ls target)) (lines-joined at first second within) ∙ found-either (laid at first) (laid (at + size first) second) target
 
--- ---- slots and names
-
-pub slots-joined : (first second : List Step) → slots_of (first ++ second) ≡ slots_of first + slots_of second
-slots-joined [] second = omega arith
-slots-joined (s ∷ first) second = omega (arith, slots-joined first second)
+-- ---- names
 
 pub known-joined : (r : References) (classes : List Class) (number : ℕ) (c : Class) (gives : Bool) (first second : List Step) → AreKnown r classes number c gives first → AreKnown r classes number c gives second → AreKnown r classes number c gives (first ++ second)
 known-joined r classes number c gives [] second known also = also

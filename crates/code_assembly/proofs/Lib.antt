@@ -4,6 +4,8 @@ pub mod Switches
 pub mod Forms
 pub mod Pushes
 pub mod Placed
+pub mod Counts
+pub mod Taking
 pub mod Spelled
 pub mod StartLemmas
 pub mod FitLemmas

@@ -23,7 +23,7 @@ use Rattle.code_steps.specs.declared.step.Step.TheVariants.{Does, Skips, Leaves,
 use Rattle.code_steps.specs.Widths.{width, bytes_before, size}
 use Rattle.code_steps.specs.Placing.{placed_instruction, placed_line, laid}
 use Rattle.code_assembly.specs.declared.references.References.{References}
-use Rattle.code_assembly.specs.Assembling.{Extends, StepIsKnown, AreKnown, lines_at, line_size, lines_size, step_has_operation, have_operations, needs_no_padding, switches_are_placed, step_slots, slots_of, AreLinked, targets_are_lines, is_method}
+use Rattle.code_assembly.specs.Assembling.{Extends, StepIsKnown, AreKnown, lines_at, line_size, lines_size, step_has_operation, have_operations, needs_no_padding, switches_are_placed, pushed_by, constants_of, AreLinked, targets_are_lines, is_method}
 use Rattle.code_assembly.specs.Operations.{IsStepOperation, has_operation_at}
 use Rattle.code_assembly.proofs.Pools.{extends-itself, extends-further}
 use Rattle.code_assembly.proofs.Offsets.{AreEnds, bytes-le, bytes-suc, rest-begins, target-is}
@@ -243,10 +243,10 @@ next-placed r code ends i s pool op ends_are few h is can stand made =
         let low : bytes_before code (suc (i + k)) ≤ size code = bytes-le code (suc (i + k)) in
         (ends_are (i + k) within ∙ target ∙ ap (λ n. bytes_before code i + n + bytes_before (drop (suc i) code) k) three, omega arith)
 
--- ---- slots
+-- ---- constants
 
-pub slots-next : (code : List Step) (i : ℕ) (s : Step) → i < length code → s ≡ get_or code i s → slots_of (drop i code) ≡ step_slots s + slots_of (drop (i + 1) code)
-slots-next code i s h is = ap slots_of (rest-begins code i s h is) ∙ ap (λ n. step_slots s + slots_of (drop n code)) (sym (add-one i))
+pub constants-next : (code : List Step) (i : ℕ) (s : Step) → i < length code → s ≡ get_or code i s → constants_of (drop i code) ≡ pushed_by s ++ constants_of (drop (i + 1) code)
+constants-next code i s h is = ap constants_of (rest-begins code i s h is) ∙ ap (λ n. pushed_by s ++ constants_of (drop n code)) (sym (add-one i))
 
 -- ---- all steps
 

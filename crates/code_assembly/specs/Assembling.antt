@@ -1,7 +1,7 @@
 -- Code as operations of a class file: which code can be made into them, what it takes of the pool, when a class knows what it names,
 -- and where the operations stand.
 use Rattle.std.specs.Prelude.{◌≡◌, ℕ, ◌+◌, ◌-◌, ◌%◌, ◌^◌, pos, negsuc, ◌&&◌, ◌||◌, ◌==◌, nat_lt, nat_le, Bool, true, false, if◌then◌else◌, List, [], ◌∷◌, ◌++◌, map, length, slice_index, Option, Some, None, is_some, IfSome, IsTrue}
-use Rattle.std.specs.List.{list_all, list_any}
+use Rattle.std.specs.List.{flat_map, list_all, list_any}
 use Rattle.std.specs.Int.{w32}
 use Rattle.nv_words.specs.Words.{signed_of}
 use Rattle.class_format.specs.Format.{fits_signed, chain_fits}
@@ -97,20 +97,37 @@ constant_slots (constants.Int n) = if lies_from (negsuc 32767) (pos 32767) (sign
 constant_slots (constants.Long n) = 2
 constant_slots (constants.Text class slot) = 1
 
-abbrev pub instruction_slots : Instruction → ℕ
-instruction_slots (instructions.Push constant) = constant_slots constant
-instruction_slots _ = 0
+-- the constant that a step pushes, if it pushes one
+abbrev pub constant_of : Step → Option Constant
+constant_of (Does (instructions.Push constant)) = Some constant
+constant_of s = None
 
-abbrev pub step_slots : Step → ℕ
-step_slots (Does instruction) = instruction_slots instruction
-step_slots (Skips name k) = 0
-step_slots (Leaves target) = 0
-step_slots (Selects s) = 0
+abbrev pub listed : Option Constant → List Constant
+listed None = []
+listed (Some constant) = constant ∷ []
 
--- the slots of the constants of all steps, if none were there and none came twice
+abbrev pub pushed_by : Step → List Constant
+pushed_by s = listed (constant_of s)
+
+abbrev pub constants_of : List Step → List Constant
+constants_of code = flat_map pushed_by code
+
+abbrev pub same_constant : Constant → Constant → Bool
+same_constant constants.Null constants.Null = true
+same_constant (constants.Int n) (constants.Int m) = n == m
+same_constant (constants.Long n) (constants.Long m) = n == m
+same_constant (constants.Text class slot) (constants.Text other_class other_slot) = class == other_class && slot == other_slot
+same_constant _ _ = false
+
+-- the slots of constants that are the same as none before them; some stand before all of them
+abbrev pub slots_beside : List Constant → List Constant → ℕ
+slots_beside before [] = 0
+slots_beside before (c ∷ constants) =
+    (if list_any (same_constant c) before then 0 else constant_slots c) + slots_beside (c ∷ before) constants
+
+-- the slots of the constants of all steps, if none were there: each constant takes them once
 abbrev pub slots_of : List Step → ℕ
-slots_of [] = 0
-slots_of (s ∷ code) = step_slots s + slots_of code
+slots_of code = slots_beside [] (constants_of code)
 
 -- a pool is another one with entries behind
 pub record Extends (old new : List Entry) : Type 0 where

@@ -1,8 +1,10 @@
 -- The operations of instructions and steps, one by one.
-use Rattle.std.specs.Prelude.{◌≡◌, ℕ, suc, ◌+◌, ◌^◌, ◌<◌, ◌&&◌, ◌==◌, nat_lt, Bool, true, false, if◌then◌else◌, List, [], ◌∷◌, length, slice_index, Option, Some, None, is_some}
+use Rattle.std.specs.Prelude.{◌≡◌, ℕ, suc, ◌+◌, ◌^◌, ◌<◌, ◌≤◌, pos, negsuc, ◌&&◌, ◌==◌, nat_lt, Bool, true, false, if◌then◌else◌, List, [], ◌∷◌, length, slice_index, Option, Some, None, is_some, IfSome, All}
+use Rattle.std.specs.Int.{cast_signed, w64}
 use Rattle.std.specs.List.{list_all}
 use Rattle.nv_words.specs.Words.{signed_of}
 use Rattle.constant_pool.specs.declared.entry.Entry.{Entry}
+use Rattle.constant_pool.specs.declared.entry.Entry.TheVariants as entries
 use Rattle.constant_pool.specs.Slots.{IsAt}
 use Rattle.jvm_code.specs.declared.class.Class.{Class}
 use Rattle.jvm_code.specs.declared.op.Op.{Op}
@@ -15,6 +17,8 @@ use Rattle.jvm_code.specs.Code.{targets_of as op_targets}
 use Rattle.jvm_code.specs.Instructions.{operands_fit}
 use Rattle.jvm_code.specs.Writing.{size_at}
 use Rattle.jvm_program.specs.declared.array_kind.ArrayKind.TheVariants.{Ints}
+use Rattle.jvm_program.specs.declared.constant.Constant.{Constant}
+use Rattle.jvm_program.specs.declared.constant.Constant.TheVariants as constants
 use Rattle.jvm_program.specs.declared.local_kind.LocalKind.{LocalKind}
 use Rattle.jvm_program.specs.declared.local_kind.LocalKind.TheVariants.{Int, Reference}
 use Rattle.jvm_program.specs.declared.instruction.Instruction.{Instruction}
@@ -23,10 +27,10 @@ use Rattle.jvm_program.specs.Program.{line_in, targets_of}
 use Rattle.jvm_link.specs.Linking.{linked_instruction}
 use Rattle.code_steps.specs.declared.step.Step.{Step}
 use Rattle.code_steps.specs.declared.step.Step.TheVariants.{Does, Skips, Leaves, Selects}
-use Rattle.code_steps.specs.Widths.{instruction_width, width, bytes_before}
+use Rattle.code_steps.specs.Widths.{lies_from, instruction_width, width, bytes_before}
 use Rattle.code_steps.specs.Placing.{laid}
 use Rattle.code_assembly.specs.declared.references.References.{References}
-use Rattle.code_assembly.specs.Assembling.{Extends, IsKnown, has_operation, switch_has_operation, step_has_operation, needs_no_padding, reference_of}
+use Rattle.code_assembly.specs.Assembling.{Extends, IsKnown, slots_beside, has_operation, switch_has_operation, step_has_operation, needs_no_padding, reference_of}
 
 -- ---- what an operation of an instruction is
 
@@ -60,6 +64,27 @@ pub record IsInSlot (pool : List Entry) (name : PoolName) (e : Entry) (op : Op) 
   pub small : slot < 2 ^ 16
   pub is : op ≡ ops.Pool name slot
   pub there : IsAt pool slot e
+
+-- the entry of a constant, if it takes a slot
+abbrev pub entry_of : Constant → Option Entry
+entry_of constants.Null = None
+entry_of (constants.Int n) = if lies_from (negsuc 32767) (pos 32767) (signed_of n) then None else Some (entries.Integer (signed_of n))
+entry_of (constants.Long bits) = Some (entries.Long (cast_signed w64 bits))
+entry_of (constants.Text class slot) = Some (entries.Text slot)
+
+-- the entry of a constant stands in a pool, if it takes a slot
+abbrev pub Has : List Entry → Constant → Type 0
+Has pool constant = IfSome (entry_of constant) (λ e. (slot : ℕ) × IsAt pool slot e)
+
+-- Constants are put into a pool: nothing changes where all are there, and they take no more slots than they need.
+pub record AddsConstants (old new : List Entry) (added : List Constant) : Type 0 where
+  pub same : All (Has old) added → new ≡ old
+  pub few : length new ≤ length old + slots_beside [] added
+
+-- One of the constants is not there, and fewer slots are left than they need.
+pub record LacksSlots (old : List Entry) (added : List Constant) : Type 0 where
+  pub lacks : All (Has old) added → ⊥
+  pub few : 65534 < length old + slots_beside [] added
 
 abbrev pub is_push : Instruction → Bool
 is_push (instructions.Push constant) = true

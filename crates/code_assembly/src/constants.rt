@@ -1,8 +1,8 @@
 //! Instructions that push constants (JVM Specification, 2.11.2).
-ghost use Rattle.std.specs.Prelude.{◌≡◌, ℕ, pos, negsuc, ◌+◌, ◌<◌, ◌≤◌, true, false, IsTrue, List, [], ◌∷◌, length, IfOk, Err};
+ghost use Rattle.std.specs.Prelude.{◌≡◌, ℕ, pos, negsuc, ◌+◌, ◌<◌, ◌≤◌, true, false, IsTrue, List, [], ◌∷◌, length, IfOk, OnOk, Err};
 ghost use Rattle.std.specs.List.{list_all};
 ghost use Rattle.nv_words.specs.Words.{unsigned_of};
-ghost use Rattle.constant_pool.specs.Slots.{is_rest, slots_of_entry};
+ghost use Rattle.constant_pool.specs.Slots.{IsAt, IsMissing, is_rest, slots_of_entry};
 ghost use Rattle.constant_pool.specs.declared.error.PoolError.TheVariants.{Full};
 ghost use Rattle.jvm_program.specs.declared.instruction.Instruction.TheVariants.{Push};
 ghost use Rattle.jvm_link.specs.Linking.{iconst_word};
@@ -10,8 +10,8 @@ ghost use Rattle.code_steps.specs.declared.step.Step.{Step};
 ghost use Rattle.code_steps.specs.declared.step.Step.TheVariants.{Does};
 ghost use Rattle.code_steps.specs.Widths.{lies_from};
 ghost use Rattle.code_assembly.specs.declared.references.References.{References};
-ghost use Rattle.code_assembly.specs.Assembling.{constant_slots, Extends, Adds, can_stand, is_constant_of};
-ghost use Rattle.code_assembly.specs.Operations.{IsOperation, IsInSlot};
+ghost use Rattle.code_assembly.specs.Assembling.{Extends, Adds, can_stand, is_constant_of};
+ghost use Rattle.code_assembly.specs.Operations.{AddsConstants, Has, IsOperation, IsInSlot, LacksSlots};
 
 use crate::widths::lies_from;
 use constant_pool::{Entry, Pool, PoolError};
@@ -24,8 +24,9 @@ pub fn push(constant: Constant, pool: &mut Pool) -> Result<Op, PoolError>
     ensures op { IfOk result (λ op. (r : References) → IsOperation r pool.new (Push constant) op) }
     ensures kept { Extends pool.old pool.new }
     ensures added { Adds (Does (Push constant) ∷ []) pool.old pool.new }
-    ensures few { length pool.new ≤ length pool.old + constant_slots constant }
-    ensures full { result ≡ Err Full → 65534 < length pool.old + constant_slots constant }
+    ensures has { OnOk result (Has pool.new constant) }
+    ensures adds { AddsConstants pool.old pool.new (constant ∷ []) }
+    ensures full { result ≡ Err Full → LacksSlots pool.old (constant ∷ []) }
 {
     match constant {
         Constant::Null => Ok(Op::AconstNull),
@@ -39,8 +40,9 @@ fn push_int(word: u32, pool: &mut Pool) -> Result<Op, PoolError>
     ensures op { IfOk result (λ op. (r : References) → IsOperation r pool.new (Push (Constant.Int word)) op) }
     ensures kept { Extends pool.old pool.new }
     ensures added { Adds (Does (Push (Constant.Int word)) ∷ []) pool.old pool.new }
-    ensures few { length pool.new ≤ length pool.old + constant_slots (Constant.Int word) }
-    ensures full { result ≡ Err Full → 65534 < length pool.old + constant_slots (Constant.Int word) }
+    ensures has { OnOk result (Has pool.new (Constant.Int word)) }
+    ensures adds { AddsConstants pool.old pool.new ((Constant.Int word) ∷ []) }
+    ensures full { result ≡ Err Full → LacksSlots pool.old ((Constant.Int word) ∷ []) }
 {
     let n = signed(word);
     if lies_from(-1, 5, n) {
@@ -76,7 +78,9 @@ fn in_slot(name: PoolName, entry: Entry, pool: &mut Pool) -> Result<Op, PoolErro
     ensures op { IfOk result (IsInSlot pool.new name entry) }
     ensures kept { Extends pool.old pool.new }
     ensures added { (code : List Step) → IsTrue (list_all (is_constant_of code) (slots_of_entry entry)) → Adds code pool.old pool.new }
+    ensures same { (slot : ℕ) → IsAt pool.old slot entry → pool.new ≡ pool.old }
     ensures few { length pool.new ≤ length pool.old + length (slots_of_entry entry) }
+    ensures lacks { result ≡ Err Full → IsMissing pool.old entry }
     ensures full { result ≡ Err Full → 65534 < length pool.old + length (slots_of_entry entry) }
 {
     let slot = pool.add(entry)?;

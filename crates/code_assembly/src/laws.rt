@@ -7,7 +7,7 @@ ghost use Rattle.code_steps.specs.Outcomes.{stays_within};
 ghost use Rattle.code_steps.specs.Placing.{laid};
 ghost use Rattle.code_steps.specs.Widths.{size};
 ghost use Rattle.code_assembly.specs.declared.references.References.{References};
-ghost use Rattle.code_assembly.specs.Assembling.{have_operations, switches_are_placed, slots_of, AreKnown};
+ghost use Rattle.code_assembly.specs.Assembling.{have_operations, switches_are_placed, AreKnown};
 
 /// The bytes of two parts are those of the one and those of the other.
 pub fn parts_have_their_bytes()
@@ -38,11 +38,6 @@ pub fn parts_have_their_starts()
 /// Of two parts, the first of which has no branch past its own end, no branch goes past the end where that holds of the second one.
 pub fn parts_stay_within()
     ensures { (first second : List Step) → IsTrue (stays_within first) → stays_within (first ++ second) ≡ stays_within second }
-{}
-
-/// The constants of two parts take the slots of both.
-pub fn parts_take_their_slots()
-    ensures { (first second : List Step) → slots_of (first ++ second) ≡ slots_of first + slots_of second }
 {}
 
 /// A class that knows what each part names knows what both name.

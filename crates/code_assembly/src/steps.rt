@@ -1,9 +1,9 @@
 //! Steps.
-ghost use Rattle.std.specs.Prelude.{◌≡◌, ◌+◌, ◌<◌, ◌≤◌, [], ◌∷◌, length, IfOk, IsTrue, Err};
+ghost use Rattle.std.specs.Prelude.{◌≡◌, [], ◌∷◌, All, length, IfOk, OnOk, IsTrue, Err};
 ghost use Rattle.constant_pool.specs.declared.error.PoolError.TheVariants.{Full};
 ghost use Rattle.code_steps.specs.declared.step.Step.TheVariants.{Does};
-ghost use Rattle.code_assembly.specs.Assembling.{has_operation, instruction_slots, step_slots, Extends, Adds};
-ghost use Rattle.code_assembly.specs.Operations.{IsOperation, IsStepOperation, has_operation_at};
+ghost use Rattle.code_assembly.specs.Assembling.{has_operation, pushed_by, Extends, Adds};
+ghost use Rattle.code_assembly.specs.Operations.{AddsConstants, Has, IsOperation, IsStepOperation, LacksSlots, has_operation_at};
 
 use crate::constants::push;
 use crate::instructions::operation_of;
@@ -28,8 +28,9 @@ pub fn step_operation(
     ensures op { IfOk result (IsStepOperation references.now pool.new ends.now i step.now) }
     ensures kept { Extends pool.old pool.new }
     ensures added { Adds (step.now ∷ []) pool.old pool.new }
-    ensures few { length pool.new ≤ length pool.old + step_slots step.now }
-    ensures full { result ≡ Err Full → 65534 < length pool.old + step_slots step.now }
+    ensures has { OnOk result (All (Has pool.new) (pushed_by step.now)) }
+    ensures adds { AddsConstants pool.old pool.new (pushed_by step.now) }
+    ensures full { result ≡ Err Full → LacksSlots pool.old (pushed_by step.now) }
 {
     match step {
         Step::Does(instruction) => instruction_operation(instruction, references, pool),
@@ -53,8 +54,9 @@ fn instruction_operation(
     ensures op { IfOk result (IsOperation references.now pool.new instruction.now) }
     ensures kept { Extends pool.old pool.new }
     ensures added { Adds (Does instruction.now ∷ []) pool.old pool.new }
-    ensures few { length pool.new ≤ length pool.old + instruction_slots instruction.now }
-    ensures full { result ≡ Err Full → 65534 < length pool.old + instruction_slots instruction.now }
+    ensures has { OnOk result (All (Has pool.new) (pushed_by (Does instruction.now))) }
+    ensures adds { AddsConstants pool.old pool.new (pushed_by (Does instruction.now)) }
+    ensures full { result ≡ Err Full → LacksSlots pool.old (pushed_by (Does instruction.now)) }
 {
     match instruction {
         Instruction::Push(constant) => push(*constant, pool),

@@ -1,132 +1,280 @@
 -- How deeds follow one another.
-use Rattle.std.proofs.Common.{◌≡◌, ◌⊎◌, ℕ, List, [], ◌∷◌, Option, Some, None, option_map, Result, Ok, Err, refl, sym, ◌∙◌, subst, inl, inr}
-use Rattle.std.specs.Prelude.{IfSome, Vec}
-use Rattle.std.specs.declared.alloc.Global.{Global}
-use Rattle.std.specs.Io.KnownBytes.{Appends}
-use Rattle.nv_outside.specs.Files.{Files, Finds, SameFiles, OthersStay, SetsFile}
+use Rattle.std.proofs.Common.{◌≡◌, ◌≤◌, ℕ, true, false, List, [], ◌∷◌, ◌++◌, Option, Some}
+use Rattle.std.proofs.Common.{None, Result, Ok, Err, refl, sym, ◌∙◌, ap, subst, inl, inr}
+use Rattle.std.specs.Prelude.{IfSome}
+use Rattle.std.specs.Io.KnownBytes.{Consumes}
+use Rattle.nv_outside.specs.Faults.{CountsFailure, Rose, shelf_failed}
+use Rattle.nv_outside.specs.Files.{Files, OthersStay, SameFiles, SetsFile, Stores}
 use Rattle.nv_outside.specs.Gains.{AppendsPart}
-use Rattle.command_deeds.specs.declared.done.Done.{Done}
+use Rattle.nv_outside.specs.declared.shelf_error.ShelfError.{ShelfError}
+use Rattle.nv_outside.specs.declared.shelf_error.ShelfError.TheVariants as shelf
 use Rattle.command_deeds.specs.declared.stop.Stop.{Stop}
-use Rattle.command_deeds.specs.declared.stop.Stop.TheVariants.{WriteFault, ShelfFault, NoMemory}
-use Rattle.command_deeds.specs.Deeds.{World, Deed, prepares, stores, prints, plays, Due, Stays, DoesDeed, StopsStore, StopsDeed, DoesAll, StopsIn, Works, Comes, world, answers}
+use Rattle.command_deeds.specs.declared.stop.Stop.TheVariants.{ReadFault, WriteFault, ShelfFault, NoMemory}
+use Rattle.command_deeds.specs.Deeds.{Deed, prepares, stores, prints, plays, DoesDeed, StopsDeed, DoesAll, StopsIn}
+use Rattle.command_deeds.specs.Ends.{Answer, ByFiles, Comes, DoesOrStops, Due, GivesEnd}
+use Rattle.command_deeds.specs.Ends.{MakesEnd, Works, answers, is_stop}
+use Rattle.command_deeds.specs.Stops.{shelf_stop}
+use Rattle.command_deeds.specs.World.{FailsRun, OneRose, OnlyOut, OnlyShelf, Rises, SameShelf, Seen, Sets, Stays}
+use Rattle.command_deeds.specs.World.{StopsLoad, StopsPrint, StopsRun, StopsStore, Takes, World, world}
 use Rattle.nv_outside.proofs.FilesLemmas.{same_then_same}
+
+-- ---- the shelf
 
 pub same_files : (files : Option Files) → SameFiles files files
 same_files None = tt
 same_files (Some f) = λ name. refl
 
--- told files that stay are the same files
-pub same_map : (f g : Files) → ((name : List ℕ) → g name ≡ f name) → g ≡ f
-same_map f g h = λ i name. h name i
+pub same_shelf : (shelf : Seen Files) → SameShelf shelf shelf
+same_shelf shelf = (same_files shelf.told, refl)
 
-pub stays : (w : World) → Stays w w
-stays w = (same_files w.files, refl, refl, refl)
+pub same_then_shelf : (a b c : Seen Files) → SameShelf a b → SameShelf b c → SameShelf a c
+same_then_shelf a b c p q = (same_then_same a.told b.told c.told p.0 q.0, q.1 ∙ p.1)
 
-pub same_then_set : (a b c : Option Files) (name bytes : List ℕ) → SameFiles a b → SetsFile b c name bytes → SetsFile a c name bytes
+pub same_then_rises : (a b c : ℕ) → b ≡ a → Rises b c → Rises a c
+same_then_rises a b c e rises = subst (λ n. Rises n c) e rises
+
+same_then_set : (a b c : Option Files) (name bytes : List ℕ) → SameFiles a b → SetsFile b c name bytes → SetsFile a c name bytes
 same_then_set None b c name bytes p q = tt
 same_then_set (Some a) None c name bytes p q = absurd p
 same_then_set (Some a) (Some b) None name bytes p q = absurd q
 same_then_set (Some a) (Some b) (Some c) name bytes p q = (q.0, λ other h. q.1 other h ∙ p other)
 
-pub same_then_others : (a b c : Option Files) (name : List ℕ) → SameFiles a b → OthersStay b c name → OthersStay a c name
+same_then_sets : (a b c : Seen Files) (name bytes : List ℕ) → SameShelf a b → Sets b c name bytes → Sets a c name bytes
+same_then_sets a b c name bytes p q = (same_then_set a.told b.told c.told name bytes p.0 q.0, q.1 ∙ p.1)
+
+same_then_others : (a b c : Option Files) (name : List ℕ) → SameFiles a b → OthersStay b c name → OthersStay a c name
 same_then_others None b c name p q = tt
 same_then_others (Some a) None c name p q = absurd p
 same_then_others (Some a) (Some b) None name p q = absurd q
 same_then_others (Some a) (Some b) (Some c) name p q = λ other h. q other h ∙ p other
 
-pub stays_then : (w u v : World) → Stays w u → Stays u v → Stays w v
-stays_then w u v p q = (same_then_same _ _ _ p.0 q.0, q.1 ∙ p.1, q.2 ∙ p.2, q.3 ∙ p.3)
+pub same_then_load : (a b c : Seen Files) (stop : Stop) → SameShelf a b → StopsLoad b c stop → StopsLoad a c stop
+same_then_load a b c ReadFault p q = q
+same_then_load a b c WriteFault p q = q
+same_then_load a b c ShelfFault p q = (same_then_same a.told b.told c.told p.0 q.0, same_then_rises a.faults b.faults c.faults p.1 q.1)
+same_then_load a b c NoMemory p q = same_then_shelf a b c p q
 
-same_then_stop : (a b c : Option Files) (name : List ℕ) (stop : Stop) → SameFiles a b → StopsStore b c name stop → StopsStore a c name stop
-same_then_stop a b c name stop p (inl q) = inl (same_then_same a b c p q.0, q.1)
-same_then_stop a b c name stop p (inr q) = inr (same_then_others a b c name p q.0, q.1)
+same_then_store : (a b c : Seen Files) (name : List ℕ) (stop : Stop) → SameShelf a b → StopsStore b c name stop → StopsStore a c name stop
+same_then_store a b c name ReadFault p q = q
+same_then_store a b c name WriteFault p q = q
+same_then_store a b c name ShelfFault p q = (same_then_others a.told b.told c.told name p.0 q.0, same_then_rises a.faults b.faults c.faults p.1 q.1)
+same_then_store a b c name NoMemory p q = same_then_shelf a b c p q
+
+-- what is known by told files is known by the same files
+pub by_same : (a b : Option Files) (P : Files → Type 0) → SameFiles a b → IfSome b P → IfSome a P
+by_same None b P same h = tt
+by_same (Some f) None P same h = absurd same
+by_same (Some f) (Some g) P same h = subst P (λ i name. same name i) h
+
+-- ---- nothing has changed yet
+
+pub stays : (w : World) → Stays w w
+stays w = (same_shelf w.shelf, (refl, refl, refl))
+
+only_then : (w u v : World) → OnlyShelf w u → OnlyShelf u v → OnlyShelf w v
+only_then w u v p q = (q.0 ∙ p.0, q.1 ∙ p.1, q.2 ∙ p.2)
+
+pub stays_then : (w u v : World) → Stays w u → Stays u v → Stays w v
+stays_then w u v p q = (same_then_shelf w.shelf u.shelf v.shelf p.0 q.0, only_then w u v p.1 q.1)
+
+only_out_then : (w u v : World) → Stays w u → OnlyOut u v → OnlyOut w v
+only_out_then w u v p q = (same_then_shelf w.shelf u.shelf v.shelf p.0 q.0, q.1 ∙ p.1.0, q.2 ∙ p.1.2)
 
 stays_then_deed : (deed : Deed) (w u v : World) → Stays w u → DoesDeed deed u v → DoesDeed deed w v
 stays_then_deed prepares w u v p q = stays_then w u v p q
-stays_then_deed (stores name bytes) w u v p q = (same_then_set _ _ _ _ _ p.0 q.0, q.1 ∙ p.1, q.2 ∙ p.2, q.3 ∙ p.3)
-stays_then_deed (prints text) w u v p q = (same_then_same _ _ _ p.0 q.0, q.1 ∙ p.1, rw (sym p.2) q.2, q.3 ∙ p.3)
-stays_then_deed (plays n out err) w u v p q = (same_then_same _ _ _ p.0 q.0, rw (sym p.1) q.1, rw (sym p.2) q.2, rw (sym p.3) q.3)
+stays_then_deed (stores name bytes) w u v p q = (same_then_sets w.shelf u.shelf v.shelf name bytes p.0 q.0, only_then w u v p.1 q.1)
+stays_then_deed (prints text) w u v p q = (subst (λ o. Takes o v.out text) p.1.1 q.0, only_out_then w u v p q.1)
+stays_then_deed (plays left out err) w u v p q =
+    (same_then_shelf w.shelf u.shelf v.shelf p.0 q.0, rw (sym p.1.0) q.1, rw (sym p.1.1) q.2, rw (sym p.1.2) q.3)
+
+fails_then : (w u v : World) (stop : Stop) → OnlyShelf w u → FailsRun u v stop → FailsRun w v stop
+fails_then w u v ReadFault p q =
+    (subst (λ i. Rose i.faults v.input.faults) p.0 q.0, q.1 ∙ ap (λ o. o.faults) p.1, q.2 ∙ ap (λ o. o.faults) p.2)
+fails_then w u v WriteFault p q = (
+  q.0 ∙ ap (λ i. i.faults) p.0,
+  subst (λ o. OneRose o.faults v.out.faults w.err.faults v.err.faults) p.1
+      (subst (λ e. OneRose u.out.faults v.out.faults e.faults v.err.faults) p.2 q.1),
+)
+fails_then w u v ShelfFault p q = q
+fails_then w u v NoMemory p q = q
+
+run_then : (w u v : World) (output error_output : List ℕ) (stop : Stop) → OnlyShelf w u → StopsRun u v output error_output stop
+    → StopsRun w v output error_output stop
+run_then w u v output error_output stop p q = record {
+  got = q.got;
+  lost = subst (λ i. Consumes i.told v.input.told q.got) p.0 q.lost;
+  wrote = subst (λ o. AppendsPart o.told v.out.told output) p.1 q.wrote;
+  wrote_error = subst (λ o. AppendsPart o.told v.err.told error_output) p.2 q.wrote_error;
+  none_falls = record {
+    input = subst (λ i. i.faults ≤ v.input.faults) p.0 q.none_falls.input;
+    out = subst (λ o. o.faults ≤ v.out.faults) p.1 q.none_falls.out;
+    err = subst (λ o. o.faults ≤ v.err.faults) p.2 q.none_falls.err;
+  };
+  fails = fails_then w u v stop p q.fails;
+}
 
 stays_then_stop : (deed : Deed) (w u v : World) (stop : Stop) → Stays w u → StopsDeed deed u v stop → StopsDeed deed w v stop
-stays_then_stop prepares w u v stop p q = (stays_then w u v p q.0, q.1)
-stays_then_stop (stores name bytes) w u v stop p q = (same_then_stop _ _ _ name stop p.0 q.0, q.1 ∙ p.1, q.2 ∙ p.2, q.3 ∙ p.3)
-stays_then_stop (prints text) w u v stop p q = (same_then_same _ _ _ p.0 q.0, q.1 ∙ p.1, rw (sym p.2) q.2, q.3 ∙ p.3, q.4)
-stays_then_stop (plays n out err) w u v stop p q = (same_then_same _ _ _ p.0 q.0, rw (sym p.1) q.1, rw (sym p.2) q.2, rw (sym p.3) q.3, q.4)
+stays_then_stop prepares w u v stop p q = (same_then_load w.shelf u.shelf v.shelf stop p.0 q.0, only_then w u v p.1 q.1)
+stays_then_stop (stores name bytes) w u v stop p q = (same_then_store w.shelf u.shelf v.shelf name stop p.0 q.0, only_then w u v p.1 q.1)
+stays_then_stop (prints text) w u v stop p q = (subst (λ o. StopsPrint o v.out text stop) p.1.1 q.0, only_out_then w u v p q.1)
+stays_then_stop (plays left out err) w u v stop p q = (same_then_shelf w.shelf u.shelf v.shelf p.0 q.0, run_then w u v out err stop p.1 q.1)
 
-stays_then_all : (deeds : List Deed) (w u v : World) → Stays w u → DoesAll deeds u v → DoesAll deeds w v
+pub stays_then_all : (deeds : List Deed) (w u v : World) → Stays w u → DoesAll deeds u v → DoesAll deeds w v
 stays_then_all [] w u v p q = stays_then w u v p q
 stays_then_all (deed ∷ deeds) w u v p q = (q.0, stays_then_deed deed w u q.0 p q.1, q.2)
 
-stays_then_stops : (deeds : List Deed) (w u v : World) (stop : Stop) → Stays w u → StopsIn deeds u v stop → StopsIn deeds w v stop
+pub stays_then_stops : (deeds : List Deed) (w u v : World) (stop : Stop) → Stays w u → StopsIn deeds u v stop → StopsIn deeds w v stop
 stays_then_stops [] w u v stop p q = q
 stays_then_stops (deed ∷ deeds) w u v stop p (inl q) = inl (stays_then_stop deed w u v stop p q)
 stays_then_stops (deed ∷ deeds) w u v stop p (inr q) = inr (q.0, stays_then_deed deed w u q.0 p q.1, q.2)
 
--- work that begins where nothing has changed yet
-pub stays_then_works : (due : Due) (w u v : World) (ended : Result Done Stop) → Stays w u → Works due u v ended → Works due w v ended
-stays_then_works due w u v (Ok answer) p q = (q.0, stays_then_all due.deeds w u v p q.1)
+-- ---- work that begins where nothing has changed yet
+
+pub stays_then_works : (due : Due) (w u v : World) (end : Result Answer Stop) → Stays w u → Works due u v end → Works due w v end
+stays_then_works due w u v (Ok answer) p q = (q.0, q.1, stays_then_all due.deeds w u v p q.2)
 stays_then_works due w u v (Err stop) p q = stays_then_stops due.deeds w u v stop p q
 
--- an answer with nothing changed
-pub answered : (answer : Done) (w v : World) → Stays w v → Works (answers answer) w v (Ok answer)
-answered answer w v p = (refl, p)
-
-pub stays_then_comes : (IsDue : Due → Type 0) (w u v : World) (ended : Result Done Stop) → Stays w u → Comes IsDue u v ended → Comes IsDue w v ended
-stays_then_comes IsDue w u v (Ok answer) p (inl q) = absurd q
-stays_then_comes IsDue w u v (Err stop) p (inl q) = inl (stays_then w u v p q.0, q.1)
-stays_then_comes IsDue w u v ended p (inr q) = inr (q.0, q.1, stays_then_works q.0 w u v ended p q.2)
+-- what is due later is due here
+pub stays_then_comes : (Later IsDueAt : World → Due → Type 0) (w u v : World) (end : Result Answer Stop) → Stays w u
+    → ((due : Due) → Later u due → IsDueAt w due) → Comes Later u v end → Comes IsDueAt w v end
+stays_then_comes Later IsDueAt w u v (Ok answer) p f (inl q) = absurd q
+stays_then_comes Later IsDueAt w u v (Err stop) p f (inl q) = inl (same_then_load w.shelf u.shelf v.shelf stop p.0 q.0, only_then w u v p.1 q.1)
+stays_then_comes Later IsDueAt w u v end p f (inr q) = inr (q.0, f q.0 q.1, stays_then_works q.0 w u v end p q.2)
 
 -- what is due is due under another name
-pub due_as : (IsDue Also : Due → Type 0) (w v : World) (ended : Result Done Stop) → ((due : Due) → IsDue due → Also due) → Comes IsDue w v ended → Comes Also w v ended
-due_as IsDue Also w v ended f (inl q) = inl q
-due_as IsDue Also w v ended f (inr q) = inr (q.0, f q.0 q.1, q.2)
+pub due_as : (Later IsDueAt : World → Due → Type 0) (w v : World) (end : Result Answer Stop) → ((due : Due) → Later w due → IsDueAt w due)
+    → Comes Later w v end → Comes IsDueAt w v end
+due_as Later IsDueAt w v end f q = stays_then_comes Later IsDueAt w w v end (stays w) f q
 
--- a file was loaded, and then worked on
-pub after_load : (IsDue : Option (List ℕ) → Due → Type 0) (name : List ℕ) (found : Option (List ℕ)) (old mid new : Option Files) (rest rest' out out' err err' : Option (List ℕ)) (ended : Result Done Stop) → IfSome old (λ files. found ≡ files name) → SameFiles old mid → Comes (IsDue found) (world mid rest out err) (world new rest' out' err') ended → IfSome old (λ files. Comes (IsDue (files name)) (world old rest out err) (world new rest' out' err') ended)
-after_load IsDue name found None mid new rest rest' out out' err err' ended e p q = tt
-after_load IsDue name found (Some files) mid new rest rest' out out' err err' ended e p q =
-    rw (sym e) (stays_then_comes (IsDue found) _ _ _ ended (p, refl, refl, refl) q)
-
--- what was found, by the files that are told
-found : (old : Option Files) (name : List ℕ) (v : Option (Vec ℕ Global)) → Finds old name v → IfSome old (λ files. option_map (λ v. v.items) v ≡ files name)
-found None name v e = tt
-found (Some files) name v e = e
-
-pub found_none : (old : Option Files) (name : List ℕ) (v : Option (Vec ℕ Global)) → v ≡ None → Finds old name v → IfSome old (λ files. None ≡ files name)
-found_none old name v none e = found old name None (subst (Finds old name) none e)
-
-pub found_some : (old : Option Files) (name : List ℕ) (v : Option (Vec ℕ Global)) (file : Vec ℕ Global) → v ≡ Some file → Finds old name v → IfSome old (λ files. Some file.items ≡ files name)
-found_some old name v file some e = found old name (Some file) (subst (Finds old name) some e)
-
-pub after_found : (IsDue : Option (List ℕ) → Due → Type 0) (name : List ℕ) (v : Option (Vec ℕ Global)) (file : Vec ℕ Global) (this : List ℕ) (old mid new : Option Files) (rest rest' out out' err err' : Option (List ℕ)) (ended : Result Done Stop) → v ≡ Some file → Finds old name v → this ≡ file.items → SameFiles old mid → Comes (IsDue (Some this)) (world mid rest out err) (world new rest' out' err') ended → IfSome old (λ files. Comes (IsDue (files name)) (world old rest out err) (world new rest' out' err') ended)
-after_found IsDue name v file this old mid new rest rest' out out' err err' ended some e same p q =
-    let q' : Comes (IsDue (Some file.items)) (world mid rest out err) (world new rest' out' err') ended = subst (λ f. Comes (IsDue (Some f)) (world mid rest out err) (world new rest' out' err') ended) same q in
-    after_load IsDue name (Some file.items) old mid new rest rest' out out' err err' ended (found_some old name v file some e) p q'
-
--- a text was printed, or a part of it
-pub printed : (files : Option Files) (rest out out' err : Option (List ℕ)) (text : List ℕ) (answer : Done) → Appends out out' text → Works (record { deeds = prints text ∷ []; answer = answer }) (world files rest out err) (world files rest out' err) (Ok answer)
-printed files rest out out' err text answer p = (refl, (world files rest out' err, (same_files files, refl, p, refl), stays (world files rest out' err)))
-
-pub print_stopped : (files : Option Files) (rest out out' err : Option (List ℕ)) (text : List ℕ) (answer : Done) (stop : Stop) → AppendsPart out out' text → (stop ≡ WriteFault) ⊎ (stop ≡ NoMemory) → Works (record { deeds = prints text ∷ []; answer = answer }) (world files rest out err) (world files rest out' err) (Err stop)
-print_stopped files rest out out' err text answer stop p e = inl (same_files files, refl, p, refl, e)
+-- ---- ends
 
 -- an answer alone is due
-pub answers_due : (IsDue : Due → Type 0) (answer : Done) (w : World) → IsDue (answers answer) → Comes IsDue w w (Ok answer)
-answers_due IsDue answer w h = inr (answers answer, h, (refl, stays w))
+pub answers_due : (IsDueAt : World → Due → Type 0) (answer : Answer) (w : World) → is_stop answer.done ≡ false → IsDueAt w (answers answer)
+    → Comes IsDueAt w w (Ok answer)
+answers_due IsDueAt answer w kind due = inr (answers answer, due, (refl, kind, stays w))
 
-pub stops_early : (IsDue : Due → Type 0) (w : World) (stop : Stop) → (stop ≡ ShelfFault) ⊎ (stop ≡ NoMemory) → Comes IsDue w w (Err stop)
-stops_early IsDue w stop e = inl (stays w, e)
+-- memory ran out before any deed
+pub no_memory : (IsDueAt : World → Due → Type 0) (w : World) → Comes IsDueAt w w (Err NoMemory)
+no_memory IsDueAt w = inl (stays w)
+
+-- an end by another name, and where nothing had changed before
+pub gives_end_as : (IsRefused Also : Files → Answer → Type 0) (a b c : Seen Files) (end : Result Answer Stop) → SameShelf a b
+    → ((files : Files) (answer : Answer) → IsRefused files answer → Also files answer) → GivesEnd IsRefused b c end → GivesEnd Also a c end
+gives_end_as IsRefused Also a b c (Err stop) p f q = same_then_load a b c stop p q
+gives_end_as IsRefused Also a b c (Ok answer) p f q =
+    (same_then_shelf a b c p q.0, q.1, by_same a.told b.told (λ files. Also files answer) p.0 (each b.told q.2))
+  where
+    each : (told : Option Files) → IfSome told (λ files. IsRefused files answer) → IfSome told (λ files. Also files answer)
+    each None h = tt
+    each (Some files) h = f files answer h
+
+pub makes_end_as : (IsRefused Also : Answer → Type 0) (end : Result Answer Stop) → ((answer : Answer) → IsRefused answer → Also answer)
+    → MakesEnd IsRefused end → MakesEnd Also end
+makes_end_as IsRefused Also (Err stop) f q = q
+makes_end_as IsRefused Also (Ok answer) f q = (q.0, f answer q.1)
+
+-- a stage that only takes memory ended, where the shelf was loaded from before
+pub makes_gives : (IsRefused : Answer → Type 0) (Also : Files → Answer → Type 0) (a b : Seen Files) (end : Result Answer Stop) → SameShelf a b
+    → ((files : Files) (answer : Answer) → IsRefused answer → Also files answer) → MakesEnd IsRefused end → GivesEnd Also a b end
+makes_gives IsRefused Also a b (Err stop) p f q = rw q p
+makes_gives IsRefused Also a b (Ok answer) p f q = (p, q.0, each a.told)
+  where
+    each : (told : Option Files) → IfSome told (λ files. Also files answer)
+    each None = tt
+    each (Some files) = f files answer q.1
+
+-- a stage that loads ended the command
+pub gives_ends : (IsDue : Files → Option (List ℕ) → Due → Type 0) (IsRefused : Files → Answer → Type 0) (w v : World) (end : Result Answer Stop)
+    → GivesEnd IsRefused w.shelf v.shelf end → OnlyShelf w v
+    → ((files : Files) (answer : Answer) → IsRefused files answer → IsDue files w.input.told (answers answer)) → Comes (ByFiles IsDue) w v end
+gives_ends IsDue IsRefused w v (Err stop) q only f = inl (q, only)
+gives_ends IsDue IsRefused w v (Ok answer) q only f = inr (answers answer, each w.shelf.told q.2, (refl, q.1, (q.0, only)))
+  where
+    each : (told : Option Files) → IfSome told (λ files. IsRefused files answer) → IfSome told (λ files. IsDue files w.input.told (answers answer))
+    each None h = tt
+    each (Some files) h = f files answer h
+
+-- it gave a value, and the command went on
+pub gives_then : {A : Type 0} (IsDue Later : Files → Option (List ℕ) → Due → Type 0) (IsGiven : Files → A → Type 0) (value : A) (w u v : World)
+    (end : Result Answer Stop) → SameShelf w.shelf u.shelf × IfSome w.shelf.told (λ files. IsGiven files value) → OnlyShelf w u
+    → ((files : Files) (due : Due) → IsGiven files value → Later files w.input.told due → IsDue files w.input.told due)
+    → Comes (ByFiles Later) u v end → Comes (ByFiles IsDue) w v end
+gives_then IsDue Later IsGiven value w u v end q only f comes =
+    stays_then_comes (ByFiles Later) (ByFiles IsDue) w u v end (q.0, only) (λ due later. each due w.shelf.told q.1
+    (by_same w.shelf.told u.shelf.told (λ files. Later files w.input.told due) q.0.0
+    (subst (λ input. IfSome u.shelf.told (λ files. Later files input due)) (ap (λ i. i.told) only.0) later))) comes
+  where
+    each : (due : Due) (told : Option Files) → IfSome told (λ files. IsGiven files value) → IfSome told (λ files. Later files w.input.told due)
+        → IfSome told (λ files. IsDue files w.input.told due)
+    each due None g h = tt
+    each due (Some files) g h = f files due g h
+
+-- what is due whatever the files are
+pub over_any : (IsDue : Option (List ℕ) → Due → Type 0) (w v : World) (end : Result Answer Stop) → Comes (λ w. IsDue w.input.told) w v end
+    → Comes (ByFiles (λ files. IsDue)) w v end
+over_any IsDue w v end comes = due_as (λ w. IsDue w.input.told) (ByFiles (λ files. IsDue)) w v end (λ due h. each due w.shelf.told h) comes
+  where
+    each : (due : Due) (told : Option Files) → IsDue w.input.told due → IfSome told (λ files. IsDue w.input.told due)
+    each due None h = tt
+    each due (Some files) h = h
+
+-- a stage that takes memory ended the command
+pub makes_ends : (IsDueAt : World → Due → Type 0) (IsRefused : Answer → Type 0) (w : World) (end : Result Answer Stop) → MakesEnd IsRefused end
+    → ((answer : Answer) → IsRefused answer → IsDueAt w (answers answer)) → Comes IsDueAt w w end
+makes_ends IsDueAt IsRefused w (Ok answer) q f = answers_due IsDueAt answer w q.0 (f answer q.1)
+makes_ends IsDueAt IsRefused w (Err stop) q f = rw q (no_memory IsDueAt w)
+
+-- ---- deeds
 
 -- one deed before others
-pub works_more : (deed : Deed) (deeds : List Deed) (answer : Done) (w u v : World) (ended : Result Done Stop) → DoesDeed deed w u → Works (record { deeds = deeds; answer = answer }) u v ended → Works (record { deeds = deed ∷ deeds; answer = answer }) w v ended
-works_more deed deeds answer w u v (Ok d) p q = (q.0, (u, p, q.1))
+pub works_more : (deed : Deed) (deeds : List Deed) (answer : Option Answer) (w u v : World) (end : Result Answer Stop) → DoesDeed deed w u
+    → Works (record { deeds = deeds; answer = answer }) u v end → Works (record { deeds = deed ∷ deeds; answer = answer }) w v end
+works_more deed deeds answer w u v (Ok d) p q = (q.0, q.1, (u, p, q.2))
 works_more deed deeds answer w u v (Err stop) p q = inr (u, p, q)
 
--- a file is stored and a text printed
-pub stored_and_printed : (F F' : Option Files) (rest O O' err : Option (List ℕ)) (name bytes text : List ℕ) (answer : Done) → SetsFile F F' name bytes → Appends O O' text → Works (record { deeds = stores name bytes ∷ prints text ∷ []; answer = answer }) (world F rest O err) (world F' rest O' err) (Ok answer)
-stored_and_printed F F' rest O O' err name bytes text answer p q =
-    works_more (stores name bytes) (prints text ∷ []) answer (world F rest O err) (world F' rest O err) (world F' rest O' err) (Ok answer) (p, refl, refl, refl) (printed F' rest O O' err text answer q)
+-- deeds after deeds
+pub all_then : (first deeds : List Deed) (w u v : World) → DoesAll first w u → DoesAll deeds u v → DoesAll (first ++ deeds) w v
+all_then [] deeds w u v p q = stays_then_all deeds w u v p q
+all_then (deed ∷ first) deeds w u v p q = (p.0, p.1, all_then first deeds p.0 u v p.2 q)
 
-pub stored_and_stopped : (F F' : Option Files) (rest O O' err : Option (List ℕ)) (name bytes text : List ℕ) (answer : Done) → SetsFile F F' name bytes → AppendsPart O O' text → Works (record { deeds = stores name bytes ∷ prints text ∷ []; answer = answer }) (world F rest O err) (world F' rest O' err) (Err WriteFault)
-stored_and_stopped F F' rest O O' err name bytes text answer p q =
-    works_more (stores name bytes) (prints text ∷ []) answer (world F rest O err) (world F' rest O err) (world F' rest O' err) (Err WriteFault) (p, refl, refl, refl) (print_stopped F' rest O O' err text answer WriteFault q (inl refl))
+pub all_then_stops : (first deeds : List Deed) (w u v : World) (stop : Stop) → DoesAll first w u → StopsIn deeds u v stop
+    → StopsIn (first ++ deeds) w v stop
+all_then_stops [] deeds w u v stop p q = stays_then_stops deeds w u v stop p q
+all_then_stops (deed ∷ first) deeds w u v stop p q = inr (p.0, p.1, all_then_stops first deeds p.0 u v stop p.2 q)
+
+pub deeds_then : (first deeds : List Deed) (w u v : World) (r : Result (Unit {0}) Stop) → DoesAll first w u → DoesOrStops deeds u v r
+    → DoesOrStops (first ++ deeds) w v r
+deeds_then first deeds w u v (Ok d) p q = all_then first deeds w u v p q
+deeds_then first deeds w u v (Err stop) p q = all_then_stops first deeds w u v stop p q
+
+-- deeds before others
+pub all_then_works : (first deeds : List Deed) (answer : Option Answer) (w u v : World) (end : Result Answer Stop) → DoesAll first w u
+    → Works (record { deeds = deeds; answer = answer }) u v end → Works (record { deeds = first ++ deeds; answer = answer }) w v end
+all_then_works first deeds answer w u v (Ok d) p q = (q.0, q.1, all_then first deeds w u v p q.2)
+all_then_works first deeds answer w u v (Err stop) p q = all_then_stops first deeds w u v stop p q
+
+-- deeds of which one was stopped, and others that are not begun
+pub stops_before : (first deeds : List Deed) (w v : World) (stop : Stop) → StopsIn first w v stop → StopsIn (first ++ deeds) w v stop
+stops_before [] deeds w v stop p = absurd p
+stops_before (deed ∷ first) deeds w v stop (inl p) = inl p
+stops_before (deed ∷ first) deeds w v stop (inr p) = inr (p.0, p.1, stops_before first deeds p.0 v stop p.2)
+
+-- a text was written, or a part of it
+pub written : (text : List ℕ) (w v : World) (answer : Answer) → is_stop answer.done ≡ false → Takes w.out v.out text → OnlyOut w v
+    → Works (record { deeds = prints text ∷ []; answer = Some answer }) w v (Ok answer)
+written text w v answer kind took only = (refl, kind, (v, (took, only), stays v))
+
+-- a file was set, and nothing but the shelf was worked on
+pub shelf_set : (old new : Seen Files) (name bytes : List ℕ) → Sets old new name bytes → (input out err : Seen (List ℕ))
+    → DoesAll (stores name bytes ∷ []) (world old input out err) (world new input out err)
+shelf_set old new name bytes set input out err = (world new input out err, (set, (refl, refl, refl)), stays (world new input out err))
+
+-- a call failed
+pub failed : (before now : ℕ) → CountsFailure true before now → Rises before now
+failed before now count = record { never_falls = count.never_falls; rose = count.rises refl }
+
+-- The shelf failed, or memory ran out.
+pub store_stopped : (error : ShelfError) (old new : Seen Files) (name bytes : List ℕ) → Stores old.told new.told name bytes (Err error)
+    → CountsFailure (shelf_failed {A = Unit {0}} (Err error)) old.faults new.faults → StopsStore old new name (shelf_stop error)
+store_stopped shelf.Failed old new name bytes left count = (left, failed old.faults new.faults count)
+store_stopped shelf.NoMemory old new name bytes left count = (left, count.stays refl)

@@ -1,3 +1,5 @@
-pub mod Line
+pub mod Stops
+pub mod World
 pub mod Deeds
-pub mod Counts
+pub mod Ends
+pub mod Line

@@ -1,5 +1,5 @@
 -- The status of an answer, and its line on error output.
-use Rattle.std.specs.Prelude.{ℕ, ◌+◌, ◌/◌, ◌%◌, ◌^◌, ◌++◌, List, [], ◌∷◌, codes, decimal, if◌then◌else◌, nat_lt, slice_get, unwrap_or}
+use Rattle.std.specs.Prelude.{ℕ, ◌+◌, ◌/◌, ◌%◌, ◌^◌, ◌++◌, List, [], ◌∷◌, codes, decimal, if◌then◌else◌, nat_lt}
 use Rattle.std.specs.Int.{cast_unsigned, w32}
 use Rattle.nv_events.specs.declared.fault.Fault.{Fault}
 use Rattle.nv_faults.specs.declared.elf_fault.ElfFault.{ElfFault}
@@ -8,7 +8,9 @@ use Rattle.nv_faults.specs.declared.link_fault.LinkFault.{LinkFault}
 use Rattle.nv_faults.specs.declared.asm_fault.AsmFault.{AsmFault}
 use Rattle.nv_faults.specs.declared.verify_fault.VerifyFault.{VerifyFault}
 use Rattle.command_deeds.specs.declared.done.Done.{Done}
-use Rattle.command_deeds.specs.declared.done.Done.TheVariants.{Good, Exited, Faulted, Usage, NoInput, ElfRefused, ImageRefused, ArgsTooLong, FilesTooLarge, AsmRefused, ClassRefused, LinkRefused, VerifyRefused, Trapped, Spent, ReadFault, WriteFault, ShelfFault, NoMemory, NotBuilt}
+use Rattle.command_deeds.specs.declared.done.Done.TheVariants.{Good, Exited, Faulted, Usage, NoInput, ElfRefused, ImageRefused, ArgsTooLong}
+use Rattle.command_deeds.specs.declared.done.Done.TheVariants.{FilesTooLarge, AsmRefused, ClassRefused, LinkRefused, VerifyRefused, Trapped}
+use Rattle.command_deeds.specs.declared.done.Done.TheVariants.{Spent, ReadFault, WriteFault, ShelfFault, NoMemory}
 
 -- the statuses of sysexits.h where one fits, and the program's own status modulo 256
 abbrev pub status_of : Done → ℕ
@@ -31,7 +33,6 @@ status_of ReadFault = 74
 status_of WriteFault = 75
 status_of ShelfFault = 76
 status_of NoMemory = 77
-status_of NotBuilt = 81
 
 -- an upper-case hexadecimal digit
 abbrev pub hex_digit : ℕ → ℕ
@@ -73,29 +74,24 @@ number_line text n = joined (text ∷ decimal n ∷ codes "\n" ∷ [])
 abbrev pub asm_line : AsmFault → List ℕ
 asm_line f = joined (codes "nested: asm " ∷ decimal f.line ∷ codes " " ∷ decimal f.kind ∷ codes "\n" ∷ [])
 
--- the word with this number, from 0
-abbrev pub word_of : List (List ℕ) → ℕ → List ℕ
-word_of words number = unwrap_or (slice_get words number) []
-
--- the line of an answer to these words, with its end
-abbrev pub line_of : List (List ℕ) → Done → List ℕ
-line_of words Good = []
-line_of words (Exited status) = []
-line_of words (Faulted f) = fault_line f
-line_of words (Usage kind) = number_line (codes "nested: usage ") kind
-line_of words (NoInput word) = joined (codes "nested: no file " ∷ word_of words word ∷ codes "\n" ∷ [])
-line_of words (ElfRefused f) = elf_line f
-line_of words (ImageRefused f) = image_line f
-line_of words (ArgsTooLong n) = number_line (codes "nested: arguments ") n
-line_of words (FilesTooLarge n) = number_line (codes "nested: files ") n
-line_of words (AsmRefused f) = asm_line f
-line_of words (ClassRefused class kind at) = numbers_line (codes "nested: class ") class kind at
-line_of words (LinkRefused f) = link_line f
-line_of words (VerifyRefused f) = verify_line f
-line_of words (Trapped k) = number_line (codes "nested: trap ") k
-line_of words Spent = codes "nested: spent\n"
-line_of words ReadFault = codes "nested: read fault\n"
-line_of words WriteFault = []
-line_of words ShelfFault = codes "nested: shelf fault\n"
-line_of words NoMemory = codes "nested: no memory\n"
-line_of words NotBuilt = codes "nested: not built\n"
+-- the line of an answer, with its end, where this name was asked for
+abbrev pub line_of : List ℕ → Done → List ℕ
+line_of name Good = []
+line_of name (Exited status) = []
+line_of name (Faulted f) = fault_line f
+line_of name (Usage kind) = number_line (codes "nested: usage ") kind
+line_of name (NoInput word) = joined (codes "nested: no file " ∷ name ∷ codes "\n" ∷ [])
+line_of name (ElfRefused f) = elf_line f
+line_of name (ImageRefused f) = image_line f
+line_of name (ArgsTooLong n) = number_line (codes "nested: arguments ") n
+line_of name (FilesTooLarge n) = number_line (codes "nested: files ") n
+line_of name (AsmRefused f) = asm_line f
+line_of name (ClassRefused class kind at) = numbers_line (codes "nested: class ") class kind at
+line_of name (LinkRefused f) = link_line f
+line_of name (VerifyRefused f) = verify_line f
+line_of name (Trapped k) = number_line (codes "nested: trap ") k
+line_of name Spent = codes "nested: spent\n"
+line_of name ReadFault = codes "nested: read fault\n"
+line_of name WriteFault = []
+line_of name ShelfFault = codes "nested: shelf fault\n"
+line_of name NoMemory = codes "nested: no memory\n"

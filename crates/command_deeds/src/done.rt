@@ -52,8 +52,6 @@ pub enum Done {
     ShelfFault,
     /// Memory ran out.
     NoMemory,
-    /// What the file or its run needs is not built yet.
-    NotBuilt,
 }
 
 impl Done {
@@ -84,7 +82,6 @@ impl Done {
             Done::NoMemory => 77,
             Done::Faulted(_) => 79,
             Done::Trapped(_) => 80,
-            Done::NotBuilt => 81,
         }
     }
 }

@@ -1,35 +1,37 @@
-ghost use Rattle.std.specs.Prelude.{◌≡◌, ◌⊎◌, IfOk, IfErr, MatchResult};
-ghost use Rattle.nv_outside.specs.Faults.{CountsFailure};
-ghost use Rattle.nv_outside.specs.Files.{Finds, SameFiles, SetsFile};
-ghost use Rattle.command_deeds.specs.Counts.{shelf_stopped};
-ghost use Rattle.command_deeds.specs.Deeds.{StopsStore};
+ghost use Rattle.std.specs.Prelude.{◌≡◌, ◌∷◌, [], Some, None};
+ghost use Rattle.command_deeds.specs.Deeds.{stores};
+ghost use Rattle.command_deeds.specs.Ends.{Gives, ShelfDoes, lacks};
+ghost use Rattle.command_deeds.specs.World.{shelf_seen};
 
+use crate::ending::Ending;
 use crate::stop::Stop;
-use nv_outside::{Shelf, ShelfError};
+use nv_outside::Shelf;
 use std::alloc::Global;
 
-/// The bytes of a file, or None where there is no file of that name.
-pub fn load<H: Shelf>(alloc: Global, shelf: &mut H, name: &str) -> Result<Option<Vec<u8>>, Stop>
-    ensures found { IfOk result (Finds (H.files shelf.old) name.now) }
-    ensures same { SameFiles (H.files shelf.old) (H.files shelf.new) }
-    ensures stop { IfErr result (λ stop. (stop ≡ Stop.ShelfFault) ⊎ (stop ≡ Stop.NoMemory)) }
-    ensures count { CountsFailure (shelf_stopped result) (H.faults shelf.old) (H.faults shelf.new) }
+/// The bytes of a file. `word` is the word that gives its name.
+pub fn load<H: Shelf>(
+    alloc: Global,
+    word: u32,
+    name: &str,
+    shelf: &mut H,
+) -> Result<Vec<u8>, Ending>
+    ensures gives { Gives (λ files file. files name.now ≡ Some file.items)
+        (λ files answer. (files name.now ≡ None) × (answer ≡ lacks word name.now))
+        (shelf_seen H.Shelf shelf.old) (shelf_seen H.Shelf shelf.new) result }
 {
-    match shelf.load(alloc, name) {
-        Ok(found) => Ok(found),
-        Err(ShelfError::Failed) => Err(Stop::ShelfFault),
-        Err(ShelfError::NoMemory) => Err(Stop::NoMemory),
+    match shelf.load(alloc, name)? {
+        Some(file) => Ok(file),
+        None => Err(Ending::NoFile {
+            word,
+            name: String::from_str(alloc, name)?,
+        }),
     }
 }
 
 /// Sets a file to these bytes.
 pub fn store<H: Shelf>(shelf: &mut H, name: &str, bytes: &[u8]) -> Result<(), Stop>
-    ensures stored { MatchResult result (λ _. SetsFile (H.files shelf.old) (H.files shelf.new) name.now bytes.now) (λ stop. StopsStore (H.files shelf.old) (H.files shelf.new) name.now stop) }
-    ensures count { CountsFailure (shelf_stopped result) (H.faults shelf.old) (H.faults shelf.new) }
+    ensures stores { ShelfDoes (stores name.now bytes.now ∷ []) (shelf_seen H.Shelf shelf.old) (shelf_seen H.Shelf shelf.new) result }
 {
-    match shelf.store(name, bytes) {
-        Ok(()) => Ok(()),
-        Err(ShelfError::Failed) => Err(Stop::ShelfFault),
-        Err(ShelfError::NoMemory) => Err(Stop::NoMemory),
-    }
+    shelf.store(name, bytes)?;
+    Ok(())
 }

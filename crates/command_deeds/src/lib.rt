@@ -4,12 +4,16 @@
 
 mod digits;
 mod done;
+mod ending;
 mod files;
 mod line;
+mod outside;
 mod stop;
 
 pub use digits::{decimal_long, hexadecimal};
 pub use done::Done;
+pub use ending::Ending;
 pub use files::{load, store};
 pub use line::{write_line, write_number, write_pieces};
+pub use outside::Outside;
 pub use stop::Stop;

@@ -1,9 +1,6 @@
-ghost use Rattle.std.specs.Prelude.{◌≡◌, OnOk, OnErr, is_err, map};
-ghost use Rattle.std.specs.Io.KnownBytes.{Appends};
-ghost use Rattle.nv_outside.specs.Faults.{CountsFailure};
-ghost use Rattle.nv_outside.specs.Gains.{AppendsPart};
-ghost use Rattle.command_deeds.specs.Line.{fault_line, image_line, joined, asm_line, line_of, number_line, numbers_line, word_of};
-ghost use Rattle.command_words.specs.Word.{texts};
+ghost use Rattle.std.specs.Prelude.{map};
+ghost use Rattle.command_deeds.specs.Line.{asm_line, fault_line, image_line, joined, line_of, number_line, numbers_line};
+ghost use Rattle.command_deeds.specs.World.{Writes, output_seen};
 
 use crate::digits::{decimal, decimal_long, hexadecimal};
 use crate::done::Done;
@@ -12,27 +9,21 @@ use nv_events::Fault;
 use nv_faults::{AsmFault, ImageFault};
 use nv_outside::{Failed, Sink, write_all};
 
-/// Writes the line of an answer to these words. Takes no memory.
-pub fn write_line<E: Sink>(err: &mut E, words: &[String], done: &Done) -> Result<(), Failed>
-    ensures ok { OnOk result (Appends (E.taken err.old) (E.taken err.new) (line_of (texts words.now) done.now)) }
-    ensures err { OnErr result (AppendsPart (E.taken err.old) (E.taken err.new) (line_of (texts words.now) done.now)) }
-    ensures count { CountsFailure (is_err result) (E.faults err.old) (E.faults err.new) }
+/// Writes the line of an answer, where this name was asked for. Takes no memory.
+pub fn write_line<E: Sink>(err: &mut E, name: &str, done: &Done) -> Result<(), Failed>
+    ensures writes { Writes (output_seen E.Sink err.old) (output_seen E.Sink err.new) (line_of name.now done.now) result }
 {
     match *done {
         Done::Good | Done::Exited(_) | Done::WriteFault => Ok(()),
-        Done::ReadFault => write_all(err, b"nested: read fault\n"),
-        Done::ShelfFault => write_all(err, b"nested: shelf fault\n"),
-        Done::NoMemory => write_all(err, b"nested: no memory\n"),
-        Done::NotBuilt => write_all(err, b"nested: not built\n"),
+        Done::ReadFault => write_text(err, b"nested: read fault\n"),
+        Done::ShelfFault => write_text(err, b"nested: shelf fault\n"),
+        Done::NoMemory => write_text(err, b"nested: no memory\n"),
         Done::Usage(kind) => write_number(err, b"nested: usage ", u64::from(kind)),
         Done::ArgsTooLong(bytes) => write_number(err, b"nested: arguments ", bytes),
         Done::FilesTooLarge(blocks) => write_number(err, b"nested: files ", blocks),
         Done::AsmRefused(fault) => write_asm_fault(err, fault),
-        Done::Spent => write_all(err, b"nested: spent\n"),
-        Done::NoInput(word) => {
-            let name = word_of(words, word);
-            write_pieces(err, &[b"nested: no file ", name, b"\n"])
-        }
+        Done::Spent => write_text(err, b"nested: spent\n"),
+        Done::NoInput(_) => write_pieces(err, &[b"nested: no file ", name.as_bytes(), b"\n"]),
         Done::Faulted(fault) => write_fault(err, fault),
         Done::ElfRefused(fault) => {
             write_numbers(err, b"nested: elf ", fault.kind, fault.i, fault.j)
@@ -53,9 +44,7 @@ pub fn write_line<E: Sink>(err: &mut E, words: &[String], done: &Done) -> Result
 
 /// Writes the line of a fault of the guest.
 fn write_fault<E: Sink>(err: &mut E, fault: Fault) -> Result<(), Failed>
-    ensures ok { OnOk result (Appends (E.taken err.old) (E.taken err.new) (fault_line fault)) }
-    ensures err { OnErr result (AppendsPart (E.taken err.old) (E.taken err.new) (fault_line fault)) }
-    ensures count { CountsFailure (is_err result) (E.faults err.old) (E.faults err.new) }
+    ensures writes { Writes (output_seen E.Sink err.old) (output_seen E.Sink err.new) (fault_line fault) result }
 {
     let mut digits = Buffer::new();
     let kind = decimal(&mut digits, fault.kind);
@@ -83,9 +72,7 @@ fn write_numbers<E: Sink>(
     second: u32,
     third: u32,
 ) -> Result<(), Failed>
-    ensures ok { OnOk result (Appends (E.taken err.old) (E.taken err.new) (numbers_line text.now first second third)) }
-    ensures err { OnErr result (AppendsPart (E.taken err.old) (E.taken err.new) (numbers_line text.now first second third)) }
-    ensures count { CountsFailure (is_err result) (E.faults err.old) (E.faults err.new) }
+    ensures writes { Writes (output_seen E.Sink err.old) (output_seen E.Sink err.new) (numbers_line text.now first second third) result }
 {
     let (mut firsts, mut seconds, mut thirds) = (Buffer::new(), Buffer::new(), Buffer::new());
     let a = decimal(&mut firsts, first);
@@ -96,9 +83,7 @@ fn write_numbers<E: Sink>(
 
 /// Writes the line of a check that the program's image failed.
 fn write_image_fault<E: Sink>(err: &mut E, fault: ImageFault) -> Result<(), Failed>
-    ensures ok { OnOk result (Appends (E.taken err.old) (E.taken err.new) (image_line fault)) }
-    ensures err { OnErr result (AppendsPart (E.taken err.old) (E.taken err.new) (image_line fault)) }
-    ensures count { CountsFailure (is_err result) (E.faults err.old) (E.faults err.new) }
+    ensures writes { Writes (output_seen E.Sink err.old) (output_seen E.Sink err.new) (image_line fault) result }
 {
     let (mut kinds, mut numbers) = (Buffer::new(), Buffer::new());
     let kind = decimal(&mut kinds, fault.kind);
@@ -112,9 +97,7 @@ fn write_image_fault<E: Sink>(err: &mut E, fault: ImageFault) -> Result<(), Fail
 
 /// Writes the line of a faulty text.
 fn write_asm_fault<E: Sink>(err: &mut E, fault: AsmFault) -> Result<(), Failed>
-    ensures ok { OnOk result (Appends (E.taken err.old) (E.taken err.new) (asm_line fault)) }
-    ensures err { OnErr result (AppendsPart (E.taken err.old) (E.taken err.new) (asm_line fault)) }
-    ensures count { CountsFailure (is_err result) (E.faults err.old) (E.faults err.new) }
+    ensures writes { Writes (output_seen E.Sink err.old) (output_seen E.Sink err.new) (asm_line fault) result }
 {
     let (mut lines, mut kinds) = (Buffer::new(), Buffer::new());
     let line = decimal(&mut lines, fault.line);
@@ -124,32 +107,28 @@ fn write_asm_fault<E: Sink>(err: &mut E, fault: AsmFault) -> Result<(), Failed>
 
 /// Writes a text and a number, as a line. Takes no memory.
 pub fn write_number<E: Sink>(sink: &mut E, text: &[u8], number: u64) -> Result<(), Failed>
-    ensures ok { OnOk result (Appends (E.taken sink.old) (E.taken sink.new) (number_line text.now number)) }
-    ensures err { OnErr result (AppendsPart (E.taken sink.old) (E.taken sink.new) (number_line text.now number)) }
-    ensures count { CountsFailure (is_err result) (E.faults sink.old) (E.faults sink.new) }
+    ensures writes { Writes (output_seen E.Sink sink.old) (output_seen E.Sink sink.new) (number_line text.now number) result }
 {
     let mut digits = Buffer::new();
     write_pieces(sink, &[text, decimal_long(&mut digits, number), b"\n"])
 }
 
-/// The bytes of a word, or none where there is no such word.
-fn word_of(words: &[String], word: u32) -> &[u8]
-    ensures { result.now ≡ word_of (texts words.now) word }
+/// Writes a text. After a failure the sink has taken a front part of it.
+fn write_text<E: Sink>(sink: &mut E, text: &[u8]) -> Result<(), Failed>
+    ensures writes { Writes (output_seen E.Sink sink.old) (output_seen E.Sink sink.new) text.now result }
 {
-    match words.get(word as usize) {
-        Some(text) => text.as_bytes(),
-        None => b"",
+    match write_all(sink, text) {
+        Ok(()) => Ok(()),
+        Err(Failed) => Err(Failed),
     }
 }
 
 /// Writes pieces one after the other. After a failure the sink has taken a front part of them.
 pub fn write_pieces<E: Sink>(sink: &mut E, pieces: &[&[u8]]) -> Result<(), Failed>
-    ensures ok { OnOk result (Appends (E.taken sink.old) (E.taken sink.new) (joined (map (λ p. p.now) pieces.now))) }
-    ensures err { OnErr result (AppendsPart (E.taken sink.old) (E.taken sink.new) (joined (map (λ p. p.now) pieces.now))) }
-    ensures count { CountsFailure (is_err result) (E.faults sink.old) (E.faults sink.new) }
+    ensures writes { Writes (output_seen E.Sink sink.old) (output_seen E.Sink sink.new) (joined (map (λ p. p.now) pieces.now)) result }
 {
     for piece in pieces {
-        write_all(sink, piece)?;
+        write_text(sink, piece)?;
     }
     Ok(())
 }

@@ -10,4 +10,5 @@ pub mod RunsLemmas
 pub mod MappedLemmas
 pub mod ImageLaws
 pub mod WholeLemmas
+pub mod AreaLemmas
 mod Examples

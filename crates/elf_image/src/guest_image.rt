@@ -169,7 +169,7 @@ impl Image {
     }
 
     /// Does nothing. It tells which bytes the words of an image are; that its pages and its code end below 80000000 (hexadecimal);
-    /// that they are not too many; and that each run of its code is whole, without a word of the floating-point coprocessor.
+    /// that they are not too many, and that it has code; and that each run of this is whole, without a word of the floating-point coprocessor.
     pub fn laws(&self)
         ensures lanes { (at : ℕ) → lane_of_word (stored_word self.now.file (live self.now.file) (4 * (at / 4))) (at % 4) ≡ stored_byte self.now.file (live self.now.file) at }
         ensures zeros { (at : ℕ) → is_filled_page self.now.file (live self.now.file) (at / 4096) ≡ false → stored_byte self.now.file (live self.now.file) at ≡ 0 }
@@ -178,6 +178,7 @@ impl Image {
         ensures mapped { (image_of self.now).mapped ≤ 65_536 }
         ensures words { (code : List Range) → IsRunsOf (area self.now.file) code → code_words code ≤ 1_048_576 }
         ensures runs { (code : List Range) → IsRunsOf (area self.now.file) code → length code ≤ 64 }
+        ensures some { (code : List Range) → IsRunsOf (area self.now.file) code → 1 ≤ length code }
         ensures whole { (code : List Range) → IsRunsOf (area self.now.file) code → All (IsWholeRange (image_of self.now).code) code }
     {
         self.table.words_fit();

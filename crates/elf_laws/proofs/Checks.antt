@@ -73,7 +73,7 @@ area_of segments = area_fault (code_of segments) segments
 abbrev pub live_of : List ProgramHeader → List Segment
 live_of headers = map (λ (h : ProgramHeader). h.segment) (filter is_live headers)
 
-live_are : (file : List ℕ) (headers : List ProgramHeader) → program_headers file ≡ headers → live file ≡ live_of headers
+pub live_are : (file : List ℕ) (headers : List ProgramHeader) → program_headers file ≡ headers → live file ≡ live_of headers
 unfolding live
 live_are file headers are = ap live_of are
 

@@ -71,7 +71,7 @@ begins text bytes file is =
     )
 
 -- it ends with the bytes of its segments
-ends : (text bytes file : List ℕ) → IsFileOf text bytes file → length file ≡ end_of (place_of (segments_of text bytes)) (segments_of text bytes)
+pub ends : (text bytes file : List ℕ) → IsFileOf text bytes file → length file ≡ end_of (place_of (segments_of text bytes)) (segments_of text bytes)
 ends text bytes file is =
     let parts = is.0 in
     let segments = parts.segments.items in
@@ -114,7 +114,7 @@ both_pass len at n at' m short short' inside inside' =
     (apart_in_order at 0x00400000 5 n at' 0x10000000 6 m (omega (arith, short)))
 
 -- ---- the file
-one_shape : (text file : List ℕ) → IsFileOf text [] file → length text ≤ 4194304
+pub one_shape : (text file : List ℕ) → IsFileOf text [] file → length text ≤ 4194304
     → (ys : List ℕ) × (file ≡ writer.elf_header 0x00400000 0 1 0 ++ ys) × (program_headers file ≡ text_at 84 (length text) ∷ [])
 one_shape text file is short =
     let shape = begins text [] file is in

@@ -1,6 +1,7 @@
 -- The listing of a program: a line for each word of its code.
-use Rattle.std.specs.Prelude.{ℕ, zero, suc, ◌+◌, ◌%◌, ◌^◌, ◌≡◌, ◌++◌, List, [], ◌∷◌, Option, codes}
+use Rattle.std.specs.Prelude.{ℕ, zero, suc, ◌+◌, ◌%◌, ◌^◌, ◌≡◌, ◌++◌, List, [], ◌∷◌, Option, Some, codes}
 use Rattle.std.specs.Option.{option_map_or}
+use Rattle.command_words.specs.declared.named.Named.{Named}
 use Rattle.command_words.specs.declared.pages.Pages.{Pages}
 use Rattle.elf_reader.specs.declared.range.Range.{Range}
 use Rattle.elf_reader.specs.Area.{area}
@@ -8,8 +9,10 @@ use Rattle.elf_reader.specs.Fault.{IsRunsOf}
 use Rattle.elf_image.specs.Start.{Source, image_of}
 use Rattle.mips_decode.specs.Table.{inst}
 use Rattle.mips_decode.specs.Text.{text_of}
+use Rattle.nv_outside.specs.Files.{Files}
 use Rattle.command_deeds.specs.declared.done.Done.TheVariants.{Good}
-use Rattle.command_deeds.specs.Deeds.{Due, prints}
+use Rattle.command_deeds.specs.Deeds.{prints}
+use Rattle.command_deeds.specs.Ends.{Due, says}
 use Rattle.command_deeds.specs.Line.{hex_word, joined}
 use Rattle.guest_commands.specs.Imaging.{IsDueOfProgram}
 
@@ -37,7 +40,7 @@ runs_lines code (run ∷ runs) = run_lines code run.first run.words ++ runs_line
 
 -- a listing of such runs is printed
 abbrev pub listed : (ℕ → Option ℕ) → List Range → Due
-listed code runs = record { deeds = prints (runs_lines code runs) ∷ []; answer = Good }
+listed code runs = record { deeds = prints (runs_lines code runs) ∷ []; answer = Some (says Good) }
 
 -- a line for each word of a program's code, by the maximal runs of the code in rising order of addresses
 abbrev pub IsDueOfListing : Source → Due → Type 0
@@ -47,6 +50,6 @@ IsDueOfListing source due = (runs : List Range) × IsRunsOf (area source.file) r
 abbrev pub listed_pages : Pages
 listed_pages = record { heap = 256; stack = 64 }
 
--- what `list` is to do, given the file that a word names, if it is there
-abbrev pub IsDueOfList : ℕ → Option (List ℕ) → Due → Type 0
-IsDueOfList word found due = IsDueOfProgram word listed_pages IsDueOfListing found due
+-- what `list` is to do with the program of a file that the words name
+abbrev pub IsDueOfList : Named → Files → Option (List ℕ) → Due → Type 0
+IsDueOfList input files rest due = IsDueOfProgram input listed_pages IsDueOfListing (files input.text) due

@@ -1,83 +1,43 @@
-ghost use Rattle.std.specs.Prelude.{◌≡◌, ◌≤◌, ℕ, List, Option, IfOk, IfSome, false, is_err, decimal, length};
-ghost use Rattle.std.specs.Io.KnownBytes.{Appends};
-ghost use Rattle.nv_outside.specs.Faults.{CountsFailure};
-ghost use Rattle.nv_outside.specs.Gains.{AppendsPart};
-ghost use Rattle.guest_commands.specs.Assembly.{IsDueOfAsm, IsDueOfText, assembled};
-ghost use Rattle.command_deeds.specs.Counts.{is_stop, read_stopped, shelf_stopped, write_stopped};
-ghost use Rattle.command_deeds.specs.Deeds.{Comes, Works, world};
+ghost use Rattle.std.specs.Prelude.{decimal};
+ghost use Rattle.command_deeds.specs.Ends.{ByFiles, Ends, Makes};
+ghost use Rattle.guest_commands.specs.Assembly.{IsDueOfAsm, IsProgramOf, IsRefusedText};
 
-use command_deeds::{Done, Stop, load, store, write_number};
+use command_deeds::{Done, Ending, Outside, Stop, load, store, write_number};
+use command_words::Named;
 use mips_asm::{AsmError, AsmFault, assemble};
-use nv_outside::{Failed, Shelf, Sink};
+use nv_outside::{Shelf, Sink, Source};
 use std::alloc::Global;
 
 /// The most bytes of a text.
 const LONGEST_TEXT: usize = 67_108_864;
 
 /// Loads a text, assembles it, stores its program, and writes how many bytes that has.
-pub fn asm<H: Shelf, O: Sink>(
+pub fn asm<H: Shelf, S: Source, O: Sink, E: Sink>(
     alloc: Global,
-    word: u32,
-    name: &str,
+    input: &Named,
     output: &str,
-    shelf: &mut H,
-    out: &mut O,
-) -> Result<Done, Stop>
-    ensures comes { (rest err : Option (List ℕ)) → IfSome (H.files shelf.old) (λ files. Comes (IsDueOfAsm word output.now (files name.now)) (world (H.files shelf.old) rest (O.taken out.old) err) (world (H.files shelf.new) rest (O.taken out.new) err) result) }
-    ensures answer { IfOk result (λ d. is_stop d ≡ false) }
-    ensures count { CountsFailure (shelf_stopped result) (H.faults shelf.old) (H.faults shelf.new) }
-    ensures out_count { CountsFailure (write_stopped result) (O.faults out.old) (O.faults out.new) }
-    ensures no_read { read_stopped result ≡ false }
+    outside: &mut Outside<'_, H, S, O, E>,
+) -> Result<Done, Ending>
+    ensures ends { Ends H.Shelf S.Source O.Sink E.Sink (ByFiles (IsDueOfAsm input.now output.now)) outside.old outside.new result }
 {
-    match load(alloc, shelf, name) {
-        Ok(Some(text)) => asm_text(alloc, text.as_slice(), output, shelf, out),
-        Ok(None) => Ok(Done::NoInput(word)),
-        Err(stop) => Err(stop),
-    }
+    let text = load(alloc, input.word, input.text.as_str(), outside.shelf)?;
+    let file = assembled(alloc, text.as_slice())?;
+    store(outside.shelf, output, file.as_slice())?;
+    write_number(outside.out, b"bytes ", file.as_slice().len() as u64)?;
+    Ok(Done::Good)
 }
 
-/// Assembles a text, stores its program, and writes how many bytes that has.
-fn asm_text<H: Shelf, O: Sink>(
-    alloc: Global,
-    text: &[u8],
-    output: &str,
-    shelf: &mut H,
-    out: &mut O,
-) -> Result<Done, Stop>
-    ensures comes { (rest err : Option (List ℕ)) → Comes (IsDueOfText text.now output.now) (world (H.files shelf.old) rest (O.taken out.old) err) (world (H.files shelf.new) rest (O.taken out.new) err) result }
-    ensures answer { IfOk result (λ d. is_stop d ≡ false) }
-    ensures count { CountsFailure (shelf_stopped result) (H.faults shelf.old) (H.faults shelf.new) }
-    ensures out_count { CountsFailure (write_stopped result) (O.faults out.old) (O.faults out.new) }
-    ensures no_read { read_stopped result ≡ false }
+/// The program of a text.
+fn assembled(alloc: Global, text: &[u8]) -> Result<Vec<u8>, Ending>
+    ensures makes { Makes (λ file. IsProgramOf text.now file.items) (IsRefusedText text.now) result }
 {
     if text.len() > LONGEST_TEXT {
-        return Ok(Done::AsmRefused(AsmFault { line: 0, kind: 3 }));
+        let fault = AsmFault { line: 0, kind: 3 };
+        return Err(Ending::Refused(Done::AsmRefused(fault)));
     }
     match assemble(alloc, text) {
-        Ok(file) => store_program(output, file.as_slice(), shelf, out),
-        Err(AsmError::Refused(fault)) => Ok(Done::AsmRefused(fault)),
-        Err(AsmError::NoMemory) => Err(Stop::NoMemory),
-    }
-}
-
-/// Stores a program, and writes how many bytes it has. Takes no memory of its own.
-fn store_program<H: Shelf, O: Sink>(
-    output: &str,
-    file: &[u8],
-    shelf: &mut H,
-    out: &mut O,
-) -> Result<Done, Stop>
-    ensures works { (rest err : Option (List ℕ)) → Works (assembled output.now file.now) (world (H.files shelf.old) rest (O.taken out.old) err) (world (H.files shelf.new) rest (O.taken out.new) err) result }
-    ensures answer { IfOk result (λ d. is_stop d ≡ false) }
-    ensures count { CountsFailure (shelf_stopped result) (H.faults shelf.old) (H.faults shelf.new) }
-    ensures out_count { CountsFailure (write_stopped result) (O.faults out.old) (O.faults out.new) }
-    ensures no_read { read_stopped result ≡ false }
-{
-    match store(shelf, output, file) {
-        Ok(()) => match write_number(out, b"bytes ", file.len() as u64) {
-            Ok(()) => Ok(Done::Good),
-            Err(Failed) => Err(Stop::WriteFault),
-        },
-        Err(stop) => Err(stop),
+        Ok(file) => Ok(file),
+        Err(AsmError::Refused(fault)) => Err(Ending::Refused(Done::AsmRefused(fault))),
+        Err(AsmError::NoMemory) => Err(Ending::Stopped(Stop::NoMemory)),
     }
 }

@@ -3,14 +3,12 @@
 
 mod assembly;
 mod guest;
-mod imaged;
 mod imaging;
 mod interpreting;
 mod listing;
 
 pub use assembly::asm;
 pub use guest::Guest;
-pub use imaged::Imaged;
 pub use imaging::{image_of_file, load_image};
 pub use interpreting::interp;
 pub use listing::list;

@@ -1,11 +1,2 @@
-pub mod Steps
-pub mod Helpers
-pub mod Instructions
-pub mod Transfers
-pub mod Units
-pub mod Exits
-pub mod Spans
-pub mod Choosing
-pub mod Loading
 pub mod Known
 pub mod Meant

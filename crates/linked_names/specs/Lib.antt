@@ -3,5 +3,6 @@ pub mod Places
 pub mod Distinct
 pub mod Planned
 pub mod Translated
-pub mod Naming
 pub mod Meaning
+-- What crates above this one name of `whole_methods`.
+pub use Rattle.whole_methods.specs.Naming as Naming

@@ -1,105 +1,29 @@
 //! What holds of the names in emitted code. Each call here does nothing: its contract is the law.
 
-ghost use Rattle.std.specs.Prelude.{◌≡◌, ℕ, ◌-◌, ◌<◌, Bool, true, false, List, slice_index, All, Option};
-ghost use Rattle.nv_words.specs.declared.order.Order.{Order};
+ghost use Rattle.std.specs.Prelude.{◌≡◌, ℕ, ◌-◌, Bool, true, false, List, slice_index};
 ghost use Rattle.constant_pool.specs.declared.entry.Entry.{Entry};
 ghost use Rattle.constant_pool.specs.declared.entry.Entry.TheVariants.{MethodRef};
 ghost use Rattle.constant_pool.specs.Names.{same_text};
 ghost use Rattle.jvm_code.specs.declared.class.Class.{Class};
 ghost use Rattle.name_resolution.specs.Names.{host_name};
-ghost use Rattle.jvm_link.specs.Linking.{gives_int};
-ghost use Rattle.delay_slots.specs.declared.unit.Unit.{Unit};
 ghost use Rattle.code_steps.specs.declared.step.Step.{Step};
 ghost use Rattle.code_assembly.specs.declared.references.References.{References};
 ghost use Rattle.code_assembly.specs.Assembling.{AreKnown, Extends, has_method};
-ghost use Rattle.guest_code.specs.Units.{unit_code};
-ghost use Rattle.word_emitter.specs.declared.extent.Extent.{Extent};
-ghost use Rattle.word_emitter.specs.Pieces.{warm_code, units_code};
-ghost use Rattle.word_emitter.specs.Exits.{exit_code};
-ghost use Rattle.guest_follows.specs.Lawful.{IsLawful};
-ghost use Rattle.mem_helpers.specs.Methods.{helper_code};
-ghost use Rattle.span_code.specs.declared.span_words.SpanWords.{SpanWords};
-ghost use Rattle.span_code.specs.Parts.{cold_part, warm_part};
-ghost use Rattle.span_code.specs.Laying.{span_code};
-ghost use Rattle.trampoline.specs.declared.start.Start.{Start};
-ghost use Rattle.trampoline.specs.Choosers.{class_chooser, main_chooser, missing_code};
-ghost use Rattle.loading_code.specs.declared.beginning.Beginning.{Beginning};
-ghost use Rattle.loading_code.specs.declared.page_slot.PageSlot.{PageSlot};
-ghost use Rattle.loading_code.specs.Filling.{fill_code};
-ghost use Rattle.loading_code.specs.Pages.{pages_code};
-ghost use Rattle.loading_code.specs.Starting.{run_code};
-ghost use Rattle.loading_code.specs.Words.{words_code};
 ghost use Rattle.class_builder.specs.Named.{IsClassAt};
 ghost use Rattle.class_members.specs.Helpers.{helper_name, helper_descriptor};
 ghost use Rattle.program_classes.specs.declared.names.Names.{Names};
 ghost use Rattle.program_classes.specs.Named.{AreHelpers, AreMembers, AreNames};
 ghost use Rattle.program_classes.specs.Tables.{references_of};
-ghost use Rattle.linked_names.specs.Naming.{all_well, is_fault, is_helper};
+ghost use Rattle.whole_methods.specs.Naming.{all_well, is_helper};
 ghost use Rattle.linked_names.specs.Meaning.{AreMeant, AreCalled, HaveFieldNumbers, HaveMethodNumbers, IsMethodNumber};
 
 use class_builder::{
     arrays_are_meant, fields_are_meant, host_is_meant, methods_are_meant, strings_are_meant,
 };
-
-/// Helpers call none but the two that end the run for them, and return as their descriptors say.
-pub fn helpers_name_well()
-    ensures { (order : Order) (class number : ℕ) → number < 20
-        → all_well is_fault class (gives_int (helper_descriptor number)) (helper_code order number) ≡ true }
-{}
-
-/// The code of a lawful unit calls helpers alone and has no return, over any bank of registers, and so has the code of lawful units one after
-/// the other, and that of a piece.
-pub fn units_name_well()
-    ensures one { (class : ℕ) (gives : Bool) (bank at : ℕ) (unit : Unit) → IsLawful unit
-        → all_well is_helper class gives (unit_code bank unit at) ≡ true }
-    ensures several { (class : ℕ) (gives : Bool) (bank at : ℕ) (units : List Unit) → All IsLawful units
-        → all_well is_helper class gives (units_code bank units at) ≡ true }
-    ensures piece { (class : ℕ) (gives : Bool) (at : ℕ) (units : List Unit) → All IsLawful units
-        → all_well is_helper class gives (warm_code units at) ≡ true }
-{}
-
-/// The exit behind a unit calls no method, and is for a method that gives nothing.
-pub fn exits_name_well()
-    ensures { (calls : ℕ → Bool) (class at : ℕ) (span : Extent) (behind : Option ℕ) (unit : Unit)
-        → all_well calls class false (exit_code span behind unit at) ≡ true }
-{}
-
-/// The method of a span of lawful units calls helpers alone, and so do its parts.
-pub fn spans_name_well()
-    ensures pieces { (class k : ℕ) (units : List Unit) (leads : ℕ → Bool) (span : SpanWords) → All IsLawful units
-        → all_well is_helper class false (warm_part units leads span k) ≡ true }
-    ensures words { (class k : ℕ) (units : List Unit) (leads : ℕ → Bool) (span : SpanWords) → All IsLawful units
-        → all_well is_helper class false (cold_part units leads span k) ≡ true }
-    ensures method { (class : ℕ) (units : List Unit) (leads : ℕ → Bool) (span : SpanWords) → All IsLawful units
-        → all_well is_helper class false (span_code units leads span) ≡ true }
-{}
-
-/// The methods that choose call those of their starts; the main one also calls the method for addresses outside all code, which calls none.
-pub fn choosers_name_well()
-    ensures class { (calls : ℕ → Bool) (class : ℕ) (starts : List Start) (first end : ℕ) → All (λ start. calls start.method ≡ true) starts
-        → all_well calls class false (class_chooser starts first end) ≡ true }
-    ensures main { (calls : ℕ → Bool) (class : ℕ) (starts : List Start) (missing : ℕ) → All (λ start. calls start.method ≡ true) starts
-        → calls missing ≡ true → all_well calls class false (main_chooser starts missing) ≡ true }
-    ensures missing { (calls : ℕ → Bool) (class : ℕ) → all_well calls class false missing_code ≡ true }
-{}
-
-/// The methods that make pages and that put words call none. Those that fill pages call the latter and push texts of their own class. The one
-/// with which the program begins calls the methods that it is given, and pushes texts of its own class.
-pub fn loading_names_well()
-    ensures pages { (calls : ℕ → Bool) (class : ℕ) → all_well calls class false pages_code ≡ true }
-    ensures words { (calls : ℕ → Bool) (class : ℕ) → all_well calls class false words_code ≡ true }
-    ensures fill { (calls : ℕ → Bool) (class words : ℕ) (slots : List PageSlot) → calls words ≡ true
-        → all_well calls class false (fill_code slots class words) ≡ true }
-    ensures run { (calls : ℕ → Bool) (class pages choose : ℕ) (b : Beginning) (page_texts fills : List ℕ) → calls pages ≡ true
-        → All (λ m. calls m ≡ true) fills → calls choose ≡ true
-        → all_well calls class false (run_code b page_texts class pages fills choose) ≡ true }
-{}
-
-/// Code that names only what is there does so too where more methods may be called.
-pub fn more_may_be_called()
-    ensures { (calls more : ℕ → Bool) (class : ℕ) (gives : Bool) (code : List Step) → ((m : ℕ) → calls m ≡ true → more m ≡ true)
-        → all_well calls class gives code ≡ true → all_well more class gives code ≡ true }
-{}
+pub use whole_methods::named_code::{
+    choosers_name_well, exits_name_well, helpers_name_well, loading_names_well, more_may_be_called,
+    spans_name_well, units_name_well,
+};
 
 /// A class knows what code names where its slots mean what code means by them, and the code names only what is there.
 pub fn named_code_is_known()

@@ -1,51 +1,40 @@
--- What making a system ready for a guest, and keeping its files, comes to.
-use Rattle.std.specs.Prelude.{◌≡◌, ℕ, ◌≤◌, length, ◌⊎◌, Bool, false, List, [], ◌++◌, length, Option, Some, None, Result, Ok, Err, IfSome, ⊤}
+-- What making a system ready for a guest comes to.
+use Rattle.std.specs.Prelude.{◌≡◌, ◌⊎◌, ◌++◌, ℕ, IfSome, List, [], MatchResult, Some, None, Result, Ok, Err, length}
 use Rattle.command_words.specs.Word.{Text}
-use Rattle.command_words.specs.declared.session.Session.{Session}
 use Rattle.nv_outside.specs.Files.{Files}
 use Rattle.unix_calls.specs.Held.{Held}
 use Rattle.unix_calls.specs.Starting.{Begins}
 use Rattle.unix_calls.specs.declared.unix_error.UnixError.{UnixError}
 use Rattle.unix_calls.specs.declared.unix_error.UnixError.TheVariants as unix
-use Rattle.command_deeds.specs.declared.done.Done.{Done}
-use Rattle.machine_launch.specs.declared.halt.Halt.{Halt}
-use Rattle.machine_launch.specs.declared.halt.Halt.TheVariants as halt
-use Rattle.machine_launch.specs.declared.readied.Readied.{Readied}
-use Rattle.machine_launch.specs.declared.readied.Readied.TheVariants.{Ready, Refused}
-use Rattle.command_deeds.specs.declared.stop.Stop.{Stop}
-use Rattle.command_deeds.specs.Counts.{is_shelf_stop, is_stop}
-use Rattle.command_deeds.specs.Deeds.{Deed, World, DoesAll, StopsIn}
-use Rattle.machine_launch.specs.Runs.{NamedFile, arguments_of, too_long, files_for, found_for}
+use Rattle.command_deeds.specs.declared.done.Done.TheVariants as done
+use Rattle.command_deeds.specs.declared.ending.Ending.{Ending}
+use Rattle.command_deeds.specs.declared.ending.Ending.TheVariants.{Refused, Stopped}
+use Rattle.command_deeds.specs.declared.stop.Stop.TheVariants.{NoMemory}
+use Rattle.command_deeds.specs.Ends.{Answer, GivesEnd, MakesEnd, end_of, says}
+use Rattle.command_deeds.specs.World.{SameShelf, Seen}
+use Rattle.machine_launch.specs.Runs.{NamedFile, Plan, arguments_of, files_for, found_for, too_long}
 
--- the arguments fit, and all files are there and fit; or the answer of the first that does not
-abbrev pub IsReadied : Files → Text → Session → ℕ → Readied → Type 0
-IsReadied files name session moment (Ready unix) =
-    (found : List NamedFile) × (too_long [] (arguments_of name session) ≡ None) × (found_for files session ≡ Ok found)
-    × Begins unix session.disk moment found (arguments_of name session)
-IsReadied files name session moment (Refused answer) =
-    ((n : ℕ) × (too_long [] (arguments_of name session) ≡ Some n) × (answer ≡ Done.ArgsTooLong n))
-    ⊎ ((too_long [] (arguments_of name session) ≡ None) × (found_for files session ≡ Err answer))
+-- these texts behind those do not fit
+abbrev pub IsTooLong : List Text → List Text → Answer → Type 0
+IsTooLong before texts answer = (n : ℕ) × (too_long before texts ≡ Some n) × (answer ≡ says (done.ArgsTooLong n))
 
--- a refusal is no stop
-abbrev pub IsNoStop : Readied → Type 0
-IsNoStop (Ready unix) = ⊤
-IsNoStop (Refused answer) = is_stop answer ≡ false
+-- the arguments fit, and all files are there and fit
+pub record IsReady (plan : Plan) (files : Files) (unix : Held) : Type 0 where
+  pub found : List NamedFile
+  pub fits : too_long [] (arguments_of plan) ≡ None
+  pub finds : found_for files plan.session ≡ Ok found
+  pub begins : Begins unix plan.session.disk plan.moment found (arguments_of plan)
 
-abbrev pub HasNoStop : Halt → Type 0
-HasNoStop (halt.Refused answer) = is_stop answer ≡ false
-HasNoStop (halt.Stopped stop) = ⊤
+-- the answer of the first argument or file that does not fit, or is not there
+abbrev pub IsUnready : Plan → Files → Answer → Type 0
+IsUnready plan files answer =
+    IsTooLong [] (arguments_of plan) answer ⊎ ((too_long [] (arguments_of plan) ≡ None) × (found_for files plan.session ≡ Err answer))
 
 -- what an argument or a file that was not added comes to
-abbrev pub halt_of : UnixError → Halt
-halt_of (unix.ArgsTooLong n) = halt.Refused (Done.ArgsTooLong n)
-halt_of (unix.FilesTooLarge n) = halt.Refused (Done.FilesTooLarge n)
-halt_of unix.NoMemory = halt.Stopped Stop.NoMemory
-
--- the shelf failed
-abbrev pub shelf_halted : Result (Unit {0}) Halt → Bool
-shelf_halted (Ok done) = false
-shelf_halted (Err (halt.Refused answer)) = false
-shelf_halted (Err (halt.Stopped stop)) = is_shelf_stop stop
+abbrev pub ending_of : UnixError → Ending
+ending_of (unix.ArgsTooLong n) = Refused (done.ArgsTooLong n)
+ending_of (unix.FilesTooLarge n) = Refused (done.FilesTooLarge n)
+ending_of unix.NoMemory = Stopped NoMemory
 
 -- a system without files, of which no call was served
 pub record HasNoFiles (held : Held) : Type 0 where
@@ -55,50 +44,31 @@ pub record HasNoFiles (held : Held) : Type 0 where
   pub begins : Begins held blocks moment [] args
 
 -- texts are added to these arguments, or the first that does not fit is told
-abbrev pub ArgsOr : ℕ → ℕ → List NamedFile → List Text → List Text → Held → Result (Unit {0}) Halt → Type 0
-ArgsOr blocks moment files args texts new (Ok done) = (too_long args texts ≡ None) × Begins new blocks moment files (args ++ texts)
-ArgsOr blocks moment files args texts new (Err (halt.Refused answer)) = (n : ℕ) × (too_long args texts ≡ Some n) × (answer ≡ Done.ArgsTooLong n)
-ArgsOr blocks moment files args texts new (Err (halt.Stopped stop)) = stop ≡ Stop.NoMemory
+abbrev pub ArgsOr : ℕ → ℕ → List NamedFile → List Text → List Text → Held → Result (Unit {0}) Ending → Type 0
+ArgsOr blocks moment files args texts new result =
+    MatchResult result (λ done. (too_long args texts ≡ None) × Begins new blocks moment files (args ++ texts))
+    (λ ending. MakesEnd (IsTooLong args texts) (end_of ending))
 
-abbrev pub AddsArgs : List Text → Held → Held → Result (Unit {0}) Halt → Type 0
+abbrev pub AddsArgs : List Text → Held → Held → Result (Unit {0}) Ending → Type 0
 AddsArgs texts old new result =
-    (blocks moment : ℕ) (files : List NamedFile) (args : List Text) → Begins old blocks moment files args → ArgsOr blocks moment files args texts new result
+    (blocks moment : ℕ) (files : List NamedFile) (args : List Text) → Begins old blocks moment files args
+    → ArgsOr blocks moment files args texts new result
 
--- files of these names are added to those found, or the answer of the first that is not there, or does not fit
-abbrev pub FilesOr : Option Files → ℕ → ℕ → ℕ → List NamedFile → List Text → List Text → Held → Result (Unit {0}) Halt → Type 0
-FilesOr shelf word blocks moment found args names new (Ok done) =
-    (more : List NamedFile) × (length more ≡ length names) × Begins new blocks moment (found ++ more) args
-    × IfSome shelf (λ files. files_for files blocks word found names ≡ Ok (found ++ more))
-FilesOr shelf word blocks moment found args names new (Err (halt.Refused answer)) =
-    IfSome shelf (λ files. files_for files blocks word found names ≡ Err answer)
-FilesOr shelf word blocks moment found args names new (Err (halt.Stopped stop)) = (stop ≡ Stop.ShelfFault) ⊎ (stop ≡ Stop.NoMemory)
+-- files of these names are added to those found
+pub record AddsFound (shelf now : Seen Files) (word blocks moment : ℕ) (found : List NamedFile) (args names : List Text) (new : Held) : Type 0 where
+  pub more : List NamedFile
+  pub same : SameShelf shelf now
+  pub all : length more ≡ length names
+  pub begins : Begins new blocks moment (found ++ more) args
+  pub finds : IfSome shelf.told (λ files. files_for files blocks word found names ≡ Ok (found ++ more))
 
-abbrev pub AddsFiles : Option Files → ℕ → List Text → Held → Held → Result (Unit {0}) Halt → Type 0
-AddsFiles shelf word names old new result =
-    (blocks moment : ℕ) (found : List NamedFile) (args : List Text) → Begins old blocks moment found args → FilesOr shelf word blocks moment found args names new result
+-- they are added, or the answer of the first that is not there, or does not fit, is told
+abbrev pub FilesOr : Seen Files → Seen Files → ℕ → ℕ → ℕ → List NamedFile → List Text → List Text → Held → Result (Unit {0}) Ending → Type 0
+FilesOr shelf now word blocks moment found args names new result =
+    MatchResult result (λ done. AddsFound shelf now word blocks moment found args names new)
+    (λ ending. GivesEnd (λ files answer. files_for files blocks word found names ≡ Err answer) shelf now (end_of ending))
 
--- a system without files and arguments is filled with arguments, then with files
-abbrev pub FilledOr : Option Files → ℕ → ℕ → ℕ → List Text → List Text → Held → Result (Unit {0}) Halt → Type 0
-FilledOr shelf word blocks moment texts names new (Ok done) =
-    (found : List NamedFile) × (too_long [] texts ≡ None) × Begins new blocks moment found texts
-    × IfSome shelf (λ files. files_for files blocks word [] names ≡ Ok found)
-FilledOr shelf word blocks moment texts names new (Err (halt.Refused answer)) =
-    ((n : ℕ) × (too_long [] texts ≡ Some n) × (answer ≡ Done.ArgsTooLong n))
-    ⊎ ((too_long [] texts ≡ None) × IfSome shelf (λ files. files_for files blocks word [] names ≡ Err answer))
-FilledOr shelf word blocks moment texts names new (Err (halt.Stopped stop)) = (stop ≡ Stop.ShelfFault) ⊎ (stop ≡ Stop.NoMemory)
-
--- what a system and its filling come to
-abbrev pub IsReadiedBy : Held → Result (Unit {0}) Halt → Result Readied Stop → Type 0
-IsReadiedBy unix (Ok done) result = result ≡ Ok (Ready unix)
-IsReadiedBy unix (Err (halt.Refused answer)) result = result ≡ Ok (Refused answer)
-IsReadiedBy unix (Err (halt.Stopped stop)) result = result ≡ Err stop
-
--- of input at most 4,096 bytes were read ahead
-abbrev pub ReadsFewAhead : Readied → Type 0
-ReadsFewAhead (Ready unix) = length unix.ahead ≤ 4096
-ReadsFewAhead (Refused answer) = ⊤
-
--- all deeds are done, or those up to one that was stopped
-abbrev pub DoesOrStops : List Deed → World → World → Result (Unit {0}) Stop → Type 0
-DoesOrStops deeds w v (Ok done) = DoesAll deeds w v
-DoesOrStops deeds w v (Err stop) = StopsIn deeds w v stop
+abbrev pub AddsFiles : Seen Files → Seen Files → ℕ → List Text → Held → Held → Result (Unit {0}) Ending → Type 0
+AddsFiles shelf now word names old new result =
+    (blocks moment : ℕ) (found : List NamedFile) (args : List Text) → Begins old blocks moment found args
+    → FilesOr shelf now word blocks moment found args names new result

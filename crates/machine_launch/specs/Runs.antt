@@ -1,31 +1,41 @@
 -- What a command that runs a guest is to do: its arguments and files, its run, and the files that are kept.
-use Rattle.std.specs.Prelude.{◌≡◌, ℕ, nat_lt, if◌then◌else◌, List, [], ◌∷◌, ◌++◌, map, Option, Some, None, Result, Ok, Err}
+use Rattle.std.specs.Prelude.{◌≡◌, ℕ, nat_lt, if◌then◌else◌, List, [], ◌∷◌, ◌++◌, map, Option, Some, None, option_map, Result, Ok, Err}
 use Rattle.command_words.specs.Word.{Text}
 use Rattle.command_words.specs.declared.session.Session.{Session}
 use Rattle.nv_events.specs.declared.outcome.Outcome.{Outcome}
 use Rattle.nv_events.specs.declared.outcome.Outcome.TheVariants.{Exited, Faulted, Trapped, Waiting, Going}
-use Rattle.nv_events.specs.declared.io_fault.IoFault.{IoFault}
-use Rattle.nv_events.specs.declared.io_fault.IoFault.TheVariants.{ReadFault, WriteFault}
 use Rattle.nv_events.specs.Run.{Run, run_of}
 use Rattle.nv_events.specs.Turn.{Turn}
 use Rattle.nv_outside.specs.Files.{Files}
+use Rattle.unix_calls.specs.Held.{Held, system_of}
 use Rattle.unix_files.specs.Files.{Files as GuestFiles, bytes_at, node_named}
 use Rattle.unix_system.specs.Calls.{block_length}
 use Rattle.unix_system.specs.System.{System}
 use Rattle.unix_system.specs.Unix.{blocks_needed, start, reply}
 use Rattle.command_deeds.specs.declared.done.Done.{Done}
 use Rattle.command_deeds.specs.declared.done.Done.TheVariants as done
-use Rattle.command_deeds.specs.declared.stop.Stop.{Stop}
-use Rattle.command_deeds.specs.declared.stop.Stop.TheVariants as stop
-use Rattle.command_deeds.specs.Deeds.{Due, Deed, prepares, stores, plays, answers}
+use Rattle.command_deeds.specs.Deeds.{Deed, prepares, stores, plays}
+use Rattle.command_deeds.specs.Ends.{Answer, Due, answers, lacks, says}
+use Rattle.machine_launch.specs.declared.launch.Launch.{Launch}
+
+-- how a machine is started: the name that is its first argument, its options, and the moment
+pub record Plan : Type 0 where
+  pub name : Text
+  pub session : Session
+  pub moment : ℕ
+
+abbrev pub plan_of : Launch → Plan
+plan_of launch = record { name = launch.name.now; session = launch.session.now; moment = launch.moment }
+
+-- ---- arguments and files
 
 -- a file's name and bytes
 abbrev pub NamedFile : Type 0
 NamedFile = Text × List ℕ
 
 -- a guest's arguments: the name of its class comes first
-abbrev pub arguments_of : Text → Session → List Text
-arguments_of name session = name ∷ session.arguments
+abbrev pub arguments_of : Plan → List Text
+arguments_of plan = plan.name ∷ plan.session.arguments
 
 -- how many bytes the argument block has with the first argument that does not fit, of which there may be 4,096
 abbrev pub too_long : List Text → List Text → Option ℕ
@@ -35,17 +45,32 @@ too_long before (text ∷ texts) =
     else too_long (before ++ text ∷ []) texts
 
 -- The files that a guest finds, loaded and added one after the other; or the answer where one is not there, or does not fit the blocks.
-abbrev pub files_for : Files → ℕ → ℕ → List NamedFile → List Text → Result (List NamedFile) Done
+abbrev pub files_for : Files → ℕ → ℕ → List NamedFile → List Text → Result (List NamedFile) Answer
 files_for files blocks word found [] = Ok found
 files_for files blocks word found (name ∷ names) = elim (files name) [
-  | None ↦ Err (done.NoInput word)
+  | None ↦ Err (lacks word name)
   | Some bytes ↦
-      if nat_lt blocks (blocks_needed (found ++ (name, bytes) ∷ [])) then Err (done.FilesTooLarge (blocks_needed (found ++ (name, bytes) ∷ [])))
+      if nat_lt blocks (blocks_needed (found ++ (name, bytes) ∷ [])) then Err
+      (says (done.FilesTooLarge (blocks_needed (found ++ (name, bytes) ∷ []))))
       else files_for files blocks word (found ++ (name, bytes) ∷ []) names
 ]
 
-abbrev pub found_for : Files → Session → Result (List NamedFile) Done
+abbrev pub found_for : Files → Session → Result (List NamedFile) Answer
 found_for files session = files_for files session.disk session.with.word [] session.with.names
+
+abbrev pub IsDueByFiles : Result (List NamedFile) Answer → (List NamedFile → Due → Type 0) → Due → Type 0
+IsDueByFiles (Ok found) IsDueWith due = IsDueWith found due
+IsDueByFiles (Err answer) IsDueWith due = due ≡ answers answer
+
+abbrev pub IsDueByArgs : Option ℕ → Result (List NamedFile) Answer → (List NamedFile → Due → Type 0) → Due → Type 0
+IsDueByArgs None found IsDueWith due = IsDueByFiles found IsDueWith due
+IsDueByArgs (Some n) found IsDueWith due = due ≡ answers (says (done.ArgsTooLong n))
+
+-- the arguments and the files of a guest, and then what is due with these
+abbrev pub IsDueOfSession : Plan → (List NamedFile → Due → Type 0) → Files → Due → Type 0
+IsDueOfSession plan IsDueWith files due = IsDueByArgs (too_long [] (arguments_of plan)) (found_for files plan.session) IsDueWith due
+
+-- ---- the run, and the files that are kept
 
 -- keeping one file of a guest, if it has one of this name
 abbrev pub keeps : GuestFiles → Text → Option ℕ → Deed
@@ -56,53 +81,49 @@ keeps files name (Some n) = stores name (bytes_at files n)
 abbrev pub kept : GuestFiles → List Text → List Deed
 kept files names = map (λ name. keeps files name (node_named files name)) names
 
--- the answer of a run. A run over this system does not wait.
-abbrev pub answer_of : Outcome → Done
-answer_of (Exited status) = done.Exited status
-answer_of (Faulted f) = done.Faulted f
-answer_of (Trapped k) = done.Trapped k
-answer_of Waiting = done.NotBuilt
-answer_of Going = done.Spent
+-- the answer of a run's end; a run that waits has none, and over this system none does
+abbrev pub answer_of : Outcome → Option Done
+answer_of (Exited status) = Some (done.Exited status)
+answer_of (Faulted f) = Some (done.Faulted f)
+answer_of (Trapped k) = Some (done.Trapped k)
+answer_of Waiting = None
+answer_of Going = Some done.Spent
 
-abbrev pub stop_of : IoFault → Stop
-stop_of ReadFault = stop.ReadFault
-stop_of WriteFault = stop.WriteFault
+-- a run's work: it leaves this of input and writes these texts, and its files of these names are kept
+abbrev pub played : List ℕ → List ℕ → List ℕ → GuestFiles → List Text → Outcome → Due
+played left output error_output files keep outcome =
+    record { deeds = plays left output error_output ∷ kept files keep; answer = option_map says (answer_of outcome) }
 
--- what is to be done after a run
-abbrev pub kept_after : Outcome → GuestFiles → List Text → Due
-kept_after outcome files keep = record { deeds = kept files keep; answer = answer_of outcome }
+-- what is due of a run
+abbrev pub of_run : {S : Type 0} → Run S System → List Text → Due
+of_run run keep = played run.system.console.rest run.system.console.output run.system.console.error_output run.system.files keep run.outcome
 
--- a run's work: its console, then the files that are kept
-abbrev pub played : {S : Type 0} → Run S System → List Text → Due
-played run keep = record {
-  deeds = plays run.system.console.rest run.system.console.output run.system.console.error_output ∷ kept run.system.files keep;
-  answer = answer_of run.outcome;
-}
+-- Where input does not tell what it has left, some run is due: it leaves and writes anything, and ends in some way.
+pub record IsDueOfSomeRun (keep : List Text) (due : Due) : Type 0 where
+  pub left : List ℕ
+  pub output : List ℕ
+  pub error_output : List ℕ
+  pub files : GuestFiles
+  pub outcome : Outcome
+  pub is : due ≡ played left output error_output files keep outcome
 
--- the run of a machine from a state for so many steps, with these options, over these files and this input
-abbrev pub run_for : {S : Type 0} → ℕ → (S → Turn S) → S → Text → Session → ℕ → List ℕ → List NamedFile → Run S System
-run_for steps turn s name session moment input found =
-    run_of turn reply steps s (start session.disk moment found (arguments_of name session) input)
+-- the run of a machine over a system as it is held, with what input has left
+abbrev pub IsDueOfHeld : {S : Type 0} → ℕ → (S → Turn S) → S → Held → List Text → Option (List ℕ) → Due → Type 0
+IsDueOfHeld steps turn s unix keep (Some input) due = due ≡ of_run (run_of turn reply steps s (system_of unix input [] [])) keep
+IsDueOfHeld steps turn s unix keep None due = IsDueOfSomeRun keep due
 
-abbrev pub IsDueOfSteps : {S : Type 0} → ℕ → (S → Turn S) → S → Text → Session → ℕ → List ℕ → List NamedFile → Due → Type 0
-IsDueOfSteps steps turn s name session moment input found due = due ≡ played (run_for steps turn s name session moment input found) session.keep.names
+-- the run of a machine from a state for so many steps, over these files and this input
+abbrev pub run_for : {S : Type 0} → ℕ → (S → Turn S) → S → Plan → List NamedFile → List ℕ → Run S System
+run_for steps turn s plan found input = run_of turn reply steps s (start plan.session.disk plan.moment found (arguments_of plan) input)
 
--- a run for the steps of its session
-abbrev pub IsDueOfPlay : {S : Type 0} → (S → Turn S) → S → Text → Session → ℕ → List ℕ → List NamedFile → Due → Type 0
-IsDueOfPlay turn s name session moment input found due = IsDueOfSteps session.steps turn s name session moment input found due
+abbrev pub IsDueOfSteps : {S : Type 0} → ℕ → (S → Turn S) → S → Plan → Option (List ℕ) → List NamedFile → Due → Type 0
+IsDueOfSteps steps turn s plan (Some input) found due = due ≡ of_run (run_for steps turn s plan found input) plan.session.keep.names
+IsDueOfSteps steps turn s plan None found due = IsDueOfSomeRun plan.session.keep.names due
+
+-- the arguments and the files of a machine, and then its run for the steps of its session
+abbrev pub IsDueOfPlay : {S : Type 0} → (S → Turn S) → S → Plan → Files → Option (List ℕ) → Due → Type 0
+IsDueOfPlay turn s plan files input due = IsDueOfSession plan (IsDueOfSteps plan.session.steps turn s plan input) files due
 
 -- the run of a machine on a system of its own: with 1,024 blocks, without files and input, and with its name as the one argument
 abbrev pub run_alone : {S : Type 0} → ℕ → (S → Turn S) → S → Text → ℕ → Run S System
 run_alone steps turn s name moment = run_of turn reply steps s (start 1024 moment [] (name ∷ []) [])
-
--- the arguments and the files, and then a run over them and some input
-abbrev pub IsDueByFiles : Result (List NamedFile) Done → (List NamedFile → Due → Type 0) → Due → Type 0
-IsDueByFiles (Ok found) IsDueWith due = IsDueWith found due
-IsDueByFiles (Err answer) IsDueWith due = due ≡ answers answer
-
-abbrev pub IsDueByArgs : Option ℕ → Result (List NamedFile) Done → (List NamedFile → Due → Type 0) → Due → Type 0
-IsDueByArgs None found IsDueWith due = IsDueByFiles found IsDueWith due
-IsDueByArgs (Some n) found IsDueWith due = due ≡ answers (done.ArgsTooLong n)
-
-abbrev pub IsDueOfSession : Text → Session → Files → (List NamedFile → Due → Type 0) → Due → Type 0
-IsDueOfSession name session files IsDueWith due = IsDueByArgs (too_long [] (arguments_of name session)) (found_for files session) IsDueWith due

@@ -1,7 +1,6 @@
 //! The run of a machine on a system of its own, which no file, input or output of the command takes part in.
-ghost use Rattle.std.specs.Prelude.{◌≡◌, ◌≤◌, ◌∷◌, [], IfErr, IfOk, false, length};
+ghost use Rattle.std.specs.Prelude.{◌≡◌, ◌≤◌, ◌∷◌, [], IfOk, Some, false, length};
 ghost use Rattle.unix_calls.specs.Starting.{Begins};
-ghost use Rattle.command_deeds.specs.Counts.{is_stop};
 ghost use Rattle.machine_launch.specs.Runs.{answer_of, run_alone};
 
 use crate::no_input::NoInput;
@@ -27,8 +26,7 @@ pub fn play_alone<M: Machine + Drop>(
 ) -> Result<Done, AllocError>
     requires going { M.has_ended machine ≡ false }
     requires short { length name.now ≤ 64 }
-    ensures is { IfOk result (λ d. d ≡ answer_of (run_alone steps M.turn (M.state machine) name.now moment).outcome) }
-    ensures answer { IfOk result (λ d. is_stop d ≡ false) }
+    ensures { IfOk result (λ answer. answer_of (run_alone steps M.turn (M.state machine) name.now moment).outcome ≡ Some answer) }
 {
     begins_at_start();
     let mut machine = machine;

@@ -2,18 +2,15 @@
 #![tactic(auto)]
 
 mod alone;
-mod halt;
 mod keeping;
 mod launch;
 mod no_input;
 mod no_output;
 mod outcomes;
 mod playing;
-mod readied;
 mod readying;
 
 pub use alone::play_alone;
 pub use launch::Launch;
 pub use playing::{play_for, play_session};
-pub use readied::Readied;
 pub use readying::ready;

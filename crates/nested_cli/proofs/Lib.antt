@@ -1,2 +1,2 @@
+pub mod FaultLemmas
 pub mod AnswerLemmas
-pub mod CommandLemmas

@@ -1,67 +1,61 @@
--- What the program is to do, by its words and the files that are there, and what it leaves.
-use Rattle.std.specs.Prelude.{◌≡◌, ℕ, ◌⊎◌, List, [], Option, IsSome, Result, Ok, Err, unwrap_or, ⊤}
-use Rattle.std.specs.Io.KnownBytes.{Appends}
+-- What the program is to do by its words, and what it leaves.
+use Rattle.std.specs.Prelude.{◌≡◌, ℕ, List, Result, Ok, Err, ⊤}
 use Rattle.command_words.specs.Word.{Text}
 use Rattle.command_words.specs.Meaning.{command_of}
 use Rattle.command_words.specs.declared.command.Command.{Command}
 use Rattle.command_words.specs.declared.command.Command.TheVariants as command
+use Rattle.command_words.specs.declared.session.Session.{Session}
 use Rattle.command_words.specs.declared.usage.Usage.{Usage}
-use Rattle.nv_outside.specs.Files.{Files, SameFiles}
-use Rattle.nv_outside.specs.Gains.{AppendsPart}
-use Rattle.command_deeds.specs.declared.done.Done.{Done}
-use Rattle.command_deeds.specs.declared.done.Done.TheVariants as done
-use Rattle.command_deeds.specs.declared.stop.Stop.{Stop}
+use Rattle.command_deeds.specs.Ends.{Answer, ByFiles, Comes, Due, final}
 use Rattle.command_deeds.specs.Line.{line_of}
-use Rattle.nested_cli.specs.Usage.{usage_number}
-use Rattle.command_deeds.specs.Deeds.{World, Due, Comes, answers, done_of}
-use Rattle.guest_commands.specs.Listing.{IsDueOfList}
+use Rattle.command_deeds.specs.World.{World}
+use Rattle.command_deeds.specs.declared.done.Done.{Done}
+use Rattle.command_deeds.specs.declared.stop.Stop.{Stop}
 use Rattle.guest_commands.specs.Assembly.{IsDueOfAsm}
 use Rattle.guest_commands.specs.Interp.{IsDueOfInterp}
-use Rattle.class_commands.specs.Classes.{IsDueOfVerify, IsDueOfRun}
+use Rattle.guest_commands.specs.Listing.{IsDueOfList}
+use Rattle.class_commands.specs.Classes.{IsDueOfRun, IsDueOfVerify}
+use Rattle.machine_launch.specs.Runs.{Plan}
 use Rattle.translate_commands.specs.Go.{IsDueOfGo}
 use Rattle.translate_commands.specs.Make.{IsDueOfMake}
 use Rattle.translate_commands.specs.Translate.{IsDueOfTranslate}
+use Rattle.nested_cli.specs.Faults.{Faults}
+use Rattle.nested_cli.specs.Line.{Says}
+use Rattle.nested_cli.specs.Usage.{Misuses}
 
--- what a command is to do, at a moment, over these files and this input
-abbrev pub IsDueOf : Command → ℕ → Files → List ℕ → Due → Type 0
-IsDueOf (command.Go input name pages method_bytes session) moment files rest due =
-    IsDueOfGo (record { word = input.word; name = name; pages = pages; session = session; moment = moment }) method_bytes files rest
-    (files input.text) due
-IsDueOf (command.Translate input name pages method_bytes) moment files rest due =
-    IsDueOfTranslate input.word name pages method_bytes (files input.text) due
-IsDueOf (command.Interp input name pages session) moment files rest due =
-    IsDueOfInterp (record { word = input.word; name = name; pages = pages; session = session; moment = moment }) files rest (files input.text) due
-IsDueOf (command.Run name words session) moment files rest due = IsDueOfRun name.word name.text words session moment rest files due
-IsDueOf (command.Verify name) moment files rest due = IsDueOfVerify name.word name.text files due
-IsDueOf (command.Asm input output) moment files rest due = IsDueOfAsm input.word output (files input.text) due
-IsDueOf (command.List input) moment files rest due = IsDueOfList input.word (files input.text) due
-IsDueOf (command.Make count method_bytes) moment files rest due = IsDueOfMake count method_bytes moment due
+abbrev pub plan : Text → Session → ℕ → Plan
+plan name session moment = record { name = name; session = session; moment = moment }
 
--- what the words ask for
-abbrev pub IsDueBy : Result Command Usage → ℕ → Files → List ℕ → Due → Type 0
-IsDueBy (Ok c) moment files rest due = IsDueOf c moment files rest due
-IsDueBy (Err usage) moment files rest due = due ≡ answers (done.Usage (usage_number usage))
+-- What a command that runs nothing is to do: by the words and the files, where these are told; `make` by the words alone.
+abbrev pub IsDueOf : Command → ℕ → World → Due → Type 0
+IsDueOf (command.Translate input name pages method_bytes) moment w due = ByFiles (IsDueOfTranslate input name pages method_bytes) w due
+IsDueOf (command.Verify name) moment w due = ByFiles (IsDueOfVerify name) w due
+IsDueOf (command.Asm input output) moment w due = ByFiles (IsDueOfAsm input output) w due
+IsDueOf (command.List input) moment w due = ByFiles (IsDueOfList input) w due
+IsDueOf (command.Make count method_bytes) moment w due = IsDueOfMake count method_bytes moment due
+IsDueOf other moment w due = ⊤
 
-abbrev pub IsDue : List Text → ℕ → Files → List ℕ → Due → Type 0
-IsDue words moment files rest due = IsDueBy (command_of words) moment files rest due
+-- What a command that runs a guest or classes is to do, at a moment: by the words, the files and the input, where these are told. Where
+-- input does not tell what it has left, what the run itself writes and keeps is left open.
+abbrev pub IsRunOf : Command → ℕ → World → Due → Type 0
+IsRunOf (command.Go input name pages method_bytes session) moment w due =
+    ByFiles (IsDueOfGo input pages method_bytes (plan name session moment)) w due
+IsRunOf (command.Interp input name pages session) moment w due = ByFiles (IsDueOfInterp input pages (plan name session moment)) w due
+IsRunOf (command.Run name words session) moment w due = ByFiles (IsDueOfRun name words (plan name.text session moment)) w due
+IsRunOf other moment w due = ⊤
 
--- of a command that runs a guest or classes it is known what is due where input tells what it has left
-abbrev pub Known : Result Command Usage → Option (List ℕ) → Type 0
-Known (Ok (command.Go input name pages method_bytes session)) rest = IsSome rest
-Known (Ok (command.Interp input name pages session)) rest = IsSome rest
-Known (Ok (command.Run name words session)) rest = IsSome rest
-Known (Ok other) rest = ⊤
-Known (Err usage) rest = ⊤
-
--- the answer's line is written to error output last; where that fails, the answer is a write fault
-abbrev pub Says : List ℕ → World → World → Done → Done → Type 0
-Says line u v answer said =
-    SameFiles u.files v.files × (v.rest ≡ u.rest) × (v.out ≡ u.out)
-    × (((said ≡ answer) × Appends u.err v.err line) ⊎ ((said ≡ done.WriteFault) × AppendsPart u.err v.err line))
-
--- What a call of the program leaves, and its answer: its work, done or stopped on the way, and then the answer's line.
-pub record Does (words : List Text) (moment : ℕ) (files : Files) (w v : World) (said : Done) : Type 0 where
+-- What a call of the program leaves, and its answer.
+pub record Does (words : List Text) (moment : ℕ) (w v : World) (said : Done) : Type 0 where
+  -- the world before the answer's line, and how the work ended: with an answer, or stopped on the way
   pub worked : World
-  pub ended : Result Done Stop
-  pub comes : Known (command_of words) w.rest → Comes (IsDue words moment files (unwrap_or w.rest [])) w worked ended
-  pub says : Says (line_of words (done_of ended)) worked v (done_of ended) said
+  pub end : Result Answer Stop
+  -- words that are no command line are answered so over every outside, and nothing else is done
+  pub usage : (misuse : Usage) → command_of words ≡ Err misuse → Misuses misuse w worked end
+  -- what a command that runs nothing is to do is done, or stopped on the way
+  pub due : (c : Command) → command_of words ≡ Ok c → Comes (IsDueOf c moment) w worked end
+  -- so is what a command that runs a guest or classes is to do
+  pub run : (c : Command) → command_of words ≡ Ok c → Comes (IsRunOf c moment) w worked end
+  -- a fault is answered where its own count rose, and no failed call is passed over
+  pub faults : Faults w v said
+  -- the answer's line is written to error output last
+  pub line : Says (line_of (final end).name (final end).done) worked v (final end).done said

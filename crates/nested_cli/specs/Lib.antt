@@ -1,2 +1,4 @@
 pub mod Usage
+pub mod Faults
+pub mod Line
 pub mod Commands

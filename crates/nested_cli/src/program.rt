@@ -1,16 +1,19 @@
-ghost use Rattle.std.specs.Prelude.{◌≡◌, ◌≢◌, ◌≤◌, ◌⊎◌, ℕ, List, [], Option, IfOk, IfSome, false, unwrap_or};
+ghost use Rattle.std.specs.Prelude.{◌≡◌, Err, Ok};
 ghost use Rattle.command_words.specs.Limits.{IsWithinLimits};
 ghost use Rattle.command_words.specs.Meaning.{command_of};
 ghost use Rattle.command_words.specs.Word.{texts};
-ghost use Rattle.nv_outside.specs.Faults.{CountsFailure, Rose};
-ghost use Rattle.unix_calls.specs.Serving.{counted};
-ghost use Rattle.nested_cli.specs.Commands.{Does, IsDue, IsDueOf, Known};
-ghost use Rattle.command_deeds.specs.Counts.{StreamCauses, is_stop, shelf_stopped};
-ghost use Rattle.command_deeds.specs.Deeds.{Comes, done_of, world};
+ghost use Rattle.command_words.specs.declared.command.Command as meant;
+ghost use Rattle.command_words.specs.declared.usage.Usage as misuse;
+ghost use Rattle.command_deeds.specs.Ends.{Comes, Ends, ended};
+ghost use Rattle.command_deeds.specs.Line.{line_of};
+ghost use Rattle.command_deeds.specs.World.{SameParts, input_seen, output_seen, seen, shelf_seen, world};
+ghost use Rattle.nested_cli.specs.Commands.{Does, IsDueOf, IsRunOf};
+ghost use Rattle.nested_cli.specs.Line.{Tells};
+ghost use Rattle.nested_cli.specs.Usage.{Misuses};
 
 use crate::misuse::refused_words;
 use class_commands::{run, verify};
-use command_deeds::{Done, Stop, write_line};
+use command_deeds::{Done, Ending, Outside, write_line};
 use command_words::{Command, read_words};
 use guest_commands::{Guest, asm, interp, list};
 use machine_launch::Launch;
@@ -23,8 +26,13 @@ use translate_commands::{go, make, translate};
 ///
 /// `words` are the words after the program's name, and `moment` is the time, in seconds since 1970.
 ///
-/// The answer is `WriteFault` where that last write failed, or a write to `out` or of the guest to `err`. Where a call of the outside
-/// failed, the answer is one of its faults: no failed call is passed over.
+/// What it is to do follows from the words, from the files where the shelf tells them, and for a run from the input where that tells
+/// what it has left. All of it is done, or it is stopped on the way. Words that are no command line are answered `Usage` over every
+/// outside.
+///
+/// The answer is `WriteFault` where that last write failed, or a write to `out` or of the guest to `err`. One fault ends the call: where
+/// a call of the outside failed, the answer is one of its faults, and nothing further is read, written or stored but for the answer's
+/// line.
 pub fn nested<H: Shelf, S: Source, O: Sink, E: Sink>(
     alloc: Global,
     words: &[String],
@@ -34,29 +42,40 @@ pub fn nested<H: Shelf, S: Source, O: Sink, E: Sink>(
     out: &mut O,
     err: &mut E,
 ) -> Done
-    ensures does { IfSome (H.files shelf.old) (λ files. Does (texts words.now) moment files (world (H.files shelf.old) (S.rest input.old) (O.taken out.old) (E.taken err.old)) (world (H.files shelf.new) (S.rest input.new) (O.taken out.new) (E.taken err.new)) result) }
-    ensures read_fault { result ≡ Done.ReadFault → Rose (S.faults input.old) (S.faults input.new) }
-    ensures write_fault { result ≡ Done.WriteFault → Rose (O.faults out.old) (O.faults out.new) ⊎ Rose (E.faults err.old) (E.faults err.new) }
-    ensures shelf_fault { result ≡ Done.ShelfFault → Rose (H.faults shelf.old) (H.faults shelf.new) }
-    ensures shelf_sound { result ≢ Done.ShelfFault → result ≢ Done.WriteFault → H.faults shelf.new ≡ H.faults shelf.old }
-    ensures input_sound { result ≢ Done.ReadFault → result ≢ Done.WriteFault → S.faults input.new ≡ S.faults input.old }
-    ensures out_sound { result ≢ Done.ReadFault → result ≢ Done.WriteFault → O.faults out.new ≡ O.faults out.old }
-    ensures err_sound { result ≢ Done.ReadFault → result ≢ Done.WriteFault → E.faults err.new ≡ E.faults err.old }
+    ensures does { Does (texts words.now) moment
+        (world (shelf_seen H.Shelf shelf.old) (input_seen S.Source input.old) (output_seen O.Sink out.old) (output_seen E.Sink err.old))
+        (world (shelf_seen H.Shelf shelf.new) (input_seen S.Source input.new) (output_seen O.Sink out.new) (output_seen E.Sink err.new)) result }
 {
-    let done = answer(perform(alloc, words, moment, shelf, input, out, err));
-    match write_line(err, words, &done) {
-        Ok(()) => done,
-        Err(Failed) => Done::WriteFault,
+    let mut outside = Outside::new(shelf, input, out, err);
+    call(alloc, words, moment, &mut outside)
+}
+
+/// The same over parts that are joined.
+fn call<H: Shelf, S: Source, O: Sink, E: Sink>(
+    alloc: Global,
+    words: &[String],
+    moment: u64,
+    outside: &mut Outside<'_, H, S, O, E>,
+) -> Done
+    ensures same { SameParts outside.old outside.new }
+    ensures does { Does (texts words.now) moment (seen H.Shelf S.Source O.Sink E.Sink outside.old)
+        (seen H.Shelf S.Source O.Sink E.Sink outside.new) result }
+{
+    match perform(alloc, words, moment, outside) {
+        Ok(done) => tell(outside.err, "", done),
+        Err(Ending::NoFile { word, name }) => tell(outside.err, name.as_str(), Done::NoInput(word)),
+        Err(Ending::Refused(done)) => tell(outside.err, "", done),
+        Err(Ending::Stopped(stop)) => tell(outside.err, "", stop.done()),
     }
 }
 
-/// The answer of work that was done, or stopped.
-fn answer(ended: Result<Done, Stop>) -> Done
-    ensures { result ≡ done_of ended }
+/// Writes the line of an answer, and gives the answer. `name` is the name that was asked for where there is no such file.
+fn tell<E: Sink>(err: &mut E, name: &str, done: Done) -> Done
+    ensures tells { Tells (line_of name.now done) (output_seen E.Sink err.old) (output_seen E.Sink err.new) done result }
 {
-    match ended {
-        Ok(done) => done,
-        Err(stop) => stop.done(),
+    match write_line(err, name, &done) {
+        Ok(()) => done,
+        Err(Failed) => Done::WriteFault,
     }
 }
 
@@ -65,20 +84,21 @@ fn perform<H: Shelf, S: Source, O: Sink, E: Sink>(
     alloc: Global,
     words: &[String],
     moment: u64,
-    shelf: &mut H,
-    input: &mut S,
-    out: &mut O,
-    err: &mut E,
-) -> Result<Done, Stop>
-    ensures comes { Known (command_of (texts words.now)) (S.rest input.old) → IfSome (H.files shelf.old) (λ files. Comes (IsDue (texts words.now) moment files (unwrap_or (S.rest input.old) [])) (world (H.files shelf.old) (S.rest input.old) (O.taken out.old) (E.taken err.old)) (world (H.files shelf.new) (S.rest input.new) (O.taken out.new) (E.taken err.new)) result) }
-    ensures answer { IfOk result (λ d. is_stop d ≡ false) }
-    ensures count { CountsFailure (shelf_stopped result) (H.faults shelf.old) (H.faults shelf.new) }
-    ensures causes { StreamCauses (counted (S.faults input.old) (O.faults out.old) (E.faults err.old)) (counted (S.faults input.new) (O.faults out.new) (E.faults err.new)) result }
-    ensures err_count { E.faults err.old ≤ E.faults err.new }
+    outside: &mut Outside<'_, H, S, O, E>,
+) -> Result<Done, Ending>
+    ensures same { SameParts outside.old outside.new }
+    ensures usage { (u : misuse.Usage) → command_of (texts words.now) ≡ Err u
+        → Misuses u (seen H.Shelf S.Source O.Sink E.Sink outside.old) (seen H.Shelf S.Source O.Sink E.Sink outside.new) (ended result) }
+    ensures due { (c : meant.Command) → command_of (texts words.now) ≡ Ok c
+        → Comes (IsDueOf c moment) (seen H.Shelf S.Source O.Sink E.Sink outside.old) (seen H.Shelf S.Source O.Sink E.Sink outside.new)
+        (ended result) }
+    ensures run { (c : meant.Command) → command_of (texts words.now) ≡ Ok c
+        → Comes (IsRunOf c moment) (seen H.Shelf S.Source O.Sink E.Sink outside.old) (seen H.Shelf S.Source O.Sink E.Sink outside.new)
+        (ended result) }
 {
     match read_words(alloc, words) {
-        Ok(command) => perform_command(alloc, &command, moment, shelf, input, out, err),
-        Err(error) => refused_words(error),
+        Ok(command) => perform_command(alloc, &command, moment, outside),
+        Err(error) => Err(refused_words(error)),
     }
 }
 
@@ -87,17 +107,11 @@ fn perform_command<H: Shelf, S: Source, O: Sink, E: Sink>(
     alloc: Global,
     command: &Command,
     moment: u64,
-    shelf: &mut H,
-    input: &mut S,
-    out: &mut O,
-    err: &mut E,
-) -> Result<Done, Stop>
+    outside: &mut Outside<'_, H, S, O, E>,
+) -> Result<Done, Ending>
     requires { IsWithinLimits command.now }
-    ensures comes { Known (Ok command.now) (S.rest input.old) → IfSome (H.files shelf.old) (λ files. Comes (IsDueOf command.now moment files (unwrap_or (S.rest input.old) [])) (world (H.files shelf.old) (S.rest input.old) (O.taken out.old) (E.taken err.old)) (world (H.files shelf.new) (S.rest input.new) (O.taken out.new) (E.taken err.new)) result) }
-    ensures answer { IfOk result (λ d. is_stop d ≡ false) }
-    ensures count { CountsFailure (shelf_stopped result) (H.faults shelf.old) (H.faults shelf.new) }
-    ensures causes { StreamCauses (counted (S.faults input.old) (O.faults out.old) (E.faults err.old)) (counted (S.faults input.new) (O.faults out.new) (E.faults err.new)) result }
-    ensures err_count { E.faults err.old ≤ E.faults err.new }
+    ensures due { Ends H.Shelf S.Source O.Sink E.Sink (IsDueOf command.now moment) outside.old outside.new result }
+    ensures run { Ends H.Shelf S.Source O.Sink E.Sink (IsRunOf command.now moment) outside.old outside.new result }
 {
     match command {
         Command::Go {
@@ -108,36 +122,18 @@ fn perform_command<H: Shelf, S: Source, O: Sink, E: Sink>(
             session,
         } => {
             let guest = Guest {
-                word: file.word,
+                input: file,
                 pages: *pages,
                 launch: Launch::new(name.as_str(), session, moment),
             };
-            go(
-                alloc,
-                &guest,
-                *method_bytes,
-                file.text.as_str(),
-                shelf,
-                input,
-                out,
-                err,
-            )
+            go(alloc, &guest, *method_bytes, outside)
         }
         Command::Translate {
             input: file,
             name,
             pages,
             method_bytes,
-        } => translate(
-            alloc,
-            file.word,
-            file.text.as_str(),
-            name.as_str(),
-            *pages,
-            *method_bytes,
-            shelf,
-            out,
-        ),
+        } => translate(alloc, file, name.as_str(), *pages, *method_bytes, outside),
         Command::Interp {
             input: file,
             name,
@@ -145,36 +141,29 @@ fn perform_command<H: Shelf, S: Source, O: Sink, E: Sink>(
             session,
         } => {
             let guest = Guest {
-                word: file.word,
+                input: file,
                 pages: *pages,
                 launch: Launch::new(name.as_str(), session, moment),
             };
-            interp(alloc, &guest, file.text.as_str(), shelf, input, out, err)
+            interp(alloc, &guest, outside)
         }
         Command::Asm {
             input: file,
             output,
-        } => asm(
-            alloc,
-            file.word,
-            file.text.as_str(),
-            output.as_str(),
-            shelf,
-            out,
-        ),
-        Command::List { input: file } => { list(alloc, file.word, file.text.as_str(), shelf, out) }
+        } => asm(alloc, file, output.as_str(), outside),
+        Command::List { input: file } => list(alloc, file, outside),
         Command::Run {
             name,
             words,
             session,
         } => {
             let launch = Launch::new(name.text.as_str(), session, moment);
-            run(alloc, name.word, *words, &launch, shelf, input, out, err)
+            run(alloc, name, *words, &launch, outside)
         }
-        Command::Verify { name } => verify(alloc, name.word, name.text.as_str(), shelf, out),
+        Command::Verify { name } => verify(alloc, name, outside),
         Command::Make {
             count,
             method_bytes,
-        } => make(alloc, *count, *method_bytes, moment, out),
+        } => make(alloc, *count, *method_bytes, moment, outside),
     }
 }

@@ -75,7 +75,13 @@ fn a_class_is_read_linked_and_verified(rt: HostRuntime) -> Result<(), Fail> {
         check_verify(alloc, shelf_of(alloc, bytes)?, done, printed, line)?;
     }
     let none = MemShelf::new(alloc, Vec::new(alloc));
-    check_verify(alloc, none, Done::NoInput(1), "", "nested: no file Main\n")
+    check_verify(
+        alloc,
+        none,
+        Done::NoInput(1),
+        "",
+        "nested: no file Main.class\n",
+    )
 }
 
 #[test]

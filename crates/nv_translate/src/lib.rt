@@ -6,6 +6,6 @@ mod translation;
 
 pub use layouts::layouts_are_one;
 pub use program_translation::{
-    BlockInfo, Built, Layout, NamedFile, SpanInfo, TranslateError, allow, need,
+    BlockInfo, Built, Layout, NamedFile, NoMemory, SpanInfo, allow, need,
 };
 pub use translation::translate;

@@ -3,7 +3,7 @@ ghost use Rattle.command_words.specs.Limits.{AreMethodBytes, IsClassName};
 ghost use Rattle.translation_laws.specs.Translated.{Translated};
 
 use elf_image::Image;
-use program_translation::{Built, TranslateError};
+use program_translation::{Built, NoMemory};
 use std::alloc::Global;
 use translation_laws::laws::images_are_translated;
 
@@ -17,13 +17,13 @@ use translation_laws::laws::images_are_translated;
 /// system, with the same bytes, and end in the same way, for all answers of the system and every bound.
 ///
 /// # Errors
-/// `NoMemory`; `TooLarge` where the program needs more than class files hold, which is not proved never to be.
+/// Want of memory for the classes.
 pub fn translate(
     alloc: Global,
     image: &Image,
     name: &str,
     method_bytes: u32,
-) -> Result<Built, TranslateError>
+) -> Result<Built, NoMemory>
     requires name { IsClassName name.now }
     requires method_bytes { AreMethodBytes method_bytes }
     ensures { IfOk result (Translated image.now name.now method_bytes) }

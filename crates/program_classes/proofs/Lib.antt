@@ -3,3 +3,5 @@ pub mod CodeBlocks
 pub mod ProgramNames
 pub mod DataClasses
 pub mod MainClasses
+pub mod LawfulNames
+pub mod Rooms

@@ -17,15 +17,17 @@ abbrev pub behind : ℕ → List ℕ → ℕ
 behind low [] = low
 behind low (n ∷ numbers) = behind (n + 1) numbers
 
--- The code begins somewhere and in few places, there are few classes, their methods that are called have rising numbers behind those of the
--- main class, and the runs of pages are runs.
+-- The code begins somewhere and in few places, there are few classes and few runs of pages, the methods of classes that are called have rising
+-- numbers behind those of the main class, and each start is that of a method of the main class or of a class of code.
 pub record IsMain (main : MainClass) : Type 0 where
   pub some : 1 ≤ length main.starts.now
   pub few : length main.starts.now ≤ 2048
-  pub few_code : length main.code.now < 2 ^ 16
-  pub few_data : length main.data.now < 2 ^ 16
+  pub few_code : length main.code.now ≤ 2048
+  pub few_data : length main.data.now ≤ 2048
+  pub few_runs : length main.runs.now ≤ 2 ^ 19
   pub runs : All IsRun main.runs.now
   pub rise : RiseFrom main_methods (main.code.now ++ main.data.now)
+  pub known : All (λ start. start.method < behind main_methods main.code.now) main.starts.now
 
 -- ---- the texts of pages
 

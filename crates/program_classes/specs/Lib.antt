@@ -1,5 +1,6 @@
 pub mod Making
 pub mod Named
+pub mod Room
 pub mod Mentioned
 pub mod Tables
 pub mod Parts

@@ -1,10 +1,12 @@
 //! Classes of code.
-ghost use Rattle.std.specs.Prelude.{◌≡◌, ◌+◌, ◌≤◌, ◌<◌, ◌^◌, All, IfOk, OnOk, length};
-ghost use Rattle.program_classes.specs.Parts.{IsPart, IsSpan};
-ghost use Rattle.program_classes.specs.Code.{IsCodeClass};
+ghost use Rattle.std.specs.Prelude.{◌≡◌, ◌+◌, ◌≤◌, ◌<◌, ◌^◌, All, IfOk, OnOk, length, sum_by};
+ghost use Rattle.command_words.specs.Limits.{IsClassName};
+ghost use Rattle.code_steps.specs.Widths.{size};
+ghost use Rattle.program_classes.specs.Parts.{IsCode, IsPart, IsSpan};
+ghost use Rattle.program_classes.specs.Code.{IsCodeClass, code_of_span};
 ghost use Rattle.program_classes.specs.Blocks.{pieces_of_class};
 
-use crate::ClassError;
+use crate::NoMemory;
 use crate::code_naming::named_class;
 use crate::part::Part;
 use crate::piece::Piece;
@@ -26,7 +28,7 @@ pub struct CodeClass {
 /// and the span's, and behind them `run()V`, which calls these methods as long as the guest stands in the class's words.
 ///
 /// # Errors
-/// TooLarge where the class has more than a class file can hold, and NoMemory.
+/// NoMemory alone.
 pub fn code_class(
     alloc: Global,
     main: &str,
@@ -34,11 +36,16 @@ pub fn code_class(
     part: &Part,
     spans: &[Span],
     first_method: u32,
-) -> Result<CodeClass, ClassError>
+) -> Result<CodeClass, NoMemory>
+    requires name { IsClassName main.now }
+    requires number { number < 2 ^ 15 }
     requires part { IsPart part.now }
+    requires code { IsCode part.now.units.now }
     requires spans { All (IsSpan part.now.words) spans.now }
     requires some { 1 ≤ length spans.now }
-    requires few { length spans.now ≤ 2048 }
+    requires few { length spans.now ≤ 879 }
+    requires words { sum_by (λ s. s.words) spans.now ≤ 6144 }
+    requires sizes { All (λ s. size (code_of_span part.now s) ≤ 65535) spans.now }
     requires methods { first_method + length spans.now < 2 ^ 32 }
     ensures class { IfOk result (λ made. IsCodeClass main.now number part.now spans.now first_method made.bytes.items) }
     ensures pieces { IfOk result (λ made. made.pieces.items ≡ pieces_of_class part.now spans.now) }

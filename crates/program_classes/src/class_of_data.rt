@@ -1,9 +1,10 @@
 //! A class of data.
-ghost use Rattle.std.specs.Prelude.{IfOk, map};
+ghost use Rattle.std.specs.Prelude.{◌≤◌, ◌<◌, ◌^◌, All, IfOk, length, map};
+ghost use Rattle.command_words.specs.Limits.{IsClassName};
 ghost use Rattle.program_classes.specs.Pages.{page_of};
 ghost use Rattle.program_classes.specs.Data.{IsDataClass};
 
-use crate::ClassError;
+use crate::NoMemory;
 use crate::data_naming::named_class;
 use crate::filling::{add_fill, add_words};
 use crate::page_data::PageData;
@@ -15,7 +16,7 @@ use std::alloc::Global;
 /// of `words`, the first of its two methods.
 ///
 /// # Errors
-/// TooLarge where the class has more than a class file can hold, and NoMemory.
+/// NoMemory alone.
 pub fn data_class(
     alloc: Global,
     main: &str,
@@ -23,7 +24,11 @@ pub fn data_class(
     class: u16,
     first_method: u32,
     pages: &[PageData],
-) -> Result<Vec<u8>, ClassError>
+) -> Result<Vec<u8>, NoMemory>
+    requires name { IsClassName main.now }
+    requires number { number < 2 ^ 15 }
+    requires pages { length pages.now ≤ 1024 }
+    requires words { All (λ p. length p.words.now ≤ 1024) pages.now }
     ensures { IfOk result (λ bytes. IsDataClass main.now number class first_method (map page_of pages.now) bytes.items) }
 {
     let name = data_class_name(alloc, main, number)?;

@@ -1,9 +1,10 @@
 //! The main class.
 ghost use Rattle.std.specs.Prelude.{IfOk};
+ghost use Rattle.command_words.specs.Limits.{IsClassName};
 ghost use Rattle.program_classes.specs.Content.{IsMain};
 ghost use Rattle.program_classes.specs.Main.{IsMainClass};
 
-use crate::ClassError;
+use crate::NoMemory;
 use crate::content::MainClass;
 use crate::main_naming::named_class;
 use crate::methods::{add_helpers, add_others};
@@ -13,9 +14,10 @@ use std::alloc::Global;
 /// `missing()V`, in this order. Its pool names the classes of code and then those of data, each in order.
 ///
 /// # Errors
-/// TooLarge where the class has more than a class file can hold, and NoMemory.
-pub fn main_class(alloc: Global, name: &str, main: &MainClass) -> Result<Vec<u8>, ClassError>
-    requires { IsMain main.now }
+/// NoMemory alone.
+pub fn main_class(alloc: Global, name: &str, main: &MainClass) -> Result<Vec<u8>, NoMemory>
+    requires name { IsClassName name.now }
+    requires main { IsMain main.now }
     ensures { IfOk result (λ bytes. IsMainClass name.now main.now bytes.items) }
 {
     let named = named_class(alloc, name, main)?;

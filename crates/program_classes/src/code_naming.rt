@@ -1,14 +1,17 @@
 //! What a class of code names.
-ghost use Rattle.std.specs.Prelude.{◌*◌, [], ◌∷◌, IfOk, OnOk};
+ghost use Rattle.std.specs.Prelude.{◌≡◌, ◌+◌, ◌*◌, ◌<◌, ◌≤◌, true, [], ◌∷◌, length, IfOk, OnOk};
 ghost use Rattle.class_builder.specs.Built.{GrowsPool};
+ghost use Rattle.class_builder.specs.Lawful.{has_class};
 ghost use Rattle.class_builder.specs.Mentioned.{MentionsOf, method_mention};
 ghost use Rattle.class_builder.specs.Named.{IsMethodAt};
 ghost use Rattle.class_members.specs.ClassNames.{span_name};
 ghost use Rattle.program_classes.specs.Making.{nothing};
 ghost use Rattle.program_classes.specs.CodeNaming.{AreSpanMethods, IsNamedClass, span_mentions};
+ghost use Rattle.program_classes.specs.Room.{can_name_class, is_own_name};
 
-use crate::{ClassError, Names, helper_references};
-use class_builder::{BuildError, ClassBuilder};
+use crate::building::{class_reference, method_reference, new_class};
+use crate::{Names, NoMemory, helper_references};
+use class_builder::ClassBuilder;
 use class_members::span_name;
 use std::alloc::Global;
 
@@ -31,13 +34,17 @@ pub fn named_class(
     name: &str,
     main: &str,
     spans: u32,
-) -> Result<NamedClass, ClassError>
-    ensures { IfOk result (IsNamedClass name.now main.now spans) }
+) -> Result<NamedClass, NoMemory>
+    requires name { is_own_name name.now ≡ true }
+    requires main { can_name_class main.now ≡ true }
+    requires few { spans ≤ 2048 }
+    ensures names { IfOk result (IsNamedClass name.now main.now spans) }
+    ensures few { IfOk result (λ n. length n.class.pool ≤ 263 + 4 * spans) }
 {
-    let mut class = ClassBuilder::new(alloc, name)?;
+    let mut class = new_class(alloc, name)?;
     let names = Names::new(alloc, &mut class, main)?;
     let helpers = helper_references(alloc, &mut class, names.main)?;
-    let own = class.class_reference(alloc, name)?;
+    let own = class_reference(alloc, &mut class, name)?;
     let own_methods = span_references(alloc, &mut class, own, spans)?;
     Ok(NamedClass {
         class,
@@ -54,7 +61,10 @@ fn span_references(
     class: &mut ClassBuilder,
     own: u16,
     spans: u32,
-) -> Result<Vec<u16>, BuildError>
+) -> Result<Vec<u16>, NoMemory>
+    requires room { length class.old.pool + 4 * spans ≤ 65534 }
+    requires owner { has_class class.old.pool own ≡ true }
+    requires few { spans ≤ 2048 }
     ensures there { IfOk result (λ slots. AreSpanMethods class.new.pool own slots.items spans) }
     ensures grown { OnOk result (GrowsPool class.old class.new (4 * spans)) }
     ensures mentions { OnOk result (MentionsOf class.old.pool class.new.pool own (λ owner. span_mentions owner spans)) }
@@ -71,12 +81,15 @@ fn span_reference(
     class: &mut ClassBuilder,
     own: u16,
     k: u32,
-) -> Result<u16, BuildError>
+) -> Result<u16, NoMemory>
+    requires room { length class.old.pool + 4 ≤ 65534 }
+    requires owner { has_class class.old.pool own ≡ true }
+    requires within { k < 2048 }
     ensures there { IfOk result (λ slot. IsMethodAt class.new.pool slot own (span_name k) nothing) }
     ensures grown { OnOk result (GrowsPool class.old class.new 4) }
     ensures mentions { OnOk result (MentionsOf class.old.pool class.new.pool own
         (λ owner. method_mention owner (span_name k) nothing ∷ [])) }
 {
     let name = span_name(alloc, k)?;
-    class.method_reference(alloc, own, name.as_str(), "()V")
+    method_reference(alloc, class, own, name.as_str(), "()V")
 }

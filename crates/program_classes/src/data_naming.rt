@@ -1,12 +1,14 @@
 //! What a class of data names.
-ghost use Rattle.std.specs.Prelude.{[], IfOk, OnOk, map};
+ghost use Rattle.std.specs.Prelude.{◌≡◌, ◌+◌, ◌≤◌, true, [], All, length, IfOk, OnOk, map};
 ghost use Rattle.std.specs.List.{AllZip};
 ghost use Rattle.program_classes.specs.Making.{AddsMethods};
 ghost use Rattle.program_classes.specs.Pages.{IsPageSlot, page_of};
 ghost use Rattle.program_classes.specs.DataNaming.{IsNamedClass};
+ghost use Rattle.program_classes.specs.Room.{can_name_class, is_own_name};
 
+use crate::building::{class_reference, method_reference, new_class};
 use crate::page_data::PageData;
-use crate::{ClassError, Names};
+use crate::{Names, NoMemory, building};
 use class_builder::ClassBuilder;
 use data_strings::page_text;
 use loading_code::PageSlot;
@@ -31,13 +33,18 @@ pub fn named_class(
     name: &str,
     main: &str,
     pages: &[PageData],
-) -> Result<NamedClass, ClassError>
-    ensures { IfOk result (IsNamedClass name.now main.now (map page_of pages.now)) }
+) -> Result<NamedClass, NoMemory>
+    requires name { is_own_name name.now ≡ true }
+    requires main { can_name_class main.now ≡ true }
+    requires pages { length pages.now ≤ 1024 }
+    requires words { All (λ p. length p.words.now ≤ 1024) pages.now }
+    ensures names { IfOk result (IsNamedClass name.now main.now (map page_of pages.now)) }
+    ensures few { IfOk result (λ n. length n.class.pool ≤ 1211) }
 {
-    let mut class = ClassBuilder::new(alloc, name)?;
-    let own = class.class_reference(alloc, name)?;
+    let mut class = new_class(alloc, name)?;
+    let own = class_reference(alloc, &mut class, name)?;
     let names = Names::new(alloc, &mut class, main)?;
-    let words = class.method_reference(alloc, own, "words", "([ILjava/lang/String;)V")?;
+    let words = method_reference(alloc, &mut class, own, "words", "([ILjava/lang/String;)V")?;
     let texts = page_slots(alloc, &mut class, pages)?;
     Ok(NamedClass {
         class,
@@ -53,9 +60,12 @@ fn page_slots(
     alloc: Global,
     class: &mut ClassBuilder,
     pages: &[PageData],
-) -> Result<Vec<PageSlot>, ClassError>
+) -> Result<Vec<PageSlot>, NoMemory>
+    requires room { length class.old.pool + length pages.now ≤ 65534 }
+    requires words { All (λ p. length p.words.now ≤ 1024) pages.now }
     ensures there { IfOk result (λ slots. AllZip (IsPageSlot class.new.pool) slots.items (map page_of pages.now)) }
     ensures grown { OnOk result (AddsMethods class.old class.new []) }
+    ensures few { OnOk result (length class.new.pool ≤ length class.old.pool + length pages.now) }
 {
     let mut slots = Vec::new(alloc);
     for k in 0..pages.len() {
@@ -64,16 +74,15 @@ fn page_slots(
     Ok(slots)
 }
 
-fn page_slot(
-    alloc: Global,
-    class: &mut ClassBuilder,
-    page: &PageData,
-) -> Result<PageSlot, ClassError>
+fn page_slot(alloc: Global, class: &mut ClassBuilder, page: &PageData) -> Result<PageSlot, NoMemory>
+    requires room { length class.old.pool + 1 ≤ 65534 }
+    requires words { length page.now.words.now ≤ 1024 }
     ensures there { IfOk result (λ slot. IsPageSlot class.new.pool slot (page_of page.now)) }
     ensures grown { OnOk result (AddsMethods class.old class.new []) }
+    ensures few { OnOk result (length class.new.pool ≤ length class.old.pool + 1) }
 {
     let text = page_text(alloc, page.words)?;
-    let slot = class.text(text)?;
+    let slot = building::text(class, text)?;
     Ok(PageSlot {
         page: page.page,
         slot,

@@ -1,26 +1,40 @@
 //! The methods of a class of data.
-ghost use Rattle.std.specs.Prelude.{◌∷◌, [], OnOk};
+ghost use Rattle.std.specs.Prelude.{◌≡◌, ◌+◌, ◌*◌, ◌<◌, ◌≤◌, true, ◌∷◌, [], All, OnOk, length};
+ghost use Rattle.code_assembly.specs.Assembling.{has_method};
+ghost use Rattle.class_builder.specs.Lawful.{has_text};
 ghost use Rattle.program_classes.specs.Making.{AddsMethods};
 ghost use Rattle.program_classes.specs.Data.{fill_plan, words_plan};
 
-use crate::ClassError;
+use crate::NoMemory;
+use crate::building::put_method;
 use class_builder::ClassBuilder;
 use code_assembly::References;
+use constant_counts::laws::loading_takes_few_slots;
 use loading_code::{PageSlot, append_fill, append_words};
 use std::alloc::Global;
+use whole_methods::named_code::loading_names_well;
+use whole_methods::whole::loading_is_whole;
 
 /// Adds `words([ILjava/lang/String;)V`.
 pub fn add_words(
     alloc: Global,
     class: &mut ClassBuilder,
     references: &References,
-) -> Result<(), ClassError>
-    ensures { OnOk result (AddsMethods class.old class.new (words_plan references.now ∷ [])) }
+) -> Result<(), NoMemory>
+    requires fields { length references.now.fields ≡ 38 }
+    requires few { length class.old.methods < 65535 }
+    requires room { length class.old.pool + 10 ≤ 65534 }
+    ensures few { OnOk result (length class.new.pool ≤ length class.old.pool + 10) }
+    ensures method { OnOk result (AddsMethods class.old class.new (words_plan references.now ∷ [])) }
 {
     let mut code = Vec::new(alloc);
     append_words(&mut code)?;
-    class.add_method(
+    loading_names_well();
+    loading_is_whole();
+    loading_takes_few_slots();
+    put_method(
         alloc,
+        class,
         "words",
         "([ILjava/lang/String;)V",
         4,
@@ -38,11 +52,19 @@ pub fn add_fill(
     number: u16,
     words: u32,
     references: &References,
-) -> Result<(), ClassError>
+) -> Result<(), NoMemory>
+    requires fields { length references.now.fields ≡ 38 }
+    requires words { has_method references.now words ≡ true }
+    requires few { length texts.now ≤ 1024 }
+    requires texts { All (λ s. has_text class.old.pool s.slot ≡ true) texts.now }
+    requires few_methods { length class.old.methods < 65535 }
+    requires room { length class.old.pool + (2 + 2 * length texts.now) ≤ 65534 }
     ensures { OnOk result (AddsMethods class.old class.new (fill_plan texts.now number words references.now ∷ [])) }
 {
     let mut code = Vec::new(alloc);
     append_fill(texts, number, words, &mut code)?;
-    class.add_method(alloc, "fill", "()V", 0, code.as_slice(), references)?;
+    loading_is_whole();
+    loading_takes_few_slots();
+    put_method(alloc, class, "fill", "()V", 0, code.as_slice(), references)?;
     Ok(())
 }

@@ -1,13 +1,15 @@
 //! The fields of the main class.
-ghost use Rattle.std.specs.Prelude.{[], ◌∷◌, OnOk, IfOk};
+ghost use Rattle.std.specs.Prelude.{◌≡◌, ◌+◌, ◌<◌, ◌≤◌, true, [], ◌∷◌, length, OnOk, IfOk};
 ghost use Rattle.class_builder.specs.Built.{GrowsPool};
+ghost use Rattle.class_builder.specs.Lawful.{has_class};
 ghost use Rattle.class_builder.specs.Mentioned.{MentionsOf, field_mention};
 ghost use Rattle.class_builder.specs.Named.{IsFieldAt};
 ghost use Rattle.class_members.specs.Fields.{field_descriptor, field_name};
 ghost use Rattle.program_classes.specs.Mentioned.{field_mentions};
 ghost use Rattle.program_classes.specs.Named.{AreFields};
 
-use class_builder::{BuildError, ClassBuilder};
+use crate::{NoMemory, building};
+use class_builder::ClassBuilder;
 use class_members::{FIELDS, field_descriptor, field_name};
 use std::alloc::Global;
 
@@ -16,7 +18,9 @@ pub fn field_references(
     alloc: Global,
     class: &mut ClassBuilder,
     main: u16,
-) -> Result<Vec<u16>, BuildError>
+) -> Result<Vec<u16>, NoMemory>
+    requires room { length class.old.pool + 152 ≤ 65534 }
+    requires owner { has_class class.old.pool main ≡ true }
     ensures there { IfOk result (λ slots. AreFields class.new.pool main slots.items 38) }
     ensures grown { OnOk result (GrowsPool class.old class.new 152) }
     ensures mentions { OnOk result (MentionsOf class.old.pool class.new.pool main (λ owner. field_mentions owner 38)) }
@@ -34,12 +38,15 @@ fn field_reference(
     class: &mut ClassBuilder,
     main: u16,
     field: u32,
-) -> Result<u16, BuildError>
+) -> Result<u16, NoMemory>
+    requires room { length class.old.pool + 4 ≤ 65534 }
+    requires owner { has_class class.old.pool main ≡ true }
+    requires within { field < 38 }
     ensures there { IfOk result (λ slot. IsFieldAt class.new.pool slot main (field_name field) (field_descriptor field)) }
     ensures grown { OnOk result (GrowsPool class.old class.new 4) }
     ensures mentions { OnOk result (MentionsOf class.old.pool class.new.pool main
         (λ owner. field_mention owner (field_name field) (field_descriptor field) ∷ [])) }
 {
     let name = field_name(alloc, field)?;
-    class.field_reference(alloc, main, name.as_str(), field_descriptor(field))
+    building::field_reference(alloc, class, main, name.as_str(), field_descriptor(field))
 }

@@ -1,25 +1,27 @@
 //! The helper methods of the main class.
-ghost use Rattle.std.specs.Prelude.{[], ◌∷◌, OnOk, IfOk};
+ghost use Rattle.std.specs.Prelude.{◌≡◌, ◌+◌, ◌<◌, ◌≤◌, true, [], ◌∷◌, length, OnOk, IfOk};
 ghost use Rattle.class_builder.specs.Built.{GrowsPool};
+ghost use Rattle.class_builder.specs.Lawful.{has_class};
 ghost use Rattle.class_builder.specs.Mentioned.{MentionsOf, method_mention};
 ghost use Rattle.class_builder.specs.Named.{IsMethodAt};
 ghost use Rattle.class_members.specs.Helpers.{helper_descriptor, helper_name};
 ghost use Rattle.program_classes.specs.Mentioned.{helper_mentions};
 ghost use Rattle.program_classes.specs.Named.{AreHelpers};
 
-use class_builder::{BuildError, ClassBuilder};
+use crate::NoMemory;
+use crate::building::method_reference;
+use class_builder::ClassBuilder;
 use class_members::{HELPERS, helper_descriptor, helper_name};
 use std::alloc::Global;
 
 /// The slots of the helper methods of the main class, by their numbers; `main` is the slot of that class.
-///
-/// # Errors
-/// Those of [`ClassBuilder::method_reference`].
 pub fn helper_references(
     alloc: Global,
     class: &mut ClassBuilder,
     main: u16,
-) -> Result<Vec<u16>, BuildError>
+) -> Result<Vec<u16>, NoMemory>
+    requires room { length class.old.pool + 80 ≤ 65534 }
+    requires owner { has_class class.old.pool main ≡ true }
     ensures there { IfOk result (λ slots. AreHelpers class.new.pool main slots.items 20) }
     ensures grown { OnOk result (GrowsPool class.old class.new 80) }
     ensures mentions { OnOk result (MentionsOf class.old.pool class.new.pool main (λ owner. helper_mentions owner 20)) }
@@ -37,11 +39,20 @@ fn helper_reference(
     class: &mut ClassBuilder,
     main: u16,
     number: u32,
-) -> Result<u16, BuildError>
+) -> Result<u16, NoMemory>
+    requires room { length class.old.pool + 4 ≤ 65534 }
+    requires owner { has_class class.old.pool main ≡ true }
+    requires within { number < 20 }
     ensures there { IfOk result (λ slot. IsMethodAt class.new.pool slot main (helper_name number) (helper_descriptor number)) }
     ensures grown { OnOk result (GrowsPool class.old class.new 4) }
     ensures mentions { OnOk result (MentionsOf class.old.pool class.new.pool main
         (λ owner. method_mention owner (helper_name number) (helper_descriptor number) ∷ [])) }
 {
-    class.method_reference(alloc, main, helper_name(number), helper_descriptor(number))
+    method_reference(
+        alloc,
+        class,
+        main,
+        helper_name(number),
+        helper_descriptor(number),
+    )
 }

@@ -2,7 +2,7 @@
 //! code with a method for each span of words, and classes of data with the words of pages as texts.
 #![tactic(auto)]
 
-mod class_error;
+mod building;
 mod class_of_code;
 mod class_of_data;
 mod class_of_main;
@@ -28,7 +28,6 @@ mod strings;
 mod tables;
 mod texts;
 
-pub use class_error::ClassError;
 pub use class_of_code::{CodeClass, code_class};
 pub use class_of_data::data_class;
 pub use class_of_main::main_class;
@@ -38,3 +37,6 @@ pub use names::Names;
 pub use page_data::PageData;
 pub use part::Part;
 pub use piece::Piece;
+
+/// Want of memory, the one error of this crate.
+pub type NoMemory = std::alloc::AllocError;

@@ -1,13 +1,16 @@
 //! What the main class names.
-ghost use Rattle.std.specs.Prelude.{IfOk};
-ghost use Rattle.program_classes.specs.Content.{IsMain};
+ghost use Rattle.std.specs.Prelude.{◌≡◌, ◌≤◌, ◌++◌, IfOk, length};
+ghost use Rattle.command_words.specs.Limits.{IsClassName};
+ghost use Rattle.class_members.specs.Numbers.{main_methods};
+ghost use Rattle.program_classes.specs.Content.{IsMain, behind};
 ghost use Rattle.program_classes.specs.MainNaming.{IsNamedClass};
 
+use crate::building::new_class;
 use crate::content::MainClass;
 use crate::main_fields::add_fields;
 use crate::references::method_references;
 use crate::texts::text_slots;
-use crate::{ClassError, Names};
+use crate::{Names, NoMemory};
 use class_builder::ClassBuilder;
 use std::alloc::Global;
 
@@ -23,11 +26,14 @@ pub struct NamedClass {
 }
 
 /// The main class of this name, with its fields.
-pub fn named_class(alloc: Global, name: &str, main: &MainClass) -> Result<NamedClass, ClassError>
-    requires { IsMain main.now }
-    ensures { IfOk result (IsNamedClass name.now main.now) }
+pub fn named_class(alloc: Global, name: &str, main: &MainClass) -> Result<NamedClass, NoMemory>
+    requires name { IsClassName name.now }
+    requires main { IsMain main.now }
+    ensures names { IfOk result (IsNamedClass name.now main.now) }
+    ensures count { IfOk result (λ n. length n.methods.items ≡ behind main_methods (main.now.code.now ++ main.now.data.now)) }
+    ensures few { IfOk result (λ n. length n.class.pool ≤ 30000) }
 {
-    let mut class = ClassBuilder::new(alloc, name)?;
+    let mut class = new_class(alloc, name)?;
     add_fields(alloc, &mut class)?;
     let names = Names::new(alloc, &mut class, name)?;
     let methods = method_references(alloc, &mut class, name, names.main, main)?;

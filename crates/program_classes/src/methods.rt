@@ -1,19 +1,28 @@
 //! The methods of the main class.
-ghost use Rattle.std.specs.Prelude.{◌∷◌, [], OnOk};
+ghost use Rattle.std.specs.Prelude.{◌≡◌, ◌+◌, ◌<◌, ◌≤◌, ◌++◌, true, ◌∷◌, [], All, OnOk, length};
+ghost use Rattle.class_builder.specs.Lawful.{has_text};
+ghost use Rattle.class_members.specs.Numbers.{main_methods};
+ghost use Rattle.whole_methods.specs.Whole.{HasHelpers};
 ghost use Rattle.program_classes.specs.Making.{AddsMethods};
-ghost use Rattle.program_classes.specs.Content.{IsMain};
+ghost use Rattle.program_classes.specs.Content.{IsMain, behind};
 ghost use Rattle.program_classes.specs.Main.{choose_plan, helper_plan, helper_plans, missing_plan, other_plans, pages_plan, run_plan};
 
-use crate::ClassError;
+use crate::NoMemory;
+use crate::building::put_method;
 use crate::content::MainClass;
 use class_builder::ClassBuilder;
 use class_members::{CHOOSE, HELPERS, MISSING, PAGES, helper_descriptor, helper_name};
 use code_assembly::References;
+use constant_counts::laws::{
+    choosers_take_few_slots, helpers_take_few_slots, loading_takes_few_slots,
+};
 use loading_code::{append_pages, append_run};
 use mem_helpers::append_helper;
 use nv_words::Order;
 use std::alloc::Global;
 use trampoline::{append_main_chooser, append_missing};
+use whole_methods::named_code::{choosers_name_well, helpers_name_well, loading_names_well};
+use whole_methods::whole::{choosers_are_whole, helpers_are_whole, loading_is_whole};
 
 /// How many local variables a helper method has.
 const HELPER_LOCALS: u16 = 4;
@@ -24,8 +33,12 @@ pub fn add_helpers(
     class: &mut ClassBuilder,
     order: Order,
     references: &References,
-) -> Result<(), ClassError>
-    ensures { OnOk result (AddsMethods class.old class.new (helper_plans order references.now 20)) }
+) -> Result<(), NoMemory>
+    requires references { HasHelpers references.now }
+    requires none { class.old.methods ≡ [] }
+    requires room { length class.old.pool + 120 ≤ 65534 }
+    ensures methods { OnOk result (AddsMethods class.old class.new (helper_plans order references.now 20)) }
+    ensures few { OnOk result (length class.new.pool ≤ length class.old.pool + 120) }
 {
     for number in 0..HELPERS {
         add_helper(alloc, class, order, number, references)?;
@@ -39,13 +52,22 @@ fn add_helper(
     order: Order,
     number: u32,
     references: &References,
-) -> Result<(), ClassError>
-    ensures { OnOk result (AddsMethods class.old class.new (helper_plan order references.now number ∷ [])) }
+) -> Result<(), NoMemory>
+    requires within { number < 20 }
+    requires references { HasHelpers references.now }
+    requires few { length class.old.methods < 65535 }
+    requires room { length class.old.pool + 6 ≤ 65534 }
+    ensures method { OnOk result (AddsMethods class.old class.new (helper_plan order references.now number ∷ [])) }
+    ensures few { OnOk result (length class.new.pool ≤ length class.old.pool + 6) }
 {
     let mut code = Vec::new(alloc);
     append_helper(alloc, number, order, &mut code)?;
-    class.add_method(
+    helpers_name_well();
+    helpers_are_whole();
+    helpers_take_few_slots();
+    put_method(
         alloc,
+        class,
         helper_name(number),
         helper_descriptor(number),
         HELPER_LOCALS,
@@ -62,8 +84,14 @@ pub fn add_others(
     main: &MainClass,
     texts: &[u16],
     references: &References,
-) -> Result<(), ClassError>
-    requires { IsMain main.now }
+) -> Result<(), NoMemory>
+    requires main { IsMain main.now }
+    requires references { HasHelpers references.now }
+    requires count { length references.now.methods ≡ behind main_methods (main.now.code.now ++ main.now.data.now) }
+    requires texts { All (λ slot. has_text class.old.pool slot ≡ true) texts.now }
+    requires few_texts { length texts.now ≤ 2048 }
+    requires few { length class.old.methods ≤ 65000 }
+    requires room { length class.old.pool + (40 + length texts.now + length main.now.starts.now) ≤ 65534 }
     ensures { OnOk result (AddsMethods class.old class.new (other_plans main.now texts.now references.now)) }
 {
     add_run(alloc, class, main, texts, references)?;
@@ -79,8 +107,16 @@ fn add_run(
     main: &MainClass,
     texts: &[u16],
     references: &References,
-) -> Result<(), ClassError>
-    ensures { OnOk result (AddsMethods class.old class.new (run_plan main.now texts.now references.now ∷ [])) }
+) -> Result<(), NoMemory>
+    requires main { IsMain main.now }
+    requires references { HasHelpers references.now }
+    requires count { length references.now.methods ≡ behind main_methods (main.now.code.now ++ main.now.data.now) }
+    requires texts { All (λ slot. has_text class.old.pool slot ≡ true) texts.now }
+    requires few_texts { length texts.now ≤ 2048 }
+    requires few { length class.old.methods < 65535 }
+    requires room { length class.old.pool + (18 + length texts.now) ≤ 65534 }
+    ensures few { OnOk result (length class.new.pool ≤ length class.old.pool + (18 + length texts.now)) }
+    ensures method { OnOk result (AddsMethods class.old class.new (run_plan main.now texts.now references.now ∷ [])) }
 {
     let mut code = Vec::new(alloc);
     append_run(
@@ -92,7 +128,9 @@ fn add_run(
         CHOOSE,
         &mut code,
     )?;
-    class.add_method(alloc, "run", "()V", 0, code.as_slice(), references)?;
+    loading_is_whole();
+    loading_takes_few_slots();
+    put_method(alloc, class, "run", "()V", 0, code.as_slice(), references)?;
     Ok(())
 }
 
@@ -101,13 +139,29 @@ fn add_choose(
     class: &mut ClassBuilder,
     main: &MainClass,
     references: &References,
-) -> Result<(), ClassError>
-    requires { IsMain main.now }
-    ensures { OnOk result (AddsMethods class.old class.new (choose_plan main.now references.now ∷ [])) }
+) -> Result<(), NoMemory>
+    requires main { IsMain main.now }
+    requires references { HasHelpers references.now }
+    requires count { length references.now.methods ≡ behind main_methods (main.now.code.now ++ main.now.data.now) }
+    requires few { length class.old.methods < 65535 }
+    requires room { length class.old.pool + (6 + length main.now.starts.now) ≤ 65534 }
+    ensures few { OnOk result (length class.new.pool ≤ length class.old.pool + (6 + length main.now.starts.now)) }
+    ensures method { OnOk result (AddsMethods class.old class.new (choose_plan main.now references.now ∷ [])) }
 {
     let mut code = Vec::new(alloc);
     append_main_chooser(main.starts, MISSING, &mut code)?;
-    class.add_method(alloc, "choose", "()V", 1, code.as_slice(), references)?;
+    choosers_name_well();
+    choosers_are_whole();
+    choosers_take_few_slots();
+    put_method(
+        alloc,
+        class,
+        "choose",
+        "()V",
+        1,
+        code.as_slice(),
+        references,
+    )?;
     Ok(())
 }
 
@@ -115,13 +169,21 @@ fn add_pages(
     alloc: Global,
     class: &mut ClassBuilder,
     references: &References,
-) -> Result<(), ClassError>
-    ensures { OnOk result (AddsMethods class.old class.new (pages_plan references.now ∷ [])) }
+) -> Result<(), NoMemory>
+    requires fields { length references.now.fields ≡ 38 }
+    requires few { length class.old.methods < 65535 }
+    requires room { length class.old.pool + 10 ≤ 65534 }
+    ensures few { OnOk result (length class.new.pool ≤ length class.old.pool + 10) }
+    ensures method { OnOk result (AddsMethods class.old class.new (pages_plan references.now ∷ [])) }
 {
     let mut code = Vec::new(alloc);
     append_pages(&mut code)?;
-    class.add_method(
+    loading_names_well();
+    loading_is_whole();
+    loading_takes_few_slots();
+    put_method(
         alloc,
+        class,
         "pages",
         "(Ljava/lang/String;)V",
         5,
@@ -135,11 +197,25 @@ fn add_missing(
     alloc: Global,
     class: &mut ClassBuilder,
     references: &References,
-) -> Result<(), ClassError>
+) -> Result<(), NoMemory>
+    requires fields { length references.now.fields ≡ 38 }
+    requires few { length class.old.methods < 65535 }
+    requires room { length class.old.pool + 6 ≤ 65534 }
     ensures { OnOk result (AddsMethods class.old class.new (missing_plan references.now ∷ [])) }
 {
     let mut code = Vec::new(alloc);
     append_missing(&mut code)?;
-    class.add_method(alloc, "missing", "()V", 1, code.as_slice(), references)?;
+    choosers_name_well();
+    choosers_are_whole();
+    choosers_take_few_slots();
+    put_method(
+        alloc,
+        class,
+        "missing",
+        "()V",
+        1,
+        code.as_slice(),
+        references,
+    )?;
     Ok(())
 }

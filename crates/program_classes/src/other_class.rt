@@ -2,7 +2,7 @@
 ghost use Rattle.std.specs.Prelude.{◌≡◌, IfOk, string_bytes};
 ghost use Rattle.program_classes.specs.Called as called;
 
-use crate::ClassError;
+use crate::NoMemory;
 use class_members::{code_class_name, data_class_name};
 use std::alloc::Global;
 
@@ -15,12 +15,12 @@ pub enum OtherClass {
 
 impl OtherClass {
     /// The name of the class of this kind and number, of the program whose main class is called `main`.
-    pub fn name(self, alloc: Global, main: &str, i: u32) -> Result<String, ClassError>
+    pub fn name(self, alloc: Global, main: &str, i: u32) -> Result<String, NoMemory>
         ensures { IfOk result (λ text. string_bytes text ≡ called.class_name self main.now i) }
     {
         match self {
-            OtherClass::Code => Ok(code_class_name(alloc, main, i)?),
-            OtherClass::Data => Ok(data_class_name(alloc, main, i)?),
+            OtherClass::Code => code_class_name(alloc, main, i),
+            OtherClass::Data => data_class_name(alloc, main, i),
         }
     }
 

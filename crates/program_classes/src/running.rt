@@ -4,13 +4,17 @@ ghost use Rattle.program_classes.specs.Parts.{IsPart, IsSpan};
 ghost use Rattle.program_classes.specs.Making.{AddsMethods};
 ghost use Rattle.program_classes.specs.Code.{address, run_plan, start_at, starts_of};
 
-use crate::ClassError;
+use crate::NoMemory;
+use crate::building::put_method;
 use crate::part::Part;
 use class_builder::ClassBuilder;
 use code_assembly::References;
+use constant_counts::laws::choosers_take_few_slots;
 use method_splitter::Span;
 use std::alloc::Global;
 use trampoline::{Start, append_class_chooser};
+use whole_methods::named_code::choosers_name_well;
+use whole_methods::whole::choosers_are_whole;
 
 /// Adds `run()V`, which chooses among the methods of spans. The first of these has the number of the first method of the references.
 pub fn add_run(
@@ -19,12 +23,16 @@ pub fn add_run(
     part: &Part,
     spans: &[Span],
     references: &References,
-) -> Result<(), ClassError>
+) -> Result<(), NoMemory>
     requires part { IsPart part.now }
     requires spans { All (IsSpan part.now.words) spans.now }
     requires some { 1 ≤ length spans.now }
     requires few { length spans.now ≤ 2048 }
     requires methods { references.now.first_method + length spans.now < 2 ^ 32 }
+    requires fields { length references.now.fields ≡ 38 }
+    requires count { length references.now.methods ≡ length spans.now }
+    requires few_methods { length class.old.methods < 65535 }
+    requires room { length class.old.pool + (6 + length spans.now) ≤ 65534 }
     ensures { OnOk result (AddsMethods class.old class.new (run_plan part.now spans.now references.now.first_method references.now ∷ [])) }
 {
     let starts = starts_of(alloc, part, spans, references.first_method)?;
@@ -35,7 +43,10 @@ pub fn add_run(
         address(part, part.words),
         &mut code,
     )?;
-    class.add_method(alloc, "run", "()V", 1, code.as_slice(), references)?;
+    choosers_name_well();
+    choosers_are_whole();
+    choosers_take_few_slots();
+    put_method(alloc, class, "run", "()V", 1, code.as_slice(), references)?;
     Ok(())
 }
 
@@ -45,7 +56,7 @@ fn starts_of(
     part: &Part,
     spans: &[Span],
     first_method: u32,
-) -> Result<Vec<Start>, ClassError>
+) -> Result<Vec<Start>, NoMemory>
     requires part { IsPart part.now }
     requires spans { All (IsSpan part.now.words) spans.now }
     requires few { length spans.now ≤ 2048 }

@@ -1,24 +1,31 @@
 //! The methods of spans.
-ghost use Rattle.std.specs.Prelude.{◌≡◌, ◌+◌, ◌≤◌, ◌<◌, ◌∷◌, ◌++◌, [], All, IfOk, OnOk, length, zip};
+ghost use Rattle.std.specs.Prelude.{◌≡◌, ◌+◌, ◌*◌, ◌≤◌, ◌<◌, ◌∷◌, ◌++◌, [], All, IfOk, OnOk, length, sum_by, zip};
+ghost use Rattle.code_steps.specs.Widths.{size};
+ghost use Rattle.whole_methods.specs.Whole.{HasHelpers};
 ghost use Rattle.span_code.specs.Locals.{locals_of};
 ghost use Rattle.span_code.specs.Pieces.{flagged, pieces_of, span_of};
 ghost use Rattle.span_code.specs.Laying.{stretches_of};
-ghost use Rattle.program_classes.specs.Parts.{IsPart, IsSpan};
+ghost use Rattle.program_classes.specs.Parts.{IsCode, IsPart, IsSpan};
 ghost use Rattle.program_classes.specs.Making.{AddsMethods};
-ghost use Rattle.program_classes.specs.Code.{code_of_span, span_plan, span_plans};
+ghost use Rattle.program_classes.specs.Code.{code_of_span, span_at, span_plan, span_plans};
 ghost use Rattle.program_classes.specs.Blocks.{first_pieces, is_slot, is_told, placed, span_words, told_pieces};
 
-use crate::ClassError;
+use crate::NoMemory;
+use crate::building::put_method;
 use crate::part::Part;
 use crate::piece::Piece;
 use block_builder::Block;
 use class_builder::ClassBuilder;
 use class_members::span_name;
 use code_assembly::References;
+use constant_counts::laws::spans_take_few_slots;
 use delay_slots::Unit;
+use guest_follows::lawful_units::units_are_lawful;
 use method_splitter::Span;
 use span_code::{SpanError, SpanMethod, Stretch, span_method};
-use std::alloc::Global;
+use std::alloc::{AllocError, Global};
+use whole_methods::named_code::spans_name_well;
+use whole_methods::whole::spans_are_whole;
 
 /// Adds the methods of spans, and gives where their pieces stand.
 pub fn add_spans(
@@ -27,11 +34,17 @@ pub fn add_spans(
     part: &Part,
     spans: &[Span],
     references: &References,
-) -> Result<Vec<Piece>, ClassError>
+) -> Result<Vec<Piece>, NoMemory>
     requires part { IsPart part.now }
     requires spans { All (IsSpan part.now.words) spans.now }
     requires few { length spans.now ≤ 2048 }
+    requires code { IsCode part.now.units.now }
+    requires sizes { All (λ s. size (code_of_span part.now s) ≤ 65535) spans.now }
+    requires references { HasHelpers references.now }
+    requires none { class.old.methods ≡ [] }
+    requires room { length class.old.pool + (4 * length spans.now + 9 * sum_by (λ s. s.words) spans.now) ≤ 65534 }
     ensures methods { OnOk result (AddsMethods class.old class.new (span_plans part.now spans.now references.now (length spans.now))) }
+    ensures few { OnOk result (length class.new.pool ≤ length class.old.pool + (4 * length spans.now + 9 * sum_by (λ s. s.words) spans.now)) }
     ensures pieces { IfOk result (λ pieces. pieces.items ≡ first_pieces part.now spans.now (length spans.now)) }
 {
     let mut pieces = Vec::new(alloc);
@@ -50,11 +63,18 @@ fn add_span(
     spans: &[Span],
     k: u32,
     references: &References,
-) -> Result<SpanMethod, ClassError>
+) -> Result<SpanMethod, NoMemory>
     requires part { IsPart part.now }
     requires spans { All (IsSpan part.now.words) spans.now }
     requires within { k < length spans.now }
+    requires small { k < 2048 }
+    requires code { IsCode part.now.units.now }
+    requires size { size (code_of_span part.now (span_at spans.now k)) ≤ 65535 }
+    requires references { HasHelpers references.now }
+    requires few { length class.old.methods < 65535 }
+    requires room { length class.old.pool + (4 + 9 * (span_at spans.now k).words) ≤ 65534 }
     ensures method { OnOk result (AddsMethods class.old class.new (span_plan part.now spans.now references.now k ∷ [])) }
+    ensures few { OnOk result (length class.new.pool ≤ length class.old.pool + (4 + 9 * (span_at spans.now k).words)) }
     ensures pieces { IfOk result (λ m. m.pieces.items ≡ pieces_of part.now.units.now (flagged part.now.leads.now) (span_words part.now spans.now k)) }
     ensures stretches { IfOk result (λ m.
         m.stretches.items ≡ stretches_of part.now.units.now (flagged part.now.leads.now) (span_words part.now spans.now k)) }
@@ -62,8 +82,13 @@ fn add_span(
     let span = &spans[k as usize];
     let method = method_of(alloc, part, span)?;
     let name = span_name(alloc, k)?;
-    class.add_method(
+    units_are_lawful();
+    spans_name_well();
+    spans_are_whole();
+    spans_take_few_slots();
+    put_method(
         alloc,
+        class,
         name.as_str(),
         "()V",
         method.locals,
@@ -73,9 +98,10 @@ fn add_span(
     Ok(method)
 }
 
-fn method_of(alloc: Global, part: &Part, span: &Span) -> Result<SpanMethod, ClassError>
+fn method_of(alloc: Global, part: &Part, span: &Span) -> Result<SpanMethod, NoMemory>
     requires part { IsPart part.now }
     requires span { IsSpan part.now.words span.now }
+    requires size { size (code_of_span part.now span.now) ≤ 65535 }
     ensures code { IfOk result (λ m. m.code.items ≡ code_of_span part.now span.now) }
     ensures locals { IfOk result (λ m. m.locals ≡ locals_of (code_of_span part.now span.now)) }
     ensures pieces { IfOk result (λ m. m.pieces.items ≡ pieces_of part.now.units.now (flagged part.now.leads.now)
@@ -86,8 +112,8 @@ fn method_of(alloc: Global, part: &Part, span: &Span) -> Result<SpanMethod, Clas
     let first = part.first + span.first;
     match span_method(alloc, part.units, part.leads, part.start, first, span.words) {
         Ok(method) => Ok(method),
-        Err(SpanError::TooLong) => Err(ClassError::TooLarge),
-        Err(SpanError::NoMemory) => Err(ClassError::NoMemory),
+        Err(SpanError::NoMemory) => Err(AllocError),
+        Err(SpanError::TooLong) => unreachable!(),
     }
 }
 
@@ -97,7 +123,7 @@ fn append_pieces(
     k: u32,
     method: &SpanMethod,
     pieces: &mut Vec<Piece>,
-) -> Result<(), ClassError>
+) -> Result<(), NoMemory>
     requires part { IsPart part.now }
     requires within { All (λ p. p.first < length part.now.units.now) method.now.pieces.items }
     ensures { OnOk result (pieces.new.items ≡ pieces.old.items ++ told_pieces part.now k (zip method.now.pieces.items method.now.stretches.items)) }
@@ -114,7 +140,7 @@ fn append_piece(
     piece: &Block,
     stretch: &Stretch,
     pieces: &mut Vec<Piece>,
-) -> Result<(), ClassError>
+) -> Result<(), NoMemory>
     requires part { IsPart part.now }
     requires within { piece.now.first < length part.now.units.now }
     ensures { OnOk result (pieces.new.items ≡ pieces.old.items ++ told_pieces part.now k ((piece.now, stretch.now) ∷ [])) }

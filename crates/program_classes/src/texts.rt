@@ -1,5 +1,5 @@
 //! The texts of pages.
-ghost use Rattle.std.specs.Prelude.{◌<◌, [], All, IfOk, OnOk, length};
+ghost use Rattle.std.specs.Prelude.{◌+◌, ◌<◌, ◌≤◌, [], All, IfOk, OnOk, length};
 ghost use Rattle.equal_shares.specs.Shares as equal;
 ghost use Rattle.std.specs.List.{AllZip};
 ghost use Rattle.class_builder.specs.Named.{IsTextAt};
@@ -7,7 +7,7 @@ ghost use Rattle.program_classes.specs.Making.{AddsMethods};
 ghost use Rattle.page_runs.specs.Runs.{IsRun};
 ghost use Rattle.program_classes.specs.Content.{share_text, share_texts, text_runs};
 
-use crate::ClassError;
+use crate::{NoMemory, building};
 use class_builder::ClassBuilder;
 use equal_shares::{share_at, share_count, shared};
 use page_runs::{PageRun, run_text};
@@ -21,10 +21,12 @@ pub fn text_slots(
     alloc: Global,
     class: &mut ClassBuilder,
     runs: &[PageRun],
-) -> Result<Vec<u16>, ClassError>
-    requires { All IsRun runs.now }
+) -> Result<Vec<u16>, NoMemory>
+    requires runs { All IsRun runs.now }
+    requires room { length class.old.pool + equal.share_count text_runs (length runs.now) ≤ 65534 }
     ensures there { IfOk result (λ slots. AllZip (IsTextAt class.new.pool) slots.items (share_texts runs.now)) }
     ensures grown { OnOk result (AddsMethods class.old class.new []) }
+    ensures few { OnOk result (length class.new.pool ≤ length class.old.pool + equal.share_count text_runs (length runs.now)) }
 {
     let mut slots = Vec::new(alloc);
     for k in 0..share_count(runs.len(), TEXT_RUNS) {
@@ -39,12 +41,14 @@ fn text_slot(
     class: &mut ClassBuilder,
     runs: &[PageRun],
     k: usize,
-) -> Result<u16, ClassError>
+) -> Result<u16, NoMemory>
     requires runs { All IsRun runs.now }
     requires within { k < equal.share_count text_runs (length runs.now) }
+    requires room { length class.old.pool + 1 ≤ 65534 }
     ensures there { IfOk result (λ slot. IsTextAt class.new.pool slot (share_text runs.now k)) }
     ensures grown { OnOk result (AddsMethods class.old class.new []) }
+    ensures few { OnOk result (length class.new.pool ≤ length class.old.pool + 1) }
 {
     let text = run_text(alloc, shared(runs, share_at(runs.len(), TEXT_RUNS, k)))?;
-    Ok(class.text(text)?)
+    building::text(class, text)
 }

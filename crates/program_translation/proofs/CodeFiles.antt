@@ -3,3 +3,4 @@ pub mod PlaceLemmas
 pub mod WordLemmas
 pub mod BlockLemmas
 pub mod ClassLemmas
+pub mod UnitLemmas

@@ -1,3 +1,4 @@
 pub mod CodeFiles
 pub mod DataFiles
+pub mod Counts
 mod ProgramTranslation

@@ -1,5 +1,5 @@
 -- The classes of code of a program so far.
-use Rattle.std.specs.Prelude.{◌≡◌, ℕ, ◌+◌, List, [], ◌∷◌, ◌++◌, map, length, Option}
+use Rattle.std.specs.Prelude.{◌≡◌, ℕ, ◌+◌, ◌*◌, ◌≤◌, List, [], ◌∷◌, ◌++◌, map, length, Option}
 use Rattle.std.specs.List.{AllZip}
 use Rattle.command_words.specs.Word.{Text}
 use Rattle.class_members.specs.Numbers.{main_methods}
@@ -51,6 +51,11 @@ pub record AddsClass (name : Text) (method_bytes : ℕ) (part : Part) (old new :
   pub spans_are : new.spans.items ≡ old.spans.items ++ spans_of_class class
   pub blocks_are : new.blocks.items ≡ old.blocks.items ++ blocks_of_class (length old.spans.items) class
   pub methods_are : new.methods ≡ run_of class + 1
+
+-- the classes so far have few spans each, and the program has few methods
+pub record HasFew (code : Code) : Type 0 where
+  pub spans : length code.spans.items ≤ 879 * length code.files.items
+  pub methods : code.methods ≤ main_methods + 880 * length code.files.items
 
 -- the classes of the words at these places
 pub record HasPlaces (code : ℕ → Option ℕ) (name : Text) (method_bytes : ℕ) (places : List Place) (c : Code) : Type 0 where

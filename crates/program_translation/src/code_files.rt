@@ -1,20 +1,21 @@
 //! The classes of code.
-ghost use Rattle.std.specs.Prelude.{◌≡◌, ◌+◌, ◌-◌, ◌≤◌, ◌<◌, ◌^◌, ◌++◌, ◌∷◌, [], All, List, IfOk, OnOk, length, map};
-ghost use Rattle.command_words.specs.Limits.{AreMethodBytes};
+ghost use Rattle.std.specs.Prelude.{◌≡◌, ◌+◌, ◌≤◌, ◌<◌, ◌^◌, ◌++◌, ◌∷◌, [], All, List, IfOk, OnOk, length, map};
+ghost use Rattle.command_words.specs.Limits.{AreMethodBytes, IsClassName};
 ghost use Rattle.elf_image.specs.Start.{image_of};
 ghost use Rattle.elf_image.specs.Whole.{IsWholeRange};
-ghost use Rattle.program_classes.specs.Parts.{IsPart};
-ghost use Rattle.program_translation.specs.Places.{Place, places_in};
+ghost use Rattle.equal_shares.specs.Shares.{share_count};
+ghost use Rattle.program_classes.specs.Parts.{IsCode, IsPart};
+ghost use Rattle.program_translation.specs.Places.{Place, class_words, places_in};
 ghost use Rattle.program_translation.specs.Classes.{starts_at};
 ghost use Rattle.program_translation.specs.Blocks.{block_of};
-ghost use Rattle.program_translation.specs.Adding.{AddsClass, HasPlaces, IsCodeOf};
+ghost use Rattle.program_translation.specs.Adding.{AddsClass, HasFew, HasPlaces, IsCodeOf};
 
 use crate::block_info::BlockInfo;
 use crate::code_layout::{add_blocks, add_starts};
 use crate::coding::{FileOfCode, code_file};
 use crate::parts::{part_at, part_count};
 use crate::span_info::SpanInfo;
-use crate::{NamedFile, TranslateError, method_number};
+use crate::{NamedFile, NoMemory};
 use class_members::METHODS;
 use code_ranges::range_code;
 use elf_image::Image;
@@ -37,19 +38,23 @@ pub struct Code {
     pub methods: u32,
 }
 
-/// All classes of code of an image, for the program whose main class is called `name`. The code of each span's method has at most
+/// All classes of code of an image, for the program whose main class is called `name`: 1 to 235. The code of each span's method has at most
 /// `method_bytes` bytes by its words' weights.
 ///
 /// # Errors
-/// TooLarge where a class has more than a class file can hold, and NoMemory.
+/// Want of memory for the classes.
 pub fn code_of(
     alloc: Global,
     image: &Image,
     name: &str,
     method_bytes: u32,
-) -> Result<Code, TranslateError>
-    requires { AreMethodBytes method_bytes }
-    ensures { IfOk result (IsCodeOf image.now name.now method_bytes) }
+) -> Result<Code, NoMemory>
+    requires name { IsClassName name.now }
+    requires bytes { AreMethodBytes method_bytes }
+    ensures code { IfOk result (IsCodeOf image.now name.now method_bytes) }
+    ensures some { IfOk result (λ code. 1 ≤ length code.files.items) }
+    ensures few { IfOk result (λ code. length code.files.items ≤ 235) }
+    ensures methods { IfOk result (λ code. code.methods < 2 ^ 31) }
 {
     let mut code = Code {
         files: Vec::new(alloc),
@@ -74,10 +79,14 @@ fn add_range(
     range: Range,
     name: &str,
     method_bytes: u32,
-) -> Result<(), TranslateError>
+) -> Result<(), NoMemory>
     requires range { IsWholeRange (image_of image.now).code range }
+    requires name { IsClassName name.now }
     requires bytes { AreMethodBytes method_bytes }
-    ensures { OnOk result ((places : List Place) → HasPlaces (image_of image.now).code name.now method_bytes places code.old
+    requires classes { length code.old.files.items + share_count class_words range.words ≤ 235 }
+    requires few { HasFew code.old }
+    ensures few { OnOk result (HasFew code.new) }
+    ensures places { OnOk result ((places : List Place) → HasPlaces (image_of image.now).code name.now method_bytes places code.old
         → HasPlaces (image_of image.now).code name.now method_bytes (places ++ places_in range) code.new) }
 {
     let words = range_code(alloc, image, range)?;
@@ -95,12 +104,17 @@ fn add_class(
     part: &Part,
     name: &str,
     method_bytes: u32,
-) -> Result<(), TranslateError>
+) -> Result<(), NoMemory>
+    requires name { IsClassName name.now }
     requires part { IsPart part.now }
+    requires code { IsCode part.now.units.now }
     requires some { 1 ≤ part.now.words }
-    requires few { part.now.words ≤ 6144 }
+    requires few_words { part.now.words ≤ 6144 }
     requires bytes { AreMethodBytes method_bytes }
-    ensures { OnOk result (AddsClass name.now method_bytes part.now code.old code.new) }
+    requires classes { length code.old.files.items < 235 }
+    requires few { HasFew code.old }
+    ensures added { OnOk result (AddsClass name.now method_bytes part.now code.old code.new) }
+    ensures few { OnOk result (HasFew code.new) }
 {
     let file = code_file(
         alloc,
@@ -115,9 +129,10 @@ fn add_class(
 }
 
 // A class behind the others.
-fn add_file(code: &mut Code, part: &Part, file: FileOfCode) -> Result<(), TranslateError>
+fn add_file(code: &mut Code, part: &Part, file: FileOfCode) -> Result<(), NoMemory>
     requires part { IsPart part.now }
-    requires run { file.run < 2 ^ 32 - 1 }
+    requires run { file.run + 1 < 2 ^ 32 }
+    requires before { length code.old.spans.items < 2 ^ 31 }
     requires pieces { All (λ p. p.span < 2048) file.pieces.items }
     ensures files { OnOk result (code.new.files.items ≡ code.old.files.items ++ file.file ∷ []) }
     ensures starts { OnOk result (code.new.starts.items ≡ code.old.starts.items ++ starts_at part.now file.run) }
@@ -126,7 +141,7 @@ fn add_file(code: &mut Code, part: &Part, file: FileOfCode) -> Result<(), Transl
     ensures blocks { OnOk result (code.new.blocks.items ≡ code.old.blocks.items ++ map (block_of (length code.old.spans.items)) file.pieces.items) }
     ensures methods { OnOk result (code.new.methods ≡ file.run + 1) }
 {
-    let before = method_number(0, code.spans.len())?;
+    let before = code.spans.len() as u32;
     add_blocks(&mut code.blocks, before, file.pieces.as_slice())?;
     let mut spans = file.spans;
     code.spans.append(&mut spans)?;

@@ -4,7 +4,7 @@ ghost use Rattle.program_classes.specs.Parts.{IsPart};
 ghost use Rattle.program_translation.specs.Blocks.{block_of};
 ghost use Rattle.program_translation.specs.Classes.{starts_at};
 
-use crate::TranslateError;
+use crate::NoMemory;
 use crate::block_info::BlockInfo;
 use class_members::MISSING;
 use program_classes::{Part, Piece};
@@ -15,7 +15,7 @@ pub fn add_blocks(
     blocks: &mut Vec<BlockInfo>,
     before: u32,
     pieces: &[Piece],
-) -> Result<(), TranslateError>
+) -> Result<(), NoMemory>
     requires low { before < 2 ^ 31 }
     requires spans { All (λ p. p.span < 2048) pieces.now }
     ensures { OnOk result (blocks.new.items ≡ blocks.old.items ++ map (block_of before) pieces.now) }
@@ -33,7 +33,7 @@ pub fn add_blocks(
 }
 
 /// Where a class begins, with the number of its method `run()V`, and where its range ends, if it has the last words of this.
-pub fn add_starts(starts: &mut Vec<Start>, part: &Part, run: u32) -> Result<(), TranslateError>
+pub fn add_starts(starts: &mut Vec<Start>, part: &Part, run: u32) -> Result<(), NoMemory>
     requires { IsPart part.now }
     ensures { OnOk result (starts.new.items ≡ starts.old.items ++ starts_at part.now run) }
 {

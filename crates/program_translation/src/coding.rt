@@ -1,13 +1,13 @@
 //! One class of code as a file.
-ghost use Rattle.std.specs.Prelude.{◌≡◌, ◌≤◌, ◌<◌, ◌^◌, ◌-◌, All, IfOk, length};
-ghost use Rattle.command_words.specs.Limits.{AreMethodBytes};
-ghost use Rattle.program_classes.specs.Parts.{IsPart, IsSpan};
+ghost use Rattle.std.specs.Prelude.{◌≡◌, ◌+◌, ◌≤◌, ◌<◌, ◌^◌, All, IfOk, length};
+ghost use Rattle.command_words.specs.Limits.{AreMethodBytes, IsClassName};
+ghost use Rattle.program_classes.specs.Parts.{IsCode, IsPart, IsSpan};
 ghost use Rattle.program_translation.specs.Adding.{IsFileOfCode};
 ghost use Rattle.program_translation.specs.Classes.{span_info, span_infos};
 
 use crate::span_info::SpanInfo;
 use crate::spans::spans_of;
-use crate::{NamedFile, TranslateError, class_number, method_number};
+use crate::{NamedFile, NoMemory};
 use class_members::{code_class_name, file_name};
 use method_splitter::Span;
 use program_classes::{Part, Piece, code_class};
@@ -32,19 +32,23 @@ pub fn code_file(
     classes: usize,
     first_method: u32,
     method_bytes: u32,
-) -> Result<FileOfCode, TranslateError>
+) -> Result<FileOfCode, NoMemory>
+    requires name { IsClassName name.now }
     requires part { IsPart part.now }
+    requires code { IsCode part.now.units.now }
     requires some { 1 ≤ part.now.words }
     requires few { part.now.words ≤ 6144 }
     requires bytes { AreMethodBytes method_bytes }
+    requires classes { classes < 2 ^ 15 }
+    requires methods { first_method < 2 ^ 31 }
     ensures value { IfOk result (IsFileOfCode name.now method_bytes classes first_method part.now) }
-    ensures run { IfOk result (λ made. made.run < 2 ^ 32 - 1) }
+    ensures run { IfOk result (λ made. made.run ≤ first_method + 879) }
+    ensures spans { IfOk result (λ made. length made.spans.items ≤ 879) }
     ensures pieces { IfOk result (λ made. All (λ p. p.span < 2048) made.pieces.items) }
 {
     let spans = spans_of(alloc, part, method_bytes)?;
-    let index = class_number(classes)?;
-    let number = u32::from(index);
-    let run = method_number(first_method, spans.as_slice().len())?;
+    let number = classes as u32;
+    let run = first_method + spans.as_slice().len() as u32;
     let made = code_class(alloc, name, number, part, spans.as_slice(), first_method)?;
     let infos = span_infos(alloc, part, number, spans.as_slice())?;
     let class_name = code_class_name(alloc, name, number)?;
@@ -65,7 +69,7 @@ fn span_infos(
     part: &Part,
     class: u32,
     spans: &[Span],
-) -> Result<Vec<SpanInfo>, TranslateError>
+) -> Result<Vec<SpanInfo>, NoMemory>
     requires part { IsPart part.now }
     requires spans { All (IsSpan part.now.words) spans.now }
     requires few { length spans.now ≤ 2048 }

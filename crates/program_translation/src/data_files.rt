@@ -1,12 +1,12 @@
 //! The classes of data.
-ghost use Rattle.std.specs.Prelude.{◌≡◌, ◌+◌, ◌<◌, ◌++◌, ◌∷◌, [], IfOk, OnOk, length, map};
-ghost use Rattle.equal_shares.specs.Shares.{share_at, share_count, shared};
+ghost use Rattle.std.specs.Prelude.{◌≤◌, ◌<◌, ◌^◌, All, IfOk, OnOk, length, map};
+ghost use Rattle.command_words.specs.Limits.{IsClassName};
 ghost use Rattle.program_classes.specs.Pages.{page_of};
-ghost use Rattle.program_translation.specs.DataFiles.{AddsFile, IsDataOf, class_pages};
+ghost use Rattle.program_translation.specs.DataFiles.{AddsFile, IsDataOf};
 
 use crate::one_file::data_file;
 use crate::pages::filled_pages;
-use crate::{NamedFile, TranslateError, class_number, method_number};
+use crate::{NamedFile, NoMemory};
 use elf_image::Image;
 use equal_shares::{share_at, share_count, shared};
 use program_classes::PageData;
@@ -27,14 +27,17 @@ pub struct Data {
 /// class and so many classes of code, with so many methods.
 ///
 /// # Errors
-/// TooLarge where a class has more than a class file can hold, and NoMemory.
+/// Want of memory for the classes.
 pub fn data_of(
     alloc: Global,
     image: &Image,
     name: &str,
     code_classes: usize,
     methods: u32,
-) -> Result<Data, TranslateError>
+) -> Result<Data, NoMemory>
+    requires name { IsClassName name.now }
+    requires classes { code_classes < 2 ^ 15 }
+    requires methods { methods < 2 ^ 31 }
     ensures { IfOk result (IsDataOf image.now name.now code_classes methods) }
 {
     let pages = filled_pages(alloc, image)?;
@@ -58,13 +61,18 @@ fn add_class(
     methods: u32,
     k: usize,
     pages: &[PageData],
-) -> Result<(), TranslateError>
+) -> Result<(), NoMemory>
+    requires name { IsClassName name.now }
+    requires classes { code_classes < 2 ^ 15 }
+    requires methods { methods < 2 ^ 31 }
+    requires number { k < 2 ^ 15 }
+    requires pages { length pages.now ≤ 1024 }
+    requires words { All (λ p. length p.words.now ≤ 1024) pages.now }
     ensures { OnOk result (AddsFile name.now code_classes methods k (map page_of pages.now) made.old made.new) }
 {
-    let number = class_number(k)?;
-    let before = class_number(code_classes)?;
-    let first = method_number(methods, 2 * usize::from(number))?;
-    let file = data_file(alloc, name, number, before + 1 + number, first, pages)?;
+    let class = (code_classes + 1 + k) as u16;
+    let first = methods + 2 * k as u32;
+    let file = data_file(alloc, name, k as u16, class, first, pages)?;
     made.fills.push(first + 1)?;
     made.files.push(file)?;
     Ok(())

@@ -1,19 +1,17 @@
 //! The main class as a file.
-ghost use Rattle.std.specs.Prelude.{◌≡◌, ◌<◌, ◌≤◌, ◌^◌, ◌++◌, IfOk, IsTrue, length};
+ghost use Rattle.std.specs.Prelude.{◌≡◌, ◌<◌, ◌≤◌, ◌++◌, All, IfOk, length};
 ghost use Rattle.class_members.specs.Numbers.{main_methods};
-ghost use Rattle.program_classes.specs.Content.{RiseFrom};
+ghost use Rattle.command_words.specs.Limits.{IsClassName};
+ghost use Rattle.program_classes.specs.Content.{RiseFrom, behind};
 ghost use Rattle.program_translation.specs.MainFile.{IsMainFile, beginning_of};
 
-use crate::{Code, Data, NamedFile, TranslateError};
+use crate::{Code, Data, NamedFile, NoMemory};
 use class_members::file_name;
 use elf_image::Image;
 use loading_code::Beginning;
 use page_runs::page_runs;
 use program_classes::{MainClass, main_class};
 use std::alloc::Global;
-
-/// How many classes, and how many places at which one of them begins or the code has a gap, there can be.
-const MOST_STARTS: usize = 2_048;
 
 /// The main class of an image, with these classes of code and of data. The methods that it calls of these have rising numbers behind those
 /// of its own.
@@ -23,14 +21,16 @@ pub fn main_file(
     name: &str,
     code: &Code,
     stored: &Data,
-) -> Result<NamedFile, TranslateError>
-    requires { RiseFrom main_methods (code.now.runs.items ++ stored.now.fills.items) }
-    ensures file { IfOk result (IsMainFile image.now name.now code.now.starts.items code.now.runs.items stored.now.fills.items) }
-    ensures some { IfOk result (λ file. 1 ≤ length code.now.starts.items) }
+) -> Result<NamedFile, NoMemory>
+    requires name { IsClassName name.now }
+    requires some { 1 ≤ length code.now.starts.items }
+    requires few { length code.now.starts.items ≤ 1200 }
+    requires few_code { length code.now.runs.items ≤ 2048 }
+    requires few_data { length stored.now.fills.items ≤ 2048 }
+    requires known { All (λ start. start.method < behind main_methods code.now.runs.items) code.now.starts.items }
+    requires rise { RiseFrom main_methods (code.now.runs.items ++ stored.now.fills.items) }
+    ensures { IfOk result (IsMainFile image.now name.now code.now.starts.items code.now.runs.items stored.now.fills.items) }
 {
-    if !is_small(code, stored) {
-        return Err(TranslateError::TooLarge);
-    }
     let runs = page_runs(alloc, image)?;
     let main = MainClass {
         beginning: beginning_of(image),
@@ -56,17 +56,4 @@ fn beginning_of(image: &Image) -> Beginning
         heap_bytes: image.heap_bytes(),
         order: image.order(),
     }
-}
-
-// Whether the main class can choose among so many classes.
-fn is_small(code: &Code, stored: &Data) -> bool
-    ensures some { IsTrue result → 1 ≤ length code.now.starts.items }
-    ensures few { IsTrue result → length code.now.starts.items ≤ 2048 }
-    ensures few_code { IsTrue result → length code.now.runs.items < 2 ^ 16 }
-    ensures few_data { IsTrue result → length stored.now.fills.items < 2 ^ 16 }
-{
-    !code.starts.is_empty()
-        && code.starts.len() <= MOST_STARTS
-        && code.runs.len() <= MOST_STARTS
-        && stored.fills.len() <= MOST_STARTS
 }

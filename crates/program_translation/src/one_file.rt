@@ -1,9 +1,10 @@
 //! One class of data as a file.
-ghost use Rattle.std.specs.Prelude.{◌≡◌, ◌+◌, ◌*◌, ◌<◌, ◌^◌, IfOk, map};
+ghost use Rattle.std.specs.Prelude.{◌≤◌, ◌<◌, ◌^◌, All, IfOk, length, map};
+ghost use Rattle.command_words.specs.Limits.{IsClassName};
 ghost use Rattle.program_classes.specs.Pages.{page_of};
 ghost use Rattle.program_translation.specs.DataFiles.{IsFileOfPages};
 
-use crate::{NamedFile, TranslateError};
+use crate::{NamedFile, NoMemory};
 use class_members::{data_class_name, file_name};
 use program_classes::{PageData, data_class};
 use std::alloc::Global;
@@ -17,7 +18,11 @@ pub fn data_file(
     class: u16,
     first_method: u32,
     pages: &[PageData],
-) -> Result<NamedFile, TranslateError>
+) -> Result<NamedFile, NoMemory>
+    requires name { IsClassName name.now }
+    requires number { number < 2 ^ 15 }
+    requires pages { length pages.now ≤ 1024 }
+    requires words { All (λ p. length p.words.now ≤ 1024) pages.now }
     ensures { IfOk result (IsFileOfPages name.now number class first_method (map page_of pages.now)) }
 {
     let bytes = data_class(alloc, name, u32::from(number), class, first_method, pages)?;

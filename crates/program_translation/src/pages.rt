@@ -1,10 +1,10 @@
 //! The pages of an image that are not all zero.
-ghost use Rattle.std.specs.Prelude.{◌≡◌, ◌+◌, ◌≤◌, IfOk, OnOk, length, map};
+ghost use Rattle.std.specs.Prelude.{◌≡◌, ◌+◌, ◌≤◌, All, IfOk, OnOk, length, map};
 ghost use Rattle.elf_image.specs.Pages.{pages_below};
 ghost use Rattle.program_classes.specs.Pages.{page_of};
 ghost use Rattle.program_translation.specs.Pages.{filled_below};
 
-use crate::TranslateError;
+use crate::NoMemory;
 use elf_image::Image;
 use program_classes::PageData;
 use std::alloc::Global;
@@ -13,11 +13,9 @@ use std::alloc::Global;
 const PAGES: u32 = 1 << 19;
 
 /// The pages of an image that are not all zero, in rising order.
-pub fn filled_pages<'a>(
-    alloc: Global,
-    image: &'a Image,
-) -> Result<Vec<PageData<'a>>, TranslateError>
-    ensures { IfOk result (λ pages. map page_of pages.items ≡ filled_below image.now pages_below) }
+pub fn filled_pages<'a>(alloc: Global, image: &'a Image) -> Result<Vec<PageData<'a>>, NoMemory>
+    ensures pages { IfOk result (λ pages. map page_of pages.items ≡ filled_below image.now pages_below) }
+    ensures words { IfOk result (λ pages. All (λ p. length p.words.now ≤ 1024) pages.items) }
 {
     let mut pages = Vec::new(alloc);
     for page in 0..PAGES {
@@ -27,13 +25,11 @@ pub fn filled_pages<'a>(
 }
 
 // A page behind those below it, unless it is all zero.
-fn add_page<'a>(
-    image: &'a Image,
-    page: u32,
-    pages: &mut Vec<PageData<'a>>,
-) -> Result<(), TranslateError>
-    requires { map page_of pages.old.items ≡ filled_below image.now page }
-    ensures { OnOk result (map page_of pages.new.items ≡ filled_below image.now (page + 1)) }
+fn add_page<'a>(image: &'a Image, page: u32, pages: &mut Vec<PageData<'a>>) -> Result<(), NoMemory>
+    requires pages { map page_of pages.old.items ≡ filled_below image.now page }
+    requires words { All (λ p. length p.words.now ≤ 1024) pages.old.items }
+    ensures pages { OnOk result (map page_of pages.new.items ≡ filled_below image.now (page + 1)) }
+    ensures words { OnOk result (All (λ p. length p.words.now ≤ 1024) pages.new.items) }
 {
     match image.page(page) {
         Some(words) => {

@@ -1,24 +1,24 @@
 //! The spans of a part of the code.
-ghost use Rattle.std.specs.Prelude.{◌≡◌, ◌≤◌, ◌<◌, All, IfOk, length};
+ghost use Rattle.std.specs.Prelude.{◌≡◌, ◌≤◌, ◌<◌, All, IfOk, length, sum_by};
+ghost use Rattle.code_steps.specs.Widths.{size};
 ghost use Rattle.command_words.specs.Limits.{AreMethodBytes};
+ghost use Rattle.program_classes.specs.Code.{code_of_span};
 ghost use Rattle.program_classes.specs.Parts.{IsPart, IsSpan};
 ghost use Rattle.program_translation.specs.Spans.{AreSpans, weight_at, weights_of};
 
-use crate::TranslateError;
+use crate::NoMemory;
 use method_splitter::{Span, cut};
 use program_classes::Part;
+use span_sizes::laws::divided_words_keep_to_the_limit;
 use std::alloc::Global;
 use word_weights::weight;
 
-/// The greatest number of methods of spans in a class.
-const MOST_SPANS: usize = 2_048;
-
 /// The spans of a part, of at most 6,144 words: as few as there can be with at most `method_bytes` bytes each, and each but the last would
-/// have more with the next word.
+/// have more with the next word. There are at most 879, and the code of each has at most 65,535 bytes.
 ///
 /// # Errors
-/// TooLarge where there are more than 2,048, and NoMemory.
-pub fn spans_of(alloc: Global, part: &Part, method_bytes: u32) -> Result<Vec<Span>, TranslateError>
+/// Want of memory for the spans.
+pub fn spans_of(alloc: Global, part: &Part, method_bytes: u32) -> Result<Vec<Span>, NoMemory>
     requires part { IsPart part.now }
     requires some { 1 ≤ part.now.words }
     requires few { part.now.words ≤ 6144 }
@@ -26,18 +26,18 @@ pub fn spans_of(alloc: Global, part: &Part, method_bytes: u32) -> Result<Vec<Spa
     ensures value { IfOk result (λ spans. AreSpans part.now method_bytes spans.items) }
     ensures within { IfOk result (λ spans. All (IsSpan part.now.words) spans.items) }
     ensures some { IfOk result (λ spans. 1 ≤ length spans.items) }
-    ensures few { IfOk result (λ spans. length spans.items ≤ 2048) }
+    ensures few { IfOk result (λ spans. length spans.items ≤ 879) }
+    ensures words { IfOk result (λ spans. sum_by (λ s. s.words) spans.items ≤ 6144) }
+    ensures sizes { IfOk result (λ spans. All (λ s. size (code_of_span part.now s) ≤ 65535) spans.items) }
 {
+    divided_words_keep_to_the_limit();
     let weights = weights_of(alloc, part)?;
     let spans = cut(alloc, weights.as_slice(), method_bytes)?;
-    if MOST_SPANS < spans.len() {
-        return Err(TranslateError::TooLarge);
-    }
     Ok(spans)
 }
 
 // The weights of the words of a part.
-fn weights_of(alloc: Global, part: &Part) -> Result<Vec<u32>, TranslateError>
+fn weights_of(alloc: Global, part: &Part) -> Result<Vec<u32>, NoMemory>
     requires { IsPart part.now }
     ensures value { IfOk result (λ weights. weights.items ≡ weights_of part.now part.now.words) }
     ensures count { IfOk result (λ weights. length weights.items ≡ part.now.words) }

@@ -6,7 +6,7 @@ use crate::bounds::need;
 use crate::built::Built;
 use crate::layout::Layout;
 use crate::main_file::main_file;
-use crate::{NamedFile, TranslateError, code_of, data_of};
+use crate::{NamedFile, NoMemory, code_of, data_of};
 use elf_image::Image;
 use std::alloc::Global;
 
@@ -17,13 +17,13 @@ use std::alloc::Global;
 /// 4,096 to 65,535.
 ///
 /// # Errors
-/// `NoMemory`; `TooLarge` where the program needs more than class files hold, which is not proved never to be.
+/// Want of memory for the classes.
 pub fn translate(
     alloc: Global,
     image: &Image,
     name: &str,
     method_bytes: u32,
-) -> Result<Built, TranslateError>
+) -> Result<Built, NoMemory>
     requires name { IsClassName name.now }
     requires method_bytes { AreMethodBytes method_bytes }
     ensures { IfOk result (IsTranslation image.now name.now method_bytes) }
@@ -47,7 +47,7 @@ fn files_of(
     main: NamedFile,
     code: Vec<NamedFile>,
     stored: Vec<NamedFile>,
-) -> Result<Vec<NamedFile>, TranslateError>
+) -> Result<Vec<NamedFile>, NoMemory>
     ensures { IfOk result (λ files. files.items ≡ main ∷ (code.items ++ stored.items)) }
 {
     let mut code = code;

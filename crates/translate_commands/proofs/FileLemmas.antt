@@ -7,11 +7,8 @@ use Rattle.std.proofs.lemmas.Option.{none-some}
 use Rattle.std.specs.List.{All}
 use Rattle.class_file.proofs.ClassLaws.{no_fault, same_class}
 use Rattle.class_file.specs.ClassFile as format
-use Rattle.class_set.specs.declared.loaded.Loaded.TheVariants.{Classes}
 use Rattle.class_commands.specs.Classes as set
-use Rattle.class_commands.specs.declared.accepted.Accepted.TheVariants as accepted
-use Rattle.command_deeds.specs.declared.done.Done.{Done}
-use Rattle.command_deeds.specs.Deeds.{Due, answers}
+use Rattle.command_deeds.specs.Ends.{Answer, Due, answers}
 use Rattle.jvm_code.specs.declared.class.Class.{Class}
 use Rattle.jvm_link.specs.Linking as linking
 use Rattle.jvm_program.specs.Typing.{AllTyped}
@@ -76,7 +73,7 @@ no_refusal files i file bytes fault held within is same refused =
 abbrev Nothing : List Class → Due → Type 0
 Nothing classes due = ⊥
 
-all_typed : (classes : List Class) (answer : Done) → AllTyped (linking.program_of classes) → set.IsDueByTypes Nothing classes (answers answer) → ⊥
+all_typed : (classes : List Class) (answer : Answer) → AllTyped (linking.program_of classes) → set.IsDueByTypes Nothing classes (answers answer) → ⊥
 all_typed classes answer typed (inl h) = absurd h.1
 all_typed classes answer typed (inr h) =
     let fault = h.1 in
@@ -84,9 +81,6 @@ all_typed classes answer typed (inr h) =
     fault.fails.fails typing.0 (typing.1 h.0.at)
 
 -- classes that are accepted are not refused
-pub not_refused : (classes : List Class) (answer : Done) → linking.Accepted classes → set.IsAccepted 0 (Classes classes) (accepted.Refused answer) → ⊥
+pub not_refused : (classes : List Class) (answer : Answer) → linking.Accepted classes → set.IsRefusal classes answer → ⊥
 not_refused classes answer a refused =
     all_typed classes answer a.typed (subst (λ found. set.IsDueByLink found Nothing classes (answers answer)) a.links refused)
-
-pub accepted_are : (classes others : List Class) → Classes classes ≡ Classes others → others ≡ classes
-accepted_are classes others e = cc

@@ -1,41 +1,62 @@
 -- What `go` is to do.
-use Rattle.std.specs.Prelude.{ℕ, List, Option}
+use Rattle.std.specs.Prelude.{◌≡◌, ◌≢◌, ℕ, List, Option, Some, None}
+use Rattle.command_words.specs.declared.named.Named.{Named}
+use Rattle.command_words.specs.declared.pages.Pages.{Pages}
 use Rattle.elf_image.specs.Start.{Source, image_of}
 use Rattle.guest_commands.specs.Imaging.{IsDueOfProgram}
-use Rattle.guest_commands.specs.Interp.{Plan}
 use Rattle.jvm_code.specs.declared.class.Class.{Class}
 use Rattle.jvm_link.specs.Linking.{program_of}
-use Rattle.jvm_program.specs.Step.{loaded, loaded_turn}
+use Rattle.jvm_program.specs.Step.{Loaded, loaded, loaded_turn}
+use Rattle.mips_decode.specs.State.{State}
+use Rattle.mips_decode.specs.Step.{turn}
+use Rattle.mips_machine.specs.Loading.{start_of}
+use Rattle.nv_events.specs.Run.{Run}
+use Rattle.nv_events.specs.declared.outcome.Outcome.TheVariants.{Going}
 use Rattle.nv_outside.specs.Files.{Files}
 use Rattle.program_translation.specs.Bounds.{allow, need}
 use Rattle.program_translation.specs.declared.built.Built.{Built}
-use Rattle.command_deeds.specs.Deeds.{Due}
-use Rattle.machine_launch.specs.Runs.{NamedFile, IsDueOfSession, IsDueOfSteps}
+use Rattle.unix_system.specs.System.{System}
+use Rattle.command_deeds.specs.Ends.{Due, says}
+use Rattle.command_deeds.specs.declared.done.Done.TheVariants.{Trapped}
+use Rattle.machine_launch.specs.Runs.{IsDueOfSession, IsDueOfSomeRun, NamedFile, Plan, of_run, run_for}
 use Rattle.translate_commands.specs.Stores.{IsDueBehind}
 use Rattle.translate_commands.specs.Translate.{IsDueOfTranslation}
 
 -- the run of a program's classes from their start, over this input and these files: in the region that they need, and for as many
 -- instructions as the program's steps allow
-abbrev pub IsDueOfRun : Plan → Source → List ℕ → List NamedFile → List Class → Due → Type 0
-IsDueOfRun plan source input found classes =
+abbrev pub classes_for : Plan → Source → List NamedFile → List Class → List ℕ → Run Loaded System
+classes_for plan source found classes input =
     let mapped = (image_of source).mapped in
-    IsDueOfSteps (allow mapped plan.session.steps) loaded_turn (loaded (program_of classes) (need mapped))
-    plan.name plan.session plan.moment input found
+    run_for (allow mapped plan.session.steps) loaded_turn (loaded (program_of classes) (need mapped)) plan found input
+
+-- the run of the program itself, for its steps, as `interp` makes it
+abbrev pub program_for : Plan → Source → List NamedFile → List ℕ → Run State System
+program_for plan source found input = run_for plan.session.steps turn (start_of (image_of source)) plan found input
+
+-- What is due of the run of the classes, over input that is told. It is what is due of the program's own run where that ends within its steps.
+-- It is never a trap.
+pub record IsDueOfClasses (plan : Plan) (source : Source) (found : List NamedFile) (classes : List Class) (input : List ℕ) (due : Due) : Type 0 where
+  pub is : due ≡ of_run (classes_for plan source found classes input) plan.session.keep.names
+  pub as_interp : (program_for plan source found input).outcome ≢ Going → due ≡ of_run (program_for plan source found input) plan.session.keep.names
+  pub no_trap : (k : ℕ) → due.answer ≢ Some (says (Trapped k))
+
+abbrev pub IsDueOfRun : Plan → Source → Option (List ℕ) → List NamedFile → List Class → Due → Type 0
+IsDueOfRun plan source (Some input) found classes due = IsDueOfClasses plan source found classes input due
+IsDueOfRun plan source None found classes due = IsDueOfSomeRun plan.session.keep.names due
 
 -- the files of a translation are stored, and the classes that they spell run
-abbrev pub IsDueOfStored : Plan → Source → List ℕ → List NamedFile → Built → List Class → Due → Type 0
-IsDueOfStored plan source input found built classes = IsDueBehind built.files.items (IsDueOfRun plan source input found classes)
+abbrev pub IsDueOfStored : Plan → Source → Option (List ℕ) → List NamedFile → Built → List Class → Due → Type 0
+IsDueOfStored plan source rest found built classes = IsDueBehind built.files.items (IsDueOfRun plan source rest found classes)
 
-abbrev pub IsDueOfFound : Plan → ℕ → Source → List ℕ → List NamedFile → Due → Type 0
-IsDueOfFound plan method_bytes source input found =
-    IsDueOfTranslation source plan.name method_bytes (IsDueOfStored plan source input found)
+abbrev pub IsDueOfFound : Plan → ℕ → Source → Option (List ℕ) → List NamedFile → Due → Type 0
+IsDueOfFound plan method_bytes source rest found =
+    IsDueOfTranslation source plan.name method_bytes (IsDueOfStored plan source rest found)
 
 -- the arguments and files of a program, and then its translation
-abbrev pub IsDueOfTranslated : Plan → ℕ → List ℕ → Files → Source → Due → Type 0
-IsDueOfTranslated plan method_bytes input files source =
-    IsDueOfSession plan.name plan.session files (IsDueOfFound plan method_bytes source input)
+abbrev pub IsDueOfTranslated : Plan → ℕ → Files → Option (List ℕ) → Source → Due → Type 0
+IsDueOfTranslated plan method_bytes files rest source = IsDueOfSession plan (IsDueOfFound plan method_bytes source rest) files
 
--- what `go` is to do, given the file that a word names, if it is there
-abbrev pub IsDueOfGo : Plan → ℕ → Files → List ℕ → Option (List ℕ) → Due → Type 0
-IsDueOfGo plan method_bytes files input found due =
-    IsDueOfProgram plan.word plan.pages (IsDueOfTranslated plan method_bytes input files) found due
+-- what `go` is to do with the program of a file that the words name
+abbrev pub IsDueOfGo : Named → Pages → ℕ → Plan → Files → Option (List ℕ) → Due → Type 0
+IsDueOfGo input pages method_bytes plan files rest due =
+    IsDueOfProgram input pages (IsDueOfTranslated plan method_bytes files rest) (files input.text) due

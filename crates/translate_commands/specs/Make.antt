@@ -1,10 +1,10 @@
 -- What `make` is to do.
-use Rattle.std.specs.Prelude.{◌≡◌, ℕ, ◌+◌, ◌*◌, List, [], ◌∷◌, codes, decimal, Option, Some, None, ⊤}
+use Rattle.std.specs.Prelude.{◌≡◌, ℕ, ◌≤◌, ◌+◌, ◌*◌, List, [], ◌∷◌, codes, decimal, pos, Option, Some}
 use Rattle.command_words.specs.Word.{Text}
 use Rattle.command_words.specs.declared.pages.Pages.{Pages}
 use Rattle.elf_image.specs.Start.{Source, image_of}
 use Rattle.elf_writer.specs.Fields.{words}
-use Rattle.guest_commands.specs.Imaging.{IsDueOfSource, source_of}
+use Rattle.guest_commands.specs.Imaging.{source_of}
 use Rattle.jvm_code.specs.declared.class.Class.{Class}
 use Rattle.jvm_link.specs.Linking.{program_of}
 use Rattle.jvm_program.specs.Step.{loaded, loaded_turn}
@@ -16,11 +16,11 @@ use Rattle.program_translation.specs.Bounds.{allow, need}
 use Rattle.program_translation.specs.declared.built.Built.{Built}
 use Rattle.nv_translate.specs.Translated.{Translated}
 use Rattle.command_deeds.specs.declared.done.Done.{Done}
-use Rattle.command_deeds.specs.declared.done.Done.TheVariants.{Good, NotBuilt}
-use Rattle.command_deeds.specs.Deeds.{Due, prints, answers}
-use Rattle.command_deeds.specs.Line.{joined, status_of}
+use Rattle.command_deeds.specs.declared.done.Done.TheVariants.{Exited, Good}
+use Rattle.command_deeds.specs.Deeds.{prints}
+use Rattle.command_deeds.specs.Ends.{Due, says}
+use Rattle.command_deeds.specs.Line.{joined}
 use Rattle.machine_launch.specs.Runs.{answer_of, run_alone}
-use Rattle.translate_commands.specs.declared.statuses.Statuses.{Statuses}
 use Rattle.translate_commands.specs.Translate.{IsDueOfTranslation}
 
 -- the name of a made program
@@ -35,10 +35,10 @@ abbrev pub made_steps : ℕ → ℕ
 made_steps count = 5 * count + 4
 
 -- how the program ends in the reference machine within so many steps, and how its classes end
-abbrev pub interp_end : ℕ → ℕ → Source → Done
+abbrev pub interp_end : ℕ → ℕ → Source → Option Done
 interp_end steps moment source = answer_of (run_alone steps turn (start_of (image_of source)) made_name moment).outcome
 
-abbrev pub classes_end : ℕ → ℕ → Source → List Class → Done
+abbrev pub classes_end : ℕ → ℕ → Source → List Class → Option Done
 classes_end steps moment source classes =
     let mapped = (image_of source).mapped in
     answer_of (run_alone (allow mapped steps) loaded_turn (loaded (program_of classes) (need mapped)) made_name moment).outcome
@@ -50,33 +50,28 @@ made_lines count interp classes = joined (
     )
 
 abbrev pub told : ℕ → ℕ → ℕ → Due
-told count interp classes = record { deeds = prints (made_lines count interp classes) ∷ []; answer = Good }
+told count interp classes = record { deeds = prints (made_lines count interp classes) ∷ []; answer = Some (says Good) }
 
-abbrev pub made : ℕ → ℕ → Source → List Class → Due
-made count moment source classes =
-    told count (status_of (interp_end (made_steps count) moment source)) (status_of (classes_end (made_steps count) moment source classes))
+-- The program exits within its steps, in the reference machine and as classes, with one status of seven bits, which is told twice.
+pub record IsDueOfBoth (count moment : ℕ) (source : Source) (made : List Class) (due : Due) : Type 0 where
+  pub status : ℕ
+  pub low : status ≤ 127
+  pub interp : interp_end (made_steps count) moment source ≡ Some (Exited (pos status))
+  pub classes : classes_end (made_steps count) moment source made ≡ Some (Exited (pos status))
+  pub is : due ≡ told count status status
 
 -- what is due of the image of the program
 abbrev pub IsDueOfMade : ℕ → ℕ → ℕ → Source → Due → Type 0
 IsDueOfMade count method_bytes moment source =
-    IsDueOfTranslation source made_name method_bytes (λ built classes due. due ≡ made count moment source classes)
+    IsDueOfTranslation source made_name method_bytes (λ built classes. IsDueOfBoth count moment source classes)
 
--- what `make` is to do: it writes the file of the program for itself
+-- what `make` is to do: it writes the file of the program for itself, which is accepted
 abbrev pub IsDueOfMake : ℕ → ℕ → ℕ → Due → Type 0
 IsDueOfMake count method_bytes moment due =
-    (file : List ℕ) × IsFileOf (words (made_words count)) [] file
-    × IsDueOfSource (IsDueOfMade count method_bytes moment) (source_of made_pages file) due
+    (file : List ℕ) × IsFileOf (words (made_words count)) [] file × IsDueOfMade count method_bytes moment (source_of made_pages file) due
 
--- ---- the runs
-
--- the classes of a translation end so, or none was made
-abbrev pub IsEndOfTranslation : ℕ → ℕ → Source → ℕ → Option Done → Type 0
-IsEndOfTranslation steps moment source method_bytes (Some end) =
-    (built : Built) × (t : Translated source made_name method_bytes built) × (end ≡ classes_end steps moment source t.linked.classes)
-IsEndOfTranslation steps moment source method_bytes None = ⊤
-
--- both statuses are told, or nothing is
-abbrev pub AreStatuses : ℕ → ℕ → ℕ → Source → Option Statuses → Type 0
-AreStatuses count method_bytes moment source (Some statuses) =
-    IsDueOfMade count method_bytes moment source (told count statuses.interp statuses.classes)
-AreStatuses count method_bytes moment source None = IsDueOfMade count method_bytes moment source (answers NotBuilt)
+-- the classes of a translation of the program end so
+pub record IsEndOfTranslation (steps moment : ℕ) (source : Source) (method_bytes : ℕ) (end : Done) : Type 0 where
+  pub built : Built
+  pub translated : Translated source made_name method_bytes built
+  pub is : classes_end steps moment source translated.linked.classes ≡ Some end

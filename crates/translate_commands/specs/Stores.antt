@@ -1,9 +1,9 @@
 -- The files of a translation are stored one after the other, and then a command goes on.
-use Rattle.std.specs.Prelude.{◌≡◌, ◌⊎◌, List, ◌∷◌, ◌++◌, map}
+use Rattle.std.specs.Prelude.{◌≡◌, List, ◌∷◌, ◌++◌, map}
 use Rattle.program_translation.specs.Files.{name_of}
 use Rattle.program_translation.specs.declared.named_file.NamedFile.{NamedFile}
-use Rattle.command_deeds.specs.declared.done.Done.TheVariants.{NoMemory}
-use Rattle.command_deeds.specs.Deeds.{Deed, Due, prepares, stores, answers}
+use Rattle.command_deeds.specs.Deeds.{Deed, prepares, stores}
+use Rattle.command_deeds.specs.Ends.{Due}
 
 abbrev pub file_stored : NamedFile → Deed
 file_stored file = stores (name_of file) file.bytes.items
@@ -16,7 +16,6 @@ stored files = map file_stored files
 abbrev pub after_stores : List NamedFile → Due → Due
 after_stores files due = record { deeds = stored files ++ prepares ∷ due.deeds; answer = due.answer }
 
--- what is due behind stored files, where memory may run out
+-- what is due behind stored files
 abbrev pub IsDueBehind : List NamedFile → (Due → Type 0) → Due → Type 0
-IsDueBehind files IsDue due =
-    (due ≡ after_stores files (answers NoMemory)) ⊎ ((later : Due) × IsDue later × (due ≡ after_stores files later))
+IsDueBehind files IsDue due = (later : Due) × IsDue later × (due ≡ after_stores files later)

@@ -1,25 +1,45 @@
 //! From the files of a translation to classes that may be run.
-ghost use Rattle.std.specs.Prelude.{◌≡◌, ◌++◌, ◌∷◌, [], All, IfOk, OnOk};
+ghost use Rattle.std.specs.Prelude.{◌≡◌, ◌++◌, ◌∷◌, [], All, IfOk, List, OnOk, false};
+ghost use Rattle.elf_image.specs.Start.{image_of};
+ghost use Rattle.jvm_code.specs.declared.class.Class.{Class};
 ghost use Rattle.jvm_link.specs.Linking as linking;
+ghost use Rattle.jvm_machine.specs.Machine.{has_ended, state_of};
+ghost use Rattle.jvm_program.specs.Step.{loaded};
 ghost use Rattle.name_resolution.specs.Kept.{IsClass};
+ghost use Rattle.program_translation.specs.Bounds as bounds;
 ghost use Rattle.translate_commands.specs.Classes.{HoldAccepted, SpellClasses};
 
-use class_commands::{Accepted, accept_classes};
+use class_commands::accept_classes;
 use class_reader::{ReadError, read_class};
+use command_deeds::Ending;
+use elf_image::Image;
 use jvm_code::Class;
-use nv_translate::NamedFile;
+use jvm_machine::Jvm;
+use nv_translate::{NamedFile, need};
 use std::alloc::{AllocError, Global};
 use type_verifier::Verified;
 
+/// The class machine with the classes that the files of an image's translation spell, in the region that they need.
+pub fn machine_of(alloc: Global, image: &Image, files: &[NamedFile]) -> Result<Jvm, AllocError>
+    requires { HoldAccepted files.now }
+    ensures state { (classes : List Class) → SpellClasses files.now classes
+        → IfOk result (λ jvm. state_of jvm ≡ loaded (linking.program_of classes) (bounds.need (image_of image.now).mapped)) }
+    ensures going { IfOk result (λ jvm. has_ended jvm ≡ false) }
+{
+    let verified = verified_files(alloc, files)?;
+    image.laws();
+    let mapped = image.mapped();
+    let jvm = Jvm::load(alloc, verified, need(mapped))?;
+    Ok(jvm)
+}
+
 /// The classes that files spell, linked and verified.
-pub fn verified_files(alloc: Global, files: &[NamedFile]) -> Result<Verified, AllocError>
+fn verified_files(alloc: Global, files: &[NamedFile]) -> Result<Verified, AllocError>
     requires { HoldAccepted files.now }
     ensures { IfOk result (λ verified. SpellClasses files.now verified.linked.classes) }
 {
-    match read_files(alloc, files) {
-        Ok(classes) => verified_classes(alloc, classes),
-        Err(error) => Err(error),
-    }
+    let classes = read_files(alloc, files)?;
+    verified_classes(alloc, classes)
 }
 
 /// Links classes that are accepted, and verifies them.
@@ -29,9 +49,10 @@ fn verified_classes(alloc: Global, classes: Vec<Class>) -> Result<Verified, Allo
     ensures { IfOk result (λ verified. verified.linked.classes ≡ classes.items) }
 {
     match accept_classes(alloc, classes) {
-        Ok(Accepted::Verified(verified)) => Ok(verified),
-        Ok(Accepted::Refused(_)) => unreachable!(),
-        Err(_) => Err(AllocError),
+        Ok(verified) => Ok(verified),
+        Err(Ending::Stopped(_)) => Err(AllocError),
+        Err(Ending::Refused(_)) => unreachable!(),
+        Err(Ending::NoFile { .. }) => unreachable!(),
     }
 }
 

@@ -5,7 +5,6 @@ mod alone_runs;
 mod classes;
 mod going;
 mod making;
-mod running;
 mod statuses;
 mod storing;
 mod translating;

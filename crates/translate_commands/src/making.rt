@@ -1,24 +1,19 @@
-ghost use Rattle.std.specs.Prelude.{◌≡◌, ◌≤◌, ℕ, List, Option, IfOk, OnErr, OnOk, false, is_err};
-ghost use Rattle.std.specs.Io.KnownBytes.{Appends};
+ghost use Rattle.std.specs.Prelude.{◌≤◌};
 ghost use Rattle.command_words.specs.Limits.{AreMethodBytes};
-ghost use Rattle.nv_outside.specs.Faults.{CountsFailure};
-ghost use Rattle.nv_outside.specs.Files.{Files};
-ghost use Rattle.nv_outside.specs.Gains.{AppendsPart};
-ghost use Rattle.command_deeds.specs.Counts.{is_stop, read_stopped, shelf_stopped, write_stopped};
-ghost use Rattle.command_deeds.specs.Deeds.{Comes, Works, world};
-ghost use Rattle.guest_commands.specs.Imaging.{IsDueOfSource, source_of};
-ghost use Rattle.translate_commands.specs.Make.{AreStatuses, IsDueOfMade, IsDueOfMake, made_lines, made_pages, told};
+ghost use Rattle.command_deeds.specs.Ends.{Ends};
+ghost use Rattle.command_deeds.specs.World.{Writes, output_seen};
+ghost use Rattle.translate_commands.specs.Make.{IsDueOfMake, made_lines};
 
 use crate::alone_runs::{run_image, run_translated};
 use crate::statuses::Statuses;
-use command_deeds::{Done, Stop, decimal_long, write_pieces};
+use command_deeds::{Done, Ending, Outside, decimal_long, write_pieces};
 use command_words::Pages;
-use elf_image::Image;
-use guest_commands::{Imaged, image_of_file};
+use guest_commands::image_of_file;
 use itoa::Buffer;
+use made_laws::laws::{made_files_are_accepted, made_programs_end};
 use made_program::made_file;
-use nv_outside::{Failed, Sink};
-use std::alloc::{AllocError, Global};
+use nv_outside::{Failed, Shelf, Sink, Source};
+use std::alloc::Global;
 
 /// The sizes of the program's memory.
 const PAGES: Pages = Pages {
@@ -28,119 +23,34 @@ const PAGES: Pages = Pages {
 
 /// Makes a program of `count` blocks, runs it in the reference machine and its classes in the class machine, and writes how many words
 /// it has and the statuses of both runs. Nothing is stored. `moment` is the time in seconds since 1970.
-pub fn make<O: Sink>(
+pub fn make<H: Shelf, S: Source, O: Sink, E: Sink>(
     alloc: Global,
     count: u32,
     method_bytes: u32,
     moment: u64,
-    out: &mut O,
-) -> Result<Done, Stop>
+    outside: &mut Outside<'_, H, S, O, E>,
+) -> Result<Done, Ending>
     requires count { count ≤ 65536 }
     requires method_bytes { AreMethodBytes method_bytes }
-    ensures comes { (files : Option Files) (rest err : Option (List ℕ)) → Comes (IsDueOfMake count method_bytes moment) (world files rest (O.taken out.old) err) (world files rest (O.taken out.new) err) result }
-    ensures answer { IfOk result (λ d. is_stop d ≡ false) }
-    ensures no_shelf { shelf_stopped result ≡ false }
-    ensures out_count { CountsFailure (write_stopped result) (O.faults out.old) (O.faults out.new) }
-    ensures no_read { read_stopped result ≡ false }
+    ensures ends { Ends H.Shelf S.Source O.Sink E.Sink (λ w. IsDueOfMake count method_bytes moment) outside.old outside.new result }
 {
-    match made_file(alloc, count) {
-        Ok(file) => make_file(alloc, file.as_slice(), count, method_bytes, moment, out),
-        Err(_) => Err(Stop::NoMemory),
-    }
-}
-
-/// Runs the program in a file in both machines, and writes the statuses.
-fn make_file<O: Sink>(
-    alloc: Global,
-    file: &[u8],
-    count: u32,
-    method_bytes: u32,
-    moment: u64,
-    out: &mut O,
-) -> Result<Done, Stop>
-    requires count { count ≤ 65536 }
-    requires method_bytes { AreMethodBytes method_bytes }
-    ensures comes { (files : Option Files) (rest err : Option (List ℕ)) → Comes (IsDueOfSource (IsDueOfMade count method_bytes moment) (source_of made_pages file.now)) (world files rest (O.taken out.old) err) (world files rest (O.taken out.new) err) result }
-    ensures answer { IfOk result (λ d. is_stop d ≡ false) }
-    ensures no_shelf { shelf_stopped result ≡ false }
-    ensures out_count { CountsFailure (write_stopped result) (O.faults out.old) (O.faults out.new) }
-    ensures no_read { read_stopped result ≡ false }
-{
-    match image_of_file(alloc, file, PAGES) {
-        Ok(Imaged::Ready(image)) => make_image(alloc, &image, count, method_bytes, moment, out),
-        Ok(Imaged::Refused(answer)) => Ok(answer),
-        Err(_) => Err(Stop::NoMemory),
-    }
-}
-
-/// Runs an image in both machines, and writes the statuses.
-fn make_image<O: Sink>(
-    alloc: Global,
-    image: &Image,
-    count: u32,
-    method_bytes: u32,
-    moment: u64,
-    out: &mut O,
-) -> Result<Done, Stop>
-    requires count { count ≤ 65536 }
-    requires method_bytes { AreMethodBytes method_bytes }
-    ensures comes { (files : Option Files) (rest err : Option (List ℕ)) → Comes (IsDueOfMade count method_bytes moment image.now) (world files rest (O.taken out.old) err) (world files rest (O.taken out.new) err) result }
-    ensures answer { IfOk result (λ d. is_stop d ≡ false) }
-    ensures no_shelf { shelf_stopped result ≡ false }
-    ensures out_count { CountsFailure (write_stopped result) (O.faults out.old) (O.faults out.new) }
-    ensures no_read { read_stopped result ≡ false }
-{
-    match statuses(alloc, image, count, method_bytes, moment) {
-        Ok(Some(statuses)) => tell(count, statuses, out),
-        Ok(None) => Ok(Done::NotBuilt),
-        Err(_) => Err(Stop::NoMemory),
-    }
-}
-
-/// The statuses of an image's runs in both machines. `None` where it was not translated.
-fn statuses(
-    alloc: Global,
-    image: &Image,
-    count: u32,
-    method_bytes: u32,
-    moment: u64,
-) -> Result<Option<Statuses>, AllocError>
-    requires count { count ≤ 65536 }
-    requires method_bytes { AreMethodBytes method_bytes }
-    ensures { IfOk result (AreStatuses count method_bytes moment image.now) }
-{
+    made_files_are_accepted();
+    made_programs_end();
+    let file = made_file(alloc, count)?;
+    let image = image_of_file(alloc, file.as_slice(), PAGES)?;
     let steps = 5 * u64::from(count) + 4;
-    let interp = run_image(alloc, image, steps, moment)?;
-    match run_translated(alloc, image, method_bytes, steps, moment)? {
-        Some(classes) => Ok(Some(Statuses {
-            interp: interp.status(),
-            classes: classes.status(),
-        })),
-        None => Ok(None),
-    }
-}
-
-/// Writes the lines of these statuses. Takes no memory.
-fn tell<O: Sink>(count: u32, statuses: Statuses, out: &mut O) -> Result<Done, Stop>
-    requires count { count ≤ 65536 }
-    ensures works { (files : Option Files) (rest err : Option (List ℕ)) → Works (told count statuses.interp statuses.classes) (world files rest (O.taken out.old) err) (world files rest (O.taken out.new) err) result }
-    ensures answer { IfOk result (λ d. is_stop d ≡ false) }
-    ensures no_shelf { shelf_stopped result ≡ false }
-    ensures out_count { CountsFailure (write_stopped result) (O.faults out.old) (O.faults out.new) }
-    ensures no_read { read_stopped result ≡ false }
-{
-    match write_lines(count, statuses, out) {
-        Ok(()) => Ok(Done::Good),
-        Err(Failed) => Err(Stop::WriteFault),
-    }
+    let interp_end = run_image(alloc, &image, steps, moment)?;
+    let classes_end = run_translated(alloc, &image, method_bytes, steps, moment)?;
+    let interp = interp_end.status();
+    let classes = classes_end.status();
+    write_lines(count, Statuses { interp, classes }, outside.out)?;
+    Ok(Done::Good)
 }
 
 /// Writes how many words the program has, and these statuses. Takes no memory.
 fn write_lines<O: Sink>(count: u32, statuses: Statuses, out: &mut O) -> Result<(), Failed>
     requires count { count ≤ 65536 }
-    ensures ok { OnOk result (Appends (O.taken out.old) (O.taken out.new) (made_lines count statuses.interp statuses.classes)) }
-    ensures err { OnErr result (AppendsPart (O.taken out.old) (O.taken out.new) (made_lines count statuses.interp statuses.classes)) }
-    ensures count { CountsFailure (is_err result) (O.faults out.old) (O.faults out.new) }
+    ensures writes { Writes (output_seen O.Sink out.old) (output_seen O.Sink out.new) (made_lines count statuses.interp statuses.classes) result }
 {
     let (mut word_digits, mut interp_digits, mut class_digits) = (
         Buffer::new(),

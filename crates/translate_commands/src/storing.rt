@@ -1,9 +1,7 @@
 //! Storing the files of a translation.
-ghost use Rattle.std.specs.Prelude.{◌≡◌, ◌⊎◌, ◌∷◌, [], ℕ, List, Option, IfErr};
-ghost use Rattle.nv_outside.specs.Faults.{CountsFailure};
-ghost use Rattle.command_deeds.specs.Counts.{shelf_stopped};
-ghost use Rattle.command_deeds.specs.Deeds.{world};
-ghost use Rattle.machine_launch.specs.Readying.{DoesOrStops};
+ghost use Rattle.std.specs.Prelude.{◌∷◌, []};
+ghost use Rattle.command_deeds.specs.Ends.{ShelfDoes};
+ghost use Rattle.command_deeds.specs.World.{shelf_seen};
 ghost use Rattle.translate_commands.specs.Stores.{file_stored, stored};
 
 use command_deeds::{Stop, store};
@@ -12,9 +10,7 @@ use nv_translate::NamedFile;
 
 /// Stores files, one after the other.
 pub fn store_files<H: Shelf>(files: &[NamedFile], shelf: &mut H) -> Result<(), Stop>
-    ensures stored { (rest out err : Option (List ℕ)) → DoesOrStops (stored files.now) (world (H.files shelf.old) rest out err) (world (H.files shelf.new) rest out err) result }
-    ensures stop { IfErr result (λ stop. (stop ≡ Stop.ShelfFault) ⊎ (stop ≡ Stop.NoMemory)) }
-    ensures count { CountsFailure (shelf_stopped result) (H.faults shelf.old) (H.faults shelf.new) }
+    ensures stores { ShelfDoes (stored files.now) (shelf_seen H.Shelf shelf.old) (shelf_seen H.Shelf shelf.new) result }
 {
     for file in files {
         store_file(file, shelf)?;
@@ -24,9 +20,7 @@ pub fn store_files<H: Shelf>(files: &[NamedFile], shelf: &mut H) -> Result<(), S
 
 /// Stores a file.
 fn store_file<H: Shelf>(file: &NamedFile, shelf: &mut H) -> Result<(), Stop>
-    ensures stored { (rest out err : Option (List ℕ)) → DoesOrStops (file_stored file.now ∷ []) (world (H.files shelf.old) rest out err) (world (H.files shelf.new) rest out err) result }
-    ensures stop { IfErr result (λ stop. (stop ≡ Stop.ShelfFault) ⊎ (stop ≡ Stop.NoMemory)) }
-    ensures count { CountsFailure (shelf_stopped result) (H.faults shelf.old) (H.faults shelf.new) }
+    ensures stores { ShelfDoes (file_stored file.now ∷ []) (shelf_seen H.Shelf shelf.old) (shelf_seen H.Shelf shelf.new) result }
 {
     store(shelf, file.name.as_str(), file.bytes.as_slice())
 }

@@ -3,7 +3,6 @@ use Rattle.std.proofs.Common.{◌≡◌, ℕ, ◌+◌, nat_lt, ℤ, pos, length,
 use Rattle.std.specs.Prelude.{Result, Ok, Err, is_err}
 use Rattle.nv_outside.specs.declared.failed.Failed.{Failed}
 use Rattle.nv_outside.specs.Faults.{CountsFailure}
-use Rattle.nv_events.specs.Serving.{Causes}
 use Rattle.nv_events.specs.declared.io_fault.IoFault.TheVariants.{ReadFault, WriteFault}
 use Rattle.nv_outside.specs.Gains.{AppendsPart}
 use Rattle.nv_events.specs.Memory.{patched}
@@ -24,6 +23,7 @@ use Rattle.unix_system.specs.Serving.{Gives}
 use Rattle.unix_calls.specs.Held.{Held, system_of, with_parts, with_tables_held, with_input_held}
 use Rattle.unix_calls.specs.Drawing.{known}
 use Rattle.unix_calls.specs.Serving.{parts, Serves, counted, AsFault}
+use Rattle.unix_calls.specs.Failing.{FailsBy}
 use Rattle.unix_calls.specs.Reading.{Inputs, inputs, Reads, ReadsPart, ReadGives, Outputs, outputs, Writes, WritesPart, WriteGives, WriteCauses}
 use Rattle.unix_calls.proofs.DrawLemmas.{consumes-nothing}
 use Rattle.unix_calls.proofs.WriteGiven.{part-nothing}
@@ -164,10 +164,10 @@ module _ {C : Type 0} (put_at : C → ℕ → ℕ → C) (does : System → Answ
   write-given c new fault (Ok value) q is given = subst (λ (x : Result ℤ IoFault). Serves put_at does room (parts u rest output error_output) (parts (with_tables_held v new.files new.opened v.heap) rest new.output new.error_output) c c x) (sym is) (serves-write put_at does room v u same rest output error_output c new value given)
   write-given c new fault (Err e) q is given = subst (λ (x : Result ℤ IoFault). Serves put_at does room (parts u rest output error_output) (parts (with_tables_held v new.files new.opened v.heap) rest new.output new.error_output) c c x) (sym is) (fails-write put_at does room v u same rest output error_output c new fault given)
 
-pub read-causes : (before now output error : ℕ) (r : Result ℤ Failed) (q : Result ℤ IoFault) → AsFault ReadFault r q → CountsFailure (is_err r) before now → Causes (counted before output error) (counted now output error) q
-read-causes before now output error (Ok v) q is count = subst (λ (x : Result ℤ IoFault). Causes (counted before output error) (counted now output error) x) (sym is) (ap (λ n. counted n output error) (count.stays refl))
-read-causes before now output error (Err e) q is count = subst (λ (x : Result ℤ IoFault). Causes (counted before output error) (counted now output error) x) (sym is) (count.rises refl)
+pub read-fails : (before now output error : ℕ) (r : Result ℤ Failed) (q : Result ℤ IoFault) → AsFault ReadFault r q → CountsFailure (is_err r) before now → FailsBy (counted before output error) (counted now output error) q
+read-fails before now output error (Ok v) q is count = subst (λ (x : Result ℤ IoFault). FailsBy (counted before output error) (counted now output error) x) (sym is) (ap (λ n. counted n output error) (count.stays refl))
+read-fails before now output error (Err e) q is count = subst (λ (x : Result ℤ IoFault). FailsBy (counted before output error) (counted now output error) x) (sym is) (count.rises refl, refl, refl)
 
-pub write-causes : (input o o_new e e_new : ℕ) (r : Result ℤ Failed) (q : Result ℤ IoFault) → AsFault WriteFault r q → WriteCauses o o_new e e_new r → Causes (counted input o e) (counted input o_new e_new) q
-write-causes input o o_new e e_new (Ok v) q is count = subst (λ (x : Result ℤ IoFault). Causes (counted input o e) (counted input o_new e_new) x) (sym is) (λ i. counted input (count.0 i) (count.1 i))
-write-causes input o o_new e e_new (Err f) q is count = subst (λ (x : Result ℤ IoFault). Causes (counted input o e) (counted input o_new e_new) x) (sym is) count
+pub write-fails : (input o o_new e e_new : ℕ) (r : Result ℤ Failed) (q : Result ℤ IoFault) → AsFault WriteFault r q → WriteCauses o o_new e e_new r → FailsBy (counted input o e) (counted input o_new e_new) q
+write-fails input o o_new e e_new (Ok v) q is count = subst (λ (x : Result ℤ IoFault). FailsBy (counted input o e) (counted input o_new e_new) x) (sym is) (λ i. counted input (count.0 i) (count.1 i))
+write-fails input o o_new e e_new (Err f) q is count = subst (λ (x : Result ℤ IoFault). FailsBy (counted input o e) (counted input o_new e_new) x) (sym is) (refl, count)

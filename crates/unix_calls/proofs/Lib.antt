@@ -3,6 +3,7 @@ pub mod CallLemmas
 pub mod DrawLemmas
 pub mod GainLemmas
 pub mod HeldLemmas
+pub mod FailLemmas
 pub mod JoinedLemmas
 pub mod ReadGiven
 pub mod WriteGiven

@@ -7,3 +7,4 @@ pub mod Access
 pub mod Reading
 pub mod Telling
 pub mod Playing
+pub mod Failing

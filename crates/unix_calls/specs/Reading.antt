@@ -1,7 +1,6 @@
 -- What a read and a write of the code did, call by call. `does` is the definition's call.
-use Rattle.std.specs.Prelude.{◌≡◌, ℕ, ℤ, ◌⊎◌, List, ◌++◌, Option, Result, Ok, Err, IsTrue}
+use Rattle.std.specs.Prelude.{◌≡◌, ℕ, ℤ, List, ◌++◌, Option, Result, Ok, Err, IsTrue}
 use Rattle.std.specs.Io.KnownBytes.{Consumes, Appends}
-use Rattle.nv_outside.specs.Faults.{Rose}
 use Rattle.nv_outside.specs.Gains.{AppendsPart}
 use Rattle.nv_events.specs.Memory.{patched}
 use Rattle.nv_events.specs.Question.{Room}
@@ -11,6 +10,7 @@ use Rattle.unix_system.specs.declared.opened.Opened.{Opened}
 use Rattle.unix_system.specs.System.{System, with_tables}
 use Rattle.unix_system.specs.Asked.{value_only}
 use Rattle.unix_calls.specs.Drawing.{known}
+use Rattle.unix_calls.specs.Failing.{OneRose}
 
 -- a system with these files, descriptors and rest of input
 abbrev pub with_input : System → Files → Opened → List ℕ → System
@@ -97,7 +97,7 @@ abbrev pub WriteGives : {E : Type 0} → (System → Answer × System) → Outpu
 WriteGives does old new (Ok value) = Writes does old new value
 WriteGives does old new (Err e) = WritesPart does old new
 
--- A write fails only where the count of a sink rose.
+-- A write fails where one sink did.
 abbrev pub WriteCauses : {E : Type 0} → ℕ → ℕ → ℕ → ℕ → Result ℤ E → Type 0
 WriteCauses output output_new error error_new (Ok value) = (output_new ≡ output) × (error_new ≡ error)
-WriteCauses output output_new error error_new (Err e) = Rose output output_new ⊎ Rose error error_new
+WriteCauses output output_new error error_new (Err e) = OneRose output output_new error error_new

@@ -5,6 +5,7 @@ ghost use Rattle.nv_events.specs.Question.{asked};
 ghost use Rattle.nv_events.specs.Serving.{Causes, NoneFalls, Counts};
 ghost use Rattle.unix_system.specs.Unix.{unix};
 ghost use Rattle.unix_calls.specs.Serving.{parts, Serves, counted, AsFault};
+ghost use Rattle.unix_calls.specs.Failing.{FailsBy};
 
 use crate::begin::begin;
 use crate::console::write;
@@ -35,7 +36,7 @@ fn as_fault(answer: Result<i32, Failed>, fault: IoFault) -> Result<i32, IoFault>
 impl Unix {
     fn serve_begin<M: View>(&mut self, call: &Call, view: &mut M) -> Result<i32, IoFault>
         requires { call.now.number ≡ 0 }
-        ensures causes { (counts : Counts) → Causes counts counts result }
+        ensures fails_once { (counts : Counts) → FailsBy counts counts result }
         ensures served { (rest output error_output : Option (List ℕ)) → Serves M.put_at (λ s. unix s (asked call.now (M.memory (M.content view.old)))) (asked call.now (M.memory (M.content view.old))).room (parts self.old rest output error_output) (parts self.new rest output error_output) (M.content view.old) (M.content view.new) result }
     {
         let size = room_size();
@@ -51,7 +52,7 @@ impl Unix {
 
     fn serve_status<M: View>(&mut self, call: &Call, view: &mut M) -> Result<i32, IoFault>
         requires { call.now.number ≡ 8 }
-        ensures causes { (counts : Counts) → Causes counts counts result }
+        ensures fails_once { (counts : Counts) → FailsBy counts counts result }
         ensures served { (rest output error_output : Option (List ℕ)) → Serves M.put_at (λ s. unix s (asked call.now (M.memory (M.content view.old)))) (asked call.now (M.memory (M.content view.old))).room (parts self.old rest output error_output) (parts self.new rest output error_output) (M.content view.old) (M.content view.new) result }
     {
         Ok(fstat(&self.disk, &self.opened, self.order, call.a0, call.a1, view))
@@ -59,7 +60,7 @@ impl Unix {
 
     fn serve_quiet<M: View>(&mut self, call: &Call, view: &M) -> Result<i32, IoFault>
         requires { (call.now.number ≢ 0) × (call.now.number ≢ 4) × (call.now.number ≢ 5) × (call.now.number ≢ 8) }
-        ensures causes { (counts : Counts) → Causes counts counts result }
+        ensures fails_once { (counts : Counts) → FailsBy counts counts result }
         ensures served { (rest output error_output : Option (List ℕ)) → Serves M.put_at (λ s. unix s (asked call.now (M.memory (M.content view.now)))) (asked call.now (M.memory (M.content view.now))).room (parts self.old rest output error_output) (parts self.new rest output error_output) (M.content view.now) (M.content view.now) result }
     {
         Ok(answer(
@@ -80,7 +81,7 @@ impl Unix {
     ) -> Result<i32, IoFault>
         requires { call.now.number ≡ 4 }
         ensures served { (output error_output : Option (List ℕ)) → Serves M.put_at (λ s. unix s (asked call.now (M.memory (M.content view.old)))) (asked call.now (M.memory (M.content view.old))).room (parts self.old (S.rest source.old) output error_output) (parts self.new (S.rest source.new) output error_output) (M.content view.old) (M.content view.new) result }
-        ensures causes { (output error : ℕ) → Causes (counted (S.faults source.old) output error) (counted (S.faults source.new) output error) result }
+        ensures fails_once { (output error : ℕ) → FailsBy (counted (S.faults source.old) output error) (counted (S.faults source.new) output error) result }
         ensures never_falls { S.faults source.old ≤ S.faults source.new }
     {
         let answer = read(
@@ -103,7 +104,7 @@ impl Unix {
     ) -> Result<i32, IoFault>
         requires { call.now.number ≡ 5 }
         ensures served { (rest : Option (List ℕ)) → Serves M.put_at (λ s. unix s (asked call.now (M.memory (M.content view.now)))) (asked call.now (M.memory (M.content view.now))).room (parts self.old rest (O.taken out.old) (E.taken err.old)) (parts self.new rest (O.taken out.new) (E.taken err.new)) (M.content view.now) (M.content view.now) result }
-        ensures causes { (input : ℕ) → Causes (counted input (O.faults out.old) (E.faults err.old)) (counted input (O.faults out.new) (E.faults err.new)) result }
+        ensures fails_once { (input : ℕ) → FailsBy (counted input (O.faults out.old) (E.faults err.old)) (counted input (O.faults out.new) (E.faults err.new)) result }
         ensures none_falls { (O.faults out.old ≤ O.faults out.new) × (E.faults err.old ≤ E.faults err.new) }
     {
         let answer = write(&mut self.disk, &mut self.opened, call, view, out, err);
@@ -120,7 +121,7 @@ impl Unix {
         err: &mut E,
     ) -> Result<i32, IoFault>
         ensures served { Serves M.put_at (λ s. unix s (asked call.now (M.memory (M.content view.old)))) (asked call.now (M.memory (M.content view.old))).room (parts self.old (S.rest source.old) (O.taken out.old) (E.taken err.old)) (parts self.new (S.rest source.new) (O.taken out.new) (E.taken err.new)) (M.content view.old) (M.content view.new) result }
-        ensures causes { Causes (counted (S.faults source.old) (O.faults out.old) (E.faults err.old)) (counted (S.faults source.new) (O.faults out.new) (E.faults err.new)) result }
+        ensures fails_once { FailsBy (counted (S.faults source.old) (O.faults out.old) (E.faults err.old)) (counted (S.faults source.new) (O.faults out.new) (E.faults err.new)) result }
         ensures none_falls { NoneFalls (counted (S.faults source.old) (O.faults out.old) (E.faults err.old)) (counted (S.faults source.new) (O.faults out.new) (E.faults err.new)) }
     {
         match call.number {
@@ -139,8 +140,8 @@ impl Unix {
     ///
     /// # Errors
     ///
-    /// `ReadFault` where the source failed in this call, and `WriteFault` where a sink did. Then the sinks have front parts of what the
-    /// call writes.
+    /// `ReadFault` where the source failed in this call, and `WriteFault` where a sink did; no other part failed. Then the sinks have
+    /// front parts of what the call writes.
     pub fn serve<M: View, S: Source, O: Sink, E: Sink>(
         &mut self,
         call: &Call,
@@ -151,6 +152,7 @@ impl Unix {
     ) -> Result<i32, IoFault>
         ensures served { Serves M.put_at (λ s. unix s (asked call.now (M.memory (M.content view.old)))) (asked call.now (M.memory (M.content view.old))).room (parts self.old (S.rest source.old) (O.taken out.old) (E.taken err.old)) (parts self.new (S.rest source.new) (O.taken out.new) (E.taken err.new)) (M.content view.old) (M.content view.new) result }
         ensures causes { Causes (counted (S.faults source.old) (O.faults out.old) (E.faults err.old)) (counted (S.faults source.new) (O.faults out.new) (E.faults err.new)) result }
+        ensures fails_once { FailsBy (counted (S.faults source.old) (O.faults out.old) (E.faults err.old)) (counted (S.faults source.new) (O.faults out.new) (E.faults err.new)) result }
         ensures none_falls { NoneFalls (counted (S.faults source.old) (O.faults out.old) (E.faults err.old)) (counted (S.faults source.new) (O.faults out.new) (E.faults err.new)) }
         ensures ahead { length self.new.ahead ≤ 4096 }
     {

@@ -19,7 +19,7 @@ use Rattle.code_steps.specs.declared.step.Step.TheVariants.{Does, Skips, Leaves,
 use Rattle.code_assembly.specs.declared.references.References.{References}
 use Rattle.code_assembly.specs.Assembling.{IsKnown, StepIsKnown, AreKnown}
 use Rattle.class_members.specs.Fields.{field_descriptor}
-use Rattle.linked_names.specs.Naming.{is_field, is_return, names_well, step_names_well, all_well}
+use Rattle.whole_methods.specs.Naming.{is_field, is_return, names_well, step_names_well, all_well}
 use Rattle.linked_names.specs.Meaning.{AreMeant, AreCalled}
 
 kind-of-field : (tables : Bool) (kind : Kind) → same_kind kind (kind_of (if tables then codes "[[I" else codes "I")) ≡ true

@@ -14,7 +14,7 @@ use Rattle.code_assembly.specs.declared.references.References.{References}
 use Rattle.code_assembly.specs.Assembling.{Extends, has_method}
 use Rattle.class_builder.specs.Named.{IsClassAt, IsMethodAt}
 use Rattle.program_classes.specs.Named.{AreMembers}
-use Rattle.linked_names.specs.Naming.{is_helper}
+use Rattle.whole_methods.specs.Naming.{is_helper}
 use Rattle.linked_names.specs.Meaning.{AreCalled, HaveMethodNumbers, IsMethodNumber}
 
 -- the law of the slot of a method

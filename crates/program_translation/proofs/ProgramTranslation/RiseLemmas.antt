@@ -7,7 +7,7 @@ use Rattle.program_classes.proofs.MainClasses.RiseLemmas.{rise-joined}
 use Rattle.program_translation.specs.Classes.{Placed, Follow, run_of, methods_behind}
 use Rattle.program_translation.specs.DataFiles.{fill_of, fills_of}
 
-rise-runs : (number first : ℕ) (classes : List Placed) → Follow number first classes → RiseFrom first (map run_of classes)
+pub rise-runs : (number first : ℕ) (classes : List Placed) → Follow number first classes → RiseFrom first (map run_of classes)
 rise-runs number first [] follow = tt
 rise-runs number first (c ∷ classes) follow =
     (omega (arith, follow.1), rise-runs (number + 1) (run_of c + 1) classes follow.2)

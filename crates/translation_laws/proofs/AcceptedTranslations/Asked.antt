@@ -42,7 +42,8 @@ use Rattle.translation_laws.specs.AcceptedCode.{HasAcceptedCode}
 use Rattle.translation_laws.proofs.AcceptedTranslations.Lists.{mapped-get, mapped-length}
 use Rattle.translation_laws.proofs.AcceptedTranslations.Passing.{pass-joined, pass-range}
 use Rattle.translation_laws.proofs.AcceptedTranslations.Asking.{asked_of, names-asked, is_old, old-known, known-dropped, nothing-asked, distinct-behind, files-kept, among-there}
-use Rattle.translation_laws.proofs.AcceptedTranslations.Few.{code-few, data-few}
+use Rattle.program_translation.proofs.Counts.PageLemmas.{data-few}
+use Rattle.translation_laws.proofs.AcceptedTranslations.Few.{code-few}
 use Rattle.translation_laws.proofs.AcceptedTranslations.Mentions.{NamesPass, three, code-pass, data-pass, own-pass, main-pass}
 use Rattle.translation_laws.proofs.AcceptedTranslations.Classes.{IsSpelled, count, IsData, main-there, each-class}
 use Rattle.translation_laws.proofs.AcceptedTranslations.Linking.{number-follows, runs-long, fills-long}

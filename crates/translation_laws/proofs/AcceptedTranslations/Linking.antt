@@ -28,7 +28,8 @@ use Rattle.translation_laws.specs.AcceptedCode.{HasAcceptedCode}
 use Rattle.linked_names.proofs.LinkedNumbers.Found.{links}
 use Rattle.translation_laws.proofs.AcceptedTranslations.Lists.{mapped-length}
 use Rattle.translation_laws.proofs.AcceptedTranslations.Meant.{is_meant, entries-meant}
-use Rattle.translation_laws.proofs.AcceptedTranslations.Few.{code-few, data-few}
+use Rattle.program_translation.proofs.Counts.PageLemmas.{data-few}
+use Rattle.translation_laws.proofs.AcceptedTranslations.Few.{code-few}
 use Rattle.translation_laws.proofs.AcceptedTranslations.Mentions.{NamesPass, OtherPasses, main-pass}
 use Rattle.translation_laws.proofs.AcceptedTranslations.MainMeant.{names-meant, own-meant, run-there}
 use Rattle.translation_laws.proofs.AcceptedTranslations.OthersMeant.{code-class, code-run, code-meant, data-class, data-fill, data-meant}

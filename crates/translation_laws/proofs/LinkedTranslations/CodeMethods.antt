@@ -30,8 +30,8 @@ use Rattle.linked_names.specs.Naming.{is_helper}
 use Rattle.linked_names.specs.Meaning.{AreMeant, AreCalled}
 use Rattle.linked_names.proofs.NamedCode.Meant.{members-called, helpers-called}
 use Rattle.linked_names.proofs.NamedCode.Known.{code-known}
-use Rattle.linked_names.proofs.NamedCode.Spans.{span-well}
-use Rattle.linked_names.proofs.NamedCode.Choosing.{IsCalled, class-well}
+use Rattle.whole_methods.proofs.NamedCode.Spans.{span-well}
+use Rattle.whole_methods.proofs.NamedCode.Choosing.{IsCalled, class-well}
 use Rattle.translation_laws.specs.Linked.{HasCodeClass}
 use Rattle.translation_laws.proofs.LinkedTranslations.Lists.{mapped-get, mapped-length, mapped-from, range-member, get-either, get-one, all-got}
 use Rattle.translation_laws.proofs.LinkedTranslations.Knowing.{NamesLaw, HasMain, slot-law, owner-no-host, methods-numbered, method-at}

@@ -31,7 +31,7 @@ use Rattle.linked_names.proofs.LinkedNumbers.Made.{methods-made}
 use Rattle.linked_names.specs.Meaning.{AreMeant, AreCalled}
 use Rattle.linked_names.proofs.NamedCode.Meant.{members-called}
 use Rattle.linked_names.proofs.NamedCode.Known.{code-known}
-use Rattle.linked_names.proofs.NamedCode.Loading.{words-well, fill-well}
+use Rattle.whole_methods.proofs.NamedCode.Loading.{words-well, fill-well}
 use Rattle.translation_laws.specs.Linked.{SpellsPage, HasDataClass}
 use Rattle.translation_laws.proofs.LinkedTranslations.Knowing.{NamesLaw, HasMain, slot-law, owner-no-host, methods-numbered, method-at}
 use Rattle.translation_laws.proofs.LinkedTranslations.Planned.{Knows, are-planned, text-is}

@@ -1,12 +1,9 @@
 -- A translation has few classes, and a class of code few spans.
-use Rattle.std.proofs.Common.{◌≡◌, ℕ, zero, suc, ◌+◌, ◌≤◌, ◌^◌, Bool, true, false, if◌then◌else◌, List, [], ◌∷◌, length, drop, Some, subst, slice_get, inl, inr, length-append, length-drop, arith}
+use Rattle.std.proofs.Common.{◌≡◌, ℕ, ◌+◌, ◌≤◌, ◌^◌, List, [], ◌∷◌, length, drop, Some, subst, slice_get, inl, inr, length-append, length-drop, arith}
 use Rattle.std.specs.List.{range_with_len}
 use Rattle.std.proofs.lemmas.List.Sums.{sum_by-cons}
 use Rattle.std.proofs.lemmas.Slice.Zip.{AllZip-long}
 use Rattle.elf_reader.specs.declared.range.Range.{Range}
-use Rattle.elf_reader.specs.Segments.{live}
-use Rattle.elf_image.specs.Content.{is_filled_page}
-use Rattle.elf_image.specs.Pages.{pages_below}
 use Rattle.elf_image.specs.Refusals.{code_words}
 use Rattle.elf_image.specs.Start.{Source, image_of}
 use Rattle.equal_shares.specs.Shares.{share_count}
@@ -16,7 +13,7 @@ use Rattle.program_translation.specs.Classes.{Placed, IsPlaced, AreCodeClasses}
 use Rattle.program_translation.specs.Places.{Place, class_words, place_at, places_in, places_of}
 use Rattle.program_translation.specs.Spans.{weight_at, weights_of}
 use Rattle.program_translation.specs.DataFiles.{class_count, filled_pages}
-use Rattle.program_translation.specs.Pages.{page_at, filled_below}
+use Rattle.program_translation.proofs.Counts.PageLemmas.{data-few as classes-of-data}
 use Rattle.translation_laws.specs.WholeCode.{HasWholeCode}
 use Rattle.translation_laws.proofs.LinkedTranslations.Lists.{mapped-length, mapped-from, get-either, zip-second}
 
@@ -64,17 +61,5 @@ spans-few source method_bytes code are i c at =
 
 -- ---- classes of data
 
-pages-few : (source : Source) (n : ℕ) → length (filled_below source n) ≤ n
-unfolding filled_below
-pages-few source zero = omega arith
-pages-few source (suc n) =
-    let before = filled_below source n in
-    let one = last (is_filled_page source.file (live source.file) n) in
-    omega (arith, one, pages-few source n, length-append before (if is_filled_page source.file (live source.file) n then page_at source n ∷ [] else []))
-  where
-    last : (b : Bool) → length (if b then page_at source n ∷ [] else []) ≤ 1
-    last true = omega arith
-    last false = omega arith
-
 pub data-few : (source : Source) → class_count (filled_pages source) ≤ 2 ^ 64
-data-few source = omega (arith, pages-few source pages_below)
+data-few source = omega (arith, classes-of-data source)

@@ -37,10 +37,10 @@ use Rattle.linked_names.specs.Naming.{is_fault, is_helper}
 use Rattle.linked_names.specs.Meaning.{AreMeant, AreCalled, HaveFieldNumbers, HaveMethodNumbers, IsMethodNumber}
 use Rattle.linked_names.proofs.NamedCode.Meant.{numbered-called}
 use Rattle.linked_names.proofs.NamedCode.Known.{code-known}
-use Rattle.linked_names.proofs.NamedCode.Steps.{code-more}
-use Rattle.linked_names.proofs.NamedCode.Helpers.{helper-well}
-use Rattle.linked_names.proofs.NamedCode.Loading.{pages-well, run-well}
-use Rattle.linked_names.proofs.NamedCode.Choosing.{IsCalled, main-well, missing-well}
+use Rattle.whole_methods.proofs.NamedCode.Steps.{code-more}
+use Rattle.whole_methods.proofs.NamedCode.Helpers.{helper-well}
+use Rattle.whole_methods.proofs.NamedCode.Loading.{pages-well, run-well}
+use Rattle.whole_methods.proofs.NamedCode.Choosing.{IsCalled, main-well, missing-well}
 use Rattle.translation_laws.specs.Linked.{ArePlanned}
 use Rattle.translation_laws.proofs.LinkedTranslations.Lists.{mapped-get, mapped-from, range-member, get-either, all-got, zip-mapped}
 use Rattle.translation_laws.proofs.LinkedTranslations.Knowing.{NamesLaw, HasMain, slot-law, own-is, owner-no-host, methods-numbered, method-at}

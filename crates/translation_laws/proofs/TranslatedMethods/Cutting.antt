@@ -1,13 +1,12 @@
 -- The spans of a class are joined, and they are few.
-use Rattle.std.proofs.Common.{◌≡◌, ℕ, ◌+◌, ◌*◌, ◌<◌, ◌≤◌, List, [], ◌∷◌, length, take, drop, All, ap, subst, arith, length-drop, length-take-le}
-use Rattle.std.proofs.lemmas.List.Elements.{All-take, All-drop}
-use Rattle.std.proofs.lemmas.List.Sums.{sum_by-le}
+use Rattle.std.proofs.Common.{◌≡◌, ℕ, ◌+◌, ◌≤◌, List, [], ◌∷◌, length, drop, ap, subst, arith, length-drop}
 use Rattle.std.proofs.lemmas.List.FromFn.{length-map-range_with_len}
 use Rattle.block_builder.specs.Blocks.{unit_at}
-use Rattle.method_splitter.specs.Cuts.{span_weight, Cuts, Fills}
+use Rattle.method_splitter.specs.Cuts.{Cuts, Fills}
 use Rattle.method_splitter.specs.declared.span.Span.{Span}
 use Rattle.program_classes.specs.declared.part.Part.{Part}
 use Rattle.program_translation.specs.Spans.{weight_at, weights_of}
+use Rattle.program_translation.proofs.Counts.SpanLemmas.{cut-few}
 use Rattle.translation_runs.specs.TranslatedPrograms.Classes.{AreJoined}
 use Rattle.translation_laws.proofs.TranslatedMethods.Weights.{weight-small}
 use Rattle.translation_laws.proofs.TranslatedMethods.Elements.{all-counted}
@@ -20,32 +19,11 @@ joined first weights limit (s ∷ spans) cuts =
     let end : (first + s.words) + length (drop s.words weights) ≡ first + length weights = omega (arith, length-drop s.words weights, fits) in
     (cuts.0, cuts.1, subst (AreJoined (first + s.words) spans) end (joined (first + s.words) (drop s.words weights) limit spans cuts.4))
 
-span-small : (weights : List ℕ) → All (λ (w : ℕ). w ≤ 512) weights → span_weight weights ≤ 96 + 516 * length weights
-unfolding span_weight
-span-small weights small =
-    let sum = sum_by-le (λ (w : ℕ). 4 + w) 516 weights (λ k d lt. let less = small k d lt in omega (arith, less)) in
-    omega (arith, sum)
-
--- each span but the last has seven words or more
-few : (first : ℕ) (weights : List ℕ) (limit : ℕ) (spans : List Span) → 4096 ≤ limit → All (λ (w : ℕ). w ≤ 512) weights
-    → Cuts first weights limit spans → Fills weights limit spans → 7 * length spans ≤ length weights + 7
-few first weights limit [] large small cuts fills = omega arith
-few first weights limit (s ∷ []) large small cuts fills = omega arith
-few first weights limit (s ∷ t ∷ spans) large small cuts fills =
-    let rest = cuts.4 in
-    let next = few (first + s.words) (drop s.words weights) limit (t ∷ spans) large (All-drop (λ (w : ℕ). w ≤ 512) s.words weights small) rest fills.1 in
-    let left = length-drop s.words weights in
-    let more : s.words < length weights = omega (arith, left, rest.1, rest.2) in
-    let over = fills.0 more in
-    let bound = span-small (take (s.words + 1) weights) (All-take (λ (w : ℕ). w ≤ 512) (s.words + 1) weights small) in
-    let taken = length-take-le (s.words + 1) weights in
-    omega (arith, left, next, over, bound, taken, large, cuts.2)
-
 pub few-spans : (part : Part) (limit : ℕ) (spans : List Span) → 4096 ≤ limit → part.words ≤ 6144 → Cuts 0 (weights_of part part.words) limit spans
     → Fills (weights_of part part.words) limit spans → length spans ≤ 2048
 few-spans part limit spans large short cuts fills =
     let small = all-counted (λ (w : ℕ). w ≤ 512) (weight_at part) 0 part.words (λ j from below. weight-small (unit_at part.units.now (part.first + j))) in
-    let most = few 0 (weights_of part part.words) limit spans large small cuts fills in
+    let most = cut-few 0 (weights_of part part.words) limit spans large small cuts fills in
     omega (arith, most, length-map-range_with_len (weight_at part) 0 part.words, short)
 
 pub joined-spans : (part : Part) (limit : ℕ) (spans : List Span) → Cuts 0 (weights_of part part.words) limit spans → AreJoined 0 spans part.words

@@ -1,15 +1,10 @@
 -- The words of the classes of code of a program that was accepted.
-use Rattle.std.proofs.Common.{◌≡◌, ℕ, ◌+◌, ◌-◌, ◌*◌, ◌<◌, ◌≤◌, min, not, false, List, [], ◌∷◌, length, get_or, All, Option, Some, slice_get, refl, ap, subst, arith}
-use Rattle.std.specs.List.{list_all}
-use Rattle.std.proofs.lemmas.Bool.{and_from}
+use Rattle.std.proofs.Common.{◌≡◌, ℕ, ◌+◌, ◌-◌, ◌*◌, ◌<◌, ◌≤◌, min, List, length, All, Option, Some, slice_get, arith}
 use Rattle.std.proofs.lemmas.Grind.{div_ceil_times}
-use Rattle.std.proofs.lemmas.List.Elements.{All-head, All-tail, All-from_get_or, All-weaker}
+use Rattle.std.proofs.lemmas.List.Elements.{All-weaker}
 use Rattle.std.proofs.lemmas.List.FromFn.{length-map-range_with_len}
-use Rattle.nv_words.specs.Words.{IsWord}
 use Rattle.elf_reader.specs.declared.range.Range.{Range}
-use Rattle.elf_image.specs.Whole.{IsPlainWord, IsWholeRange}
-use Rattle.mips_decode.specs.Table.{is_float}
-use Rattle.delay_slots.specs.Units.{HasNoFloat}
+use Rattle.elf_image.specs.Whole.{IsWholeRange}
 use Rattle.equal_shares.specs.Shares.{share_count}
 use Rattle.method_splitter.specs.declared.span.Span.{Span}
 use Rattle.program_classes.specs.Parts.{IsSpan}
@@ -17,6 +12,7 @@ use Rattle.program_translation.specs.Places.{Place, place_at, places_in, places_
 use Rattle.program_translation.specs.Spans.{weight_at, weights_of}
 use Rattle.program_translation.specs.Classes.{Placed, IsPlaced}
 use Rattle.program_translation.proofs.CodeFiles.SpanLemmas.{cut-within}
+use Rattle.program_translation.proofs.CodeFiles.UnitLemmas.{range-words, range-float}
 use Rattle.translation_laws.proofs.TranslatedTypes.Lists.{all-counted, all-joined, all-at}
 use Rattle.translation_laws.proofs.TranslatedTypes.CodeMethods.{HasWords}
 
@@ -38,34 +34,20 @@ inside code ranges whole =
       within = share-fits r.words k (share_count class_words r.words) ((div_ceil_times r.words 6144 (omega arith)).1) (omega (arith, high));
     }))
 
-none-float : (words : List ℕ) → All (λ (word : ℕ). is_float word ≡ false) words → HasNoFloat words
-none-float [] all = refl
-none-float (word ∷ words) all =
-    and_from (not (is_float word)) (list_all (λ (w : ℕ). not (is_float w)) words)
-    (ap not (All-head (λ (w : ℕ). is_float w ≡ false) word words all))
-    (none-float words (All-tail (λ (w : ℕ). is_float w ≡ false) word words all))
-
 module _ (code : ℕ → Option ℕ) (method_bytes : ℕ) (p : Place) (c : Placed) (is : IsInside code p) (placed : IsPlaced code method_bytes p c) where
-  abbrev words : List ℕ
-  words = placed.part_is.range_is.words
-
-  plain : (k : ℕ) → k < length words → IsWord (get_or words k 0) × (is_float (get_or words k 0) ≡ false)
-  plain k below =
-      let less : k < p.range.words = omega (arith, below, placed.part_is.range_is.are_words.count) in
-      subst IsPlainWord (placed.part_is.range_is.are_words.each k less) (is.whole.there k less)
-
   pub class-words : HasWords c
   class-words =
       let weights = weights_of c.part c.part.words in
+      let range = placed.part_is.range_is in
       record {
-        words = words;
-        units_are = placed.part_is.range_is.units_are;
-        are_words = All-from_get_or IsWord words 0 (λ k below. (plain k below).0);
-        no_float = none-float words (All-from_get_or (λ (w : ℕ). is_float w ≡ false) words 0 (λ k below. (plain k below).1));
+        words = range.words;
+        units_are = range.units_are;
+        are_words = range-words code p.range c.part.units.now c.part.leads.now is.whole range;
+        no_float = range-float code p.range c.part.units.now c.part.leads.now is.whole range;
         within =
-            All-weaker (IsSpan (0 + length weights)) (λ (s : Span). c.part.first + s.first + s.words ≤ length words)
+            All-weaker (IsSpan (0 + length weights)) (λ (s : Span). c.part.first + s.first + s.words ≤ length range.words)
             (λ s fits.
-            omega (arith, fits.within, is.within, placed.part_is.first_is, placed.part_is.words_are, placed.part_is.range_is.are_words.count, length-map-range_with_len (weight_at c.part) 0 c.part.words))
+            omega (arith, fits.within, is.within, placed.part_is.first_is, placed.part_is.words_are, range.are_words.count, length-map-range_with_len (weight_at c.part) 0 c.part.words))
             c.spans (cut-within 0 weights method_bytes c.spans placed.spans_are.cuts);
       }
 

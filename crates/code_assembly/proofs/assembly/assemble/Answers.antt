@@ -1,10 +1,16 @@
-use Rattle.std.proofs.Common.{◌≡◌, ◌+◌, ◌<◌, ◌^◌, ◌&&◌, nat_lt, length, get_or, drop, ap, ◌∙◌, ltb-true, arith}
+use Rattle.std.proofs.Common.{◌≡◌, ◌<◌, ◌^◌, ◌&&◌, ◌++◌, nat_lt, length, get_or, Err, ap, ◌∙◌, ltb-true}
 use Rattle.std.proofs.lemmas.Bool.{and_parts}
+use Rattle.std.proofs.lemmas.Result.{err_from_is_err_and}
+use Rattle.constant_pool.specs.declared.error.PoolError.TheVariants.{Full}
+use Rattle.std.proofs.lemmas.List.Elements.{All-append}
 use Rattle.code_steps.specs.Widths.{size}
-use Rattle.code_assembly.specs.Assembling.{have_operations, switches_are_placed, step_slots, slots_of}
+use Rattle.code_assembly.specs.Assembling.{have_operations, switches_are_placed, pushed_by}
+use Rattle.code_assembly.specs.Operations.{Has}
 use Rattle.code_assembly.proofs.Pools.{extends-further, adds-further, adds-among}
+use Rattle.code_assembly.proofs.Counts.{all-kept}
+use Rattle.code_assembly.proofs.Taking.{few-by, full-by, next-few}
 use Rattle.code_assembly.proofs.Offsets.{AreEnds}
-use Rattle.code_assembly.proofs.Placed.{next-has-operation, next-placed, made-goes-on, slots-next, are-linked, widths-same, size-is, are-code}
+use Rattle.code_assembly.proofs.Placed.{next-has-operation, next-placed, made-goes-on, are-linked, widths-same, size-is, are-code}
 use Rattle.code_assembly.proofs.assembly.assemble.Goals as goal
 
 pub step_operation-requires : goal.step_operation-requires
@@ -25,13 +31,16 @@ loop-i-preserved c =
     let all = and_parts (nat_lt (size code) (2 ^ 32) && have_operations r code) (switches_are_placed 0 code) c.requires in
     let can = and_parts (nat_lt (size code) (2 ^ 32)) (have_operations r code) all.0 in
     let few : size code < 2 ^ 32 = ltb-true (size code) (2 ^ 32) can.0 in
-    let next : slots_of (drop i code) ≡ step_slots s + slots_of (drop (i + 1) code) = slots-next code i s c.loop-i-test.true c.index-code-i.is in
+    let seen = c.loop-i.invariant.seen in
     let ends : AreEnds code c.deref.result.now (length code) = λ k h. ap (λ es. get_or es k 0) c.deref.ensures.value ∙ c.in-Ok.ensures.ends k h in
     let placed = next-placed r code c.deref.result.now i s new c.in_ok-op.op ends few c.loop-i-test.true c.index-code-i.is can.1 all.1 c.in_ok-op.ensures.op in
     record {
       kept = extends-further c.args.pool.now pool new c.loop-i.invariant.kept c.in_ok-op.ensures.kept;
       added = adds-further code c.args.pool.now pool new c.loop-i.invariant.added (adds-among code i s pool new c.loop-i-test.true c.index-code-i.is c.in_ok-op.ensures.added);
-      few = omega (arith, next, c.loop-i.invariant.few, c.in_ok-op.ensures.few);
+      seen = pushed_by s ++ seen;
+      has = All-append (Has new) (pushed_by s) seen c.in_ok-op.ensures.has (all-kept seen pool new c.in_ok-op.ensures.kept c.loop-i.invariant.has);
+      few = next-few code i s c.args.pool.now pool new seen c.loop-i-test.true c.index-code-i.is c.loop-i.invariant.has c.loop-i.invariant.few
+          c.in_ok-op.ensures.adds;
       made = made-goes-on r code i s pool new c.in_ok-op.op c.loop-i.ops.items c.push.new.self.items c.loop-i-test.true c.index-code-i.is c.loop-i.invariant.made c.in_ok-op.ensures.kept placed c.in_ok-push.ensures.items;
     }
 
@@ -64,3 +73,21 @@ returns-in_err-push-clause-added c =
     let pool = c.loop-i.pool in
     let new = c.step_operation.new.pool in
     adds-further code c.args.pool.now pool new c.loop-i.invariant.added (adds-among code c.loop-i.i c.index-code-i.result pool new c.loop-i-test.true c.index-code-i.is c.step_operation.ensures.added)
+
+pub returns-in_err-op-clause-few : goal.returns-in_err-op-clause-few
+returns-in_err-op-clause-few c =
+    few-by c.args.code.now c.loop-i.i c.index-code-i.result c.args.pool.now c.loop-i.pool c.step_operation.new.pool c.loop-i.invariant.seen
+    c.loop-i-test.true c.index-code-i.is c.loop-i.invariant.has c.loop-i.invariant.few c.step_operation.ensures.adds
+
+pub returns-in_err-push-clause-few : goal.returns-in_err-push-clause-few
+returns-in_err-push-clause-few c =
+    few-by c.args.code.now c.loop-i.i c.index-code-i.result c.args.pool.now c.loop-i.pool c.step_operation.new.pool c.loop-i.invariant.seen
+    c.loop-i-test.true c.index-code-i.is c.loop-i.invariant.has c.loop-i.invariant.few c.step_operation.ensures.adds
+
+pub returns-in_err-op-clause-full : goal.returns-in_err-op-clause-full
+returns-in_err-op-clause-full c =
+    let p = err_from_is_err_and c.from_residual.result c.from_residual.ensures.1 in
+    λ full.
+    let same : c.in_err-op.field-0.0 ≡ Full = cc (p.1, p.2, full) in
+    full-by c.args.code.now c.loop-i.i c.index-code-i.result c.args.pool.now c.loop-i.pool c.loop-i.invariant.seen
+    c.loop-i-test.true c.index-code-i.is c.loop-i.invariant.has c.loop-i.invariant.few (c.in_err-op.ensures.full (ap Err same))

@@ -1,5 +1,7 @@
-use Rattle.std.proofs.Common.{◌+◌, ◌≤◌, length, drop}
-use Rattle.code_assembly.specs.Assembling.{Extends, Adds, slots_of}
+use Rattle.std.proofs.Common.{◌+◌, ◌≤◌, List, All, length, drop}
+use Rattle.jvm_program.specs.declared.constant.Constant.{Constant}
+use Rattle.code_assembly.specs.Assembling.{Extends, Adds, constants_of, slots_beside, slots_of}
+use Rattle.code_assembly.specs.Operations.{Has}
 use Rattle.code_assembly.proofs.Placed.{AreMade}
 use Rattle.code_assembly.proofs.assembly.assemble.Given as goal
 
@@ -7,6 +9,8 @@ abbrev pub invariant-loop-i : goal.invariant-loop-i
 invariant-loop-i l = record {
   kept : Extends l.fn.pool l.pool;
   added : Adds l.code l.fn.pool l.pool;
-  few : length l.pool + slots_of (drop l.i l.code) ≤ length l.fn.pool + slots_of l.code;
+  seen : List Constant;
+  has : All (Has l.pool) seen;
+  few : length l.pool + slots_beside seen (constants_of (drop l.i l.code)) ≤ length l.fn.pool + slots_of l.code;
   made : AreMade l.references l.code l.i l.pool l.ops.items;
 }

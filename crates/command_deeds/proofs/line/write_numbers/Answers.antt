@@ -1,4 +1,4 @@
 use Rattle.command_deeds.proofs.line.write_numbers.Goals as goal
 
-pub returns-clause-ok : goal.returns-clause-ok
-returns-clause-ok g c = rw (← c.decimal-a.ensures, ← c.decimal-b.ensures, ← c.decimal-c.ensures) c.write_pieces.ensures.ok
+pub returns : goal.returns
+returns g c = rw (← c.decimal-a.ensures, ← c.decimal-b.ensures, ← c.decimal-c.ensures) c.write_pieces.ensures

@@ -4,9 +4,9 @@ use Rattle.unix_system.specs.Unix.{reply}
 use Rattle.machine_launch.specs.Runs.{answer_of}
 use Rattle.machine_launch.proofs.alone.play_alone.Goals as goal
 
-pub returns-clause-is : goal.returns-clause-is
-returns-clause-is g c =
-    c.answer_of.ensures.is
-    ∙ ap answer_of (sym (c.in-Ok.ensures.plays [] refl).is)
-    ∙ ap (λ k. answer_of (run_of g.M.Machine.turn reply c.args.steps (g.M.Machine.state c.args.machine) k).outcome)
-    (c.begins_at_start.ensures c.in_ok-unix.unix 1024 c.args.moment [] (c.args.name.now ∷ []) [] c.in_ok-unix.ensures.begins)
+pub returns : goal.returns
+returns g c =
+    sym (ap (λ k. answer_of (run_of g.M.Machine.turn reply c.args.steps (g.M.Machine.state c.args.machine) k).outcome)
+    (c.begins_at_start.ensures c.in_ok-unix.unix 1024 c.args.moment [] (c.args.name.now ∷ []) [] c.in_ok-unix.ensures.begins))
+    ∙ ap answer_of (c.in-Ok.ensures.plays [] refl).is
+    ∙ c.answer_of.ensures

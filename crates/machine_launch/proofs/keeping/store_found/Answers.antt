@@ -1,11 +1,16 @@
-use Rattle.command_deeds.specs.Deeds.{world}
+use Rattle.command_deeds.specs.World.{shelf_seen}
 use Rattle.machine_launch.proofs.ReadyLemmas.{keep_none, keep_some}
 use Rattle.machine_launch.proofs.keeping.store_found.Goals as goal
 
-pub returns-in-Some-clause-kept : goal.returns-in-Some-clause-kept
-returns-in-Some-clause-kept g c = λ files node rest out err e.
-    keep_some files node (g.H.Shelf.files c.args.shelf.now) (g.H.Shelf.files c.store.new.shelf) rest out err c.args.name.now c.args.found.now c.in-Some.bytes c.as_slice.result.now c.store.result c.in-Some.is c.as_slice.ensures.value e c.store.ensures.stored
+pub returns-in-Some : goal.returns-in-Some
+returns-in-Some g c = record {
+  keeps =
+      λ files node e. keep_some files node (shelf_seen g.H.Shelf c.args.shelf.now)
+      (shelf_seen g.H.Shelf c.store.new.shelf) c.args.name.now c.args.found.now c.in-Some.bytes c.as_slice.result.now c.store.result c.in-Some.is
+      c.as_slice.ensures.value e c.store.ensures.stores;
+}
 
-pub returns-in-None-clause-kept : goal.returns-in-None-clause-kept
-returns-in-None-clause-kept g c = λ files node rest out err e.
-    keep_none files node (world (g.H.Shelf.files c.args.shelf.now) rest out err) c.args.name.now c.args.found.now tt c.in-None.is e
+pub returns-in-None : goal.returns-in-None
+returns-in-None g c = record {
+  keeps = λ files node e. keep_none files node (shelf_seen g.H.Shelf c.args.shelf.now) c.args.name.now c.args.found.now tt c.in-None.is e;
+}

@@ -1,23 +1,68 @@
-use Rattle.machine_launch.specs.Runs.{arguments_of}
-use Rattle.machine_launch.proofs.PlayLemmas.{machine_plays, machine_falls, no_causes}
+use Rattle.std.proofs.Common.{Ok, ap, refl, subst}
+use Rattle.std.proofs.lemmas.Result.{err_from_is_err_and}
+use Rattle.command_deeds.proofs.DeedLemmas.{same_shelf}
+use Rattle.command_deeds.specs.Deeds.{DoesAll, StopsIn}
+use Rattle.command_deeds.specs.World.{input_seen, output_seen, seen, shelf_seen, world}
+use Rattle.machine_launch.proofs.PlayLemmas.{run_failed, run_kept, run_not_kept, run_played}
+use Rattle.machine_launch.specs.Runs.{IsDueOfHeld, kept}
 use Rattle.machine_launch.proofs.playing.play_for.Goals as goal
 
-pub returns-in-Ok-clause-comes : goal.returns-in-Ok-clause-comes
-returns-in-Ok-clause-comes g c = λ found rest begins told.
-    let launch = c.args.launch.now in
-    machine_plays c.args.steps g.M.Machine.turn (g.M.Machine.state c.args.machine) _ launch.name.now launch.session.now launch.moment found rest _ _ _ _ _ _ _ _ _ _ _ c.in-Ok.outcome c.keep_after.result
-    (c.begins_at_start.ensures c.args.unix launch.session.now.disk launch.moment found (arguments_of launch.name.now launch.session.now) rest begins)
-    (c.in-Ok.ensures.plays rest told) (c.play.ensures.ahead c.requires.few) (c.keep_after.ensures.works _ _ _)
+pub returns-in_err-outcome : goal.returns-in_err-outcome
+returns-in_err-outcome g c =
+    let p = err_from_is_err_and c.from_residual.result c.from_residual.ensures.1 in
+    let outside = c.args.outside.now in
+    let w = seen g.H.Shelf g.S.Source g.O.Sink g.E.Sink outside in
+    let u = world w.shelf (input_seen g.S.Source c.play.new.input) (output_seen g.O.Sink c.play.new.out) (output_seen g.E.Sink c.play.new.err) in
+    record {
+      ends = (
+        (refl, refl, refl, refl),
+        rw (p.1, p.2) (run_failed g.M.Machine.turn c.args.steps (g.M.Machine.state c.args.machine)
+            (g.M.Machine.state c.play.new.machine) c.args.unix c.play.new.unix w u c.in_err-outcome.field-0.0 c.args.keep.now.names
+            c.in_err-outcome.ensures.runs c.in_err-outcome.ensures.falls (same_shelf w.shelf) c.play.ensures.none_falls
+            c.in_err-outcome.ensures.fails_once),
+      );
+    }
 
-pub returns-in-Ok-clause-causes : goal.returns-in-Ok-clause-causes
-returns-in-Ok-clause-causes g c = no_causes _ _ c.keep_after.result c.in-Ok.ensures.causes c.keep_after.ensures.no_stream
+pub returns-in_err-keep_files : goal.returns-in_err-keep_files
+returns-in_err-keep_files g c =
+    let p = err_from_is_err_and c.from_residual-in_err-keep_files.result c.from_residual-in_err-keep_files.ensures.1 in
+    let w = seen g.H.Shelf g.S.Source g.O.Sink g.E.Sink c.args.outside.now in
+    let u = world w.shelf (input_seen g.S.Source c.play.new.input) (output_seen g.O.Sink c.play.new.out) (output_seen g.E.Sink c.play.new.err) in
+    let v = world (shelf_seen g.H.Shelf c.keep_files.new.shelf) u.input u.out u.err in
+    let keep = c.args.keep.now.names in
+    let outcome = c.in_ok-outcome.outcome in
+    let stop = c.in_err-keep_files.field-0.0 in
+    let played = run_played g.M.Machine.turn c.args.steps (g.M.Machine.state c.args.machine)
+    (g.M.Machine.state c.play.new.machine) c.args.unix c.play.new.unix w u outcome keep
+    c.in_ok-outcome.ensures.runs c.in_ok-outcome.ensures.plays (λ e. c.in_ok-outcome.ensures.never_waits (ap (λ o. Ok o) e))
+    (c.play.ensures.ahead c.requires.few) (same_shelf w.shelf) c.in_ok-outcome.ensures.causes in
+    record {
+      ends = (
+        (refl, refl, refl, refl),
+        rw (p.1, p.2) (run_not_kept (λ x. IsDueOfHeld c.args.steps g.M.Machine.turn (g.M.Machine.state c.args.machine) c.args.unix keep x.input.told)
+            w u v c.play.new.unix.files keep outcome stop played
+            (subst (λ names. StopsIn (kept c.play.new.unix.files names) u v stop) c.as_slice.ensures
+            (c.in_err-keep_files.ensures.keeps u.input u.out u.err))),
+      );
+    }
 
-pub returns-clause-comes : goal.returns-clause-comes
-returns-clause-comes g c = λ found rest begins told.
-    let launch = c.args.launch.now in
-    machine_falls c.args.steps g.M.Machine.turn (g.M.Machine.state c.args.machine) launch.name.now launch.session.now launch.moment found rest _ _ _ _ _ _ _ _ _ _ c.in-Err.fault c.stopped_by.result
-    (c.begins_at_start.ensures c.args.unix launch.session.now.disk launch.moment found (arguments_of launch.name.now launch.session.now) rest begins)
-    (c.in-Err.ensures.falls rest told) c.stopped_by.ensures.is
-
-pub returns-clause-causes : goal.returns-clause-causes
-returns-clause-causes g c = c.stopped_by.ensures.causes _ _ c.in-Err.ensures.causes
+pub returns : goal.returns
+returns g c =
+    let w = seen g.H.Shelf g.S.Source g.O.Sink g.E.Sink c.args.outside.now in
+    let u = world w.shelf (input_seen g.S.Source c.play.new.input) (output_seen g.O.Sink c.play.new.out) (output_seen g.E.Sink c.play.new.err) in
+    let v = world (shelf_seen g.H.Shelf c.keep_files.new.shelf) u.input u.out u.err in
+    let keep = c.args.keep.now.names in
+    let outcome = c.in_ok-outcome.outcome in
+    let played = run_played g.M.Machine.turn c.args.steps (g.M.Machine.state c.args.machine)
+    (g.M.Machine.state c.play.new.machine) c.args.unix c.play.new.unix w u outcome keep
+    c.in_ok-outcome.ensures.runs c.in_ok-outcome.ensures.plays (λ e. c.in_ok-outcome.ensures.never_waits (ap (λ o. Ok o) e))
+    (c.play.ensures.ahead c.requires.few) (same_shelf w.shelf) c.in_ok-outcome.ensures.causes in
+    record {
+      ends = (
+        (refl, refl, refl, refl),
+        run_kept (λ x. IsDueOfHeld c.args.steps g.M.Machine.turn (g.M.Machine.state c.args.machine) c.args.unix keep x.input.told) w u v
+            c.play.new.unix.files keep outcome c.answer_of.result played
+            c.answer_of.ensures (subst (λ names. DoesAll (kept c.play.new.unix.files names) u v) c.as_slice.ensures
+            (c.in_ok-keep_files.ensures.keeps u.input u.out u.err)),
+      );
+    }

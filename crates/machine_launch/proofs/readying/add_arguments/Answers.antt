@@ -5,25 +5,35 @@ use Rattle.machine_launch.specs.Readying.{AddsArgs}
 use Rattle.machine_launch.proofs.ReadyLemmas.{args_known, args_more, args_stopped, texts_whole}
 use Rattle.machine_launch.proofs.readying.add_arguments.Goals as goal
 
-pub returns-in_err-add_argument-clause-adds : goal.returns-in_err-add_argument-clause-adds
-returns-in_err-add_argument-clause-adds c =
+pub returns-in_err-add_argument : goal.returns-in_err-add_argument
+returns-in_err-add_argument c =
     let p = err_from_is_err_and c.from_residual.result c.from_residual.ensures.1 in
-    rw (p.1, p.2) (args_known (c.args.name.now ∷ []) (map string_bytes c.args.texts.now) c.args.unix.now c.add_argument.new.unix c.in_err-add_argument.field-0.0 c.in_err-add_argument.ensures.adds)
+    rw (p.1, p.2) (record {
+      adds = args_known (c.args.name.now ∷ []) (map string_bytes c.args.texts.now) c.args.unix.now c.add_argument.new.unix
+          c.in_err-add_argument.field-0.0 c.in_err-add_argument.ensures.adds;
+    })
 
 pub loop-text-preserved : goal.loop-text-preserved
 loop-text-preserved c =
-    args_more c.args.name.now c.args.texts.now c.loop-text.text-index c.text-item.result c.as_str.result.now c.args.unix.now c.loop-text.unix c.add_argument-in-loop-text.new.unix tt (Ok tt)
+    args_more c.args.name.now c.args.texts.now c.loop-text.text-index c.text-item.result c.as_str.result.now c.args.unix.now c.loop-text.unix
+    c.add_argument-in-loop-text.new.unix tt (Ok tt)
     c.loop-text-test.true c.text-item.is c.as_str.ensures.value c.loop-text.invariant c.in_ok-add_argument-2.ensures.adds
 
-pub returns-in_err-add_argument-2-clause-adds : goal.returns-in_err-add_argument-2-clause-adds
-returns-in_err-add_argument-2-clause-adds c =
+pub returns-in_err-add_argument-2 : goal.returns-in_err-add_argument-2
+returns-in_err-add_argument-2 c =
     let p = err_from_is_err_and c.from_residual-in_err-add_argument-2.result c.from_residual-in_err-add_argument-2.ensures.1 in
     let h = c.in_err-add_argument-2.field-0.0 in
-    rw (p.1, p.2) (args_stopped c.args.name.now c.args.texts.now (c.loop-text.text-index + 1) c.args.unix.now c.add_argument-in-loop-text.new.unix h
-    (args_more c.args.name.now c.args.texts.now c.loop-text.text-index c.text-item.result c.as_str.result.now c.args.unix.now c.loop-text.unix c.add_argument-in-loop-text.new.unix tt (Err h)
-    c.loop-text-test.true c.text-item.is c.as_str.ensures.value c.loop-text.invariant c.in_err-add_argument-2.ensures.adds))
+    rw (p.1, p.2) (record {
+      adds = args_stopped c.args.name.now c.args.texts.now (c.loop-text.text-index + 1) c.args.unix.now c.add_argument-in-loop-text.new.unix h
+          (args_more c.args.name.now c.args.texts.now c.loop-text.text-index c.text-item.result c.as_str.result.now c.args.unix.now c.loop-text.unix
+          c.add_argument-in-loop-text.new.unix tt (Err h)
+          c.loop-text-test.true c.text-item.is c.as_str.ensures.value c.loop-text.invariant c.in_err-add_argument-2.ensures.adds);
+    })
 
-pub returns-clause-adds : goal.returns-clause-adds
-returns-clause-adds c =
+pub returns : goal.returns
+returns c =
     let n : c.loop-text.text-index ≡ length c.args.texts.now = omega arith in
-    subst (λ ts. AddsArgs (c.args.name.now ∷ ts) c.args.unix.now c.loop-text.unix (Ok tt)) (texts_whole c.args.texts.now c.loop-text.text-index n) c.loop-text.invariant
+    record {
+      adds = subst (λ ts. AddsArgs (c.args.name.now ∷ ts) c.args.unix.now c.loop-text.unix (Ok tt))
+          (texts_whole c.args.texts.now c.loop-text.text-index n) c.loop-text.invariant;
+    }

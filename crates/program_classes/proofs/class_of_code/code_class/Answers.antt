@@ -1,4 +1,4 @@
-use Rattle.std.proofs.Common.{◌≡◌, ◌∷◌, [], ◌++◌, ◌<◌, All, length, ap, sym, ◌∙◌, subst}
+use Rattle.std.proofs.Common.{◌≡◌, ◌∷◌, [], ◌++◌, ◌<◌, All, length, ap, sym, ◌∙◌, subst, true, refl, arith}
 use Rattle.constant_pool.specs.declared.entry.Entry.TheVariants.{MethodRef}
 use Rattle.code_assembly.specs.declared.references.References.{References}
 use Rattle.class_builder.specs.Named.{IsClassAt}
@@ -13,6 +13,11 @@ use Rattle.program_classes.specs.CodeNaming.{code_mentions}
 use Rattle.program_classes.specs.Code.{span_plans, run_plan}
 use Rattle.program_classes.proofs.ClassMaking.MakingLemmas.{adds-more, made-all, adds-fields, adds-name}
 use Rattle.program_classes.proofs.CodeBlocks.RisingLemmas.{pieces-numbered}
+use Rattle.whole_methods.specs.Whole.{HasHelpers}
+use Rattle.program_classes.specs.Room.{is_own_name}
+use Rattle.program_classes.specs.Code.{span_plan}
+use Rattle.program_classes.proofs.LawfulNames.CharacterLemmas.{code-own, main-named}
+use Rattle.program_classes.proofs.Rooms.CountLemmas.{adds-count, plans-count}
 use Rattle.program_classes.proofs.class_of_code.code_class.Goals as goal
 
 pub returns-clause-class : goal.returns-clause-class
@@ -20,7 +25,7 @@ returns-clause-class c =
     let part = c.args.part.now in
     let spans = c.args.spans.now in
     let named = c.in_ok-named.named in
-    let told = c.in_ok-named.ensures in
+    let told = c.in_ok-named.ensures.names in
     let middle = c.add_spans.new.class in
     let final = c.add_run.new.class in
     let first = references_of named.names 0 named.helpers.items in
@@ -62,3 +67,51 @@ pub returns-clause-pieces_within : goal.returns-clause-pieces_within
 returns-clause-pieces_within c =
     let spans = c.args.spans.now in
     subst (All (λ p. p.span < length spans)) (sym c.in_ok-pieces.ensures.pieces) (pieces-numbered c.args.part.now spans)
+
+pub named_class-requires-clause-name : goal.named_class-requires-clause-name
+named_class-requires-clause-name c =
+    subst (λ name. is_own_name name ≡ true) (sym (c.as_str.ensures.value ∙ c.in_ok-name.ensures))
+    (code-own c.args.main.now c.args.number c.requires.name c.requires.number)
+
+pub named_class-requires-clause-main : goal.named_class-requires-clause-main
+named_class-requires-clause-main c = main-named c.args.main.now c.requires.name
+
+pub add_spans-requires-clause-references : goal.add_spans-requires-clause-references
+add_spans-requires-clause-references c =
+    let told = c.in_ok-named.ensures.names in
+    subst HasHelpers (sym c.with_methods-references.ensures) (record {
+      fields = told.names_are.fields_are.count_is;
+      first = refl;
+      helpers = omega (arith, told.helpers_are.count_is);
+    })
+
+pub add_spans-requires-clause-none : goal.add_spans-requires-clause-none
+add_spans-requires-clause-none c = c.in_ok-named.ensures.names.no_methods
+
+pub add_spans-requires-clause-room : goal.add_spans-requires-clause-room
+add_spans-requires-clause-room c = omega (arith, c.in_ok-named.ensures.few, c.requires.few, c.requires.words)
+
+pub add_run-requires-clause-fields : goal.add_run-requires-clause-fields
+add_run-requires-clause-fields c =
+    ap (λ (r : References). length r.fields) c.with_methods-references.ensures ∙ c.in_ok-named.ensures.names.names_are.fields_are.count_is
+
+pub add_run-requires-clause-count : goal.add_run-requires-clause-count
+add_run-requires-clause-count c = ap length c.new.ensures ∙ c.in_ok-named.ensures.names.own_are.count_is
+
+pub add_run-requires-clause-few_methods : goal.add_run-requires-clause-few_methods
+add_run-requires-clause-few_methods c =
+    let part = c.args.part.now in
+    let spans = c.args.spans.now in
+    let r = c.with_methods-references.result in
+    let old = c.in_ok-named.named.class in
+    omega (
+      arith,
+      adds-count old c.add_spans.new.class (span_plans part spans r (length spans)) c.in_ok-pieces.ensures.methods,
+      plans-count (span_plan part spans r) (length spans),
+      ap length c.in_ok-named.ensures.names.no_methods,
+      c.requires.few,
+    )
+
+pub add_run-requires-clause-room : goal.add_run-requires-clause-room
+add_run-requires-clause-room c =
+    omega (arith, c.in_ok-named.ensures.few, c.in_ok-pieces.ensures.few, c.requires.few, c.requires.words)

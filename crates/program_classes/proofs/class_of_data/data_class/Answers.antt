@@ -1,4 +1,4 @@
-use Rattle.std.proofs.Common.{◌≡◌, ◌∷◌, [], ◌++◌, ap, ◌∙◌, subst, map}
+use Rattle.std.proofs.Common.{◌≡◌, ◌∷◌, [], ◌++◌, ap, ◌∙◌, subst, map, true, length, sym, All, arith}
 use Rattle.class_builder.specs.Named.{IsClassAt}
 use Rattle.class_builder.specs.Mentioned.{Mentions}
 use Rattle.class_builder.proofs.Mentions.{mentions-still}
@@ -9,12 +9,22 @@ use Rattle.program_classes.specs.Pages.{page_of}
 use Rattle.program_classes.specs.DataNaming.{AreDataNames, data_mentions}
 use Rattle.program_classes.specs.Data.{words_plan, fill_plan}
 use Rattle.program_classes.proofs.DataClasses.NameLemmas.{data-names-later}
+use Rattle.code_assembly.specs.declared.references.References.{References}
+use Rattle.code_assembly.specs.Assembling.{has_method}
+use Rattle.class_builder.specs.Lawful.{has_text}
+use Rattle.loading_code.specs.declared.page_slot.PageSlot.{PageSlot}
+use Rattle.program_classes.specs.Room.{is_own_name}
+use Rattle.program_classes.specs.Pages.{IsPageSlot}
+use Rattle.program_classes.proofs.DataClasses.NameLemmas.{slots-later}
+use Rattle.program_classes.proofs.LawfulNames.CharacterLemmas.{data-own, main-named}
+use Rattle.program_classes.proofs.Rooms.CountLemmas.{adds-count, has-numbered, pages-there, zip-length}
+use Rattle.std.proofs.lemmas.List.{length-map}
 use Rattle.program_classes.proofs.class_of_data.data_class.Goals as goal
 
 pub returns : goal.returns
 returns c =
     let named = c.in_ok-named.named in
-    let told = c.in_ok-named.ensures in
+    let told = c.in_ok-named.ensures.names in
     let middle = c.add_words.new.class in
     let final = c.add_fill.new.class in
     let references = references_of named.names c.args.first_method (named.words ∷ []) in
@@ -24,7 +34,7 @@ returns c =
     let texts : c.as_slice.result.now ≡ named.texts.items = c.as_slice.ensures.value in
     let number = c.args.class in
     let words = c.args.first_method in
-    let first_added = subst (λ r. AddsMethods named.class middle (words_plan r ∷ [])) same c.in_ok-add_words.ensures in
+    let first_added = subst (λ r. AddsMethods named.class middle (words_plan r ∷ [])) same c.in_ok-add_words.ensures.method in
     let second_added =
     subst (λ t. AddsMethods middle final (fill_plan t number words references ∷ [])) texts
     (subst (λ r. AddsMethods middle final (fill_plan c.as_slice.result.now number words r ∷ [])) same c.in_ok-add_fill.ensures) in
@@ -52,3 +62,69 @@ returns c =
           (mentions-still named.class.pool final.pool _ told.mentions all.mentions);
       methods = made-all named.class final plans all told.no_methods;
     }
+
+pub named_class-requires-clause-name : goal.named_class-requires-clause-name
+named_class-requires-clause-name c =
+    subst (λ name. is_own_name name ≡ true) (sym (c.as_str.ensures.value ∙ c.in_ok-name.ensures))
+    (data-own c.args.main.now c.args.number c.requires.name c.requires.number)
+
+pub named_class-requires-clause-main : goal.named_class-requires-clause-main
+named_class-requires-clause-main c = main-named c.args.main.now c.requires.name
+
+pub add_words-requires-clause-fields : goal.add_words-requires-clause-fields
+add_words-requires-clause-fields c =
+    ap (λ (r : References). length r.fields) c.with_methods-references.ensures
+    ∙ c.in_ok-named.ensures.names.names.names_are.fields_are.count_is
+
+pub add_words-requires-clause-few : goal.add_words-requires-clause-few
+add_words-requires-clause-few c = omega (arith, ap length c.in_ok-named.ensures.names.no_methods)
+
+pub add_words-requires-clause-room : goal.add_words-requires-clause-room
+add_words-requires-clause-room c = omega (arith, c.in_ok-named.ensures.few)
+
+pub add_fill-requires-clause-fields : goal.add_fill-requires-clause-fields
+add_fill-requires-clause-fields c =
+    ap (λ (r : References). length r.fields) c.with_methods-references.ensures
+    ∙ c.in_ok-named.ensures.names.names.names_are.fields_are.count_is
+
+pub add_fill-requires-clause-words : goal.add_fill-requires-clause-words
+add_fill-requires-clause-words c =
+    let first = c.args.first_method in
+    let methods = c.in_ok-push.ensures.items ∙ ap (λ l. l ++ c.in_ok-named.named.words ∷ []) c.new-methods.ensures.items in
+    subst (λ r. has_method r first ≡ true) (sym c.with_methods-references.ensures)
+    (subst (λ l. has_method (references_of c.in_ok-named.named.names first l) first ≡ true) (sym methods)
+    (has-numbered (references_of c.in_ok-named.named.names first (c.in_ok-named.named.words ∷ [])) first (omega arith) (omega arith)))
+
+pub add_fill-requires-clause-few : goal.add_fill-requires-clause-few
+add_fill-requires-clause-few c =
+    let named = c.in_ok-named.named in
+    let pages = map page_of c.args.pages.now in
+    omega (
+      arith,
+      ap length c.as_slice.ensures.value,
+      zip-length (IsPageSlot named.class.pool) named.texts.items pages c.in_ok-named.ensures.names.names.texts_are,
+      length-map c.args.pages.now page_of,
+      c.requires.pages,
+    )
+
+pub add_fill-requires-clause-texts : goal.add_fill-requires-clause-texts
+add_fill-requires-clause-texts c =
+    let named = c.in_ok-named.named in
+    let middle = c.add_words.new.class in
+    let pages = map page_of c.args.pages.now in
+    subst (All (λ (s : PageSlot). has_text middle.pool s.slot ≡ true)) (sym c.as_slice.ensures.value)
+    (pages-there middle.pool named.texts.items pages
+    (slots-later named.class.pool middle.pool c.in_ok-add_words.ensures.method.pool named.texts.items pages
+    c.in_ok-named.ensures.names.names.texts_are))
+
+pub add_fill-requires-clause-few_methods : goal.add_fill-requires-clause-few_methods
+add_fill-requires-clause-few_methods c =
+    omega (
+      arith,
+      adds-count c.in_ok-named.named.class c.add_words.new.class (words_plan c.with_methods-references.result ∷ []) c.in_ok-add_words.ensures.method,
+      ap length c.in_ok-named.ensures.names.no_methods,
+    )
+
+pub add_fill-requires-clause-room : goal.add_fill-requires-clause-room
+add_fill-requires-clause-room c =
+    omega (arith, add_fill-requires-clause-few c, c.in_ok-named.ensures.few, c.in_ok-add_words.ensures.few)

@@ -1,4 +1,4 @@
-use Rattle.std.proofs.Common.{◌+◌, ◌*◌, [], ◌∷◌, ◌++◌, ◌∙◌}
+use Rattle.std.proofs.Common.{◌+◌, ◌*◌, [], ◌∷◌, ◌++◌, ◌∙◌, arith}
 use Rattle.constant_pool.specs.declared.entry.Entry.TheVariants.{MethodRef}
 use Rattle.class_builder.specs.Mentioned.{OfClass}
 use Rattle.class_builder.proofs.Mentions.{mentions-further, mentions-after}
@@ -7,14 +7,16 @@ use Rattle.program_classes.specs.Mentioned.{names_mentions, helper_mentions}
 use Rattle.program_classes.proofs.ProgramNames.NamedLemmas.{class-later, members-later, names-later, grown-further}
 use Rattle.program_classes.proofs.ClassMaking.GrowingLemmas.{grown-name, grown-methods, grown-fields}
 use Rattle.program_classes.specs.CodeNaming.{span_mentions}
+use Rattle.program_classes.proofs.Rooms.CountLemmas.{class-there}
+use Rattle.program_classes.proofs.LawfulNames.CharacterLemmas.{own-named}
 use Rattle.program_classes.proofs.code_naming.named_class.Goals as goal
 
-pub returns : goal.returns
-returns c =
+pub returns-clause-names : goal.returns-clause-names
+returns-clause-names c =
     let begun = c.in_ok-class.class in
-    let first = c.new-2.new.class in
+    let first = c.new.new.class in
     let second = c.helper_references.new.class in
-    let third = c.class_reference.new.self in
+    let third = c.class_reference.new.class in
     let fourth = c.span_references.new.class in
     let more = 4 * c.args.spans in
     let last = c.in_ok-own_methods.ensures.grown in
@@ -45,3 +47,41 @@ returns c =
       own_are = c.in_ok-own_methods.ensures.there;
       mentions = mentions-further begun.pool fourth.pool _ (names ++ helpers ++ own ++ spans) c.in_ok-class.ensures.mentions spans_named;
     }
+
+pub helper_references-requires-clause-room : goal.helper_references-requires-clause-room
+helper_references-requires-clause-room c = omega (arith, c.in_ok-class.ensures.few, c.in_ok-names.ensures.grown.pool.few)
+
+pub helper_references-requires-clause-owner : goal.helper_references-requires-clause-owner
+helper_references-requires-clause-owner c = class-there c.new.new.class.pool c.in_ok-names.names.main _ c.in_ok-names.ensures.there.main_is
+
+pub class_reference-requires-clause-room : goal.class_reference-requires-clause-room
+class_reference-requires-clause-room c =
+    omega (arith, c.in_ok-class.ensures.few, c.in_ok-names.ensures.grown.pool.few, c.in_ok-helpers.ensures.grown.pool.few)
+
+pub class_reference-requires-clause-name : goal.class_reference-requires-clause-name
+class_reference-requires-clause-name c = own-named c.args.name.now c.requires.name
+
+pub span_references-requires-clause-room : goal.span_references-requires-clause-room
+span_references-requires-clause-room c =
+    omega (
+      arith,
+      c.requires.few,
+      c.in_ok-class.ensures.few,
+      c.in_ok-names.ensures.grown.pool.few,
+      c.in_ok-helpers.ensures.grown.pool.few,
+      c.in_ok-own.ensures.grown.pool.few,
+    )
+
+pub span_references-requires-clause-owner : goal.span_references-requires-clause-owner
+span_references-requires-clause-owner c = class-there c.class_reference.new.class.pool c.in_ok-own.own _ c.in_ok-own.ensures.there
+
+pub returns-clause-few : goal.returns-clause-few
+returns-clause-few c =
+    omega (
+      arith,
+      c.in_ok-class.ensures.few,
+      c.in_ok-names.ensures.grown.pool.few,
+      c.in_ok-helpers.ensures.grown.pool.few,
+      c.in_ok-own.ensures.grown.pool.few,
+      c.in_ok-own_methods.ensures.grown.pool.few,
+    )

@@ -7,6 +7,7 @@ use Rattle.class_builder.specs.declared.member_kind.MemberKind.TheVariants.{Meth
 use Rattle.program_classes.proofs.ProgramNames.NamedLemmas.{no-members, members-more, grown-not, grown-further}
 use Rattle.program_classes.proofs.ProgramNames.MentionLemmas.{mentions-none, mentions-next}
 use Rattle.program_classes.specs.Making.{nothing}
+use Rattle.class_builder.proofs.Made.{has_class-later}
 use Rattle.program_classes.proofs.code_naming.span_references.Goals as goal
 
 pub loop-k-init : goal.loop-k-init
@@ -32,3 +33,10 @@ loop-k-preserved c =
       mentions-next Method span_name (λ k. nothing) c.args.class.now.pool old.pool new.pool c.args.own c.loop-k.k c.loop-k.invariant.1.pool.kept
           c.loop-k.invariant.2 c.in_ok-span_reference.ensures.mentions,
     )
+
+pub span_reference-requires-clause-room : goal.span_reference-requires-clause-room
+span_reference-requires-clause-room c = omega (arith, c.requires.room, c.loop-k.invariant.1.pool.few)
+
+pub span_reference-requires-clause-owner : goal.span_reference-requires-clause-owner
+span_reference-requires-clause-owner c =
+    has_class-later c.args.class.now.pool c.loop-k.class.pool c.args.own c.loop-k.invariant.1.pool.kept c.requires.owner

@@ -1,20 +1,23 @@
-use Rattle.std.proofs.Common.{[], ◌∷◌, ◌++◌, ◌∙◌, codes}
+use Rattle.std.proofs.Common.{[], ◌∷◌, ◌++◌, ◌∙◌, codes, arith}
 use Rattle.constant_pool.specs.declared.entry.Entry.TheVariants.{MethodRef}
 use Rattle.class_builder.specs.Mentioned.{OfClass, method_mention}
 use Rattle.program_classes.specs.Mentioned.{names_mentions}
 use Rattle.program_classes.proofs.ProgramNames.NamedLemmas.{class-later, member-later, names-later}
 use Rattle.program_classes.proofs.ClassMaking.NamingLemmas.{names-slots, names-more, names-still, names-all, named-methods, named-fields, named-name}
 use Rattle.program_classes.specs.DataNaming.{words_descriptor}
+use Rattle.program_classes.proofs.Rooms.CountLemmas.{class-there}
+use Rattle.program_classes.proofs.LawfulNames.CharacterLemmas.{own-named}
+use Rattle.program_classes.proofs.LawfulNames.MemberLemmas.{words-named}
 use Rattle.program_classes.proofs.data_naming.named_class.Goals as goal
 
-pub returns : goal.returns
-returns c =
+pub returns-clause-names : goal.returns-clause-names
+returns-clause-names c =
     let name = c.args.name.now in
     let main = c.args.main.now in
     let begun = c.in_ok-class.class in
-    let first = c.class_reference.new.self in
-    let second = c.new-2.new.class in
-    let third = c.method_reference.new.self in
+    let first = c.class_reference.new.class in
+    let second = c.new.new.class in
+    let third = c.method_reference.new.class in
     let fourth = c.page_slots.new.class in
     let own = OfClass name ∷ [] in
     let others = names_mentions main in
@@ -41,3 +44,46 @@ returns c =
       };
       mentions = names-all begun fourth _ more c.in_ok-class.ensures.mentions all;
     }
+
+pub class_reference-requires-clause-name : goal.class_reference-requires-clause-name
+class_reference-requires-clause-name c = own-named c.args.name.now c.requires.name
+
+pub new-requires-clause-room : goal.new-requires-clause-room
+new-requires-clause-room c = omega (arith, c.in_ok-class.ensures.few, c.in_ok-own.ensures.grown.pool.few)
+
+pub method_reference-requires-clause-room : goal.method_reference-requires-clause-room
+method_reference-requires-clause-room c =
+    omega (arith, c.in_ok-class.ensures.few, c.in_ok-own.ensures.grown.pool.few, c.in_ok-names.ensures.grown.pool.few)
+
+pub method_reference-requires-clause-owner : goal.method_reference-requires-clause-owner
+method_reference-requires-clause-owner c =
+    let own = c.in_ok-own.own in
+    class-there c.new.new.class.pool own c.args.name.now
+    (class-later c.class_reference.new.class.pool c.new.new.class.pool c.in_ok-names.ensures.grown.pool.kept own c.args.name.now
+    c.in_ok-own.ensures.there)
+
+pub method_reference-requires-clause-name : goal.method_reference-requires-clause-name
+method_reference-requires-clause-name c = words-named
+
+pub page_slots-requires-clause-room : goal.page_slots-requires-clause-room
+page_slots-requires-clause-room c =
+    omega (
+      arith,
+      c.requires.pages,
+      c.in_ok-class.ensures.few,
+      c.in_ok-own.ensures.grown.pool.few,
+      c.in_ok-names.ensures.grown.pool.few,
+      c.in_ok-words.ensures.grown.pool.few,
+    )
+
+pub returns-clause-few : goal.returns-clause-few
+returns-clause-few c =
+    omega (
+      arith,
+      c.requires.pages,
+      c.in_ok-class.ensures.few,
+      c.in_ok-own.ensures.grown.pool.few,
+      c.in_ok-names.ensures.grown.pool.few,
+      c.in_ok-words.ensures.grown.pool.few,
+      c.in_ok-texts.ensures.few,
+    )

@@ -1,4 +1,4 @@
-use Rattle.std.proofs.Common.{map, take, ◌+◌, sym, subst}
+use Rattle.std.proofs.Common.{map, take, ◌+◌, sym, subst, arith}
 use Rattle.std.specs.List.{AllZip}
 use Rattle.program_classes.proofs.ClassMaking.MakingLemmas.{adds-nothing}
 use Rattle.program_classes.specs.Pages.{IsPageSlot, page_of}
@@ -16,4 +16,5 @@ loop-k-preserved c =
           (slots-more old.pool new.pool grown.pool c.loop-k.slots.items c.args.pages.now k _ c.in_ok-page_slot.field-0 c.loop-k-test.true
           c.loop-k.invariant.0 there),
       adds-nothing c.args.class.now old new c.loop-k.invariant.1 grown,
+      omega (arith, c.loop-k.invariant.2, c.in_ok-page_slot.ensures.few),
     )

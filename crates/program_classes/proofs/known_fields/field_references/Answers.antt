@@ -8,6 +8,7 @@ use Rattle.program_classes.specs.Mentioned.{field_mentions}
 use Rattle.class_builder.specs.declared.member_kind.MemberKind.TheVariants.{Field}
 use Rattle.program_classes.proofs.ProgramNames.NamedLemmas.{no-members, members-more, grown-not, grown-further}
 use Rattle.program_classes.proofs.ProgramNames.MentionLemmas.{mentions-none, mentions-next}
+use Rattle.class_builder.proofs.Made.{has_class-later}
 use Rattle.program_classes.proofs.known_fields.field_references.Goals as goal
 
 pub loop-field-init : goal.loop-field-init
@@ -36,3 +37,10 @@ pub returns-clause-mentions : goal.returns-clause-mentions
 returns-clause-mentions c =
     let all : c.loop-field.field ≡ 38 = omega arith in
     subst (λ count. MentionsOf c.args.class.now.pool c.loop-field.class.pool c.args.main (λ owner. field_mentions owner count)) all c.loop-field.invariant.2
+
+pub field_reference-requires-clause-room : goal.field_reference-requires-clause-room
+field_reference-requires-clause-room c = omega (arith, c.requires.room, c.loop-field.invariant.1.pool.few)
+
+pub field_reference-requires-clause-owner : goal.field_reference-requires-clause-owner
+field_reference-requires-clause-owner c =
+    has_class-later c.args.class.now.pool c.loop-field.class.pool c.args.main c.loop-field.invariant.1.pool.kept c.requires.owner

@@ -8,6 +8,7 @@ use Rattle.program_classes.specs.Mentioned.{helper_mentions}
 use Rattle.class_builder.specs.declared.member_kind.MemberKind.TheVariants.{Method}
 use Rattle.program_classes.proofs.ProgramNames.NamedLemmas.{no-members, members-more, grown-not, grown-further}
 use Rattle.program_classes.proofs.ProgramNames.MentionLemmas.{mentions-none, mentions-next}
+use Rattle.class_builder.proofs.Made.{has_class-later}
 use Rattle.program_classes.proofs.known_helpers.helper_references.Goals as goal
 
 pub loop-number-init : goal.loop-number-init
@@ -36,3 +37,10 @@ pub returns-clause-mentions : goal.returns-clause-mentions
 returns-clause-mentions c =
     let all : c.loop-number.number ≡ 20 = omega arith in
     subst (λ count. MentionsOf c.args.class.now.pool c.loop-number.class.pool c.args.main (λ owner. helper_mentions owner count)) all c.loop-number.invariant.2
+
+pub helper_reference-requires-clause-room : goal.helper_reference-requires-clause-room
+helper_reference-requires-clause-room c = omega (arith, c.requires.room, c.loop-number.invariant.1.pool.few)
+
+pub helper_reference-requires-clause-owner : goal.helper_reference-requires-clause-owner
+helper_reference-requires-clause-owner c =
+    has_class-later c.args.class.now.pool c.loop-number.class.pool c.args.main c.loop-number.invariant.1.pool.kept c.requires.owner

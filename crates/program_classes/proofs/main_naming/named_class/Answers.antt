@@ -1,4 +1,4 @@
-use Rattle.std.proofs.Common.{◌++◌, sym, ◌∙◌, subst}
+use Rattle.std.proofs.Common.{◌++◌, sym, ◌∙◌, subst, length, arith}
 use Rattle.class_builder.proofs.Mentions.{mentions-still}
 use Rattle.program_classes.proofs.ClassMaking.NamingLemmas.{names-slots, names-more, names-still, names-all, named-methods, named-fields, named-name}
 use Rattle.program_classes.specs.Mentioned.{names_mentions}
@@ -7,16 +7,19 @@ use Rattle.program_classes.specs.Fields.{AreFields}
 use Rattle.program_classes.specs.MainMentioned.{called_mentions}
 use Rattle.program_classes.proofs.MainClasses.FieldLemmas.{fields-later, fields-made, fields-keep-methods, fields-keep-name}
 use Rattle.program_classes.proofs.MainClasses.CalledLemmas.{methods-later}
+use Rattle.program_classes.proofs.Rooms.CountLemmas.{class-there}
+use Rattle.program_classes.proofs.LawfulNames.CharacterLemmas.{main-own, main-named}
+use Rattle.program_classes.proofs.LawfulNames.TextLemmas.{few-shares}
 use Rattle.program_classes.proofs.main_naming.named_class.Goals as goal
 
-pub returns : goal.returns
-returns c =
+pub returns-clause-names : goal.returns-clause-names
+returns-clause-names c =
     let begun = c.in_ok-class.class in
     let first = c.add_fields.new.class in
-    let second = c.new-2.new.class in
+    let second = c.new.new.class in
     let third = c.method_references.new.class in
     let fourth = c.text_slots.new.class in
-    let fields = c.in_ok-add_fields.ensures in
+    let fields = c.in_ok-add_fields.ensures.fields in
     let names = names_mentions c.args.name.now in
     let called = called_mentions c.args.name.now c.args.main.now in
     let from_third = c.in_ok-texts.ensures.grown in
@@ -37,3 +40,56 @@ returns c =
       };
       mentions = names-all first fourth _ more (mentions-still begun.pool first.pool _ c.in_ok-class.ensures.mentions fields.mentions) all;
     }
+
+pub new_class-requires : goal.new_class-requires
+new_class-requires c = main-own c.args.name.now c.requires.name
+
+pub new-requires-clause-room : goal.new-requires-clause-room
+new-requires-clause-room c = omega (arith, c.in_ok-class.ensures.few, c.in_ok-add_fields.ensures.few)
+
+pub new-requires-clause-main : goal.new-requires-clause-main
+new-requires-clause-main c = main-named c.args.name.now c.requires.name
+
+pub method_references-requires-clause-owner : goal.method_references-requires-clause-owner
+method_references-requires-clause-owner c = class-there c.new.new.class.pool c.in_ok-names.names.main _ c.in_ok-names.ensures.there.main_is
+
+pub method_references-requires-clause-room : goal.method_references-requires-clause-room
+method_references-requires-clause-room c =
+    omega (
+      arith,
+      c.requires.main.few_code,
+      c.requires.main.few_data,
+      c.in_ok-class.ensures.few,
+      c.in_ok-add_fields.ensures.few,
+      c.in_ok-names.ensures.grown.pool.few,
+    )
+
+pub text_slots-requires-clause-runs : goal.text_slots-requires-clause-runs
+text_slots-requires-clause-runs c = c.requires.main.runs
+
+pub text_slots-requires-clause-room : goal.text_slots-requires-clause-room
+text_slots-requires-clause-room c =
+    omega (
+      arith,
+      few-shares (length c.args.main.now.runs.now) c.requires.main.few_runs,
+      c.requires.main.few_code,
+      c.requires.main.few_data,
+      c.in_ok-class.ensures.few,
+      c.in_ok-add_fields.ensures.few,
+      c.in_ok-names.ensures.grown.pool.few,
+      c.in_ok-methods.ensures.few,
+    )
+
+pub returns-clause-few : goal.returns-clause-few
+returns-clause-few c =
+    omega (
+      arith,
+      few-shares (length c.args.main.now.runs.now) c.requires.main.few_runs,
+      c.requires.main.few_code,
+      c.requires.main.few_data,
+      c.in_ok-class.ensures.few,
+      c.in_ok-add_fields.ensures.few,
+      c.in_ok-names.ensures.grown.pool.few,
+      c.in_ok-methods.ensures.few,
+      c.in_ok-texts.ensures.few,
+    )

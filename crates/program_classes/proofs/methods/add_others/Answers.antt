@@ -1,6 +1,7 @@
-use Rattle.std.proofs.Common.{◌∷◌, []}
+use Rattle.std.proofs.Common.{◌∷◌, [], arith}
 use Rattle.program_classes.proofs.ClassMaking.MakingLemmas.{adds-more}
 use Rattle.program_classes.specs.Main.{run_plan, choose_plan, pages_plan, missing_plan}
+use Rattle.program_classes.proofs.Rooms.CountLemmas.{adds-count}
 use Rattle.program_classes.proofs.methods.add_others.Goals as goal
 
 pub returns : goal.returns
@@ -15,6 +16,33 @@ returns c =
     let choose = choose_plan main r in
     let pages = pages_plan r in
     let missing = missing_plan r in
-    adds-more c.args.class.now first fourth (run ∷ []) (choose ∷ pages ∷ missing ∷ []) c.in_ok-add_run.ensures
-    (adds-more first second fourth (choose ∷ []) (pages ∷ missing ∷ []) c.in_ok-add_choose.ensures
-    (adds-more second third fourth (pages ∷ []) (missing ∷ []) c.in_ok-add_pages.ensures c.in_ok-add_missing.ensures))
+    adds-more c.args.class.now first fourth (run ∷ []) (choose ∷ pages ∷ missing ∷ []) c.in_ok-add_run.ensures.method
+    (adds-more first second fourth (choose ∷ []) (pages ∷ missing ∷ []) c.in_ok-add_choose.ensures.method
+    (adds-more second third fourth (pages ∷ []) (missing ∷ []) c.in_ok-add_pages.ensures.method c.in_ok-add_missing.ensures))
+
+pub add_choose-requires-clause-few : goal.add_choose-requires-clause-few
+add_choose-requires-clause-few c =
+    let run = run_plan c.args.main.now c.args.texts.now c.args.references.now in
+    omega (arith, c.requires.few, adds-count c.args.class.now c.add_run.new.class (run ∷ []) c.in_ok-add_run.ensures.method)
+
+pub add_pages-requires-clause-few : goal.add_pages-requires-clause-few
+add_pages-requires-clause-few c =
+    let choose = choose_plan c.args.main.now c.args.references.now in
+    omega (
+      arith,
+      c.requires.few,
+      adds-count c.args.class.now c.add_run.new.class (run_plan c.args.main.now c.args.texts.now c.args.references.now ∷ [])
+          c.in_ok-add_run.ensures.method,
+      adds-count c.add_run.new.class c.add_choose.new.class (choose ∷ []) c.in_ok-add_choose.ensures.method,
+    )
+
+pub add_missing-requires-clause-few : goal.add_missing-requires-clause-few
+add_missing-requires-clause-few c =
+    let r = c.args.references.now in
+    omega (
+      arith,
+      c.requires.few,
+      adds-count c.args.class.now c.add_run.new.class (run_plan c.args.main.now c.args.texts.now r ∷ []) c.in_ok-add_run.ensures.method,
+      adds-count c.add_run.new.class c.add_choose.new.class (choose_plan c.args.main.now r ∷ []) c.in_ok-add_choose.ensures.method,
+      adds-count c.add_choose.new.class c.add_pages.new.class (pages_plan r ∷ []) c.in_ok-add_pages.ensures.method,
+    )

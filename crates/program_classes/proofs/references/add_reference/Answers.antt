@@ -1,4 +1,4 @@
-use Rattle.std.proofs.Common.{◌≡◌, ◌+◌, [], ◌∷◌, ◌++◌, length, ap, sym, ◌∙◌, arith, subst}
+use Rattle.std.proofs.Common.{◌≡◌, ◌+◌, [], ◌∷◌, ◌++◌, length, ap, sym, ◌∙◌, arith, subst, true}
 use Rattle.std.proofs.lemmas.List.{length_push, get_or_push}
 use Rattle.class_builder.specs.Named.{IsClassAt, IsMethodAt}
 use Rattle.class_builder.specs.Mentioned.{OfClass, method_mention, mentioned, Mentions}
@@ -7,12 +7,15 @@ use Rattle.program_classes.specs.Making.{nothing}
 use Rattle.program_classes.proofs.ClassMaking.NamingLemmas.{names-slots, names-more}
 use Rattle.program_classes.specs.Called.{BeginsWith, class_name, method_name, slot_of}
 use Rattle.program_classes.proofs.MainClasses.CalledLemmas.{begins-more}
+use Rattle.program_classes.proofs.Rooms.CountLemmas.{class-there}
+use Rattle.program_classes.specs.Room.{can_name_class, can_name_method}
+use Rattle.program_classes.proofs.LawfulNames.OtherLemmas.{other-named, called-named}
 use Rattle.program_classes.proofs.references.add_reference.Goals as goal
 
 pub returns : goal.returns
 returns c =
-    let first = c.class_reference.new.self in
-    let second = c.method_reference.new.self in
+    let first = c.class_reference.new.class in
+    let second = c.method_reference.new.class in
     let filled = c.fill_up.new.slots.items in
     let slot = c.in_ok-slot.slot in
     let pushed = c.in_ok-push.ensures.items in
@@ -48,4 +51,20 @@ returns c =
           names-more start first second (OfClass of ∷ []) (method_mention of called nothing ∷ [])
           (names-slots start first 2 (OfClass of ∷ []) c.in_ok-owner.ensures.grown owner_named)
           (names-slots first second 4 (method_mention of called nothing ∷ []) grown method_named);
+      few = omega (arith, c.in_ok-owner.ensures.grown.pool.few, grown.pool.few);
     }
+
+pub class_reference-requires-clause-name : goal.class_reference-requires-clause-name
+class_reference-requires-clause-name c =
+    subst (λ name. can_name_class name ≡ true) (sym (c.as_str.ensures.value ∙ c.in_ok-other.ensures))
+    (other-named c.args.kind c.args.name.now c.args.i c.requires.name c.requires.within)
+
+pub method_reference-requires-clause-room : goal.method_reference-requires-clause-room
+method_reference-requires-clause-room c = omega (arith, c.requires.room, c.in_ok-owner.ensures.grown.pool.few)
+
+pub method_reference-requires-clause-owner : goal.method_reference-requires-clause-owner
+method_reference-requires-clause-owner c = class-there c.class_reference.new.class.pool c.in_ok-owner.owner _ c.in_ok-owner.ensures.there
+
+pub method_reference-requires-clause-name : goal.method_reference-requires-clause-name
+method_reference-requires-clause-name c =
+    subst (λ name. can_name_method name nothing ≡ true) (sym c.method.ensures) (called-named c.args.kind)

@@ -11,10 +11,10 @@ use Rattle.program_classes.proofs.references.add_references.Goals as goal
 
 pub loop-i-init : goal.loop-i-init
 loop-i-init c =
-    (λ i less. absurd (omega (arith, less)), begins-itself c.args.slots.now.items, refl, c.requires.rise, names-none c.args.class.now)
+    (λ i less. absurd (omega (arith, less)), begins-itself c.args.slots.now.items, refl, c.requires.rise, names-none c.args.class.now, omega arith)
 
-pub add_reference-requires : goal.add_reference-requires
-add_reference-requires c =
+pub add_reference-requires-clause-number : goal.add_reference-requires-clause-number
+add_reference-requires-clause-number c =
     (rise-next (length c.loop-i.slots.items) c.args.numbers.now c.loop-i.i 0 (omega arith) c.loop-i.invariant.3).0
 
 pub loop-i-preserved : goal.loop-i-preserved
@@ -32,6 +32,7 @@ loop-i-preserved c =
       told.count ∙ sym (behind-more (length c.args.slots.now.items) numbers i 0 less),
       subst (λ n. RiseFrom n (drop (i + 1) numbers)) (sym told.count) (rise-next (length front) numbers i 0 less c.loop-i.invariant.3).1,
       names-next c.args.class.now old new c.args.name.now c.args.kind i c.loop-i.invariant.4 told.grown,
+      omega (arith, c.loop-i.invariant.5, told.few),
     )
 
 pub returns-clause-count : goal.returns-clause-count
@@ -42,3 +43,6 @@ pub returns-clause-grown : goal.returns-clause-grown
 returns-clause-grown c =
     subst (λ count. NamesMore c.args.class.now c.loop-i.class (other_mentions c.args.name.now c.args.kind count)) (omega arith)
     c.loop-i.invariant.4
+
+pub add_reference-requires-clause-room : goal.add_reference-requires-clause-room
+add_reference-requires-clause-room c = omega (arith, c.requires.room, c.loop-i.invariant.5)

@@ -1,4 +1,4 @@
-use Rattle.std.proofs.Common.{◌≡◌, length, take, drop}
+use Rattle.std.proofs.Common.{◌≡◌, ◌+◌, ◌*◌, ◌≤◌, length, take, drop}
 use Rattle.program_classes.specs.Making.{NamesMore}
 use Rattle.program_classes.specs.Content.{RiseFrom, behind}
 use Rattle.program_classes.specs.Called.{AreOthers, BeginsWith}
@@ -12,3 +12,4 @@ invariant-loop-i l =
     × (length l.slots.items ≡ behind (length l.initial.slots.items) (take l.i l.numbers))
     × RiseFrom (length l.slots.items) (drop l.i l.numbers)
     × NamesMore l.initial.class l.class (other_mentions l.name l.kind l.i)
+    × (length l.class.pool ≤ length l.initial.class.pool + 6 * l.i)

@@ -5,18 +5,19 @@ use Rattle.program_classes.specs.MainMentioned.{own_mentions, other_mentions}
 use Rattle.program_classes.specs.Content.{RiseFrom, behind}
 use Rattle.program_classes.proofs.MainClasses.RiseLemmas.{rise-front, rise-back}
 use Rattle.program_classes.proofs.MainClasses.CalledLemmas.{begins-further, own-behind, own-later, others-behind, others-later}
+use Rattle.program_classes.proofs.Rooms.CountLemmas.{behind-joined}
 use Rattle.program_classes.proofs.references.method_references.Goals as goal
 
 pub add_references-requires-clause-rise : goal.add_references-requires-clause-rise
 add_references-requires-clause-rise c =
     let main = c.args.main.now in
-    subst (λ low. RiseFrom low main.code.now) (sym c.in_ok-slots.ensures.count) (rise-front 24 main.code.now main.data.now c.requires.rise)
+    subst (λ low. RiseFrom low main.code.now) (sym c.in_ok-slots.ensures.count) (rise-front 24 main.code.now main.data.now c.requires.main.rise)
 
 pub add_references-requires-2-clause-rise : goal.add_references-requires-2-clause-rise
 add_references-requires-2-clause-rise c =
     let main = c.args.main.now in
     let low = c.in_ok-add_references.ensures.count ∙ ap (λ n. behind n main.code.now) c.in_ok-slots.ensures.count in
-    subst (λ n. RiseFrom n main.data.now) (sym low) (rise-back 24 main.code.now main.data.now c.requires.rise)
+    subst (λ n. RiseFrom n main.data.now) (sym low) (rise-back 24 main.code.now main.data.now c.requires.main.rise)
 
 pub returns : goal.returns
 returns c =
@@ -46,4 +47,22 @@ returns c =
       grown = λ of.
           names-more c.args.class.now second third (own_mentions name ++ codes) datas
           (names-more c.args.class.now first second (own_mentions name) codes (c.in_ok-slots.ensures.grown name of) code.grown) last.grown;
+      count = last.count ∙ ap (λ n. behind n main.data.now) (code.count ∙ ap (λ n. behind n main.code.now) c.in_ok-slots.ensures.count)
+          ∙ sym (behind-joined 24 main.code.now main.data.now);
+      few = omega (arith, c.in_ok-slots.ensures.few, code.few, last.few);
     }
+
+pub own_references-requires-clause-room : goal.own_references-requires-clause-room
+own_references-requires-clause-room c = omega (arith, c.requires.room)
+
+pub add_references-requires-clause-few : goal.add_references-requires-clause-few
+add_references-requires-clause-few c = c.requires.main.few_code
+
+pub add_references-requires-clause-room : goal.add_references-requires-clause-room
+add_references-requires-clause-room c = omega (arith, c.requires.room, c.in_ok-slots.ensures.few)
+
+pub add_references-requires-2-clause-few : goal.add_references-requires-2-clause-few
+add_references-requires-2-clause-few c = c.requires.main.few_data
+
+pub add_references-requires-2-clause-room : goal.add_references-requires-2-clause-room
+add_references-requires-2-clause-room c = omega (arith, c.requires.room, c.in_ok-slots.ensures.few, c.in_ok-add_references.ensures.few)

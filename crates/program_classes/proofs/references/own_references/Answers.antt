@@ -1,4 +1,4 @@
-use Rattle.std.proofs.Common.{◌≡◌, ◌∷◌, [], ◌++◌, ap, sym, ◌∙◌, subst, codes}
+use Rattle.std.proofs.Common.{◌≡◌, ◌∷◌, [], ◌++◌, ap, sym, ◌∙◌, subst, codes, arith}
 use Rattle.constant_pool.specs.declared.entry.Entry.TheVariants.{MethodRef}
 use Rattle.class_members.specs.Helpers.{helper_name, helper_descriptor}
 use Rattle.code_assembly.proofs.Pools.{extends-further}
@@ -10,14 +10,16 @@ use Rattle.program_classes.specs.Mentioned.{helper_mentions}
 use Rattle.program_classes.proofs.ProgramNames.NamedLemmas.{member-later, members-later}
 use Rattle.program_classes.specs.Called.{AreOwnMethods, pages_descriptor}
 use Rattle.program_classes.proofs.MainClasses.CalledLemmas.{four-pushed, own-made}
+use Rattle.class_builder.proofs.Made.{has_class-later}
+use Rattle.program_classes.proofs.LawfulNames.MemberLemmas.{choose-named, pages-named, missing-named}
 use Rattle.program_classes.proofs.references.own_references.Goals as goal
 
 pub returns-clause-there : goal.returns-clause-there
 returns-clause-there c =
     let first = c.helper_references.new.class in
-    let second = c.method_reference.new.self in
-    let third = c.method_reference-2.new.self in
-    let fourth = c.method_reference-3.new.self in
+    let second = c.method_reference.new.class in
+    let third = c.method_reference-2.new.class in
+    let fourth = c.method_reference-3.new.class in
     let from_third = c.in_ok-missing.ensures.grown.pool.kept in
     let from_second = extends-further second.pool third.pool fourth.pool c.in_ok-pages.ensures.grown.pool.kept from_third in
     let all = extends-further first.pool second.pool fourth.pool c.in_ok-choose.ensures.grown.pool.kept from_second in
@@ -44,9 +46,9 @@ returns-clause-grown c =
     let own = c.args.own in
     let start = c.args.class.now in
     let first = c.helper_references.new.class in
-    let second = c.method_reference.new.self in
-    let third = c.method_reference-2.new.self in
-    let fourth = c.method_reference-3.new.self in
+    let second = c.method_reference.new.class in
+    let third = c.method_reference-2.new.class in
+    let fourth = c.method_reference-3.new.class in
     let choose = method_mention name (codes "choose") nothing ∷ [] in
     let pages = method_mention name (codes "pages") pages_descriptor ∷ [] in
     let missing = method_mention name (codes "missing") nothing ∷ [] in
@@ -60,3 +62,57 @@ returns-clause-grown c =
     (names-more second third fourth pages missing
     (names-slots second third 4 pages c.in_ok-pages.ensures.grown (c.in_ok-pages.ensures.mentions name of_second))
     (names-slots third fourth 4 missing c.in_ok-missing.ensures.grown (c.in_ok-missing.ensures.mentions name of_third))))
+
+pub method_reference-requires-clause-room : goal.method_reference-requires-clause-room
+method_reference-requires-clause-room c = omega (arith, c.requires.room, c.in_ok-slots.ensures.grown.pool.few)
+
+pub method_reference-requires-clause-owner : goal.method_reference-requires-clause-owner
+method_reference-requires-clause-owner c =
+    has_class-later c.args.class.now.pool c.helper_references.new.class.pool c.args.own c.in_ok-slots.ensures.grown.pool.kept c.requires.owner
+
+pub method_reference-requires-clause-name : goal.method_reference-requires-clause-name
+method_reference-requires-clause-name c = choose-named
+
+pub method_reference-requires-2-clause-room : goal.method_reference-requires-2-clause-room
+method_reference-requires-2-clause-room c =
+    omega (arith, c.requires.room, c.in_ok-slots.ensures.grown.pool.few, c.in_ok-choose.ensures.grown.pool.few)
+
+pub method_reference-requires-2-clause-owner : goal.method_reference-requires-2-clause-owner
+method_reference-requires-2-clause-owner c =
+    let first = c.helper_references.new.class.pool in
+    has_class-later first c.method_reference.new.class.pool c.args.own c.in_ok-choose.ensures.grown.pool.kept
+    (has_class-later c.args.class.now.pool first c.args.own c.in_ok-slots.ensures.grown.pool.kept c.requires.owner)
+
+pub method_reference-requires-2-clause-name : goal.method_reference-requires-2-clause-name
+method_reference-requires-2-clause-name c = pages-named
+
+pub method_reference-requires-3-clause-room : goal.method_reference-requires-3-clause-room
+method_reference-requires-3-clause-room c =
+    omega (
+      arith,
+      c.requires.room,
+      c.in_ok-slots.ensures.grown.pool.few,
+      c.in_ok-choose.ensures.grown.pool.few,
+      c.in_ok-pages.ensures.grown.pool.few,
+    )
+
+pub method_reference-requires-3-clause-owner : goal.method_reference-requires-3-clause-owner
+method_reference-requires-3-clause-owner c =
+    let first = c.helper_references.new.class.pool in
+    let second = c.method_reference.new.class.pool in
+    has_class-later second c.method_reference-2.new.class.pool c.args.own c.in_ok-pages.ensures.grown.pool.kept
+    (has_class-later first second c.args.own c.in_ok-choose.ensures.grown.pool.kept
+    (has_class-later c.args.class.now.pool first c.args.own c.in_ok-slots.ensures.grown.pool.kept c.requires.owner))
+
+pub method_reference-requires-3-clause-name : goal.method_reference-requires-3-clause-name
+method_reference-requires-3-clause-name c = missing-named
+
+pub returns-clause-few : goal.returns-clause-few
+returns-clause-few c =
+    omega (
+      arith,
+      c.in_ok-slots.ensures.grown.pool.few,
+      c.in_ok-choose.ensures.grown.pool.few,
+      c.in_ok-pages.ensures.grown.pool.few,
+      c.in_ok-missing.ensures.grown.pool.few,
+    )

@@ -1,4 +1,4 @@
-use Rattle.std.proofs.Common.{◌+◌, map, sym, subst}
+use Rattle.std.proofs.Common.{◌+◌, map, sym, subst, arith}
 use Rattle.std.specs.List.{AllZip, range_with_len}
 use Rattle.class_builder.specs.Named.{IsTextAt}
 use Rattle.program_classes.proofs.ClassMaking.MakingLemmas.{adds-nothing}
@@ -17,4 +17,5 @@ loop-k-preserved c =
           (texts-more old.pool new.pool grown.pool c.loop-k.slots.items (share_text runs) k c.in_ok-text_slot.field-0 c.loop-k.invariant.0
           c.in_ok-text_slot.ensures.there),
       adds-nothing c.args.class.now old new c.loop-k.invariant.1 grown,
+      omega (arith, c.loop-k.invariant.2, c.in_ok-text_slot.ensures.few),
     )

@@ -1,4 +1,4 @@
-use Rattle.std.proofs.Common.{[], map}
+use Rattle.std.proofs.Common.{◌+◌, ◌≤◌, [], length, map}
 use Rattle.std.specs.List.{AllZip, range_with_len}
 use Rattle.class_builder.specs.Named.{IsTextAt}
 use Rattle.program_classes.specs.Making.{AddsMethods}
@@ -7,4 +7,6 @@ use Rattle.program_classes.proofs.texts.text_slots.Given as goal
 
 abbrev pub invariant-loop-k : goal.invariant-loop-k
 invariant-loop-k l =
-    AllZip (IsTextAt l.class.pool) l.slots.items (map (share_text l.runs) (range_with_len 0 l.k)) × AddsMethods l.initial.class l.class []
+    AllZip (IsTextAt l.class.pool) l.slots.items (map (share_text l.runs) (range_with_len 0 l.k))
+    × AddsMethods l.initial.class l.class []
+    × (length l.class.pool ≤ length l.initial.class.pool + l.k)

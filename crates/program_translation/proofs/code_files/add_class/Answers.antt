@@ -1,10 +1,11 @@
-use Rattle.std.proofs.Common.{◌≡◌, ◌+◌, ◌++◌, ◌∷◌, [], length, map, ap, sym, ◌∙◌, arith}
+use Rattle.std.proofs.Common.{◌≡◌, ◌+◌, ◌++◌, ◌∷◌, [], length, map, ap, sym, ◌∙◌, arith, length-append}
+use Rattle.std.proofs.lemmas.List.{length_push}
 use Rattle.program_translation.specs.Classes.{run_of, starts_at}
 use Rattle.program_translation.specs.Blocks.{block_of}
 use Rattle.program_translation.proofs.code_files.add_class.Goals as goal
 
-pub returns : goal.returns
-returns c =
+pub returns-clause-added : goal.returns-clause-added
+returns-clause-added c =
     let old = c.args.code.now in
     let made = c.in_ok-file.ensures.value in
     let class = made.class in
@@ -25,4 +26,18 @@ returns c =
       spans_are = added.spans ∙ ap (λ l. old.spans.items ++ l) made.spans_are;
       blocks_are = added.blocks ∙ ap (λ l. old.blocks.items ++ map (block_of (length old.spans.items)) l) made.pieces_are;
       methods_are = added.methods ∙ ap (λ run. run + 1) made.run_is;
+    }
+
+pub returns-clause-few : goal.returns-clause-few
+returns-clause-few c =
+    let old = c.args.code.now in
+    let file = c.in_ok-file.file in
+    let made = c.in_ok-file.ensures in
+    let added = c.in_ok-add_file.ensures in
+    let few = c.requires.few in
+    let files = ap length added.files in
+    let more = length_push old.files.items file.file in
+    record {
+      spans = omega (arith, files, more, ap length added.spans, length-append old.spans.items file.spans.items, made.spans, few.spans);
+      methods = omega (arith, files, more, added.methods, made.run, few.methods);
     }

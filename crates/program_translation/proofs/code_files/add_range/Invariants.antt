@@ -1,9 +1,13 @@
-use Rattle.std.proofs.Common.{List, ◌++◌}
+use Rattle.std.proofs.Common.{◌≡◌, ◌+◌, List, ◌++◌, length}
 use Rattle.elf_image.specs.Start.{image_of}
 use Rattle.program_translation.specs.Places.{Place, first_places}
-use Rattle.program_translation.specs.Adding.{HasPlaces}
+use Rattle.program_translation.specs.Adding.{HasFew, HasPlaces}
 use Rattle.program_translation.proofs.code_files.add_range.Given as goal
 
 abbrev pub invariant-loop-k : goal.invariant-loop-k
-invariant-loop-k l = (places : List Place) → HasPlaces (image_of l.image).code l.name l.method_bytes places l.fn.code
-    → HasPlaces (image_of l.image).code l.name l.method_bytes (places ++ first_places l.range l.k) l.code
+invariant-loop-k l = record {
+  places : (places : List Place) → HasPlaces (image_of l.image).code l.name l.method_bytes places l.fn.code
+      → HasPlaces (image_of l.image).code l.name l.method_bytes (places ++ first_places l.range l.k) l.code;
+  few : HasFew l.code;
+  count : length l.code.files.items ≡ length l.fn.code.files.items + l.k;
+}

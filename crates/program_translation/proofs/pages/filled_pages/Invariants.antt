@@ -1,7 +1,11 @@
-use Rattle.std.proofs.Common.{◌≡◌, map}
+use Rattle.std.proofs.Common.{◌≡◌, ◌≤◌, All, length, map}
+use Rattle.program_classes.specs.declared.page_data.PageData.{PageData}
 use Rattle.program_classes.specs.Pages.{page_of}
 use Rattle.program_translation.specs.Pages.{filled_below}
 use Rattle.program_translation.proofs.pages.filled_pages.Given as goal
 
 abbrev pub invariant-loop-page : goal.invariant-loop-page
-invariant-loop-page l = map page_of l.pages.items ≡ filled_below l.image l.page
+invariant-loop-page l = record {
+  pages : map page_of l.pages.items ≡ filled_below l.image l.page;
+  words : All (λ (p : PageData). length p.words.now ≤ 1024) l.pages.items;
+}

@@ -1,47 +1,71 @@
-use Rattle.std.proofs.Common.{◌≡◌, ◌≤◌, List, [], ◌∷◌, ◌++◌, length, map, sym, ap, ◌∙◌, arith, subst}
+use Rattle.std.proofs.Common.{◌≡◌, ◌<◌, ◌++◌, length, map, sym, ap, ◌∙◌, arith, subst, All}
+use Rattle.std.proofs.lemmas.List.{length-map}
+use Rattle.std.proofs.lemmas.List.FromFn.{length-map-range_with_len}
 use Rattle.std.proofs.lemmas.Slice.Zip.{AllZip-long}
 use Rattle.class_members.specs.Numbers.{main_methods}
-use Rattle.program_classes.specs.Content.{RiseFrom}
-use Rattle.program_translation.specs.Classes.{Placed, IsCodeFile, run_of, starts_of}
-use Rattle.program_translation.specs.DataFiles.{AreDataFiles, class_count, filled_pages, fills_of}
+use Rattle.trampoline.specs.declared.start.Start.{Start}
+use Rattle.program_classes.specs.Content.{RiseFrom, behind}
+use Rattle.program_translation.specs.Classes.{IsCodeFile, run_of}
+use Rattle.program_translation.specs.DataFiles.{AreDataFiles, class_count, filled_pages, fill_of, fills_of}
 use Rattle.program_translation.specs.Bounds.{need}
 use Rattle.program_translation.specs.MainFile.{IsMainFile}
 use Rattle.program_translation.specs.Translation.{code_methods, fills_behind}
+use Rattle.program_translation.proofs.Counts.PageLemmas.{data-few}
+use Rattle.program_translation.proofs.Counts.StartLemmas.{starts-some, starts-few, starts-known}
 use Rattle.program_translation.proofs.ProgramTranslation.RiseLemmas.{rise-calls}
 use Rattle.program_translation.proofs.translation.translate.Goals as goal
 
-some-code : (code : List Placed) → 1 ≤ length (starts_of code) → 1 ≤ length code
-some-code [] some = absurd (omega (arith, some))
-some-code (c ∷ code) some = omega arith
-
 pub main_file-requires : goal.main_file-requires
 main_file-requires c =
+    let name = c.args.name.now in
     let coded = c.in_ok-code.ensures in
-    let classes = coded.classes in
+    let told = coded.code.told in
+    let classes = coded.code.classes in
+    let follow = coded.code.classes_are.placed.follow in
     let count = class_count (filled_pages c.args.image.now) in
-    let rise = rise-calls 0 classes count coded.classes_are.placed.follow in
-    subst (λ runs. RiseFrom main_methods (runs ++ c.in_ok-stored.stored.fills.items)) (sym coded.told.runs_are)
-    (subst (λ fills. RiseFrom main_methods (map run_of classes ++ fills))
-    (sym (c.in_ok-stored.ensures.fills_are ∙ ap (λ methods. fills_of methods count) coded.told.methods_are)) rise)
+    let long = AllZip-long (IsCodeFile name) classes c.in_ok-code.code.files.items told.files_are in
+    let rise = rise-calls 0 classes count follow in
+    record {
+      name = c.requires.name;
+      some = omega (arith, ap length told.starts_are, starts-some classes (omega (arith, long, coded.some)));
+      few = omega (arith, ap length told.starts_are, starts-few classes, long, coded.few);
+      few_code = omega (arith, ap length told.runs_are, length-map classes run_of, long, coded.few);
+      few_data =
+          omega (
+            arith,
+            ap length c.in_ok-stored.ensures.fills_are,
+            length-map-range_with_len (fill_of c.in_ok-code.code.methods) 0 count,
+            data-few c.args.image.now,
+          );
+      known =
+          subst (λ runs. All (λ (s : Start). s.method < behind main_methods runs) c.in_ok-code.code.starts.items) (sym told.runs_are)
+          (subst (λ starts. All (λ (s : Start). s.method < behind main_methods (map run_of classes)) starts) (sym told.starts_are)
+          (starts-known 0 main_methods classes (omega arith) follow));
+      rise =
+          subst (λ runs. RiseFrom main_methods (runs ++ c.in_ok-stored.stored.fills.items)) (sym told.runs_are)
+          (subst (λ fills. RiseFrom main_methods (map run_of classes ++ fills))
+          (sym (c.in_ok-stored.ensures.fills_are ∙ ap (λ methods. fills_of methods count) told.methods_are)) rise);
+    }
 
 pub returns : goal.returns
 returns c =
     let source = c.args.image.now in
     let name = c.args.name.now in
-    let coded = c.in_ok-code.ensures in
+    let coded = c.in_ok-code.ensures.code in
     let code = coded.classes in
     let pages = filled_pages source in
     let count = class_count pages in
     let stored = c.in_ok-stored.ensures in
     let files = c.in_ok-code.code.files.items in
+    let long = AllZip-long (IsCodeFile name) code files coded.told.files_are in
     let counted : c.len.result ≡ length files = omega (arith, c.len.ensures) in
-    let many : c.len.result ≡ length code = counted ∙ AllZip-long (IsCodeFile name) code files coded.told.files_are in
+    let many : c.len.result ≡ length code = counted ∙ long in
     let methods : c.in_ok-code.code.methods ≡ code_methods code = coded.told.methods_are in
     let data_files = c.in_ok-stored.stored.files.items in
     let fills : c.in_ok-stored.stored.fills.items ≡ fills_behind source code = stored.fills_are ∙ ap (λ m. fills_of m count) methods in
     record {
       code = code;
-      some = some-code code (subst (λ starts. 1 ≤ length starts) coded.told.starts_are c.in_ok-main.ensures.some);
+      some = omega (arith, long, c.in_ok-code.ensures.some);
       code_is = coded.classes_are;
       main_file = c.in_ok-main.main;
       code_files = files;
@@ -51,7 +75,7 @@ returns c =
           subst (λ starts. IsMainFile source name starts (map run_of code) (fills_behind source code) c.in_ok-main.main) coded.told.starts_are
           (subst (λ runs. IsMainFile source name c.in_ok-code.code.starts.items runs (fills_behind source code) c.in_ok-main.main) coded.told.runs_are
           (subst (λ fills. IsMainFile source name c.in_ok-code.code.starts.items c.in_ok-code.code.runs.items fills c.in_ok-main.main) fills
-          c.in_ok-main.ensures.file));
+          c.in_ok-main.ensures));
       code_are = coded.told.files_are;
       data_are =
           subst (λ classes. AreDataFiles name classes (code_methods code) pages count data_files) many

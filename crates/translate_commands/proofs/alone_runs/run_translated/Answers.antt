@@ -1,16 +1,33 @@
-use Rattle.translate_commands.proofs.TranslationLemmas.{hold_accepted, translation_ends}
-use Rattle.translate_commands.specs.Make.{made_name}
+use Rattle.std.proofs.Common.{◌≡◌, ◌∙◌, Some, ap, sym}
+use Rattle.std.proofs.lemmas.Result.{IfOk-weaker}
+use Rattle.command_deeds.specs.declared.done.Done.{Done}
+use Rattle.elf_image.specs.Start.{image_of}
+use Rattle.jvm_machine.specs.Machine.{state_of}
+use Rattle.jvm_link.specs.Linking.{program_of}
+use Rattle.jvm_program.specs.Step.{loaded, loaded_turn}
+use Rattle.program_translation.specs.Bounds.{allow, need}
+use Rattle.machine_launch.specs.Runs.{answer_of, run_alone}
+use Rattle.translate_commands.proofs.TranslationLemmas.{spell_classes}
+use Rattle.translate_commands.specs.Make.{IsEndOfTranslation, made_name}
 use Rattle.translate_commands.proofs.alone_runs.run_translated.Goals as goal
 
-pub run_files-requires : goal.run_files-requires
-run_files-requires c = record {
-  accepted =
-      hold_accepted c.args.image.now made_name c.args.method_bytes c.in-Ok.built c.as_slice.result.now c.in-Ok.ensures
-      c.as_slice.ensures.value;
-  steps = c.requires.steps;
-}
-
-pub returns-in_ok-end-in-Ok : goal.returns-in_ok-end-in-Ok
-returns-in_ok-end-in-Ok c =
-    translation_ends c.args.steps c.args.moment c.args.image.now c.args.method_bytes c.in-Ok.built c.as_slice.result.now
-    c.in_ok-end-in-Ok.end c.in-Ok.ensures c.as_slice.ensures.value c.in_ok-end-in-Ok.ensures
+pub returns : goal.returns
+returns c =
+    let image = c.args.image.now in
+    let mapped = (image_of image).mapped in
+    let t = c.in_ok-built.ensures in
+    let classes = t.linked.classes in
+    let state = c.in_ok-jvm.ensures.state classes (spell_classes image made_name c.args.method_bytes c.in_ok-built.built c.as_slice.result.now t
+    c.as_slice.ensures.value) in
+    IfOk-weaker c.play_alone.result
+    (λ (end : Done). answer_of (run_alone c.allow-bound.result loaded_turn (state_of c.in_ok-jvm.jvm) made_name c.args.moment).outcome ≡ Some end)
+    (IsEndOfTranslation c.args.steps c.args.moment image c.args.method_bytes)
+    (λ end h. record {
+      built = c.in_ok-built.built;
+      translated = t;
+      is =
+          sym (ap (λ s. answer_of (run_alone c.allow-bound.result loaded_turn s made_name c.args.moment).outcome) state
+          ∙ ap (λ bound. answer_of (run_alone bound loaded_turn (loaded (program_of classes) (need mapped)) made_name c.args.moment).outcome)
+          (c.allow-bound.ensures ∙ ap (λ m. allow m c.args.steps) c.mapped.ensures.sum))
+          ∙ h;
+    }) c.play_alone.ensures

@@ -1,15 +1,12 @@
-use Rattle.std.proofs.Common.{subst}
-use Rattle.class_set.specs.declared.loaded.Loaded.TheVariants.{Classes}
-use Rattle.class_commands.specs.Classes.{IsAccepted}
-use Rattle.translate_commands.proofs.FileLemmas.{accepted_are, not_refused}
+use Rattle.translate_commands.proofs.FileLemmas.{not_refused}
 use Rattle.translate_commands.proofs.classes.verified_classes.Goals as goal
-
-pub returns-in-Ok-Verified : goal.returns-in-Ok-Verified
-returns-in-Ok-Verified c =
-    accepted_are c.args.classes.items c.in-Ok-Verified.verified.linked.classes
-    (subst (IsAccepted 0 (Classes c.args.classes.items)) c.in-Ok-Verified.field-0-is (c.in-Ok-Verified.ensures.accepted 0))
 
 pub unreachable-requires : goal.unreachable-requires
 unreachable-requires c =
-    not_refused c.args.classes.items c.in-Ok-Refused.field-0-0 c.requires.accepted
-    (subst (IsAccepted 0 (Classes c.args.classes.items)) c.in-Ok-Refused.field-0-is (c.in-Ok-Refused.ensures.accepted 0))
+    let m = rw c.in-Err-Refused.field-0-is at c.in-Err-Refused.ensures.makes in
+    not_refused c.args.classes.items _ c.requires.accepted m.1
+
+pub unreachable-requires-in-Err-NoFile : goal.unreachable-requires-in-Err-NoFile
+unreachable-requires-in-Err-NoFile c =
+    let m = rw c.in-Err-NoFile.field-0-is at c.in-Err-NoFile.ensures.makes in
+    not_refused c.args.classes.items _ c.requires.accepted m.1

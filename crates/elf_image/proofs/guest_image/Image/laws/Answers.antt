@@ -17,6 +17,7 @@ use Rattle.elf_image.proofs.TableLemmas.{not_filled}
 use Rattle.elf_image.proofs.ImageLaws.{pages_end, code_end}
 use Rattle.elf_image.proofs.RunsLemmas.{runs_one}
 use Rattle.elf_image.proofs.WholeLemmas.{passes, few_words, few_pages, whole_ranges}
+use Rattle.elf_image.proofs.AreaLemmas.{some_runs}
 use Rattle.elf_image.proofs.guest_image.Image.laws.Goals as goal
 
 pub returns-clause-lanes : goal.returns-clause-lanes
@@ -72,6 +73,11 @@ returns-clause-runs c =
     subst P c.self.view_is (λ code runs.
     subst (λ (rs : List Range). length rs ≤ 64) (runs_one (area i.table.file.bytes) i.code.items code c.self.invariant.runs runs)
     (few_words i.table.file.bytes i.code.items i.layout.heap i.layout.stack c.self.invariant.passed).1)
+
+pub returns-clause-some : goal.returns-clause-some
+returns-clause-some c =
+    let P : Source → Type 0 = λ v. (code : List Range) → IsRunsOf (area v.file) code → 1 ≤ length code in
+    subst P c.self.view_is (λ code runs. some_runs c.self.inside.table.file.bytes code c.self.invariant.accepted runs)
 
 pub returns-clause-whole : goal.returns-clause-whole
 returns-clause-whole c =

@@ -1,4 +1,4 @@
-use Rattle.std.proofs.Common.{◌≡◌, ℕ, ◌<◌, ◌^◌, ap, subst, arith, get_or}
+use Rattle.std.proofs.Common.{ℕ, ◌<◌, ◌^◌, ap, subst, arith, get_or}
 use Rattle.elf_image.proofs.TableLemmas.{table_word-lt}
 use Rattle.elf_image.proofs.page_table.PageTable.words_fit.Goals as goal
 

@@ -1,18 +1,20 @@
+use Rattle.std.proofs.Common.{arith}
 use Rattle.constant_pool.specs.declared.entry.Entry.TheVariants.{FieldRef}
 use Rattle.code_assembly.proofs.Pools.{extends-further}
 use Rattle.class_members.specs.Fields.{field_name, field_descriptor}
 use Rattle.program_classes.proofs.ProgramNames.NamedLemmas.{class-later, members-later, host-later, strings-later, grown-further}
 use Rattle.program_classes.specs.Mentioned.{field_mentions, host_mentions, string_mentions}
 use Rattle.program_classes.proofs.ProgramNames.MentionLemmas.{mentions-all}
+use Rattle.program_classes.proofs.Rooms.CountLemmas.{class-there}
 use Rattle.program_classes.proofs.names.Names.new.Goals as goal
 
 pub returns-clause-there : goal.returns-clause-there
 returns-clause-there c =
-    let first = c.class_reference.new.self in
+    let first = c.class_reference.new.class in
     let second = c.field_references.new.class in
     let third = c.host_slots.new.class in
     let fourth = c.string_slots.new.class in
-    let fifth = c.class_reference-2.new.self in
+    let fifth = c.class_reference-2.new.class in
     let from_fourth = c.in_ok-ints.ensures.grown.pool.kept in
     let from_third = extends-further third.pool fourth.pool fifth.pool c.in_ok-strings.ensures.grown.pool.kept from_fourth in
     let from_second = extends-further second.pool third.pool fifth.pool c.in_ok-host.ensures.grown.pool.kept from_third in
@@ -28,11 +30,11 @@ returns-clause-there c =
 pub returns-clause-grown : goal.returns-clause-grown
 returns-clause-grown c =
     let start = c.args.class.now in
-    let first = c.class_reference.new.self in
+    let first = c.class_reference.new.class in
     let second = c.field_references.new.class in
     let third = c.host_slots.new.class in
     let fourth = c.string_slots.new.class in
-    let fifth = c.class_reference-2.new.self in
+    let fifth = c.class_reference-2.new.class in
     grown-further start fourth fifth 174 2
     (grown-further start third fourth 164 10
     (grown-further start second third 154 10
@@ -43,7 +45,38 @@ returns-clause-grown c =
 
 pub returns-clause-mentions : goal.returns-clause-mentions
 returns-clause-mentions c =
-    mentions-all c.args.class.now.pool c.class_reference.new.self.pool c.field_references.new.class.pool c.host_slots.new.class.pool
-    c.string_slots.new.class.pool c.class_reference-2.new.self.pool c.in_ok-main.main _ _ (λ owner. field_mentions owner 38) host_mentions
+    mentions-all c.args.class.now.pool c.class_reference.new.class.pool c.field_references.new.class.pool c.host_slots.new.class.pool
+    c.string_slots.new.class.pool c.class_reference-2.new.class.pool c.in_ok-main.main _ _ (λ owner. field_mentions owner 38) host_mentions
     string_mentions _ c.in_ok-main.ensures.mentions c.in_ok-main.ensures.there c.in_ok-fields.ensures.mentions
     c.in_ok-host.ensures.mentions c.in_ok-strings.ensures.mentions c.in_ok-ints.ensures.mentions
+
+pub field_references-requires-clause-room : goal.field_references-requires-clause-room
+field_references-requires-clause-room c = omega (arith, c.requires.room, c.in_ok-main.ensures.grown.pool.few)
+
+pub field_references-requires-clause-owner : goal.field_references-requires-clause-owner
+field_references-requires-clause-owner c = class-there c.class_reference.new.class.pool c.in_ok-main.main _ c.in_ok-main.ensures.there
+
+pub host_slots-requires : goal.host_slots-requires
+host_slots-requires c =
+    omega (arith, c.requires.room, c.in_ok-main.ensures.grown.pool.few, c.in_ok-fields.ensures.grown.pool.few)
+
+pub string_slots-requires : goal.string_slots-requires
+string_slots-requires c =
+    omega (
+      arith,
+      c.requires.room,
+      c.in_ok-main.ensures.grown.pool.few,
+      c.in_ok-fields.ensures.grown.pool.few,
+      c.in_ok-host.ensures.grown.pool.few,
+    )
+
+pub class_reference-requires-2-clause-room : goal.class_reference-requires-2-clause-room
+class_reference-requires-2-clause-room c =
+    omega (
+      arith,
+      c.requires.room,
+      c.in_ok-main.ensures.grown.pool.few,
+      c.in_ok-fields.ensures.grown.pool.few,
+      c.in_ok-host.ensures.grown.pool.few,
+      c.in_ok-strings.ensures.grown.pool.few,
+    )

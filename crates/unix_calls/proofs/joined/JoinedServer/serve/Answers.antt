@@ -1,15 +1,33 @@
 use Rattle.nv_events.specs.Question.{asked}
-use Rattle.unix_calls.specs.Serving.{parts}
-use Rattle.unix_calls.proofs.JoinedLemmas.{joined-serves, joined-some}
+use Rattle.std.proofs.Common.{None, ◌≡◌, subst, sym}
+use Rattle.std.specs.Prelude.{OnOk}
+use Rattle.nv_events.specs.Serving.{Causes}
+use Rattle.unix_calls.specs.Failing.{failed_calls}
+use Rattle.unix_calls.specs.Serving.{counted, parts}
+use Rattle.unix_calls.proofs.JoinedLemmas.{joined-causes, joined-none_falls, joined-serves, joined-some, joined-usable}
 use Rattle.unix_calls.proofs.joined.JoinedServer.serve.Goals as goal
 
 pub returns-clause-served : goal.returns-clause-served
 returns-clause-served g c =
     let j = c.args.self.now in
-    let s = c.serve-answer.new in
-    joined-serves j (λ p. parts p.unix.now (g.S.Source.rest p.source.now) (g.O.Sink.taken p.out.now) (g.E.Sink.taken p.err.now)) g.M.View.put_at (asked c.args.call.now (g.M.View.memory (g.M.View.content c.args.view.now)))
-    (record j { unix = record j.unix { now = c.serve-answer.new.self }; source = record j.source { now = c.serve-answer.new.source }; out = record j.out { now = c.serve-answer.new.out }; err = record j.err { now = c.serve-answer.new.err } })
-    (g.M.View.content c.args.view.now) (g.M.View.content c.serve-answer.new.view) c.serve-answer.result c.as_some.result c.as_some.ensures c.serve-answer.ensures.served
+    joined-serves (λ p. parts p.unix.now (g.S.Source.rest p.source.now) (g.O.Sink.taken p.out.now) (g.E.Sink.taken p.err.now))
+    (λ p. counted (g.S.Source.faults p.source.now) (g.O.Sink.faults p.out.now) (g.E.Sink.faults p.err.now)) (λ p. p.failed) g.M.View.put_at j
+    (record j { unix = record j.unix { now = c.serve-answer.new.self }; source = record j.source { now = c.serve-answer.new.source }; out = record j.out { now = c.serve-answer.new.out }; err = record j.err { now = c.serve-answer.new.err }; failed = c.fault_of-self.result })
+    (asked c.args.call.now (g.M.View.memory (g.M.View.content c.args.view.now)))
+    (g.M.View.content c.args.view.now) (g.M.View.content c.serve-answer.new.view) c.serve-answer.result c.as_some.result c.as_some.ensures c.fault_of-self.ensures
+    c.serve-answer.ensures.served c.serve-answer.ensures.fails_once c.serve-answer.ensures.none_falls
+
+pub returns-clause-causes : goal.returns-clause-causes
+returns-clause-causes g c =
+    subst (λ f. Causes (failed_calls c.args.self.now.failed) (failed_calls f) c.as_some.result) (sym c.fault_of-self.ensures)
+    (joined-causes c.args.self.now.failed c.serve-answer.result c.as_some.result c.requires.usable c.as_some.ensures)
+
+pub returns-clause-none_falls : goal.returns-clause-none_falls
+returns-clause-none_falls g c = joined-none_falls c.args.self.now.failed c.fault_of-self.result c.requires.usable
 
 pub returns-clause-ready : goal.returns-clause-ready
 returns-clause-ready g c ready = joined-some c.serve-answer.result c.as_some.result c.as_some.ensures
+
+pub returns-clause-usable_stays : goal.returns-clause-usable_stays
+returns-clause-usable_stays g c =
+    subst (λ f. OnOk c.as_some.result (f ≡ None)) (sym c.fault_of-self.ensures) (joined-usable c.serve-answer.result c.as_some.result c.as_some.ensures)

@@ -9,7 +9,7 @@ use Rattle.unix_calls.specs.Reading.{inputs}
 use Rattle.unix_calls.specs.contracts.unix.Unix.{the_view}
 use Rattle.unix_calls.proofs.CallLemmas.{is-read-of, room-of-4}
 use Rattle.unix_calls.proofs.ReadGiven.{reads-by-room}
-use Rattle.unix_calls.proofs.HeldLemmas.{read-given, read-causes}
+use Rattle.unix_calls.proofs.HeldLemmas.{read-given, read-fails}
 use Rattle.unix_calls.proofs.unix.Unix.serve_read.Goals as goal
 
 pub returns-clause-served : goal.returns-clause-served
@@ -26,5 +26,5 @@ returns-clause-served g c output error_output =
     read-given put_at (λ s. unix s q) q.room v c.args.self.now c.self.view_is rest output error_output old new after ReadFault c.read-answer.result c.as_fault.result c.as_fault.ensures
     (reads-by-room put_at (λ s. unix s q) (read_of m call) q.room (room_at m (Some (call.a1, call.a2))) old new (inputs v.files v.opened v.ahead rest) after c.read-answer.result (λ s. is-read-of m call s c.requires) (room-of-4 m call c.requires) c.read-answer.ensures.served)
 
-pub returns-clause-causes : goal.returns-clause-causes
-returns-clause-causes g c output error = read-causes (g.S.Source.faults c.args.source.now) (g.S.Source.faults c.read-answer.new.source) output error c.read-answer.result c.as_fault.result c.as_fault.ensures c.read-answer.ensures.count
+pub returns-clause-fails_once : goal.returns-clause-fails_once
+returns-clause-fails_once g c output error = read-fails (g.S.Source.faults c.args.source.now) (g.S.Source.faults c.read-answer.new.source) output error c.read-answer.result c.as_fault.result c.as_fault.ensures c.read-answer.ensures.count

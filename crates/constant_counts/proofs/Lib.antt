@@ -1,0 +1,11 @@
+pub mod Counting
+pub mod StepSlots
+pub mod InstructionSlots
+pub mod UnitSlots
+pub mod AlikeCode
+pub mod Pushing
+pub mod Ways
+pub mod SpanSlots
+pub mod TreeSlots
+pub mod LoadingSlots
+pub mod HelperSlots

@@ -1,0 +1,4 @@
+//! How many slots of a constant pool emitted code takes.
+#![tactic(auto)]
+
+pub mod laws;

@@ -1,0 +1,4 @@
+//! What holds of a made program.
+#![tactic(auto)]
+
+pub mod laws;

@@ -1,0 +1,4 @@
+pub mod MemberLemmas
+pub mod CharacterLemmas
+pub mod TextLemmas
+pub mod OtherLemmas

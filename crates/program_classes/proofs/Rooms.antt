@@ -1,0 +1,4 @@
+pub mod RefusalLemmas
+pub mod CodeLemmas
+pub mod CountLemmas
+pub mod SpanLemmas

@@ -1,0 +1,106 @@
+-- Code is that of a method where it can be made into one, and the texts that it pushes are there.
+use Rattle.std.proofs.Common.{◌≡◌, ℕ, Bool, true, List, [], ◌∷◌, ◌++◌, map, All, refl, ap, sym, ◌∙◌, subst, arith}
+use Rattle.std.specs.Prelude.{◌&&◌, ◌==◌}
+use Rattle.std.proofs.lemmas.Bool.{and_parts, and_from}
+use Rattle.std.proofs.lemmas.List.Elements.{All-head, All-tail}
+use Rattle.std.proofs.lemmas.List.Folds.{list_all-append}
+use Rattle.constant_pool.specs.declared.entry.Entry.{Entry}
+use Rattle.jvm_program.specs.declared.constant.Constant.TheVariants as constants
+use Rattle.jvm_program.specs.declared.instruction.Instruction.TheVariants as instructions
+use Rattle.code_steps.specs.declared.step.Step.{Step}
+use Rattle.code_steps.specs.declared.step.Step.TheVariants.{Does}
+use Rattle.code_assembly.specs.declared.references.References.{References}
+use Rattle.code_assembly.specs.Assembling.{can_be_assembled, is_method}
+use Rattle.loading_code.specs.declared.page_slot.PageSlot.{PageSlot}
+use Rattle.loading_code.specs.declared.beginning.Beginning.{Beginning}
+use Rattle.loading_code.specs.Parts.{call, returns}
+use Rattle.loading_code.specs.Filling.{page_code, filled_code, fill_code}
+use Rattle.loading_code.specs.Starting.{page_text_code, page_texts_code, table_code, memory_code, begun_code, run_code}
+use Rattle.guest_match.specs.Match.{readable_field, writable_field}
+use Rattle.class_builder.specs.Lawful.{has_text}
+use Rattle.class_builder.specs.Code.{has_its_text, has_texts, is_code}
+use Rattle.whole_methods.specs.Naming.{step_names_well, all_well}
+use Rattle.whole_methods.specs.Whole.{CanBeMethod}
+
+pub whole-code : (r : References) (pool : List Entry) (code : List Step) → CanBeMethod r code → has_texts pool code ≡ true
+    → is_code r pool code ≡ true
+whole-code r pool code whole texts = and_from (can_be_assembled r code && is_method code) (has_texts pool code) whole texts
+
+-- ---- code that pushes no text
+
+two-classes : (class : ℕ) → (class == 0) ≡ true → (class == 1) ≡ true → ⊥
+two-classes class first second = grind arith
+
+no-text : (pool : List Entry) (calls : ℕ → Bool) (gives : Bool) (s : Step) → step_names_well calls 0 gives s ≡ true
+    → step_names_well calls 1 gives s ≡ true → has_its_text pool s ≡ true
+no-text pool calls gives (Does (instructions.Push (constants.Text class slot))) first second = absurd (two-classes class first second)
+no-text pool calls gives s first second = refl
+
+-- it is well for two classes
+pub no-texts : (pool : List Entry) (calls : ℕ → Bool) (gives : Bool) (code : List Step) → all_well calls 0 gives code ≡ true
+    → all_well calls 1 gives code ≡ true → has_texts pool code ≡ true
+no-texts pool calls gives [] first second = refl
+no-texts pool calls gives (s ∷ code) first second =
+    let a = and_parts (step_names_well calls 0 gives s) (all_well calls 0 gives code) first in
+    let b = and_parts (step_names_well calls 1 gives s) (all_well calls 1 gives code) second in
+    and_from (has_its_text pool s) (has_texts pool code) (no-text pool calls gives s a.0 b.0) (no-texts pool calls gives code a.1 b.1)
+
+-- ---- code that makes memory
+
+both-texts : (pool : List Entry) (first second : List Step) → has_texts pool first ≡ true → has_texts pool second ≡ true
+    → has_texts pool (first ++ second) ≡ true
+both-texts pool first second a b =
+    list_all-append (has_its_text pool) first second ∙ and_from (has_texts pool first) (has_texts pool second) a b
+
+filled-texts : (pool : List Entry) (slots : List PageSlot) (class words : ℕ) → All (λ s. has_text pool s.slot ≡ true) slots
+    → has_texts pool (filled_code slots class words) ≡ true
+filled-texts pool [] class words there = refl
+filled-texts pool (s ∷ slots) class words there =
+    both-texts pool (page_code class words s) (filled_code slots class words)
+    (and_from (has_text pool s.slot) true (All-head (λ x. has_text pool x.slot ≡ true) s slots there) refl)
+    (filled-texts pool slots class words (All-tail (λ x. has_text pool x.slot ≡ true) s slots there))
+
+pub fill-texts : (pool : List Entry) (slots : List PageSlot) (class words : ℕ) → All (λ s. has_text pool s.slot ≡ true) slots
+    → has_texts pool (fill_code slots class words) ≡ true
+fill-texts pool slots class words there =
+    both-texts pool (filled_code slots class words) (returns ∷ []) (filled-texts pool slots class words there) refl
+
+pages-texts : (pool : List Entry) (class pages : ℕ) (slots : List ℕ) → All (λ slot. has_text pool slot ≡ true) slots
+    → has_texts pool (page_texts_code class pages slots) ≡ true
+pages-texts pool class pages [] there = refl
+pages-texts pool class pages (slot ∷ slots) there =
+    both-texts pool (page_text_code class pages slot) (page_texts_code class pages slots)
+    (and_from (has_text pool slot) true (All-head (λ s. has_text pool s ≡ true) slot slots there) refl)
+    (pages-texts pool class pages slots (All-tail (λ s. has_text pool s ≡ true) slot slots there))
+
+calls-texts : (pool : List Entry) (fills : List ℕ) → has_texts pool (map call fills) ≡ true
+calls-texts pool [] = refl
+calls-texts pool (n ∷ fills) = calls-texts pool fills
+
+memory-texts : (pool : List Entry) (slots : List ℕ) (class pages : ℕ) (fills : List ℕ) → All (λ slot. has_text pool slot ≡ true) slots
+    → has_texts pool (memory_code slots class pages fills) ≡ true
+memory-texts pool slots class pages fills there =
+    let tables = table_code readable_field ++ table_code writable_field in
+    let texts = page_texts_code class pages slots in
+    both-texts pool (tables ++ texts) (map call fills)
+    (both-texts pool tables texts refl (pages-texts pool class pages slots there)) (calls-texts pool fills)
+
+pub run-texts : (pool : List Entry) (b : Beginning) (slots : List ℕ) (class pages : ℕ) (fills : List ℕ) (choose : ℕ)
+    → All (λ slot. has_text pool slot ≡ true) slots → has_texts pool (run_code b slots class pages fills choose) ≡ true
+run-texts pool b slots class pages fills choose there =
+    both-texts pool (memory_code slots class pages fills) (begun_code b choose) (memory-texts pool slots class pages fills there) refl
+
+-- ---- the same of a list of steps that is known to be the code
+
+-- code that is put behind nothing
+pub code-is : (steps first second : List Step) → steps ≡ first ++ second → first ≡ [] → steps ≡ second
+code-is steps first second joined none = joined ∙ ap (λ l. l ++ second) none
+
+pub same-code : (r : References) (pool : List Entry) (steps code : List Step) → steps ≡ code → is_code r pool code ≡ true → is_code r pool steps ≡ true
+same-code r pool steps code same is = subst (λ l. is_code r pool l ≡ true) (sym same) is
+
+-- code that pushes no text
+pub plain-code : (r : References) (pool : List Entry) (calls : ℕ → Bool) (gives : Bool) (steps code : List Step) → steps ≡ code
+    → CanBeMethod r code → ((class : ℕ) → all_well calls class gives code ≡ true) → is_code r pool steps ≡ true
+plain-code r pool calls gives steps code same whole well =
+    same-code r pool steps code same (whole-code r pool code whole (no-texts pool calls gives code (well 0) (well 1)))

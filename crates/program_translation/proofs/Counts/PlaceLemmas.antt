@@ -1,0 +1,64 @@
+-- A program has few classes of code.
+use Rattle.std.proofs.Common.{◌≡◌, ℕ, zero, suc, ◌+◌, ◌*◌, ◌<◌, ◌≤◌, List, [], ◌∷◌, length, take, get_or, All, Option, ◌∙◌, arith, length-append}
+use Rattle.std.proofs.lemmas.List.Elements.{All-head}
+use Rattle.std.proofs.lemmas.List.FromFn.{length-map-range_with_len}
+use Rattle.std.proofs.lemmas.List.Sums.{sum_by-cons}
+use Rattle.std.proofs.lemmas.Slice.Zip.{AllZip-long}
+use Rattle.command_words.specs.Word.{Text}
+use Rattle.elf_reader.specs.declared.range.Range.{Range}
+use Rattle.elf_image.specs.Refusals.{code_words}
+use Rattle.elf_image.specs.Whole.{IsWholeRange}
+use Rattle.equal_shares.specs.Shares.{share_count}
+use Rattle.program_translation.specs.declared.code_files.Code.{Code}
+use Rattle.program_translation.specs.Places.{Place, class_words, place_at, places_in, places_of}
+use Rattle.program_translation.specs.Classes.{IsPlaced, IsCodeFile}
+use Rattle.program_translation.specs.Adding.{HasPlaces}
+
+in-count : (r : Range) → length (places_in r) ≡ share_count class_words r.words
+in-count r = length-map-range_with_len (place_at r) 0 (share_count class_words r.words)
+
+-- each range has one class at most that is not full
+words-few : (n : ℕ) → 6144 * share_count class_words n ≤ n + 6143
+words-few n = omega arith
+
+places-few : (ranges : List Range) → 6144 * length (places_of ranges) ≤ code_words ranges + 6143 * length ranges
+places-few [] = omega arith
+places-few (r ∷ ranges) =
+    omega (
+      arith,
+      in-count r,
+      words-few r.words,
+      length-append (places_in r) (places_of ranges),
+      sum_by-cons (λ (x : Range). x.words) r ranges,
+      places-few ranges,
+    )
+
+pub places-most : (ranges : List Range) → code_words ranges ≤ 1_048_576 → length ranges ≤ 64 → length (places_of ranges) ≤ 235
+places-most ranges words few = omega (arith, places-few ranges, words, few)
+
+words-some : (n : ℕ) → 1 ≤ n → 1 ≤ share_count class_words n
+words-some n some = omega (arith, some)
+
+pub places-some : (code : ℕ → Option ℕ) (ranges : List Range) → All (IsWholeRange code) ranges → 1 ≤ length ranges → 1 ≤ length (places_of ranges)
+places-some code [] whole some = absurd (omega (arith, some))
+places-some code (r ∷ ranges) whole some =
+    omega (arith, in-count r, words-some r.words (All-head (IsWholeRange code) r ranges whole).filled, length-append (places_in r) (places_of ranges))
+
+-- those of the first ranges, and of the next one
+pub places-first : (ranges : List Range) (k : ℕ) (d : Range) → k < length ranges
+    → length (places_of (take k ranges)) + share_count class_words (get_or ranges k d).words ≤ length (places_of ranges)
+places-first [] k d less = absurd (omega (arith, less))
+places-first (r ∷ ranges) zero d less = omega (arith, in-count r, length-append (places_in r) (places_of ranges))
+places-first (r ∷ ranges) (suc k) d less =
+    omega (
+      arith,
+      length-append (places_in r) (places_of (take k ranges)),
+      length-append (places_in r) (places_of ranges),
+      places-first ranges k d (omega (arith, less)),
+    )
+
+pub places-count : (code : ℕ → Option ℕ) (name : Text) (method_bytes : ℕ) (places : List Place) (c : Code) → HasPlaces code name method_bytes places c
+    → length c.files.items ≡ length places
+places-count code name method_bytes places c has =
+    AllZip-long (IsCodeFile name) has.classes c.files.items has.told.files_are
+    ∙ AllZip-long (IsPlaced code method_bytes) places has.classes has.placed.each

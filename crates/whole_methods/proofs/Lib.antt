@@ -1,0 +1,2 @@
+pub mod NamedCode
+pub mod WholeCode

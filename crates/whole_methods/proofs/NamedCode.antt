@@ -1,0 +1,9 @@
+pub mod Steps
+pub mod Helpers
+pub mod Instructions
+pub mod Transfers
+pub mod Units
+pub mod Exits
+pub mod Spans
+pub mod Choosing
+pub mod Loading

@@ -1,0 +1,63 @@
+-- The exits behind units, in methods that give nothing.
+use Rattle.std.proofs.Common.{ℕ, Bool, false, ◌||◌, if◌then◌else◌, List, [], ◌∷◌, Option, refl}
+use Rattle.jvm_code.specs.declared.names.branch_name.BranchName.TheVariants.{IfIcmpne}
+use Rattle.jvm_program.specs.declared.local_kind.LocalKind.TheVariants as local_kinds
+use Rattle.jvm_program.specs.declared.instruction.Instruction.TheVariants as instructions
+use Rattle.mips_decode.specs.Targets.{branch_target, jump_target}
+use Rattle.mips_decode.specs.declared.inst.Inst.{Inst}
+use Rattle.mips_decode.specs.declared.inst.Inst.TheVariants as inst
+use Rattle.delay_slots.specs.declared.unit.Unit.{Unit}
+use Rattle.delay_slots.specs.declared.unit.Unit.TheVariants.{Plain, Branch, SlotMissing, SlotIsBranch, Call, Trap}
+use Rattle.code_steps.specs.declared.step.Step.{Step}
+use Rattle.code_steps.specs.declared.step.Step.TheVariants.{Does, Skips, Leaves}
+use Rattle.guest_match.specs.Match.{pc_field}
+use Rattle.guest_code.specs.Access.{push_word, put_field}
+use Rattle.guest_code.specs.Branching.{behind_slot}
+use Rattle.guest_code.specs.Units.{next_address}
+use Rattle.word_emitter.specs.declared.extent.Extent.{Extent}
+use Rattle.word_emitter.specs.Pieces.{is_likely}
+use Rattle.word_emitter.specs.Exits.{has, follows, returns, arrive, last_way, two_ways, branch_exit, passing_exit, next_exit, exit_code}
+use Rattle.whole_methods.proofs.NamedCode.Steps.{Well, StepWell, step-either, well-either}
+
+module _ (calls : ℕ → Bool) (class : ℕ) (span : Extent) (behind : Option ℕ) where
+  abbrev Named : List Step → Type 0
+  Named code = Well calls class false code
+
+  either : (b : Bool) (xs ys : List Step) → Named xs → Named ys → Named (if b then xs else ys)
+  either b xs ys h k = well-either calls class false b xs ys h k
+
+  arriving : (goal : ℕ) → StepWell calls class false (arrive span goal)
+  arriving goal = step-either calls class false (has span goal) (Leaves goal) returns refl refl
+
+  last : (goal : ℕ) → Named (last_way span behind goal)
+  last goal = either (follows behind goal) [] (arrive span goal ∷ []) refl (rw (arriving goal) refl)
+
+  two : (first second : ℕ) → Named (two_ways span behind first second)
+  two first second =
+      either (has span first || has span second)
+      (Does (instructions.Load local_kinds.Int 0) ∷ push_word first ∷ Skips IfIcmpne 1 ∷ arrive span first ∷ last_way span behind second)
+      (returns ∷ []) (rw (arriving first) (last second)) refl
+
+  branch : (i : Inst) (at : ℕ) → Named (branch_exit span behind i at)
+  branch (inst.BranchSign name rs imm) at = two (branch_target at imm) (behind_slot at)
+  branch (inst.BranchEqual name rs rt imm) at = two (branch_target at imm) (behind_slot at)
+  branch (inst.BranchZero name rs imm) at = two (branch_target at imm) (behind_slot at)
+  branch (inst.Jump name index) at = last (jump_target at index)
+  branch other at = refl
+
+  passing : (i : Inst) (at : ℕ) → Named (passing_exit span behind i at)
+  passing i at = either (is_likely i) (last_way span behind (behind_slot at)) (returns ∷ []) (last (behind_slot at)) refl
+
+  next : (goal : ℕ) → Named (next_exit span behind goal)
+  next goal =
+      let out = push_word goal ∷ put_field pc_field ∷ returns ∷ [] in
+      either (follows behind goal) [] (if has span goal then Leaves goal ∷ [] else out) refl
+      (either (has span goal) (Leaves goal ∷ []) out refl refl)
+
+  pub exit-well : (unit : Unit) (at : ℕ) → Named (exit_code span behind unit at)
+  exit-well (Plain i) at = next (next_address at)
+  exit-well (Branch i slot) at = branch i at
+  exit-well (SlotMissing i) at = passing i at
+  exit-well (SlotIsBranch i word) at = passing i at
+  exit-well Call at = next (next_address at)
+  exit-well (Trap kind value) at = refl

@@ -1,0 +1,80 @@
+-- Steps one after the other, and registers.
+use Rattle.std.proofs.Common.{◌≡◌, ℕ, ◌-◌, ◌<◌, ◌==◌, Bool, true, false, if◌then◌else◌, List, [], ◌∷◌, ◌++◌, refl, arith}
+use Rattle.std.specs.List.{flat_map}
+use Rattle.std.proofs.lemmas.Bool.{and_from, and_parts, lt-ltb, ne_eqb}
+use Rattle.jvm_code.specs.declared.names.stack_name.StackName.TheVariants.{Pop}
+use Rattle.jvm_program.specs.declared.kind.Kind.TheVariants.{Int}
+use Rattle.jvm_program.specs.declared.local_kind.LocalKind.TheVariants as local_kinds
+use Rattle.jvm_program.specs.declared.instruction.Instruction.{Instruction}
+use Rattle.jvm_program.specs.declared.instruction.Instruction.TheVariants as instructions
+use Rattle.code_steps.specs.declared.step.Step.{Step}
+use Rattle.code_steps.specs.declared.step.Step.TheVariants.{Does, Skips, Leaves, Selects}
+use Rattle.guest_match.specs.Match.{register_field}
+use Rattle.guest_code.specs.Access.{keeps, get_register, put_register, push_word, get_field, put_field}
+use Rattle.whole_methods.specs.Naming.{is_field, names_well, step_names_well, all_well}
+
+pub field-is : (r : ℕ) → r < 32 → is_field (register_field r) Int ≡ true
+field-is r h =
+    let below = lt-ltb (r - 1) 38 (omega (arith, h)) in
+    let readable = ne_eqb (r - 1) 34 (λ e. omega (arith, h, e)) in
+    let writable = ne_eqb (r - 1) 35 (λ e. omega (arith, h, e)) in
+    rw (below, readable, writable) refl
+
+module _ (calls : ℕ → Bool) (class : ℕ) (gives : Bool) where
+  -- ---- steps one after the other
+
+  abbrev pub Well : List Step → Type 0
+  Well code = all_well calls class gives code ≡ true
+
+  abbrev pub StepWell : Step → Type 0
+  StepWell s = step_names_well calls class gives s ≡ true
+
+  pub well-append : (xs ys : List Step) → Well xs → Well ys → Well (xs ++ ys)
+  well-append [] ys front back = back
+  well-append (s ∷ xs) ys front back =
+      let parts = and_parts (step_names_well calls class gives s) (all_well calls class gives xs) front in
+      and_from (step_names_well calls class gives s) (all_well calls class gives (xs ++ ys)) parts.0 (well-append xs ys parts.1 back)
+
+  pub well-either : (b : Bool) (xs ys : List Step) → Well xs → Well ys → Well (if b then xs else ys)
+  well-either true xs ys h k = h
+  well-either false xs ys h k = k
+
+  pub step-either : (b : Bool) (s t : Step) → StepWell s → StepWell t → StepWell (if b then s else t)
+  step-either true s t h k = h
+  step-either false s t h k = k
+
+  pub well-each : {A : Type 0} (F : A → List Step) → ((x : A) → Well (F x)) → (xs : List A) → Well (flat_map F xs)
+  well-each F each [] = refl
+  well-each F each (x ∷ xs) = well-append (F x) (flat_map F xs) (each x) (well-each F each xs)
+
+  -- ---- registers
+
+  pub get-well : (bank r : ℕ) → r < 32 → StepWell (get_register bank r)
+  get-well bank r h =
+      step-either (r == 0) (push_word 0) (if keeps bank r then Does (instructions.Load local_kinds.Int r) else get_field (register_field r)) refl
+      (step-either (keeps bank r) (Does (instructions.Load local_kinds.Int r)) (get_field (register_field r)) refl (field-is r h))
+
+  pub put-well : (bank r : ℕ) → r < 32 → StepWell (put_register bank r)
+  put-well bank r h =
+      step-either (r == 0) (Does (instructions.Stack Pop))
+      (if keeps bank r then Does (instructions.Store local_kinds.Int r) else put_field (register_field r)) refl
+      (step-either (keeps bank r) (Does (instructions.Store local_kinds.Int r)) (put_field (register_field r)) refl (field-is r h))
+
+-- ---- more methods may be called
+
+module _ (calls more : ℕ → Bool) (class : ℕ) (gives : Bool) (also : (m : ℕ) → calls m ≡ true → more m ≡ true) where
+  instruction-more : (i : Instruction) → names_well calls class gives i ≡ true → names_well more class gives i ≡ true
+  instruction-more (instructions.Call m) is = also m is
+  instruction-more other is = is
+
+  step-more : (s : Step) → StepWell calls class gives s → StepWell more class gives s
+  step-more (Does instruction) is = instruction-more instruction is
+  step-more (Skips name k) is = refl
+  step-more (Leaves target) is = refl
+  step-more (Selects s) is = refl
+
+  pub code-more : (code : List Step) → Well calls class gives code → Well more class gives code
+  code-more [] is = refl
+  code-more (s ∷ code) is =
+      let parts = and_parts (step_names_well calls class gives s) (all_well calls class gives code) is in
+      and_from (step_names_well more class gives s) (all_well more class gives code) (step-more s parts.0) (code-more code parts.1)

@@ -1,0 +1,11 @@
+pub mod Targets
+pub mod Operations
+pub mod Bodies
+pub mod Programs
+pub mod Choosing
+pub mod Loading
+pub mod Helpers
+pub mod Sizes
+pub mod Exits
+pub mod Units
+pub mod Spans

@@ -1,0 +1,112 @@
+-- Code that can be the code of a method.
+use Rattle.std.proofs.Common.{◌≡◌, ℕ, ◌+◌, ◌<◌, ◌≤◌, ◌^◌, Bool, true, false, nat_le, nat_lt, List, [], ◌∷◌, ◌++◌, length, refl, arith}
+use Rattle.std.specs.Prelude.{◌&&◌, ◌==◌, Option, is_some}
+use Rattle.std.specs.List.{list_all, flat_map}
+use Rattle.std.proofs.lemmas.Bool.{and_from, and_parts, eqb-true, false≢true, lt-ltb, le-leb}
+use Rattle.jvm_program.specs.declared.kind.Kind.{Kind}
+use Rattle.jvm_program.specs.declared.linked_line.LinkedLine.{LinkedLine}
+use Rattle.jvm_program.specs.Program.{Program, line_in, targets_of}
+use Rattle.jvm_program.specs.Typing.{TypeFrame}
+use Rattle.code_steps.specs.declared.step.Step.{Step}
+use Rattle.code_steps.specs.declared.step.Step.TheVariants.{Does, Skips, Leaves, Selects}
+use Rattle.code_steps.specs.Widths.{width, size}
+use Rattle.code_steps.specs.Placing.{laid, placed_instruction}
+use Rattle.code_assembly.specs.declared.references.References.{References}
+use Rattle.code_assembly.specs.Assembling.{step_has_operation, have_operations, switches_are_placed, can_be_assembled, targets_are_lines, is_method}
+use Rattle.typed_code.specs.Judging.{Rules, is_no_switch}
+use Rattle.typed_code.specs.Methods.{IsBody, taking}
+use Rattle.whole_methods.specs.Naming.{step_names_well, all_well}
+use Rattle.whole_methods.specs.Whole.{CanBeMethod}
+use Rattle.whole_methods.proofs.WholeCode.Targets.{targets-are-lines}
+use Rattle.whole_methods.proofs.WholeCode.Operations.{HasMethods, no-padding, named, operations}
+
+pub can-be : (r : References) (code : List Step) → 0 < length code → size code ≤ 65535 → have_operations r code ≡ true
+    → switches_are_placed 0 code ≡ true → targets_are_lines (laid 0 code) ≡ true → CanBeMethod r code
+can-be r code some small operates placed lines =
+    and_from (can_be_assembled r code) (is_method code)
+    (and_from (nat_lt (size code) (2 ^ 32) && have_operations r code) (switches_are_placed 0 code)
+    (and_from (nat_lt (size code) (2 ^ 32)) (have_operations r code) (lt-ltb (size code) (2 ^ 32) (omega (arith, small))) operates) placed)
+    (and_from (nat_lt 0 (length code) && nat_le (size code) 65535) (targets_are_lines (laid 0 code))
+    (and_from (nat_lt 0 (length code)) (nat_le (size code) 65535) (lt-ltb 0 (length code) some) (le-leb (size code) 65535 small)) lines)
+
+module _ (r : References) (fields : length r.fields ≡ 38) (calls : ℕ → Bool) (called : HasMethods r calls) (class : ℕ) (gives : Bool) where
+  -- ---- typed code without a switch
+
+  pub body-can-be : (program : Program) (owes : ℕ → Option TypeFrame) (parameters : List Kind) (locals : ℕ) (code : List Step)
+      → IsBody program owes parameters locals code → 0 < length code → size code < 2 ^ 15 → list_all is_no_switch code ≡ true
+      → all_well calls class gives code ≡ true → CanBeMethod r code
+  body-can-be program owes parameters locals code body some near plain is =
+      let rules : Rules = record { program = program; owes = owes } in
+      can-be r code some (omega (arith, near))
+      (operations r fields calls called class gives rules code body.types.body.frames [] body.types.body.types (omega arith) near plain is)
+      (no-padding code 0 plain) (targets-are-lines rules code (taking parameters) body.types)
+
+-- ---- code that goes straight on
+
+-- a step that goes to no offset and over no step
+abbrev pub goes_on : Step → Bool
+goes_on (Does instruction) = length (targets_of instruction) == 0
+goes_on (Skips name k) = false
+goes_on (Leaves target) = false
+goes_on (Selects s) = false
+
+pub goes-on-append : (xs ys : List Step) → list_all goes_on xs ≡ true → list_all goes_on ys ≡ true → list_all goes_on (xs ++ ys) ≡ true
+goes-on-append [] ys front back = back
+goes-on-append (s ∷ xs) ys front back =
+    let parts = and_parts (goes_on s) (list_all goes_on xs) front in
+    and_from (goes_on s) (list_all goes_on (xs ++ ys)) parts.0 (goes-on-append xs ys parts.1 back)
+
+pub goes-on-each : {A : Type 0} (F : A → List Step) → ((x : A) → list_all goes_on (F x) ≡ true) → (xs : List A)
+    → list_all goes_on (flat_map F xs) ≡ true
+goes-on-each F each [] = refl
+goes-on-each F each (x ∷ xs) = goes-on-append (F x) (flat_map F xs) (each x) (goes-on-each F each xs)
+
+no-switch-on : (code : List Step) → list_all goes_on code ≡ true → list_all is_no_switch code ≡ true
+no-switch-on [] is = refl
+no-switch-on (s ∷ code) is =
+    let parts = and_parts (goes_on s) (list_all goes_on code) is in
+    and_from (is_no_switch s) (list_all is_no_switch code) (by_step s parts.0) (no-switch-on code parts.1)
+  where
+    by_step : (s : Step) → goes_on s ≡ true → is_no_switch s ≡ true
+    by_step (Does instruction) h = refl
+    by_step (Skips name k) h = refl
+    by_step (Leaves target) h = refl
+    by_step (Selects s) h = h
+
+no-targets : (lines : List LinkedLine) (code : List Step) (at : ℕ) → list_all goes_on code ≡ true
+    → list_all (λ l. list_all (λ target. is_some (line_in lines target)) (targets_of l.instruction)) (laid at code) ≡ true
+no-targets lines [] at is = refl
+no-targets lines (s ∷ code) at is =
+    let parts = and_parts (goes_on s) (list_all goes_on code) is in
+    and_from (list_all (λ target. is_some (line_in lines target)) (targets_of (placed_instruction at s code))) _ (by_step s parts.0)
+    (no-targets lines code (at + width s) parts.1)
+  where
+    none : (xs : List ℕ) → length xs ≡ 0 → list_all (λ target. is_some (line_in lines target)) xs ≡ true
+    none [] e = refl
+    none (x ∷ xs) e = absurd (omega (arith, e))
+
+    by_step : (s : Step) → goes_on s ≡ true
+        → list_all (λ target. is_some (line_in lines target)) (targets_of (placed_instruction at s code)) ≡ true
+    by_step (Does i) h = none (targets_of i) (eqb-true (length (targets_of i)) 0 h)
+    by_step (Skips name k) h = absurd (false≢true h)
+    by_step (Leaves target) h = absurd (false≢true h)
+    by_step (Selects s) h = absurd (false≢true h)
+
+module _ (r : References) (fields : length r.fields ≡ 38) (calls : ℕ → Bool) (called : HasMethods r calls) (class : ℕ) (gives : Bool) where
+  operates-on : (code : List Step) → list_all goes_on code ≡ true → all_well calls class gives code ≡ true → have_operations r code ≡ true
+  operates-on [] on is = refl
+  operates-on (s ∷ code) on is =
+      let ons = and_parts (goes_on s) (list_all goes_on code) on in
+      let names = and_parts (step_names_well calls class gives s) (all_well calls class gives code) is in
+      and_from (step_has_operation r s code) (have_operations r code) (by_step s ons.0 names.0) (operates-on code ons.1 names.1)
+    where
+      by_step : (s : Step) → goes_on s ≡ true → step_names_well calls class gives s ≡ true → step_has_operation r s code ≡ true
+      by_step (Does i) h n = named r fields calls called class gives i h n
+      by_step (Skips name k) h n = absurd (false≢true h)
+      by_step (Leaves target) h n = refl
+      by_step (Selects s) h n = absurd (false≢true h)
+
+  pub straight-can-be : (code : List Step) → list_all goes_on code ≡ true → 0 < length code → size code ≤ 65535
+      → all_well calls class gives code ≡ true → CanBeMethod r code
+  straight-can-be code on some small is =
+      can-be r code some small (operates-on code on is) (no-padding code 0 (no-switch-on code on)) (no-targets (laid 0 code) code 0 on)

@@ -1,0 +1,84 @@
+-- The exits behind units have operations.
+use Rattle.std.proofs.Common.{◌≡◌, ℕ, ◌≤◌, Bool, true, false, ◌||◌, if◌then◌else◌, List, [], ◌∷◌, Option, length, refl, arith}
+use Rattle.std.proofs.lemmas.Bool.{and_from}
+use Rattle.jvm_code.specs.declared.names.branch_name.BranchName.TheVariants.{IfIcmpne}
+use Rattle.jvm_program.specs.declared.local_kind.LocalKind.TheVariants as local_kinds
+use Rattle.jvm_program.specs.declared.instruction.Instruction.TheVariants as instructions
+use Rattle.mips_decode.specs.Targets.{branch_target, jump_target}
+use Rattle.mips_decode.specs.declared.inst.Inst.{Inst}
+use Rattle.mips_decode.specs.declared.inst.Inst.TheVariants as inst
+use Rattle.delay_slots.specs.declared.unit.Unit.{Unit}
+use Rattle.delay_slots.specs.declared.unit.Unit.TheVariants.{Plain, Branch, SlotMissing, SlotIsBranch, Call, Trap}
+use Rattle.code_steps.specs.declared.step.Step.{Step}
+use Rattle.code_steps.specs.declared.step.Step.TheVariants.{Does, Skips, Leaves}
+use Rattle.code_steps.specs.Widths.{width}
+use Rattle.code_assembly.specs.declared.references.References.{References}
+use Rattle.code_assembly.specs.Assembling.{reaches, step_has_operation, have_operations}
+use Rattle.guest_match.specs.Match.{pc_field}
+use Rattle.guest_code.specs.Access.{push_word, put_field}
+use Rattle.guest_code.specs.Branching.{behind_slot}
+use Rattle.guest_code.specs.Units.{next_address}
+use Rattle.word_emitter.specs.declared.extent.Extent.{Extent}
+use Rattle.word_emitter.specs.Pieces.{is_likely}
+use Rattle.word_emitter.specs.Exits.{has, follows, returns, arrive, last_way, two_ways, branch_exit, passing_exit, next_exit, exit_code}
+use Rattle.whole_methods.proofs.WholeCode.Operations.{Operates, operates-either, reaches-from}
+
+module _ (r : References) (fields : length r.fields ≡ 38) (span : Extent) (behind : Option ℕ) where
+  either : (b : Bool) (xs ys : List Step) → Operates r xs → Operates r ys → Operates r (if b then xs else ys)
+  either b xs ys h k = operates-either r b xs ys h k
+
+  arriving : (goal : ℕ) (others : List Step) → step_has_operation r (arrive span goal) others ≡ true
+  arriving goal others = by_test (has span goal)
+    where
+      by_test : (b : Bool) → step_has_operation r (if b then Leaves goal else returns) others ≡ true
+      by_test true = refl
+      by_test false = refl
+
+  arrive-small : (goal : ℕ) → width (arrive span goal) ≤ 5
+  arrive-small goal = by_test (has span goal)
+    where
+      by_test : (b : Bool) → width (if b then Leaves goal else returns) ≤ 5
+      by_test true = omega arith
+      by_test false = omega arith
+
+  arrives : (goal : ℕ) (others : List Step) → Operates r others → Operates r (arrive span goal ∷ others)
+  arrives goal others h =
+      and_from (step_has_operation r (arrive span goal) others) (have_operations r others) (arriving goal others) h
+
+  last : (goal : ℕ) → Operates r (last_way span behind goal)
+  last goal = either (follows behind goal) [] (arrive span goal ∷ []) refl (arrives goal [] refl)
+
+  two : (first second : ℕ) → Operates r (two_ways span behind first second)
+  two first second =
+      let others = arrive span first ∷ last_way span behind second in
+      let small = arrive-small first in
+      either (has span first || has span second) (Does (instructions.Load local_kinds.Int 0) ∷ push_word first ∷ Skips IfIcmpne 1 ∷ others)
+      (returns ∷ [])
+      (and_from (reaches others 1) (have_operations r others) (reaches-from others 1 (omega arith) (omega (arith, small)))
+      (arrives first (last_way span behind second) (last second)))
+      refl
+
+  branch : (i : Inst) (at : ℕ) → Operates r (branch_exit span behind i at)
+  branch (inst.BranchSign name rs imm) at = two (branch_target at imm) (behind_slot at)
+  branch (inst.BranchEqual name rs rt imm) at = two (branch_target at imm) (behind_slot at)
+  branch (inst.BranchZero name rs imm) at = two (branch_target at imm) (behind_slot at)
+  branch (inst.Jump name index) at = last (jump_target at index)
+  branch other at = refl
+
+  passing : (i : Inst) (at : ℕ) → Operates r (passing_exit span behind i at)
+  passing i at = either (is_likely i) (last_way span behind (behind_slot at)) (returns ∷ []) (last (behind_slot at)) refl
+
+  next : (goal : ℕ) → Operates r (next_exit span behind goal)
+  next goal =
+      let out = push_word goal ∷ put_field pc_field ∷ returns ∷ [] in
+      let outside : Operates r out = rw fields refl in
+      either (follows behind goal) [] (if has span goal then Leaves goal ∷ [] else out) refl
+      (either (has span goal) (Leaves goal ∷ []) out refl outside)
+
+  pub exit-operates : (unit : Unit) (at : ℕ) → Operates r (exit_code span behind unit at)
+  exit-operates (Plain i) at = next (next_address at)
+  exit-operates (Branch i slot) at = branch i at
+  exit-operates (SlotMissing i) at = passing i at
+  exit-operates (SlotIsBranch i word) at = passing i at
+  exit-operates Call at = next (next_address at)
+  exit-operates (Trap kind value) at = refl

@@ -1,0 +1,11 @@
+use Rattle.whole_methods.proofs.NamedCode.Spans.{warm, cold, span-well}
+use Rattle.whole_methods.proofs.named_code.spans_name_well.Goals as goal
+
+pub returns-clause-pieces : goal.returns-clause-pieces
+returns-clause-pieces c class k units leads span all = warm class units leads span all k
+
+pub returns-clause-words : goal.returns-clause-words
+returns-clause-words c class k units leads span all = cold class units leads span all k
+
+pub returns-clause-method : goal.returns-clause-method
+returns-clause-method c class units leads span all = span-well class units leads span all

@@ -1,0 +1,20 @@
+use Rattle.std.proofs.Common.{refl}
+use Rattle.std.specs.Prelude.{true, false}
+use Rattle.delay_slots.specs.Units.{units_of}
+use Rattle.whole_methods.proofs.WholeCode.Programs.{of_helpers, helper-types}
+use Rattle.whole_methods.proofs.WholeCode.Units.{UnitLaws}
+use Rattle.whole_methods.proofs.WholeCode.Spans.{span-can-be}
+use Rattle.whole_methods.proofs.whole.spans_are_whole.Goals as goal
+
+pub returns : goal.returns
+returns c r words leads span has are_words no_float within some small =
+    let laws : UnitLaws = record {
+      typed = c.units_are_typed.ensures;
+      known = λ unit lawful. c.needed_is_known.ensures.unit unit (λ d. true) lawful (λ d positive below is. refl);
+      well = λ bank at unit lawful. c.units_name_well.ensures.one 0 false bank at unit lawful;
+      small = c.unit_code_keeps_to_its_bytes.ensures;
+    } in
+    let units = units_of words in
+    span-can-be units leads span r has laws (c.units_are_lawful.ensures.all words are_words no_float)
+    (c.spans_are_typed.ensures of_helpers words leads span helper-types are_words no_float within)
+    (c.no_switch_needs_padding.ensures units leads span) some small

@@ -1,0 +1,53 @@
+-- What the code of a method may name: fields of the main class with their types, some methods, texts of its own class, and its own return.
+use Rattle.std.specs.Prelude.{ℕ, Bool, true, false, ◌&&◌, ◌||◌, ◌==◌, nat_lt, List}
+use Rattle.std.specs.List.{list_all}
+use Rattle.jvm_code.specs.declared.names.return_name.ReturnName.{ReturnName}
+use Rattle.jvm_code.specs.declared.names.return_name.ReturnName.TheVariants as returns
+use Rattle.jvm_program.specs.declared.constant.Constant.TheVariants.{Text}
+use Rattle.jvm_program.specs.declared.kind.Kind.{Kind}
+use Rattle.jvm_program.specs.declared.instruction.Instruction.{Instruction}
+use Rattle.jvm_program.specs.declared.instruction.Instruction.TheVariants.{Push, Increment, Get, Put, Call, Return, Wrong}
+use Rattle.jvm_program.specs.Typing.{same_kind}
+use Rattle.jvm_link.specs.Linking.{kind_of}
+use Rattle.code_steps.specs.declared.step.Step.{Step}
+use Rattle.code_steps.specs.declared.step.Step.TheVariants.{Does}
+use Rattle.code_assembly.specs.Assembling.{is_signed_byte}
+use Rattle.class_members.specs.Fields.{field_descriptor}
+
+-- one of the 38 fields of the main class, with its type
+abbrev pub is_field : ℕ → Kind → Bool
+is_field f kind = nat_lt f 38 && same_kind kind (kind_of (field_descriptor f))
+
+-- one of the 20 helpers
+abbrev pub is_helper : ℕ → Bool
+is_helper m = nat_lt m 20
+
+-- one of the two helpers that end the run for others
+abbrev pub is_fault : ℕ → Bool
+is_fault m = m == 18 || m == 19
+
+-- the return of a method that gives an int, or of one that gives nothing
+abbrev pub is_return : Bool → ReturnName → Bool
+is_return true returns.Ireturn = true
+is_return false returns.Return = true
+is_return gives name = false
+
+-- An instruction of a method names only what is there: a field with its type, a method that may be called, a text of the method's class, the
+-- return that fits, and a byte that is added. The class has a number, and the method gives an int or nothing.
+abbrev pub names_well : (ℕ → Bool) → ℕ → Bool → Instruction → Bool
+names_well calls class gives (Increment i by) = is_signed_byte by
+names_well calls class gives (Get f kind) = is_field f kind
+names_well calls class gives (Put f kind) = is_field f kind
+names_well calls class gives (Call m) = calls m
+names_well calls class gives (Push (Text owner slot)) = owner == class
+names_well calls class gives (Return name) = is_return gives name
+names_well calls class gives Wrong = false
+names_well calls class gives _ = true
+
+abbrev pub step_names_well : (ℕ → Bool) → ℕ → Bool → Step → Bool
+step_names_well calls class gives (Does instruction) = names_well calls class gives instruction
+step_names_well calls class gives _ = true
+
+-- each step of code names only what is there
+abbrev pub all_well : (ℕ → Bool) → ℕ → Bool → List Step → Bool
+all_well calls class gives code = list_all (step_names_well calls class gives) code
