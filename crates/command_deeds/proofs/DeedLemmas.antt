@@ -1,11 +1,10 @@
 -- How deeds follow one another.
-use Rattle.std.proofs.Common.{◌≡◌, ◌≤◌, ℕ, true, false, List, [], ◌∷◌, ◌++◌, Option, Some}
-use Rattle.std.proofs.Common.{None, Result, Ok, Err, refl, sym, ◌∙◌, ap, subst, inl, inr}
+use Rattle.std.proofs.Common.{◌≡◌, ℕ, true, false, List, [], ◌∷◌, ◌++◌, Option, Some}
+use Rattle.std.proofs.Common.{None, Result, Ok, Err, refl, ◌∙◌, ap, subst, inl, inr}
 use Rattle.std.specs.Prelude.{IfSome}
-use Rattle.std.specs.Io.KnownBytes.{Consumes}
-use Rattle.nv_outside.specs.Faults.{CountsFailure, Rose, shelf_failed}
+use Rattle.nv_outside.specs.Faults.{CountsFailure, shelf_failed}
 use Rattle.nv_outside.specs.Files.{Files, OthersStay, SameFiles, SetsFile, Stores}
-use Rattle.nv_outside.specs.Gains.{AppendsPart}
+use Rattle.unix_calls.specs.Stages.{ComesTo, StopsRun}
 use Rattle.nv_outside.specs.declared.shelf_error.ShelfError.{ShelfError}
 use Rattle.nv_outside.specs.declared.shelf_error.ShelfError.TheVariants as shelf
 use Rattle.command_deeds.specs.declared.stop.Stop.{Stop}
@@ -14,8 +13,8 @@ use Rattle.command_deeds.specs.Deeds.{Deed, prepares, stores, prints, plays, Doe
 use Rattle.command_deeds.specs.Ends.{Answer, ByFiles, Comes, DoesOrStops, Due, GivesEnd}
 use Rattle.command_deeds.specs.Ends.{MakesEnd, Works, answers, is_stop}
 use Rattle.command_deeds.specs.Stops.{shelf_stop}
-use Rattle.command_deeds.specs.World.{FailsRun, OneRose, OnlyOut, OnlyShelf, Rises, SameShelf, Seen, Sets, Stays}
-use Rattle.command_deeds.specs.World.{StopsLoad, StopsPrint, StopsRun, StopsStore, Takes, World, world}
+use Rattle.command_deeds.specs.World.{OnlyOut, OnlyShelf, Rises, SameShelf, Seen, Sets, Stays}
+use Rattle.command_deeds.specs.World.{StopsLoad, StopsPrint, StopsStore, Takes, World, streams_of, world}
 use Rattle.nv_outside.proofs.FilesLemmas.{same_then_same}
 
 -- ---- the shelf
@@ -80,44 +79,24 @@ stays_then w u v p q = (same_then_shelf w.shelf u.shelf v.shelf p.0 q.0, only_th
 only_out_then : (w u v : World) → Stays w u → OnlyOut u v → OnlyOut w v
 only_out_then w u v p q = (same_then_shelf w.shelf u.shelf v.shelf p.0 q.0, q.1 ∙ p.1.0, q.2 ∙ p.1.2)
 
+same_streams : (w u : World) → OnlyShelf w u → streams_of u ≡ streams_of w
+same_streams w u only = λ i. record { input = only.0 i; out = only.1 i; err = only.2 i }
+
 stays_then_deed : (deed : Deed) (w u v : World) → Stays w u → DoesDeed deed u v → DoesDeed deed w v
 stays_then_deed prepares w u v p q = stays_then w u v p q
 stays_then_deed (stores name bytes) w u v p q = (same_then_sets w.shelf u.shelf v.shelf name bytes p.0 q.0, only_then w u v p.1 q.1)
 stays_then_deed (prints text) w u v p q = (subst (λ o. Takes o v.out text) p.1.1 q.0, only_out_then w u v p q.1)
-stays_then_deed (plays left out err) w u v p q =
-    (same_then_shelf w.shelf u.shelf v.shelf p.0 q.0, rw (sym p.1.0) q.1, rw (sym p.1.1) q.2, rw (sym p.1.2) q.3)
-
-fails_then : (w u v : World) (stop : Stop) → OnlyShelf w u → FailsRun u v stop → FailsRun w v stop
-fails_then w u v ReadFault p q =
-    (subst (λ i. Rose i.faults v.input.faults) p.0 q.0, q.1 ∙ ap (λ o. o.faults) p.1, q.2 ∙ ap (λ o. o.faults) p.2)
-fails_then w u v WriteFault p q = (
-  q.0 ∙ ap (λ i. i.faults) p.0,
-  subst (λ o. OneRose o.faults v.out.faults w.err.faults v.err.faults) p.1
-      (subst (λ e. OneRose u.out.faults v.out.faults e.faults v.err.faults) p.2 q.1),
-)
-fails_then w u v ShelfFault p q = q
-fails_then w u v NoMemory p q = q
-
-run_then : (w u v : World) (output error_output : List ℕ) (stop : Stop) → OnlyShelf w u → StopsRun u v output error_output stop
-    → StopsRun w v output error_output stop
-run_then w u v output error_output stop p q = record {
-  got = q.got;
-  lost = subst (λ i. Consumes i.told v.input.told q.got) p.0 q.lost;
-  wrote = subst (λ o. AppendsPart o.told v.out.told output) p.1 q.wrote;
-  wrote_error = subst (λ o. AppendsPart o.told v.err.told error_output) p.2 q.wrote_error;
-  none_falls = record {
-    input = subst (λ i. i.faults ≤ v.input.faults) p.0 q.none_falls.input;
-    out = subst (λ o. o.faults ≤ v.out.faults) p.1 q.none_falls.out;
-    err = subst (λ o. o.faults ≤ v.err.faults) p.2 q.none_falls.err;
-  };
-  fails = fails_then w u v stop p q.fails;
-}
+stays_then_deed (plays turns stage) w u v p q =
+    (same_then_shelf w.shelf u.shelf v.shelf p.0 q.0, subst (λ s. ComesTo (stage turns) s (streams_of v)) (same_streams w u p.1) q.1)
 
 stays_then_stop : (deed : Deed) (w u v : World) (stop : Stop) → Stays w u → StopsDeed deed u v stop → StopsDeed deed w v stop
 stays_then_stop prepares w u v stop p q = (same_then_load w.shelf u.shelf v.shelf stop p.0 q.0, only_then w u v p.1 q.1)
 stays_then_stop (stores name bytes) w u v stop p q = (same_then_store w.shelf u.shelf v.shelf name stop p.0 q.0, only_then w u v p.1 q.1)
 stays_then_stop (prints text) w u v stop p q = (subst (λ o. StopsPrint o v.out text stop) p.1.1 q.0, only_out_then w u v p q.1)
-stays_then_stop (plays left out err) w u v stop p q = (same_then_shelf w.shelf u.shelf v.shelf p.0 q.0, run_then w u v out err stop p.1 q.1)
+stays_then_stop (plays turns stage) w u v stop p q = (
+  same_then_shelf w.shelf u.shelf v.shelf p.0 q.0,
+  (q.1.0, q.1.1, subst (λ s. StopsRun turns stage q.1.0 s (streams_of v)) (same_streams w u p.1) q.1.2),
+)
 
 pub stays_then_all : (deeds : List Deed) (w u v : World) → Stays w u → DoesAll deeds u v → DoesAll deeds w v
 stays_then_all [] w u v p q = stays_then w u v p q

@@ -1,8 +1,10 @@
 -- What a command is to do, deed by deed, and what is left of it where it was stopped.
-use Rattle.std.specs.Prelude.{◌⊎◌, ℕ, List, [], ◌∷◌}
+use Rattle.std.specs.Prelude.{◌≡◌, ◌⊎◌, ℕ, List, [], ◌∷◌}
+use Rattle.nv_events.specs.declared.io_fault.IoFault.{IoFault}
+use Rattle.unix_calls.specs.Stages.{ComesTo, Stage, StopsRun}
+use Rattle.command_deeds.specs.Stops.{stop_of}
 use Rattle.command_deeds.specs.declared.stop.Stop.{Stop}
-use Rattle.command_deeds.specs.World.{World, LosesRead, OnlyOut, OnlyShelf, SameShelf, Sets, Stays}
-use Rattle.command_deeds.specs.World.{StopsLoad, StopsPrint, StopsRun, StopsStore, Takes}
+use Rattle.command_deeds.specs.World.{OnlyOut, OnlyShelf, SameShelf, Sets, Stays, StopsLoad, StopsPrint, StopsStore, Takes, World, streams_of}
 
 pub data Deed : Type 0 where
   -- files are loaded or memory is taken, and nothing changes
@@ -11,22 +13,23 @@ pub data Deed : Type 0 where
   stores : List ℕ → List ℕ → Deed
   -- a text is written to output
   prints : List ℕ → Deed
-  -- a guest runs: it leaves this of input, and writes these to output and error output
-  plays : List ℕ → List ℕ → List ℕ → Deed
+  -- a guest runs for so many turns: after each number of them it stands so
+  plays : ℕ → (ℕ → Stage) → Deed
 
 -- what a deed does
 abbrev pub DoesDeed : Deed → World → World → Type 0
 DoesDeed prepares w v = Stays w v
 DoesDeed (stores name bytes) w v = Sets w.shelf v.shelf name bytes × OnlyShelf w v
 DoesDeed (prints text) w v = Takes w.out v.out text × OnlyOut w v
-DoesDeed (plays left out err) w v = SameShelf w.shelf v.shelf × LosesRead w.input v.input left × Takes w.out v.out out × Takes w.err v.err err
+DoesDeed (plays turns stage) w v = SameShelf w.shelf v.shelf × ComesTo (stage turns) (streams_of w) (streams_of v)
 
 -- What may stop a deed, and what is done of it then. A guest's run takes no memory.
 abbrev pub StopsDeed : Deed → World → World → Stop → Type 0
 StopsDeed prepares w v stop = StopsLoad w.shelf v.shelf stop × OnlyShelf w v
 StopsDeed (stores name bytes) w v stop = StopsStore w.shelf v.shelf name stop × OnlyShelf w v
 StopsDeed (prints text) w v stop = StopsPrint w.out v.out text stop × OnlyOut w v
-StopsDeed (plays left out err) w v stop = SameShelf w.shelf v.shelf × StopsRun w v out err stop
+StopsDeed (plays turns stage) w v stop =
+    SameShelf w.shelf v.shelf × ((fault : IoFault) × (stop ≡ stop_of fault) × StopsRun turns stage fault (streams_of w) (streams_of v))
 
 -- all deeds are done, one after the other
 abbrev pub DoesAll : List Deed → World → World → Type 0

@@ -1,20 +1,16 @@
--- What is told of the outside, how often each part of it failed, and how these change.
-use Rattle.std.specs.Prelude.{◌≡◌, ◌⊎◌, ℕ, ◌≤◌, ◌++◌, List, [], length, MatchResult, Option, Result, unwrap_or}
-use Rattle.std.specs.Io.KnownBytes.{Appends, Consumes}
-use Rattle.nv_outside.specs.Faults.{Rose}
+-- What is seen of the outside, and how it changes.
+use Rattle.std.specs.Prelude.{◌≡◌, ℕ, List, MatchResult, Result}
 use Rattle.nv_outside.specs.Files.{Files, OthersStay, SameFiles, SetsFile}
 use Rattle.nv_outside.specs.Gains.{AppendsPart}
 use Rattle.nv_outside.specs.declared.shelf.Shelf as shelf
 use Rattle.nv_outside.specs.declared.sink.Sink as sink
 use Rattle.nv_outside.specs.declared.source.Source as source
+use Rattle.unix_calls.specs.Stages.{Streams}
 use Rattle.command_deeds.specs.declared.outside.Outside.{Outside}
 use Rattle.command_deeds.specs.declared.stop.Stop.{Stop}
 use Rattle.command_deeds.specs.declared.stop.Stop.TheVariants.{ReadFault, WriteFault, ShelfFault, NoMemory}
-
--- what one part of the outside tells of its content, and how often it failed
-pub record Seen (A : Type 0) : Type 0 where
-  pub told : Option A
-  pub faults : ℕ
+pub use Rattle.nv_outside.specs.Faults.{Rises}
+pub use Rattle.nv_outside.specs.Seen.{FailsIn, Seen, Takes, input_seen, output_seen, shelf_seen}
 
 -- the shelf's files, the input that was not read yet, and what output and error output took
 pub record World : Type 0 where
@@ -26,14 +22,9 @@ pub record World : Type 0 where
 abbrev pub world : Seen Files → Seen (List ℕ) → Seen (List ℕ) → Seen (List ℕ) → World
 world shelf input out err = record { shelf = shelf; input = input; out = out; err = err }
 
-abbrev pub shelf_seen : {H : Type 0} → shelf.Ghosts H → H → Seen Files
-shelf_seen H s = record { told = H.files s; faults = H.faults s }
-
-abbrev pub input_seen : {S : Type 0} → source.Ghosts S → S → Seen (List ℕ)
-input_seen S s = record { told = S.rest s; faults = S.faults s }
-
-abbrev pub output_seen : {O : Type 0} → sink.Ghosts O → O → Seen (List ℕ)
-output_seen O s = record { told = O.taken s; faults = O.faults s }
+-- the source and the sinks of a world
+abbrev pub streams_of : World → Streams
+streams_of w = record { input = w.input; out = w.out; err = w.err }
 
 abbrev pub seen : {H S O E : Type 0} → shelf.Ghosts H → source.Ghosts S → sink.Ghosts O → sink.Ghosts E → Outside H S O E → World
 seen H S O E outside =
@@ -44,11 +35,6 @@ abbrev pub SameParts : {H S O E : Type 0} → Outside H S O E → Outside H S O 
 SameParts old new =
     (new.shelf.ghost_name ≡ old.shelf.ghost_name) × (new.input.ghost_name ≡ old.input.ghost_name)
     × (new.out.ghost_name ≡ old.out.ghost_name) × (new.err.ghost_name ≡ old.err.ghost_name)
-
--- a count did not fall, and rose
-pub record Rises (before now : ℕ) : Type 0 where
-  pub never_falls : before ≤ now
-  pub rose : Rose before now
 
 -- ---- the shelf
 
@@ -76,18 +62,14 @@ StopsStore old new name WriteFault = ⊥
 
 -- ---- output
 
--- a text is written
-abbrev pub Takes : Seen (List ℕ) → Seen (List ℕ) → List ℕ → Type 0
-Takes old new text = Appends old.told new.told text × (new.faults ≡ old.faults)
-
 -- what a call that writes a text leaves
 abbrev pub Writes : {E : Type 0} → Seen (List ℕ) → Seen (List ℕ) → List ℕ → Result (Unit {0}) E → Type 0
 Writes old new text result =
-    MatchResult result (λ done. Takes old new text) (λ failed. AppendsPart old.told new.told text × Rises old.faults new.faults)
+    MatchResult result (λ done. Takes old new text) (λ failed. FailsIn old new text)
 
--- Writing was stopped: a front part of the text is written.
+-- Writing was stopped: a front part of the text is written, and not all where output failed.
 abbrev pub StopsPrint : Seen (List ℕ) → Seen (List ℕ) → List ℕ → Stop → Type 0
-StopsPrint old new text WriteFault = AppendsPart old.told new.told text × Rises old.faults new.faults
+StopsPrint old new text WriteFault = FailsIn old new text
 StopsPrint old new text NoMemory = AppendsPart old.told new.told text × (new.faults ≡ old.faults)
 StopsPrint old new text ReadFault = ⊥
 StopsPrint old new text ShelfFault = ⊥
@@ -95,43 +77,6 @@ StopsPrint old new text ShelfFault = ⊥
 -- a text is written, or its writing was stopped
 abbrev pub Prints : Seen (List ℕ) → Seen (List ℕ) → List ℕ → Result (Unit {0}) Stop → Type 0
 Prints old new text result = MatchResult result (λ done. Takes old new text) (λ stop. StopsPrint old new text stop)
-
--- ---- a guest's run
-
--- Input lost what a guest read, and at most 4,096 bytes more that were read ahead: this is left of what it had.
-pub record LosesRead (old new : Seen (List ℕ)) (left : List ℕ) : Type 0 where
-  pub got : List ℕ
-  pub ahead : List ℕ
-  pub lost : Consumes old.told new.told got
-  pub is : left ≡ ahead ++ unwrap_or new.told []
-  pub few : length ahead ≤ 4096
-  pub sound : new.faults ≡ old.faults
-
--- no count of a run's input and outputs falls
-pub record NoneFalls (w v : World) : Type 0 where
-  pub input : w.input.faults ≤ v.input.faults
-  pub out : w.out.faults ≤ v.out.faults
-  pub err : w.err.faults ≤ v.err.faults
-
--- one of two counts rose, and the other is as before
-abbrev pub OneRose : ℕ → ℕ → ℕ → ℕ → Type 0
-OneRose a a_new b b_new = (Rose a a_new × (b_new ≡ b)) ⊎ ((a_new ≡ a) × Rose b b_new)
-
--- One part of the outside failed in a run, and no other.
-abbrev pub FailsRun : World → World → Stop → Type 0
-FailsRun w v ReadFault = Rose w.input.faults v.input.faults × (v.out.faults ≡ w.out.faults) × (v.err.faults ≡ w.err.faults)
-FailsRun w v WriteFault = (v.input.faults ≡ w.input.faults) × OneRose w.out.faults v.out.faults w.err.faults v.err.faults
-FailsRun w v ShelfFault = ⊥
-FailsRun w v NoMemory = ⊥
-
--- A run was stopped: input lost a front part, and the outputs took front parts of these texts.
-pub record StopsRun (w v : World) (output error_output : List ℕ) (stop : Stop) : Type 0 where
-  pub got : List ℕ
-  pub lost : Consumes w.input.told v.input.told got
-  pub wrote : AppendsPart w.out.told v.out.told output
-  pub wrote_error : AppendsPart w.err.told v.err.told error_output
-  pub none_falls : NoneFalls w v
-  pub fails : FailsRun w v stop
 
 -- ---- what stays
 

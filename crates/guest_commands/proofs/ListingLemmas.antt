@@ -1,13 +1,13 @@
 -- How far the writing of a listing has come.
 use Rattle.std.proofs.Common.{◌≡◌, ℕ, suc, ◌+◌, ◌-◌, ◌%◌, ◌^◌, ◌<◌, List, [], ◌++◌, length, drop, get_or}
-use Rattle.std.proofs.Common.{Option, sym, ap, refl, ◌∙◌, append_assoc, add-one, drop-cons, arith}
+use Rattle.std.proofs.Common.{Option, sym, ap, refl, ◌∙◌, append_assoc, add-one, drop-cons, subst, arith}
 use Rattle.elf_reader.specs.declared.range.Range.{Range}
 use Rattle.nv_outside.specs.Gains.{AppendsPart}
-use Rattle.command_deeds.proofs.DeedLemmas.{same_then_rises}
-use Rattle.command_deeds.specs.World.{Seen, StopsPrint, Takes}
+use Rattle.command_deeds.specs.World.{FailsIn, Seen, StopsPrint, Takes}
 use Rattle.command_deeds.specs.declared.stop.Stop.{Stop}
 use Rattle.command_deeds.specs.declared.stop.Stop.TheVariants.{ReadFault, WriteFault, ShelfFault, NoMemory}
 use Rattle.guest_commands.specs.Listing.{line_at, run_lines, runs_lines}
+use Rattle.nv_outside.proofs.SeenLemmas.{fails-before, fails-behind}
 use Rattle.nv_outside.proofs.WriteLemmas.{Appends-both, Appends-nothing}
 
 pub record Leads (old new : Seen (List ℕ)) (all later : List ℕ) : Type 0 where
@@ -37,7 +37,8 @@ leads_part old mid new all rest piece later e j p = record {
 pub leads_stopped : (old mid new : Seen (List ℕ)) (all rest piece later : List ℕ) (stop : Stop) → rest ≡ piece ++ later → Leads old mid all rest
     → StopsPrint mid new piece stop → StopsPrint old new all stop
 leads_stopped old mid new all rest piece later WriteFault e j p =
-    (leads_part old mid new all rest piece later e j p.0, same_then_rises old.faults mid.faults new.faults j.took.1 p.1)
+    subst (FailsIn old new) (sym (j.splits ∙ ap (λ z. j.gained ++ z) e))
+    (fails-behind old mid new j.gained (piece ++ later) j.took (fails-before mid new piece later p))
 leads_stopped old mid new all rest piece later NoMemory e j p = (leads_part old mid new all rest piece later e j p.0, p.1 ∙ j.took.1)
 leads_stopped old mid new all rest piece later ReadFault e j p = absurd p
 leads_stopped old mid new all rest piece later ShelfFault e j p = absurd p

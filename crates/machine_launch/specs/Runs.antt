@@ -7,7 +7,10 @@ use Rattle.nv_events.specs.declared.outcome.Outcome.TheVariants.{Exited, Faulted
 use Rattle.nv_events.specs.Run.{Run, run_of}
 use Rattle.nv_events.specs.Turn.{Turn}
 use Rattle.nv_outside.specs.Files.{Files}
-use Rattle.unix_calls.specs.Held.{Held, system_of}
+use Rattle.unix_calls.specs.Arriving.{run_arriving}
+use Rattle.unix_calls.specs.Held.{Held}
+use Rattle.unix_calls.specs.Playing.{run_over}
+use Rattle.unix_calls.specs.Stages.{Stage, stage_of}
 use Rattle.unix_files.specs.Files.{Files as GuestFiles, bytes_at, node_named}
 use Rattle.unix_system.specs.Calls.{block_length}
 use Rattle.unix_system.specs.System.{System}
@@ -89,36 +92,27 @@ answer_of (Trapped k) = Some (done.Trapped k)
 answer_of Waiting = None
 answer_of Going = Some done.Spent
 
--- a run's work: it leaves this of input and writes these texts, and its files of these names are kept
-abbrev pub played : List ℕ → List ℕ → List ℕ → GuestFiles → List Text → Outcome → Due
-played left output error_output files keep outcome =
-    record { deeds = plays left output error_output ∷ kept files keep; answer = option_map says (answer_of outcome) }
+-- a run's work: it makes so many turns, and its files of these names are kept
+abbrev pub played : ℕ → (ℕ → Stage) → GuestFiles → List Text → Outcome → Due
+played steps stage files keep outcome = record { deeds = plays steps stage ∷ kept files keep; answer = option_map says (answer_of outcome) }
 
--- what is due of a run
-abbrev pub of_run : {S : Type 0} → Run S System → List Text → Due
-of_run run keep = played run.system.console.rest run.system.console.output run.system.console.error_output run.system.files keep run.outcome
+-- what is due of so many turns of a machine, where this is its run for each number of them
+abbrev pub of_runs : {S : Type 0} → (S → Turn S) → ℕ → (ℕ → Run S System) → List Text → Due
+of_runs turn steps run keep = played steps (λ n. stage_of turn (run n)) (run steps).system.files keep (run steps).outcome
 
--- Where input does not tell what it has left, some run is due: it leaves and writes anything, and ends in some way.
-pub record IsDueOfSomeRun (keep : List Text) (due : Due) : Type 0 where
-  pub left : List ℕ
-  pub output : List ℕ
-  pub error_output : List ℕ
-  pub files : GuestFiles
-  pub outcome : Outcome
-  pub is : due ≡ played left output error_output files keep outcome
-
--- the run of a machine over a system as it is held, with what input has left
+-- what is due of the run of a machine over a system as it is held
 abbrev pub IsDueOfHeld : {S : Type 0} → ℕ → (S → Turn S) → S → Held → List Text → Option (List ℕ) → Due → Type 0
-IsDueOfHeld steps turn s unix keep (Some input) due = due ≡ of_run (run_of turn reply steps s (system_of unix input [] [])) keep
-IsDueOfHeld steps turn s unix keep None due = IsDueOfSomeRun keep due
+IsDueOfHeld steps turn s unix keep input due = (pieces : List (List ℕ)) × (due ≡ of_runs turn steps (λ n. run_over turn n s unix input pieces) keep)
 
--- the run of a machine from a state for so many steps, over these files and this input
-abbrev pub run_for : {S : Type 0} → ℕ → (S → Turn S) → S → Plan → List NamedFile → List ℕ → Run S System
-run_for steps turn s plan found input = run_of turn reply steps s (start plan.session.disk plan.moment found (arguments_of plan) input)
+-- The run of a machine from a state for so many steps, over these files and what input has left, where that is told, or else over some
+-- pieces of it, of which one comes before each call.
+abbrev pub run_for : {S : Type 0} → ℕ → (S → Turn S) → S → Plan → List NamedFile → Option (List ℕ) → List (List ℕ) → Run S System
+run_for steps turn s plan found (Some input) pieces = run_of turn reply steps s (start plan.session.disk plan.moment found (arguments_of plan) input)
+run_for steps turn s plan found None pieces = run_arriving turn steps s (start plan.session.disk plan.moment found (arguments_of plan) []) pieces
 
 abbrev pub IsDueOfSteps : {S : Type 0} → ℕ → (S → Turn S) → S → Plan → Option (List ℕ) → List NamedFile → Due → Type 0
-IsDueOfSteps steps turn s plan (Some input) found due = due ≡ of_run (run_for steps turn s plan found input) plan.session.keep.names
-IsDueOfSteps steps turn s plan None found due = IsDueOfSomeRun plan.session.keep.names due
+IsDueOfSteps steps turn s plan input found due =
+    (pieces : List (List ℕ)) × (due ≡ of_runs turn steps (λ n. run_for n turn s plan found input pieces) plan.session.keep.names)
 
 -- the arguments and the files of a machine, and then its run for the steps of its session
 abbrev pub IsDueOfPlay : {S : Type 0} → (S → Turn S) → S → Plan → Files → Option (List ℕ) → Due → Type 0

@@ -1,5 +1,5 @@
 //! The run of any machine on its system, with arguments and files.
-ghost use Rattle.std.specs.Prelude.{◌≡◌, ◌≤◌, false, length};
+ghost use Rattle.std.specs.Prelude.{◌≡◌, ◌≤◌, false};
 ghost use Rattle.command_words.specs.Limits.{AreFileNames};
 ghost use Rattle.command_deeds.specs.Ends.{ByFiles, Ends};
 ghost use Rattle.machine_launch.specs.Runs.{IsDueOfHeld, IsDueOfPlay, plan_of};
@@ -45,7 +45,6 @@ pub fn play_for<M: Machine + Drop, H: Shelf, S: Source, O: Sink, E: Sink>(
     outside: &mut Outside<'_, H, S, O, E>,
 ) -> Result<Done, Ending>
     requires going { M.has_ended machine ≡ false }
-    requires few { length unix.ahead ≤ 4096 }
     ensures ends { Ends H.Shelf S.Source O.Sink E.Sink (λ w. IsDueOfHeld steps M.turn (M.state machine) unix keep.now.names w.input.told)
         outside.old outside.new result }
 {

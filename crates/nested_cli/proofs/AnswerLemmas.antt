@@ -1,5 +1,5 @@
 -- What the work of a call and its line come to.
-use Rattle.std.proofs.Common.{◌≡◌, ◌≢◌, ◌⊎◌, ℕ, Bool, true, false, List, Result, Ok, Err, refl, sym, ◌∙◌, ap, subst, inl, inr}
+use Rattle.std.proofs.Common.{◌≡◌, ◌⊎◌, ℕ, true, false, List, Result, Ok, Err, refl, sym, ◌∙◌, ap, subst, inl, inr}
 use Rattle.command_words.specs.Meaning.{command_of}
 use Rattle.command_words.specs.declared.command.Command.{Command}
 use Rattle.command_words.specs.declared.usage.Usage.{Usage}
@@ -13,7 +13,7 @@ use Rattle.command_deeds.specs.declared.stop.Stop.TheVariants.{ReadFault, WriteF
 use Rattle.nested_cli.specs.Commands.{Does, IsDueOf, IsRunOf}
 use Rattle.nested_cli.specs.Faults.{Faults, NoFaults, NoneFalls}
 use Rattle.nested_cli.specs.Line.{Says, Tells}
-use Rattle.nested_cli.specs.Usage.{Misuses, usage_number}
+use Rattle.nested_cli.specs.Usage.{Misuses}
 use Rattle.nested_cli.proofs.FaultLemmas.{EndSays, StopSays, comes_says, falls_then, load_says, none_falls}
 use Rattle.nested_cli.proofs.FaultLemmas.{none_then, rises_after, same_falls, stays_sound}
 
@@ -117,8 +117,8 @@ told_faults end line w u v said p says = by says.3
           shelf = same_falls u.shelf.faults v.shelf.faults says.0.1;
           input = same_falls u.input.faults v.input.faults (ap (λ i. i.faults) says.1);
           out = same_falls u.out.faults v.out.faults (ap (λ o. o.faults) says.2);
-          err = told.2.never_falls;
-        }) told.2)
+          err = told.1.1.never_falls;
+        }) told.1.1)
 
 -- ---- the whole call
 

@@ -1,16 +1,16 @@
 -- What an end says of the counts of faults.
-use Rattle.std.proofs.Common.{◌≡◌, ◌≢◌, ◌≤◌, ◌⊎◌, ℕ, false, List, [], ◌∷◌, Result, Ok, Err, refl, sym, ◌∙◌, ap, subst, inl, inr, arith}
-use Rattle.nv_outside.specs.Faults.{Rose}
+use Rattle.std.proofs.Common.{◌≡◌, ◌≤◌, ◌⊎◌, ℕ, suc, false, List, [], ◌∷◌, Result, Ok, Err, sym, ◌∙◌, ap, subst, inl, inr, arith}
+use Rattle.nv_events.specs.declared.io_fault.IoFault.{IoFault}
+use Rattle.nv_events.specs.declared.io_fault.IoFault.TheVariants as io
+use Rattle.unix_calls.specs.Stages.{FailsCall, OneFailsBehind, Stage}
 use Rattle.command_deeds.specs.Deeds.{Deed, DoesAll, DoesDeed, StopsDeed, StopsIn, plays, prepares, prints, stores}
-use Rattle.command_deeds.specs.Ends.{Answer, Comes, Due, final, is_stop}
-use Rattle.command_deeds.specs.World.{FailsRun, OneRose, Rises, StopsLoad, StopsPrint, StopsRun, StopsStore, World}
+use Rattle.command_deeds.specs.Ends.{Answer, Comes, Due, is_stop}
+use Rattle.command_deeds.specs.Stops.{stop_of}
+use Rattle.command_deeds.specs.World.{Rises, StopsLoad, StopsPrint, StopsStore, World}
 use Rattle.command_deeds.specs.World as world
-use Rattle.command_deeds.specs.declared.done.Done.{Done}
-use Rattle.command_deeds.specs.declared.done.Done.TheVariants as done
 use Rattle.command_deeds.specs.declared.stop.Stop.{Stop}
 use Rattle.command_deeds.specs.declared.stop.Stop.TheVariants.{ReadFault, WriteFault, ShelfFault, NoMemory}
 use Rattle.nested_cli.specs.Faults.{NoFaults, NoneFalls, SameFaults}
-use Rattle.nested_cli.specs.Line.{Says, Tells}
 
 pub same_falls : (a b : ℕ) → b ≡ a → a ≤ b
 same_falls a b e = omega arith
@@ -50,7 +50,7 @@ deed_sound prepares w v p = record { shelf = p.0.1; input = ap (λ i. i.faults) 
 deed_sound (stores name bytes) w v p =
     record { shelf = p.0.1; input = ap (λ i. i.faults) p.1.0; out = ap (λ o. o.faults) p.1.1; err = ap (λ o. o.faults) p.1.2 }
 deed_sound (prints text) w v p = record { shelf = p.1.0.1; input = ap (λ i. i.faults) p.1.1; out = p.0.1; err = ap (λ o. o.faults) p.1.2 }
-deed_sound (plays left out err) w v p = record { shelf = p.0.1; input = p.1.sound; out = p.2.1; err = p.3.1 }
+deed_sound (plays turns stage) w v p = record { shelf = p.0.1; input = p.1.input.sound; out = p.1.out.1; err = p.1.err.1 }
 
 pub stays_sound : (w v : World) → world.Stays w v → NoFaults w v
 stays_sound w v p = deed_sound prepares w v p
@@ -107,26 +107,47 @@ print_says w v text NoMemory p only =
     let sound : NoFaults w v = record { shelf = only.0.1; input = ap (λ i. i.faults) only.1; out = p.1; err = ap (λ o. o.faults) only.2 } in
     record { falls = none_falls w v sound; fails = sound }
 
-one_rises : (w v : World) → world.NoneFalls w v → OneRose w.out.faults v.out.faults w.err.faults v.err.faults → Fails WriteFault w v
-one_rises w v falls (inl p) = inl (record { never_falls = falls.out; rose = p.0 })
-one_rises w v falls (inr p) = inr (record { never_falls = falls.err; rose = p.1 })
+one_rises : (w v : World) (before behind : Stage) → v.shelf.faults ≡ w.shelf.faults → v.input.faults ≡ w.input.faults
+    → OneFailsBehind before behind (world.streams_of w) (world.streams_of v) → StopSays WriteFault w v
+one_rises w v before behind shelf input (inl p) = record {
+  falls = record {
+    shelf = same_falls w.shelf.faults v.shelf.faults shelf;
+    input = same_falls w.input.faults v.input.faults input;
+    out = p.0.rises.never_falls;
+    err = same_falls w.err.faults v.err.faults p.1.1;
+  };
+  fails = inl p.0.rises;
+}
+one_rises w v before behind shelf input (inr p) = record {
+  falls = record {
+    shelf = same_falls w.shelf.faults v.shelf.faults shelf;
+    input = same_falls w.input.faults v.input.faults input;
+    out = same_falls w.out.faults v.out.faults p.0.1;
+    err = p.1.rises.never_falls;
+  };
+  fails = inr p.1.rises;
+}
 
-run_fails : (w v : World) (stop : Stop) → world.NoneFalls w v → SameFaults w.shelf v.shelf → FailsRun w v stop → Fails stop w v
-run_fails w v ReadFault falls shelf p = (record { never_falls = falls.input; rose = p.0 }, shelf, p.1, p.2)
-run_fails w v WriteFault falls shelf p = one_rises w v falls p.1
-run_fails w v ShelfFault falls shelf p = absurd p
-run_fails w v NoMemory falls shelf p = absurd p
+call_says : (fault : IoFault) (w v : World) (before behind : Stage) → v.shelf.faults ≡ w.shelf.faults
+    → FailsCall fault before behind (world.streams_of w) (world.streams_of v) → StopSays (stop_of fault) w v
+call_says io.ReadFault w v before behind shelf p = record {
+  falls = record {
+    shelf = same_falls w.shelf.faults v.shelf.faults shelf;
+    input = p.1.rises.never_falls;
+    out = same_falls w.out.faults v.out.faults p.2.1;
+    err = same_falls w.err.faults v.err.faults p.3.1;
+  };
+  fails = (p.1.rises, shelf, p.2.1, p.3.1);
+}
+call_says io.WriteFault w v before behind shelf p = one_rises w v before behind shelf p.1.sound p.2
 
 stop_says : (deed : Deed) (w v : World) (stop : Stop) → StopsDeed deed w v stop → StopSays stop w v
 stop_says prepares w v stop p = load_says w v stop p.0 p.1
 stop_says (stores name bytes) w v stop p = store_says w v name stop p.0 p.1
 stop_says (prints text) w v stop p = print_says w v text stop p.0 p.1
-stop_says (plays left out err) w v stop p =
-    let falls = p.1.none_falls in
-    record {
-      falls = record { shelf = same_falls w.shelf.faults v.shelf.faults p.0.1; input = falls.input; out = falls.out; err = falls.err };
-      fails = run_fails w v stop falls p.0.1 p.1.fails;
-    }
+stop_says (plays turns stage) w v stop p =
+    let run = p.1.2 in
+    subst (λ x. StopSays x w v) (sym p.1.1) (call_says p.1.0 w v (stage run.made) (stage (suc run.made)) p.0.1 run.fails)
 
 pub rises_after : (a b c : ℕ) → a ≤ b → Rises b c → Rises a c
 rises_after a b c h r = record { never_falls = omega (arith, r.never_falls); rose = grind (arith, r.rose) }

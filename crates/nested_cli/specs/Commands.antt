@@ -36,7 +36,7 @@ IsDueOf (command.Make count method_bytes) moment w due = IsDueOfMake count metho
 IsDueOf other moment w due = ⊤
 
 -- What a command that runs a guest or classes is to do, at a moment: by the words, the files and the input, where these are told. Where
--- input does not tell what it has left, what the run itself writes and keeps is left open.
+-- input does not tell what it has left, there are some pieces of it, of which one comes before each call, and the run is that over these.
 abbrev pub IsRunOf : Command → ℕ → World → Due → Type 0
 IsRunOf (command.Go input name pages method_bytes session) moment w due =
     ByFiles (IsDueOfGo input pages method_bytes (plan name session moment)) w due

@@ -26,13 +26,13 @@ use translate_commands::{go, make, translate};
 ///
 /// `words` are the words after the program's name, and `moment` is the time, in seconds since 1970.
 ///
-/// What it is to do follows from the words, from the files where the shelf tells them, and for a run from the input where that tells
-/// what it has left. All of it is done, or it is stopped on the way. Words that are no command line are answered `Usage` over every
-/// outside.
+/// What it is to do follows from the words, from the files where the shelf tells them, and for a run from the input, or where that does
+/// not tell what it has left, from pieces of it, one before each call. All of it is done, or it is stopped on the way. Words that are no
+/// command line are answered `Usage` over every outside.
 ///
 /// The answer is `WriteFault` where that last write failed, or a write to `out` or of the guest to `err`. One fault ends the call: where
 /// a call of the outside failed, the answer is one of its faults, and nothing further is read, written or stored but for the answer's
-/// line.
+/// line. A sink that failed has a front part of the text, but not all.
 pub fn nested<H: Shelf, S: Source, O: Sink, E: Sink>(
     alloc: Global,
     words: &[String],

@@ -1,3 +1,4 @@
 pub mod ReadLemmas
 pub mod FilesLemmas
 pub mod WriteLemmas
+pub mod SeenLemmas

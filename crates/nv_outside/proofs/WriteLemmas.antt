@@ -1,9 +1,9 @@
 -- How far a writing of some bytes has come.
-use Rattle.std.proofs.Common.{◌≡◌, ℕ, ◌+◌, List, [], ◌++◌, take, drop, Option, Some, None, sym, ap, ◌∙◌, append_assoc, append-nil, drop-drop}
+use Rattle.std.proofs.Common.{◌≡◌, ℕ, ◌+◌, List, [], ◌++◌, take, drop, Option, Some, None, sym, ap, ◌∙◌, append_assoc, append-nil, drop-drop, length, ◌<◌, ◌∷◌, arith}
 use Rattle.std.proofs.Math.Seq.{take-add}
 use Rattle.std.proofs.lemmas.List.{take-append-drop}
 use Rattle.std.specs.Io.KnownBytes.{Appends, Keeps}
-use Rattle.nv_outside.specs.Gains.{AppendsPart}
+use Rattle.nv_outside.specs.Gains.{AppendsPart, AppendsProperPart}
 
 pub record Wrote (old new : Option (List ℕ)) (bytes rest : List ℕ) : Type 0 where
   pub written : ℕ
@@ -36,11 +36,17 @@ Wrote-more old mid new bytes rest n w took =
       left = ap (drop n) w.left ∙ drop-drop n w.written bytes;
     }
 
--- the sink kept what it had taken: a front part
-pub Wrote-part : (old mid new : Option (List ℕ)) (bytes rest : List ℕ) → Wrote old mid bytes rest → Keeps mid new → AppendsPart old new bytes
-Wrote-part old mid new bytes rest w kept = record {
+-- the sink kept what it had taken: a front part, but not all, where something is left
+pub Wrote-part : (old mid new : Option (List ℕ)) (bytes rest : List ℕ) → 0 < length rest → Wrote old mid bytes rest → Keeps mid new
+    → AppendsProperPart old new bytes
+Wrote-part old mid new bytes [] some w kept = absurd (grind (arith, some))
+Wrote-part old mid new bytes (next ∷ rest) some w kept = record {
   front = take w.written bytes;
-  rest = drop w.written bytes;
-  splits = sym (take-append-drop w.written bytes);
+  next = next;
+  rest = rest;
+  splits = sym (take-append-drop w.written bytes) ∙ ap (λ z. take w.written bytes ++ z) (sym w.left);
   gained = both-kept old mid new _ w.took kept;
 }
+
+pub part-of-proper : (old new : Option (List ℕ)) (bytes : List ℕ) → AppendsProperPart old new bytes → AppendsPart old new bytes
+part-of-proper old new bytes part = record { front = part.front; rest = part.next ∷ part.rest; splits = part.splits; gained = part.gained }

@@ -11,6 +11,11 @@ one_more n = min (n + 1) (2 ^ 64 - 1)
 abbrev pub Rose : ℕ → ℕ → Type 0
 Rose before now = one_more before ≤ now
 
+-- A count did not fall, and rose.
+pub record Rises (before now : ℕ) : Type 0 where
+  pub never_falls : before ≤ now
+  pub rose : Rose before now
+
 -- What a call does to the count of its object: it rises where the call failed, and is as before where it did not.
 pub record CountsFailure (failed : Bool) (before now : ℕ) : Type 0 where
   pub never_falls : before ≤ now

@@ -1,5 +1,5 @@
--- What a sink gained where a writing of several pieces was cut short.
-use Rattle.std.specs.Prelude.{◌≡◌, ℕ, ◌++◌, List, Option}
+-- What a sink gained where a writing was cut short.
+use Rattle.std.specs.Prelude.{◌≡◌, ℕ, List, ◌∷◌, ◌++◌, Option}
 use Rattle.std.specs.Io.KnownBytes.{Appends}
 
 -- known bytes grow by a front part of these
@@ -7,4 +7,12 @@ pub record AppendsPart (old new : Option (List ℕ)) (bytes : List ℕ) : Type 0
   pub front : List ℕ
   pub rest : List ℕ
   pub splits : bytes ≡ front ++ rest
+  pub gained : Appends old new front
+
+-- known bytes grow by a front part of these, but not by all of them
+pub record AppendsProperPart (old new : Option (List ℕ)) (bytes : List ℕ) : Type 0 where
+  pub front : List ℕ
+  pub next : ℕ
+  pub rest : List ℕ
+  pub splits : bytes ≡ front ++ next ∷ rest
   pub gained : Appends old new front

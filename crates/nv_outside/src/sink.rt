@@ -1,7 +1,7 @@
 ghost use Rattle.std.specs.Prelude.{◌≡◌, ◌≢◌, ◌≤◌, ◌<◌, ℕ, List, Option, IfOk, OnOk, OnErr, Ok, is_err, length};
 ghost use Rattle.std.specs.Io.KnownBytes.{Appends, WriteAppends};
 ghost use Rattle.nv_outside.specs.Faults.{CountsFailure};
-ghost use Rattle.nv_outside.specs.Gains.{AppendsPart};
+ghost use Rattle.nv_outside.specs.Gains.{AppendsProperPart};
 
 use crate::failed::Failed;
 
@@ -25,10 +25,10 @@ pub trait Sink {
 
 /// Writes all of `bytes`: what the sink leaves of them is written again, until it is taken.
 ///
-/// After a failure the sink has taken a front part of them.
+/// After a failure the sink has taken a front part of them, but not all.
 pub fn write_all<K: Sink>(sink: &mut K, bytes: &[u8]) -> Result<(), Failed>
     ensures ok { OnOk result (Appends (K.taken sink.old) (K.taken sink.new) bytes.now) }
-    ensures err { OnErr result (AppendsPart (K.taken sink.old) (K.taken sink.new) bytes.now) }
+    ensures err { OnErr result (AppendsProperPart (K.taken sink.old) (K.taken sink.new) bytes.now) }
     ensures count { CountsFailure (is_err result) (K.faults sink.old) (K.faults sink.new) }
 {
     let mut rest = bytes;

@@ -1,1 +1,2 @@
 mod OneLayout
+pub mod EndedRuns

@@ -1,5 +1,5 @@
 -- What `go` is to do.
-use Rattle.std.specs.Prelude.{◌≡◌, ◌≢◌, ℕ, List, Option, Some, None}
+use Rattle.std.specs.Prelude.{◌≡◌, ◌≢◌, ℕ, List, Option, Some}
 use Rattle.command_words.specs.declared.named.Named.{Named}
 use Rattle.command_words.specs.declared.pages.Pages.{Pages}
 use Rattle.elf_image.specs.Start.{Source, image_of}
@@ -18,31 +18,32 @@ use Rattle.program_translation.specs.declared.built.Built.{Built}
 use Rattle.unix_system.specs.System.{System}
 use Rattle.command_deeds.specs.Ends.{Due, says}
 use Rattle.command_deeds.specs.declared.done.Done.TheVariants.{Trapped}
-use Rattle.machine_launch.specs.Runs.{IsDueOfSession, IsDueOfSomeRun, NamedFile, Plan, of_run, run_for}
+use Rattle.machine_launch.specs.Runs.{IsDueOfSession, NamedFile, Plan, of_runs, run_for}
+use Rattle.nv_translate.specs.Translated.{EndsAs}
 use Rattle.translate_commands.specs.Stores.{IsDueBehind}
 use Rattle.translate_commands.specs.Translate.{IsDueOfTranslation}
 
--- the run of a program's classes from their start, over this input and these files: in the region that they need, and for as many
--- instructions as the program's steps allow
-abbrev pub classes_for : Plan → Source → List NamedFile → List Class → List ℕ → Run Loaded System
-classes_for plan source found classes input =
-    let mapped = (image_of source).mapped in
-    run_for (allow mapped plan.session.steps) loaded_turn (loaded (program_of classes) (need mapped)) plan found input
+-- the run of a program's classes from their start, for at most n instructions: in the region that they need, over these files, and over this
+-- input, or these pieces of it
+abbrev pub classes_for : Plan → Source → List NamedFile → List Class → Option (List ℕ) → List (List ℕ) → ℕ → Run Loaded System
+classes_for plan source found classes input pieces n =
+    run_for n loaded_turn (loaded (program_of classes) (need (image_of source).mapped)) plan found input pieces
 
--- the run of the program itself, for its steps, as `interp` makes it
-abbrev pub program_for : Plan → Source → List NamedFile → List ℕ → Run State System
-program_for plan source found input = run_for plan.session.steps turn (start_of (image_of source)) plan found input
+-- the run of the program itself over the same, for its steps, as `interp` makes it
+abbrev pub program_for : Plan → Source → List NamedFile → Option (List ℕ) → List (List ℕ) → Run State System
+program_for plan source found input pieces = run_for plan.session.steps turn (start_of (image_of source)) plan found input pieces
 
--- What is due of the run of the classes, over input that is told. It is what is due of the program's own run where that ends within its steps.
--- It is never a trap.
-pub record IsDueOfClasses (plan : Plan) (source : Source) (found : List NamedFile) (classes : List Class) (input : List ℕ) (due : Due) : Type 0 where
-  pub is : due ≡ of_run (classes_for plan source found classes input) plan.session.keep.names
-  pub as_interp : (program_for plan source found input).outcome ≢ Going → due ≡ of_run (program_for plan source found input) plan.session.keep.names
+-- What is due of the run of the classes, for as many instructions as the program's steps allow. Where the program itself ends within its steps, they
+-- end as it does: after the same calls, in the same way, and with the same files, input and output. They never end in a trap.
+pub record IsDueOfClasses (plan : Plan) (source : Source) (found : List NamedFile) (classes : List Class) (input : Option (List ℕ))
+    (pieces : List (List ℕ)) (due : Due) : Type 0 where
+  pub is : due ≡ of_runs loaded_turn (allow (image_of source).mapped plan.session.steps) (classes_for plan source found classes input pieces) plan.session.keep.names
+  pub as_interp : (program_for plan source found input pieces).outcome ≢ Going
+      → EndsAs (program_for plan source found input pieces) (classes_for plan source found classes input pieces (allow (image_of source).mapped plan.session.steps))
   pub no_trap : (k : ℕ) → due.answer ≢ Some (says (Trapped k))
 
 abbrev pub IsDueOfRun : Plan → Source → Option (List ℕ) → List NamedFile → List Class → Due → Type 0
-IsDueOfRun plan source (Some input) found classes due = IsDueOfClasses plan source found classes input due
-IsDueOfRun plan source None found classes due = IsDueOfSomeRun plan.session.keep.names due
+IsDueOfRun plan source input found classes due = (pieces : List (List ℕ)) × IsDueOfClasses plan source found classes input pieces due
 
 -- the files of a translation are stored, and the classes that they spell run
 abbrev pub IsDueOfStored : Plan → Source → Option (List ℕ) → List NamedFile → Built → List Class → Due → Type 0

@@ -5,3 +5,4 @@ mod TranslatedTypes
 mod AcceptedTranslations
 mod CountedTranslations
 mod WarmTranslations
+pub mod EndedRuns

@@ -23,7 +23,7 @@ classes_run classes words system m = run_of loaded_turn reply m (loaded (program
 
 -- The other run ends as the one: after the same calls, in the same way, and with the system in the same state, in which are the files and what was
 -- written.
-pub record EndsAs {S T : Type 0} (run : Run S System) (other : Run T System) : Type 0 where
+pub record EndsAs {S T K : Type 0} (run : Run S K) (other : Run T K) : Type 0 where
   pub calls : other.questions ≡ run.questions
   pub outcome : other.outcome ≡ run.outcome
   pub system : other.system ≡ run.system

@@ -1,30 +1,27 @@
 -- What a server of joined parts gives.
-use Rattle.std.proofs.Common.{◌≡◌, ◌≢◌, ◌≤◌, ℕ, ℤ, Option, Some, None, Result, Ok, Err, refl, sym, subst, inl, arith}
+use Rattle.std.proofs.Common.{◌≡◌, ◌≢◌, ℕ, ℤ, Option, Some, None, Result, Ok, Err, refl, sym, subst, inl, arith}
 use Rattle.std.specs.Prelude.{OnOk}
 use Rattle.nv_outside.specs.Faults.{Rose}
 use Rattle.nv_events.specs.Question.{Question}
-use Rattle.nv_events.specs.Answer.{Answer}
 use Rattle.nv_events.specs.declared.io_fault.IoFault.{IoFault}
 use Rattle.nv_events.specs.declared.io_fault.IoFault.TheVariants.{ReadFault, WriteFault}
-use Rattle.nv_events.specs.Serving.{Causes, Counts, NoneFalls, none_counted}
+use Rattle.nv_events.specs.Serving.{Causes, NoneFalls, none_counted}
 use Rattle.nv_events.specs.Serving as events
 use Rattle.unix_calls.specs.Serving.{Parts, Serves, AsSome}
-use Rattle.unix_calls.specs.Playing.{Answers, Fails}
-use Rattle.unix_calls.specs.Failing.{FailsBy, HasFailed, failed_calls, fault_of}
+use Rattle.unix_calls.specs.Failing.{failed_calls, fault_of}
+use Rattle.unix_calls.proofs.LeadsLemmas.{Answers, FailsBy}
 use Rattle.unix_system.specs.Unix.{unix}
 
-module _ {V C : Type 0} (part : V → Parts) (counts : V → Counts) (failed : V → Option IoFault) (put_at : C → ℕ → ℕ → C) where
+module _ {V C : Type 0} (part : V → Parts) (failed : V → Option IoFault) (put_at : C → ℕ → ℕ → C) where
   abbrev JoinedServes : Question → V → V → C → C → Result (Option ℤ) IoFault → Type 0
   JoinedServes q j k c d y =
-      events.Serves (λ v r a w. Answers (part v) r a (part w) × (counts w ≡ counts v)) (λ v r w. ⊥)
-      (λ v r w. Fails (part v) r (part w) × HasFailed (failed w) (counts v) (counts w)) put_at q j k c d y
+      events.Serves (λ v r a w. Answers (part v) r a (part w)) (λ v r w. ⊥)
+      (λ v r w. (fault : IoFault) × (failed w ≡ Some fault) × FailsBy fault (part v) r (part w)) put_at q j k c d y
 
   pub joined-serves : (j k : V) (q : Question) (c d : C) (x : Result ℤ IoFault) (y : Result (Option ℤ) IoFault) → AsSome x y → failed k ≡ fault_of x
-      → Serves put_at (λ s. unix s q) q.room (part j) (part k) c d x → FailsBy (counts j) (counts k) x → NoneFalls (counts j) (counts k) → JoinedServes q j k c d y
-  joined-serves j k q c d (Ok value) y is sound given fails falls =
-      subst (JoinedServes q j k c d) (sym is) (given.0, given.1.fits, (given.1, fails), given.2)
-  joined-serves j k q c d (Err e) y is fault given fails falls =
-      subst (JoinedServes q j k c d) (sym is) ((given.0, subst (λ f. HasFailed f (counts j) (counts k)) (sym fault) (fails, falls)), given.1)
+      → Serves put_at (λ s. unix s q) q.number q.room (part j) (part k) c d x → JoinedServes q j k c d y
+  joined-serves j k q c d (Ok value) y is sound given = subst (JoinedServes q j k c d) (sym is) (given.0, given.1.fits, given.1, given.2)
+  joined-serves j k q c d (Err e) y is fault given = subst (JoinedServes q j k c d) (sym is) ((e, fault, given.0), given.1)
 
 pub joined-some : (x : Result ℤ IoFault) (y : Result (Option ℤ) IoFault) → AsSome x y → y ≢ Ok None
 joined-some (Ok v) y is none = cc

@@ -8,7 +8,8 @@ pub mod JoinedLemmas
 pub mod ReadGiven
 pub mod WriteGiven
 pub mod StartLemmas
-pub mod FallLemmas
+pub mod BreakLemmas
 pub mod FrameLemmas
 pub mod LeadsLemmas
+pub mod JoinedRuns
 pub mod PlayLemmas

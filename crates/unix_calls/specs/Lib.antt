@@ -1,6 +1,8 @@
 pub mod Held
 pub mod Drawing
 pub mod Serving
+pub mod Arriving
+pub mod Stages
 pub mod Starting
 pub mod Beginning
 pub mod Access

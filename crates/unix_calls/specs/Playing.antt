@@ -1,45 +1,43 @@
--- What a run over the system did: call by call, and, where the source tells what it has left, as the run of the definition.
-use Rattle.std.specs.Prelude.{◌≡◌, ℕ, List, ◌++◌}
-use Rattle.std.specs.Io.KnownBytes.{Consumes, Appends}
-use Rattle.nv_outside.specs.Gains.{AppendsPart}
-use Rattle.nv_events.specs.Question.{Question}
-use Rattle.nv_events.specs.Answer.{Answer}
-use Rattle.nv_events.specs.Run.{Run}
+-- What a run over the system, a source and two sinks did.
+use Rattle.std.specs.Prelude.{◌≡◌, ℕ, List, [], ◌++◌, Option, Some, None}
+use Rattle.nv_events.specs.Run.{Run, run_of}
+use Rattle.nv_events.specs.Turn.{Turn}
+use Rattle.nv_events.specs.declared.io_fault.IoFault.{IoFault}
 use Rattle.nv_events.specs.declared.outcome.Outcome.{Outcome}
 use Rattle.unix_system.specs.System.{System, with_console}
-use Rattle.unix_system.specs.Unix.{unix}
-use Rattle.unix_calls.specs.Held.{system_of}
+use Rattle.unix_system.specs.Unix.{reply}
+use Rattle.unix_calls.specs.Held.{Held, system_of}
 use Rattle.unix_calls.specs.Drawing.{known}
-use Rattle.unix_calls.specs.Serving.{Parts, Goes, Fell}
+use Rattle.unix_calls.specs.Arriving.{run_arriving}
+use Rattle.unix_calls.specs.Serving.{Parts}
+use Rattle.unix_calls.specs.Stages.{ComesTo, StopsRun, Streams, stage_of}
 
--- One call, from parts to parts: answered by the definition, or failed by the outside. There is always an answer.
-abbrev pub Answers : Parts → Question → Answer → Parts → Type 0
-Answers p q a r = Goes (λ s. unix s q) q.room p a r
+-- The run of at most n turns over a system as it is held: over all that input has left, where that is told, or else over pieces of it, one
+-- before each call.
+abbrev pub run_over : {S : Type 0} → (S → Turn S) → ℕ → S → Held → Option (List ℕ) → List (List ℕ) → Run S System
+run_over turn n s unix (Some rest) pieces = run_of turn reply n s (system_of unix rest [] [])
+run_over turn n s unix None pieces = run_arriving turn n s (system_of unix [] [] []) pieces
 
-abbrev pub Fails : Parts → Question → Parts → Type 0
-Fails p q r = Fell (λ s. unix s q) p r
+abbrev pub streams : Parts → Streams
+streams p = record { input = p.input; out = p.out; err = p.err }
 
-abbrev pub Holds : Parts → Question → Parts → Type 0
-Holds p q r = ⊥
-
--- The definition's run ended so, with the machine and the system as they are now; the source lost what the run read or what was
--- read ahead, and the sinks gained what the run wrote.
-pub record Plays {S : Type 0} (run : Run S System) (now : S) (p r : Parts) (outcome : Outcome) : Type 0 where
-  pub got : List ℕ
-  pub consumed : Consumes p.rest r.rest got
-  pub wrote : Appends p.output r.output run.system.console.output
-  pub wrote_error : Appends p.error_output r.error_output run.system.console.error_output
+-- A run of the definition ended so, with the machine and the system as they are now; the source lost what the run read or what was read
+-- ahead, and the sinks gained what it wrote.
+pub record PlaysRun {S : Type 0} (turn : S → Turn S) (run : Run S System) (now : S) (p r : Parts) (outcome : Outcome) : Type 0 where
+  pub comes : ComesTo (stage_of turn run) (streams p) (streams r)
   pub is : run.outcome ≡ outcome
   pub last : run.last ≡ now
-  pub system : run.system ≡ system_of r.unix (known r.rest) run.system.console.output run.system.console.error_output
+  pub system : run.system ≡ system_of r.unix (known r.input.told) run.system.console.output run.system.console.error_output
 
--- The outside failed a call: the source lost a front part of its rest, and the sinks gained front parts of what the definition's
--- run writes.
-pub record Falls {S : Type 0} (run : Run S System) (p r : Parts) : Type 0 where
-  pub got : List ℕ
-  pub consumed : Consumes p.rest r.rest got
-  pub wrote : AppendsPart p.output r.output run.system.console.output
-  pub wrote_error : AppendsPart p.error_output r.error_output run.system.console.error_output
+abbrev pub Plays : {S : Type 0} → (S → Turn S) → ℕ → S → S → Parts → Parts → Outcome → Type 0
+Plays turn steps s now p r outcome =
+    (pieces : List (List ℕ)) × PlaysRun turn (run_over turn steps s p.unix p.input.told pieces) now p r outcome
+
+-- The outside failed a call of the definition's run, and stopped it there.
+abbrev pub Breaks : {S : Type 0} → (S → Turn S) → ℕ → S → Parts → Parts → IoFault → Type 0
+Breaks turn steps s p r fault =
+    (pieces : List (List ℕ))
+    × StopsRun steps (λ n. stage_of turn (run_over turn n s p.unix p.input.told pieces)) fault (streams p) (streams r)
 
 -- a system to which these were written before, and a run from there
 abbrev pub behind : List ℕ → List ℕ → System → System

@@ -1,7 +1,7 @@
 -- What a read and a write of the code did, call by call. `does` is the definition's call.
-use Rattle.std.specs.Prelude.{◌≡◌, ℕ, ℤ, List, ◌++◌, Option, Result, Ok, Err, IsTrue}
-use Rattle.std.specs.Io.KnownBytes.{Consumes, Appends}
-use Rattle.nv_outside.specs.Gains.{AppendsPart}
+use Rattle.std.specs.Prelude.{◌≡◌, ◌⊎◌, ℕ, ℤ, List, ◌++◌, Option, Result, Ok, Err, IsTrue}
+use Rattle.std.specs.Io.KnownBytes.{Consumes}
+use Rattle.nv_outside.specs.Seen.{FailsIn, Seen, Takes}
 use Rattle.nv_events.specs.Memory.{patched}
 use Rattle.nv_events.specs.Question.{Room}
 use Rattle.nv_events.specs.Answer.{Answer, fits_room, room_place}
@@ -10,7 +10,6 @@ use Rattle.unix_system.specs.declared.opened.Opened.{Opened}
 use Rattle.unix_system.specs.System.{System, with_tables}
 use Rattle.unix_system.specs.Asked.{value_only}
 use Rattle.unix_calls.specs.Drawing.{known}
-use Rattle.unix_calls.specs.Failing.{OneRose}
 
 -- a system with these files, descriptors and rest of input
 abbrev pub with_input : System → Files → Opened → List ℕ → System
@@ -67,28 +66,28 @@ with_written s output error_output = record {
   order = s.order;
 }
 
--- files, descriptors, and what the sinks tell
+-- files, descriptors, and what is seen of the sinks
 pub record Outputs : Type 0 where
   pub files : Files
   pub opened : Opened
-  pub output : Option (List ℕ)
-  pub error_output : Option (List ℕ)
+  pub out : Seen (List ℕ)
+  pub err : Seen (List ℕ)
 
-abbrev pub outputs : Files → Opened → Option (List ℕ) → Option (List ℕ) → Outputs
-outputs files opened output error_output = record { files = files; opened = opened; output = output; error_output = error_output }
+abbrev pub outputs : Files → Opened → Seen (List ℕ) → Seen (List ℕ) → Outputs
+outputs files opened out err = record { files = files; opened = opened; out = out; err = err }
 
 pub record Writes (does : System → Answer × System) (old new : Outputs) (value : ℤ) : Type 0 where
   pub output : List ℕ
   pub error_output : List ℕ
-  pub wrote : Appends old.output new.output output
-  pub wrote_error : Appends old.error_output new.error_output error_output
+  pub wrote : Takes old.out new.out output
+  pub wrote_error : Takes old.err new.err error_output
   pub is : (s : System) → does (with_tables s old.files old.opened) ≡ (value_only value, with_written (with_tables s new.files new.opened) output error_output)
 
+-- one sink failed before it had taken all that was to be written to it, and the other was not written to
 pub record WritesPart (does : System → Answer × System) (old new : Outputs) : Type 0 where
   pub output : List ℕ
   pub error_output : List ℕ
-  pub wrote : AppendsPart old.output new.output output
-  pub wrote_error : AppendsPart old.error_output new.error_output error_output
+  pub sinks : (FailsIn old.out new.out output × (new.err ≡ old.err)) ⊎ ((new.out ≡ old.out) × FailsIn old.err new.err error_output)
   pub files : new.files ≡ old.files
   pub opened : new.opened ≡ old.opened
   pub is : (s : System) → (does (with_tables s old.files old.opened)).1.console ≡ (with_written s output error_output).console
@@ -96,8 +95,3 @@ pub record WritesPart (does : System → Answer × System) (old new : Outputs) :
 abbrev pub WriteGives : {E : Type 0} → (System → Answer × System) → Outputs → Outputs → Result ℤ E → Type 0
 WriteGives does old new (Ok value) = Writes does old new value
 WriteGives does old new (Err e) = WritesPart does old new
-
--- A write fails where one sink did.
-abbrev pub WriteCauses : {E : Type 0} → ℕ → ℕ → ℕ → ℕ → Result ℤ E → Type 0
-WriteCauses output output_new error error_new (Ok value) = (output_new ≡ output) × (error_new ≡ error)
-WriteCauses output output_new error error_new (Err e) = OneRose output output_new error error_new

@@ -1,28 +1,29 @@
--- What a call did, between the system's definition and what the source and the sinks tell. `does` is the definition's call: the
+-- What a call did, between the system's definition and what is seen of the source and the sinks. `does` is the definition's call: the
 -- answer and the state after it.
-use Rattle.std.specs.Prelude.{◌≡◌, ℕ, ℤ, List, [], ◌++◌, Option, Some, None, Result, Ok, Err, IsTrue}
-use Rattle.std.specs.Io.KnownBytes.{Consumes, Appends}
+use Rattle.std.specs.Prelude.{◌≡◌, ◌⊎◌, ℕ, ℤ, List, [], ◌++◌, Option, Some, None, Result, Ok, Err, IsTrue}
+use Rattle.std.specs.Io.KnownBytes.{Consumes}
 use Rattle.nv_outside.specs.declared.failed.Failed.{Failed}
+use Rattle.nv_outside.specs.Faults.{Rises}
+use Rattle.nv_outside.specs.Seen.{FailsIn, Seen, Takes}
 use Rattle.nv_events.specs.declared.io_fault.IoFault.{IoFault}
-use Rattle.nv_outside.specs.Gains.{AppendsPart}
+use Rattle.nv_events.specs.declared.io_fault.IoFault.TheVariants.{ReadFault, WriteFault}
 use Rattle.nv_events.specs.Memory.{patched}
 use Rattle.nv_events.specs.Question.{Room}
 use Rattle.nv_events.specs.Answer.{Answer, fits_room, room_place}
-use Rattle.nv_events.specs.Serving.{Counts}
 use Rattle.unix_system.specs.System.{System, Console}
 use Rattle.unix_system.specs.Asked.{value_only}
 use Rattle.unix_calls.specs.Held.{Held, system_of, with_ahead}
 use Rattle.unix_calls.specs.Drawing.{known}
 
--- What the code holds; what the source has left, and what was written to output and to error output, where these are told.
+-- What the code holds, and what is seen of the source and of the two sinks.
 pub record Parts : Type 0 where
   pub unix : Held
-  pub rest : Option (List ℕ)
-  pub output : Option (List ℕ)
-  pub error_output : Option (List ℕ)
+  pub input : Seen (List ℕ)
+  pub out : Seen (List ℕ)
+  pub err : Seen (List ℕ)
 
-abbrev pub parts : Held → Option (List ℕ) → Option (List ℕ) → Option (List ℕ) → Parts
-parts held rest output error_output = record { unix = held; rest = rest; output = output; error_output = error_output }
+abbrev pub parts : Held → Seen (List ℕ) → Seen (List ℕ) → Seen (List ℕ) → Parts
+parts held input out err = record { unix = held; input = input; out = out; err = err }
 
 -- The state of the system, where the source and both sinks tell theirs.
 abbrev pub told_by : Held → Option (List ℕ) → Option (List ℕ) → Option (List ℕ) → Option System
@@ -32,37 +33,57 @@ told_by held (Some rest) (Some output) None = None
 told_by held (Some rest) (Some output) (Some error_output) = Some (system_of held rest output error_output)
 
 abbrev pub told : Parts → Option System
-told p = told_by p.unix p.rest p.output p.error_output
+told p = told_by p.unix p.input.told p.out.told p.err.told
 
--- A call was answered: the source lost `got`, the sinks gained what the definition writes, and the answer and what is held then are
--- the definition's, whatever was written before. The rest of input is what was read ahead, `got`, and what the source then tells.
+-- A call was answered and no part failed: the source lost `got`, the sinks gained what the definition writes, and the answer and what is
+-- held then are the definition's, whatever was written before. The rest of input is what was read ahead, `got`, and what the source then
+-- tells.
 pub record Goes (does : System → Answer × System) (room : Room) (p : Parts) (a : Answer) (r : Parts) : Type 0 where
   pub got : List ℕ
   pub output : List ℕ
   pub error_output : List ℕ
   pub fits : IsTrue (fits_room a.patch room)
-  pub consumed : Consumes p.rest r.rest got
-  pub wrote : Appends p.output r.output output
-  pub wrote_error : Appends p.error_output r.error_output error_output
-  pub is : (before error_before : List ℕ) → does (system_of p.unix (got ++ known r.rest) before error_before) ≡ (a, system_of r.unix (known r.rest) (before ++ output) (error_before ++ error_output))
+  pub consumed : Consumes p.input.told r.input.told got
+  pub sound : r.input.faults ≡ p.input.faults
+  pub wrote : Takes p.out r.out output
+  pub wrote_error : Takes p.err r.err error_output
+  pub is : (before error_before : List ℕ) → does (system_of p.unix (got ++ known r.input.told) before error_before) ≡ (a, system_of r.unix (known r.input.told) (before ++ output) (error_before ++ error_output))
 
 -- what the definition writes in a call
 abbrev pub written_by : (System → Answer × System) → Held → List ℕ → Console
 written_by does held rest = (does (system_of held rest [] [])).1.console
 
--- The outside failed a call: the source lost a front part of its rest, and the sinks gained front parts of what the definition
--- writes. Of what is held, only what was read ahead may have changed.
-pub record Fell (does : System → Answer × System) (p r : Parts) : Type 0 where
+-- One sink failed before it had taken all that the definition writes to it, and the other was not written to.
+abbrev pub OneFails : Console → Parts → Parts → Type 0
+OneFails written p r = (FailsIn p.out r.out written.output × (r.err ≡ p.err)) ⊎ ((r.out ≡ p.out) × FailsIn p.err r.err written.error_output)
+
+-- The source failed a call, which is call 4, a read: it lost a front part of its rest, and nothing was written. Of what is held, only what
+-- was read ahead may have changed.
+pub record FellReading (number : ℕ) (p r : Parts) : Type 0 where
+  pub call : number ≡ 4
   pub got : List ℕ
-  pub consumed : Consumes p.rest r.rest got
-  pub wrote : AppendsPart p.output r.output (written_by does p.unix (got ++ known r.rest)).output
-  pub wrote_error : AppendsPart p.error_output r.error_output (written_by does p.unix (got ++ known r.rest)).error_output
+  pub consumed : Consumes p.input.told r.input.told got
+  pub rises : Rises p.input.faults r.input.faults
+  pub out : r.out ≡ p.out
+  pub err : r.err ≡ p.err
   pub same : r.unix ≡ with_ahead p.unix r.unix.ahead
 
+-- A sink failed a call, which is call 5, a write: nothing was read, and what is held is as before.
+pub record FellWriting (does : System → Answer × System) (number : ℕ) (p r : Parts) : Type 0 where
+  pub call : number ≡ 5
+  pub input : r.input ≡ p.input
+  pub sinks : OneFails (written_by does p.unix (known p.input.told)) p r
+  pub same : r.unix ≡ p.unix
+
+-- the part that this fault is of failed a call, and no other
+abbrev pub Fell : IoFault → (System → Answer × System) → ℕ → Parts → Parts → Type 0
+Fell ReadFault does number p r = FellReading number p r
+Fell WriteFault does number p r = FellWriting does number p r
+
 -- What a call gave: an answer, whose bytes the memory then has, or a fault, after which some bytes may stand in the room.
-abbrev pub Serves : {C E : Type 0} → (C → ℕ → ℕ → C) → (System → Answer × System) → Room → Parts → Parts → C → C → Result ℤ E → Type 0
-Serves put_at does room p r c d (Ok value) = (patch : List ℕ) × Goes does room p (record { value = value; patch = patch }) r × (d ≡ patched put_at c (room_place room) patch)
-Serves put_at does room p r c d (Err e) = Fell does p r × ((patch : List ℕ) × IsTrue (fits_room patch room) × (d ≡ patched put_at c (room_place room) patch))
+abbrev pub Serves : {C : Type 0} → (C → ℕ → ℕ → C) → (System → Answer × System) → ℕ → Room → Parts → Parts → C → C → Result ℤ IoFault → Type 0
+Serves put_at does number room p r c d (Ok value) = (patch : List ℕ) × Goes does room p (record { value = value; patch = patch }) r × (d ≡ patched put_at c (room_place room) patch)
+Serves put_at does number room p r c d (Err fault) = Fell fault does number p r × ((patch : List ℕ) × IsTrue (fits_room patch room) × (d ≡ patched put_at c (room_place room) patch))
 
 -- A call that reads no input, writes nothing and puts no bytes into memory.
 abbrev pub IsQuiet : (System → Answer × System) → Held → Held → ℤ → Type 0
@@ -74,9 +95,6 @@ pub record Puts {C : Type 0} (put_at : C → ℕ → ℕ → C) (does : System �
   pub fits : IsTrue (fits_room patch room)
   pub after : d ≡ patched put_at c (room_place room) patch
   pub is : (rest output error_output : List ℕ) → does (system_of old rest output error_output) ≡ (record { value = value; patch = patch }, system_of new rest output error_output)
-
-abbrev pub counted : ℕ → ℕ → ℕ → Counts
-counted input output error = record { input = input; output = output; error = error }
 
 -- an answer as it was, and a failure as this fault
 abbrev pub AsFault : IoFault → Result ℤ Failed → Result ℤ IoFault → Type 0

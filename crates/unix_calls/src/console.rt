@@ -1,16 +1,14 @@
 //! What a program writes to the console.
 
-ghost use Rattle.std.specs.Prelude.{◌≡◌, ◌<◌, ◌≤◌, IfOk, OnOk, OnErr, IsSome, is_err, pos, length};
-ghost use Rattle.std.specs.Io.KnownBytes.{Appends};
-ghost use Rattle.nv_outside.specs.Faults.{CountsFailure};
-ghost use Rattle.nv_outside.specs.Gains.{AppendsPart};
+ghost use Rattle.std.specs.Prelude.{◌≡◌, ◌<◌, IfOk, OnOk, OnErr, IsSome, pos, length};
+ghost use Rattle.nv_outside.specs.Seen.{FailsIn, Takes, output_seen};
 ghost use Rattle.nv_events.specs.Memory.{bytes_from};
 ghost use Rattle.nv_events.specs.Question.{text_at};
 ghost use Rattle.nv_events.specs.declared.text_place.TextPlace.TheVariants.{Counted};
 ghost use Rattle.unix_system.specs.Asked.{bytes_of_text};
 ghost use Rattle.unix_system.specs.Calls.{write_target};
 ghost use Rattle.unix_calls.specs.Access.{write_of};
-ghost use Rattle.unix_calls.specs.Reading.{outputs, WriteGives, WriteCauses};
+ghost use Rattle.unix_calls.specs.Reading.{outputs, WriteGives};
 
 use crate::access::{Access, may_write};
 use nv_events::{Call, View};
@@ -24,7 +22,8 @@ use unix_system::{Description, Opened, Target};
 /// The most bytes that are written at once.
 const PIECE: u32 = 4096;
 
-/// Writes bytes of the program's memory, all of which can be read, to a sink, in pieces. After a failure it has a front part of them.
+/// Writes bytes of the program's memory, all of which can be read, to a sink, in pieces. After a failure it has a front part of them,
+/// but not all.
 pub fn write_out<M: View, K: Sink>(
     sink: &mut K,
     at: u32,
@@ -32,9 +31,8 @@ pub fn write_out<M: View, K: Sink>(
     view: &M,
 ) -> Result<(), Failed>
     requires { IsSome (bytes_from (M.memory (M.content view.now)) at count) }
-    ensures ok { OnOk result (Appends (K.taken sink.old) (K.taken sink.new) (bytes_of_text (text_at (M.memory (M.content view.now)) (Counted at count)))) }
-    ensures err { OnErr result (AppendsPart (K.taken sink.old) (K.taken sink.new) (bytes_of_text (text_at (M.memory (M.content view.now)) (Counted at count)))) }
-    ensures count { CountsFailure (is_err result) (K.faults sink.old) (K.faults sink.new) }
+    ensures ok { OnOk result (Takes (output_seen K.Sink sink.old) (output_seen K.Sink sink.new) (bytes_of_text (text_at (M.memory (M.content view.now)) (Counted at count)))) }
+    ensures err { OnErr result (FailsIn (output_seen K.Sink sink.old) (output_seen K.Sink sink.new) (bytes_of_text (text_at (M.memory (M.content view.now)) (Counted at count)))) }
 {
     let mut done = 0;
     while done < count {
@@ -51,9 +49,8 @@ fn write_console<M: View, K: Sink>(sink: &mut K, call: &Call, view: &M) -> Resul
     requires few { call.now.a2 < 0x80000000 }
     requires readable { IsSome (bytes_from (M.memory (M.content view.now)) call.now.a1 call.now.a2) }
     ensures value { IfOk result (λ v. v ≡ pos (length (bytes_of_text (text_at (M.memory (M.content view.now)) (Counted call.now.a1 call.now.a2))))) }
-    ensures ok { OnOk result (Appends (K.taken sink.old) (K.taken sink.new) (bytes_of_text (text_at (M.memory (M.content view.now)) (Counted call.now.a1 call.now.a2)))) }
-    ensures err { OnErr result (AppendsPart (K.taken sink.old) (K.taken sink.new) (bytes_of_text (text_at (M.memory (M.content view.now)) (Counted call.now.a1 call.now.a2)))) }
-    ensures count { CountsFailure (is_err result) (K.faults sink.old) (K.faults sink.new) }
+    ensures ok { OnOk result (Takes (output_seen K.Sink sink.old) (output_seen K.Sink sink.new) (bytes_of_text (text_at (M.memory (M.content view.now)) (Counted call.now.a1 call.now.a2)))) }
+    ensures err { OnErr result (FailsIn (output_seen K.Sink sink.old) (output_seen K.Sink sink.new) (bytes_of_text (text_at (M.memory (M.content view.now)) (Counted call.now.a1 call.now.a2)))) }
 {
     write_out(sink, call.a1, call.a2, view)?;
     Ok(call.a2 as i32)
@@ -72,9 +69,7 @@ fn write_to<M: View, O: Sink, E: Sink>(
     requires within { found.0 < 64 }
     requires few { call.now.a2 < 0x80000000 }
     requires readable { IsSome (bytes_from (M.memory (M.content view.now)) call.now.a1 call.now.a2) }
-    ensures served { WriteGives (λ s. write_target s found.0 found.1 (bytes_of_text (text_at (M.memory (M.content view.now)) (Counted call.now.a1 call.now.a2))) found.1.target) (outputs disk.old opened.old (O.taken out.old) (E.taken err.old)) (outputs disk.new opened.new (O.taken out.new) (E.taken err.new)) result }
-    ensures causes { WriteCauses (O.faults out.old) (O.faults out.new) (E.faults err.old) (E.faults err.new) result }
-    ensures none_falls { (O.faults out.old ≤ O.faults out.new) × (E.faults err.old ≤ E.faults err.new) }
+    ensures served { WriteGives (λ s. write_target s found.0 found.1 (bytes_of_text (text_at (M.memory (M.content view.now)) (Counted call.now.a1 call.now.a2))) found.1.target) (outputs disk.old opened.old (output_seen O.Sink out.old) (output_seen E.Sink err.old)) (outputs disk.new opened.new (output_seen O.Sink out.new) (output_seen E.Sink err.new)) result }
 {
     match found.1.target {
         Target::File(n) => Ok(write_file(disk, opened, found, n, call.a1, call.a2, view)),
@@ -93,9 +88,7 @@ pub fn write<M: View, O: Sink, E: Sink>(
     out: &mut O,
     err: &mut E,
 ) -> Result<i32, Failed>
-    ensures served { WriteGives (write_of (M.memory (M.content view.now)) call.now) (outputs disk.old opened.old (O.taken out.old) (E.taken err.old)) (outputs disk.new opened.new (O.taken out.new) (E.taken err.new)) result }
-    ensures causes { WriteCauses (O.faults out.old) (O.faults out.new) (E.faults err.old) (E.faults err.new) result }
-    ensures none_falls { (O.faults out.old ≤ O.faults out.new) × (E.faults err.old ≤ E.faults err.new) }
+    ensures served { WriteGives (write_of (M.memory (M.content view.now)) call.now) (outputs disk.old opened.old (output_seen O.Sink out.old) (output_seen E.Sink err.old)) (outputs disk.new opened.new (output_seen O.Sink out.new) (output_seen E.Sink err.new)) result }
 {
     match may_write(opened, call, view) {
         Access::Answered(value) => Ok(value),

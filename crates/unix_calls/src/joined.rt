@@ -1,8 +1,10 @@
-ghost use Rattle.std.specs.Prelude.{◌≡◌, ◌≤◌, true, None, length};
+ghost use Rattle.std.specs.Prelude.{◌≡◌, ◌≤◌, true, None, Some, length};
+ghost use Rattle.nv_outside.specs.Seen.{input_seen, output_seen};
+ghost use Rattle.nv_events.specs.declared.io_fault.IoFault.{IoFault};
 ghost use Rattle.unix_system.specs.System.{System};
 ghost use Rattle.unix_system.specs.Unix.{unix, reply};
-ghost use Rattle.unix_calls.specs.Serving.{parts, told_by, Goes, Fell, counted, AsSome};
-ghost use Rattle.unix_calls.specs.Failing.{HasFailed, failed_calls, fault_of};
+ghost use Rattle.unix_calls.specs.Serving.{parts, told_by, Goes, Fell, AsSome};
+ghost use Rattle.unix_calls.specs.Failing.{failed_calls, fault_of};
 
 use crate::unix::Unix;
 use nv_events::{Call, IoFault, Server, View};
@@ -31,11 +33,11 @@ impl<'a, S: Source, O: Sink, E: Sink> Server for Joined<'a, S, O, E> {
 
     ghost told = { λ j. told_by j.unix.now (S.rest j.source.now) (O.taken j.out.now) (E.taken j.err.now) };
 
-    ghost goes = { λ j q a k. Goes (λ s. unix s q) q.room (parts j.unix.now (S.rest j.source.now) (O.taken j.out.now) (E.taken j.err.now)) a (parts k.unix.now (S.rest k.source.now) (O.taken k.out.now) (E.taken k.err.now)) × (counted (S.faults k.source.now) (O.faults k.out.now) (E.faults k.err.now) ≡ counted (S.faults j.source.now) (O.faults j.out.now) (E.faults j.err.now)) };
+    ghost goes = { λ j q a k. Goes (λ s. unix s q) q.room (parts j.unix.now (input_seen S.Source j.source.now) (output_seen O.Sink j.out.now) (output_seen E.Sink j.err.now)) a (parts k.unix.now (input_seen S.Source k.source.now) (output_seen O.Sink k.out.now) (output_seen E.Sink k.err.now)) };
 
     ghost held = { λ j q k. ⊥ };
 
-    ghost fell = { λ j q k. Fell (λ s. unix s q) (parts j.unix.now (S.rest j.source.now) (O.taken j.out.now) (E.taken j.err.now)) (parts k.unix.now (S.rest k.source.now) (O.taken k.out.now) (E.taken k.err.now)) × HasFailed k.failed (counted (S.faults j.source.now) (O.faults j.out.now) (E.faults j.err.now)) (counted (S.faults k.source.now) (O.faults k.out.now) (E.faults k.err.now)) };
+    ghost fell = { λ j q k. (fault : IoFault) × (k.failed ≡ Some fault) × Fell fault (λ s. unix s q) q.number (parts j.unix.now (input_seen S.Source j.source.now) (output_seen O.Sink j.out.now) (output_seen E.Sink j.err.now)) (parts k.unix.now (input_seen S.Source k.source.now) (output_seen O.Sink k.out.now) (output_seen E.Sink k.err.now)) };
 
     ghost ready = { λ j. true };
 
@@ -51,7 +53,7 @@ impl<'a, S: Source, O: Sink, E: Sink> Server for Joined<'a, S, O, E> {
         as_some(answer)
     }
 
-    ghost goes_as_told = { λ j k q a s w g. goes_as_told q j.unix.now k.unix.now a s (S.rest j.source.now) (O.taken j.out.now) (E.taken j.err.now) (S.rest k.source.now) (O.taken k.out.now) (E.taken k.err.now) w g.0 };
+    ghost goes_as_told = { λ j k q a s w g. goes_as_told q j.unix.now k.unix.now a s (S.rest j.source.now) (O.taken j.out.now) (E.taken j.err.now) (S.rest k.source.now) (O.taken k.out.now) (E.taken k.err.now) (S.faults j.source.now) (O.faults j.out.now) (E.faults j.err.now) (S.faults k.source.now) (O.faults k.out.now) (E.faults k.err.now) w g };
 
     ghost held_as_told = { λ j k q s w h. absurd h };
 

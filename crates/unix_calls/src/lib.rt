@@ -8,6 +8,7 @@ mod console;
 mod input;
 mod joined;
 pub mod laws;
+mod numbers;
 mod playing;
 mod quiet;
 mod read_ahead;

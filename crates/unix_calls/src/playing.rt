@@ -1,11 +1,7 @@
-ghost use Rattle.std.specs.Prelude.{◌≡◌, ◌≢◌, ◌≤◌, ℕ, List, length, [], Some, None, Ok, IfOk, OnErr, false, true};
-ghost use Rattle.nv_events.specs.Run.{run_of};
-ghost use Rattle.nv_events.specs.Serving.{RunsBy, Causes, NoneFalls};
-ghost use Rattle.unix_system.specs.Unix.{reply};
-ghost use Rattle.unix_calls.specs.Held.{system_of};
-ghost use Rattle.unix_calls.specs.Serving.{parts, counted};
-ghost use Rattle.unix_calls.specs.Failing.{FailsBy};
-ghost use Rattle.unix_calls.specs.Playing.{Answers, Fails, Holds, Plays, Falls};
+ghost use Rattle.std.specs.Prelude.{◌≡◌, ◌≢◌, ◌≤◌, None, Ok, Err, IfErr, IfOk, false, true, length};
+ghost use Rattle.nv_outside.specs.Seen.{input_seen, output_seen};
+ghost use Rattle.unix_calls.specs.Serving.{parts};
+ghost use Rattle.unix_calls.specs.Playing.{Breaks, Plays};
 
 use crate::joined::Joined;
 use crate::unix::Unix;
@@ -20,7 +16,7 @@ use nv_outside::{Sink, Source};
 /// # Errors
 ///
 /// The fault of the call in which the source or a sink failed, which ends the run; no other part failed in it. Then the sinks have
-/// front parts of what the run of the definition writes.
+/// what the run of the definition writes up to that call, and one that failed a front part of what the call writes, but not all.
 pub fn play<M: Machine, S: Source, O: Sink, E: Sink>(
     machine: &mut M,
     steps: u64,
@@ -30,16 +26,12 @@ pub fn play<M: Machine, S: Source, O: Sink, E: Sink>(
     err: &mut E,
 ) -> Result<Outcome, IoFault>
     requires going { M.has_ended machine.old ≡ false }
-    ensures runs { RunsBy Answers Holds Fails M.turn steps (M.state machine.old) (M.state machine.new) (parts unix.old (S.rest input.old) (O.taken out.old) (E.taken err.old)) (parts unix.new (S.rest input.new) (O.taken out.new) (E.taken err.new)) result }
-    ensures plays { (rest : List ℕ) → S.rest input.old ≡ Some rest → IfOk result (Plays (run_of M.turn reply steps (M.state machine.old) (system_of unix.old rest [] [])) (M.state machine.new) (parts unix.old (S.rest input.old) (O.taken out.old) (E.taken err.old)) (parts unix.new (S.rest input.new) (O.taken out.new) (E.taken err.new))) }
-    ensures falls { (rest : List ℕ) → S.rest input.old ≡ Some rest → OnErr result (Falls (run_of M.turn reply steps (M.state machine.old) (system_of unix.old rest [] [])) (parts unix.old (S.rest input.old) (O.taken out.old) (E.taken err.old)) (parts unix.new (S.rest input.new) (O.taken out.new) (E.taken err.new))) }
+    ensures plays { IfOk result (λ outcome. Plays M.turn steps (M.state machine.old) (M.state machine.new) (parts unix.old (input_seen S.Source input.old) (output_seen O.Sink out.old) (output_seen E.Sink err.old)) (parts unix.new (input_seen S.Source input.new) (output_seen O.Sink out.new) (output_seen E.Sink err.new)) outcome) }
+    ensures breaks { IfErr result (λ fault. Breaks M.turn steps (M.state machine.old) (parts unix.old (input_seen S.Source input.old) (output_seen O.Sink out.old) (output_seen E.Sink err.old)) (parts unix.new (input_seen S.Source input.new) (output_seen O.Sink out.new) (output_seen E.Sink err.new)) fault) }
     ensures goes_on { result ≡ Ok Outcome.Going → M.has_ended machine.new ≡ false }
     ensures ended { result ≢ Ok Outcome.Going → M.has_ended machine.new ≡ true }
     ensures never_waits { result ≢ Ok Outcome.Waiting }
-    ensures causes { Causes (counted (S.faults input.old) (O.faults out.old) (E.faults err.old)) (counted (S.faults input.new) (O.faults out.new) (E.faults err.new)) result }
-    ensures fails_once { FailsBy (counted (S.faults input.old) (O.faults out.old) (E.faults err.old)) (counted (S.faults input.new) (O.faults out.new) (E.faults err.new)) result }
-    ensures none_falls { NoneFalls (counted (S.faults input.old) (O.faults out.old) (E.faults err.old)) (counted (S.faults input.new) (O.faults out.new) (E.faults err.new)) }
-    ensures ahead { length unix.old.ahead ≤ 4096 → length unix.new.ahead ≤ 4096 }
+    ensures ahead { length unix.new.ahead ≤ 4096 }
 {
     let mut joined = join(unix, input, out, err);
     let result = run_joined(machine, steps, &mut joined);
@@ -61,22 +53,20 @@ fn run_joined<'a, M: Machine, S: Source, O: Sink, E: Sink>(
 ) -> Result<Outcome, IoFault>
     requires going { M.has_ended machine.old ≡ false }
     requires sound { joined.old.failed ≡ None }
-    ensures runs { RunsBy Answers Holds Fails M.turn steps (M.state machine.old) (M.state machine.new) (parts joined.old.unix.now (S.rest joined.old.source.now) (O.taken joined.old.out.now) (E.taken joined.old.err.now)) (parts joined.new.unix.now (S.rest joined.new.source.now) (O.taken joined.new.out.now) (E.taken joined.new.err.now)) result }
-    ensures plays { (rest : List ℕ) → S.rest joined.old.source.now ≡ Some rest → IfOk result (Plays (run_of M.turn reply steps (M.state machine.old) (system_of joined.old.unix.now rest [] [])) (M.state machine.new) (parts joined.old.unix.now (S.rest joined.old.source.now) (O.taken joined.old.out.now) (E.taken joined.old.err.now)) (parts joined.new.unix.now (S.rest joined.new.source.now) (O.taken joined.new.out.now) (E.taken joined.new.err.now))) }
-    ensures falls { (rest : List ℕ) → S.rest joined.old.source.now ≡ Some rest → OnErr result (Falls (run_of M.turn reply steps (M.state machine.old) (system_of joined.old.unix.now rest [] [])) (parts joined.old.unix.now (S.rest joined.old.source.now) (O.taken joined.old.out.now) (E.taken joined.old.err.now)) (parts joined.new.unix.now (S.rest joined.new.source.now) (O.taken joined.new.out.now) (E.taken joined.new.err.now))) }
+    ensures plays { IfOk result (λ outcome. Plays M.turn steps (M.state machine.old) (M.state machine.new) (parts joined.old.unix.now (input_seen S.Source joined.old.source.now) (output_seen O.Sink joined.old.out.now) (output_seen E.Sink joined.old.err.now)) (parts joined.new.unix.now (input_seen S.Source joined.new.source.now) (output_seen O.Sink joined.new.out.now) (output_seen E.Sink joined.new.err.now)) outcome) }
+    ensures breaks { IfErr result (λ fault. Breaks M.turn steps (M.state machine.old) (parts joined.old.unix.now (input_seen S.Source joined.old.source.now) (output_seen O.Sink joined.old.out.now) (output_seen E.Sink joined.old.err.now)) (parts joined.new.unix.now (input_seen S.Source joined.new.source.now) (output_seen O.Sink joined.new.out.now) (output_seen E.Sink joined.new.err.now)) fault) }
     ensures goes_on { result ≡ Ok Outcome.Going → M.has_ended machine.new ≡ false }
     ensures ended { result ≢ Ok Outcome.Going → M.has_ended machine.new ≡ true }
     ensures never_waits { result ≢ Ok Outcome.Waiting }
-    ensures causes { Causes (counted (S.faults joined.old.source.now) (O.faults joined.old.out.now) (E.faults joined.old.err.now)) (counted (S.faults joined.new.source.now) (O.faults joined.new.out.now) (E.faults joined.new.err.now)) result }
-    ensures fails_once { FailsBy (counted (S.faults joined.old.source.now) (O.faults joined.old.out.now) (E.faults joined.old.err.now)) (counted (S.faults joined.new.source.now) (O.faults joined.new.out.now) (E.faults joined.new.err.now)) result }
-    ensures none_falls { NoneFalls (counted (S.faults joined.old.source.now) (O.faults joined.old.out.now) (E.faults joined.old.err.now)) (counted (S.faults joined.new.source.now) (O.faults joined.new.out.now) (E.faults joined.new.err.now)) }
-    ensures ahead { length joined.old.unix.now.ahead ≤ 4096 → length joined.new.unix.now.ahead ≤ 4096 }
+    ensures ahead { length joined.new.unix.now.ahead ≤ 4096 }
     ensures same_unix { joined.new.unix.ghost_name ≡ joined.old.unix.ghost_name }
     ensures same_source { joined.new.source.ghost_name ≡ joined.old.source.ghost_name }
     ensures same_out { joined.new.out.ghost_name ≡ joined.old.out.ghost_name }
     ensures same_err { joined.new.err.ghost_name ≡ joined.old.err.ghost_name }
 {
-    run(machine, steps, joined)
+    let result = run(machine, steps, joined);
+    joined.unix.is_short_ahead();
+    result
 }
 
 /// A server of these parts.

@@ -7,6 +7,9 @@ ghost use Rattle.unix_system.specs.Asked.{value_only};
 ghost use Rattle.unix_system.specs.Unix.{unix};
 ghost use Rattle.unix_calls.specs.Held.{with_parts};
 
+use crate::numbers::{
+    CLOSE, DUP, FTRUNCATE, GETPID, ISATTY, LSEEK, OPEN, RENAME, SBRK, TIME, UNLINK,
+};
 use nv_events::{Call, View};
 use unix_files::Disk;
 use unix_system::descriptor_calls::{close, dup, isatty, lseek};
@@ -61,17 +64,17 @@ pub fn answer<M: View>(
     ensures within { (heap.new.program_break ≤ heap.new.end) × (heap.new.end ≤ 0x7FFFFFFF) }
 {
     match call.number {
-        2 => open(disk, opened, call, view),
-        3 => close(disk, opened, call.a0),
-        6 => lseek(disk, opened, call.a0, call.a1, call.a2),
-        7 => heap.sbrk(call.a0),
-        9 => unlink(disk, opened, call, view),
-        10 => dup(disk, opened, call.a0),
-        11 => ftruncate(disk, opened, call.a0, call.a1),
-        12 => 1,
-        13 => time(moment),
-        14 => rename(disk, opened, call, view),
-        15 => isatty(disk, opened, call.a0),
+        OPEN => open(disk, opened, call, view),
+        CLOSE => close(disk, opened, call.a0),
+        LSEEK => lseek(disk, opened, call.a0, call.a1, call.a2),
+        SBRK => heap.sbrk(call.a0),
+        UNLINK => unlink(disk, opened, call, view),
+        DUP => dup(disk, opened, call.a0),
+        FTRUNCATE => ftruncate(disk, opened, call.a0, call.a1),
+        GETPID => 1,
+        TIME => time(moment),
+        RENAME => rename(disk, opened, call, view),
+        ISATTY => isatty(disk, opened, call.a0),
         _ => NO_CALL,
     }
 }

@@ -1,15 +1,15 @@
 //! How calls are served: one method for each group of them, and the choice between the groups.
 
-ghost use Rattle.std.specs.Prelude.{◌≡◌, ◌≢◌, ◌≤◌, ℕ, List, Option, length};
+ghost use Rattle.std.specs.Prelude.{◌≡◌, ◌≢◌, ◌≤◌, ℕ, List, length};
+ghost use Rattle.nv_outside.specs.Seen.{Seen, input_seen, output_seen};
 ghost use Rattle.nv_events.specs.Question.{asked};
-ghost use Rattle.nv_events.specs.Serving.{Causes, NoneFalls, Counts};
 ghost use Rattle.unix_system.specs.Unix.{unix};
-ghost use Rattle.unix_calls.specs.Serving.{parts, Serves, counted, AsFault};
-ghost use Rattle.unix_calls.specs.Failing.{FailsBy};
+ghost use Rattle.unix_calls.specs.Serving.{parts, Serves, AsFault};
 
 use crate::begin::begin;
 use crate::console::write;
 use crate::input::read;
+use crate::numbers::{BEGIN, FSTAT, READ, WRITE};
 use crate::quiet::answer;
 use crate::unix::Unix;
 use nv_events::{Call, IoFault, View};
@@ -36,8 +36,7 @@ fn as_fault(answer: Result<i32, Failed>, fault: IoFault) -> Result<i32, IoFault>
 impl Unix {
     fn serve_begin<M: View>(&mut self, call: &Call, view: &mut M) -> Result<i32, IoFault>
         requires { call.now.number ≡ 0 }
-        ensures fails_once { (counts : Counts) → FailsBy counts counts result }
-        ensures served { (rest output error_output : Option (List ℕ)) → Serves M.put_at (λ s. unix s (asked call.now (M.memory (M.content view.old)))) (asked call.now (M.memory (M.content view.old))).room (parts self.old rest output error_output) (parts self.new rest output error_output) (M.content view.old) (M.content view.new) result }
+        ensures served { (input out err : Seen (List ℕ)) → Serves M.put_at (λ s. unix s (asked call.now (M.memory (M.content view.old)))) call.now.number (asked call.now (M.memory (M.content view.old))).room (parts self.old input out err) (parts self.new input out err) (M.content view.old) (M.content view.new) result }
     {
         let size = room_size();
         Ok(begin(
@@ -52,16 +51,14 @@ impl Unix {
 
     fn serve_status<M: View>(&mut self, call: &Call, view: &mut M) -> Result<i32, IoFault>
         requires { call.now.number ≡ 8 }
-        ensures fails_once { (counts : Counts) → FailsBy counts counts result }
-        ensures served { (rest output error_output : Option (List ℕ)) → Serves M.put_at (λ s. unix s (asked call.now (M.memory (M.content view.old)))) (asked call.now (M.memory (M.content view.old))).room (parts self.old rest output error_output) (parts self.new rest output error_output) (M.content view.old) (M.content view.new) result }
+        ensures served { (input out err : Seen (List ℕ)) → Serves M.put_at (λ s. unix s (asked call.now (M.memory (M.content view.old)))) call.now.number (asked call.now (M.memory (M.content view.old))).room (parts self.old input out err) (parts self.new input out err) (M.content view.old) (M.content view.new) result }
     {
         Ok(fstat(&self.disk, &self.opened, self.order, call.a0, call.a1, view))
     }
 
     fn serve_quiet<M: View>(&mut self, call: &Call, view: &M) -> Result<i32, IoFault>
         requires { (call.now.number ≢ 0) × (call.now.number ≢ 4) × (call.now.number ≢ 5) × (call.now.number ≢ 8) }
-        ensures fails_once { (counts : Counts) → FailsBy counts counts result }
-        ensures served { (rest output error_output : Option (List ℕ)) → Serves M.put_at (λ s. unix s (asked call.now (M.memory (M.content view.now)))) (asked call.now (M.memory (M.content view.now))).room (parts self.old rest output error_output) (parts self.new rest output error_output) (M.content view.now) (M.content view.now) result }
+        ensures served { (input out err : Seen (List ℕ)) → Serves M.put_at (λ s. unix s (asked call.now (M.memory (M.content view.now)))) call.now.number (asked call.now (M.memory (M.content view.now))).room (parts self.old input out err) (parts self.new input out err) (M.content view.now) (M.content view.now) result }
     {
         Ok(answer(
             &mut self.disk,
@@ -80,9 +77,7 @@ impl Unix {
         source: &mut S,
     ) -> Result<i32, IoFault>
         requires { call.now.number ≡ 4 }
-        ensures served { (output error_output : Option (List ℕ)) → Serves M.put_at (λ s. unix s (asked call.now (M.memory (M.content view.old)))) (asked call.now (M.memory (M.content view.old))).room (parts self.old (S.rest source.old) output error_output) (parts self.new (S.rest source.new) output error_output) (M.content view.old) (M.content view.new) result }
-        ensures fails_once { (output error : ℕ) → FailsBy (counted (S.faults source.old) output error) (counted (S.faults source.new) output error) result }
-        ensures never_falls { S.faults source.old ≤ S.faults source.new }
+        ensures served { (out err : Seen (List ℕ)) → Serves M.put_at (λ s. unix s (asked call.now (M.memory (M.content view.old)))) call.now.number (asked call.now (M.memory (M.content view.old))).room (parts self.old (input_seen S.Source source.old) out err) (parts self.new (input_seen S.Source source.new) out err) (M.content view.old) (M.content view.new) result }
     {
         let answer = read(
             &mut self.disk,
@@ -103,9 +98,7 @@ impl Unix {
         err: &mut E,
     ) -> Result<i32, IoFault>
         requires { call.now.number ≡ 5 }
-        ensures served { (rest : Option (List ℕ)) → Serves M.put_at (λ s. unix s (asked call.now (M.memory (M.content view.now)))) (asked call.now (M.memory (M.content view.now))).room (parts self.old rest (O.taken out.old) (E.taken err.old)) (parts self.new rest (O.taken out.new) (E.taken err.new)) (M.content view.now) (M.content view.now) result }
-        ensures fails_once { (input : ℕ) → FailsBy (counted input (O.faults out.old) (E.faults err.old)) (counted input (O.faults out.new) (E.faults err.new)) result }
-        ensures none_falls { (O.faults out.old ≤ O.faults out.new) × (E.faults err.old ≤ E.faults err.new) }
+        ensures served { (input : Seen (List ℕ)) → Serves M.put_at (λ s. unix s (asked call.now (M.memory (M.content view.now)))) call.now.number (asked call.now (M.memory (M.content view.now))).room (parts self.old input (output_seen O.Sink out.old) (output_seen E.Sink err.old)) (parts self.new input (output_seen O.Sink out.new) (output_seen E.Sink err.new)) (M.content view.now) (M.content view.now) result }
     {
         let answer = write(&mut self.disk, &mut self.opened, call, view, out, err);
         as_fault(answer, IoFault::WriteFault)
@@ -120,15 +113,13 @@ impl Unix {
         out: &mut O,
         err: &mut E,
     ) -> Result<i32, IoFault>
-        ensures served { Serves M.put_at (λ s. unix s (asked call.now (M.memory (M.content view.old)))) (asked call.now (M.memory (M.content view.old))).room (parts self.old (S.rest source.old) (O.taken out.old) (E.taken err.old)) (parts self.new (S.rest source.new) (O.taken out.new) (E.taken err.new)) (M.content view.old) (M.content view.new) result }
-        ensures fails_once { FailsBy (counted (S.faults source.old) (O.faults out.old) (E.faults err.old)) (counted (S.faults source.new) (O.faults out.new) (E.faults err.new)) result }
-        ensures none_falls { NoneFalls (counted (S.faults source.old) (O.faults out.old) (E.faults err.old)) (counted (S.faults source.new) (O.faults out.new) (E.faults err.new)) }
+        ensures served { Serves M.put_at (λ s. unix s (asked call.now (M.memory (M.content view.old)))) call.now.number (asked call.now (M.memory (M.content view.old))).room (parts self.old (input_seen S.Source source.old) (output_seen O.Sink out.old) (output_seen E.Sink err.old)) (parts self.new (input_seen S.Source source.new) (output_seen O.Sink out.new) (output_seen E.Sink err.new)) (M.content view.old) (M.content view.new) result }
     {
         match call.number {
-            0 => self.serve_begin(call, view),
-            4 => self.serve_read(call, view, source),
-            5 => self.serve_write(call, view, out, err),
-            8 => self.serve_status(call, view),
+            BEGIN => self.serve_begin(call, view),
+            READ => self.serve_read(call, view, source),
+            WRITE => self.serve_write(call, view, out, err),
+            FSTAT => self.serve_status(call, view),
             _ => self.serve_quiet(call, view),
         }
     }
@@ -140,8 +131,8 @@ impl Unix {
     ///
     /// # Errors
     ///
-    /// `ReadFault` where the source failed in this call, and `WriteFault` where a sink did; no other part failed. Then the sinks have
-    /// front parts of what the call writes.
+    /// `ReadFault` where the source failed in this call, which reads, and `WriteFault` where a sink did in one that writes; no other part
+    /// failed. That sink then has a front part of what the call writes, but not all.
     pub fn serve<M: View, S: Source, O: Sink, E: Sink>(
         &mut self,
         call: &Call,
@@ -150,10 +141,7 @@ impl Unix {
         out: &mut O,
         err: &mut E,
     ) -> Result<i32, IoFault>
-        ensures served { Serves M.put_at (λ s. unix s (asked call.now (M.memory (M.content view.old)))) (asked call.now (M.memory (M.content view.old))).room (parts self.old (S.rest source.old) (O.taken out.old) (E.taken err.old)) (parts self.new (S.rest source.new) (O.taken out.new) (E.taken err.new)) (M.content view.old) (M.content view.new) result }
-        ensures causes { Causes (counted (S.faults source.old) (O.faults out.old) (E.faults err.old)) (counted (S.faults source.new) (O.faults out.new) (E.faults err.new)) result }
-        ensures fails_once { FailsBy (counted (S.faults source.old) (O.faults out.old) (E.faults err.old)) (counted (S.faults source.new) (O.faults out.new) (E.faults err.new)) result }
-        ensures none_falls { NoneFalls (counted (S.faults source.old) (O.faults out.old) (E.faults err.old)) (counted (S.faults source.new) (O.faults out.new) (E.faults err.new)) }
+        ensures served { Serves M.put_at (λ s. unix s (asked call.now (M.memory (M.content view.old)))) call.now.number (asked call.now (M.memory (M.content view.old))).room (parts self.old (input_seen S.Source source.old) (output_seen O.Sink out.old) (output_seen E.Sink err.old)) (parts self.new (input_seen S.Source source.new) (output_seen O.Sink out.new) (output_seen E.Sink err.new)) (M.content view.old) (M.content view.new) result }
         ensures ahead { length self.new.ahead ≤ 4096 }
     {
         let answer = self.serve_call(call, view, source, out, err);

@@ -94,6 +94,13 @@ impl Unix {
         }
     }
 
+    /// At most 4,096 bytes are read ahead. It does nothing.
+    pub(crate) fn is_short_ahead(&self)
+        ensures { length self.now.ahead ≤ 4096 }
+    {
+        self.ahead.is_short();
+    }
+
     /// How many blocks files use.
     fn used_blocks(&self) -> u64
         requires { self.now.files.free ≤ self.now.blocks }

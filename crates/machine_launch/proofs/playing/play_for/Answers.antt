@@ -1,10 +1,10 @@
-use Rattle.std.proofs.Common.{Ok, ap, refl, subst}
+use Rattle.std.proofs.Common.{refl, subst}
 use Rattle.std.proofs.lemmas.Result.{err_from_is_err_and}
 use Rattle.command_deeds.proofs.DeedLemmas.{same_shelf}
 use Rattle.command_deeds.specs.Deeds.{DoesAll, StopsIn}
 use Rattle.command_deeds.specs.World.{input_seen, output_seen, seen, shelf_seen, world}
 use Rattle.machine_launch.proofs.PlayLemmas.{run_failed, run_kept, run_not_kept, run_played}
-use Rattle.machine_launch.specs.Runs.{IsDueOfHeld, kept}
+use Rattle.machine_launch.specs.Runs.{kept}
 use Rattle.machine_launch.proofs.playing.play_for.Goals as goal
 
 pub returns-in_err-outcome : goal.returns-in_err-outcome
@@ -16,10 +16,8 @@ returns-in_err-outcome g c =
     record {
       ends = (
         (refl, refl, refl, refl),
-        rw (p.1, p.2) (run_failed g.M.Machine.turn c.args.steps (g.M.Machine.state c.args.machine)
-            (g.M.Machine.state c.play.new.machine) c.args.unix c.play.new.unix w u c.in_err-outcome.field-0.0 c.args.keep.now.names
-            c.in_err-outcome.ensures.runs c.in_err-outcome.ensures.falls (same_shelf w.shelf) c.play.ensures.none_falls
-            c.in_err-outcome.ensures.fails_once),
+        rw (p.1, p.2) (run_failed c.args.steps g.M.Machine.turn (g.M.Machine.state c.args.machine) c.args.unix c.play.new.unix w u
+            c.in_err-outcome.field-0.0 c.args.keep.now.names c.in_err-outcome.ensures.breaks (same_shelf w.shelf)),
       );
     }
 
@@ -32,15 +30,13 @@ returns-in_err-keep_files g c =
     let keep = c.args.keep.now.names in
     let outcome = c.in_ok-outcome.outcome in
     let stop = c.in_err-keep_files.field-0.0 in
-    let played = run_played g.M.Machine.turn c.args.steps (g.M.Machine.state c.args.machine)
-    (g.M.Machine.state c.play.new.machine) c.args.unix c.play.new.unix w u outcome keep
-    c.in_ok-outcome.ensures.runs c.in_ok-outcome.ensures.plays (λ e. c.in_ok-outcome.ensures.never_waits (ap (λ o. Ok o) e))
-    (c.play.ensures.ahead c.requires.few) (same_shelf w.shelf) c.in_ok-outcome.ensures.causes in
+    let played = run_played c.args.steps g.M.Machine.turn (g.M.Machine.state c.args.machine) (g.M.Machine.state c.play.new.machine)
+    c.args.unix c.play.new.unix w u outcome keep c.in_ok-outcome.ensures.plays (same_shelf w.shelf) in
     record {
       ends = (
         (refl, refl, refl, refl),
-        rw (p.1, p.2) (run_not_kept (λ x. IsDueOfHeld c.args.steps g.M.Machine.turn (g.M.Machine.state c.args.machine) c.args.unix keep x.input.told)
-            w u v c.play.new.unix.files keep outcome stop played
+        rw (p.1, p.2) (run_not_kept c.args.steps g.M.Machine.turn (g.M.Machine.state c.args.machine) c.args.unix c.play.new.unix w u v keep
+            outcome stop played
             (subst (λ names. StopsIn (kept c.play.new.unix.files names) u v stop) c.as_slice.ensures
             (c.in_err-keep_files.ensures.keeps u.input u.out u.err))),
       );
@@ -53,16 +49,13 @@ returns g c =
     let v = world (shelf_seen g.H.Shelf c.keep_files.new.shelf) u.input u.out u.err in
     let keep = c.args.keep.now.names in
     let outcome = c.in_ok-outcome.outcome in
-    let played = run_played g.M.Machine.turn c.args.steps (g.M.Machine.state c.args.machine)
-    (g.M.Machine.state c.play.new.machine) c.args.unix c.play.new.unix w u outcome keep
-    c.in_ok-outcome.ensures.runs c.in_ok-outcome.ensures.plays (λ e. c.in_ok-outcome.ensures.never_waits (ap (λ o. Ok o) e))
-    (c.play.ensures.ahead c.requires.few) (same_shelf w.shelf) c.in_ok-outcome.ensures.causes in
+    let played = run_played c.args.steps g.M.Machine.turn (g.M.Machine.state c.args.machine) (g.M.Machine.state c.play.new.machine)
+    c.args.unix c.play.new.unix w u outcome keep c.in_ok-outcome.ensures.plays (same_shelf w.shelf) in
     record {
       ends = (
         (refl, refl, refl, refl),
-        run_kept (λ x. IsDueOfHeld c.args.steps g.M.Machine.turn (g.M.Machine.state c.args.machine) c.args.unix keep x.input.told) w u v
-            c.play.new.unix.files keep outcome c.answer_of.result played
-            c.answer_of.ensures (subst (λ names. DoesAll (kept c.play.new.unix.files names) u v) c.as_slice.ensures
+        run_kept c.args.steps g.M.Machine.turn (g.M.Machine.state c.args.machine) c.args.unix c.play.new.unix w u v keep outcome
+            c.answer_of.result played c.answer_of.ensures (subst (λ names. DoesAll (kept c.play.new.unix.files names) u v) c.as_slice.ensures
             (c.in_ok-keep_files.ensures.keeps u.input u.out u.err)),
       );
     }

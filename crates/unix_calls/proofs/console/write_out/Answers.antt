@@ -10,10 +10,11 @@ use Rattle.unix_system.specs.Asked.{bytes_of_text}
 use Rattle.unix_system.proofs.ReadLemmas.{some-bytes, some-is, from-part, length-bytes_from}
 use Rattle.unix_calls.proofs.GainLemmas.{gains-part}
 use Rattle.unix_calls.proofs.console.write_out.Goals as goal
-use Rattle.nv_outside.proofs.WriteLemmas.{Appends-nothing, Appends-both}
+use Rattle.nv_outside.specs.Seen.{output_seen}
+use Rattle.nv_outside.proofs.SeenLemmas.{takes-nothing, takes-both}
 
 pub loop-done-init : goal.loop-done-init
-loop-done-init g c = record { gained = Appends-nothing (g.K.Sink.taken c.args.sink.now); faults = refl; within = omega arith }
+loop-done-init g c = record { gained = takes-nothing _; within = omega arith }
 
 pub read_piece-piece-requires-clause-readable : goal.read_piece-piece-requires-clause-readable
 read_piece-piece-requires-clause-readable g c =
@@ -38,8 +39,8 @@ loop-done-preserved g c =
     let part : c.as_slice.result.now ≡ take size (drop done text) = part-is m c.args.at c.args.count done size text c.read_piece-piece.result c.as_slice.result.now (omega arith) read c.read_piece-piece.ensures c.as_slice.ensures.value in
     let next : take (done + size) text ≡ take done text ++ c.as_slice.result.now = take-add done size text ∙ ap (λ l. take done text ++ l) (sym part) in
     record {
-      gained = rw next (Appends-both _ _ _ (take done text) c.as_slice.result.now c.loop-done.invariant.gained c.in_ok-write_all.ensures.ok);
-      faults = c.in_ok-write_all.ensures.count.stays refl ∙ c.loop-done.invariant.faults;
+      gained = rw next (takes-both _ (output_seen g.K.Sink c.loop-done.sink) _ (take done text) c.as_slice.result.now c.loop-done.invariant.gained
+          (c.in_ok-write_all.ensures.ok, c.in_ok-write_all.ensures.count.stays refl));
       within = omega arith;
     }
 
@@ -51,9 +52,10 @@ returns-in_err-write_all-clause-err g c =
     let min = c.min-size.ensures in
     let w = c.loop-done-test.true in
     let p = err_from_is_err_and c.from_residual.result c.from_residual.ensures.1 in
-    rw (p.1) (gains-part _ _ _ text c.loop-done.done c.min-size.result c.as_slice.result.now
+    rw (p.1) (gains-part _ (output_seen g.K.Sink c.loop-done.sink) _ text c.loop-done.done c.min-size.result c.as_slice.result.now
     (part-is m c.args.at c.args.count c.loop-done.done c.min-size.result text c.read_piece-piece.result c.as_slice.result.now (omega arith) read c.read_piece-piece.ensures c.as_slice.ensures.value)
-    c.loop-done.invariant.gained c.in_err-write_all.ensures.err)
+    c.loop-done.invariant.gained
+    (c.in_err-write_all.ensures.err, record { never_falls = c.in_err-write_all.ensures.count.never_falls; rose = c.in_err-write_all.ensures.count.rises refl }))
 
 pub returns-clause-ok : goal.returns-clause-ok
 returns-clause-ok g c =
