@@ -1,5 +1,5 @@
 -- What the segments and the code of a file that passed have in common.
-use Rattle.std.proofs.Common.{◌≡◌, ℕ, zero, suc, ◌+◌, ◌-◌, ◌*◌, ◌/◌, ◌%◌, ◌<◌, ◌≤◌, Bool, true, false, ◌&&◌, nat_lt, nat_le, List, [], ◌∷◌, length, map, filter, position, get_or, Option, Some, None, option_map, refl, sym, ap, ◌∙◌, subst, inl, inr, arith}
+use Rattle.std.proofs.Common.{◌≡◌, ℕ, suc, ◌+◌, ◌-◌, ◌*◌, ◌/◌, ◌<◌, ◌≤◌, Bool, true, false, ◌&&◌, nat_lt, nat_le, List, [], ◌∷◌, map, filter, position, get_or, Option, Some, None, option_map, refl, sym, ap, ◌∙◌, subst, inl, inr, arith}
 use Rattle.std.specs.List.{All, AllPairs, list_any}
 use Rattle.std.specs.Option.{option_or}
 use Rattle.std.proofs.lemmas.Bool.{cases_Bool}
@@ -11,9 +11,9 @@ use Rattle.elf_reader.specs.declared.program_header.ProgramHeader.{ProgramHeader
 use Rattle.elf_reader.specs.declared.section_header.SectionHeader.{SectionHeader}
 use Rattle.elf_reader.specs.declared.segment.Segment.{Segment}
 use Rattle.elf_reader.specs.declared.range.Range.{Range}
-use Rattle.elf_reader.specs.Check.{fails_at, first_fault, meet}
+use Rattle.elf_reader.specs.Check.{fails_at, first_fault}
 use Rattle.elf_reader.specs.Header.{header_of}
-use Rattle.elf_reader.specs.Segments.{live, file_end, segment_end, is_executable, is_live, is_dynamic, is_outside, is_oversized, is_too_high, is_writable_text, overlap, overlap_from, segment_fault, IsApart}
+use Rattle.elf_reader.specs.Segments.{live, file_end, is_executable, is_live, is_dynamic, is_outside, is_oversized, is_too_high, is_writable_text, overlap, overlap_from, segment_fault, IsApart}
 use Rattle.elf_reader.specs.Sections.{has_sections, section_headers, is_code, holds_section, is_code_outside, is_code_unaligned, section_fault, section_table_fault}
 use Rattle.elf_reader.specs.Area.{area, code_ranges, ranges_of, section_range, segment_range, range_end, has_address, is_in_text}
 use Rattle.elf_reader.specs.Fault.{IsSound, IsRunsOf}

@@ -1,5 +1,5 @@
 -- System V ABI, "Object Files", "ELF Header"
-use Rattle.std.specs.Prelude.{◌≡◌, ℕ, ◌+◌, ◌*◌, ◌<◌, Bool, not, ◌&&◌, ◌||◌, ◌==◌, nat_lt, if◌then◌else◌, List, [], ◌∷◌, length, slice_index, Option}
+use Rattle.std.specs.Prelude.{ℕ, ◌+◌, ◌*◌, Bool, not, ◌&&◌, ◌||◌, ◌==◌, nat_lt, if◌then◌else◌, List, [], ◌∷◌, length, slice_index, Option}
 use Rattle.nv_words.specs.Words.{half_of_list, word_of_list}
 use Rattle.nv_words.specs.declared.order.Order.{Order}
 use Rattle.nv_words.specs.declared.order.Order.TheVariants.{Big, Little}
@@ -7,17 +7,7 @@ use Rattle.nv_faults.specs.declared.elf_fault.ElfFault.{ElfFault}
 use Rattle.elf_reader.specs.declared.elf_header.ElfHeader.{ElfHeader}
 use Rattle.elf_reader.specs.Check.{fails, first_fault}
 
--- an ELF32 header takes 52 bytes
-abbrev pub IsTooShort : List ℕ → Type 0
-IsTooShort file = length file < 52
-
 -- e_ident[EI_MAG0] to e_ident[EI_MAG3]: 7F, then E, L, F
-abbrev pub HasMagic : List ℕ → Type 0
-HasMagic file =
-    (slice_index file 0 ≡ 0x7F) × (slice_index file 1 ≡ 0x45) × (slice_index file 2 ≡ 0x4C)
-    × (slice_index file 3 ≡ 0x46)
-
--- the same as a test
 abbrev pub has_magic : List ℕ → Bool
 has_magic file =
     slice_index file 0 == 0x7F && slice_index file 1 == 0x45 && slice_index file 2 == 0x4C && slice_index file 3 == 0x46

@@ -6,6 +6,17 @@ use crate::elf_header::ElfHeader;
 use crate::fault::fault_when;
 use nv_faults::ElfFault;
 
+/// A file of 32 bits (`e_ident[EI_CLASS]`).
+const ELFCLASS32: u8 = 1;
+/// Little-endian (`e_ident[EI_DATA]`).
+const ELFDATA2LSB: u8 = 1;
+/// Big-endian (`e_ident[EI_DATA]`).
+const ELFDATA2MSB: u8 = 2;
+/// A program that can be run (`e_type`).
+const ET_EXEC: u16 = 2;
+/// MIPS (`e_machine`).
+const EM_MIPS: u16 = 8;
+
 /// The first of the checks of what kind of file it is: a 32-bit executable for MIPS, in one of the two orders of bytes.
 #[tactic(auto, unfolding(crate::specs::Header::identity_fault))]
 pub fn check_identity(b: &[u8]) -> Option<ElfFault>
@@ -19,19 +30,19 @@ pub fn check_identity(b: &[u8]) -> Option<ElfFault>
         return fault_when(ElfFault::BAD_MAGIC, true);
     }
     let header = ElfHeader::read(b);
-    if header.ei_class != 1 {
+    if header.ei_class != ELFCLASS32 {
         return fault_when(ElfFault::NOT_CLASS_32, true);
     }
-    if header.ei_data != 1 && header.ei_data != 2 {
+    if header.ei_data != ELFDATA2LSB && header.ei_data != ELFDATA2MSB {
         return fault_when(ElfFault::NOT_KNOWN_ORDER, true);
     }
     if header.ei_version != 1 || header.e_version != 1 {
         return fault_when(ElfFault::BAD_VERSION, true);
     }
-    if header.e_type != 2 {
+    if header.e_type != ET_EXEC {
         return fault_when(ElfFault::NOT_EXECUTABLE, true);
     }
-    fault_when(ElfFault::NOT_MIPS, header.e_machine != 8)
+    fault_when(ElfFault::NOT_MIPS, header.e_machine != EM_MIPS)
 }
 
 /// Whether the file begins with the four bytes of every ELF file.

@@ -2,10 +2,17 @@ use crate::elf_header::ElfHeader;
 use crate::fields::word;
 use crate::segment::Segment;
 
+/// A segment (`p_type`).
+const PT_LOAD: u32 = 1;
+/// What a dynamic linker needs.
+const PT_DYNAMIC: u32 = 2;
+/// The name of a dynamic linker.
+const PT_INTERP: u32 = 3;
+
 /// The fields of an entry of the program header table that are looked at (System V ABI, "Program Header").
 #[derive(Clone, Copy)]
 pub struct ProgramHeader {
-    /// What the entry describes: 1 is `PT_LOAD`, a segment.
+    /// What the entry describes.
     pub p_type: u32,
     /// The other fields, which are those of a segment where `p_type` is `PT_LOAD`.
     pub segment: Segment,
@@ -43,7 +50,7 @@ impl ProgramHeader {
     pub fn is_segment(&self) -> bool
         ensures { result ≡ is_segment self.now }
     {
-        self.p_type == 1
+        self.p_type == PT_LOAD
     }
 
     /// Whether it is a segment that has bytes in memory.
@@ -57,7 +64,7 @@ impl ProgramHeader {
     pub fn is_dynamic(&self) -> bool
         ensures { result ≡ is_dynamic self.now }
     {
-        self.p_type == 2 || self.p_type == 3
+        self.p_type == PT_DYNAMIC || self.p_type == PT_INTERP
     }
 
     /// Whether it is a segment whose bytes run past the end of a file of `len` bytes.

@@ -1,12 +1,19 @@
 use crate::elf_header::ElfHeader;
 use crate::fields::word;
 
+/// Bytes that stand in the file (`sh_type`).
+const SHT_PROGBITS: u32 = 1;
+/// The section has memory (`sh_flags`).
+const SHF_ALLOC: u32 = 2;
+/// The section is code (`sh_flags`).
+const SHF_EXECINSTR: u32 = 4;
+
 /// The fields of an entry of the section header table that are looked at (System V ABI, "Sections").
 #[derive(Clone, Copy)]
 pub struct SectionHeader {
-    /// What the section is: 1 is `SHT_PROGBITS`.
+    /// What the section is.
     pub sh_type: u32,
-    /// 2 is `SHF_ALLOC` and 4 `SHF_EXECINSTR`, added.
+    /// Whether it has memory, and whether it is code.
     pub sh_flags: u32,
     /// The address of its first byte.
     pub sh_addr: u32,
@@ -42,7 +49,10 @@ impl SectionHeader {
     pub fn is_code(&self) -> bool
         ensures { result ≡ is_code self.now }
     {
-        self.sh_type == 1 && self.sh_flags & 2 != 0 && self.sh_flags & 4 != 0 && self.sh_size > 0
+        self.sh_type == SHT_PROGBITS
+            && self.sh_flags & SHF_ALLOC != 0
+            && self.sh_flags & SHF_EXECINSTR != 0
+            && self.sh_size > 0
     }
 
     /// Whether it holds code and begins at no multiple of 4.

@@ -1,3 +1,8 @@
+/// The segment may be executed (`p_flags`).
+const PF_X: u32 = 1;
+/// The segment may be written (`p_flags`).
+const PF_W: u32 = 2;
+
 /// A loadable segment that has bytes in memory (System V ABI, "Program Header", `PT_LOAD`).
 #[derive(Clone, Copy, Debug, PartialEq, Eq)]
 pub struct Segment {
@@ -36,14 +41,14 @@ impl Segment {
     pub(crate) fn is_executable(&self) -> bool
         ensures { result ≡ is_executable self.now }
     {
-        self.flags & 1 != 0
+        self.flags & PF_X != 0
     }
 
     /// Whether it may be written.
     pub(crate) fn is_writable(&self) -> bool
         ensures { result ≡ is_writable self.now }
     {
-        self.flags & 2 != 0
+        self.flags & PF_W != 0
     }
 
     /// Whether the two share an address.

@@ -1,3 +1,4 @@
 pub mod RegisterLaws
 pub mod GuestFollows
 mod LawfulUnits
+pub mod PieceSets

@@ -11,14 +11,14 @@ use Rattle.command_deeds.specs.Line.{line_of}
 use Rattle.command_deeds.specs.World.{World}
 use Rattle.command_deeds.specs.declared.done.Done.{Done}
 use Rattle.command_deeds.specs.declared.stop.Stop.{Stop}
-use Rattle.guest_commands.specs.Assembly.{IsDueOfAsm}
-use Rattle.guest_commands.specs.Interp.{IsDueOfInterp}
-use Rattle.guest_commands.specs.Listing.{IsDueOfList}
-use Rattle.class_commands.specs.Classes.{IsDueOfRun, IsDueOfVerify}
-use Rattle.machine_launch.specs.Runs.{Plan}
-use Rattle.translate_commands.specs.Go.{IsDueOfGo}
-use Rattle.translate_commands.specs.Make.{IsDueOfMake}
-use Rattle.translate_commands.specs.Translate.{IsDueOfTranslate}
+use Rattle.command_guest.specs.Assembly.{IsDueOfAsm}
+use Rattle.command_guest.specs.Interp.{IsDueOfInterp}
+use Rattle.command_guest.specs.Listing.{IsDueOfList}
+use Rattle.command_classes.specs.Classes.{IsDueOfRun, IsDueOfVerify}
+use Rattle.command_launch.specs.Runs.{Plan}
+use Rattle.command_translate.specs.Go.{IsDueOfGo}
+use Rattle.command_translate.specs.Make.{IsDueOfMake}
+use Rattle.command_translate.specs.Translate.{IsDueOfTranslate}
 use Rattle.nested_cli.specs.Faults.{Faults}
 use Rattle.nested_cli.specs.Line.{Says}
 use Rattle.nested_cli.specs.Usage.{Misuses}

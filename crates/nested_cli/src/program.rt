@@ -12,14 +12,14 @@ ghost use Rattle.nested_cli.specs.Line.{Tells};
 ghost use Rattle.nested_cli.specs.Usage.{Misuses};
 
 use crate::misuse::refused_words;
-use class_commands::{run, verify};
+use command_classes::{run, verify};
 use command_deeds::{Done, Ending, Outside, write_line};
+use command_guest::{Guest, asm, interp, list};
+use command_launch::Launch;
+use command_translate::{go, make, translate};
 use command_words::{Command, read_words};
-use guest_commands::{Guest, asm, interp, list};
-use machine_launch::Launch;
 use nv_outside::{Failed, Shelf, Sink, Source};
 use std::alloc::Global;
-use translate_commands::{go, make, translate};
 
 /// The program: does what its words say, over a shelf of files, a source of input and sinks of output, and writes the answer's
 /// line to `err` last.

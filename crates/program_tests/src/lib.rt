@@ -16,6 +16,4 @@ mod mips2_assembly;
 #[cfg(test)]
 mod programs;
 #[cfg(test)]
-mod thin_files;
-#[cfg(test)]
 mod written_files;

@@ -1,7 +1,6 @@
 pub mod Registers
 pub mod Instructions
 pub mod Units
-pub mod Sets
 pub mod Pieces
 pub mod Exits
 pub mod Parts

@@ -1,3 +1,6 @@
+ghost use Rattle.std.specs.Prelude.{◌≡◌};
+ghost use Rattle.unix_calls.specs.declared.unix_error.UnixError.TheVariants as error;
+
 use crate::NoMemory;
 
 /// Why an argument or a file was not added.
@@ -11,6 +14,8 @@ pub enum UnixError {
 }
 
 impl From<NoMemory> for UnixError {
+    ghost from_gives = { λ _ e. e ≡ error.NoMemory };
+
     fn from(_: NoMemory) -> UnixError {
         UnixError::NoMemory
     }

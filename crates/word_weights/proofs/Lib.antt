@@ -4,3 +4,4 @@ pub mod TransferSizes
 pub mod UnitSizes
 pub mod Counts
 pub mod PieceSizes
+pub mod SmallInstructions

@@ -19,7 +19,8 @@ use Rattle.guest_follows.specs.Knowing.{gained}
 use Rattle.emitted_laws.specs.Pieces.{HoldsAll, PieceArrives, PieceGoal, known_first}
 use Rattle.emitted_laws.proofs.PieceLaws.Fetching.{AreInFields, Fetches, PutsBack, each_code}
 use Rattle.emitted_laws.proofs.PieceLaws.Running.{HasRun}
-use Rattle.emitted_laws.proofs.PieceLaws.Sets.{AreLawful, SetLaws, known-behind, none-kept, written-kept}
+use Rattle.guest_follows.proofs.PieceSets.{AreLawful, SetLaws, known-behind, written-kept}
+use Rattle.emitted_laws.proofs.PieceLaws.Sets.{none-kept}
 
 -- ---- before the units
 

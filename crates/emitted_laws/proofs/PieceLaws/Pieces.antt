@@ -22,7 +22,8 @@ use Rattle.emitted_laws.proofs.PieceLaws.Arriving.{HasBegun, all-in-fields, arri
 use Rattle.emitted_laws.proofs.PieceLaws.Behind.{three-parts}
 use Rattle.emitted_laws.proofs.PieceLaws.Fetching.{each_code, fetched-within, fetches, puts-back}
 use Rattle.emitted_laws.proofs.PieceLaws.Running.{HasRun, NeedLaws, units-follow}
-use Rattle.emitted_laws.proofs.PieceLaws.Sets.{AreLawful, SetLaws, are-lawful, needed-first}
+use Rattle.guest_follows.proofs.PieceSets.{AreLawful, SetLaws, are-lawful}
+use Rattle.emitted_laws.proofs.PieceLaws.Sets.{needed-first}
 use Rattle.emitted_laws.proofs.PieceLaws.Turns.{ChangeWritten}
 use Rattle.emitted_laws.proofs.PieceLaws.Within.{units-stay}
 

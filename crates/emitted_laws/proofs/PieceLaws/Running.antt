@@ -30,7 +30,7 @@ use Rattle.emitted_laws.specs.Units.{UnitArrives, UnitFollows}
 use Rattle.emitted_laws.proofs.UnitLaws.Joining.{Maps, follows-after}
 use Rattle.emitted_laws.specs.Pieces.{AreStraight, PieceGoal, UnitGoal, piece_turns, then_turns}
 use Rattle.emitted_laws.proofs.PieceLaws.Behind.{maps-all}
-use Rattle.emitted_laws.proofs.PieceLaws.Sets.{AreLawful, SetLaws}
+use Rattle.guest_follows.proofs.PieceSets.{AreLawful, SetLaws}
 use Rattle.emitted_laws.proofs.PieceLaws.Turns.{ChangeWritten, GoesOrEnds, IsPast, LeavesOthers, Reaches, plain-past, unit-leaves}
 use Rattle.emitted_laws.proofs.PieceLaws.Within.{unit-stays}
 

@@ -12,7 +12,7 @@ use Rattle.guest_follows.specs.Knowing.{gained}
 use Rattle.guest_follows.specs.Lawful.{AreAllKnown}
 use Rattle.emitted_laws.specs.Pieces.{AreStraight}
 use Rattle.emitted_laws.proofs.PieceLaws.Running.{NeedLaws}
-use Rattle.emitted_laws.proofs.PieceLaws.Sets.{AreLawful, SetLaws}
+use Rattle.guest_follows.proofs.PieceSets.{AreLawful, SetLaws}
 
 -- their code
 pub code-both : (bank : ℕ) (front more : List Word) (a : ℕ)

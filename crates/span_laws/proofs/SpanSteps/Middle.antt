@@ -18,7 +18,7 @@ use Rattle.guest_follows.specs.Knowing.{IsHeld, gained}
 use Rattle.guest_follows.specs.Lawful.{IsLawful, has_register}
 use Rattle.emitted_laws.specs.Pieces.{HoldsAll, known_first}
 use Rattle.emitted_laws.proofs.PieceLaws.Arriving.{HasBegun, all-in-fields}
-use Rattle.emitted_laws.proofs.PieceLaws.Sets.{AreLawful, SetLaws, known-behind, written-kept}
+use Rattle.guest_follows.proofs.PieceSets.{AreLawful, SetLaws, known-behind, written-kept}
 use Rattle.emitted_laws.proofs.PieceLaws.Turns.{LeavesOthers}
 use Rattle.span_laws.specs.InPieces.{IsInPiece, known_behind}
 

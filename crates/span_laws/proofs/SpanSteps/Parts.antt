@@ -19,7 +19,8 @@ use Rattle.guest_follows.specs.Lawful.{AreAllKnown, IsLawful, KnownByUnit}
 use Rattle.emitted_laws.specs.Pieces.{known_first}
 use Rattle.emitted_laws.proofs.PieceLaws.Fetching.{fetched-within}
 use Rattle.emitted_laws.proofs.PieceLaws.Running.{NeedLaws}
-use Rattle.emitted_laws.proofs.PieceLaws.Sets.{AreLawful, SetLaws, are-lawful, needed-first}
+use Rattle.guest_follows.proofs.PieceSets.{AreLawful, SetLaws, are-lawful}
+use Rattle.emitted_laws.proofs.PieceLaws.Sets.{needed-first}
 use Rattle.emitted_laws.proofs.PieceLaws.Within.{unit-stays, units-stay}
 use Rattle.span_code.specs.declared.span_words.SpanWords.{SpanWords}
 use Rattle.span_code.specs.Pieces.{piece_at}

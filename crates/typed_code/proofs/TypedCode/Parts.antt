@@ -11,7 +11,7 @@ use Rattle.word_emitter.specs.Exits.{exit_code}
 use Rattle.typed_code.specs.Judging.{Rules, Leads}
 use Rattle.typed_code.proofs.TypedSteps.Joining.{codes-lead}
 use Rattle.typed_code.specs.Knowing.{HelperTypes, Opens, goal_after, goal_behind, unknown, with_goal}
-use Rattle.typed_code.proofs.TypedCode.Sets.{SetLaws}
+use Rattle.guest_follows.proofs.PieceSets.{SetLaws}
 use Rattle.typed_code.proofs.TypedCode.Pieces.{Needing, cold-lead, warm-lead}
 use Rattle.typed_code.proofs.TypedCode.Exits.{exit-leads}
 

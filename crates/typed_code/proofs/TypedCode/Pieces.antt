@@ -27,7 +27,7 @@ use Rattle.typed_code.proofs.TypedSteps.Joining.{codes-lead, nothing-leads, ente
 use Rattle.typed_code.proofs.TypedSteps.KindOrder.{same, below-refl, below-top}
 use Rattle.typed_code.proofs.TypedSteps.Passing.{does-flow}
 use Rattle.typed_code.specs.Knowing.{knowing, HelperTypes, goal_behind, goal_after, unknown, with_goal}
-use Rattle.typed_code.proofs.TypedCode.Sets.{SetLaws, are-lawful, written-kept, known-behind}
+use Rattle.guest_follows.proofs.PieceSets.{SetLaws, are-lawful, written-kept, known-behind}
 use Rattle.typed_code.proofs.TypedCode.Units.{unit-typed}
 
 -- ---- frames

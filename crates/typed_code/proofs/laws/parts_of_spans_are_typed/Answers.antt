@@ -1,4 +1,4 @@
-use Rattle.typed_code.proofs.TypedCode.Sets.{SetLaws}
+use Rattle.guest_follows.proofs.PieceSets.{SetLaws}
 use Rattle.typed_code.proofs.TypedCode.Pieces.{Needing}
 use Rattle.typed_code.proofs.TypedCode.Parts.{warm-part-leads, cold-part-leads}
 use Rattle.typed_code.proofs.laws.parts_of_spans_are_typed.Goals as goal

@@ -1,4 +1,4 @@
-use Rattle.typed_code.proofs.TypedCode.Sets.{SetLaws}
+use Rattle.guest_follows.proofs.PieceSets.{SetLaws}
 use Rattle.typed_code.proofs.TypedCode.Pieces.{Needing, warm-lead, cold-lead}
 use Rattle.typed_code.proofs.laws.pieces_are_typed.Goals as goal
 

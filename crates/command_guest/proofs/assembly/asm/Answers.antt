@@ -1,0 +1,109 @@
+use Rattle.std.proofs.Common.{[], ◌≡◌, ◌∷◌, None, Some, Ok, Err, inl, refl, subst}
+use Rattle.std.proofs.lemmas.Result.{err_from_is_err_and}
+use Rattle.std.specs.Prelude.{codes, length}
+use Rattle.command_deeds.proofs.DeedLemmas.{all_then_stops, all_then_works, gives_ends, same_shelf, stops_before, written}
+use Rattle.command_deeds.specs.Deeds.{DoesAll, StopsIn, prints, stores}
+use Rattle.command_deeds.specs.Ends.{end_of, lacks, says}
+use Rattle.command_deeds.specs.Line.{number_line}
+use Rattle.command_deeds.specs.World.{StopsPrint, Takes, output_seen, seen, shelf_seen, world}
+use Rattle.command_deeds.specs.declared.done.Done.TheVariants.{Good}
+use Rattle.command_deeds.specs.declared.stop.Stop.TheVariants.{WriteFault}
+use Rattle.command_guest.proofs.AssemblyLemmas.{asm_comes, asm_refused, lacks_text}
+use Rattle.command_guest.specs.Assembly.{IsDueOfAsm}
+use Rattle.command_guest.proofs.assembly.asm.Goals as goal
+
+pub returns-in_err-text : goal.returns-in_err-text
+returns-in_err-text g c =
+    let p = err_from_is_err_and c.from_residual.result c.from_residual.ensures.1 in
+    let input = c.args.input.now in
+    let output = c.args.output.now in
+    let w = seen g.H.Shelf g.S.Source g.O.Sink g.E.Sink c.args.outside.now in
+    let v = world (shelf_seen g.H.Shelf c.load.new.shelf) w.input w.out w.err in
+    record {
+      ends = (
+        (refl, refl, refl, refl),
+        rw (p.1, p.2) (gives_ends (IsDueOfAsm input output) (λ files answer. (files c.as_str.result.now ≡ None)
+            × (answer ≡ lacks input.word c.as_str.result.now)) w v (end_of c.in_err-text.field-0.0) c.in_err-text.ensures.gives (refl, refl, refl)
+            (λ files answer h. lacks_text input output c.as_str.result.now files w.input.told answer c.as_str.ensures h)),
+      );
+    }
+
+pub returns-in_err-file : goal.returns-in_err-file
+returns-in_err-file g c =
+    let p = err_from_is_err_and c.from_residual-in_err-file.result c.from_residual-in_err-file.ensures.1 in
+    let w = seen g.H.Shelf g.S.Source g.O.Sink g.E.Sink c.args.outside.now in
+    let u = world (shelf_seen g.H.Shelf c.load.new.shelf) w.input w.out w.err in
+    record {
+      ends = (
+        (refl, refl, refl, refl),
+        rw (p.1, p.2) (asm_refused c.args.input.now c.args.output.now c.as_str.result.now c.in_ok-text.text.items c.as_slice.result.now w u
+            (end_of c.in_err-file.field-0.0)
+            c.as_str.ensures c.as_slice.ensures.value c.in_ok-text.ensures.gives (refl, refl, refl) c.in_err-file.ensures.makes),
+      );
+    }
+
+pub returns-in_err-store : goal.returns-in_err-store
+returns-in_err-store g c =
+    let p = err_from_is_err_and c.from_residual-in_err-store.result c.from_residual-in_err-store.ensures.1 in
+    let w = seen g.H.Shelf g.S.Source g.O.Sink g.E.Sink c.args.outside.now in
+    let u = world (shelf_seen g.H.Shelf c.load.new.shelf) w.input w.out w.err in
+    let v = world (shelf_seen g.H.Shelf c.store.new.shelf) w.input w.out w.err in
+    let output = c.args.output.now in
+    let program = c.in_ok-file.file.items in
+    let stop = c.in_err-store.field-0.0 in
+    record {
+      ends = (
+        (refl, refl, refl, refl),
+        rw (p.1, p.2) (asm_comes c.args.input.now output c.as_str.result.now c.in_ok-text.text.items c.as_slice.result.now program w u v (Err stop)
+            c.as_str.ensures c.as_slice.ensures.value c.in_ok-text.ensures.gives (refl, refl, refl) c.in_ok-file.ensures.makes
+            (stops_before (stores output program ∷ []) (prints (number_line (codes "bytes ") (length program)) ∷ []) u v stop
+            (subst (λ b. StopsIn (stores output b ∷ []) u v stop) c.as_slice-2.ensures.value (c.in_err-store.ensures.stores w.input w.out w.err)))),
+      );
+    }
+
+pub returns-in_err-write_number : goal.returns-in_err-write_number
+returns-in_err-write_number g c =
+    let p = err_from_is_err_and c.from_residual-in_err-write_number.result c.from_residual-in_err-write_number.ensures.1 in
+    let w = seen g.H.Shelf g.S.Source g.O.Sink g.E.Sink c.args.outside.now in
+    let u = world (shelf_seen g.H.Shelf c.load.new.shelf) w.input w.out w.err in
+    let x = world (shelf_seen g.H.Shelf c.store.new.shelf) w.input w.out w.err in
+    let v = world x.shelf w.input (output_seen g.O.Sink c.write_number.new.sink) w.err in
+    let output = c.args.output.now in
+    let program = c.in_ok-file.file.items in
+    let text = number_line (codes "bytes ") (length program) in
+    record {
+      ends = (
+        (refl, refl, refl, refl),
+        rw (p.1, p.2) (asm_comes c.args.input.now output c.as_str.result.now c.in_ok-text.text.items c.as_slice.result.now program w u v
+            (Err WriteFault)
+            c.as_str.ensures c.as_slice.ensures.value c.in_ok-text.ensures.gives (refl, refl, refl) c.in_ok-file.ensures.makes
+            (all_then_stops (stores output program ∷ []) (prints text ∷ []) u x v WriteFault
+            (subst (λ b. DoesAll (stores output b ∷ []) u x) c.as_slice-2.ensures.value (c.in_ok-store.ensures.stores w.input w.out w.err))
+            (inl (
+              subst (λ b. StopsPrint x.out v.out (number_line (codes "bytes ") (length b)) WriteFault) c.as_slice-3.ensures.value
+                  c.in_err-write_number.ensures.writes,
+              (same_shelf x.shelf, refl, refl),
+            )))),
+      );
+    }
+
+pub returns : goal.returns
+returns g c =
+    let w = seen g.H.Shelf g.S.Source g.O.Sink g.E.Sink c.args.outside.now in
+    let u = world (shelf_seen g.H.Shelf c.load.new.shelf) w.input w.out w.err in
+    let x = world (shelf_seen g.H.Shelf c.store.new.shelf) w.input w.out w.err in
+    let v = world x.shelf w.input (output_seen g.O.Sink c.write_number.new.sink) w.err in
+    let output = c.args.output.now in
+    let program = c.in_ok-file.file.items in
+    let text = number_line (codes "bytes ") (length program) in
+    record {
+      ends = (
+        (refl, refl, refl, refl),
+        asm_comes c.args.input.now output c.as_str.result.now c.in_ok-text.text.items c.as_slice.result.now program w u v (Ok (says Good))
+            c.as_str.ensures c.as_slice.ensures.value c.in_ok-text.ensures.gives (refl, refl, refl) c.in_ok-file.ensures.makes
+            (all_then_works (stores output program ∷ []) (prints text ∷ []) (Some (says Good)) u x v (Ok (says Good))
+            (subst (λ b. DoesAll (stores output b ∷ []) u x) c.as_slice-2.ensures.value (c.in_ok-store.ensures.stores w.input w.out w.err))
+            (written text x v (says Good) refl (subst (λ b. Takes x.out v.out (number_line (codes "bytes ") (length b))) c.as_slice-3.ensures.value
+            c.in_ok-write_number.ensures.writes) (same_shelf x.shelf, refl, refl))),
+      );
+    }

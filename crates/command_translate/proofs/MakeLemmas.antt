@@ -1,0 +1,95 @@
+-- What is due of the program that is made.
+use Rattle.std.proofs.Common.{◌≡◌, ◌≢◌, ℕ, ℤ, ◌≤◌, ◌%◌, pos, List, [], Option, None, Some, Result, ap, ◌∙◌, subst, arith}
+use Rattle.elf_image.specs.Refusals.{image_fault}
+use Rattle.elf_image.specs.Start.{Source}
+use Rattle.elf_reader.specs.Area.{area}
+use Rattle.elf_reader.specs.Fault.{elf_fault, IsRunsOf}
+use Rattle.elf_reader.specs.declared.range.Range.{Range}
+use Rattle.elf_writer.specs.Fields.{words}
+use Rattle.command_guest.specs.Imaging.{IsDueByElf, IsDueByImage, IsImageOf, IsRefusal, source_of}
+use Rattle.made_program.specs.Words.{made_words}
+use Rattle.mips_asm.specs.File.{IsFileOf}
+use Rattle.command_deeds.proofs.DeedLemmas.{due_as}
+use Rattle.command_deeds.specs.Ends.{Answer, Comes, Due, answers}
+use Rattle.command_deeds.specs.Line.{status_of}
+use Rattle.command_deeds.specs.World.{World}
+use Rattle.command_deeds.specs.declared.done.Done.{Done}
+use Rattle.command_deeds.specs.declared.done.Done.TheVariants.{Exited, Spent}
+use Rattle.command_launch.specs.Runs.{answer_of}
+use Rattle.made_laws.specs.Ends.{ExitsLow, made_outcome}
+use Rattle.command_deeds.specs.declared.stop.Stop.{Stop}
+use Rattle.command_translate.proofs.RunLemmas.{same_end}
+use Rattle.command_translate.specs.Make.{IsDueOfMade, IsDueOfMake, IsEndOfTranslation}
+use Rattle.command_translate.specs.Make.{classes_end, interp_end, made_pages, made_steps, told}
+
+-- ---- both runs
+
+not_spent : (end : Option Done) (status : ℤ) → end ≡ Some (Exited status) → end ≢ Some Spent
+not_spent end status is spent = cc
+
+-- a status of seven bits is that of the process
+low_status : (end : Done) (status : ℕ) → status ≤ 127 → end ≡ Exited (pos status) → status_of end ≡ status
+low_status end status low is =
+    let small : status % 256 ≡ status = omega (arith, low) in
+    ap status_of is ∙ small
+
+-- the program exits by itself, and both runs are told
+pub ends_told : (count method_bytes moment steps : ℕ) (file this : List ℕ) (source : Source) (interp classes : Done) (i k : ℕ) → steps ≡ made_steps count
+    → source ≡ source_of made_pages this → this ≡ file → ExitsLow (made_outcome (made_steps count) moment file)
+    → interp_end steps moment source ≡ Some interp
+    → IsEndOfTranslation steps moment source method_bytes classes → i ≡ status_of interp → k ≡ status_of classes
+    → IsDueOfMade count method_bytes moment source (told count i k)
+ends_told count method_bytes moment steps file this source interp classes i k same imaged is_file exits first second is_i is_k =
+    let by = made_steps count in
+    let t = second.translated in
+    let as_source : source ≡ source_of made_pages file = imaged ∙ ap (source_of made_pages) is_file in
+    let end : interp_end by moment source ≡ Some (Exited (pos exits.status)) = ap (interp_end by moment) as_source ∙ ap answer_of exits.is in
+    let alike : classes_end by moment source t.linked.classes ≡ interp_end by moment source =
+    same_end by moment method_bytes source second.built t (not_spent (interp_end by moment source) (pos exits.status) end) in
+    let one : interp_end by moment source ≡ Some interp = subst (λ n. interp_end n moment source ≡ Some interp) same first in
+    let two : classes_end by moment source t.linked.classes ≡ Some classes =
+    subst (λ n. classes_end n moment source t.linked.classes ≡ Some classes) same second.is in
+    let interp_is : interp ≡ Exited (pos exits.status) = cc (one, end) in
+    let classes_is : classes ≡ Exited (pos exits.status) = cc (two, alike, end) in
+    let i_is : i ≡ exits.status = is_i ∙ low_status interp exits.status exits.low interp_is in
+    let k_is : k ≡ exits.status = is_k ∙ low_status classes exits.status exits.low classes_is in (
+      second.built,
+      t,
+      record {
+        status = exits.status;
+        low = exits.low;
+        interp = end;
+        classes = alike ∙ end;
+        is = ap (λ n. told count n k) i_is ∙ ap (told count exits.status) k_is;
+      },
+    )
+
+-- ---- the command
+
+-- the program in its file
+made_due : (count method_bytes moment : ℕ) (file this : List ℕ) (image : Source) (due : Due) → IsFileOf (words (made_words count)) [] file → this ≡ file
+    → image ≡ source_of made_pages this → IsDueOfMade count method_bytes moment image due → IsDueOfMake count method_bytes moment due
+made_due count method_bytes moment file this image due is same imaged h =
+    (file, is, subst (λ s. IsDueOfMade count method_bytes moment s due) (imaged ∙ ap (source_of made_pages) same) h)
+
+-- its image was made, and the rest came to this
+pub make_comes : (count method_bytes moment : ℕ) (file this : List ℕ) (image : Source) (w v : World) (end : Result Answer Stop)
+    → IsFileOf (words (made_words count)) [] file → this ≡ file
+    → IsImageOf (source_of made_pages this) image → Comes (λ x. IsDueOfMade count method_bytes moment image) w v end
+    → Comes (λ x. IsDueOfMake count method_bytes moment) w v end
+make_comes count method_bytes moment file this image w v end is same imaged comes =
+    due_as (λ x. IsDueOfMade count method_bytes moment image) (λ x. IsDueOfMake count method_bytes moment) w v end
+    (λ due h. made_due count method_bytes moment file this image due is same imaged.is h) comes
+
+-- it is not refused
+
+abbrev Nothing : Source → Due → Type 0
+Nothing source due = ⊥
+
+pub make_accepted : (file this : List ℕ) (answer : Answer) → this ≡ file → elf_fault file ≡ None
+    → ((runs : List Range) → IsRunsOf (area file) runs → image_fault file runs 256 64 ≡ None) → IsRefusal (source_of made_pages this) answer → ⊥
+make_accepted file this answer same accepted passed refused =
+    let source = source_of made_pages file in
+    let by_elf = subst (λ f. IsDueByElf f Nothing source (answers answer)) accepted
+    (subst (λ f. IsRefusal (source_of made_pages f) answer) same refused) in
+    subst (λ f. IsDueByImage f Nothing source (answers answer)) (passed by_elf.0 by_elf.1) by_elf.2

@@ -1,0 +1,145 @@
+-- The run of a program's classes over the system, beside the run of the program.
+use Rattle.std.proofs.Common.{◌≡◌, ◌≢◌, ℕ, ◌≤◌, IsTrue, List, [], ◌∷◌, Option, Some, None, ap, sym, unwrap_or, ◌∙◌, arith}
+use Rattle.std.specs.Prelude.{option_map}
+use Rattle.elf_image.specs.Start.{Source, image_of}
+use Rattle.jvm_link.specs.Linking.{program_of}
+use Rattle.jvm_program.specs.Step.{loaded, loaded_turn}
+use Rattle.mips_decode.specs.Step.{turn}
+use Rattle.mips_machine.specs.Loading.{start_of}
+use Rattle.nv_events.specs.Answer.{Answer as Answered, fits}
+use Rattle.nv_events.specs.Question.{Question}
+use Rattle.nv_events.specs.Run.{Run}
+use Rattle.nv_events.specs.declared.outcome.Outcome.{Outcome}
+use Rattle.nv_events.specs.declared.outcome.Outcome.TheVariants.{Exited, Faulted, Trapped, Waiting, Going}
+use Rattle.program_translation.specs.Bounds.{allow, need}
+use Rattle.program_translation.specs.declared.built.Built.{Built}
+use Rattle.nv_translate.proofs.EndedRuns.{back, forth, system_fits}
+use Rattle.nv_translate.specs.Translated.{EndsAs, Translated}
+use Rattle.unix_calls.specs.Arriving.{Arriving, arrived, arriving, reply_arriving, reply_behind, without_pieces}
+use Rattle.unix_system.specs.System.{System}
+use Rattle.unix_system.specs.Unix.{reply, start}
+use Rattle.command_deeds.specs.Ends.{Answer, Due, says}
+use Rattle.command_deeds.specs.declared.done.Done.{Done}
+use Rattle.command_deeds.specs.declared.done.Done.TheVariants as done
+use Rattle.command_launch.specs.Runs.{IsDueOfSteps, NamedFile, Plan, answer_of, arguments_of, of_runs, run_alone, run_for}
+use Rattle.command_translate.proofs.GuestEnds.{never_trapped}
+use Rattle.command_translate.specs.Go.{IsDueOfRun, classes_for, program_for}
+use Rattle.command_translate.specs.Make.{classes_end, interp_end, made_name}
+
+-- a trap is told of a run that ended in one
+abbrev dones : Option Answer → Option Done
+dones None = None
+dones (Some answer) = Some answer.done
+
+said : (end : Option Done) (told : Done) → option_map says end ≡ Some (says told) → end ≡ Some told
+said None told h = cc
+said (Some end) told h = ap dones h
+
+trap_is : (o : Outcome) (k : ℕ) → answer_of o ≡ Some (done.Trapped k) → o ≡ Trapped k
+trap_is (Exited status) k h = cc
+trap_is (Faulted f) k h = cc
+trap_is (Trapped t) k h = cc
+trap_is Waiting k h = cc
+trap_is Going k h = cc
+
+trap_told : (o : Outcome) (k : ℕ) → option_map says (answer_of o) ≡ Some (says (done.Trapped k)) → o ≡ Trapped k
+trap_told o k h = trap_is o k (said (answer_of o) (done.Trapped k) h)
+
+trap_ends : (o : Outcome) (k : ℕ) → o ≡ Trapped k → o ≢ Going
+trap_ends o k h going = cc
+
+spent_told : (o : Outcome) → o ≡ Going → answer_of o ≡ Some done.Spent
+spent_told o h = ap answer_of h
+
+-- ---- `go`
+
+-- an answer behind pieces fits, as each of the system's does
+abbrev with_pieces : List (List ℕ) → Answered × System → Answered × Arriving
+with_pieces pieces y = (y.0, arriving y.1 pieces)
+
+given_fits : (given : Option (Answered × System)) (pieces : List (List ℕ)) (l : Arriving) (q : Question) (a : Answered)
+    → ((m : System) → given ≡ Some (a, m) → IsTrue (fits a q)) → option_map (with_pieces pieces) given ≡ Some (a, l) → IsTrue (fits a q)
+given_fits None pieces l q a fit is = cc
+given_fits (Some y) pieces l q a fit is =
+    let same : with_pieces pieces y ≡ (a, l) = ap (λ o. unwrap_or o (a, l)) is in
+    fit y.1 (ap (λ z. Some (z.0, y.1)) same)
+
+behind_fits : (s : System) (pieces : List (List ℕ)) (l : Arriving) (q : Question) (a : Answered) → reply_behind s pieces q ≡ Some (a, l) → IsTrue (fits a q)
+behind_fits s [] l q a is = given_fits (reply s q) [] l q a (λ m so. system_fits s m q a so) is
+behind_fits s (piece ∷ pieces) l q a is =
+    given_fits (reply (arrived s piece) q) pieces l q a (λ m so. system_fits (arrived s piece) m q a so) is
+
+arriving_fits : (k l : Arriving) (q : Question) (a : Answered) → reply_arriving k q ≡ Some (a, l) → IsTrue (fits a q)
+arriving_fits k l q a is = behind_fits k.system k.pieces l q a is
+
+without : {S T : Type 0} (run : Run S Arriving) (other : Run T Arriving) → EndsAs run other → EndsAs (without_pieces run) (without_pieces other)
+without run other ends = record { calls = ends.calls; outcome = ends.outcome; system = ap (λ k. k.system) ends.system }
+
+module _ (plan : Plan) (method_bytes : ℕ) (source : Source) (built : Built) (t : Translated source plan.name method_bytes built)
+    (found : List NamedFile) (pieces : List (List ℕ)) where
+  abbrev mapped : ℕ
+  mapped = (image_of source).mapped
+
+  -- the system before its first call, where this is left of input
+  abbrev system : List ℕ → System
+  system input = start plan.session.disk plan.moment found (arguments_of plan) input
+
+  enough : need mapped ≤ need mapped
+  enough = omega arith
+
+  as_interp : (input : Option (List ℕ)) → (program_for plan source found input pieces).outcome ≢ Going
+      → EndsAs (program_for plan source found input pieces)
+      (classes_for plan source found t.linked.classes input pieces (allow mapped plan.session.steps))
+  as_interp (Some input) over =
+      forth reply system_fits source (program_of t.linked.classes) (need mapped) (system input) t.runs plan.session.steps enough over
+  as_interp None over =
+      without _ _ (forth reply_arriving arriving_fits source (program_of t.linked.classes) (need mapped) (arriving (system []) pieces) t.runs
+      plan.session.steps enough over)
+
+  as_classes : (input : Option (List ℕ)) (m : ℕ) → (classes_for plan source found t.linked.classes input pieces m).outcome ≢ Going
+      → EndsAs (classes_for plan source found t.linked.classes input pieces m) (run_for m turn (start_of (image_of source)) plan found input pieces)
+  as_classes (Some input) m over =
+      back reply system_fits source (program_of t.linked.classes) (need mapped) (system input) t.runs m enough over
+  as_classes None m over =
+      without _ _ (back reply_arriving arriving_fits source (program_of t.linked.classes) (need mapped) (arriving (system []) pieces) t.runs
+      m enough over)
+
+  program_traps_not : (input : Option (List ℕ)) (m k : ℕ) → (run_for m turn (start_of (image_of source)) plan found input pieces).outcome ≢ Trapped k
+  program_traps_not (Some input) m k = never_trapped reply m (start_of (image_of source)) (system input) k
+  program_traps_not None m k = never_trapped reply_arriving m (start_of (image_of source)) (arriving (system []) pieces) k
+
+  no_trap : (input : Option (List ℕ)) (due : Due)
+      → due ≡ of_runs loaded_turn (allow mapped plan.session.steps) (classes_for plan source found t.linked.classes input pieces) plan.session.keep.names
+      → (k : ℕ) → due.answer ≢ Some (says (done.Trapped k))
+  no_trap input due is k h =
+      let bound = allow mapped plan.session.steps in
+      let run = classes_for plan source found t.linked.classes input pieces bound in
+      let trapped : run.outcome ≡ Trapped k = trap_told run.outcome k (sym (ap (λ d. d.answer) is) ∙ h) in
+      program_traps_not input bound k ((as_classes input bound (trap_ends run.outcome k trapped)).outcome ∙ trapped)
+
+-- what is due of the run of a translation's classes
+pub run_due : (plan : Plan) (method_bytes : ℕ) (source : Source) (built : Built) (t : Translated source plan.name method_bytes built)
+    (found : List NamedFile) (rest : Option (List ℕ)) (due : Due)
+    → IsDueOfSteps (allow (image_of source).mapped plan.session.steps) loaded_turn
+    (loaded (program_of t.linked.classes) (need (image_of source).mapped)) plan rest found due
+    → IsDueOfRun plan source rest found t.linked.classes due
+run_due plan method_bytes source built t found rest due h = (
+  h.0,
+  record {
+    is = h.1;
+    as_interp = as_interp plan method_bytes source built t found h.0 rest;
+    no_trap = no_trap plan method_bytes source built t found h.0 rest due h.1;
+  },
+)
+
+-- ---- `make`
+
+-- where the program ends within its steps, its classes end as it does
+pub same_end : (steps moment method_bytes : ℕ) (source : Source) (built : Built) (t : Translated source made_name method_bytes built)
+    → interp_end steps moment source ≢ Some done.Spent
+    → classes_end steps moment source t.linked.classes ≡ interp_end steps moment source
+same_end steps moment method_bytes source built t over =
+    let mapped = (image_of source).mapped in
+    let alike = t.ends.forth (start 1024 moment [] (made_name ∷ []) []) (need mapped) steps (omega arith)
+    (λ going. over (spent_told (run_alone steps turn (start_of (image_of source)) made_name moment).outcome going)) in
+    ap answer_of alike.outcome

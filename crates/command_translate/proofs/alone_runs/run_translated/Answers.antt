@@ -1,0 +1,33 @@
+use Rattle.std.proofs.Common.{◌≡◌, ◌∙◌, Some, ap, sym}
+use Rattle.std.proofs.lemmas.Result.{IfOk-weaker}
+use Rattle.command_deeds.specs.declared.done.Done.{Done}
+use Rattle.elf_image.specs.Start.{image_of}
+use Rattle.jvm_machine.specs.Machine.{state_of}
+use Rattle.jvm_link.specs.Linking.{program_of}
+use Rattle.jvm_program.specs.Step.{loaded, loaded_turn}
+use Rattle.program_translation.specs.Bounds.{allow, need}
+use Rattle.command_launch.specs.Runs.{answer_of, run_alone}
+use Rattle.command_translate.proofs.TranslationLemmas.{spell_classes}
+use Rattle.command_translate.specs.Make.{IsEndOfTranslation, made_name}
+use Rattle.command_translate.proofs.alone_runs.run_translated.Goals as goal
+
+pub returns : goal.returns
+returns c =
+    let image = c.args.image.now in
+    let mapped = (image_of image).mapped in
+    let t = c.in_ok-built.ensures in
+    let classes = t.linked.classes in
+    let state = c.in_ok-jvm.ensures.state classes (spell_classes image made_name c.args.method_bytes c.in_ok-built.built c.as_slice.result.now t
+    c.as_slice.ensures.value) in
+    IfOk-weaker c.play_alone.result
+    (λ (end : Done). answer_of (run_alone c.allow-bound.result loaded_turn (state_of c.in_ok-jvm.jvm) made_name c.args.moment).outcome ≡ Some end)
+    (IsEndOfTranslation c.args.steps c.args.moment image c.args.method_bytes)
+    (λ end h. record {
+      built = c.in_ok-built.built;
+      translated = t;
+      is =
+          sym (ap (λ s. answer_of (run_alone c.allow-bound.result loaded_turn s made_name c.args.moment).outcome) state
+          ∙ ap (λ bound. answer_of (run_alone bound loaded_turn (loaded (program_of classes) (need mapped)) made_name c.args.moment).outcome)
+          (c.allow-bound.ensures ∙ ap (λ m. allow m c.args.steps) c.mapped.ensures.sum))
+          ∙ h;
+    }) c.play_alone.ensures

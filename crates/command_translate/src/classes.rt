@@ -1,0 +1,80 @@
+//! From the files of a translation to classes that may be run.
+ghost use Rattle.std.specs.Prelude.{◌≡◌, ◌++◌, ◌∷◌, [], All, IfOk, List, OnOk, false};
+ghost use Rattle.elf_image.specs.Start.{image_of};
+ghost use Rattle.jvm_code.specs.declared.class.Class.{Class};
+ghost use Rattle.jvm_link.specs.Linking as linking;
+ghost use Rattle.jvm_machine.specs.Machine.{has_ended, state_of};
+ghost use Rattle.jvm_program.specs.Step.{loaded};
+ghost use Rattle.name_resolution.specs.Kept.{IsClass};
+ghost use Rattle.program_translation.specs.Bounds as bounds;
+ghost use Rattle.command_translate.specs.Classes.{HoldAccepted, SpellClasses};
+
+use class_reader::{ReadError, read_class};
+use command_classes::accept_classes;
+use command_deeds::Ending;
+use elf_image::Image;
+use jvm_code::Class;
+use jvm_machine::Jvm;
+use nv_translate::{NamedFile, need};
+use std::alloc::{AllocError, Global};
+use type_verifier::Verified;
+
+/// The class machine with the classes that the files of an image's translation spell, in the region that they need.
+pub fn machine_of(alloc: Global, image: &Image, files: &[NamedFile]) -> Result<Jvm, AllocError>
+    requires { HoldAccepted files.now }
+    ensures state { (classes : List Class) → SpellClasses files.now classes
+        → IfOk result (λ jvm. state_of jvm ≡ loaded (linking.program_of classes) (bounds.need (image_of image.now).mapped)) }
+    ensures going { IfOk result (λ jvm. has_ended jvm ≡ false) }
+{
+    let verified = verified_files(alloc, files)?;
+    image.laws();
+    let mapped = image.mapped();
+    let jvm = Jvm::load(alloc, verified, need(mapped))?;
+    Ok(jvm)
+}
+
+/// The classes that files spell, linked and verified.
+fn verified_files(alloc: Global, files: &[NamedFile]) -> Result<Verified, AllocError>
+    requires { HoldAccepted files.now }
+    ensures { IfOk result (λ verified. SpellClasses files.now verified.linked.classes) }
+{
+    let classes = read_files(alloc, files)?;
+    verified_classes(alloc, classes)
+}
+
+/// Links classes that are accepted, and verifies them.
+fn verified_classes(alloc: Global, classes: Vec<Class>) -> Result<Verified, AllocError>
+    requires kept { All IsClass classes.items }
+    requires accepted { linking.Accepted classes.items }
+    ensures { IfOk result (λ verified. verified.linked.classes ≡ classes.items) }
+{
+    match accept_classes(alloc, classes) {
+        Ok(verified) => Ok(verified),
+        Err(Ending::Stopped(_)) => Err(AllocError),
+        Err(Ending::Refused(_)) => unreachable!(),
+        Err(Ending::NoFile { .. }) => unreachable!(),
+    }
+}
+
+/// The classes that files spell.
+fn read_files(alloc: Global, files: &[NamedFile]) -> Result<Vec<Class>, AllocError>
+    requires { HoldAccepted files.now }
+    ensures { IfOk result (λ classes. SpellClasses files.now classes.items) }
+{
+    let mut classes = Vec::new(alloc);
+    for file in files {
+        match read_class(alloc, file.bytes.as_slice()) {
+            Ok(class) => push(&mut classes, class)?,
+            Err(ReadError::Refused(_)) => unreachable!(),
+            Err(ReadError::NoMemory) => return Err(AllocError),
+        }
+    }
+    Ok(classes)
+}
+
+fn push(classes: &mut Vec<Class>, class: Class) -> Result<(), AllocError>
+    ensures { OnOk result (classes.new.items ≡ classes.old.items ++ class ∷ []) }
+{
+    classes.push(class)?;
+    Ok(())
+}
