@@ -1,5 +1,4 @@
 pub mod Passing
-pub mod Lists
 pub mod Meant
 pub mod Having
 pub mod Asking

@@ -1,4 +1,3 @@
-pub mod Lines
 pub mod Planned
 pub mod Pages
 pub mod Fillers

@@ -39,14 +39,15 @@ use Rattle.linked_names.proofs.LinkedNumbers.Names.{names-distinct, names-unknow
 use Rattle.linked_names.proofs.LinkedNumbers.Numbers.{text-other, own-unknown}
 use Rattle.linked_names.proofs.LinkedNumbers.Programs.{get-front, get-behind}
 use Rattle.translation_laws.specs.AcceptedCode.{HasAcceptedCode}
-use Rattle.translation_laws.proofs.AcceptedTranslations.Lists.{mapped-get, mapped-length}
+use Rattle.translation_laws.proofs.LinkedTranslations.Lists.{mapped-get, mapped-length}
 use Rattle.translation_laws.proofs.AcceptedTranslations.Passing.{pass-joined, pass-range}
 use Rattle.translation_laws.proofs.AcceptedTranslations.Asking.{asked_of, names-asked, is_old, old-known, known-dropped, nothing-asked, distinct-behind, files-kept, among-there}
 use Rattle.program_translation.proofs.Counts.PageLemmas.{data-few}
 use Rattle.translation_laws.proofs.AcceptedTranslations.Few.{code-few}
 use Rattle.translation_laws.proofs.AcceptedTranslations.Mentions.{NamesPass, three, code-pass, data-pass, own-pass, main-pass}
 use Rattle.translation_laws.proofs.AcceptedTranslations.Classes.{IsSpelled, count, IsData, main-there, each-class}
-use Rattle.translation_laws.proofs.AcceptedTranslations.Linking.{number-follows, runs-long, fills-long}
+use Rattle.translation_laws.proofs.LinkedTranslations.Whole.{number-follows}
+use Rattle.translation_laws.proofs.AcceptedTranslations.Linking.{runs-long, fills-long}
 
 -- ---- names that are no types of arrays: they begin with a letter
 

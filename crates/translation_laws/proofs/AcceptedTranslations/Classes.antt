@@ -14,7 +14,7 @@ use Rattle.program_translation.specs.DataFiles.{IsDataFile, class_count, filled_
 use Rattle.program_translation.specs.declared.built.Built.{Built}
 use Rattle.program_translation.specs.Translation.{IsTranslation, code_methods}
 use Rattle.linked_names.proofs.LinkedNumbers.Programs.{get-front, get-behind}
-use Rattle.translation_laws.proofs.AcceptedTranslations.Lists.{beside-first, beside-second, range-get, range-within, get-either}
+use Rattle.translation_laws.proofs.LinkedTranslations.Lists.{zip-first, zip-second, range-first, range-below, get-either}
 
 abbrev pub IsSpelled : NamedFile → Class → Type 0
 IsSpelled f c = Spells f.bytes.items c
@@ -23,8 +23,8 @@ IsSpelled f c = Spells f.bytes.items c
 class-of : (files : List NamedFile) (classes : List Class) → AllZip IsSpelled files classes → (n : ℕ) (f : NamedFile) (c : Class)
     → slice_get files n ≡ Some f → IsSpelled f c → slice_get classes n ≡ Some c
 class-of files classes spelled n f c at is =
-    let found = beside-first IsSpelled files classes n f spelled at in
-    found.there ∙ ap (λ d. Some d) (same_class f.bytes.items c found.one is found.is)
+    let found = zip-first IsSpelled files classes n f spelled at in
+    found.1 ∙ ap (λ d. Some d) (same_class f.bytes.items c found.0 is found.2)
 
 module _ (source : Source) (name : Text) (method_bytes : ℕ) (built : Built) (t : IsTranslation source name method_bytes built)
     (classes : List Class) (spelled : AllZip IsSpelled built.files.items classes) where
@@ -61,13 +61,13 @@ module _ (source : Source) (name : Text) (method_bytes : ℕ) (built : Built) (t
 
   pub code-there : (i : ℕ) (c : Placed) → slice_get t.code i ≡ Some c → CodeStands c (suc i)
   code-there i c at =
-      let found = beside-first (IsCodeFile name) t.code t.code_files i c t.code_are at in
+      let found = zip-first (IsCodeFile name) t.code t.code_files i c t.code_are at in
       record {
-        file = found.one;
-        is = found.is;
+        file = found.0;
+        is = found.2;
         there =
-            class-of (t.main_file ∷ others) classes all-spelled (suc i) found.one found.is.class.class
-            (get-front t.code_files t.data_files i found.one found.there) found.is.class.spells;
+            class-of (t.main_file ∷ others) classes all-spelled (suc i) found.0 found.2.class.class
+            (get-front t.code_files t.data_files i found.0 found.1) found.2.class.spells;
       }
 
   pub record DataStands (k n : ℕ) : Type 0 where
@@ -77,13 +77,13 @@ module _ (source : Source) (name : Text) (method_bytes : ℕ) (built : Built) (t
 
   pub data-there : (k : ℕ) → k < count → DataStands k (suc (length t.code_files + k))
   data-there k below =
-      let found = beside-first IsData (range_with_len 0 count) t.data_files k k t.data_are (range-get count k below) in
+      let found = zip-first IsData (range_with_len 0 count) t.data_files k k t.data_are (range-first count k below) in
       record {
-        file = found.one;
-        is = found.is;
+        file = found.0;
+        is = found.2;
         there =
-            class-of (t.main_file ∷ others) classes all-spelled (suc (length t.code_files + k)) found.one found.is.class_is.class
-            (get-behind t.code_files t.data_files k ∙ found.there) found.is.class_is.spells;
+            class-of (t.main_file ∷ others) classes all-spelled (suc (length t.code_files + k)) found.0 found.2.class_is.class
+            (get-behind t.code_files t.data_files k ∙ found.1) found.2.class_is.spells;
       }
 
   -- ---- there are no others
@@ -96,22 +96,22 @@ module _ (source : Source) (name : Text) (method_bytes : ℕ) (built : Built) (t
       let one : main_class ≡ d = cc (sym main-there ∙ at) in
       subst P one main
   each-class P main code data_are (suc n) d at =
-      let found = beside-second IsSpelled (t.main_file ∷ others) classes (suc n) d all-spelled at in
-      elim (get-either t.code_files t.data_files n found.one found.there) [
+      let found = zip-second IsSpelled (t.main_file ∷ others) classes (suc n) d all-spelled at in
+      elim (get-either t.code_files t.data_files n found.0 found.1) [
         | inl front ↦
-            let of = beside-second (IsCodeFile name) t.code t.code_files n found.one t.code_are front in
-            let same = same_class found.one.bytes.items d of.is.class.class found.is of.is.class.spells in
-            subst P same (code n of.one found.one of.is of.there (at ∙ ap (λ c. Some c) (sym same)))
+            let of = zip-second (IsCodeFile name) t.code t.code_files n found.0 t.code_are front in
+            let same = same_class found.0.bytes.items d of.2.class.class found.2 of.2.class.spells in
+            subst P same (code n of.0 found.0 of.2 of.1 (at ∙ ap (λ c. Some c) (sym same)))
         | inr behind ↦
-            let of = beside-second IsData (range_with_len 0 count) t.data_files behind.0 found.one t.data_are behind.2 in
-            data-class n d at found.one found.is behind.0 behind.1 of.one of.is of.there
+            let of = zip-second IsData (range_with_len 0 count) t.data_files behind.0 found.0 t.data_are behind.2 in
+            data-class n d at found.0 found.2 behind.0 behind.1 of.0 of.2 of.1
       ]
     where
       data-class : (n : ℕ) (d : Class) → slice_get classes (suc n) ≡ Some d → (f : NamedFile) → IsSpelled f d → (j : ℕ) → n ≡ length t.code_files + j
           → (k : ℕ) (is : IsData k f) → slice_get (range_with_len 0 count) j ≡ Some k → P d
       data-class n d at f spells j place k is there =
-          let below = range-within count j k there in
-          let number : k ≡ j = cc (sym there ∙ range-get count j below) in
+          let below = range-below count j k there in
+          let number : k ≡ j = cc (sym there ∙ range-first count j below) in
           let same = same_class f.bytes.items d is.class_is.class spells is.class_is.spells in
           let here : slice_get classes (suc (length t.code_files + k)) ≡ Some d =
           ap (λ x. slice_get classes (suc (length t.code_files + x))) number ∙ ap (λ x. slice_get classes (suc x)) (sym place) ∙ at in

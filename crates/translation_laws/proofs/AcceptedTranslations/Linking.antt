@@ -1,5 +1,5 @@
 -- The classes of a translation link.
-use Rattle.std.proofs.Common.{◌≡◌, ℕ, zero, suc, ◌+◌, ◌<◌, ◌≤◌, true, List, [], ◌∷◌, ◌++◌, length, Some, None, refl, sym, ap, subst, ◌∙◌, slice_get, length-append, arith}
+use Rattle.std.proofs.Common.{◌≡◌, ℕ, zero, suc, ◌+◌, ◌<◌, ◌≤◌, true, List, [], ◌∷◌, ◌++◌, length, Some, None, refl, ap, subst, ◌∙◌, slice_get, length-append, arith}
 use Rattle.std.specs.Prelude.{codes}
 use Rattle.std.specs.List.{AllZip}
 use Rattle.std.proofs.lemmas.List.{length-map}
@@ -18,7 +18,7 @@ use Rattle.program_classes.specs.declared.content.MainClass.{MainClass}
 use Rattle.program_classes.specs.declared.other_class.OtherClass.TheVariants.{Code, Data}
 use Rattle.program_classes.specs.MainMentioned.{main_mentions}
 use Rattle.program_classes.specs.CodeNaming.{code_mentions}
-use Rattle.program_translation.specs.Classes.{Placed, Follow, IsCodeFile, run_of}
+use Rattle.program_translation.specs.Classes.{Placed, IsCodeFile, run_of}
 use Rattle.program_classes.specs.DataNaming.{data_mentions}
 use Rattle.program_translation.specs.DataFiles.{class_number, filled_pages, first_method, pages_of_class, fill_of}
 use Rattle.program_translation.specs.declared.named_file.NamedFile.{NamedFile}
@@ -26,7 +26,8 @@ use Rattle.program_translation.specs.declared.built.Built.{Built}
 use Rattle.program_translation.specs.Translation.{IsTranslation, code_methods}
 use Rattle.translation_laws.specs.AcceptedCode.{HasAcceptedCode}
 use Rattle.linked_names.proofs.LinkedNumbers.Found.{links}
-use Rattle.translation_laws.proofs.AcceptedTranslations.Lists.{mapped-length}
+use Rattle.translation_laws.proofs.LinkedTranslations.Lists.{mapped-length}
+use Rattle.translation_laws.proofs.LinkedTranslations.Whole.{number-follows}
 use Rattle.translation_laws.proofs.AcceptedTranslations.Meant.{is_meant, entries-meant}
 use Rattle.program_translation.proofs.Counts.PageLemmas.{data-few}
 use Rattle.translation_laws.proofs.AcceptedTranslations.Few.{code-few}
@@ -35,19 +36,7 @@ use Rattle.translation_laws.proofs.AcceptedTranslations.MainMeant.{names-meant, 
 use Rattle.translation_laws.proofs.AcceptedTranslations.OthersMeant.{code-class, code-run, code-meant, data-class, data-fill, data-meant}
 use Rattle.translation_laws.proofs.AcceptedTranslations.Classes.{IsSpelled, count, IsData, others, all-spelled, code-long, data-long, main-there, code-there, data-there, each-class}
 
--- ---- numbers of classes of code
-
-pub number-follows : (number first : ℕ) (code : List Placed) → Follow number first code → (i : ℕ) (c : Placed) → slice_get code i ≡ Some c
-    → c.number ≡ number + i
-number-follows number first [] follow i c e = absurd cc
-number-follows number first (d ∷ code) follow zero c e =
-    let one : d ≡ c = cc in
-    let same = follow.0 in
-    let none : number ≡ number + 0 = omega arith in
-    ap (λ (x : Placed). x.number) (sym one) ∙ same ∙ none
-number-follows number first (d ∷ code) follow (suc i) c e =
-    let next : number + 1 + i ≡ number + suc i = omega arith in
-    number-follows (number + 1) (run_of d + 1) code follow.2 i c e ∙ next
+-- ---- classes of code
 
 placed-at : (code : List Placed) (i : ℕ) → i < length code → (c : Placed) × (slice_get code i ≡ Some c)
 placed-at [] i below = absurd (omega (arith, below))

@@ -19,7 +19,7 @@ use Rattle.program_classes.specs.Main.{IsMainClass, helper_plan, helper_plans, r
 use Rattle.linked_names.specs.Planned.{planned, numbered}
 use Rattle.linked_names.proofs.LinkedNumbers.Made.{methods-made, fields-made}
 use Rattle.linked_names.proofs.LinkedNumbers.Programs.{get-front, get-behind}
-use Rattle.translation_laws.proofs.AcceptedTranslations.Lists.{mapped-get, mapped-length}
+use Rattle.translation_laws.proofs.LinkedTranslations.Lists.{mapped-get, mapped-length}
 use Rattle.translation_laws.proofs.AcceptedTranslations.Passing.{pass-range}
 use Rattle.translation_laws.proofs.AcceptedTranslations.Meant.{is_meant}
 use Rattle.translation_laws.proofs.AcceptedTranslations.Having.{object-meant, host-meant, string-meant, ints-meant, call-meant, fault-meant, length-meant, char_at-meant, class-meant, field-meant, planned-meant}

@@ -17,7 +17,7 @@ use Rattle.program_classes.specs.Data.{IsDataClass, words_plan, fill_plan}
 use Rattle.program_classes.specs.Pages.{Page}
 use Rattle.program_classes.specs.DataNaming.{data_mentions}
 use Rattle.linked_names.proofs.LinkedNumbers.Programs.{get-front, get-behind}
-use Rattle.translation_laws.proofs.AcceptedTranslations.Lists.{mapped-get}
+use Rattle.translation_laws.proofs.LinkedTranslations.Lists.{mapped-get}
 use Rattle.translation_laws.proofs.AcceptedTranslations.Passing.{pass-range}
 use Rattle.translation_laws.proofs.AcceptedTranslations.Meant.{is_meant}
 use Rattle.translation_laws.proofs.AcceptedTranslations.Having.{class-meant, planned-meant}

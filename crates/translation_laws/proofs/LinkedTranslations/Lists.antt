@@ -51,10 +51,11 @@ range-get a (suc n) (suc k) below =
     let same : a + 1 + k ≡ a + suc k = omega arith in
     range-get (a + 1) n k (omega arith) ∙ ap (λ j. Some j) same
 
+pub range-first : (n k : ℕ) → k < n → slice_get (range_with_len 0 n) k ≡ Some k
+range-first n k below = let none : 0 + k ≡ k = omega arith in range-get 0 n k below ∙ ap (λ j. Some j) none
+
 pub mapped-get : {A : Type 0} (f : ℕ → A) (n k : ℕ) → k < n → slice_get (map f (range_with_len 0 n)) k ≡ Some (f k)
-mapped-get f n k below =
-    let none : 0 + k ≡ k = omega arith in
-    slice_get-map f (range_with_len 0 n) k ∙ ap (option_map f) (range-get 0 n k below) ∙ ap (λ j. Some (f j)) none
+mapped-get f n k below = slice_get-map f (range_with_len 0 n) k ∙ ap (option_map f) (range-first n k below)
 
 pub range-below : (n k j : ℕ) → slice_get (range_with_len 0 n) k ≡ Some j → k < n
 range-below n k j e = omega (arith, slice_get_within (range_with_len 0 n) k j e, length-range_with_len 0 n)
@@ -62,8 +63,7 @@ range-below n k j e = omega (arith, slice_get_within (range_with_len 0 n) k j e,
 pub range-member : (n k j : ℕ) → slice_get (range_with_len 0 n) k ≡ Some j → j < n
 range-member n k j e =
     let below = range-below n k j e in
-    let same : Some (0 + k) ≡ Some j = sym (range-get 0 n k below) ∙ e in
-    let one : 0 + k ≡ j = cc in
+    let one : k ≡ j = cc (sym (range-first n k below) ∙ e) in
     omega (arith, below, one)
 
 pub mapped-length : {A : Type 0} (f : ℕ → A) (n : ℕ) → length (map f (range_with_len 0 n)) ≡ n

@@ -35,7 +35,7 @@ use Rattle.linked_names.proofs.LinkedNumbers.Once.{nothing-twice}
 use Rattle.linked_names.proofs.LinkedNumbers.Programs.{get-front, get-behind}
 use Rattle.linked_names.proofs.LinkedNumbers.Signatures.{none-equal}
 use Rattle.translation_laws.specs.WholeCode.{HasWholeCode}
-use Rattle.translation_laws.proofs.LinkedTranslations.Lists.{get-either, all-got, range-get}
+use Rattle.translation_laws.proofs.LinkedTranslations.Lists.{get-either, all-got, range-first}
 use Rattle.translation_laws.proofs.LinkedTranslations.Few.{code-few, spans-few, data-few}
 use Rattle.translation_laws.proofs.LinkedTranslations.Classes.{IsSpelled, classes_of, StandsAt, class-at, class-of, classes-long, classes-spelled, classes-named}
 use Rattle.translation_laws.proofs.LinkedTranslations.Numbers.{code_class, data_class, data_classes_of, made-long, code-before, code-behind, data-before, methods-long}
@@ -228,8 +228,7 @@ module _ (source : Source) (name : Text) (method_bytes : ℕ) (built : Built) (t
 
   pub data-stands : (k : ℕ) → k < count → StandsAt IsData (data_class name (length t.code) methods pages) k all_classes (class_number (length t.code) k)
   data-stands k below =
-      let none : 0 + k ≡ k = omega arith in
-      let number = range-get 0 count k below ∙ ap (λ j. Some j) none in
+      let number = range-first count k below in
       let at = class-at IsData (data_class name (length t.code) methods pages) (range_with_len 0 count) t.data_files t.data_are k k number in
       let place : length t.code + 1 + k ≡ suc (length of_code + k) = omega (arith, code-long) in
       record { file = at.file; is = at.is; there = stands-behind main_class of_code of_data (class_number (length t.code) k) k (data_class name (length t.code) methods pages k at.file at.is) place at.there }

@@ -12,7 +12,7 @@ use Rattle.program_classes.specs.Making.{Plan, nothing}
 use Rattle.program_classes.specs.Called.{pages_descriptor}
 use Rattle.program_classes.specs.DataNaming.{words_descriptor}
 use Rattle.translation_laws.specs.Linked.{IsPlanned, ArePlanned}
-use Rattle.translation_laws.proofs.TranslatedLoading.Lines.{lies}
+use Rattle.translation_laws.proofs.TranslatedMethods.Lines.{lies}
 
 pub no-parameters : parameters_of nothing ≡ []
 unfolding parameters_from after_field

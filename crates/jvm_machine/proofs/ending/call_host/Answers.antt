@@ -9,6 +9,7 @@ use Rattle.jvm_steps.specs.declared.working.Working.{Working}
 use Rattle.jvm_machine.specs.Hosting.{host_tests}
 use Rattle.jvm_machine.proofs.Taking.{still_roomy}
 use Rattle.jvm_machine.proofs.Hosts.{words_found, host_found, host_tables, host_asks, host_exits, host_answers, host_waits, host_falls, served_of, served_size, held_size, held_roomy, tests_within, wrapped_is, answered_working, Answered}
+use Rattle.jvm_machine.proofs.ending.call_host.Given.{Over}
 use Rattle.jvm_machine.proofs.ending.call_host.Goals as goal
 
 pub of-words-requires : goal.of-words-requires
@@ -39,49 +40,28 @@ pub go_on-requires : goal.go_on-requires
 go_on-requires g c =
     (host_asks c.args.program.now.classes c.args.program.now.code c.args.working.now c.requires.going c.requires.here c.of-words.result c.of-words.ensures.words c.if-words-eq1.false).within
 
-pub returns-in-Ok-Some-clause-turn : goal.returns-in-Ok-Some-clause-turn
-returns-in-Ok-Some-clause-turn g c =
+-- the call is answered
+answered : (g : Over) (c : goal.After-go_on g) → Answered g.V.Server.goes g.V.Server.held g.V.Server.fell c.args.program.now.classes c.args.program.now.code c.args.working.now c.requires.going c.requires.here c.of-words.result c.of-words.ensures.words c.go_on.new.working c.args.server.now c.serve-answer.new.self
+answered g c =
     let fits : FitsSigned w32 c.in-Ok-Some.value = search rules in
     let is_some : c.in-Ok-Some.field-0 ≡ Some c.in-Ok-Some.value = rw c.in-Ok-Some.is at c.in-Ok-Some.field-0-is in
     let served = served_of g.V.Server.goes g.V.Server.held g.V.Server.fell c.args.working.now c.of-words.result c.args.server.now c.serve-answer.new.self c.open.new.self c.serve-answer.new.view c.serve-answer.result (Ok (Some c.in-Ok-Some.value)) c.open.ensures (c.in-Ok-Some.is ∙ ap Ok is_some) c.serve-answer.ensures.served in
     let word = c.unsigned.ensures.value ∙ ap unsigned_of (to_z-of_z w32 c.in-Ok-Some.value fits) ∙ wrapped_is c.in-Ok-Some.value fits in
     let answer = host_answers g.V.Server.goes g.V.Server.held g.V.Server.fell c.args.program.now.classes c.args.program.now.code c.args.working.now c.requires.going c.requires.here c.of-words.result c.of-words.ensures.words c.if-words-eq1.false c.args.server.now c.serve-answer.new.self c.close.new.self c.serve-answer.new.view (ap (λ (h : Held). h.region) c.close.ensures) c.in-Ok-Some.value c.unsigned.result word served in
     let is = answered_working c.args.working.now c.go_on.new.working c.push.new.self c.drop_words.new.operands c.close.new.self c.unsigned.result c.drop_words.ensures.dropped c.drop_words.ensures.limit c.push.ensures c.go_on.ensures in
-    let here = subst (λ (x : Working). Answered g.V.Server.goes g.V.Server.held g.V.Server.fell c.args.program.now.classes c.args.program.now.code c.args.working.now c.requires.going c.requires.here c.of-words.result c.of-words.ensures.words x c.args.server.now c.serve-answer.new.self) (sym is) answer in
-    here.turn
+    subst (λ (x : Working). Answered g.V.Server.goes g.V.Server.held g.V.Server.fell c.args.program.now.classes c.args.program.now.code c.args.working.now c.requires.going c.requires.here c.of-words.result c.of-words.ensures.words x c.args.server.now c.serve-answer.new.self) (sym is) answer
+
+pub returns-in-Ok-Some-clause-turn : goal.returns-in-Ok-Some-clause-turn
+returns-in-Ok-Some-clause-turn g c = (answered g c).turn
 
 pub returns-in-Ok-Some-clause-size : goal.returns-in-Ok-Some-clause-size
-returns-in-Ok-Some-clause-size g c =
-    let fits : FitsSigned w32 c.in-Ok-Some.value = search rules in
-    let is_some : c.in-Ok-Some.field-0 ≡ Some c.in-Ok-Some.value = rw c.in-Ok-Some.is at c.in-Ok-Some.field-0-is in
-    let served = served_of g.V.Server.goes g.V.Server.held g.V.Server.fell c.args.working.now c.of-words.result c.args.server.now c.serve-answer.new.self c.open.new.self c.serve-answer.new.view c.serve-answer.result (Ok (Some c.in-Ok-Some.value)) c.open.ensures (c.in-Ok-Some.is ∙ ap Ok is_some) c.serve-answer.ensures.served in
-    let word = c.unsigned.ensures.value ∙ ap unsigned_of (to_z-of_z w32 c.in-Ok-Some.value fits) ∙ wrapped_is c.in-Ok-Some.value fits in
-    let answer = host_answers g.V.Server.goes g.V.Server.held g.V.Server.fell c.args.program.now.classes c.args.program.now.code c.args.working.now c.requires.going c.requires.here c.of-words.result c.of-words.ensures.words c.if-words-eq1.false c.args.server.now c.serve-answer.new.self c.close.new.self c.serve-answer.new.view (ap (λ (h : Held). h.region) c.close.ensures) c.in-Ok-Some.value c.unsigned.result word served in
-    let is = answered_working c.args.working.now c.go_on.new.working c.push.new.self c.drop_words.new.operands c.close.new.self c.unsigned.result c.drop_words.ensures.dropped c.drop_words.ensures.limit c.push.ensures c.go_on.ensures in
-    let here = subst (λ (x : Working). Answered g.V.Server.goes g.V.Server.held g.V.Server.fell c.args.program.now.classes c.args.program.now.code c.args.working.now c.requires.going c.requires.here c.of-words.result c.of-words.ensures.words x c.args.server.now c.serve-answer.new.self) (sym is) answer in
-    here.size
+returns-in-Ok-Some-clause-size g c = (answered g c).size
 
 pub returns-in-Ok-Some-clause-roomy : goal.returns-in-Ok-Some-clause-roomy
-returns-in-Ok-Some-clause-roomy g c =
-    let fits : FitsSigned w32 c.in-Ok-Some.value = search rules in
-    let is_some : c.in-Ok-Some.field-0 ≡ Some c.in-Ok-Some.value = rw c.in-Ok-Some.is at c.in-Ok-Some.field-0-is in
-    let served = served_of g.V.Server.goes g.V.Server.held g.V.Server.fell c.args.working.now c.of-words.result c.args.server.now c.serve-answer.new.self c.open.new.self c.serve-answer.new.view c.serve-answer.result (Ok (Some c.in-Ok-Some.value)) c.open.ensures (c.in-Ok-Some.is ∙ ap Ok is_some) c.serve-answer.ensures.served in
-    let word = c.unsigned.ensures.value ∙ ap unsigned_of (to_z-of_z w32 c.in-Ok-Some.value fits) ∙ wrapped_is c.in-Ok-Some.value fits in
-    let answer = host_answers g.V.Server.goes g.V.Server.held g.V.Server.fell c.args.program.now.classes c.args.program.now.code c.args.working.now c.requires.going c.requires.here c.of-words.result c.of-words.ensures.words c.if-words-eq1.false c.args.server.now c.serve-answer.new.self c.close.new.self c.serve-answer.new.view (ap (λ (h : Held). h.region) c.close.ensures) c.in-Ok-Some.value c.unsigned.result word served in
-    let is = answered_working c.args.working.now c.go_on.new.working c.push.new.self c.drop_words.new.operands c.close.new.self c.unsigned.result c.drop_words.ensures.dropped c.drop_words.ensures.limit c.push.ensures c.go_on.ensures in
-    let here = subst (λ (x : Working). Answered g.V.Server.goes g.V.Server.held g.V.Server.fell c.args.program.now.classes c.args.program.now.code c.args.working.now c.requires.going c.requires.here c.of-words.result c.of-words.ensures.words x c.args.server.now c.serve-answer.new.self) (sym is) answer in
-    here.roomy
+returns-in-Ok-Some-clause-roomy g c = (answered g c).roomy
 
 pub returns-in-Ok-Some-clause-going : goal.returns-in-Ok-Some-clause-going
-returns-in-Ok-Some-clause-going g c =
-    let fits : FitsSigned w32 c.in-Ok-Some.value = search rules in
-    let is_some : c.in-Ok-Some.field-0 ≡ Some c.in-Ok-Some.value = rw c.in-Ok-Some.is at c.in-Ok-Some.field-0-is in
-    let served = served_of g.V.Server.goes g.V.Server.held g.V.Server.fell c.args.working.now c.of-words.result c.args.server.now c.serve-answer.new.self c.open.new.self c.serve-answer.new.view c.serve-answer.result (Ok (Some c.in-Ok-Some.value)) c.open.ensures (c.in-Ok-Some.is ∙ ap Ok is_some) c.serve-answer.ensures.served in
-    let word = c.unsigned.ensures.value ∙ ap unsigned_of (to_z-of_z w32 c.in-Ok-Some.value fits) ∙ wrapped_is c.in-Ok-Some.value fits in
-    let answer = host_answers g.V.Server.goes g.V.Server.held g.V.Server.fell c.args.program.now.classes c.args.program.now.code c.args.working.now c.requires.going c.requires.here c.of-words.result c.of-words.ensures.words c.if-words-eq1.false c.args.server.now c.serve-answer.new.self c.close.new.self c.serve-answer.new.view (ap (λ (h : Held). h.region) c.close.ensures) c.in-Ok-Some.value c.unsigned.result word served in
-    let is = answered_working c.args.working.now c.go_on.new.working c.push.new.self c.drop_words.new.operands c.close.new.self c.unsigned.result c.drop_words.ensures.dropped c.drop_words.ensures.limit c.push.ensures c.go_on.ensures in
-    let here = subst (λ (x : Working). Answered g.V.Server.goes g.V.Server.held g.V.Server.fell c.args.program.now.classes c.args.program.now.code c.args.working.now c.requires.going c.requires.here c.of-words.result c.of-words.ensures.words x c.args.server.now c.serve-answer.new.self) (sym is) answer in
-    λ _. here.going
+returns-in-Ok-Some-clause-going g c = λ _. (answered g c).going
 
 pub returns-in-Ok-None-clause-turn : goal.returns-in-Ok-None-clause-turn
 returns-in-Ok-None-clause-turn g c =
