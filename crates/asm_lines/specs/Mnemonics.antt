@@ -47,21 +47,27 @@ mnemonic_text LoadLinked = codes "ll"
 mnemonic_text StoreConditional = codes "sc"
 
 abbrev pub mnemonics : List Mnemonic
-mnemonics = Arithmetic Add ∷ Arithmetic Addu ∷ Arithmetic Sub ∷ Arithmetic Subu ∷ Arithmetic And ∷ Arithmetic Or
+mnemonics = Arithmetic Add ∷ Arithmetic Addu ∷ Arithmetic Sub ∷ Arithmetic Subu ∷ Arithmetic And
+    ∷ Arithmetic Or
     ∷ Arithmetic Xor ∷ Arithmetic Nor ∷ Arithmetic Slt ∷ Arithmetic Sltu
-    ∷ VariableShift Sllv ∷ VariableShift Srlv ∷ VariableShift Srav ∷ Shift Sll ∷ Shift Srl ∷ Shift Sra
-    ∷ JumpRegister ∷ JumpAndLinkRegister ∷ Syscall ∷ Break ∷ MoveFrom Hi ∷ MoveFrom Lo ∷ MoveTo Hi ∷ MoveTo Lo
+    ∷ VariableShift Sllv ∷ VariableShift Srlv ∷ VariableShift Srav ∷ Shift Sll ∷ Shift Srl
+    ∷ Shift Sra
+    ∷ JumpRegister ∷ JumpAndLinkRegister ∷ Syscall ∷ Break ∷ MoveFrom Hi ∷ MoveFrom Lo ∷ MoveTo Hi
+    ∷ MoveTo Lo
     ∷ Product Mult ∷ Product Multu ∷ Product Div ∷ Product Divu
     ∷ BranchSign Bltz ∷ BranchSign Bgez ∷ BranchSign Bltzal ∷ BranchSign Bgezal
-    ∷ BranchSign Bltzl ∷ BranchSign Bgezl ∷ BranchSign Bltzall ∷ BranchSign Bgezall ∷ Jump J ∷ Jump Jal
+    ∷ BranchSign Bltzl ∷ BranchSign Bgezl ∷ BranchSign Bltzall ∷ BranchSign Bgezall ∷ Jump J
+    ∷ Jump Jal
     ∷ BranchEqual Beq ∷ BranchEqual Bne ∷ BranchEqual Beql ∷ BranchEqual Bnel
     ∷ BranchZero Blez ∷ BranchZero Bgtz ∷ BranchZero Blezl ∷ BranchZero Bgtzl
-    ∷ ArithmeticImmediate Addi ∷ ArithmeticImmediate Addiu ∷ ArithmeticImmediate Slti ∷ ArithmeticImmediate Sltiu
+    ∷ ArithmeticImmediate Addi ∷ ArithmeticImmediate Addiu ∷ ArithmeticImmediate Slti
+    ∷ ArithmeticImmediate Sltiu
     ∷ LogicalImmediate Andi ∷ LogicalImmediate Ori ∷ LogicalImmediate Xori ∷ LoadUpper
     ∷ Load Lb ∷ Load Lh ∷ Load Lwl ∷ Load Lw ∷ Load Lbu ∷ Load Lhu ∷ Load Lwr
     ∷ Store Sb ∷ Store Sh ∷ Store Swl ∷ Store Sw ∷ Store Swr
     ∷ Trap Tge ∷ Trap Tgeu ∷ Trap Tlt ∷ Trap Tltu ∷ Trap Teq ∷ Trap Tne
-    ∷ TrapImmediate Tgei ∷ TrapImmediate Tgeiu ∷ TrapImmediate Tlti ∷ TrapImmediate Tltiu ∷ TrapImmediate Teqi ∷ TrapImmediate Tnei
+    ∷ TrapImmediate Tgei ∷ TrapImmediate Tgeiu ∷ TrapImmediate Tlti ∷ TrapImmediate Tltiu
+    ∷ TrapImmediate Teqi ∷ TrapImmediate Tnei
     ∷ Sync ∷ LoadLinked ∷ StoreConditional ∷ []
 
 -- the first of these mnemonics that has a text

@@ -32,7 +32,8 @@ hexadecimal_or_decimal (b ∷ c ∷ bs) =
 abbrev pub number_of : List ℕ → Option Number
 number_of [] = None
 number_of (b ∷ bs) =
-    cond (b == byte "-") (option_map (λ n. record { negative = true; magnitude = n }) (digits_number 10 bs))
+    cond (b == byte "-") (option_map (λ n. record { negative = true; magnitude = n })
+    (digits_number 10 bs))
     (option_map (λ n. record { negative = false; magnitude = n }) (hexadecimal_or_decimal (b ∷ bs)))
 
 -- whether there are further digits behind a zero
@@ -48,7 +49,9 @@ below_32 (Some n) = cond (nat_lt n 32) (Some n) None
 -- the number of a register, `$0` to `$31` without leading zeros
 abbrev pub register_of : List ℕ → Option ℕ
 register_of [] = None
-register_of (b ∷ digits) = cond (b == byte "$") (cond (has_leading_zero digits) None (below_32 (digits_number 10 digits))) None
+register_of (b ∷ digits) =
+    cond (b == byte "$") (cond (has_leading_zero digits) None (below_32 (digits_number 10 digits)))
+    None
 
 -- whether a number is from -low to high
 abbrev pub is_between : ℕ → ℕ → Number → Bool

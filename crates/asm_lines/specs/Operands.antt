@@ -50,7 +50,8 @@ number low high bits text = in_range low high bits (number_of text)
 -- the name in `%hi(name)` or `%lo(name)`
 abbrev pub name_within : List ℕ → List ℕ → Option (List ℕ)
 name_within opening text =
-    cond (bytes_eq (take (length opening) text) opening) (name_before (byte ")") (drop (length opening) text)) None
+    cond (bytes_eq (take (length opening) text) opening)
+    (name_before (byte ")") (drop (length opening) text)) None
 
 -- the upper half of an address for LUI, where the lower half is added as a signed number; and its lower half
 abbrev pub upper_half : ℕ → ℕ
@@ -71,7 +72,8 @@ by_halves labels None None otherwise = otherwise
 -- an immediate of 16 bits: a number from -low to 65535, `%hi(name)` or `%lo(name)`
 abbrev pub immediate : ℕ → LabelList → List ℕ → Result ℕ ℕ
 immediate low labels text =
-    by_halves labels (name_within (codes "%hi(") text) (name_within (codes "%lo(") text) (number low 65535 16 text)
+    by_halves labels (name_within (codes "%hi(") text) (name_within (codes "%lo(") text)
+    (number low 65535 16 text)
 
 -- a shift amount; a code; a trap's code
 abbrev pub amount : List ℕ → Result ℕ ℕ
@@ -94,13 +96,15 @@ last_opening (b ∷ bs) = later (b == byte "(") (last_opening bs)
 
 abbrev pub around : LabelList → List ℕ → Option ℕ → Result (List ℕ) ℕ
 around labels inner None = Err 2
-around labels inner (Some i) = both (one (immediate 32768 labels (take i inner))) (one (register (drop (i + 1) inner)))
+around labels inner (Some i) =
+    both (one (immediate 32768 labels (take i inner))) (one (register (drop (i + 1) inner)))
 
 -- an immediate and a register, `imm($rs)`
 abbrev pub in_memory : LabelList → List ℕ → Result (List ℕ) ℕ
 in_memory labels text =
     let inner = take (length text - 1) text in
-    cond (slice_index text (length text - 1) == byte ")") (around labels inner (last_opening inner)) (Err 2)
+    cond (slice_index text (length text - 1) == byte ")") (around labels inner (last_opening inner))
+    (Err 2)
 
 -- ---- targets
 -- an address: that of a label, or a number
@@ -109,7 +113,8 @@ numbered None = Err 2
 numbered (Some n) = cond (is_between 0 (2 ^ 32 - 1) n) (Ok n.magnitude) (Err 3)
 
 abbrev pub target : LabelList → List ℕ → Result ℕ ℕ
-target labels text = cond (is_name text) (or_kind 5 (address_of labels text)) (numbered (number_of text))
+target labels text =
+    cond (is_name text) (or_kind 5 (address_of labels text)) (numbered (number_of text))
 
 -- the immediate of a branch at an address: a signed number of words from the next instruction on
 abbrev pub branch_to : ℕ → Result ℕ ℕ → Result ℕ ℕ
@@ -121,4 +126,5 @@ branch_to at (Ok to) =
 -- the index of a jump at an address: a word whose address has the upper four bits of the next instruction's
 abbrev pub jump_to : ℕ → Result ℕ ℕ → Result ℕ ℕ
 jump_to at (Err k) = Err k
-jump_to at (Ok to) = cond (to % 4 == 0 && to / 2 ^ 28 == (at + 4) / 2 ^ 28) (Ok (to / 4 % 2 ^ 26)) (Err 3)
+jump_to at (Ok to) =
+    cond (to % 4 == 0 && to / 2 ^ 28 == (at + 4) / 2 ^ 28) (Ok (to / 4 % 2 ^ 26)) (Err 3)

@@ -43,8 +43,12 @@ impl<'a> Labels<'a> {
     /// # Errors
     /// Where there is no memory for one more.
     pub fn add(&mut self, name: &'a [u8], address: u64) -> Result<bool, AllocError>
-        ensures is_new { IfOk result (λ new. new ≡ cond (is_some (operands.address_of self.old name.now)) false true) }
-        ensures addresses { OnOk result ((other : List ℕ) → operands.address_of self.new other ≡ operands.first_of (operands.address_of self.old other) (cond (bytes_eq name.now other) (Some address) None)) }
+        ensures is_new { IfOk result (λ new. new
+            ≡ cond (is_some (operands.address_of self.old name.now)) false true) }
+        ensures addresses { OnOk result ((other : List ℕ)
+            → operands.address_of self.new other
+            ≡ operands.first_of (operands.address_of self.old other)
+            (cond (bytes_eq name.now other) (Some address) None)) }
     {
         if self.address_of(name).is_some() {
             return Ok(false);

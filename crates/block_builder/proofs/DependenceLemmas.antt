@@ -1,11 +1,11 @@
 -- Instructions keep to the registers that they read and write.
-use Rattle.std.proofs.Common.{◌≡◌, ◌≢◌, ℕ, ◌*◌, ◌^◌, ◌<◌, ◌==◌, nat_lt, Bool, true, false, not, ◌&&◌, ◌||◌, if◌then◌else◌, is_none, List, [], ◌∷◌, Option, Some, None, refl, sym, ap, subst, ◌∙◌, inl, inr, arith}
+use Rattle.std.proofs.Common.{◌≡◌, ◌≢◌, ℕ, ◌*◌, ◌^◌, ◌==◌, nat_lt, Bool, true, false, not, ◌&&◌, ◌||◌, if◌then◌else◌, is_none, List, [], ◌∷◌, Option, Some, None, refl, sym, ap, subst, ◌∙◌, inl, inr, arith}
 use Rattle.std.specs.List.{AllByRecursion}
 use Rattle.std.proofs.lemmas.Bool.{cases_eq, eq-eqb, ne_eqb, lt-ltb, and_from, and_right}
 use Rattle.nv_words.specs.Words.{signed_of}
 use Rattle.nv_events.specs.declared.call.Call.{Call}
-use Rattle.nv_events.specs.Question.{Question, asked}
-use Rattle.nv_events.specs.Answer.{Answer, answered}
+use Rattle.nv_events.specs.Question.{asked}
+use Rattle.nv_events.specs.Answer.{answered}
 use Rattle.nv_events.specs.Memory.{Memory}
 use Rattle.nv_events.specs.Turn.{Turn, leaves, asks, exit}
 use Rattle.mips_decode.specs.Memory.{with_byte}
@@ -28,7 +28,7 @@ use Rattle.mips_decode.specs.declared.names.load_name.LoadName.{LoadName}
 use Rattle.mips_decode.specs.declared.names.load_name.LoadName.TheVariants.{Lb, Lh, Lwl, Lw, Lbu, Lhu, Lwr}
 use Rattle.mips_decode.specs.declared.names.store_name.StoreName.TheVariants.{Sw}
 use Rattle.delay_slots.specs.Turns.{done, done_by}
-use Rattle.block_builder.specs.Registers.{Register, general, special, read_by, read_by_load, written_by, written_by_branch_sign}
+use Rattle.block_builder.specs.Registers.{Register, general, special, read_by, written_by, written_by_branch_sign}
 use Rattle.block_builder.specs.Dependence.{held, AgreeOn, KeepsOthers, ChangesOnly, GoAlike}
 
 -- ---- the registers that are not written

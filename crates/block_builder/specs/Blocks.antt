@@ -34,7 +34,8 @@ ends units leads k = not (is_plain (unit_at units k)) || (k + 1 == length units 
 
 -- the end of the block that begins at a leader: the first word from there on with which a block ends
 abbrev pub end_of : List Unit → (ℕ → Bool) → ℕ → ℕ
-end_of units leads first = unwrap_or (find (ends units leads) (range_with_len first (length units - first))) first
+end_of units leads first =
+    unwrap_or (find (ends units leads) (range_with_len first (length units - first))) first
 
 -- the block that begins at a leader, up to its end, and with the word of the delay slot where its last unit is a branch
 abbrev pub block_from : List Unit → (ℕ → Bool) → ℕ → Block
@@ -52,5 +53,6 @@ blocks_of units start =
 -- delay slot, the unit is Plain.
 pub record IsPiece (units : List Unit) (b : Block) : Type 0 where
   pub within : b.first + b.words ≤ length units
-  pub straight : (k : ℕ) → b.first ≤ k → k + words_of (unit_at units k) < b.first + b.words → is_plain (unit_at units k) ≡ true
+  pub straight : (k : ℕ) → b.first ≤ k → k + words_of (unit_at units k) < b.first + b.words
+      → is_plain (unit_at units k) ≡ true
   pub sets : b ≡ part_of units b.first b.words

@@ -33,6 +33,8 @@ ChangesOnly changed s (asks question next) = (answer : Answer) → KeepsOthers c
 abbrev pub GoAlike : List Register → Turn State → Turn State → Type 0
 GoAlike changed (moves s) (moves t) = AgreeOn changed s t
 GoAlike changed (ends end) (ends other) = end ≡ other
-GoAlike changed (leaves question end) (leaves other_question other) = (question ≡ other_question) × (end ≡ other)
-GoAlike changed (asks question next) (asks other_question other) = (question ≡ other_question) × ((answer : Answer) → AgreeOn changed (next answer) (other answer))
+GoAlike changed (leaves question end) (leaves other_question other) =
+    (question ≡ other_question) × (end ≡ other)
+GoAlike changed (asks question next) (asks other_question other) =
+    (question ≡ other_question) × ((answer : Answer) → AgreeOn changed (next answer) (other answer))
 GoAlike changed _ _ = ⊥

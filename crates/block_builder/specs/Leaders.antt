@@ -42,12 +42,14 @@ is_at (Some target) address = target == address
 -- the unit of word i makes word k a leader: word k is its direct target, or it is the next word behind a unit that is not Plain,
 -- and behind its delay slot
 abbrev pub makes_leader : ℕ → Unit → ℕ → ℕ → Bool
-makes_leader start unit i k = is_at (direct unit (start + 4 * i)) (start + 4 * k) || (not (is_plain unit) && k == i + words_of unit)
+makes_leader start unit i k = is_at (direct unit (start + 4 * i)) (start + 4 * k)
+    || (not (is_plain unit) && k == i + words_of unit)
 
 -- one of the units from word i on does
 abbrev pub make_leader : ℕ → List Unit → ℕ → ℕ → Bool
 make_leader start [] i k = false
-make_leader start (unit ∷ units) i k = makes_leader start unit i k || make_leader start units (i + 1) k
+make_leader start (unit ∷ units) i k =
+    makes_leader start unit i k || make_leader start units (i + 1) k
 
 -- word k of the range whose first word is at an address
 abbrev pub is_leader : List Unit → ℕ → ℕ → Bool
@@ -58,7 +60,8 @@ is_leader units start k = k == 0 || make_leader start units 0 k
 -- A word is flagged where it was, or where the test says so.
 pub record Marks (old new : List Bool) (test : ℕ → Bool) : Type 0 where
   pub same_len : length new ≡ length old
-  pub flags : (k : ℕ) → k < length old → slice_index_or new k false ≡ (slice_index_or old k false || test k)
+  pub flags : (k : ℕ) → k < length old → slice_index_or new k false
+      ≡ (slice_index_or old k false || test k)
 
 -- The leaders are flagged.
 pub record AreLeaders (units : List Unit) (start : ℕ) (flags : List Bool) : Type 0 where

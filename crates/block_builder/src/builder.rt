@@ -97,7 +97,8 @@ fn block_from(units: &[Unit], leaders: &[bool], first: usize) -> Block
 fn end_of(units: &[Unit], leaders: &[bool], first: usize) -> usize
     requires same_len { length leaders.now ≡ length units.now }
     requires within { first < length units.now }
-    ensures value { result ≡ blocks.end_of units.now (λ k. slice_index_or leaders.now k false) first }
+    ensures value { result ≡ blocks.end_of units.now (λ k. slice_index_or leaders.now k false)
+        first }
     ensures from { first ≤ result }
     ensures within { result < length units.now }
 {

@@ -12,10 +12,12 @@ ghost use Rattle.block_builder.specs.Dependence.{AgreeOn, ChangesOnly, GoAlike};
 /// writes hold the same.
 pub fn instructions_keep_to_their_registers()
     ensures writes { (i : Inst) (s : State) → ChangesOnly (written_by i) s (done i s) }
-    ensures reads { (i : Inst) (s t : State) → AgreeOn (read_by i) s t → GoAlike (written_by i) (done i s) (done i t) }
+    ensures reads { (i : Inst) (s t : State) → AgreeOn (read_by i) s t
+        → GoAlike (written_by i) (done i s) (done i t) }
 {}
 
 /// A set of registers has the bits of its registers, but for register 0, and no others.
 pub fn register_sets_have_their_bits()
-    ensures { (registers : List Register) (k : ℕ) → IsBitSet (register_set registers) k ↔ ((0 < k) × Any (λ r. bit_number r ≡ k) registers) }
+    ensures { (registers : List Register) (k : ℕ) → IsBitSet (register_set registers) k
+        ↔ ((0 < k) × Any (λ r. bit_number r ≡ k) registers) }
 {}

@@ -43,7 +43,8 @@ fn mark_target(flags: &mut Vec<bool>, start: u32, target: Option<u32>)
 /// Marks the next word behind the unit of the given word, and behind its delay slot, where the unit is not Plain.
 fn mark_behind(flags: &mut Vec<bool>, unit: &Unit, word: usize)
     requires { word < 2 ^ 32 }
-    ensures { Marks flags.old.items flags.new.items (λ k. not (is_plain unit.now) && k == word + words_of unit.now) }
+    ensures { Marks flags.old.items flags.new.items (λ k. not (is_plain unit.now)
+        && k == word + words_of unit.now) }
 {
     if !is_plain(unit) {
         mark(flags, word + words_of(unit));

@@ -7,7 +7,7 @@ use Rattle.std.proofs.lemmas.List.{set-append_left, length-set, get_or-append_ri
 use Rattle.std.proofs.lemmas.List.FromFn.{length-range_with_len}
 use Rattle.std.proofs.lemmas.List.Sums.{sum_by-append}
 use Rattle.block_pool.specs.Blocks.{IsSound, IsUsed, bytes_of, next_of, with_block, free_count}
-use Rattle.block_pool.specs.Kept.{pool_of, IsKept}
+use Rattle.block_pool.specs.Kept.{pool_of, AreKeptBlocks}
 use Rattle.block_pool.specs.declared.block.Block.{Block}
 use Rattle.block_pool.proofs.PoolLemmas.{pool, free_at-le-one, times-cons_same, free_block, first_is_free, times-range, get_or-replicate_none, free-lt-length, IsSound-taken, IsSound-given, IsSound-put, IsSound-untouched}
 
@@ -59,7 +59,7 @@ unused-push slots size s h =
 pub order-popped : (rest : List ℕ) (b : ℕ) (never : List ℕ) → reverse (rest ++ b ∷ []) ++ never ≡ b ∷ (reverse rest ++ never)
 order-popped rest b never = rw (reverse-append rest (b ∷ [])) refl
 
-pub IsKept-new : (n : ℕ) → n ≤ 65536 → IsKept [] [] n n n
+pub IsKept-new : (n : ℕ) → n ≤ 65536 → AreKeptBlocks [] [] n n n
 IsKept-new n few = record {
   sound = let all : n - 0 ≡ n = omega arith in rw all (IsSound-untouched n);
   within = omega arith;
@@ -69,7 +69,7 @@ IsKept-new n few = record {
 }
 
 -- a block in use is changed
-pub IsKept-put : (slots : List (Option Block)) (given : List ℕ) (size r g b : ℕ) (k : Block) → length k.bytes ≡ 4096 → IsUsed (pool_of slots given size) b → IsKept slots given size r g → IsKept (set slots b (Some k)) given size r g
+pub IsKept-put : (slots : List (Option Block)) (given : List ℕ) (size r g b : ℕ) (k : Block) → length k.bytes ≡ 4096 → IsUsed (pool_of slots given size) b → AreKeptBlocks slots given size r g → AreKeptBlocks (set slots b (Some k)) given size r g
 IsKept-put slots given size r g b k sized used h =
     let slot = used_slot slots size b used in
     record {
@@ -81,11 +81,11 @@ IsKept-put slots given size r g b k sized used h =
     }
 
 -- the number that was given back last is the first of the order, and has a slot
-pub IsSound-popped : (slots : List (Option Block)) (given rest : List ℕ) (size r g b : ℕ) → given ≡ rest ++ b ∷ [] → IsKept slots given size r g → IsSound (pool (blocks_of slots size) (b ∷ (reverse rest ++ unused slots size)))
+pub IsSound-popped : (slots : List (Option Block)) (given rest : List ℕ) (size r g b : ℕ) → given ≡ rest ++ b ∷ [] → AreKeptBlocks slots given size r g → IsSound (pool (blocks_of slots size) (b ∷ (reverse rest ++ unused slots size)))
 IsSound-popped slots given rest size r g b is h =
     subst (λ order. IsSound (pool (blocks_of slots size) order)) (ap (λ l. reverse l ++ unused slots size) is ∙ order-popped rest b (unused slots size)) h.sound
 
-pub popped_slot : (slots : List (Option Block)) (given rest : List ℕ) (size r g b : ℕ) → given ≡ rest ++ b ∷ [] → IsKept slots given size r g → b < length slots
+pub popped_slot : (slots : List (Option Block)) (given rest : List ℕ) (size r g b : ℕ) → given ≡ rest ++ b ∷ [] → AreKeptBlocks slots given size r g → b < length slots
 popped_slot slots given rest size r g b is h =
     let never = unused slots size in
     let order = reverse rest ++ never in
@@ -104,7 +104,7 @@ popped_slot slots given rest size r g b is h =
           ))
     ]
 
-pub IsKept-popped : (slots : List (Option Block)) (given rest : List ℕ) (size r g b : ℕ) (k : Block) → length k.bytes ≡ 4096 → given ≡ rest ++ b ∷ [] → IsKept slots given size r g → IsKept (set slots b (Some k)) rest size r g
+pub IsKept-popped : (slots : List (Option Block)) (given rest : List ℕ) (size r g b : ℕ) (k : Block) → length k.bytes ≡ 4096 → given ≡ rest ++ b ∷ [] → AreKeptBlocks slots given size r g → AreKeptBlocks (set slots b (Some k)) rest size r g
 IsKept-popped slots given rest size r g b k sized is h =
     let slot = popped_slot slots given rest size r g b is h in
     record {
@@ -124,7 +124,7 @@ order-pushed slots given rest size s is none room =
     rw (no_given, no_rest) (unused-push slots size s room)
 
 -- and gets a slot
-pub IsKept-pushed : (slots : List (Option Block)) (given rest : List ℕ) (size r g : ℕ) (k : Block) → length k.bytes ≡ 4096 → given ≡ rest ++ [] → length given ≡ 0 → length slots < size → IsKept slots given size r g → IsKept (slots ++ Some k ∷ []) rest size r g
+pub IsKept-pushed : (slots : List (Option Block)) (given rest : List ℕ) (size r g : ℕ) (k : Block) → length k.bytes ≡ 4096 → given ≡ rest ++ [] → length given ≡ 0 → length slots < size → AreKeptBlocks slots given size r g → AreKeptBlocks (slots ++ Some k ∷ []) rest size r g
 IsKept-pushed slots given rest size r g k sized is none room h =
     let order = reverse rest ++ unused (slots ++ Some k ∷ []) size in
     let sound : IsSound (pool (blocks_of slots size) (length slots ∷ order)) =
@@ -138,7 +138,7 @@ IsKept-pushed slots given rest size r g k sized is none room h =
     }
 
 -- a block is given back, and there is room for its number
-pub given_room : (slots : List (Option Block)) (given : List ℕ) (size r g b : ℕ) → IsUsed (pool_of slots given size) b → IsKept slots given size r g → length given < size
+pub given_room : (slots : List (Option Block)) (given : List ℕ) (size r g b : ℕ) → IsUsed (pool_of slots given size) b → AreKeptBlocks slots given size r g → length given < size
 given_room slots given size r g b used h =
     omega (
       arith,
@@ -149,7 +149,7 @@ given_room slots given size r g b used h =
       length-blocks_of slots size h.within,
     )
 
-pub IsKept-given : (slots : List (Option Block)) (given : List ℕ) (size r g b : ℕ) → IsUsed (pool_of slots given size) b → IsKept slots given size r g → IsKept (set slots b None) (given ++ b ∷ []) size r g
+pub IsKept-given : (slots : List (Option Block)) (given : List ℕ) (size r g b : ℕ) → IsUsed (pool_of slots given size) b → AreKeptBlocks slots given size r g → AreKeptBlocks (set slots b None) (given ++ b ∷ []) size r g
 IsKept-given slots given size r g b used h =
     let slot = used_slot slots size b used in
     record {
@@ -171,7 +171,7 @@ pool_of-put : (slots : List (Option Block)) (given : List ℕ) (size b : ℕ) (b
 pool_of-put slots given size b bytes next slot =
     rw (blocks_of-set slots size b (Some (record { bytes = bytes; next = next })) slot, unused-set slots size b (Some (record { bytes = bytes; next = next }))) refl
 
-pub slot_size : (slots : List (Option Block)) (given : List ℕ) (size r g b : ℕ) (k : Block) → IsUsed (pool_of slots given size) b → Some k ≡ get_or slots b (Some k) → IsKept slots given size r g → length k.bytes ≡ 4096
+pub slot_size : (slots : List (Option Block)) (given : List ℕ) (size r g b : ℕ) (k : Block) → IsUsed (pool_of slots given size) b → Some k ≡ get_or slots b (Some k) → AreKeptBlocks slots given size r g → length k.bytes ≡ 4096
 slot_size slots given size r g b k used is h =
     let slot = used_slot slots size b used in
     let here : get_or slots b None ≡ Some k = sym (get_or_read slots b (Some k) slot is None) in
@@ -193,7 +193,7 @@ pool_of-put_next slots given size b k to used is =
     rw (bytes_of-slot slots given size b k slot here) (pool_of-put slots given size b k.bytes to slot)
 
 -- how many blocks are free
-pub free_of : (slots : List (Option Block)) (given : List ℕ) (size r g : ℕ) → IsKept slots given size r g → (size - length slots) + length given ≡ free_count (pool_of slots given size)
+pub free_of : (slots : List (Option Block)) (given : List ℕ) (size r g : ℕ) → AreKeptBlocks slots given size r g → (size - length slots) + length given ≡ free_count (pool_of slots given size)
 free_of slots given size r g h =
     omega (
       arith,
@@ -204,7 +204,7 @@ free_of slots given size r g h =
     )
 
 -- how the count of the free blocks goes on
-pub count-popped : (slots : List (Option Block)) (given rest : List ℕ) (size r g b : ℕ) (k : Block) → length k.bytes ≡ 4096 → given ≡ rest ++ b ∷ [] → IsKept slots given size r g → free_count (pool_of (set slots b (Some k)) rest size) + 1 ≡ free_count (pool_of slots given size)
+pub count-popped : (slots : List (Option Block)) (given rest : List ℕ) (size r g b : ℕ) (k : Block) → length k.bytes ≡ 4096 → given ≡ rest ++ b ∷ [] → AreKeptBlocks slots given size r g → free_count (pool_of (set slots b (Some k)) rest size) + 1 ≡ free_count (pool_of slots given size)
 count-popped slots given rest size r g b k sized is h =
     omega (
       arith,
@@ -215,7 +215,7 @@ count-popped slots given rest size r g b k sized is h =
       length_push rest b,
     )
 
-pub count-pushed : (slots : List (Option Block)) (given rest : List ℕ) (size r g : ℕ) (k : Block) → length k.bytes ≡ 4096 → given ≡ rest ++ [] → length given ≡ 0 → length slots < size → IsKept slots given size r g → free_count (pool_of (slots ++ Some k ∷ []) rest size) + 1 ≡ free_count (pool_of slots given size)
+pub count-pushed : (slots : List (Option Block)) (given rest : List ℕ) (size r g : ℕ) (k : Block) → length k.bytes ≡ 4096 → given ≡ rest ++ [] → length given ≡ 0 → length slots < size → AreKeptBlocks slots given size r g → free_count (pool_of (slots ++ Some k ∷ []) rest size) + 1 ≡ free_count (pool_of slots given size)
 count-pushed slots given rest size r g k sized is none room h =
     omega (
       arith,
@@ -225,7 +225,7 @@ count-pushed slots given rest size r g k sized is none room h =
       ap length (is ∙ append-nil rest),
     )
 
-pub count-given : (slots : List (Option Block)) (given : List ℕ) (size r g b : ℕ) → IsUsed (pool_of slots given size) b → IsKept slots given size r g → free_count (pool_of (set slots b None) (given ++ b ∷ []) size) ≡ free_count (pool_of slots given size) + 1
+pub count-given : (slots : List (Option Block)) (given : List ℕ) (size r g b : ℕ) → IsUsed (pool_of slots given size) b → AreKeptBlocks slots given size r g → free_count (pool_of (set slots b None) (given ++ b ∷ []) size) ≡ free_count (pool_of slots given size) + 1
 count-given slots given size r g b used h =
     omega (
       arith,
@@ -235,7 +235,7 @@ count-given slots given size r g b used h =
       length_push given b,
     )
 
-pub count-put : (slots : List (Option Block)) (given : List ℕ) (size r g b : ℕ) (k : Block) → length k.bytes ≡ 4096 → IsUsed (pool_of slots given size) b → IsKept slots given size r g → free_count (pool_of (set slots b (Some k)) given size) ≡ free_count (pool_of slots given size)
+pub count-put : (slots : List (Option Block)) (given : List ℕ) (size r g b : ℕ) (k : Block) → length k.bytes ≡ 4096 → IsUsed (pool_of slots given size) b → AreKeptBlocks slots given size r g → free_count (pool_of (set slots b (Some k)) given size) ≡ free_count (pool_of slots given size)
 count-put slots given size r g b k sized used h =
     omega (
       arith,

@@ -43,7 +43,10 @@ next_of p b = option_and_then (λ k. k.next) (block_at p b)
 
 -- this one block in use becomes so, and all else is as before
 abbrev pub with_block : Pool → ℕ → List ℕ → Option ℕ → Pool
-with_block p b bytes next = record p { blocks = slice_set p.blocks b (Some (record { bytes = bytes; next = next })) }
+with_block p b bytes next = record p {
+  blocks = slice_set p.blocks b
+      (Some (record { bytes = bytes; next = next }));
+}
 
 -- this one block in use has these bytes
 abbrev pub with_bytes : Pool → ℕ → List ℕ → Pool

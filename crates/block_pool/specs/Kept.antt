@@ -12,7 +12,8 @@ pool_of slots given size = record {
 }
 
 -- what is always true of what is kept, where there is room for this many slots and numbers
-pub record IsKept (slots : List (Option Block)) (given : List ℕ) (size slot_room given_room : ℕ) : Type 0 where
+pub record AreKeptBlocks (slots : List (Option Block)) (given : List ℕ)
+    (size slot_room given_room : ℕ) : Type 0 where
   pub sound : IsSound (pool_of slots given size)
   pub within : length slots ≤ size
   pub slots_fit : slot_room ≡ size

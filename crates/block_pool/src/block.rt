@@ -24,7 +24,8 @@ impl Block {
     /// Writes the bytes of `from`, from `at` on.
     pub(crate) fn overwrite(&mut self, at: usize, from: &[u8])
         requires { at + length from.now ≤ 4096 }
-        ensures value { self.new ≡ record self.old { bytes = overwritten self.old.bytes at from.now } }
+        ensures value { self.new
+            ≡ record self.old { bytes = overwritten self.old.bytes at from.now } }
         ensures len { length self.new.bytes ≡ 4096 }
     {
         self.bytes[at..at + from.len()].copy_from_slice(from);

@@ -29,13 +29,14 @@ pub struct Blocks {
 impl Model for Blocks {
     ghost use Rattle.std.specs.Prelude.{vec_capacity};
     ghost use Rattle.block_pool.specs.Blocks.{Pool};
-    ghost use Rattle.block_pool.specs.Kept.{pool_of, IsKept};
+    ghost use Rattle.block_pool.specs.Kept.{pool_of, AreKeptBlocks};
 
     ghost Value = { Pool };
 
     ghost view = { λ a. pool_of a.slots.items a.given.items a.size };
 
-    ghost invariant = { λ a. IsKept a.slots.items a.given.items a.size (vec_capacity a.slots) (vec_capacity a.given) };
+    ghost invariant = { λ a. AreKeptBlocks a.slots.items a.given.items a.size (vec_capacity a.slots)
+        (vec_capacity a.given) };
 }
 
 impl Blocks {
@@ -59,7 +60,8 @@ impl Blocks {
     pub fn take(&mut self) -> Result<u32, NoBlock>
         ensures first { IfOk result (λ b. self.old.order ≡ b ∷ self.new.order) }
         ensures was_free { IfOk result (λ b. IsTrue (is_free self.old b)) }
-        ensures zeroed { IfOk result (λ b. self.new.blocks ≡ slice_set self.old.blocks b (Some new_block)) }
+        ensures zeroed { IfOk result (λ b. self.new.blocks
+            ≡ slice_set self.old.blocks b (Some new_block)) }
         ensures count { IfOk result (λ _. free_count self.new + 1 ≡ free_count self.old) }
         ensures sound { IsSound self.new }
         ensures none { IsErr result ↔ (free_count self.old ≡ 0) }
@@ -125,7 +127,8 @@ impl Blocks {
     pub fn copy_in(&mut self, b: u32, at: u32, from: &[u8])
         requires used { IsUsed self.old b }
         requires within { at + length from.now ≤ 4096 }
-        ensures changed { self.new ≡ with_bytes self.old b (overwritten (bytes_of self.old b) at from.now) }
+        ensures changed { self.new
+            ≡ with_bytes self.old b (overwritten (bytes_of self.old b) at from.now) }
         ensures count { free_count self.new ≡ free_count self.old }
         ensures sound { IsSound self.new }
     {

@@ -22,7 +22,7 @@ use Rattle.class_builder.specs.declared.slot_kind.SlotKind.{SlotKind}
 use Rattle.class_builder.specs.declared.slot_kind.SlotKind.TheVariants.{Other}
 use Rattle.class_builder.specs.Lawful.{is_text, has_text}
 use Rattle.class_builder.specs.Code.{has_its_text, has_texts, is_code}
-use Rattle.class_builder.specs.Sound.{IsPool, kind_of, AreKinds, IsKept}
+use Rattle.class_builder.specs.Sound.{IsPool, kind_of, AreKinds, IsKeptBuilder}
 use Rattle.class_builder.proofs.Growing.{stays-behind}
 use Rattle.class_builder.proofs.Stays.{StaysSome, Stays, text-stays}
 use Rattle.class_builder.proofs.Sound.{pool-more, get-front, get-behind, at-index, index-at}
@@ -123,7 +123,7 @@ module _ (code : List Step) (old behind : List Entry) (constants : list_all (is_
 -- ---- what the constants of code leave of a pool that is kept
 
 pub kept-coded : (code : List Step) (old new : List Entry) (kinds : List SlotKind) → Adds code old new → has_texts old code ≡ true
-    → length new ≤ 65534 → IsKept old kinds → IsKept new kinds
+    → length new ≤ 65534 → IsKeptBuilder old kinds → IsKeptBuilder new kinds
 kept-coded code old new kinds a known few kept =
     let few' : length (old ++ a.behind) ≤ 65534 = rw a.is at few in
     rw a.is (record {

@@ -16,7 +16,7 @@ use Rattle.constant_pool.specs.Checks.{entry_at, entry_fault}
 use Rattle.constant_pool.specs.Slots.{IsAt, IsMissing, is_rest, slots_of_entry}
 use Rattle.class_builder.specs.declared.slot_kind.SlotKind.{SlotKind}
 use Rattle.class_builder.specs.declared.slot_kind.SlotKind.TheVariants.{Other}
-use Rattle.class_builder.specs.Sound.{IsPool, MayJoin, kind_of, AreKinds, IsKept}
+use Rattle.class_builder.specs.Sound.{IsPool, MayJoin, kind_of, AreKinds, IsKeptBuilder}
 use Rattle.class_builder.proofs.Stays.{Stays}
 use Rattle.class_builder.proofs.Sound.{pool-parts, pool-of-parts, pool-more, entry_fault-stays, at-index, get-front}
 
@@ -169,7 +169,7 @@ kinds-joined old new kinds slot e small are j = record {
 }
 
 pub kept-joined : (old new : List Entry) (kinds : List SlotKind) (slot : ℕ) (e : Entry) (kind : SlotKind) → kind ≡ kind_of (Some e)
-    → IsKept old kinds → MayJoin old e → Joined old new slot e → IsKept new (slice_set kinds slot kind)
+    → IsKeptBuilder old kinds → MayJoin old e → Joined old new slot e → IsKeptBuilder new (slice_set kinds slot kind)
 kept-joined old new kinds slot e kind is kept may j =
     let within = slice_get_within new (slot - 1) e (at-index new slot e j.there) in
     let few = j.few in
@@ -200,7 +200,7 @@ pub empty-pool : IsPool []
 empty-pool = pool-of-parts [] (record { few = omega arith; spelled = refl; sound = λ place e at. absurd (no_entry place e at) })
 
 pub empty-kept : (pool : List Entry) (kinds : List SlotKind) (count : ℕ) → pool ≡ [] → kinds ≡ replicate count Other → count ≡ 65536
-    → IsKept pool kinds
+    → IsKeptBuilder pool kinds
 empty-kept pool kinds count none is all = rw none (record {
   sound = empty-pool;
   kinds_are = record {

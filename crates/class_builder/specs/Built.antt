@@ -50,7 +50,8 @@ pub record AddsField (old new : Class) (name descriptor : List ℕ) : Type 0 whe
 
 -- The same class with a method behind its methods, of a name, a descriptor and a code: 16 operands and so many local variables at most.
 -- Its pool names no more than before.
-pub record AddsMethod (old new : Class) (name descriptor : List ℕ) (locals : ℕ) (r : References) (code : List Step) : Type 0 where
+pub record AddsMethod (old new : Class) (name descriptor : List ℕ) (locals : ℕ) (r : References)
+    (code : List Step) : Type 0 where
   pub method : Method
   pub named : IsNamed new.pool (record { name = method.name; desc = method.desc }) name descriptor
   pub stack : method.stack ≡ 16

@@ -20,4 +20,5 @@ has_texts pool code = list_all (has_its_text pool) code
 
 -- it can be made into the bytes of a method, and its texts are there
 abbrev pub is_code : References → List Entry → List Step → Bool
-is_code references pool code = (can_be_assembled references code && is_method code) && has_texts pool code
+is_code references pool code = (can_be_assembled references code && is_method code)
+    && has_texts pool code

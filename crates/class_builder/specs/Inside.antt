@@ -7,7 +7,13 @@ use Rattle.class_builder.specs.Named.{IsTextAt}
 
 abbrev pub class_so_far : Inside → Class
 class_so_far b =
-    record { pool = b.pool; this_class = b.this_class; super_class = b.super_class; fields = b.fields.items; methods = b.methods.items }
+    record {
+      pool = b.pool;
+      this_class = b.this_class;
+      super_class = b.super_class;
+      fields = b.fields.items;
+      methods = b.methods.items;
+    }
 
 -- the class keeps all rules of class files, and the name of the attribute with a method's code has a slot
 pub record CanBeWritten (b : Inside) : Type 0 where

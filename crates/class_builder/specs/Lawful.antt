@@ -43,4 +43,5 @@ names_member kind name descriptor = is_member_name name && is_descriptor kind de
 
 -- a field or method of the class in a slot
 abbrev pub is_member : MemberKind → List Entry → ℕ → List ℕ → List ℕ → Bool
-is_member kind pool class name descriptor = has_class pool class && names_member kind name descriptor
+is_member kind pool class name descriptor =
+    has_class pool class && names_member kind name descriptor

@@ -18,7 +18,8 @@ pub data Mention : Type 0 where
 
 -- a member of a class of a name, by its own name and its descriptor
 abbrev pub member_mention : MemberKind → List ℕ → List ℕ → List ℕ → Mention
-member_mention kind owner name descriptor = OfMember kind (reference owner (signature name descriptor))
+member_mention kind owner name descriptor =
+    OfMember kind (reference owner (signature name descriptor))
 
 abbrev pub field_mention : List ℕ → List ℕ → List ℕ → Mention
 field_mention owner name descriptor = member_mention Field owner name descriptor
@@ -45,8 +46,10 @@ signature_in pool slot = signature_of pool (option_and_then name_of (entry_at po
 -- what an entry names in its pool, if it names a class or a member
 abbrev pub mentions_in : List Entry → Entry → List Mention
 mentions_in pool (ClassName name) = OfClass (text_in pool name) ∷ []
-mentions_in pool (FieldRef class name) = OfMember Field (reference (class_in pool class) (signature_in pool name)) ∷ []
-mentions_in pool (MethodRef class name) = OfMember Method (reference (class_in pool class) (signature_in pool name)) ∷ []
+mentions_in pool (FieldRef class name) =
+    OfMember Field (reference (class_in pool class) (signature_in pool name)) ∷ []
+mentions_in pool (MethodRef class name) =
+    OfMember Method (reference (class_in pool class) (signature_in pool name)) ∷ []
 mentions_in pool _ = []
 
 -- what a pool names, in the order of its slots
@@ -58,7 +61,8 @@ mentioned pool = flat_map (mentions_in pool) pool
 -- the elements that are the same as none before them; some stand before all of them
 unfoldable pub fresh : {A : Type 0} → (A → A → Bool) → List A → List A → List A
 fresh same before [] = []
-fresh same before (x ∷ xs) = if list_any (same x) before then fresh same before xs else x ∷ fresh same (before ++ x ∷ []) xs
+fresh same before (x ∷ xs) = if list_any (same x) before then fresh same before xs
+    else x ∷ fresh same (before ++ x ∷ []) xs
 
 -- each element where it stands first
 abbrev pub once : {A : Type 0} → (A → A → Bool) → List A → List A
@@ -71,7 +75,8 @@ same_kind _ _ = false
 
 abbrev pub same_mention : Mention → Mention → Bool
 same_mention (OfClass name) (OfClass other) = same_text name other
-same_mention (OfMember kind member) (OfMember other_kind other) = same_kind kind other_kind && same_reference member other
+same_mention (OfMember kind member) (OfMember other_kind other) =
+    same_kind kind other_kind && same_reference member other
 same_mention _ _ = false
 
 -- A pool names these, in this order, and nothing else: each is counted where it is named first.
@@ -80,7 +85,8 @@ pub record Mentions (pool : List Entry) (names : List Mention) : Type 0 where
 
 -- A pool names more than another one, which depends on the name of a class in a slot of that one.
 abbrev pub MentionsOf : List Entry → List Entry → ℕ → (List ℕ → List Mention) → Type 0
-MentionsOf old new class more = (owner : List ℕ) → IsClassAt old class owner → Mentions new (mentioned old ++ more owner)
+MentionsOf old new class more = (owner : List ℕ) → IsClassAt old class owner
+    → Mentions new (mentioned old ++ more owner)
 
 -- ---- the classes among them
 

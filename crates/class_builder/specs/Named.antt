@@ -22,7 +22,8 @@ pub record IsPairAt (pool : List Entry) (slot : ℕ) (name descriptor : List ℕ
   pub descriptor_is : IsTextAt pool descriptor_slot descriptor
 
 -- a member, of the kind of these entries, of the class in a slot
-pub record IsMemberAt (kind : ℕ → ℕ → Entry) (pool : List Entry) (slot class : ℕ) (name descriptor : List ℕ) : Type 0 where
+pub record IsMemberAt (kind : ℕ → ℕ → Entry) (pool : List Entry) (slot class : ℕ)
+    (name descriptor : List ℕ) : Type 0 where
   pub pair : ℕ
   pub there : IsAt pool slot (kind class pair)
   pub pair_is : IsPairAt pool pair name descriptor

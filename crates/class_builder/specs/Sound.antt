@@ -21,7 +21,7 @@ pub record AreKinds (entries : List Entry) (kinds : List SlotKind) : Type 0 wher
   pub count : length kinds ≡ 65536
   pub kind : (slot : ℕ) → slice_index_or kinds slot Other ≡ kind_of (entry_at entries slot)
 
-pub record IsKept (entries : List Entry) (kinds : List SlotKind) : Type 0 where
+pub record IsKeptBuilder (entries : List Entry) (kinds : List SlotKind) : Type 0 where
   pub sound : IsPool entries
   pub kinds_are : AreKinds entries kinds
 

@@ -33,7 +33,8 @@ pub fn own_slot(alloc: Global, pool: &mut SoundPool, name: &str) -> Result<u16, 
 pub fn object_slot(alloc: Global, pool: &mut SoundPool) -> Result<u16, BuildError>
     ensures there { IfOk result (λ slot. IsClassAt pool.new slot (codes "java/lang/Object")) }
     ensures grown { Grows pool.old pool.new 2 }
-    ensures mentions { OnOk result (Mentions pool.new (mentioned pool.old ++ OfClass (codes "java/lang/Object") ∷ [])) }
+    ensures mentions { OnOk result (Mentions pool.new (mentioned pool.old
+        ++ OfClass (codes "java/lang/Object") ∷ [])) }
     ensures full { result ≡ Err Full → 65534 < length pool.old + 2 }
     ensures lawful { result ≢ Err Unlawful }
 {

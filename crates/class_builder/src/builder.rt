@@ -1,15 +1,14 @@
 //! Classes that are made.
-ghost use Rattle.std.specs.Prelude.{◌≡◌, ◌≢◌, ◌+◌, ◌≤◌, ◌⊎◌, ◌&&◌, true, false, [], ◌∷◌, ◌++◌, length, None};
-ghost use Rattle.std.specs.Prelude.{IfOk, OnOk, OnErr, Err};
+ghost use Rattle.std.specs.Prelude.{◌≡◌, ◌≢◌, ◌+◌, ◌≤◌, ◌⊎◌, ◌&&◌, true, false, [], ◌∷◌, ◌++◌, length, None, IfOk, OnOk, OnErr, Err};
 ghost use Rattle.constant_pool.specs.Names.{is_class_name, is_member_name, is_field_descriptor};
 ghost use Rattle.class_file.specs.Named.{is_own_descriptor};
-ghost use Rattle.code_assembly.specs.Assembling.{slots_of};
 ghost use Rattle.class_file.specs.ClassFile.{Spells, class_fault};
+ghost use Rattle.name_resolution.specs.Names.{object_name};
+ghost use Rattle.code_assembly.specs.Assembling.{slots_of};
 ghost use Rattle.class_builder.specs.Named.{IsTextAt, IsClassAt, IsFieldAt, IsMethodAt};
 ghost use Rattle.class_builder.specs.Lawful.{names_class, is_member};
 ghost use Rattle.class_builder.specs.Code.{is_code};
 ghost use Rattle.class_builder.specs.Built.{GrowsPool, AddsField, AddsMethod, LacksRoom, is_long_text};
-ghost use Rattle.name_resolution.specs.Names.{object_name};
 ghost use Rattle.class_builder.specs.Mentioned.{Mentions, MentionsOf, OfClass, field_mention, mentioned, method_mention};
 ghost use Rattle.class_builder.specs.declared.error.BuildError.TheVariants.{Full, Unlawful};
 
@@ -19,12 +18,12 @@ use crate::member_kind::MemberKind;
 use crate::names::{field_slots, method_slots};
 use crate::references::{class_slot, member_slot};
 use crate::sound_pool::SoundPool;
-use class_format::Sequence;
 use class_writer::{WriteError, write_class};
 use code_assembly::References;
 use code_steps::Step;
 use constant_pool::NoMemory;
 use jvm_code::{Class, Member, Method};
+use jvm_names::Sequence;
 use std::alloc::{AllocError, Global};
 use std::marker::Model;
 
@@ -70,7 +69,8 @@ impl ClassBuilder {
         ensures fields { IfOk result (λ b. b.fields ≡ []) }
         ensures methods { IfOk result (λ b. b.methods ≡ []) }
         ensures few { IfOk result (λ b. length b.pool ≤ 5) }
-        ensures mentions { IfOk result (λ b. Mentions b.pool (OfClass name.now ∷ OfClass object_name ∷ [])) }
+        ensures mentions { IfOk result (λ b.
+            Mentions b.pool (OfClass name.now ∷ OfClass object_name ∷ [])) }
         ensures full { result ≡ Err Full → is_long_text name.now ≡ true }
         ensures unlawful { result ≡ Err Unlawful → is_class_name name.now ≡ false }
     {
@@ -95,7 +95,8 @@ impl ClassBuilder {
     pub fn class_reference(&mut self, alloc: Global, name: &str) -> Result<u16, BuildError>
         ensures there { IfOk result (λ slot. IsClassAt self.new.pool slot name.now) }
         ensures grown { GrowsPool self.old self.new 2 }
-        ensures mentions { OnOk result (Mentions self.new.pool (mentioned self.old.pool ++ OfClass name.now ∷ [])) }
+        ensures mentions { OnOk result (Mentions self.new.pool (mentioned self.old.pool
+            ++ OfClass name.now ∷ [])) }
         ensures full { result ≡ Err Full → LacksRoom self.old.pool 2 (name.now ∷ []) }
         ensures unlawful { result ≡ Err Unlawful → names_class name.now ≡ false }
     {
@@ -114,11 +115,15 @@ impl ClassBuilder {
         name: &str,
         descriptor: &str,
     ) -> Result<u16, BuildError>
-        ensures there { IfOk result (λ slot. IsFieldAt self.new.pool slot class name.now descriptor.now) }
+        ensures there { IfOk result (λ slot.
+            IsFieldAt self.new.pool slot class name.now descriptor.now) }
         ensures grown { GrowsPool self.old self.new 4 }
-        ensures mentions { OnOk result (MentionsOf self.old.pool self.new.pool class (λ owner. field_mention owner name.now descriptor.now ∷ [])) }
-        ensures full { result ≡ Err Full → LacksRoom self.old.pool 4 (name.now ∷ descriptor.now ∷ []) }
-        ensures unlawful { result ≡ Err Unlawful → is_member MemberKind.Field self.old.pool class name.now descriptor.now ≡ false }
+        ensures mentions { OnOk result (MentionsOf self.old.pool self.new.pool class
+            (λ owner. field_mention owner name.now descriptor.now ∷ [])) }
+        ensures full { result ≡ Err Full
+            → LacksRoom self.old.pool 4 (name.now ∷ descriptor.now ∷ []) }
+        ensures unlawful { result ≡ Err Unlawful
+            → is_member MemberKind.Field self.old.pool class name.now descriptor.now ≡ false }
     {
         member_slot(
             alloc,
@@ -141,11 +146,15 @@ impl ClassBuilder {
         name: &str,
         descriptor: &str,
     ) -> Result<u16, BuildError>
-        ensures there { IfOk result (λ slot. IsMethodAt self.new.pool slot class name.now descriptor.now) }
+        ensures there { IfOk result (λ slot.
+            IsMethodAt self.new.pool slot class name.now descriptor.now) }
         ensures grown { GrowsPool self.old self.new 4 }
-        ensures mentions { OnOk result (MentionsOf self.old.pool self.new.pool class (λ owner. method_mention owner name.now descriptor.now ∷ [])) }
-        ensures full { result ≡ Err Full → LacksRoom self.old.pool 4 (name.now ∷ descriptor.now ∷ []) }
-        ensures unlawful { result ≡ Err Unlawful → is_member MemberKind.Method self.old.pool class name.now descriptor.now ≡ false }
+        ensures mentions { OnOk result (MentionsOf self.old.pool self.new.pool class
+            (λ owner. method_mention owner name.now descriptor.now ∷ [])) }
+        ensures full { result ≡ Err Full
+            → LacksRoom self.old.pool 4 (name.now ∷ descriptor.now ∷ []) }
+        ensures unlawful { result ≡ Err Unlawful
+            → is_member MemberKind.Method self.old.pool class name.now descriptor.now ≡ false }
     {
         member_slot(
             alloc,
@@ -172,7 +181,8 @@ impl ClassBuilder {
         ensures err { OnErr result (GrowsPool self.old self.new 2) }
         ensures full { result ≡ Err Full → (65535 ≤ length self.old.fields)
             ⊎ LacksRoom self.old.pool 2 (name.now ∷ descriptor.now ∷ []) }
-        ensures unlawful { result ≡ Err Unlawful → (is_member_name name.now && is_field_descriptor descriptor.now) ≡ false }
+        ensures unlawful { result ≡ Err Unlawful
+            → (is_member_name name.now && is_field_descriptor descriptor.now) ≡ false }
     {
         if MAX_MEMBERS <= self.fields.len() {
             return Err(BuildError::Full);
@@ -198,12 +208,15 @@ impl ClassBuilder {
         code: &[Step],
         references: &References,
     ) -> Result<(), BuildError>
-        ensures added { OnOk result (AddsMethod self.old self.new name.now descriptor.now locals references.now code.now) }
+        ensures added { OnOk result
+            (AddsMethod self.old self.new name.now descriptor.now locals references.now
+            code.now) }
         ensures err { OnErr result (GrowsPool self.old self.new (2 + slots_of code.now)) }
         ensures full { result ≡ Err Full → (65535 ≤ length self.old.methods)
             ⊎ LacksRoom self.old.pool (2 + slots_of code.now) (name.now ∷ descriptor.now ∷ []) }
         ensures unlawful { result ≡ Err Unlawful
-            → ((is_member_name name.now && is_own_descriptor descriptor.now) && is_code references.now self.old.pool code.now) ≡ false }
+            → ((is_member_name name.now && is_own_descriptor descriptor.now)
+            && is_code references.now self.old.pool code.now) ≡ false }
     {
         if MAX_MEMBERS <= self.methods.len() {
             return Err(BuildError::Full);

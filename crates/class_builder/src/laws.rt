@@ -20,41 +20,50 @@ ghost use Rattle.class_builder.specs.Mentioned.{Mention, Mentions, classes_among
 
 /// `getstatic` and `putstatic` with the slot of a field, in a class whose pool goes on behind the one in which the slot was taken.
 pub fn fields_are_meant()
-    ensures get { (classes : List Class) (number : ℕ) (c : Class) (pool : List Entry) (slot class n : ℕ) (owner name descriptor : List ℕ)
-        → Extends pool c.pool → IsClassAt pool class owner → IsFieldAt pool slot class name descriptor
+    ensures get { (classes : List Class) (number : ℕ) (c : Class) (pool : List Entry)
+        (slot class n : ℕ) (owner name descriptor : List ℕ) → Extends pool c.pool
+        → IsClassAt pool class owner → IsFieldAt pool slot class name descriptor
         → field_number classes (reference owner (signature name descriptor)) ≡ Some n
-        → pool_instruction classes number c names.Getstatic slot ≡ instructions.Get n (kind_of descriptor) }
-    ensures put { (classes : List Class) (number : ℕ) (c : Class) (pool : List Entry) (slot class n : ℕ) (owner name descriptor : List ℕ)
-        → Extends pool c.pool → IsClassAt pool class owner → IsFieldAt pool slot class name descriptor
+        → pool_instruction classes number c names.Getstatic slot
+        ≡ instructions.Get n (kind_of descriptor) }
+    ensures put { (classes : List Class) (number : ℕ) (c : Class) (pool : List Entry)
+        (slot class n : ℕ) (owner name descriptor : List ℕ) → Extends pool c.pool
+        → IsClassAt pool class owner → IsFieldAt pool slot class name descriptor
         → field_number classes (reference owner (signature name descriptor)) ≡ Some n
-        → pool_instruction classes number c names.Putstatic slot ≡ instructions.Put n (kind_of descriptor) }
+        → pool_instruction classes number c names.Putstatic slot
+        ≡ instructions.Put n (kind_of descriptor) }
 {}
 
 /// `invokestatic` with the slot of a method of the classes.
 pub fn methods_are_meant()
-    ensures { (classes : List Class) (number : ℕ) (c : Class) (pool : List Entry) (slot class n : ℕ) (owner name descriptor : List ℕ)
-        → Extends pool c.pool → IsClassAt pool class owner → IsMethodAt pool slot class name descriptor
-        → same_text owner host_name ≡ false → method_number classes (reference owner (signature name descriptor)) ≡ Some n
+    ensures { (classes : List Class) (number : ℕ) (c : Class) (pool : List Entry) (slot class n : ℕ)
+        (owner name descriptor : List ℕ) → Extends pool c.pool → IsClassAt pool class owner
+        → IsMethodAt pool slot class name descriptor → same_text owner host_name ≡ false
+        → method_number classes (reference owner (signature name descriptor)) ≡ Some n
         → pool_instruction classes number c names.Invokestatic slot ≡ instructions.Call n }
 {}
 
 /// `invokestatic` with the slot of a method of the host.
 pub fn host_is_meant()
-    ensures call { (classes : List Class) (number : ℕ) (c : Class) (pool : List Entry) (slot class : ℕ)
-        → Extends pool c.pool → IsClassAt pool class host_name → IsMethodAt pool slot class (codes "call") (codes "([[I[[IIIIII)I")
+    ensures call { (classes : List Class) (number : ℕ) (c : Class) (pool : List Entry)
+        (slot class : ℕ) → Extends pool c.pool → IsClassAt pool class host_name
+        → IsMethodAt pool slot class (codes "call") (codes "([[I[[IIIIII)I")
         → pool_instruction classes number c names.Invokestatic slot ≡ instructions.CallHost }
-    ensures fault { (classes : List Class) (number : ℕ) (c : Class) (pool : List Entry) (slot class : ℕ)
-        → Extends pool c.pool → IsClassAt pool class host_name → IsMethodAt pool slot class (codes "fault") (codes "(III)V")
+    ensures fault { (classes : List Class) (number : ℕ) (c : Class) (pool : List Entry)
+        (slot class : ℕ) → Extends pool c.pool → IsClassAt pool class host_name
+        → IsMethodAt pool slot class (codes "fault") (codes "(III)V")
         → pool_instruction classes number c names.Invokestatic slot ≡ instructions.FaultHost }
 {}
 
 /// `invokevirtual` with the slot of a method of strings.
 pub fn strings_are_meant()
-    ensures length { (classes : List Class) (number : ℕ) (c : Class) (pool : List Entry) (slot class : ℕ)
-        → Extends pool c.pool → IsClassAt pool class string_name → IsMethodAt pool slot class (codes "length") (codes "()I")
+    ensures length { (classes : List Class) (number : ℕ) (c : Class) (pool : List Entry)
+        (slot class : ℕ) → Extends pool c.pool → IsClassAt pool class string_name
+        → IsMethodAt pool slot class (codes "length") (codes "()I")
         → pool_instruction classes number c names.Invokevirtual slot ≡ instructions.Length }
-    ensures char_at { (classes : List Class) (number : ℕ) (c : Class) (pool : List Entry) (slot class : ℕ)
-        → Extends pool c.pool → IsClassAt pool class string_name → IsMethodAt pool slot class (codes "charAt") (codes "(I)C")
+    ensures char_at { (classes : List Class) (number : ℕ) (c : Class) (pool : List Entry)
+        (slot class : ℕ) → Extends pool c.pool → IsClassAt pool class string_name
+        → IsMethodAt pool slot class (codes "charAt") (codes "(I)C")
         → pool_instruction classes number c names.Invokevirtual slot ≡ instructions.CharAt }
 {}
 
@@ -67,15 +76,15 @@ pub fn arrays_are_meant()
 
 /// Where all that a pool names passes a test, so does what each of its entries names.
 pub fn entries_pass()
-    ensures { (pool : List Entry) (names : List Mention) (test : Mention → Bool) (slot : ℕ) (e : Entry)
-        → Mentions pool names → list_all test names ≡ true → IsAt pool slot e
+    ensures { (pool : List Entry) (names : List Mention) (test : Mention → Bool) (slot : ℕ)
+        (e : Entry) → Mentions pool names → list_all test names ≡ true → IsAt pool slot e
         → list_all test (mentions_in pool e) ≡ true }
 {}
 
 /// The classes that the entries of a pool ask for, each where it stands first, are those among what the pool names.
 pub fn classes_are_asked_for()
-    ensures { (pool : List Entry) (names : List Mention)
-        → IsPool pool → Mentions pool names
-        → once same_text (flat_map (λ e. option_to_list (option_and_then (text_at pool) (class_of e))) pool)
+    ensures { (pool : List Entry) (names : List Mention) → IsPool pool → Mentions pool names
+        → once same_text
+        (flat_map (λ e. option_to_list (option_and_then (text_at pool) (class_of e))) pool)
         ≡ once same_text (classes_among names) }
 {}

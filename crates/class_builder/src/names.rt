@@ -25,11 +25,13 @@ pub fn field_slots(
     descriptor: &str,
 ) -> Result<Member, BuildError>
     ensures there { IfOk result (λ slots. IsNamed pool.new slots name.now descriptor.now) }
-    ensures lawful { OnOk result ((is_member_name name.now && is_field_descriptor descriptor.now) ≡ true) }
+    ensures lawful { OnOk result ((is_member_name name.now && is_field_descriptor descriptor.now)
+        ≡ true) }
     ensures grown { Grows pool.old pool.new 2 }
     ensures mentions { OnOk result (Mentions pool.new (mentioned pool.old)) }
     ensures full { result ≡ Err Full → LacksRoom pool.old 2 (name.now ∷ descriptor.now ∷ []) }
-    ensures unlawful { result ≡ Err Unlawful → (is_member_name name.now && is_field_descriptor descriptor.now) ≡ false }
+    ensures unlawful { result ≡ Err Unlawful
+        → (is_member_name name.now && is_field_descriptor descriptor.now) ≡ false }
 {
     let name = characters_of(alloc, name)?;
     let descriptor = characters_of(alloc, descriptor)?;
@@ -47,11 +49,13 @@ pub fn method_slots(
     descriptor: &str,
 ) -> Result<Member, BuildError>
     ensures there { IfOk result (λ slots. IsNamed pool.new slots name.now descriptor.now) }
-    ensures lawful { OnOk result ((is_member_name name.now && is_own_descriptor descriptor.now) ≡ true) }
+    ensures lawful { OnOk result ((is_member_name name.now && is_own_descriptor descriptor.now)
+        ≡ true) }
     ensures grown { Grows pool.old pool.new 2 }
     ensures mentions { OnOk result (Mentions pool.new (mentioned pool.old)) }
     ensures full { result ≡ Err Full → LacksRoom pool.old 2 (name.now ∷ descriptor.now ∷ []) }
-    ensures unlawful { result ≡ Err Unlawful → (is_member_name name.now && is_own_descriptor descriptor.now) ≡ false }
+    ensures unlawful { result ≡ Err Unlawful
+        → (is_member_name name.now && is_own_descriptor descriptor.now) ≡ false }
 {
     let name = characters_of(alloc, name)?;
     let descriptor = characters_of(alloc, descriptor)?;
@@ -71,7 +75,8 @@ fn slots_of(pool: &mut SoundPool, name: Vec<u16>, descriptor: Vec<u16>) -> Resul
     ensures there { IfOk result (λ slots. IsNamed pool.new slots name.items descriptor.items) }
     ensures grown { Grows pool.old pool.new 2 }
     ensures mentions { OnOk result (Mentions pool.new (mentioned pool.old)) }
-    ensures full { result ≡ Err pools.Full → LacksRoom pool.old 2 (name.items ∷ descriptor.items ∷ []) }
+    ensures full { result ≡ Err pools.Full
+        → LacksRoom pool.old 2 (name.items ∷ descriptor.items ∷ []) }
 {
     let name = pool.add_text(name)?;
     let desc = pool.add_text(descriptor)?;

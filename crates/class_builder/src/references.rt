@@ -41,7 +41,8 @@ pub fn add_class(pool: &mut SoundPool, name: Vec<u16>) -> Result<u16, PoolError>
     requires { names_class name.items ≡ true }
     ensures there { IfOk result (λ slot. IsClassAt pool.new slot name.items) }
     ensures grown { Grows pool.old pool.new 2 }
-    ensures mentions { OnOk result (Mentions pool.new (mentioned pool.old ++ OfClass name.items ∷ [])) }
+    ensures mentions { OnOk result (Mentions pool.new (mentioned pool.old
+        ++ OfClass name.items ∷ [])) }
     ensures full { result ≡ Err pools.Full → LacksRoom pool.old 2 (name.items ∷ []) }
 {
     let text = pool.add_text(name)?;
@@ -54,7 +55,8 @@ fn add_pair(pool: &mut SoundPool, name: Vec<u16>, descriptor: Vec<u16>) -> Resul
     ensures there { IfOk result (λ slot. IsPairAt pool.new slot name.items descriptor.items) }
     ensures grown { Grows pool.old pool.new 3 }
     ensures mentions { OnOk result (Mentions pool.new (mentioned pool.old)) }
-    ensures full { result ≡ Err pools.Full → LacksRoom pool.old 3 (name.items ∷ descriptor.items ∷ []) }
+    ensures full { result ≡ Err pools.Full
+        → LacksRoom pool.old 3 (name.items ∷ descriptor.items ∷ []) }
 {
     let name = pool.add_text(name)?;
     let descriptor = pool.add_text(descriptor)?;
@@ -70,11 +72,14 @@ pub fn member_slot(
     name: &str,
     descriptor: &str,
 ) -> Result<u16, BuildError>
-    ensures there { IfOk result (λ slot. IsMemberAt (member_entry kind) pool.new slot class name.now descriptor.now) }
+    ensures there { IfOk result (λ slot.
+        IsMemberAt (member_entry kind) pool.new slot class name.now descriptor.now) }
     ensures grown { Grows pool.old pool.new 4 }
-    ensures mentions { OnOk result (MentionsOf pool.old pool.new class (λ owner. member_mention kind owner name.now descriptor.now ∷ [])) }
+    ensures mentions { OnOk result (MentionsOf pool.old pool.new class
+        (λ owner. member_mention kind owner name.now descriptor.now ∷ [])) }
     ensures full { result ≡ Err Full → LacksRoom pool.old 4 (name.now ∷ descriptor.now ∷ []) }
-    ensures unlawful { result ≡ Err Unlawful → is_member kind pool.old class name.now descriptor.now ≡ false }
+    ensures unlawful { result ≡ Err Unlawful → is_member kind pool.old class name.now descriptor.now
+        ≡ false }
 {
     let name = characters_of(alloc, name)?;
     let descriptor = characters_of(alloc, descriptor)?;
@@ -92,10 +97,13 @@ fn add_member(
     descriptor: Vec<u16>,
 ) -> Result<u16, PoolError>
     requires { is_member kind pool.old class name.items descriptor.items ≡ true }
-    ensures there { IfOk result (λ slot. IsMemberAt (member_entry kind) pool.new slot class name.items descriptor.items) }
+    ensures there { IfOk result (λ slot.
+        IsMemberAt (member_entry kind) pool.new slot class name.items descriptor.items) }
     ensures grown { Grows pool.old pool.new 4 }
-    ensures mentions { OnOk result (MentionsOf pool.old pool.new class (λ owner. member_mention kind owner name.items descriptor.items ∷ [])) }
-    ensures full { result ≡ Err pools.Full → LacksRoom pool.old 4 (name.items ∷ descriptor.items ∷ []) }
+    ensures mentions { OnOk result (MentionsOf pool.old pool.new class
+        (λ owner. member_mention kind owner name.items descriptor.items ∷ [])) }
+    ensures full { result ≡ Err pools.Full
+        → LacksRoom pool.old 4 (name.items ∷ descriptor.items ∷ []) }
 {
     let pair = add_pair(pool, name, descriptor)?;
     pool.add(kind.entry(class, pair))

@@ -3,6 +3,7 @@ ghost use Rattle.std.specs.Prelude.{◌≡◌, ◌+◌, ◌<◌, ◌≤◌, true
 ghost use Rattle.constant_pool.specs.Text.{is_text};
 ghost use Rattle.constant_pool.specs.Checks.{entry_at};
 ghost use Rattle.constant_pool.specs.Slots.{IsAt};
+ghost use Rattle.constant_pool.specs.declared.error.PoolError.TheVariants.{Full};
 ghost use Rattle.jvm_code.specs.Code.{code_fault};
 ghost use Rattle.jvm_link.specs.Linking.{lines_of};
 ghost use Rattle.code_assembly.specs.Assembling.{slots_of, AreLinked};
@@ -12,13 +13,12 @@ ghost use Rattle.class_builder.specs.Code.{has_texts, has_its_text, is_code};
 ghost use Rattle.class_builder.specs.Sound.{kind_of, MayJoin};
 ghost use Rattle.class_builder.specs.Mentioned.{Mentions, mentioned, mentions_in};
 ghost use Rattle.class_builder.specs.Built.{Grows, LacksRoom, is_long_text};
-ghost use Rattle.constant_pool.specs.declared.error.PoolError.TheVariants.{Full};
 
 use crate::slot_kind::SlotKind;
-use class_format::Sequence;
 use code_assembly::{References, is_code, method_code};
 use code_steps::Step;
 use constant_pool::{Entry, NoMemory, Pool, PoolError, text_size};
+use jvm_names::Sequence;
 use jvm_program::{Constant, Instruction};
 use std::alloc::Global;
 use std::marker::Model;
@@ -43,11 +43,11 @@ impl Model for SoundPool {
     ghost Value = { List Entry };
 
     ghost use Rattle.class_builder.specs.Lawful.{has_class, has_text};
-    ghost use Rattle.class_builder.specs.Sound.{IsKept};
+    ghost use Rattle.class_builder.specs.Sound.{IsKeptBuilder};
 
     ghost view = { λ p. p.pool };
 
-    ghost invariant = { λ p. IsKept p.pool p.kinds.items };
+    ghost invariant = { λ p. IsKeptBuilder p.pool p.kinds.items };
 }
 
 impl SoundPool {
@@ -151,7 +151,8 @@ impl SoundPool {
         references: &References,
     ) -> Result<Vec<u8>, PoolError>
         requires { is_code references.now self.old code.now ≡ true }
-        ensures lines { IfOk result (λ bytes. AreLinked references.now self.new code.now (lines_of bytes.items)) }
+        ensures lines { IfOk result (λ bytes.
+            AreLinked references.now self.new code.now (lines_of bytes.items)) }
         ensures sound { IfOk result (λ bytes. code_fault bytes.items ≡ None) }
         ensures grown { Grows self.old self.new (slots_of code.now) }
         ensures mentions { Mentions self.new (mentioned self.old) }

@@ -16,7 +16,8 @@ use Rattle.class_file.specs.Members.{attributes, field, method}
 
 -- CAFEBABE and the version
 unfoldable pub preamble : Format (Unit {0})
-preamble = behind (exactly cut w32 magic 0xCAFEBABE) (behind (exactly cut w16 version 0) (exactly cut w16 version 48))
+preamble = behind (exactly cut w32 magic 0xCAFEBABE)
+    (behind (exactly cut w16 version 0) (exactly cut w16 version 48))
 
 -- public, final and super
 abbrev pub class_flags : Format (Unit {0})
@@ -27,16 +28,25 @@ no_interfaces = exactly cut w16 flags 0
 
 -- the slots of the class and of the one above it
 unfoldable pub class_slots : List Entry → Format (ℕ × ℕ)
-class_slots entries = behind class_flags (before (both (this_slot entries) (λ _. super_slot entries)) no_interfaces)
+class_slots entries =
+    behind class_flags (before (both (this_slot entries) (λ _. super_slot entries)) no_interfaces)
 
 unfoldable pub members : List Entry → Format (List Member × List Method)
-members entries = before (both (counted cut w16 (field entries)) (λ _. counted cut w16 (method entries))) (attributes 0)
+members entries =
+    before (both (counted cut w16 (field entries)) (λ _. counted cut w16 (method entries)))
+    (attributes 0)
 
 abbrev pub ClassParts : Type 0
 ClassParts = List Entry × ((ℕ × ℕ) × (List Member × List Method))
 
 abbrev pub class_made : ClassParts → Class
-class_made x = record { pool = x.0; this_class = x.1.0.0; super_class = x.1.0.1; fields = x.1.1.0; methods = x.1.1.1 }
+class_made x = record {
+  pool = x.0;
+  this_class = x.1.0.0;
+  super_class = x.1.0.1;
+  fields = x.1.1.0;
+  methods = x.1.1.1;
+}
 
 abbrev pub class_parts : Class → ClassParts
 class_parts c = (c.pool, ((c.this_class, c.super_class), (c.fields, c.methods)))

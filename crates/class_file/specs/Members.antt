@@ -23,7 +23,9 @@ attributes n = exactly cut w16 attribute n
 unfoldable pub field : List Entry → Format Member
 field pool =
     mapped (λ x. record { name = x.0; desc = x.1 }) (λ f. Some (f.name, f.desc))
-    (behind public_static (before (both (text_slot pool is_member_name) (λ _. text_slot pool is_field_descriptor)) (attributes 0)))
+    (behind public_static
+    (before (both (text_slot pool is_member_name) (λ _. text_slot pool is_field_descriptor))
+    (attributes 0)))
 
 -- ---- code
 
@@ -37,7 +39,8 @@ code_length = tested code (λ n. not (is_bad_length n)) (number cut w32)
 abbrev pub code_head : Format CodeHead
 code_head =
     tested attribute (λ h. h.0 == h.1.1.1 + 12)
-    (both (number cut w32) (λ _. both (number cut w16) (λ _. both (number cut w16) (λ _. code_length))))
+    (both (number cut w32) (λ _. both (number cut w16)
+    (λ _. both (number cut w16) (λ _. code_length))))
 
 -- the code's fault as one of the class
 abbrev pub fault_of_code : Option CodeFault → Option ClassFault
@@ -48,17 +51,34 @@ code_bytes n = checked (λ bytes. fault_of_code (code_fault bytes)) (raw cut n)
 
 -- no exception handlers and no attributes follow
 unfoldable pub code_attribute : Format (CodeHead × List ℕ)
-code_attribute = both code_head (λ h. before (before (code_bytes h.1.1.1) (attributes 0)) (attributes 0))
+code_attribute =
+    both code_head (λ h. before (before (code_bytes h.1.1.1) (attributes 0)) (attributes 0))
 
 -- name, descriptor, the name of the attribute, and the attribute
 abbrev pub MethodParts : Type 0
 MethodParts = (ℕ × ℕ) × (ℕ × (CodeHead × List ℕ))
 
 abbrev pub method_made : MethodParts → Method
-method_made x = record { name = x.0.0; desc = x.0.1; attr = x.1.0; stack = x.1.1.0.1.0; locals = x.1.1.0.1.1.0; code = x.1.1.1 }
+method_made x = record {
+  name = x.0.0;
+  desc = x.0.1;
+  attr = x.1.0;
+  stack = x.1.1.0.1.0;
+  locals = x.1.1.0.1.1.0;
+  code = x.1.1.1;
+}
 
 abbrev pub method_parts : Method → MethodParts
-method_parts m = ((m.name, m.desc), (m.attr, ((length m.code + 12, (m.stack, (m.locals, length m.code))), m.code)))
+method_parts m = (
+  (m.name, m.desc),
+  (
+    m.attr,
+    (
+      (length m.code + 12, (m.stack, (m.locals, length m.code))),
+      m.code,
+    ),
+  ),
+)
 
 unfoldable pub method : List Entry → Format Method
 method pool =

@@ -35,7 +35,8 @@ super_slot pool = tested index (λ n. is_object (class_text_at pool n)) (number 
 
 -- a method of the class itself gives an int or nothing
 abbrev pub is_own_descriptor : List ℕ → Bool
-is_own_descriptor descriptor = is_method_descriptor descriptor && not (same_text descriptor (codes "(I)C"))
+is_own_descriptor descriptor = is_method_descriptor descriptor
+    && not (same_text descriptor (codes "(I)C"))
 
 -- the name of the attribute with a method's code
 abbrev pub code_name_fault : Option (List ℕ) → Option ℕ

@@ -5,10 +5,12 @@ ghost use Rattle.class_file.specs.ClassFile.{Spells};
 
 /// A class has one spelling.
 pub fn one_spelling()
-    ensures { (c : Class) (first second : List ℕ) → Spells first c → Spells second c → second ≡ first }
+    ensures { (c : Class) (first second : List ℕ) → Spells first c → Spells second c
+        → second ≡ first }
 {}
 
 /// Bytes spell one class.
 pub fn one_class()
-    ensures { (bytes : List ℕ) (first second : Class) → Spells bytes first → Spells bytes second → second ≡ first }
+    ensures { (bytes : List ℕ) (first second : Class) → Spells bytes first → Spells bytes second
+        → second ≡ first }
 {}

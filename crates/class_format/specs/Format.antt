@@ -41,7 +41,8 @@ abbrev pub raw : ℕ → ℕ → Format (List ℕ)
 raw cut n = record {
   spell = λ bytes. bytes;
   fits = λ bytes. length bytes == n;
-  read = λ bytes. if nat_lt (length bytes) n then missed cut bytes else Ok (take n bytes, drop n bytes);
+  read = λ bytes. if nat_lt (length bytes) n then missed cut bytes
+      else Ok (take n bytes, drop n bytes);
 }
 
 -- no bytes at all
@@ -75,10 +76,12 @@ abbrev pub chain_fits : {S A : Type 0} → (S → ℕ → Format A) → (S → A
 chain_fits g next s [] = true
 chain_fits g next s (x ∷ xs) = (g s (length xs)).fits x && chain_fits g next (next s x) xs
 
-unfoldable pub chain_reading : {S A : Type 0} → (S → ℕ → Format A) → (S → A → S) → S → ℕ → List ℕ → Reading (List A)
+unfoldable pub chain_reading : {S A : Type 0} → (S → ℕ → Format A) → (S → A → S) → S → ℕ → List ℕ
+    → Reading (List A)
 chain_reading g next s zero bytes = Ok ([], bytes)
 chain_reading g next s (suc n) bytes =
-    (g s n).read bytes >>= λ x. chain_reading g next (next s x.0) n x.1 >>= λ xs. Ok (x.0 ∷ xs.0, xs.1)
+    (g s n).read bytes >>= λ x. chain_reading g next (next s x.0) n x.1 >>= λ xs.
+    Ok (x.0 ∷ xs.0, xs.1)
 
 abbrev pub chain : {S A : Type 0} → (S → ℕ → Format A) → (S → A → S) → S → ℕ → Format (List A)
 chain g next s n = record {
@@ -114,7 +117,8 @@ abbrev pub found : {A : Type 0} → ℕ → ℕ → Option A → List ℕ → Re
 found kind left None rest = Err (record { kind = kind; left = left })
 found kind left (Some a) rest = Ok (a, rest)
 
-abbrev pub parsed : {A B : Type 0} → ℕ → ℕ → (B → Option A) → (A → Bool) → (A → B) → Format B → Format A
+abbrev pub parsed : {A B : Type 0} → ℕ → ℕ → (B → Option A) → (A → Bool) → (A → B) → Format B
+    → Format A
 parsed kind back parse test print f = record {
   spell = λ a. f.spell (print a);
   fits = λ a. f.fits (print a) && test a;
@@ -218,4 +222,7 @@ whole f kind bytes = read_then_end kind (f.read bytes)
 
 -- the field at fault among bytes that begin at a place
 abbrev pub fault_at : ℕ → ℕ → Miss → ClassFault
-fault_at start size miss = record { kind = miss.kind; at = min (start + (size - miss.left)) 0xFFFF_FFFF }
+fault_at start size miss = record {
+  kind = miss.kind;
+  at = min (start + (size - miss.left)) 0xFFFF_FFFF;
+}

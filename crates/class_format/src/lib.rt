@@ -4,7 +4,6 @@
 mod failure;
 mod fields;
 mod miss;
-mod sequence;
 
 pub use failure::Failure;
 pub use fields::{
@@ -13,4 +12,3 @@ pub use fields::{
 };
 pub use miss::Miss;
 pub use nv_faults::ClassFault;
-pub use sequence::Sequence;

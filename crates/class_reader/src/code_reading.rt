@@ -24,7 +24,11 @@ pub struct CodeHead {
 /// The attribute: what it begins with, and the code.
 #[tactic(auto, unfolding(class_file::specs::Members::code_attribute))]
 pub fn code_attribute_of(alloc: Global, bytes: &[u8]) -> Result<((CodeHead, &[u8]), &[u8]), Failure>
-    ensures { Gives (λ x. (((x.0.0.length, (x.0.0.stack, (x.0.0.locals, x.0.0.code_length))), x.0.1.now), x.1.now)) result (format.code_attribute.read bytes.now) }
+    ensures { Gives
+        (λ x. (
+          ((x.0.0.length, (x.0.0.stack, (x.0.0.locals, x.0.0.code_length))), x.0.1.now),
+          x.1.now,
+        )) result (format.code_attribute.read bytes.now) }
 {
     let (head, rest) = code_head_of(bytes)?;
     let (code, rest) = code_of(alloc, head.code_length as usize, rest)?;
@@ -34,7 +38,8 @@ pub fn code_attribute_of(alloc: Global, bytes: &[u8]) -> Result<((CodeHead, &[u8
 }
 
 fn code_head_of(bytes: &[u8]) -> Result<(CodeHead, &[u8]), Failure>
-    ensures { Gives (λ x. ((x.0.length, (x.0.stack, (x.0.locals, x.0.code_length))), x.1.now)) result (format.code_head.read bytes.now) }
+    ensures { Gives (λ x. ((x.0.length, (x.0.stack, (x.0.locals, x.0.code_length))), x.1.now))
+        result (format.code_head.read bytes.now) }
 {
     let (length, rest) = word_of(ClassFault::CUT, bytes)?;
     let (stack, rest) = half_of(ClassFault::CUT, rest)?;

@@ -1,15 +1,16 @@
 //! Fields and methods from bytes (JVM Specification, 4.5 and 4.6).
 ghost use Rattle.std.specs.Prelude.{◌≡◌};
+ghost use Rattle.std.specs.Int.{w16};
 ghost use Rattle.class_format.specs.Gives.{Gives};
 ghost use Rattle.class_format.specs.Format.{counted, repeated};
-ghost use Rattle.std.specs.Int.{w16};
 ghost use Rattle.class_file.specs.Members as format;
 
 use crate::code_reading::{code_attribute_of, no_attributes};
 use crate::slots::{code_name_of, field_descriptor_of, name_of, own_descriptor_of};
-use class_format::{ClassFault, Failure, Sequence, exact_half_of, half_of};
+use class_format::{ClassFault, Failure, exact_half_of, half_of};
 use constant_pool::Slots;
 use jvm_code::{Member, Method};
+use jvm_names::Sequence;
 use std::alloc::Global;
 
 /// Public and static.
@@ -21,7 +22,8 @@ pub fn fields_of<'a>(
     pool: &Slots,
     bytes: &'a [u8],
 ) -> Result<(Vec<Member>, &'a [u8]), Failure>
-    ensures { Gives (λ x. (x.0.items, x.1.now)) result ((counted 3 w16 (format.field pool.now)).read bytes.now) }
+    ensures { Gives (λ x. (x.0.items, x.1.now)) result
+        ((counted 3 w16 (format.field pool.now)).read bytes.now) }
 {
     let (count, rest) = half_of(ClassFault::CUT, bytes)?;
     so_many_fields(alloc, pool, count, rest)
@@ -33,7 +35,8 @@ fn so_many_fields<'a>(
     count: u16,
     bytes: &'a [u8],
 ) -> Result<(Vec<Member>, &'a [u8]), Failure>
-    ensures { Gives (λ x. (x.0.items, x.1.now)) result ((repeated (format.field pool.now) count).read bytes.now) }
+    ensures { Gives (λ x. (x.0.items, x.1.now)) result
+        ((repeated (format.field pool.now) count).read bytes.now) }
 {
     let mut fields = Vec::new(alloc);
     let mut rest = bytes;
@@ -70,7 +73,8 @@ pub fn methods_of<'a>(
     pool: &Slots,
     bytes: &'a [u8],
 ) -> Result<(Vec<Method>, &'a [u8]), Failure>
-    ensures { Gives (λ x. (x.0.items, x.1.now)) result ((counted 3 w16 (format.method pool.now)).read bytes.now) }
+    ensures { Gives (λ x. (x.0.items, x.1.now)) result
+        ((counted 3 w16 (format.method pool.now)).read bytes.now) }
 {
     let (count, rest) = half_of(ClassFault::CUT, bytes)?;
     so_many_methods(alloc, pool, count, rest)
@@ -82,7 +86,8 @@ fn so_many_methods<'a>(
     count: u16,
     bytes: &'a [u8],
 ) -> Result<(Vec<Method>, &'a [u8]), Failure>
-    ensures { Gives (λ x. (x.0.items, x.1.now)) result ((repeated (format.method pool.now) count).read bytes.now) }
+    ensures { Gives (λ x. (x.0.items, x.1.now)) result
+        ((repeated (format.method pool.now) count).read bytes.now) }
 {
     let mut methods = Vec::new(alloc);
     let mut rest = bytes;

@@ -6,9 +6,10 @@ ghost use Rattle.class_file.specs.ClassFile as format;
 use crate::code_reading::no_attributes;
 use crate::member_reading::{fields_of, methods_of};
 use crate::slots::{super_of, this_of};
-use class_format::{ClassFault, Failure, Sequence, exact_half_of, exact_word_of};
+use class_format::{ClassFault, Failure, exact_half_of, exact_word_of};
 use constant_pool::{Slots, entries_of};
 use jvm_code::{Class, Member, Method};
+use jvm_names::Sequence;
 use std::alloc::Global;
 
 const MAGIC: u32 = 0xCAFE_BABE;
@@ -67,7 +68,8 @@ fn members_of<'a>(
     pool: &Slots,
     bytes: &'a [u8],
 ) -> Result<((Vec<Member>, Vec<Method>), &'a [u8]), Failure>
-    ensures { Gives (λ x. ((x.0.0.items, x.0.1.items), x.1.now)) result ((format.members pool.now).read bytes.now) }
+    ensures { Gives (λ x. ((x.0.0.items, x.0.1.items), x.1.now)) result
+        ((format.members pool.now).read bytes.now) }
 {
     let (fields, rest) = fields_of(alloc, pool, bytes)?;
     let (methods, rest) = methods_of(alloc, pool, rest)?;

@@ -22,7 +22,8 @@ pub fn read_class(alloc: Global, b: &[u8]) -> Result<Class, ReadError>
     ensures refused { IfErr result (IsAnswer (format.class_fault b.now)) }
     ensures accepted { OnOk result (format.class_fault b.now ≡ None) }
     ensures spelled { IfOk result (λ c. format.Spells b.now c) }
-    ensures found { (c : Class) → format.Spells b.now c → (format.class_fault b.now ≡ None) × IfOk result (λ d. d ≡ c) }
+    ensures found { (c : Class) → format.Spells b.now c → (format.class_fault b.now ≡ None)
+        × IfOk result (λ d. d ≡ c) }
 {
     match whole_class_of(alloc, b) {
         Ok(class) => Ok(class),

@@ -13,7 +13,8 @@ use constant_pool::Slots;
 
 /// The slot of the name of a field or method.
 pub fn name_of<'a>(pool: &Slots, bytes: &'a [u8]) -> Result<(u16, &'a [u8]), Failure>
-    ensures { Gives (λ x. (x.0, x.1.now)) result ((format.text_slot pool.now profile.is_member_name).read bytes.now) }
+    ensures { Gives (λ x. (x.0, x.1.now)) result
+        ((format.text_slot pool.now profile.is_member_name).read bytes.now) }
 {
     let (slot, rest) = half_of(ClassFault::CUT, bytes)?;
     settled_slot(slot, rest, bytes, pool.member_name_fault(slot))
@@ -21,7 +22,8 @@ pub fn name_of<'a>(pool: &Slots, bytes: &'a [u8]) -> Result<(u16, &'a [u8]), Fai
 
 /// The slot of a field's descriptor.
 pub fn field_descriptor_of<'a>(pool: &Slots, bytes: &'a [u8]) -> Result<(u16, &'a [u8]), Failure>
-    ensures { Gives (λ x. (x.0, x.1.now)) result ((format.text_slot pool.now profile.is_field_descriptor).read bytes.now) }
+    ensures { Gives (λ x. (x.0, x.1.now)) result
+        ((format.text_slot pool.now profile.is_field_descriptor).read bytes.now) }
 {
     let (slot, rest) = half_of(ClassFault::CUT, bytes)?;
     settled_slot(slot, rest, bytes, field_descriptor_fault(pool.text(slot)))
@@ -29,7 +31,8 @@ pub fn field_descriptor_of<'a>(pool: &Slots, bytes: &'a [u8]) -> Result<(u16, &'
 
 /// The slot of a method's descriptor.
 pub fn own_descriptor_of<'a>(pool: &Slots, bytes: &'a [u8]) -> Result<(u16, &'a [u8]), Failure>
-    ensures { Gives (λ x. (x.0, x.1.now)) result ((format.text_slot pool.now format.is_own_descriptor).read bytes.now) }
+    ensures { Gives (λ x. (x.0, x.1.now)) result
+        ((format.text_slot pool.now format.is_own_descriptor).read bytes.now) }
 {
     let (slot, rest) = half_of(ClassFault::CUT, bytes)?;
     settled_slot(slot, rest, bytes, own_descriptor_fault(pool.text(slot)))
@@ -69,7 +72,8 @@ fn settled_slot<'a>(
     bytes: &[u8],
     fault: Option<u32>,
 ) -> Result<(u16, &'a [u8]), Failure>
-    ensures { Gives (λ x. (x.0, x.1.now)) result (settled (length bytes.now) (format.fault_here fault) (slot, rest.now)) }
+    ensures { Gives (λ x. (x.0, x.1.now)) result
+        (settled (length bytes.now) (format.fault_here fault) (slot, rest.now)) }
 {
     match fault {
         None => Ok((slot, rest)),

@@ -9,7 +9,7 @@ use Rattle.name_resolution.specs.Kept.{IsClass}
 use Rattle.class_set.specs.declared.loaded.Loaded.{Loaded}
 use Rattle.class_set.specs.declared.loaded.Loaded.TheVariants.{Faulty}
 use Rattle.class_set.specs.ClassSets.{names_asked, class_in, next, set_of, grown}
-use Rattle.class_set.specs.Kept.{IsKept}
+use Rattle.class_set.specs.Kept.{IsKeptSet}
 use Rattle.class_set.specs.Waiting.{fresh, Queue, IsOnce, file_found}
 use Rattle.class_set.proofs.WaitingLemmas.{grown-zero, grown-none, grown-fault, grown-class, grown-once}
 
@@ -23,12 +23,12 @@ found_there files (Some f) (Some g) name found is same finds =
 
 -- ---- a set that goes on
 
-pub kept_set : (classes : List Class) → All IsClass classes → IsKept (set_of classes)
+pub kept_set : (classes : List Class) → All IsClass classes → IsKeptSet (set_of classes)
 kept_set [] kept = tt
 kept_set (c ∷ classes) kept = kept
 
-pub kept_loaded : (loaded : Loaded) (classes : List Class) → loaded ≡ set_of classes → All IsClass classes → IsKept loaded
-kept_loaded loaded classes is kept = subst IsKept (sym is) (kept_set classes kept)
+pub kept_loaded : (loaded : Loaded) (classes : List Class) → loaded ≡ set_of classes → All IsClass classes → IsKeptSet loaded
+kept_loaded loaded classes is kept = subst IsKeptSet (sym is) (kept_set classes kept)
 
 one_more : (k : ℕ) → k < 1025 → 1025 - k ≡ suc (1025 - (k + 1))
 one_more k lt = omega arith

@@ -56,14 +56,16 @@ pub record Found : Type 0 where
 
 abbrev pub found_or : Option (List ℕ) → List (List ℕ) → List (List ℕ) → Option Found → Option Found
 found_or None asked waiting others = others
-found_or (Some bytes) asked waiting others = Some (record { bytes = bytes; asked = asked; waiting = waiting })
+found_or (Some bytes) asked waiting others =
+    Some (record { bytes = bytes; asked = asked; waiting = waiting })
 
 -- the file of the first waiting name that was not asked for before and has one
 unfoldable pub next : Files → List (List ℕ) → List (List ℕ) → Option Found
 next files asked [] = None
 next files asked (name ∷ waiting) =
     if is_among asked name then next files asked waiting
-    else found_or (files (file_of name)) (asked ++ name ∷ []) waiting (next files (asked ++ name ∷ []) waiting)
+    else found_or (files (file_of name)) (asked ++ name ∷ []) waiting
+    (next files (asked ++ name ∷ []) waiting)
 
 -- ---- the set
 

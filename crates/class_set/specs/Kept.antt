@@ -4,7 +4,7 @@ use Rattle.name_resolution.specs.Kept.{IsClass}
 use Rattle.class_set.specs.declared.loaded.Loaded.{Loaded}
 use Rattle.class_set.specs.declared.loaded.Loaded.TheVariants.{NoFile, Faulty, Classes}
 
-abbrev pub IsKept : Loaded → Type 0
-IsKept NoFile = Unit {0}
-IsKept (Faulty number fault) = Unit {0}
-IsKept (Classes classes) = All IsClass classes
+abbrev pub IsKeptSet : Loaded → Type 0
+IsKeptSet NoFile = Unit {0}
+IsKeptSet (Faulty number fault) = Unit {0}
+IsKeptSet (Classes classes) = All IsClass classes

@@ -7,7 +7,8 @@ use Rattle.class_set.specs.ClassSets.{is_among, Found, next}
 -- those of names that are none of some, nor of those before them
 abbrev pub fresh : List (List ℕ) → List (List ℕ) → List (List ℕ)
 fresh known [] = []
-fresh known (name ∷ names) = if is_among known name then fresh known names else name ∷ fresh (known ++ name ∷ []) names
+fresh known (name ∷ names) = if is_among known name then fresh known names
+    else name ∷ fresh (known ++ name ∷ []) names
 
 -- the names that were asked for, and those that wait
 pub record Queue : Type 0 where
@@ -30,4 +31,5 @@ abbrev pub file_found : Queue → Vec ℕ Global → Found
 file_found q bytes = record { bytes = bytes.items; asked = q.asked; waiting = q.waiting }
 
 abbrev pub GivesFile : Option Files → Queue → Option (Vec ℕ Global) → Queue → Type 0
-GivesFile told old found new = (files : Files) → told ≡ Some files → next files old.asked old.waiting ≡ option_map (file_found new) found
+GivesFile told old found new = (files : Files) → told ≡ Some files
+    → next files old.asked old.waiting ≡ option_map (file_found new) found

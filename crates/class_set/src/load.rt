@@ -3,13 +3,13 @@ ghost use Rattle.std.specs.Prelude.{◌≡◌, ◌++◌, ◌∷◌, [], IfOk, On
 ghost use Rattle.nv_outside.specs.Faults.{CountsFailure, shelf_failed};
 ghost use Rattle.nv_outside.specs.Files.{Files, SameFiles};
 ghost use Rattle.class_set.specs.ClassSets.{class_set, set_of};
-ghost use Rattle.class_set.specs.Kept.{IsKept};
+ghost use Rattle.class_set.specs.Kept.{IsKeptSet};
 
 use crate::loaded::Loaded;
 use crate::names::Names;
 use crate::reading::class_of;
-use class_format::Sequence;
 use jvm_code::Class;
+use jvm_names::Sequence;
 use nv_outside::{Shelf, ShelfError};
 use std::alloc::{AllocError, Global};
 
@@ -24,8 +24,9 @@ const CLASSES: u32 = 1025;
 ///
 /// Failed where the shelf failed. NoMemory.
 pub fn load_set<H: Shelf>(alloc: Global, shelf: &mut H, name: &str) -> Result<Loaded, ShelfError>
-    ensures loaded { IfOk result (λ loaded. (files : Files) → H.files shelf.old ≡ Some files → loaded ≡ class_set files name.now) }
-    ensures kept { IfOk result IsKept }
+    ensures loaded { IfOk result (λ loaded. (files : Files) → H.files shelf.old ≡ Some files
+        → loaded ≡ class_set files name.now) }
+    ensures kept { IfOk result IsKeptSet }
     ensures same { SameFiles (H.files shelf.old) (H.files shelf.new) }
     ensures count { CountsFailure (shelf_failed result) (H.faults shelf.old) (H.faults shelf.new) }
 {

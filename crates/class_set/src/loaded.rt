@@ -1,5 +1,6 @@
-use class_format::{ClassFault, Sequence};
+use class_format::ClassFault;
 use jvm_code::Class;
+use jvm_names::Sequence;
 
 /// What loading a set of classes came to.
 #[derive(Drop)]

@@ -29,7 +29,8 @@ impl Model for Names {
 
     ghost view = { λ n. queue n.asked (texts n.names.keys) };
 
-    ghost invariant = { λ n. (n.asked ≤ length n.names.keys) × IsOnce (queue n.asked (texts n.names.keys)) };
+    ghost invariant = { λ n. (n.asked ≤ length n.names.keys)
+        × IsOnce (queue n.asked (texts n.names.keys)) };
 }
 
 impl Names {
@@ -52,7 +53,8 @@ impl Names {
         ensures found { IfOk result (λ found. GivesFile (H.files shelf.old) self.old found self.new) }
         ensures once { IsOnce self.new }
         ensures same { SameFiles (H.files shelf.old) (H.files shelf.new) }
-        ensures count { CountsFailure (shelf_failed result) (H.faults shelf.old) (H.faults shelf.new) }
+        ensures count { CountsFailure (shelf_failed result) (H.faults shelf.old)
+            (H.faults shelf.new) }
     {
         while self.asked < self.names.len() {
             let name = self.names[self.asked].as_str();
@@ -69,7 +71,8 @@ impl Names {
     pub fn add(&mut self, alloc: Global, class: &Class) -> Result<(), AllocError>
         requires { IsClass class.now }
         ensures asked { OnOk result (self.new.asked ≡ self.old.asked) }
-        ensures waiting { OnOk result (self.new.waiting ≡ self.old.waiting ++ fresh (self.old.asked ++ self.old.waiting) (names_asked class.now)) }
+        ensures waiting { OnOk result (self.new.waiting ≡ self.old.waiting
+            ++ fresh (self.old.asked ++ self.old.waiting) (names_asked class.now)) }
     {
         let pool = class.pool.as_slice();
         for entry in pool {
@@ -83,7 +86,8 @@ impl Names {
     // Puts a name behind the others, where it is not there.
     fn insert(&mut self, name: String) -> Result<(), AllocError>
         ensures asked { OnOk result (self.new.asked ≡ self.old.asked) }
-        ensures waiting { OnOk result (self.new.waiting ≡ self.old.waiting ++ fresh (self.old.asked ++ self.old.waiting) (string_bytes name ∷ [])) }
+        ensures waiting { OnOk result (self.new.waiting ≡ self.old.waiting
+            ++ fresh (self.old.asked ++ self.old.waiting) (string_bytes name ∷ [])) }
     {
         self.names.insert(name)?;
         Ok(())

@@ -1,9 +1,8 @@
 //! Steps that are assembled to the code of a method.
-use class_format::Sequence;
 use code_assembly::{References, method_code};
 use code_steps::Step;
 use constant_pool::Pool;
-use jvm_code::{BranchName, IntArithmetic, ReturnName, StackName};
+use jvm_names::{BranchName, IntArithmetic, ReturnName, Sequence, StackName};
 use jvm_program::{Constant, Instruction, Kind, LocalKind};
 use std::test::Fail;
 

@@ -55,8 +55,10 @@ fn two_calls_come_back(rt: HostRuntime) -> Result<(), Fail> {
 // Calls until there are 64 frames: how many.
 fn filled(frames: &mut Frames) -> u32
     requires room { HasRoom 4 4 frames.old.current }
-    requires waiting { frames.old.waiting ≡ record { frames = []; locals_limit = 4; operands_limit = 4 } }
-    ensures { HasRoom frames.new.waiting.locals_limit frames.new.waiting.operands_limit frames.new.current }
+    requires waiting { frames.old.waiting
+        ≡ record { frames = []; locals_limit = 4; operands_limit = 4 } }
+    ensures { HasRoom frames.new.waiting.locals_limit frames.new.waiting.operands_limit
+        frames.new.current }
 {
     let mut calls = 0;
     for i in 0..100 {
@@ -71,7 +73,8 @@ fn filled(frames: &mut Frames) -> u32
 
 // Returns until no frame waits: how many.
 fn emptied(frames: &mut Frames) -> u32
-    requires { HasRoom frames.old.waiting.locals_limit frames.old.waiting.operands_limit frames.old.current }
+    requires { HasRoom frames.old.waiting.locals_limit frames.old.waiting.operands_limit
+        frames.old.current }
 {
     let mut returns = 0;
     for i in 0..100 {

@@ -4,8 +4,8 @@ ghost use Rattle.jvm_program.specs.declared.value.Value.TheVariants.{Int as int,
 ghost use Rattle.jvm_program.specs.Values.{is_long};
 ghost use Rattle.jvm_program.specs.Shuffles.{shuffled, forms_of};
 
-use jvm_code::{Conversion, IntArithmetic, IntDivision, IntShift, LongDivision, StackName};
 use jvm_frames::{NoMemory, Operands, Trap, keys_rise};
+use jvm_names::{Conversion, IntArithmetic, IntDivision, IntShift, LongDivision, StackName};
 use jvm_program::Value;
 use std::alloc::Global;
 use std::test::Fail;
@@ -45,7 +45,8 @@ fn with_ints(alloc: Global, a: u32, b: u32) -> Result<Operands, NoMemory>
 }
 
 fn with_longs(alloc: Global, a: u64, b: u64) -> Result<Operands, NoMemory>
-    ensures { IfOk result (λ operands. operands ≡ record { items = long b ∷ long a ∷ []; limit = 4 }) }
+    ensures { IfOk result (λ operands. operands
+        ≡ record { items = long b ∷ long a ∷ []; limit = 4 }) }
 {
     let mut operands = Operands::new(alloc, 4)?;
     operands.push(Value::Long(a));
@@ -177,7 +178,8 @@ fn words_compute_as_the_specification_says(rt: HostRuntime) -> Result<(), Fail> 
 }
 
 fn moved(alloc: Global, name: StackName) -> Result<String, NoMemory>
-    requires { IsSomeAnd (shuffled is_long (forms_of name) (int 2 ∷ int 1 ∷ [])) (λ items. length items ≤ 4) }
+    requires { IsSomeAnd (shuffled is_long (forms_of name) (int 2 ∷ int 1 ∷ []))
+        (λ items. length items ≤ 4) }
 {
     let mut operands = with_ints(alloc, 1, 2)?;
     operands.shuffle(name);

@@ -1,6 +1,7 @@
 //! Methods made by hand, with their verdicts.
-use class_format::Sequence;
-use jvm_code::{ArrayName, BranchName, IntArithmetic, ReturnName, StackName, TableSwitch};
+use jvm_names::{
+    ArrayName, BranchName, IntArithmetic, ReturnName, Sequence, StackName, TableSwitch,
+};
 use jvm_program::{ArrayKind, Constant, Instruction, Kind, LinkedLine, LinkedMethod, LocalKind};
 use std::alloc::{AllocError, Global};
 use std::test::Fail;

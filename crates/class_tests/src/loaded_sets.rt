@@ -1,9 +1,9 @@
 //! The classes that a command works on, as they are loaded.
 use crate::built_classes::{Slot, bytes_of, with};
-use class_format::Sequence;
 use class_set::{Loaded, load_set};
 use constant_pool::class_name_of;
 use jvm_code::Class;
+use jvm_names::Sequence;
 use nv_outside::{MemShelf, ShelfError};
 use std::alloc::Global;
 use std::test::Fail;

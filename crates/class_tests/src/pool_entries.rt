@@ -2,8 +2,9 @@
 ghost use Rattle.std.specs.Prelude.{◌≡◌, IfOk, false};
 ghost use Rattle.constant_pool.specs.Slots.{is_rest};
 
-use class_format::{ClassFault, Sequence};
+use class_format::ClassFault;
 use constant_pool::{Entry, NoMemory, Pool, ReadError, read_pool};
+use jvm_names::Sequence;
 use std::alloc::Global;
 use std::test::Fail;
 

@@ -15,7 +15,8 @@ abbrev pub word : ℕ → List ℕ
 word n = to_be_bytes w32 n
 
 abbrev pub entry_bytes : Entry → List ℕ
-entry_bytes (Utf8 characters) = (1 ∷ to_be_bytes w16 (length (text_bytes characters))) ++ text_bytes characters
+entry_bytes (Utf8 characters) = (1 ∷ to_be_bytes w16 (length (text_bytes characters)))
+    ++ text_bytes characters
 entry_bytes (Integer n) = 3 ∷ to_be_bytes w32 (cast_unsigned w32 n)
 entry_bytes (Long n) = 5 ∷ to_be_bytes w64 (cast_unsigned w64 n)
 entry_bytes LongRest = []
@@ -34,7 +35,8 @@ has_short_code m = not (nat_lt 65535 (length m.code))
 unfoldable pub method_bytes : Method → List ℕ
 method_bytes m =
     halves (9 ∷ m.name ∷ m.desc ∷ 1 ∷ m.attr ∷ [])
-    ++ word (length m.code + 12) ++ halves (m.stack ∷ m.locals ∷ []) ++ word (length m.code) ++ m.code ++ halves (0 ∷ 0 ∷ [])
+    ++ word (length m.code + 12) ++ halves (m.stack ∷ m.locals ∷ []) ++ word (length m.code)
+    ++ m.code ++ halves (0 ∷ 0 ∷ [])
 
 abbrev pub class_bytes : Class → List ℕ
 class_bytes c =

@@ -42,21 +42,24 @@ fn append_entry(bytes: &mut Vec<u8>, entry: &Entry) -> Result<(), NoMemory>
 
 fn append_utf8(bytes: &mut Vec<u8>, text: &[u16]) -> Result<(), NoMemory>
     requires { length (text_bytes text.now) ≤ 65535 }
-    ensures { OnOk result (bytes.new.items ≡ bytes.old.items ++ ((1 ∷ to_be_bytes w16 (length (text_bytes text.now))) ++ text_bytes text.now)) }
+    ensures { OnOk result (bytes.new.items ≡ bytes.old.items
+        ++ ((1 ∷ to_be_bytes w16 (length (text_bytes text.now))) ++ text_bytes text.now)) }
 {
     append_tagged(bytes, 1, &[text_size(text) as u16])?;
     append_text(bytes, text)
 }
 
 fn append_integer(bytes: &mut Vec<u8>, number: i32) -> Result<(), NoMemory>
-    ensures { OnOk result (bytes.new.items ≡ bytes.old.items ++ (3 ∷ to_be_bytes w32 (cast_unsigned w32 number))) }
+    ensures { OnOk result (bytes.new.items ≡ bytes.old.items
+        ++ (3 ∷ to_be_bytes w32 (cast_unsigned w32 number))) }
 {
     bytes.push(3)?;
     bytes.extend_from_slice(&number.cast_unsigned().to_be_bytes())
 }
 
 fn append_long(bytes: &mut Vec<u8>, number: i64) -> Result<(), NoMemory>
-    ensures { OnOk result (bytes.new.items ≡ bytes.old.items ++ (5 ∷ to_be_bytes w64 (cast_unsigned w64 number))) }
+    ensures { OnOk result (bytes.new.items ≡ bytes.old.items
+        ++ (5 ∷ to_be_bytes w64 (cast_unsigned w64 number))) }
 {
     bytes.push(5)?;
     bytes.extend_from_slice(&number.cast_unsigned().to_be_bytes())

@@ -34,7 +34,8 @@ pub fn write_class(alloc: Global, c: &Class) -> Result<Vec<u8>, WriteError>
     requires { limit c.now ≡ None → format.class.fits c.now ≡ true }
     ensures spelled { IfOk result (λ bytes. format.Spells bytes.items c.now) }
     ensures sound { IfOk result (λ bytes. format.class_fault bytes.items ≡ None) }
-    ensures only_class { IfOk result (λ bytes. (d : Class) → format.Spells bytes.items d → d ≡ c.now) }
+    ensures only_class { IfOk result (λ bytes. (d : Class) → format.Spells bytes.items d
+        → d ≡ c.now) }
     ensures too_long { (k : ℕ) → (result ≡ Err (TooLong k)) ↔ (limit c.now ≡ Some k) }
 {
     if let Some(limit) = limit_of(c) {

@@ -10,10 +10,11 @@ use Rattle.code_steps.specs.declared.step.Step.{Step}
 use Rattle.code_steps.specs.declared.step.Step.TheVariants.{Does, Skips, Leaves, Selects}
 use Rattle.code_steps.specs.Widths.{width, bytes_before, size}
 use Rattle.code_steps.specs.Placing.{placed_instruction, laid}
+use Rattle.code_steps.specs.Switches.{needs_no_padding, switches_are_placed}
+use Rattle.code_steps.proofs.Offsets.{rest-begins}
 use Rattle.code_assembly.specs.declared.references.References.{References}
-use Rattle.code_assembly.specs.Assembling.{has_operation, switch_has_operation, step_has_operation, have_operations, needs_no_padding, switches_are_placed, can_be_assembled, is_method}
+use Rattle.code_assembly.specs.Assembling.{has_operation, switch_has_operation, step_has_operation, have_operations, can_be_assembled, is_method}
 use Rattle.code_assembly.specs.Operations.{is_start, step_fits, first_fits, steps_fit}
-use Rattle.code_assembly.proofs.Offsets.{rest-begins}
 
 -- ---- truths in another order
 

@@ -1,18 +1,19 @@
 -- Code that is put together of two parts, where no branch of the first goes past its end.
 use Rattle.std.proofs.Common.{◌≡◌, ℕ, zero, suc, ◌+◌, ◌≤◌, ◌^◌, Bool, true, false, ◌&&◌, ◌||◌, ◌==◌, nat_le, nat_lt, if◌then◌else◌, List, [], ◌∷◌, ◌++◌, length, Option, Some, is_some, refl, sym, ap, ◌∙◌, add-zero, add_assoc, le-leb, leb-true, length-append, arith}
 use Rattle.std.proofs.lemmas.Bool.{and_parts}
-use Rattle.jvm_code.specs.declared.class.Class.{Class}
-use Rattle.jvm_code.specs.declared.names.branch_name.BranchName.{BranchName}
+use Rattle.jvm_names.specs.declared.branch_name.BranchName.{BranchName}
 use Rattle.jvm_program.specs.declared.instruction.Instruction.TheVariants.{Branch}
 use Rattle.jvm_program.specs.declared.linked_line.LinkedLine.{LinkedLine}
 use Rattle.jvm_program.specs.Program.{line_in}
+use Rattle.jvm_code.specs.declared.class.Class.{Class}
 use Rattle.code_steps.specs.declared.step.Step.{Step}
 use Rattle.code_steps.specs.declared.step.Step.TheVariants.{Does, Skips, Leaves, Selects}
 use Rattle.code_steps.specs.Outcomes.{stays_within}
 use Rattle.code_steps.specs.Placing.{placed_instruction, placed_line, laid}
 use Rattle.code_steps.specs.Widths.{width, bytes_before, size}
+use Rattle.code_steps.specs.Switches.{needs_no_padding, switches_are_placed}
 use Rattle.code_assembly.specs.declared.references.References.{References}
-use Rattle.code_assembly.specs.Assembling.{step_has_operation, have_operations, needs_no_padding, switches_are_placed, AreKnown}
+use Rattle.code_assembly.specs.Assembling.{step_has_operation, have_operations, AreKnown}
 
 pub size-joined : (first second : List Step) → size (first ++ second) ≡ size first + size second
 size-joined [] second = omega arith

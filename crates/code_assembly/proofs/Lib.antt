@@ -1,5 +1,4 @@
 pub mod Pools
-pub mod Offsets
 pub mod Switches
 pub mod Forms
 pub mod Pushes
@@ -9,6 +8,5 @@ pub mod Taking
 pub mod Spelled
 pub mod StartLemmas
 pub mod FitLemmas
-pub mod SizeLemmas
 pub mod Standing
 pub mod JoinLemmas

@@ -3,30 +3,30 @@ use Rattle.std.proofs.Common.{◌≡◌, ℕ, zero, suc, ◌+◌, ◌-◌, ◌^�
 use Rattle.std.specs.List.{list_all}
 use Rattle.std.proofs.lemmas.Bool.{and_parts}
 use Rattle.std.proofs.lemmas.List.{drop_all}
+use Rattle.jvm_names.specs.declared.branch_name.BranchName.{BranchName}
+use Rattle.jvm_program.specs.declared.linked_line.LinkedLine.{LinkedLine}
+use Rattle.jvm_program.specs.declared.instruction.Instruction.TheVariants.{Branch}
+use Rattle.jvm_program.specs.Program.{line_in, targets_of}
 use Rattle.constant_pool.specs.declared.entry.Entry.{Entry}
 use Rattle.jvm_code.specs.declared.class.Class.{Class}
 use Rattle.jvm_code.specs.declared.line.Line.{Line}
 use Rattle.jvm_code.specs.declared.op.Op.{Op}
 use Rattle.jvm_code.specs.declared.op.Op.TheVariants as ops
-use Rattle.jvm_code.specs.declared.names.branch_name.BranchName.{BranchName}
-use Rattle.jvm_code.specs.Code.{target_fault, is_line}
-use Rattle.jvm_code.specs.Code.{targets_of as op_targets}
+use Rattle.jvm_code.specs.Code.{target_fault, is_line, targets_of as op_targets}
 use Rattle.jvm_code.specs.Targets.{near_bits, offset_to, bad_target}
 use Rattle.jvm_code.specs.Instructions.{operands_fit}
 use Rattle.jvm_code.specs.Writing.{size_at, AreLaid, AreCode}
-use Rattle.jvm_program.specs.declared.linked_line.LinkedLine.{LinkedLine}
-use Rattle.jvm_program.specs.declared.instruction.Instruction.TheVariants.{Branch}
-use Rattle.jvm_program.specs.Program.{line_in, targets_of}
 use Rattle.jvm_link.specs.Linking.{linked_instruction, linked_line}
 use Rattle.code_steps.specs.declared.step.Step.{Step}
 use Rattle.code_steps.specs.declared.step.Step.TheVariants.{Does, Skips, Leaves, Selects}
 use Rattle.code_steps.specs.Widths.{width, bytes_before, size}
 use Rattle.code_steps.specs.Placing.{placed_instruction, placed_line, laid}
+use Rattle.code_steps.specs.Switches.{needs_no_padding, switches_are_placed}
+use Rattle.code_steps.proofs.Offsets.{AreEnds, bytes-le, bytes-suc, rest-begins, target-is}
 use Rattle.code_assembly.specs.declared.references.References.{References}
-use Rattle.code_assembly.specs.Assembling.{Extends, StepIsKnown, AreKnown, lines_at, line_size, lines_size, step_has_operation, have_operations, needs_no_padding, switches_are_placed, pushed_by, constants_of, AreLinked, targets_are_lines, is_method}
+use Rattle.code_assembly.specs.Assembling.{Extends, StepIsKnown, AreKnown, lines_at, line_size, lines_size, step_has_operation, have_operations, pushed_by, constants_of, AreLinked, targets_are_lines, is_method}
 use Rattle.code_assembly.specs.Operations.{IsStepOperation, has_operation_at}
 use Rattle.code_assembly.proofs.Pools.{extends-itself, extends-further}
-use Rattle.code_assembly.proofs.Offsets.{AreEnds, bytes-le, bytes-suc, rest-begins, target-is}
 use Rattle.code_assembly.proofs.Switches.{wide-fits, switch-fits, switch-wide}
 
 -- ---- operations of code

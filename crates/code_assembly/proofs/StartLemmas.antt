@@ -1,53 +1,14 @@
 -- Where steps stand, by the table of the offsets behind them.
-use Rattle.std.proofs.Common.{◌≡◌, ℕ, zero, suc, ◌+◌, ◌-◌, ◌^◌, ◌≤◌, ◌<◌, ◌⊎◌, inl, inr, Bool, true, false, ◌&&◌, ◌==◌, nat_le, nat_lt, if◌then◌else◌, pos, negsuc, List, [], ◌∷◌, length, get_or, drop, Option, Some, is_some, refl, sym, ap, ◌∙◌, suc-add, length-drop, lt-ltb, le-ltb, arith}
+use Rattle.std.proofs.Common.{◌≡◌, ℕ, zero, suc, ◌+◌, ◌-◌, ◌^◌, ◌≤◌, ◌<◌, ◌⊎◌, inl, inr, Bool, true, false, ◌&&◌, ◌==◌, nat_le, nat_lt, if◌then◌else◌, List, [], ◌∷◌, length, get_or, drop, Option, Some, is_some, refl, sym, ap, ◌∙◌, suc-add, length-drop, lt-ltb, le-ltb, arith}
 use Rattle.std.proofs.lemmas.Bool.{cases_lt, cases_eq, eq-eqb, ne_eqb, le-leb, lt-leb, leb-true, and_parts}
-use Rattle.nv_words.specs.Words.{signed_of}
-use Rattle.jvm_program.specs.declared.array_kind.ArrayKind.{ArrayKind}
-use Rattle.jvm_program.specs.declared.array_kind.ArrayKind.TheVariants.{Ints, Pages}
-use Rattle.jvm_program.specs.declared.constant.Constant.{Constant}
-use Rattle.jvm_program.specs.declared.constant.Constant.TheVariants as constants
-use Rattle.jvm_program.specs.declared.instruction.Instruction.{Instruction}
-use Rattle.jvm_program.specs.declared.instruction.Instruction.TheVariants as instructions
 use Rattle.jvm_program.specs.declared.linked_line.LinkedLine.{LinkedLine}
 use Rattle.jvm_program.specs.Program.{line_in}
 use Rattle.code_steps.specs.declared.step.Step.{Step}
-use Rattle.code_steps.specs.declared.step.Step.TheVariants.{Does, Skips, Leaves, Selects}
-use Rattle.code_steps.specs.Widths.{lies_from, constant_width, array_width, instruction_width, width, bytes_before}
+use Rattle.code_steps.specs.Widths.{width, bytes_before}
 use Rattle.code_steps.specs.Placing.{placed_line, laid}
+use Rattle.code_steps.proofs.WidthLemmas.{width-some}
+use Rattle.code_steps.proofs.Offsets.{bytes-split}
 use Rattle.code_assembly.specs.Operations.{AreEnds, is_start}
-use Rattle.code_assembly.proofs.Offsets.{bytes-split}
-
--- ---- each step has a byte
-
-some-way : (b : Bool) (m n : ℕ) → 1 ≤ m → 1 ≤ n → 1 ≤ (if b then m else n)
-some-way true m n h k = h
-some-way false m n h k = k
-
-constant-some : (c : Constant) → 1 ≤ constant_width c
-constant-some constants.Null = omega arith
-constant-some (constants.Int n) =
-    let z = signed_of n in
-    some-way (lies_from (negsuc 0) (pos 5) z) 1 (if lies_from (negsuc 127) (pos 127) z then 2 else 3) (omega arith)
-    (some-way (lies_from (negsuc 127) (pos 127) z) 2 3 (omega arith) (omega arith))
-constant-some (constants.Long n) = omega arith
-constant-some (constants.Text class slot) = omega arith
-
-array-some : (kind : ArrayKind) → 1 ≤ array_width kind
-array-some Ints = omega arith
-array-some Pages = omega arith
-
-instruction-some : (i : Instruction) → 1 ≤ instruction_width i
-instruction-some (instructions.Push constant) = constant-some constant
-instruction-some (instructions.Load kind i) = some-way (nat_lt i 4) 1 2 (omega arith) (omega arith)
-instruction-some (instructions.Store kind i) = some-way (nat_lt i 4) 1 2 (omega arith) (omega arith)
-instruction-some (instructions.NewArray kind) = array-some kind
-instruction-some _ = omega arith
-
-width-some : (s : Step) → 1 ≤ width s
-width-some (Does instruction) = instruction-some instruction
-width-some (Skips name k) = omega arith
-width-some (Leaves target) = omega arith
-width-some (Selects s) = omega arith
 
 pub bytes-less : (code : List Step) (j m : ℕ) → j < m → j < length code → bytes_before code j < bytes_before code m
 bytes-less [] j m less h = absurd (omega (arith, h))

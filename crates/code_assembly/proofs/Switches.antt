@@ -6,16 +6,17 @@ use Rattle.std.specs.Cmp.Derive.{both_true}
 use Rattle.std.proofs.lemmas.Bool.{and_parts, eqb-true, eq-eqb}
 use Rattle.std.proofs.lemmas.List.{length-replicate}
 use Rattle.std.proofs.lemmas.Int.{ints}
+use Rattle.jvm_names.specs.declared.table_switch.TableSwitch.{TableSwitch}
 use Rattle.class_format.specs.Format.{signed, chain_fits, fits_signed, unless, is_sound}
 use Rattle.jvm_code.specs.declared.op.Op.TheVariants as ops
-use Rattle.jvm_code.specs.declared.table_switch.TableSwitch.{TableSwitch}
 use Rattle.jvm_code.specs.Targets.{cut, switch_keys, wide, offset_to}
 use Rattle.jvm_code.specs.Switches.{pad_of, is_padding, keys_in, key_count, last_key, table_switch}
 use Rattle.jvm_code.specs.Instructions.{operands_fit}
 use Rattle.jvm_code.specs.Writing.{size_at}
 use Rattle.code_steps.specs.declared.step.Step.TheVariants.{Selects}
 use Rattle.code_steps.specs.Widths.{width}
-use Rattle.code_assembly.specs.Assembling.{switch_has_operation, needs_no_padding}
+use Rattle.code_steps.specs.Switches.{needs_no_padding}
+use Rattle.code_assembly.specs.Assembling.{switch_has_operation}
 
 pub wide-fits : (at target : ℕ) → target < 2 ^ 32 → (wide at).fits target ≡ true
 wide-fits at target low =

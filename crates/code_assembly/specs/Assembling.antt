@@ -4,6 +4,14 @@ use Rattle.std.specs.Prelude.{◌≡◌, ℕ, ◌+◌, ◌-◌, ◌%◌, ◌^◌
 use Rattle.std.specs.List.{flat_map, list_all, list_any}
 use Rattle.std.specs.Int.{w32}
 use Rattle.nv_words.specs.Words.{signed_of}
+use Rattle.jvm_names.specs.declared.table_switch.TableSwitch.{TableSwitch}
+use Rattle.jvm_program.specs.declared.array_kind.ArrayKind.TheVariants.{Pages}
+use Rattle.jvm_program.specs.declared.constant.Constant.{Constant}
+use Rattle.jvm_program.specs.declared.constant.Constant.TheVariants as constants
+use Rattle.jvm_program.specs.declared.instruction.Instruction.{Instruction}
+use Rattle.jvm_program.specs.declared.instruction.Instruction.TheVariants as instructions
+use Rattle.jvm_program.specs.declared.linked_line.LinkedLine.{LinkedLine}
+use Rattle.jvm_program.specs.Program.{line_in, targets_of}
 use Rattle.class_format.specs.Format.{fits_signed, chain_fits}
 use Rattle.constant_pool.specs.declared.entry.Entry.{Entry}
 use Rattle.constant_pool.specs.declared.entry.Entry.TheVariants as entries
@@ -13,21 +21,14 @@ use Rattle.jvm_code.specs.declared.line.Line.{Line}
 use Rattle.jvm_code.specs.declared.op.Op.{Op}
 use Rattle.jvm_code.specs.declared.names.pool_name.PoolName.{PoolName}
 use Rattle.jvm_code.specs.declared.names.pool_name.PoolName.TheVariants.{Getstatic, Putstatic, Invokevirtual, Invokestatic, Anewarray}
-use Rattle.jvm_code.specs.declared.table_switch.TableSwitch.{TableSwitch}
 use Rattle.jvm_code.specs.Switches.{last_key}
 use Rattle.jvm_code.specs.Writing.{size_at}
-use Rattle.jvm_program.specs.declared.array_kind.ArrayKind.TheVariants.{Pages}
-use Rattle.jvm_program.specs.declared.constant.Constant.{Constant}
-use Rattle.jvm_program.specs.declared.constant.Constant.TheVariants as constants
-use Rattle.jvm_program.specs.declared.instruction.Instruction.{Instruction}
-use Rattle.jvm_program.specs.declared.instruction.Instruction.TheVariants as instructions
-use Rattle.jvm_program.specs.declared.linked_line.LinkedLine.{LinkedLine}
-use Rattle.jvm_program.specs.Program.{line_in, targets_of}
 use Rattle.jvm_link.specs.Linking.{pool_instruction, return_instruction, linked_line}
 use Rattle.code_steps.specs.declared.step.Step.{Step}
 use Rattle.code_steps.specs.declared.step.Step.TheVariants.{Does, Skips, Leaves, Selects}
 use Rattle.code_steps.specs.Widths.{lies_from, width, bytes_before, size}
 use Rattle.code_steps.specs.Placing.{laid}
+use Rattle.code_steps.specs.Switches.{switches_are_placed}
 use Rattle.code_assembly.specs.declared.references.References.{References}
 
 -- ---- which code can be assembled
@@ -72,28 +73,18 @@ abbrev pub have_operations : References → List Step → Bool
 have_operations r [] = true
 have_operations r (s ∷ code) = step_has_operation r s code && have_operations r code
 
--- a step at an offset, if it is a switch: the offset leaves 3 modulo 4
-abbrev pub needs_no_padding : ℕ → Step → Bool
-needs_no_padding at (Does instruction) = true
-needs_no_padding at (Skips name k) = true
-needs_no_padding at (Leaves target) = true
-needs_no_padding at (Selects s) = at % 4 == 3
-
--- no switch of code at an offset needs padding
-abbrev pub switches_are_placed : ℕ → List Step → Bool
-switches_are_placed at [] = true
-switches_are_placed at (s ∷ code) = needs_no_padding at s && switches_are_placed (at + width s) code
-
 -- all steps have operations, no switch needs padding, and the offsets have 32 bits
 abbrev pub can_be_assembled : References → List Step → Bool
-can_be_assembled r code = nat_lt (size code) (2 ^ 32) && have_operations r code && switches_are_placed 0 code
+can_be_assembled r code = nat_lt (size code) (2 ^ 32) && have_operations r code
+    && switches_are_placed 0 code
 
 -- ---- what it takes of the pool
 
 -- the slots of a constant's entry: sipush and shorter forms need none, and a long takes two
 abbrev pub constant_slots : Constant → ℕ
 constant_slots constants.Null = 0
-constant_slots (constants.Int n) = if lies_from (negsuc 32767) (pos 32767) (signed_of n) then 0 else 1
+constant_slots (constants.Int n) = if lies_from (negsuc 32767) (pos 32767) (signed_of n) then 0
+    else 1
 constant_slots (constants.Long n) = 2
 constant_slots (constants.Text class slot) = 1
 
@@ -116,14 +107,16 @@ abbrev pub same_constant : Constant → Constant → Bool
 same_constant constants.Null constants.Null = true
 same_constant (constants.Int n) (constants.Int m) = n == m
 same_constant (constants.Long n) (constants.Long m) = n == m
-same_constant (constants.Text class slot) (constants.Text other_class other_slot) = class == other_class && slot == other_slot
+same_constant (constants.Text class slot) (constants.Text other_class other_slot) =
+    class == other_class && slot == other_slot
 same_constant _ _ = false
 
 -- the slots of constants that are the same as none before them; some stand before all of them
 abbrev pub slots_beside : List Constant → List Constant → ℕ
 slots_beside before [] = 0
 slots_beside before (c ∷ constants) =
-    (if list_any (same_constant c) before then 0 else constant_slots c) + slots_beside (c ∷ before) constants
+    (if list_any (same_constant c) before then 0 else constant_slots c)
+    + slots_beside (c ∷ before) constants
 
 -- the slots of the constants of all steps, if none were there: each constant takes them once
 abbrev pub slots_of : List Step → ℕ
@@ -166,7 +159,8 @@ reference_of r (instructions.Get f kind) = Some (Getstatic, slice_index r.fields
 reference_of r (instructions.Put f kind) = Some (Putstatic, slice_index r.fields f)
 reference_of r instructions.Length = Some (Invokevirtual, r.string_length)
 reference_of r instructions.CharAt = Some (Invokevirtual, r.string_char_at)
-reference_of r (instructions.Call m) = Some (Invokestatic, slice_index r.methods (m - r.first_method))
+reference_of r (instructions.Call m) =
+    Some (Invokestatic, slice_index r.methods (m - r.first_method))
 reference_of r instructions.CallHost = Some (Invokestatic, r.host_call)
 reference_of r instructions.FaultHost = Some (Invokestatic, r.host_fault)
 reference_of r (instructions.NewArray Pages) = Some (Anewarray, r.ints_class)
@@ -175,19 +169,23 @@ reference_of r _ = None
 -- what an instruction names is there: in its slot stands what it means, a text is one of the class, and a return is of the method's kind
 abbrev pub IsKnown : References → List Class → ℕ → Class → Bool → Instruction → Type 0
 IsKnown r classes number c gives (instructions.Push (constants.Text class slot)) = class ≡ number
-IsKnown r classes number c gives (instructions.Return name) = return_instruction gives name ≡ instructions.Return name
+IsKnown r classes number c gives (instructions.Return name) =
+    return_instruction gives name ≡ instructions.Return name
 IsKnown r classes number c gives instruction =
-    IfSome (reference_of r instruction) (λ x. pool_instruction classes number c x.0 x.1 ≡ instruction)
+    IfSome (reference_of r instruction) (λ x. pool_instruction classes number c x.0 x.1
+    ≡ instruction)
 
 abbrev pub StepIsKnown : References → List Class → ℕ → Class → Bool → Step → Type 0
-StepIsKnown r classes number c gives (Does instruction) = IsKnown r classes number c gives instruction
+StepIsKnown r classes number c gives (Does instruction) =
+    IsKnown r classes number c gives instruction
 StepIsKnown r classes number c gives (Skips name k) = Unit {0}
 StepIsKnown r classes number c gives (Leaves target) = Unit {0}
 StepIsKnown r classes number c gives (Selects s) = Unit {0}
 
 abbrev pub AreKnown : References → List Class → ℕ → Class → Bool → List Step → Type 0
 AreKnown r classes number c gives [] = Unit {0}
-AreKnown r classes number c gives (s ∷ code) = StepIsKnown r classes number c gives s × AreKnown r classes number c gives code
+AreKnown r classes number c gives (s ∷ code) = StepIsKnown r classes number c gives s
+    × AreKnown r classes number c gives code
 
 -- ---- where the operations stand
 
@@ -207,15 +205,19 @@ lines_size (l ∷ lines) = line_size l + lines_size lines
 -- In each class that knows what code names, and whose pool has this one at its front, lines are linked to those of the code.
 abbrev pub AreLinked : References → List Entry → List Step → List Line → Type 0
 AreLinked r pool code lines =
-    (classes : List Class) (number : ℕ) (c : Class) (gives : Bool) → Extends pool c.pool → AreKnown r classes number c gives code
+    (classes : List Class) (number : ℕ) (c : Class) (gives : Bool) → Extends pool c.pool
+    → AreKnown r classes number c gives code
     → map (linked_line classes number c gives) lines ≡ laid 0 code
 
 -- ---- code of a method
 
 -- each target is the offset of a line
 abbrev pub targets_are_lines : List LinkedLine → Bool
-targets_are_lines lines = list_all (λ l. list_all (λ target. is_some (line_in lines target)) (targets_of l.instruction)) lines
+targets_are_lines lines =
+    list_all (λ l. list_all (λ target. is_some (line_in lines target)) (targets_of l.instruction))
+    lines
 
 -- there is a step, there are at most 65,535 bytes, and each target is a step's offset
 abbrev pub is_method : List Step → Bool
-is_method code = nat_lt 0 (length code) && nat_le (size code) 65535 && targets_are_lines (laid 0 code)
+is_method code = nat_lt 0 (length code) && nat_le (size code) 65535
+    && targets_are_lines (laid 0 code)

@@ -3,6 +3,14 @@ use Rattle.std.specs.Prelude.{◌≡◌, ℕ, suc, ◌+◌, ◌^◌, ◌<◌, �
 use Rattle.std.specs.Int.{cast_signed, w64}
 use Rattle.std.specs.List.{list_all}
 use Rattle.nv_words.specs.Words.{signed_of}
+use Rattle.jvm_program.specs.declared.array_kind.ArrayKind.TheVariants.{Ints}
+use Rattle.jvm_program.specs.declared.constant.Constant.{Constant}
+use Rattle.jvm_program.specs.declared.constant.Constant.TheVariants as constants
+use Rattle.jvm_program.specs.declared.local_kind.LocalKind.{LocalKind}
+use Rattle.jvm_program.specs.declared.local_kind.LocalKind.TheVariants.{Int, Reference}
+use Rattle.jvm_program.specs.declared.instruction.Instruction.{Instruction}
+use Rattle.jvm_program.specs.declared.instruction.Instruction.TheVariants as instructions
+use Rattle.jvm_program.specs.Program.{line_in, targets_of}
 use Rattle.constant_pool.specs.declared.entry.Entry.{Entry}
 use Rattle.constant_pool.specs.declared.entry.Entry.TheVariants as entries
 use Rattle.constant_pool.specs.Slots.{IsAt}
@@ -16,31 +24,26 @@ use Rattle.jvm_code.specs.declared.names.pool_name.PoolName.{PoolName}
 use Rattle.jvm_code.specs.Code.{targets_of as op_targets}
 use Rattle.jvm_code.specs.Instructions.{operands_fit}
 use Rattle.jvm_code.specs.Writing.{size_at}
-use Rattle.jvm_program.specs.declared.array_kind.ArrayKind.TheVariants.{Ints}
-use Rattle.jvm_program.specs.declared.constant.Constant.{Constant}
-use Rattle.jvm_program.specs.declared.constant.Constant.TheVariants as constants
-use Rattle.jvm_program.specs.declared.local_kind.LocalKind.{LocalKind}
-use Rattle.jvm_program.specs.declared.local_kind.LocalKind.TheVariants.{Int, Reference}
-use Rattle.jvm_program.specs.declared.instruction.Instruction.{Instruction}
-use Rattle.jvm_program.specs.declared.instruction.Instruction.TheVariants as instructions
-use Rattle.jvm_program.specs.Program.{line_in, targets_of}
 use Rattle.jvm_link.specs.Linking.{linked_instruction}
 use Rattle.code_steps.specs.declared.step.Step.{Step}
 use Rattle.code_steps.specs.declared.step.Step.TheVariants.{Does, Skips, Leaves, Selects}
 use Rattle.code_steps.specs.Widths.{lies_from, instruction_width, width, bytes_before}
 use Rattle.code_steps.specs.Placing.{laid}
+use Rattle.code_steps.specs.Switches.{needs_no_padding}
 use Rattle.code_assembly.specs.declared.references.References.{References}
-use Rattle.code_assembly.specs.Assembling.{Extends, IsKnown, slots_beside, has_operation, switch_has_operation, step_has_operation, needs_no_padding, reference_of}
+use Rattle.code_assembly.specs.Assembling.{Extends, IsKnown, slots_beside, has_operation, switch_has_operation, step_has_operation, reference_of}
 
 -- ---- what an operation of an instruction is
 
 -- It has the instruction's width and targets, it can be spelled, and it is linked to the instruction in each class that knows what that
 -- names and whose pool has this one at its front.
-pub record IsOperation (r : References) (pool : List Entry) (i : Instruction) (op : Op) : Type 0 where
+pub record IsOperation (r : References) (pool : List Entry) (i : Instruction) (op : Op)
+    : Type 0 where
   pub wide : (at : ℕ) → size_at at op ≡ instruction_width i
   pub fits : (at : ℕ) → operands_fit at op ≡ true
   pub targets : op_targets op ≡ targets_of i
-  pub linked : (classes : List Class) (number : ℕ) (c : Class) (gives : Bool) → Extends pool c.pool → IsKnown r classes number c gives i → linked_instruction classes number c gives op ≡ i
+  pub linked : (classes : List Class) (number : ℕ) (c : Class) (gives : Bool) → Extends pool c.pool
+      → IsKnown r classes number c gives i → linked_instruction classes number c gives op ≡ i
 
 -- The operation of the i-th step, where the offset behind each step is known.
 abbrev pub IsStepOperation : References → List Entry → List ℕ → ℕ → Step → Op → Type 0
@@ -68,7 +71,8 @@ pub record IsInSlot (pool : List Entry) (name : PoolName) (e : Entry) (op : Op) 
 -- the entry of a constant, if it takes a slot
 abbrev pub entry_of : Constant → Option Entry
 entry_of constants.Null = None
-entry_of (constants.Int n) = if lies_from (negsuc 32767) (pos 32767) (signed_of n) then None else Some (entries.Integer (signed_of n))
+entry_of (constants.Int n) = if lies_from (negsuc 32767) (pos 32767) (signed_of n) then None
+    else Some (entries.Integer (signed_of n))
 entry_of (constants.Long bits) = Some (entries.Long (cast_signed w64 bits))
 entry_of (constants.Text class slot) = Some (entries.Text slot)
 
@@ -150,7 +154,8 @@ step_fits r code at (Skips name k) others =
     step_has_operation r (Skips name k) others && is_start code (at + 3 + bytes_before others k)
 step_fits r code at (Leaves target) others = is_start code target
 step_fits r code at (Selects s) others =
-    needs_no_padding at (Selects s) && switch_has_operation s && list_all (is_start code) (s.default ∷ s.targets)
+    needs_no_padding at (Selects s) && switch_has_operation s
+    && list_all (is_start code) (s.default ∷ s.targets)
 
 -- the first of steps
 abbrev pub first_fits : References → List Step → ℕ → List Step → Bool
@@ -159,4 +164,5 @@ first_fits r code at (s ∷ others) = step_fits r code at s others
 
 abbrev pub steps_fit : References → List Step → ℕ → List Step → Bool
 steps_fit r code at [] = true
-steps_fit r code at (s ∷ others) = step_fits r code at s others && steps_fit r code (at + width s) others
+steps_fit r code at (s ∷ others) = step_fits r code at s others
+    && steps_fit r code (at + width s) others

@@ -36,10 +36,13 @@ pub fn assemble(
 ) -> Result<Vec<Op>, PoolError>
     requires { IsTrue (can_be_assembled references.now code.now) }
 
-    ensures lines { IfOk result (λ ops. AreLinked references.now pool.new code.now (lines_at 0 ops.items)) }
-    ensures widths { IfOk result (λ ops. map line_size (lines_at 0 ops.items) ≡ map width code.now) }
+    ensures lines { IfOk result (λ ops.
+        AreLinked references.now pool.new code.now (lines_at 0 ops.items)) }
+    ensures widths { IfOk result (λ ops. map line_size (lines_at 0 ops.items)
+        ≡ map width code.now) }
     ensures size { IfOk result (λ ops. lines_size (lines_at 0 ops.items) ≡ size code.now) }
-    ensures method { IfOk result (λ ops. IsTrue (is_method code.now) → AreCode (lines_at 0 ops.items)) }
+    ensures method { IfOk result (λ ops. IsTrue (is_method code.now)
+        → AreCode (lines_at 0 ops.items)) }
 
     ensures kept { Extends pool.old pool.new }
     ensures added { Adds code.now pool.old pool.new }

@@ -2,9 +2,9 @@
 ghost use Rattle.std.specs.Prelude.{◌≡◌, ℕ, pos, negsuc, ◌+◌, ◌<◌, ◌≤◌, true, false, IsTrue, List, [], ◌∷◌, length, IfOk, OnOk, Err};
 ghost use Rattle.std.specs.List.{list_all};
 ghost use Rattle.nv_words.specs.Words.{unsigned_of};
+ghost use Rattle.jvm_program.specs.declared.instruction.Instruction.TheVariants.{Push};
 ghost use Rattle.constant_pool.specs.Slots.{IsAt, IsMissing, is_rest, slots_of_entry};
 ghost use Rattle.constant_pool.specs.declared.error.PoolError.TheVariants.{Full};
-ghost use Rattle.jvm_program.specs.declared.instruction.Instruction.TheVariants.{Push};
 ghost use Rattle.jvm_link.specs.Linking.{iconst_word};
 ghost use Rattle.code_steps.specs.declared.step.Step.{Step};
 ghost use Rattle.code_steps.specs.declared.step.Step.TheVariants.{Does};
@@ -13,7 +13,7 @@ ghost use Rattle.code_assembly.specs.declared.references.References.{References}
 ghost use Rattle.code_assembly.specs.Assembling.{Extends, Adds, can_stand, is_constant_of};
 ghost use Rattle.code_assembly.specs.Operations.{AddsConstants, Has, IsOperation, IsInSlot, LacksSlots};
 
-use crate::widths::lies_from;
+use code_steps::lies_from;
 use constant_pool::{Entry, Pool, PoolError};
 use jvm_code::{Iconst, Op, PoolName};
 use jvm_program::Constant;
@@ -37,7 +37,8 @@ pub fn push(constant: Constant, pool: &mut Pool) -> Result<Op, PoolError>
 }
 
 fn push_int(word: u32, pool: &mut Pool) -> Result<Op, PoolError>
-    ensures op { IfOk result (λ op. (r : References) → IsOperation r pool.new (Push (Constant.Int word)) op) }
+    ensures op { IfOk result (λ op. (r : References)
+        → IsOperation r pool.new (Push (Constant.Int word)) op) }
     ensures kept { Extends pool.old pool.new }
     ensures added { Adds (Does (Push (Constant.Int word)) ∷ []) pool.old pool.new }
     ensures has { OnOk result (Has pool.new (Constant.Int word)) }
@@ -77,7 +78,9 @@ fn in_slot(name: PoolName, entry: Entry, pool: &mut Pool) -> Result<Op, PoolErro
     requires stands { can_stand (slots_of_entry entry) ≡ true }
     ensures op { IfOk result (IsInSlot pool.new name entry) }
     ensures kept { Extends pool.old pool.new }
-    ensures added { (code : List Step) → IsTrue (list_all (is_constant_of code) (slots_of_entry entry)) → Adds code pool.old pool.new }
+    ensures added { (code : List Step)
+        → IsTrue (list_all (is_constant_of code) (slots_of_entry entry))
+        → Adds code pool.old pool.new }
     ensures same { (slot : ℕ) → IsAt pool.old slot entry → pool.new ≡ pool.old }
     ensures few { length pool.new ≤ length pool.old + length (slots_of_entry entry) }
     ensures lacks { result ≡ Err Full → IsMissing pool.old entry }

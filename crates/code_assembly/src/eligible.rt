@@ -5,7 +5,7 @@ ghost use Rattle.class_format.specs.Format.{fits_signed};
 ghost use Rattle.code_assembly.specs.Assembling as assembling;
 
 use crate::references::References;
-use jvm_code::TableSwitch;
+use jvm_names::TableSwitch;
 use jvm_program::Instruction;
 
 /// Whether an instruction has an operation: it is no branch and no switch, what it names has a slot, and what it adds is a byte.
@@ -52,7 +52,8 @@ pub fn switch_has_operation(switch: &TableSwitch) -> bool
 }
 
 fn has_form(default: u32, low: i32, targets: &[u32]) -> bool
-    ensures { result ≡ assembling.switch_has_operation (record { default = default; low = low; targets = targets.now }) }
+    ensures { result ≡ assembling.switch_has_operation
+        (record { default = default; low = low; targets = targets.now }) }
 {
     if targets.is_empty() {
         false

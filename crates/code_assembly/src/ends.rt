@@ -2,8 +2,7 @@
 ghost use Rattle.std.specs.Prelude.{◌≡◌, ℕ, suc, ◌<◌, ◌^◌, length, slice_index, IfOk};
 ghost use Rattle.code_steps.specs.Widths.{bytes_before, size};
 
-use crate::widths::width;
-use code_steps::Step;
+use code_steps::{Step, width};
 use constant_pool::NoMemory;
 use std::alloc::Global;
 
@@ -11,7 +10,8 @@ use std::alloc::Global;
 pub fn ends_of(alloc: Global, code: &[Step]) -> Result<Vec<u32>, NoMemory>
     requires { size code.now < 2 ^ 32 }
     ensures len { IfOk result (λ ends. length ends.items ≡ length code.now) }
-    ensures ends { IfOk result (λ ends. (k : ℕ) → k < length code.now → slice_index ends.items k ≡ bytes_before code.now (suc k)) }
+    ensures ends { IfOk result (λ ends. (k : ℕ) → k < length code.now
+        → slice_index ends.items k ≡ bytes_before code.now (suc k)) }
 {
     let mut ends = Vec::new(alloc);
     let mut end = 0;

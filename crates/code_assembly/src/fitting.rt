@@ -9,9 +9,8 @@ ghost use Rattle.code_assembly.specs.Operations as operations;
 use crate::eligible::{has_operation, switch_has_operation};
 use crate::ends::ends_of;
 use crate::references::References;
-use crate::sizes::code_size;
 use crate::starts::{are_starts, is_start};
-use code_steps::Step;
+use code_steps::{Step, code_size};
 use constant_pool::NoMemory;
 use std::alloc::Global;
 
@@ -26,7 +25,8 @@ const REACH: u32 = (1 << 15) - 3;
 ///
 /// There was not enough memory.
 pub fn is_code(alloc: Global, code: &[Step], references: &References) -> Result<bool, NoMemory>
-    ensures { IfOk result (λ b. b ≡ (can_be_assembled references.now code.now && is_method code.now)) }
+    ensures { IfOk result (λ b. b
+        ≡ (can_be_assembled references.now code.now && is_method code.now)) }
 {
     if is_short(code) {
         let ends = ends_of(alloc, code)?;
@@ -82,7 +82,8 @@ fn step_fits(code: &[Step], i: usize, at: u32, ends: &[u32], references: &Refere
 fn skips_to_start(code: &[Step], i: usize, k: usize, ends: &[u32]) -> bool
     requires within { i < length code.now }
     requires ends { AreEnds code.now ends.now }
-    ensures { result ≡ (assembling.reaches (drop (suc i) code.now) k && operations.is_start code.now (bytes_before code.now (suc (i + k)))) }
+    ensures { result ≡ (assembling.reaches (drop (suc i) code.now) k
+        && operations.is_start code.now (bytes_before code.now (suc (i + k)))) }
 {
     reaches(code, i, k, ends) && is_start(code, ends, ends[i + k])
 }

@@ -12,14 +12,10 @@ pub mod laws;
 mod locals;
 mod methods;
 mod references;
-mod sizes;
 mod starts;
 mod steps;
-mod widths;
 
 pub use assembly::assemble;
 pub use fitting::is_code;
 pub use methods::method_code;
 pub use references::References;
-pub use sizes::code_size;
-pub use widths::width;

@@ -34,7 +34,8 @@ pub fn method_code(
     requires can { IsTrue (can_be_assembled references.now code.now) }
     requires method { IsTrue (is_method code.now) }
 
-    ensures lines { IfOk result (λ bytes. AreLinked references.now pool.new code.now (linking.lines_of bytes.items)) }
+    ensures lines { IfOk result (λ bytes.
+        AreLinked references.now pool.new code.now (linking.lines_of bytes.items)) }
     ensures size { IfOk result (λ bytes. length bytes.items ≡ widths.size code.now) }
     ensures sound { IfOk result (λ bytes. code_fault bytes.items ≡ None) }
 

@@ -1,4 +1,4 @@
-use class_format::Sequence;
+use jvm_names::Sequence;
 
 /// Where the constant pool of a class has what code names: slots, counted from 1.
 #[derive(Drop)]

@@ -5,7 +5,7 @@ ghost use Rattle.code_assembly.specs.Operations.{AreEnds};
 ghost use Rattle.code_assembly.specs.Operations as operations;
 
 use code_steps::Step;
-use jvm_code::TableSwitch;
+use jvm_names::TableSwitch;
 
 /// Whether a step stands at an offset, where the offset behind each step is known.
 pub fn is_start(code: &[Step], ends: &[u32], target: u32) -> bool
@@ -23,7 +23,8 @@ pub fn is_start(code: &[Step], ends: &[u32], target: u32) -> bool
 pub fn are_starts(code: &[Step], ends: &[u32], switch: &TableSwitch) -> bool
     requires some { 0 < length code.now }
     requires ends { AreEnds code.now ends.now }
-    ensures { result ≡ list_all (operations.is_start code.now) (switch.now.default ∷ switch.now.targets) }
+    ensures { result ≡ list_all (operations.is_start code.now)
+        (switch.now.default ∷ switch.now.targets) }
 {
     is_start(code, ends, switch.default) && all_start(code, ends, switch.targets.as_slice())
 }

@@ -8,10 +8,10 @@ ghost use Rattle.code_assembly.specs.Operations.{AddsConstants, Has, IsOperation
 use crate::constants::push;
 use crate::instructions::operation_of;
 use crate::references::References;
-use class_format::Sequence;
 use code_steps::Step;
 use constant_pool::{NoMemory, Pool, PoolError};
-use jvm_code::{Op, TableSwitch};
+use jvm_code::Op;
+use jvm_names::{Sequence, TableSwitch};
 use jvm_program::Instruction;
 use std::alloc::Global;
 

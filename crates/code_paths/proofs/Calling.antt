@@ -11,13 +11,13 @@ use Rattle.jvm_program.specs.Effect.{Workspace, Effect, enters, gives, frames_tr
 use Rattle.jvm_program.specs.Step.{State, Frame, placed, turn, turn_by, entered, called, returned_to}
 use Rattle.jvm_program.specs.Step as machine
 use Rattle.jvm_program.specs.Stretch.{body_workspace, caller_workspace}
-use Rattle.machine_counts.specs.Classes.{place_in}
 use Rattle.code_steps.specs.declared.step.Step.{Step}
 use Rattle.code_steps.specs.declared.step.Step.TheVariants.{Does}
 use Rattle.code_steps.specs.Widths.{bytes_before}
 use Rattle.code_steps.specs.Outcomes.{stopped}
 use Rattle.code_steps.specs.Placing.{placed_line, LiesAt}
 use Rattle.code_steps.specs.Leading.{StopsAt}
+use Rattle.code_paths.specs.Classes.{place_in}
 use Rattle.code_paths.specs.Paths.{step_weight, weigh, Path, PathElsewhere, waiting_behind}
 use Rattle.code_paths.proofs.Joining.{paths-join, path-wider, turn-path, turn-weighs, seen-elsewhere}
 use Rattle.code_paths.proofs.Weighing.{weigh-front, weigh-more, step-weighs, line-step}

@@ -13,7 +13,7 @@ use Rattle.jvm_program.specs.declared.instruction.Instruction.{Instruction}
 use Rattle.jvm_program.specs.Program.{Program, line_at}
 use Rattle.jvm_program.specs.Effect.{Workspace}
 use Rattle.jvm_program.specs.Step.{State, Frame, placed, turn}
-use Rattle.machine_counts.specs.Classes.{weighed, executed, place_in}
+use Rattle.code_paths.specs.Classes.{weighed, executed, place_in}
 use Rattle.code_paths.specs.Paths.{LooksAtNoTarget, Path}
 
 -- ---- places that rise

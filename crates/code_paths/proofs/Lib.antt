@@ -1,3 +1,9 @@
+pub mod Examples
+pub mod Forward
+pub mod Guests
+pub mod Loaded
+pub mod Standing
+pub mod Targets
 pub mod Joining
 pub mod Weighing
 pub mod Through

@@ -4,24 +4,25 @@ use Rattle.std.proofs.Math.Nat.{add_assoc}
 use Rattle.nv_events.specs.Turn.{moves}
 use Rattle.run_laws.specs.Trail.{went}
 use Rattle.run_laws.specs.Places.{Rises, visit}
-use Rattle.jvm_code.specs.declared.names.branch_name.BranchName.{BranchName}
-use Rattle.jvm_code.specs.declared.table_switch.TableSwitch.{TableSwitch as Table}
+use Rattle.jvm_names.specs.declared.branch_name.BranchName.{BranchName}
+use Rattle.jvm_names.specs.declared.table_switch.TableSwitch.{TableSwitch as Table}
 use Rattle.jvm_program.specs.declared.instruction.Instruction.{Instruction}
 use Rattle.jvm_program.specs.declared.instruction.Instruction.TheVariants.{TableSwitch}
 use Rattle.jvm_program.specs.Program.{Program, line_at, targets_of}
 use Rattle.jvm_program.specs.Effect.{Workspace, Effect, goes_on, jumps, branches, effect}
 use Rattle.jvm_program.specs.Step.{State, Frame, placed, turn, turn_by, jumped}
 use Rattle.jvm_program.specs.Step as machine
-use Rattle.machine_counts.specs.Classes.{weighed, executed, place_in}
 use Rattle.code_steps.specs.declared.step.Step.{Step}
 use Rattle.code_steps.specs.declared.step.Step.TheVariants.{Does, Skips, Leaves, Selects}
 use Rattle.code_steps.specs.Widths.{width, bytes_before, size}
 use Rattle.code_steps.specs.Outcomes.{Outcome, ended, left, stopped, beyond, later, after_instruction, after_branch, selected, after_switch, outcome_from}
 use Rattle.code_steps.specs.Placing.{placed_line, LiesAt}
 use Rattle.code_steps.specs.Leading.{LeadsTo}
+use Rattle.code_steps.proofs.WidthLemmas.{width-some}
+use Rattle.code_paths.specs.Classes.{weighed, executed, place_in}
 use Rattle.code_paths.specs.Paths.{step_weight, weigh, Path, PathTo}
 use Rattle.code_paths.proofs.Joining.{paths-join, no-turns, path-wider, turn-path}
-use Rattle.code_paths.proofs.Weighing.{weigh-back, laid-weighs, width-some}
+use Rattle.code_paths.proofs.Weighing.{weigh-back, laid-weighs}
 
 here : (at : ℕ) → at + 0 ≡ at
 here at = omega arith

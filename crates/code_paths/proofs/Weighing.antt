@@ -1,24 +1,19 @@
 -- What steps weigh, the bytes that they take, and the lines that they are where they lie.
-use Rattle.std.proofs.Common.{◌≡◌, ℕ, zero, suc, ◌+◌, ◌≤◌, Bool, true, false, nat_lt, if◌then◌else◌, ℤ, pos, negsuc, List, [], ◌∷◌, ◌++◌, take, drop, slice_get, Option, Some, refl, ap, subst, ◌∙◌, arith, unwrap_or}
+use Rattle.std.proofs.Common.{◌≡◌, ℕ, zero, suc, ◌+◌, ◌≤◌, List, [], ◌∷◌, ◌++◌, take, drop, slice_get, Option, Some, refl, ap, subst, ◌∙◌, arith, unwrap_or}
 use Rattle.std.proofs.Math.Nat.{add_assoc}
 use Rattle.std.proofs.lemmas.Option.{none-some}
-use Rattle.jvm_code.specs.declared.names.branch_name.BranchName.TheVariants.{Goto}
-use Rattle.jvm_program.specs.declared.array_kind.ArrayKind.{ArrayKind}
-use Rattle.jvm_program.specs.declared.array_kind.ArrayKind.TheVariants.{Ints, Pages}
-use Rattle.jvm_program.specs.declared.constant.Constant.{Constant}
-use Rattle.jvm_program.specs.declared.constant.Constant.TheVariants as constants
+use Rattle.run_laws.specs.Trail.{went}
+use Rattle.jvm_names.specs.declared.branch_name.BranchName.TheVariants.{Goto}
 use Rattle.jvm_program.specs.declared.instruction.Instruction.{Instruction}
-use Rattle.jvm_program.specs.declared.instruction.Instruction.TheVariants as instructions
 use Rattle.jvm_program.specs.declared.linked_line.LinkedLine.{LinkedLine}
 use Rattle.jvm_program.specs.Program.{Program, line_at}
 use Rattle.jvm_program.specs.Effect.{Workspace}
 use Rattle.jvm_program.specs.Step.{State, Frame, placed}
-use Rattle.run_laws.specs.Trail.{went}
-use Rattle.machine_counts.specs.Classes.{weighed, executed}
 use Rattle.code_steps.specs.declared.step.Step.{Step}
 use Rattle.code_steps.specs.declared.step.Step.TheVariants.{Does, Skips, Leaves, Selects}
-use Rattle.code_steps.specs.Widths.{lies_from, int_width, constant_width, array_width, instruction_width, width, bytes_before, size}
+use Rattle.code_steps.specs.Widths.{width, bytes_before, size}
 use Rattle.code_steps.specs.Placing.{placed_instruction, placed_line, laid, LiesAt}
+use Rattle.code_paths.specs.Classes.{weighed, executed}
 use Rattle.code_paths.specs.Paths.{LooksAtNoTarget, step_weight, weigh}
 
 -- ---- weights
@@ -51,38 +46,6 @@ laid-weighs weight still at (Does instruction) code = refl
 laid-weighs weight still at (Skips name k) code = still name (at + 3 + bytes_before code k) 0
 laid-weighs weight still at (Leaves target) code = still Goto target 0
 laid-weighs weight still at (Selects s) code = refl
-
--- ---- each step has a byte
-
-some-way : (b : Bool) (m n : ℕ) → 1 ≤ m → 1 ≤ n → 1 ≤ (if b then m else n)
-some-way true m n h k = h
-some-way false m n h k = k
-
-int-some : (z : ℤ) → 1 ≤ int_width z
-int-some z =
-    some-way (lies_from (negsuc 0) (pos 5) z) 1 (if lies_from (negsuc 127) (pos 127) z then 2 else 3) (omega arith)
-    (some-way (lies_from (negsuc 127) (pos 127) z) 2 3 (omega arith) (omega arith))
-
-constant-some : (c : Constant) → 1 ≤ constant_width c
-constant-some (constants.Int n) = search int-some
-constant-some _ = omega arith
-
-array-some : (kind : ArrayKind) → 1 ≤ array_width kind
-array-some Ints = omega arith
-array-some Pages = omega arith
-
-instruction-some : (i : Instruction) → 1 ≤ instruction_width i
-instruction-some (instructions.Push constant) = constant-some constant
-instruction-some (instructions.Load kind i) = some-way (nat_lt i 4) 1 2 (omega arith) (omega arith)
-instruction-some (instructions.Store kind i) = some-way (nat_lt i 4) 1 2 (omega arith) (omega arith)
-instruction-some (instructions.NewArray kind) = array-some kind
-instruction-some _ = omega arith
-
-pub width-some : (s : Step) → 1 ≤ width s
-width-some (Does instruction) = instruction-some instruction
-width-some (Skips name k) = omega arith
-width-some (Leaves target) = omega arith
-width-some (Selects s) = omega arith
 
 pub bytes-within : (code : List Step) (k : ℕ) → bytes_before code k ≤ size code
 bytes-within code zero = omega arith

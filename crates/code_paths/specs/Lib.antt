@@ -1,1 +1,4 @@
+pub mod Guest
+pub mod Classes
+pub mod Code
 pub mod Paths

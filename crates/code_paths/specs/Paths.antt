@@ -3,27 +3,28 @@ use Rattle.std.specs.Prelude.{◌≡◌, ℕ, ◌+◌, ◌≤◌, List, [], ◌�
 use Rattle.std.specs.List.{sum_by}
 use Rattle.run_laws.specs.Trail.{advanced, moved}
 use Rattle.run_laws.specs.Places.{Rises, visited}
-use Rattle.jvm_code.specs.declared.names.branch_name.BranchName.{BranchName}
-use Rattle.jvm_code.specs.declared.names.branch_name.BranchName.TheVariants.{Goto}
+use Rattle.jvm_names.specs.declared.branch_name.BranchName.{BranchName}
+use Rattle.jvm_names.specs.declared.branch_name.BranchName.TheVariants.{Goto}
 use Rattle.jvm_program.specs.declared.instruction.Instruction.{Instruction}
 use Rattle.jvm_program.specs.declared.instruction.Instruction.TheVariants.{Branch, TableSwitch, Call}
 use Rattle.jvm_program.specs.Program.{Program}
 use Rattle.jvm_program.specs.Effect.{Workspace}
 use Rattle.jvm_program.specs.Step.{State, Frame, placed, turn}
-use Rattle.machine_counts.specs.Classes.{executed, place_in}
-use Rattle.machine_counts.specs.Code.{waiting_frame}
 use Rattle.code_steps.specs.declared.step.Step.{Step}
 use Rattle.code_steps.specs.declared.step.Step.TheVariants.{Does, Skips, Leaves, Selects}
 use Rattle.code_steps.specs.Widths.{bytes_before, size}
 use Rattle.code_steps.specs.Outcomes.{Outcome, ended, left, stopped}
 use Rattle.code_steps.specs.Placing.{placed_line}
 use Rattle.code_steps.specs.Leading.{StopsAt}
+use Rattle.code_paths.specs.Classes.{executed, place_in}
+use Rattle.code_paths.specs.Code.{waiting_frame}
 
 -- ---- what steps weigh
 
 -- a weight of instructions that looks at no target
 abbrev pub LooksAtNoTarget : (Instruction → ℕ) → Type 0
-LooksAtNoTarget weight = (name : BranchName) (t u : ℕ) → weight (Branch name t) ≡ weight (Branch name u)
+LooksAtNoTarget weight = (name : BranchName) (t u : ℕ)
+    → weight (Branch name t) ≡ weight (Branch name u)
 
 -- what the instruction of a step weighs, wherever the step lies
 abbrev pub step_weight : (Instruction → ℕ) → Step → ℕ
@@ -41,9 +42,11 @@ weigh weight (s ∷ code) = step_weight weight s + weigh weight code
 
 -- So many turns that only move lead from one state to another. Whatever the executed instructions weigh, it is at most this total, and
 -- the offsets of method m at which they stand rise from `low` and lie before `high`.
-pub record Path (program : Program) (words m low high n : ℕ) (total : (Instruction → ℕ) → ℕ) (x y : State) : Type 0 where
+pub record Path (program : Program) (words m low high n : ℕ) (total : (Instruction → ℕ) → ℕ)
+    (x y : State) : Type 0 where
   pub comes : advanced (turn program words) n x ≡ Some y
-  pub counts : (weight : Instruction → ℕ) → LooksAtNoTarget weight → sum_by (executed program weight) (moved (turn program words) n x) ≤ total weight
+  pub counts : (weight : Instruction → ℕ) → LooksAtNoTarget weight
+      → sum_by (executed program weight) (moved (turn program words) n x) ≤ total weight
   pub rises : Rises low (visited (place_in m) (moved (turn program words) n x)) high
 
 -- ---- paths through code
@@ -51,22 +54,31 @@ pub record Path (program : Program) (words m low high n : ℕ) (total : (Instruc
 -- A path, seen from method m, from the k-th step of code that lies at an offset of method `own` to where its outcome leads. It weighs no more
 -- than the steps between: those before the k-th, and those from the one on where the code stops, weigh nothing. `high` tells how high a path
 -- lies that has come to an offset of the code's method.
-abbrev pub PathTo : Program → (words own m low : ℕ) → (high : ℕ → ℕ) → (at k : ℕ) → List Step → List Frame → State → Outcome → Type 0
+abbrev pub PathTo : Program → (words own m low : ℕ) → (high : ℕ → ℕ) → (at k : ℕ) → List Step
+    → List Frame → State → Outcome → Type 0
 PathTo program words own m low high at k code others x (ended n w) =
-    Path program words m low (high (at + size code)) n (λ weight. weigh weight (drop k code)) x (placed own (at + size code) w others)
+    Path program words m low (high (at + size code)) n (λ weight. weigh weight (drop k code)) x
+    (placed own (at + size code) w others)
 PathTo program words own m low high at k code others x (left n target w) =
-    Path program words m low (high (at + size code)) n (λ weight. weigh weight (drop k code)) x (placed own target w others)
+    Path program words m low (high (at + size code)) n (λ weight. weigh weight (drop k code)) x
+    (placed own target w others)
 PathTo program words own m low high at k code others x (stopped n i w e) =
-    Path program words m low (high (at + bytes_before code i)) n (λ weight. weigh weight (drop k (take i code))) x (placed own (at + bytes_before code i) w others)
+    Path program words m low (high (at + bytes_before code i)) n
+    (λ weight. weigh weight (drop k (take i code))) x
+    (placed own (at + bytes_before code i) w others)
     × StopsAt program words own at code others i w e
 
 -- seen from the code's own method: it rises from the k-th step, and lies before the code's end, or before the step where it stops
-abbrev pub PathWithin : Program → (words m at k : ℕ) → List Step → List Frame → State → Outcome → Type 0
-PathWithin program words m at k code others x o = PathTo program words m m (at + bytes_before code k) (λ a. a) at k code others x o
+abbrev pub PathWithin : Program → (words m at k : ℕ) → List Step → List Frame → State → Outcome
+    → Type 0
+PathWithin program words m at k code others x o =
+    PathTo program words m m (at + bytes_before code k) (λ a. a) at k code others x o
 
 -- seen from another method: nothing is visited, so it lies at any offset
-abbrev pub PathElsewhere : Program → (words own m low at k : ℕ) → List Step → List Frame → State → Outcome → Type 0
-PathElsewhere program words own m low at k code others x o = PathTo program words own m low (λ a. low) at k code others x o
+abbrev pub PathElsewhere : Program → (words own m low at k : ℕ) → List Step → List Frame → State
+    → Outcome → Type 0
+PathElsewhere program words own m low at k code others x o =
+    PathTo program words own m low (λ a. low) at k code others x o
 
 -- ---- calls
 

@@ -2,8 +2,8 @@
 use Rattle.std.proofs.Common.{◌≡◌, ℕ, zero, suc, ◌+◌, List, [], ◌∷◌, slice_get, Option, Some, None, refl, ap, subst, sym, ◌∙◌, arith}
 use Rattle.std.proofs.Math.Nat.{add_assoc}
 use Rattle.nv_events.specs.Turn.{Turn, moves, ends, leaves, asks}
-use Rattle.jvm_code.specs.declared.names.branch_name.BranchName.{BranchName}
-use Rattle.jvm_code.specs.declared.table_switch.TableSwitch.{TableSwitch as Table}
+use Rattle.jvm_names.specs.declared.branch_name.BranchName.{BranchName}
+use Rattle.jvm_names.specs.declared.table_switch.TableSwitch.{TableSwitch as Table}
 use Rattle.jvm_program.specs.declared.instruction.Instruction.TheVariants.{TableSwitch}
 use Rattle.jvm_program.specs.Program.{Program, line_at, targets_of}
 use Rattle.jvm_program.specs.Effect.{Workspace, Effect, goes_on, jumps, branches, effect}

@@ -12,11 +12,13 @@ use Rattle.code_steps.specs.Outcomes.{Outcome, ended, left, stopped, outcome}
 use Rattle.code_steps.specs.Placing.{laid, LiesAt}
 
 -- The machine stands at the i-th step of code that lies at an offset of a method, and its next turn is by this effect.
-pub record StopsAt (program : Program) (words m at : ℕ) (code : List Step) (others : List Frame) (i : ℕ) (w : Workspace) (e : Effect) : Type 0 where
+pub record StopsAt (program : Program) (words m at : ℕ) (code : List Step) (others : List Frame)
+    (i : ℕ) (w : Workspace) (e : Effect) : Type 0 where
   pub line : LinkedLine
   pub line_is : slice_get (laid at code) i ≡ Some line
   pub next_is : line.next ≡ at + bytes_before code (suc i)
-  pub turns : turn program words (placed m (at + bytes_before code i) w others) ≡ turn_by e m line others
+  pub turns : turn program words (placed m (at + bytes_before code i) w others)
+      ≡ turn_by e m line others
 
 -- So many turns that only move lead from a state to where the outcome says.
 abbrev pub LeadsTo : Program → ℕ → ℕ → ℕ → List Step → List Frame → State → Outcome → Type 0
@@ -25,12 +27,15 @@ LeadsTo program words m at code others x (ended n w) =
 LeadsTo program words m at code others x (left n target w) =
     advanced (turn program words) n x ≡ Some (placed m target w others)
 LeadsTo program words m at code others x (stopped n i w e) =
-    (advanced (turn program words) n x ≡ Some (placed m (at + bytes_before code i) w others)) × StopsAt program words m at code others i w e
+    (advanced (turn program words) n x ≡ Some (placed m (at + bytes_before code i) w others))
+    × StopsAt program words m at code others i w e
 
 -- A method whose code, called with arguments, leads to its return within so many instructions, with a result and what is then there.
-pub record Returns (program : Program) (words callee : ℕ) (given : List Value) (caller : Workspace) (n : ℕ) (result : Option Value) (back : Workspace) : Type 0 where
+pub record Returns (program : Program) (words callee : ℕ) (given : List Value) (caller : Workspace)
+    (n : ℕ) (result : Option Value) (back : Workspace) : Type 0 where
   pub body : List Step
   pub lies : LiesAt program callee 0 body
   pub at : ℕ
   pub before : Workspace
-  pub returns : outcome program words body (body_workspace given caller) ≡ stopped n at before (gives result back)
+  pub returns : outcome program words body (body_workspace given caller)
+      ≡ stopped n at before (gives result back)

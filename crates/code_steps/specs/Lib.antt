@@ -2,3 +2,4 @@ pub mod Widths
 pub mod Outcomes
 pub mod Placing
 pub mod Leading
+pub mod Switches

@@ -31,7 +31,8 @@ after_instruction w (goes_on v) rest = later (rest v)
 after_instruction w e rest = stopped 0 0 w e
 
 -- what a branch leads to, with the outcomes of the steps behind it and of those at its one target
-abbrev pub after_branch : Workspace → Effect → (Workspace → Outcome) → (Workspace → Outcome) → Outcome
+abbrev pub after_branch : Workspace → Effect → (Workspace → Outcome) → (Workspace → Outcome)
+    → Outcome
 after_branch w (goes_on v) rest target = later (rest v)
 after_branch w (jumps zero v) rest target = later (target v)
 after_branch w e rest target = stopped 0 0 w e
@@ -52,7 +53,8 @@ outcome_from program words (s ∷ code) (suc k) w = beyond (outcome_from program
 outcome_from program words (Does instruction ∷ code) zero w =
     after_instruction w (effect program words instruction w) (outcome_from program words code 0)
 outcome_from program words (Skips name k ∷ code) zero w =
-    after_branch w (branches name w) (outcome_from program words code 0) (outcome_from program words code k)
+    after_branch w (branches name w) (outcome_from program words code 0)
+    (outcome_from program words code k)
 outcome_from program words (Leaves target ∷ code) zero w = left 1 target w
 outcome_from program words (Selects s ∷ code) zero w =
     after_switch w (effect program words (TableSwitch s) w) (targets_of (TableSwitch s))

@@ -1,6 +1,6 @@
 -- Steps that are laid down in a method.
 use Rattle.std.specs.Prelude.{◌≡◌, ℕ, ◌+◌, List, [], ◌∷◌, Some}
-use Rattle.jvm_code.specs.declared.names.branch_name.BranchName.TheVariants.{Goto}
+use Rattle.jvm_names.specs.declared.branch_name.BranchName.TheVariants.{Goto}
 use Rattle.jvm_program.specs.declared.linked_line.LinkedLine.{LinkedLine}
 use Rattle.jvm_program.specs.declared.instruction.Instruction.{Instruction}
 use Rattle.jvm_program.specs.declared.instruction.Instruction.TheVariants.{Branch, TableSwitch}
@@ -17,7 +17,11 @@ placed_instruction at (Leaves target) others = Branch Goto target
 placed_instruction at (Selects s) others = TableSwitch s
 
 abbrev pub placed_line : ℕ → Step → List Step → LinkedLine
-placed_line at s others = record { at = at; next = at + width s; instruction = placed_instruction at s others }
+placed_line at s others = record {
+  at = at;
+  next = at + width s;
+  instruction = placed_instruction at s others;
+}
 
 -- the lines of code from an offset on
 abbrev pub laid : ℕ → List Step → List LinkedLine
@@ -27,4 +31,5 @@ laid at (s ∷ code) = placed_line at s code ∷ laid (at + width s) code
 -- a method has the lines of the code from an offset on
 abbrev pub LiesAt : Program → ℕ → ℕ → List Step → Type 0
 LiesAt program m at [] = Unit {0}
-LiesAt program m at (s ∷ code) = (line_at program m at ≡ Some (placed_line at s code)) × LiesAt program m (at + width s) code
+LiesAt program m at (s ∷ code) = (line_at program m at ≡ Some (placed_line at s code))
+    × LiesAt program m (at + width s) code

@@ -16,7 +16,8 @@ lies_from low high z = int_le low z && int_le z high
 
 -- iconst, bipush, sipush and ldc_w
 abbrev pub int_width : ℤ → ℕ
-int_width z = if lies_from (negsuc 0) (pos 5) z then 1 else if lies_from (negsuc 127) (pos 127) z then 2 else 3
+int_width z = if lies_from (negsuc 0) (pos 5) z then 1
+    else if lies_from (negsuc 127) (pos 127) z then 2 else 3
 
 abbrev pub constant_width : Constant → ℕ
 constant_width constants.Null = 1

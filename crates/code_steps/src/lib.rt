@@ -3,6 +3,10 @@
 #![tactic(auto)]
 
 pub mod laws;
+mod sizes;
 mod step;
+mod widths;
 
+pub use sizes::code_size;
 pub use step::Step;
+pub use widths::{lies_from, width};

@@ -1,4 +1,4 @@
-use jvm_code::{BranchName, TableSwitch};
+use jvm_names::{BranchName, TableSwitch};
 use jvm_program::Instruction;
 
 /// One instruction of code that is emitted. Where it goes on is told by the steps behind it, and not by an offset.

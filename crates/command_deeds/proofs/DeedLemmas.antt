@@ -10,7 +10,7 @@ use Rattle.nv_outside.specs.declared.shelf_error.ShelfError.TheVariants as shelf
 use Rattle.command_deeds.specs.declared.stop.Stop.{Stop}
 use Rattle.command_deeds.specs.declared.stop.Stop.TheVariants.{ReadFault, WriteFault, ShelfFault, NoMemory}
 use Rattle.command_deeds.specs.Deeds.{Deed, prepares, stores, prints, plays, DoesDeed, StopsDeed, DoesAll, StopsIn}
-use Rattle.command_deeds.specs.Ends.{Answer, ByFiles, Comes, DoesOrStops, Due, GivesEnd}
+use Rattle.command_deeds.specs.Ends.{CommandAnswer, ByFiles, Comes, DoesOrStops, Due, GivesEnd}
 use Rattle.command_deeds.specs.Ends.{MakesEnd, Works, answers, is_stop}
 use Rattle.command_deeds.specs.Stops.{shelf_stop}
 use Rattle.command_deeds.specs.World.{OnlyOut, OnlyShelf, Rises, SameShelf, Seen, Sets, Stays}
@@ -109,26 +109,26 @@ stays_then_stops (deed ∷ deeds) w u v stop p (inr q) = inr (q.0, stays_then_de
 
 -- ---- work that begins where nothing has changed yet
 
-pub stays_then_works : (due : Due) (w u v : World) (end : Result Answer Stop) → Stays w u → Works due u v end → Works due w v end
+pub stays_then_works : (due : Due) (w u v : World) (end : Result CommandAnswer Stop) → Stays w u → Works due u v end → Works due w v end
 stays_then_works due w u v (Ok answer) p q = (q.0, q.1, stays_then_all due.deeds w u v p q.2)
 stays_then_works due w u v (Err stop) p q = stays_then_stops due.deeds w u v stop p q
 
 -- what is due later is due here
-pub stays_then_comes : (Later IsDueAt : World → Due → Type 0) (w u v : World) (end : Result Answer Stop) → Stays w u
+pub stays_then_comes : (Later IsDueAt : World → Due → Type 0) (w u v : World) (end : Result CommandAnswer Stop) → Stays w u
     → ((due : Due) → Later u due → IsDueAt w due) → Comes Later u v end → Comes IsDueAt w v end
 stays_then_comes Later IsDueAt w u v (Ok answer) p f (inl q) = absurd q
 stays_then_comes Later IsDueAt w u v (Err stop) p f (inl q) = inl (same_then_load w.shelf u.shelf v.shelf stop p.0 q.0, only_then w u v p.1 q.1)
 stays_then_comes Later IsDueAt w u v end p f (inr q) = inr (q.0, f q.0 q.1, stays_then_works q.0 w u v end p q.2)
 
 -- what is due is due under another name
-pub due_as : (Later IsDueAt : World → Due → Type 0) (w v : World) (end : Result Answer Stop) → ((due : Due) → Later w due → IsDueAt w due)
+pub due_as : (Later IsDueAt : World → Due → Type 0) (w v : World) (end : Result CommandAnswer Stop) → ((due : Due) → Later w due → IsDueAt w due)
     → Comes Later w v end → Comes IsDueAt w v end
 due_as Later IsDueAt w v end f q = stays_then_comes Later IsDueAt w w v end (stays w) f q
 
 -- ---- ends
 
 -- an answer alone is due
-pub answers_due : (IsDueAt : World → Due → Type 0) (answer : Answer) (w : World) → is_stop answer.done ≡ false → IsDueAt w (answers answer)
+pub answers_due : (IsDueAt : World → Due → Type 0) (answer : CommandAnswer) (w : World) → is_stop answer.done ≡ false → IsDueAt w (answers answer)
     → Comes IsDueAt w w (Ok answer)
 answers_due IsDueAt answer w kind due = inr (answers answer, due, (refl, kind, stays w))
 
@@ -137,8 +137,8 @@ pub no_memory : (IsDueAt : World → Due → Type 0) (w : World) → Comes IsDue
 no_memory IsDueAt w = inl (stays w)
 
 -- an end by another name, and where nothing had changed before
-pub gives_end_as : (IsRefused Also : Files → Answer → Type 0) (a b c : Seen Files) (end : Result Answer Stop) → SameShelf a b
-    → ((files : Files) (answer : Answer) → IsRefused files answer → Also files answer) → GivesEnd IsRefused b c end → GivesEnd Also a c end
+pub gives_end_as : (IsRefused Also : Files → CommandAnswer → Type 0) (a b c : Seen Files) (end : Result CommandAnswer Stop) → SameShelf a b
+    → ((files : Files) (answer : CommandAnswer) → IsRefused files answer → Also files answer) → GivesEnd IsRefused b c end → GivesEnd Also a c end
 gives_end_as IsRefused Also a b c (Err stop) p f q = same_then_load a b c stop p q
 gives_end_as IsRefused Also a b c (Ok answer) p f q =
     (same_then_shelf a b c p q.0, q.1, by_same a.told b.told (λ files. Also files answer) p.0 (each b.told q.2))
@@ -147,14 +147,14 @@ gives_end_as IsRefused Also a b c (Ok answer) p f q =
     each None h = tt
     each (Some files) h = f files answer h
 
-pub makes_end_as : (IsRefused Also : Answer → Type 0) (end : Result Answer Stop) → ((answer : Answer) → IsRefused answer → Also answer)
+pub makes_end_as : (IsRefused Also : CommandAnswer → Type 0) (end : Result CommandAnswer Stop) → ((answer : CommandAnswer) → IsRefused answer → Also answer)
     → MakesEnd IsRefused end → MakesEnd Also end
 makes_end_as IsRefused Also (Err stop) f q = q
 makes_end_as IsRefused Also (Ok answer) f q = (q.0, f answer q.1)
 
 -- a stage that only takes memory ended, where the shelf was loaded from before
-pub makes_gives : (IsRefused : Answer → Type 0) (Also : Files → Answer → Type 0) (a b : Seen Files) (end : Result Answer Stop) → SameShelf a b
-    → ((files : Files) (answer : Answer) → IsRefused answer → Also files answer) → MakesEnd IsRefused end → GivesEnd Also a b end
+pub makes_gives : (IsRefused : CommandAnswer → Type 0) (Also : Files → CommandAnswer → Type 0) (a b : Seen Files) (end : Result CommandAnswer Stop) → SameShelf a b
+    → ((files : Files) (answer : CommandAnswer) → IsRefused answer → Also files answer) → MakesEnd IsRefused end → GivesEnd Also a b end
 makes_gives IsRefused Also a b (Err stop) p f q = rw q p
 makes_gives IsRefused Also a b (Ok answer) p f q = (p, q.0, each a.told)
   where
@@ -163,9 +163,9 @@ makes_gives IsRefused Also a b (Ok answer) p f q = (p, q.0, each a.told)
     each (Some files) = f files answer q.1
 
 -- a stage that loads ended the command
-pub gives_ends : (IsDue : Files → Option (List ℕ) → Due → Type 0) (IsRefused : Files → Answer → Type 0) (w v : World) (end : Result Answer Stop)
+pub gives_ends : (IsDue : Files → Option (List ℕ) → Due → Type 0) (IsRefused : Files → CommandAnswer → Type 0) (w v : World) (end : Result CommandAnswer Stop)
     → GivesEnd IsRefused w.shelf v.shelf end → OnlyShelf w v
-    → ((files : Files) (answer : Answer) → IsRefused files answer → IsDue files w.input.told (answers answer)) → Comes (ByFiles IsDue) w v end
+    → ((files : Files) (answer : CommandAnswer) → IsRefused files answer → IsDue files w.input.told (answers answer)) → Comes (ByFiles IsDue) w v end
 gives_ends IsDue IsRefused w v (Err stop) q only f = inl (q, only)
 gives_ends IsDue IsRefused w v (Ok answer) q only f = inr (answers answer, each w.shelf.told q.2, (refl, q.1, (q.0, only)))
   where
@@ -175,7 +175,7 @@ gives_ends IsDue IsRefused w v (Ok answer) q only f = inr (answers answer, each 
 
 -- it gave a value, and the command went on
 pub gives_then : {A : Type 0} (IsDue Later : Files → Option (List ℕ) → Due → Type 0) (IsGiven : Files → A → Type 0) (value : A) (w u v : World)
-    (end : Result Answer Stop) → SameShelf w.shelf u.shelf × IfSome w.shelf.told (λ files. IsGiven files value) → OnlyShelf w u
+    (end : Result CommandAnswer Stop) → SameShelf w.shelf u.shelf × IfSome w.shelf.told (λ files. IsGiven files value) → OnlyShelf w u
     → ((files : Files) (due : Due) → IsGiven files value → Later files w.input.told due → IsDue files w.input.told due)
     → Comes (ByFiles Later) u v end → Comes (ByFiles IsDue) w v end
 gives_then IsDue Later IsGiven value w u v end q only f comes =
@@ -189,7 +189,7 @@ gives_then IsDue Later IsGiven value w u v end q only f comes =
     each due (Some files) g h = f files due g h
 
 -- what is due whatever the files are
-pub over_any : (IsDue : Option (List ℕ) → Due → Type 0) (w v : World) (end : Result Answer Stop) → Comes (λ w. IsDue w.input.told) w v end
+pub over_any : (IsDue : Option (List ℕ) → Due → Type 0) (w v : World) (end : Result CommandAnswer Stop) → Comes (λ w. IsDue w.input.told) w v end
     → Comes (ByFiles (λ files. IsDue)) w v end
 over_any IsDue w v end comes = due_as (λ w. IsDue w.input.told) (ByFiles (λ files. IsDue)) w v end (λ due h. each due w.shelf.told h) comes
   where
@@ -198,15 +198,15 @@ over_any IsDue w v end comes = due_as (λ w. IsDue w.input.told) (ByFiles (λ fi
     each due (Some files) h = h
 
 -- a stage that takes memory ended the command
-pub makes_ends : (IsDueAt : World → Due → Type 0) (IsRefused : Answer → Type 0) (w : World) (end : Result Answer Stop) → MakesEnd IsRefused end
-    → ((answer : Answer) → IsRefused answer → IsDueAt w (answers answer)) → Comes IsDueAt w w end
+pub makes_ends : (IsDueAt : World → Due → Type 0) (IsRefused : CommandAnswer → Type 0) (w : World) (end : Result CommandAnswer Stop) → MakesEnd IsRefused end
+    → ((answer : CommandAnswer) → IsRefused answer → IsDueAt w (answers answer)) → Comes IsDueAt w w end
 makes_ends IsDueAt IsRefused w (Ok answer) q f = answers_due IsDueAt answer w q.0 (f answer q.1)
 makes_ends IsDueAt IsRefused w (Err stop) q f = rw q (no_memory IsDueAt w)
 
 -- ---- deeds
 
 -- one deed before others
-pub works_more : (deed : Deed) (deeds : List Deed) (answer : Option Answer) (w u v : World) (end : Result Answer Stop) → DoesDeed deed w u
+pub works_more : (deed : Deed) (deeds : List Deed) (answer : Option CommandAnswer) (w u v : World) (end : Result CommandAnswer Stop) → DoesDeed deed w u
     → Works (record { deeds = deeds; answer = answer }) u v end → Works (record { deeds = deed ∷ deeds; answer = answer }) w v end
 works_more deed deeds answer w u v (Ok d) p q = (q.0, q.1, (u, p, q.2))
 works_more deed deeds answer w u v (Err stop) p q = inr (u, p, q)
@@ -227,7 +227,7 @@ deeds_then first deeds w u v (Ok d) p q = all_then first deeds w u v p q
 deeds_then first deeds w u v (Err stop) p q = all_then_stops first deeds w u v stop p q
 
 -- deeds before others
-pub all_then_works : (first deeds : List Deed) (answer : Option Answer) (w u v : World) (end : Result Answer Stop) → DoesAll first w u
+pub all_then_works : (first deeds : List Deed) (answer : Option CommandAnswer) (w u v : World) (end : Result CommandAnswer Stop) → DoesAll first w u
     → Works (record { deeds = deeds; answer = answer }) u v end → Works (record { deeds = first ++ deeds; answer = answer }) w v end
 all_then_works first deeds answer w u v (Ok d) p q = (q.0, q.1, all_then first deeds w u v p q.2)
 all_then_works first deeds answer w u v (Err stop) p q = all_then_stops first deeds w u v stop p q
@@ -239,7 +239,7 @@ stops_before (deed ∷ first) deeds w v stop (inl p) = inl p
 stops_before (deed ∷ first) deeds w v stop (inr p) = inr (p.0, p.1, stops_before first deeds p.0 v stop p.2)
 
 -- a text was written, or a part of it
-pub written : (text : List ℕ) (w v : World) (answer : Answer) → is_stop answer.done ≡ false → Takes w.out v.out text → OnlyOut w v
+pub written : (text : List ℕ) (w v : World) (answer : CommandAnswer) → is_stop answer.done ≡ false → Takes w.out v.out text → OnlyOut w v
     → Works (record { deeds = prints text ∷ []; answer = Some answer }) w v (Ok answer)
 written text w v answer kind took only = (refl, kind, (v, (took, only), stays v))
 

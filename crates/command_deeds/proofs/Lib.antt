@@ -1,2 +1,4 @@
 pub mod DeedLemmas
 pub mod PieceLemmas
+pub mod PlayLemmas
+pub mod ReadyLemmas

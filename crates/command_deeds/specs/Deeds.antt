@@ -21,7 +21,8 @@ abbrev pub DoesDeed : Deed → World → World → Type 0
 DoesDeed prepares w v = Stays w v
 DoesDeed (stores name bytes) w v = Sets w.shelf v.shelf name bytes × OnlyShelf w v
 DoesDeed (prints text) w v = Takes w.out v.out text × OnlyOut w v
-DoesDeed (plays turns stage) w v = SameShelf w.shelf v.shelf × ComesTo (stage turns) (streams_of w) (streams_of v)
+DoesDeed (plays turns stage) w v = SameShelf w.shelf v.shelf
+    × ComesTo (stage turns) (streams_of w) (streams_of v)
 
 -- What may stop a deed, and what is done of it then. A guest's run takes no memory.
 abbrev pub StopsDeed : Deed → World → World → Stop → Type 0
@@ -29,7 +30,8 @@ StopsDeed prepares w v stop = StopsLoad w.shelf v.shelf stop × OnlyShelf w v
 StopsDeed (stores name bytes) w v stop = StopsStore w.shelf v.shelf name stop × OnlyShelf w v
 StopsDeed (prints text) w v stop = StopsPrint w.out v.out text stop × OnlyOut w v
 StopsDeed (plays turns stage) w v stop =
-    SameShelf w.shelf v.shelf × ((fault : IoFault) × (stop ≡ stop_of fault) × StopsRun turns stage fault (streams_of w) (streams_of v))
+    SameShelf w.shelf v.shelf × ((fault : IoFault) × (stop ≡ stop_of fault)
+    × StopsRun turns stage fault (streams_of w) (streams_of v))
 
 -- all deeds are done, one after the other
 abbrev pub DoesAll : List Deed → World → World → Type 0
@@ -39,4 +41,5 @@ DoesAll (deed ∷ deeds) w v = (u : World) × DoesDeed deed w u × DoesAll deeds
 -- the deeds up to one are done, and that one was stopped
 abbrev pub StopsIn : List Deed → World → World → Stop → Type 0
 StopsIn [] w v stop = ⊥
-StopsIn (deed ∷ deeds) w v stop = StopsDeed deed w v stop ⊎ ((u : World) × DoesDeed deed w u × StopsIn deeds u v stop)
+StopsIn (deed ∷ deeds) w v stop = StopsDeed deed w v stop
+    ⊎ ((u : World) × DoesDeed deed w u × StopsIn deeds u v stop)

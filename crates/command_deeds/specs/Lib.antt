@@ -3,3 +3,5 @@ pub mod World
 pub mod Deeds
 pub mod Ends
 pub mod Line
+pub mod Runs
+pub mod Readying

@@ -40,8 +40,10 @@ hex_digit d = if nat_lt d 10 then 48 + d else 55 + d
 
 -- a word in eight of them
 unfoldable pub hex_word : ℕ → List ℕ
-hex_word w = hex_digit (w / 2 ^ 28 % 16) ∷ hex_digit (w / 2 ^ 24 % 16) ∷ hex_digit (w / 2 ^ 20 % 16) ∷ hex_digit (w / 2 ^ 16 % 16)
-    ∷ hex_digit (w / 2 ^ 12 % 16) ∷ hex_digit (w / 2 ^ 8 % 16) ∷ hex_digit (w / 2 ^ 4 % 16) ∷ hex_digit (w % 16) ∷ []
+hex_word w = hex_digit (w / 2 ^ 28 % 16) ∷ hex_digit (w / 2 ^ 24 % 16) ∷ hex_digit (w / 2 ^ 20 % 16)
+    ∷ hex_digit (w / 2 ^ 16 % 16)
+    ∷ hex_digit (w / 2 ^ 12 % 16) ∷ hex_digit (w / 2 ^ 8 % 16) ∷ hex_digit (w / 2 ^ 4 % 16)
+    ∷ hex_digit (w % 16) ∷ []
 
 -- pieces one after the other
 abbrev pub joined : List (List ℕ) → List ℕ
@@ -49,11 +51,14 @@ joined [] = []
 joined (piece ∷ pieces) = piece ++ joined pieces
 
 abbrev pub fault_line : Fault → List ℕ
-fault_line f = joined (codes "nested: fault " ∷ decimal f.kind ∷ codes " pc " ∷ hex_word f.pc ∷ codes " value " ∷ hex_word f.value ∷ codes "\n" ∷ [])
+fault_line f = joined (codes "nested: fault " ∷ decimal f.kind ∷ codes " pc " ∷ hex_word f.pc
+    ∷ codes " value " ∷ hex_word f.value ∷ codes "\n" ∷ [])
 
 -- a text and three numbers, as a line
 abbrev pub numbers_line : List ℕ → ℕ → ℕ → ℕ → List ℕ
-numbers_line text first second third = joined (text ∷ decimal first ∷ codes " " ∷ decimal second ∷ codes " " ∷ decimal third ∷ codes "\n" ∷ [])
+numbers_line text first second third =
+    joined (text ∷ decimal first ∷ codes " " ∷ decimal second ∷ codes " " ∷ decimal third
+    ∷ codes "\n" ∷ [])
 
 abbrev pub elf_line : ElfFault → List ℕ
 elf_line f = numbers_line (codes "nested: elf ") f.kind f.i f.j
@@ -65,14 +70,16 @@ abbrev pub verify_line : VerifyFault → List ℕ
 verify_line f = numbers_line (codes "nested: verify ") f.class f.method f.at
 
 abbrev pub image_line : ImageFault → List ℕ
-image_line f = joined (codes "nested: image " ∷ decimal f.kind ∷ codes " " ∷ decimal f.number ∷ codes " " ∷ hex_word f.word ∷ codes "\n" ∷ [])
+image_line f = joined (codes "nested: image " ∷ decimal f.kind ∷ codes " " ∷ decimal f.number
+    ∷ codes " " ∷ hex_word f.word ∷ codes "\n" ∷ [])
 
 -- a text and a number, as a line
 abbrev pub number_line : List ℕ → ℕ → List ℕ
 number_line text n = joined (text ∷ decimal n ∷ codes "\n" ∷ [])
 
 abbrev pub asm_line : AsmFault → List ℕ
-asm_line f = joined (codes "nested: asm " ∷ decimal f.line ∷ codes " " ∷ decimal f.kind ∷ codes "\n" ∷ [])
+asm_line f = joined (codes "nested: asm " ∷ decimal f.line ∷ codes " " ∷ decimal f.kind ∷ codes "\n"
+    ∷ [])
 
 -- the line of an answer, with its end, where this name was asked for
 abbrev pub line_of : List ℕ → Done → List ℕ

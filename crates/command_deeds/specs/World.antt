@@ -26,9 +26,11 @@ world shelf input out err = record { shelf = shelf; input = input; out = out; er
 abbrev pub streams_of : World → Streams
 streams_of w = record { input = w.input; out = w.out; err = w.err }
 
-abbrev pub seen : {H S O E : Type 0} → shelf.Ghosts H → source.Ghosts S → sink.Ghosts O → sink.Ghosts E → Outside H S O E → World
+abbrev pub seen : {H S O E : Type 0} → shelf.Ghosts H → source.Ghosts S → sink.Ghosts O
+    → sink.Ghosts E → Outside H S O E → World
 seen H S O E outside =
-    world (shelf_seen H outside.shelf.now) (input_seen S outside.input.now) (output_seen O outside.out.now) (output_seen E outside.err.now)
+    world (shelf_seen H outside.shelf.now) (input_seen S outside.input.now)
+    (output_seen O outside.out.now) (output_seen E outside.err.now)
 
 -- the parts of the outside are the same objects
 abbrev pub SameParts : {H S O E : Type 0} → Outside H S O E → Outside H S O E → Type 0
@@ -63,7 +65,8 @@ StopsStore old new name WriteFault = ⊥
 -- ---- output
 
 -- what a call that writes a text leaves
-abbrev pub Writes : {E : Type 0} → Seen (List ℕ) → Seen (List ℕ) → List ℕ → Result (Unit {0}) E → Type 0
+abbrev pub Writes : {E : Type 0} → Seen (List ℕ) → Seen (List ℕ) → List ℕ → Result (Unit {0}) E
+    → Type 0
 Writes old new text result =
     MatchResult result (λ done. Takes old new text) (λ failed. FailsIn old new text)
 
@@ -76,7 +79,8 @@ StopsPrint old new text ShelfFault = ⊥
 
 -- a text is written, or its writing was stopped
 abbrev pub Prints : Seen (List ℕ) → Seen (List ℕ) → List ℕ → Result (Unit {0}) Stop → Type 0
-Prints old new text result = MatchResult result (λ done. Takes old new text) (λ stop. StopsPrint old new text stop)
+Prints old new text result =
+    MatchResult result (λ done. Takes old new text) (λ stop. StopsPrint old new text stop)
 
 -- ---- what stays
 

@@ -30,7 +30,8 @@ pub fn load<H: Shelf>(
 
 /// Sets a file to these bytes.
 pub fn store<H: Shelf>(shelf: &mut H, name: &str, bytes: &[u8]) -> Result<(), Stop>
-    ensures stores { ShelfDoes (stores name.now bytes.now ∷ []) (shelf_seen H.Shelf shelf.old) (shelf_seen H.Shelf shelf.new) result }
+    ensures stores { ShelfDoes (stores name.now bytes.now ∷ []) (shelf_seen H.Shelf shelf.old)
+        (shelf_seen H.Shelf shelf.new) result }
 {
     shelf.store(name, bytes)?;
     Ok(())

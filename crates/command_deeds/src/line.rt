@@ -11,7 +11,8 @@ use nv_outside::{Failed, Sink, write_all};
 
 /// Writes the line of an answer, where this name was asked for. Takes no memory.
 pub fn write_line<E: Sink>(err: &mut E, name: &str, done: &Done) -> Result<(), Failed>
-    ensures writes { Writes (output_seen E.Sink err.old) (output_seen E.Sink err.new) (line_of name.now done.now) result }
+    ensures writes { Writes (output_seen E.Sink err.old) (output_seen E.Sink err.new)
+        (line_of name.now done.now) result }
 {
     match *done {
         Done::Good | Done::Exited(_) | Done::WriteFault => Ok(()),
@@ -44,7 +45,8 @@ pub fn write_line<E: Sink>(err: &mut E, name: &str, done: &Done) -> Result<(), F
 
 /// Writes the line of a fault of the guest.
 fn write_fault<E: Sink>(err: &mut E, fault: Fault) -> Result<(), Failed>
-    ensures writes { Writes (output_seen E.Sink err.old) (output_seen E.Sink err.new) (fault_line fault) result }
+    ensures writes { Writes (output_seen E.Sink err.old) (output_seen E.Sink err.new)
+        (fault_line fault) result }
 {
     let mut digits = Buffer::new();
     let kind = decimal(&mut digits, fault.kind);
@@ -72,7 +74,8 @@ fn write_numbers<E: Sink>(
     second: u32,
     third: u32,
 ) -> Result<(), Failed>
-    ensures writes { Writes (output_seen E.Sink err.old) (output_seen E.Sink err.new) (numbers_line text.now first second third) result }
+    ensures writes { Writes (output_seen E.Sink err.old) (output_seen E.Sink err.new)
+        (numbers_line text.now first second third) result }
 {
     let (mut firsts, mut seconds, mut thirds) = (Buffer::new(), Buffer::new(), Buffer::new());
     let a = decimal(&mut firsts, first);
@@ -83,7 +86,8 @@ fn write_numbers<E: Sink>(
 
 /// Writes the line of a check that the program's image failed.
 fn write_image_fault<E: Sink>(err: &mut E, fault: ImageFault) -> Result<(), Failed>
-    ensures writes { Writes (output_seen E.Sink err.old) (output_seen E.Sink err.new) (image_line fault) result }
+    ensures writes { Writes (output_seen E.Sink err.old) (output_seen E.Sink err.new)
+        (image_line fault) result }
 {
     let (mut kinds, mut numbers) = (Buffer::new(), Buffer::new());
     let kind = decimal(&mut kinds, fault.kind);
@@ -97,7 +101,8 @@ fn write_image_fault<E: Sink>(err: &mut E, fault: ImageFault) -> Result<(), Fail
 
 /// Writes the line of a faulty text.
 fn write_asm_fault<E: Sink>(err: &mut E, fault: AsmFault) -> Result<(), Failed>
-    ensures writes { Writes (output_seen E.Sink err.old) (output_seen E.Sink err.new) (asm_line fault) result }
+    ensures writes { Writes (output_seen E.Sink err.old) (output_seen E.Sink err.new)
+        (asm_line fault) result }
 {
     let (mut lines, mut kinds) = (Buffer::new(), Buffer::new());
     let line = decimal(&mut lines, fault.line);
@@ -107,7 +112,8 @@ fn write_asm_fault<E: Sink>(err: &mut E, fault: AsmFault) -> Result<(), Failed>
 
 /// Writes a text and a number, as a line. Takes no memory.
 pub fn write_number<E: Sink>(sink: &mut E, text: &[u8], number: u64) -> Result<(), Failed>
-    ensures writes { Writes (output_seen E.Sink sink.old) (output_seen E.Sink sink.new) (number_line text.now number) result }
+    ensures writes { Writes (output_seen E.Sink sink.old) (output_seen E.Sink sink.new)
+        (number_line text.now number) result }
 {
     let mut digits = Buffer::new();
     write_pieces(sink, &[text, decimal_long(&mut digits, number), b"\n"])
@@ -115,7 +121,8 @@ pub fn write_number<E: Sink>(sink: &mut E, text: &[u8], number: u64) -> Result<(
 
 /// Writes a text. After a failure the sink has taken a front part of it.
 fn write_text<E: Sink>(sink: &mut E, text: &[u8]) -> Result<(), Failed>
-    ensures writes { Writes (output_seen E.Sink sink.old) (output_seen E.Sink sink.new) text.now result }
+    ensures writes { Writes (output_seen E.Sink sink.old) (output_seen E.Sink sink.new)
+        text.now result }
 {
     match write_all(sink, text) {
         Ok(()) => Ok(()),
@@ -125,7 +132,8 @@ fn write_text<E: Sink>(sink: &mut E, text: &[u8]) -> Result<(), Failed>
 
 /// Writes pieces one after the other. After a failure the sink has taken a front part of them.
 pub fn write_pieces<E: Sink>(sink: &mut E, pieces: &[&[u8]]) -> Result<(), Failed>
-    ensures writes { Writes (output_seen E.Sink sink.old) (output_seen E.Sink sink.new) (joined (map (λ p. p.now) pieces.now)) result }
+    ensures writes { Writes (output_seen E.Sink sink.old) (output_seen E.Sink sink.new)
+        (joined (map (λ p. p.now) pieces.now)) result }
 {
     for piece in pieces {
         write_text(sink, piece)?;

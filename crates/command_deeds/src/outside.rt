@@ -16,10 +16,14 @@ impl<'a, H, S, O, E> Outside<'a, H, S, O, E> {
 
     /// The outside of these parts.
     pub fn new(shelf: &'a mut H, input: &'a mut S, out: &'a mut O, err: &'a mut E) -> Self
-        ensures shelf { (result.shelf.ghost_name ≡ shelf.entry.ghost_name) × (result.shelf.now ≡ shelf.entry.now) }
-        ensures input { (result.input.ghost_name ≡ input.entry.ghost_name) × (result.input.now ≡ input.entry.now) }
-        ensures out { (result.out.ghost_name ≡ out.entry.ghost_name) × (result.out.now ≡ out.entry.now) }
-        ensures err { (result.err.ghost_name ≡ err.entry.ghost_name) × (result.err.now ≡ err.entry.now) }
+        ensures shelf { (result.shelf.ghost_name ≡ shelf.entry.ghost_name)
+            × (result.shelf.now ≡ shelf.entry.now) }
+        ensures input { (result.input.ghost_name ≡ input.entry.ghost_name)
+            × (result.input.now ≡ input.entry.now) }
+        ensures out { (result.out.ghost_name ≡ out.entry.ghost_name)
+            × (result.out.now ≡ out.entry.now) }
+        ensures err { (result.err.ghost_name ≡ err.entry.ghost_name)
+            × (result.err.now ≡ err.entry.now) }
     {
         Outside {
             shelf,

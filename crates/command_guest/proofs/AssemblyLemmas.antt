@@ -12,7 +12,7 @@ use Rattle.mips_asm.specs.File.{IsAssembled}
 use Rattle.mips_asm.specs.Program.{asm_fault}
 use Rattle.command_deeds.specs.declared.done.Done.TheVariants.{AsmRefused}
 use Rattle.command_deeds.proofs.DeedLemmas.{gives_then, makes_ends, over_any}
-use Rattle.command_deeds.specs.Ends.{Answer, ByFiles, Comes, Due, MakesEnd, Works, answers, lacks, says}
+use Rattle.command_deeds.specs.Ends.{CommandAnswer, ByFiles, Comes, Due, MakesEnd, Works, answers, lacks, says}
 use Rattle.command_deeds.specs.World.{OnlyShelf, SameShelf, World}
 use Rattle.command_deeds.specs.declared.stop.Stop.{Stop}
 use Rattle.command_guest.specs.Assembly.{IsDueByLength, IsDueByLine, IsDueOfAsm, IsDueOfFound, IsDueOfText}
@@ -49,7 +49,7 @@ refused_by_length false IsDueWith text due h = refused_by_line (asm_fault text) 
 -- ---- the text of a name
 
 -- it is not there
-pub lacks_text : (input : Named) (output name : List ℕ) (files : Files) (rest : Option (List ℕ)) (answer : Answer) → name ≡ input.text
+pub lacks_text : (input : Named) (output name : List ℕ) (files : Files) (rest : Option (List ℕ)) (answer : CommandAnswer) → name ≡ input.text
     → (files name ≡ None) × (answer ≡ lacks input.word name) → IsDueOfAsm input output files rest (answers answer)
 lacks_text input output name files rest answer is h =
     let none : files input.text ≡ None = subst (λ n. files n ≡ None) is h.0 in
@@ -64,7 +64,7 @@ found_text input output name file bytes files rest due is same found h =
     subst (λ found. IsDueOfFound input output found due) (sym there) (subst
     (λ b. IsDueOfText (λ program due. due ≡ assembled output program) b due) same h)
 
-pub refused_due : (IsDueWith : List ℕ → Due → Type 0) (text : List ℕ) (answer : Answer) → IsRefusedText text answer
+pub refused_due : (IsDueWith : List ℕ → Due → Type 0) (text : List ℕ) (answer : CommandAnswer) → IsRefusedText text answer
     → IsDueOfText IsDueWith text (answers answer)
 refused_due IsDueWith text answer h = refused_by_length (nat_lt 67108864 (length text)) IsDueWith text (answers answer) h
 
@@ -75,7 +75,7 @@ program_due IsDueWith text file due program h =
     (subst (λ found. IsDueByLine found IsDueWith text due) (sym program.sound) (file, program.is, h))
 
 -- its program was made, and worked on
-pub asm_comes : (input : Named) (output name file bytes program : List ℕ) (w u v : World) (end : Result Answer Stop) → name ≡ input.text
+pub asm_comes : (input : Named) (output name file bytes program : List ℕ) (w u v : World) (end : Result CommandAnswer Stop) → name ≡ input.text
     → bytes ≡ file → SameShelf w.shelf u.shelf × IfSome w.shelf.told (λ files. files name ≡ Some file) → OnlyShelf w u → IsProgramOf bytes program
     → Works (assembled output program) u v end → Comes (ByFiles (IsDueOfAsm input output)) w v end
 asm_comes input output name file bytes program w u v end is same gives only made works =
@@ -85,7 +85,7 @@ asm_comes input output name file bytes program w u v end is same gives only made
     (over_any (λ rest due. due ≡ assembled output program) u v end (inr (assembled output program, refl, works)))
 
 -- its text was refused
-pub asm_refused : (input : Named) (output name file bytes : List ℕ) (w u : World) (end : Result Answer Stop) → name ≡ input.text → bytes ≡ file
+pub asm_refused : (input : Named) (output name file bytes : List ℕ) (w u : World) (end : Result CommandAnswer Stop) → name ≡ input.text → bytes ≡ file
     → SameShelf w.shelf u.shelf × IfSome w.shelf.told (λ files. files name ≡ Some file) → OnlyShelf w u → MakesEnd (IsRefusedText bytes) end
     → Comes (ByFiles (IsDueOfAsm input output)) w u end
 asm_refused input output name file bytes w u end is same gives only makes =

@@ -9,7 +9,7 @@ use Rattle.elf_image.specs.Start.{Source}
 use Rattle.nv_faults.specs.declared.elf_fault.ElfFault.{ElfFault}
 use Rattle.nv_faults.specs.declared.image_fault.ImageFault.{ImageFault}
 use Rattle.nv_outside.specs.Files.{Files}
-use Rattle.command_deeds.specs.Ends.{Answer, Due, Gives, GivesEnd, Makes, MakesEnd, answers, end_of, lacks}
+use Rattle.command_deeds.specs.Ends.{CommandAnswer, Due, Gives, GivesEnd, Makes, MakesEnd, answers, end_of, lacks}
 use Rattle.command_deeds.specs.World.{SameShelf, Seen}
 use Rattle.command_deeds.specs.declared.ending.Ending.{Ending}
 use Rattle.command_deeds.specs.declared.stop.Stop.{Stop}
@@ -33,7 +33,7 @@ refused_by_elf None IsDueWith source due h =
 refused_by_elf (Some fault) IsDueWith source due h = h
 
 -- what is due of a file that is refused is the same whatever were to be done with its image
-pub refused_source : (IsDueWith : Source → Due → Type 0) (source : Source) (answer : Answer) → IsRefusal source answer
+pub refused_source : (IsDueWith : Source → Due → Type 0) (source : Source) (answer : CommandAnswer) → IsRefusal source answer
     → IsDueOfSource IsDueWith source (answers answer)
 refused_source IsDueWith source answer h = refused_by_elf (elf_fault source.file) IsDueWith source (answers answer) h
 
@@ -46,7 +46,7 @@ due_of_image IsDueWith source image due is h =
 
 -- ---- the file of a name
 
-pub refused_image : (input : Named) (pages : Pages) (IsDueWith : Source → Due → Type 0) (files : Files) (answer : Answer)
+pub refused_image : (input : Named) (pages : Pages) (IsDueWith : Source → Due → Type 0) (files : Files) (answer : CommandAnswer)
     → IsRefusedImage input pages files answer → IsDueOfProgram input pages IsDueWith (files input.text) (answers answer)
 refused_image input pages IsDueWith files answer h = by (files input.text) h
   where
@@ -62,14 +62,14 @@ due_of_imaged input pages IsDueWith files image due imaged h =
     (due_of_image IsDueWith (source_of pages imaged.file) image due imaged.is h)
 
 -- it is not there
-pub lacks_image : (input : Named) (pages : Pages) (name : List ℕ) (files : Files) (answer : Answer) → name ≡ input.text → (files name ≡ None)
+pub lacks_image : (input : Named) (pages : Pages) (name : List ℕ) (files : Files) (answer : CommandAnswer) → name ≡ input.text → (files name ≡ None)
     × (answer ≡ lacks input.word name) → IsRefusedImage input pages files answer
 lacks_image input pages name files answer is h =
     let none : files input.text ≡ None = subst (λ n. files n ≡ None) is h.0 in
     subst (λ found. IsDueOfProgram input pages Nothing found (answers answer)) (sym none) (ap answers (h.1 ∙ ap (lacks input.word) is))
 
 -- it was found, and refused
-pub found_refused : (input : Named) (pages : Pages) (name file bytes : List ℕ) (files : Files) (answer : Answer) → name ≡ input.text → bytes ≡ file
+pub found_refused : (input : Named) (pages : Pages) (name file bytes : List ℕ) (files : Files) (answer : CommandAnswer) → name ≡ input.text → bytes ≡ file
     → files name ≡ Some file → IsRefusal (source_of pages bytes) answer → IsRefusedImage input pages files answer
 found_refused input pages name file bytes files answer is same found h =
     let there : files input.text ≡ Some file = subst (λ n. files n ≡ Some file) is found in
@@ -92,11 +92,11 @@ image_gives input pages name file bytes shelf now (Ok image) is same found makes
     by (Some files) h = found_image input pages name file bytes files image is same h makes
 image_gives input pages name file bytes shelf now (Err ending) is same found makes = by (end_of ending) makes
   where
-    each : (told : Option Files) (answer : Answer) → IfSome told (λ files. files name ≡ Some file) → IsRefusal (source_of pages bytes) answer
+    each : (told : Option Files) (answer : CommandAnswer) → IfSome told (λ files. files name ≡ Some file) → IsRefusal (source_of pages bytes) answer
         → IfSome told (λ files. IsRefusedImage input pages files answer)
     each None answer h refused = tt
     each (Some files) answer h refused = found_refused input pages name file bytes files answer is same h refused
 
-    by : (end : Result Answer Stop) → MakesEnd (IsRefusal (source_of pages bytes)) end → GivesEnd (IsRefusedImage input pages) shelf now end
+    by : (end : Result CommandAnswer Stop) → MakesEnd (IsRefusal (source_of pages bytes)) end → GivesEnd (IsRefusedImage input pages) shelf now end
     by (Ok answer) h = (found.0, h.0, each shelf.told answer found.1 h.1)
     by (Err stop) h = rw h found.0

@@ -1,3 +1,4 @@
 pub mod ListingLemmas
 pub mod AssemblyLemmas
 pub mod ImagingLemmas
+pub mod ClassLemmas

@@ -6,7 +6,7 @@ use Rattle.mips_asm.specs.Program.{asm_fault}
 use Rattle.nv_outside.specs.Files.{Files}
 use Rattle.command_deeds.specs.declared.done.Done.TheVariants.{Good, AsmRefused}
 use Rattle.command_deeds.specs.Deeds.{stores, prints}
-use Rattle.command_deeds.specs.Ends.{Answer, Due, answers, lacks, says}
+use Rattle.command_deeds.specs.Ends.{CommandAnswer, Due, answers, lacks, says}
 use Rattle.command_deeds.specs.Line.{number_line}
 
 abbrev pub refused : ℕ → ℕ → Due
@@ -28,12 +28,17 @@ IsDueOfText IsDueWith text due = IsDueByLength (nat_lt 67108864 (length text)) I
 
 -- a program is stored, and its length is told
 abbrev pub assembled : List ℕ → List ℕ → Due
-assembled output file = record { deeds = stores output file ∷ prints (number_line (codes "bytes ") (length file)) ∷ []; answer = Some (says Good) }
+assembled output file = record {
+  deeds = stores output file
+      ∷ prints (number_line (codes "bytes ") (length file)) ∷ [];
+  answer = Some (says Good);
+}
 
 -- what is to be done with the text of a file that the words name, if it is there
 abbrev pub IsDueOfFound : Named → List ℕ → Option (List ℕ) → Due → Type 0
 IsDueOfFound input output None due = due ≡ answers (lacks input.word input.text)
-IsDueOfFound input output (Some text) due = IsDueOfText (λ file due. due ≡ assembled output file) text due
+IsDueOfFound input output (Some text) due =
+    IsDueOfText (λ file due. due ≡ assembled output file) text due
 
 -- what `asm` is to do, given the name of the program's file
 abbrev pub IsDueOfAsm : Named → List ℕ → Files → Option (List ℕ) → Due → Type 0
@@ -48,5 +53,5 @@ pub record IsProgramOf (text file : List ℕ) : Type 0 where
   pub is : IsAssembled text file
 
 -- the answer where it is
-abbrev pub IsRefusedText : List ℕ → Answer → Type 0
+abbrev pub IsRefusedText : List ℕ → CommandAnswer → Type 0
 IsRefusedText text answer = IsDueOfText (λ file due. ⊥) text (answers answer)

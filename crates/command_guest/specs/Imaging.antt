@@ -11,7 +11,7 @@ use Rattle.nv_faults.specs.declared.elf_fault.ElfFault.{ElfFault}
 use Rattle.nv_faults.specs.declared.image_fault.ImageFault.{ImageFault}
 use Rattle.nv_outside.specs.Files.{Files}
 use Rattle.command_deeds.specs.declared.done.Done.TheVariants.{ElfRefused, ImageRefused}
-use Rattle.command_deeds.specs.Ends.{Answer, Due, answers, lacks, says}
+use Rattle.command_deeds.specs.Ends.{CommandAnswer, Due, answers, lacks, says}
 
 abbrev pub source_of : Pages → List ℕ → Source
 source_of pages file = record { file = file; heap = pages.heap; stack = pages.stack }
@@ -34,7 +34,8 @@ IsDueOfSource IsDueWith source due = IsDueByElf (elf_fault source.file) IsDueWit
 -- what is to be done with the program of a file that the words name, if it is there
 abbrev pub IsDueOfProgram : Named → Pages → (Source → Due → Type 0) → Option (List ℕ) → Due → Type 0
 IsDueOfProgram input pages IsDueWith None due = due ≡ answers (lacks input.word input.text)
-IsDueOfProgram input pages IsDueWith (Some file) due = IsDueOfSource IsDueWith (source_of pages file) due
+IsDueOfProgram input pages IsDueWith (Some file) due =
+    IsDueOfSource IsDueWith (source_of pages file) due
 
 -- ---- making the image
 
@@ -47,7 +48,7 @@ pub record IsImageOf (source image : Source) : Type 0 where
   pub passed : image_fault source.file runs source.heap source.stack ≡ None
 
 -- the answer of the first check that fails
-abbrev pub IsRefusal : Source → Answer → Type 0
+abbrev pub IsRefusal : Source → CommandAnswer → Type 0
 IsRefusal source answer = IsDueOfSource (λ image due. ⊥) source (answers answer)
 
 -- the same of a file that the words name
@@ -56,5 +57,6 @@ pub record IsImaged (input : Named) (pages : Pages) (files : Files) (image : Sou
   pub found : files input.text ≡ Some file
   pub is : IsImageOf (source_of pages file) image
 
-abbrev pub IsRefusedImage : Named → Pages → Files → Answer → Type 0
-IsRefusedImage input pages files answer = IsDueOfProgram input pages (λ image due. ⊥) (files input.text) (answers answer)
+abbrev pub IsRefusedImage : Named → Pages → Files → CommandAnswer → Type 0
+IsRefusedImage input pages files answer =
+    IsDueOfProgram input pages (λ image due. ⊥) (files input.text) (answers answer)

@@ -18,7 +18,8 @@ use Rattle.command_guest.specs.Imaging.{IsDueOfProgram}
 
 -- the columns of a line: an address, a word, and a text
 abbrev pub columns : ℕ → ℕ → List ℕ → List ℕ
-columns at word text = joined (hex_word at ∷ codes ": " ∷ hex_word word ∷ codes " " ∷ text ∷ codes "\n" ∷ [])
+columns at word text =
+    joined (hex_word at ∷ codes ": " ∷ hex_word word ∷ codes " " ∷ text ∷ codes "\n" ∷ [])
 
 -- the line of a word at an address
 abbrev pub word_line : ℕ → ℕ → List ℕ
@@ -44,7 +45,8 @@ listed code runs = record { deeds = prints (runs_lines code runs) ∷ []; answer
 
 -- a line for each word of a program's code, by the maximal runs of the code in rising order of addresses
 abbrev pub IsDueOfListing : Source → Due → Type 0
-IsDueOfListing source due = (runs : List Range) × IsRunsOf (area source.file) runs × (due ≡ listed (image_of source).code runs)
+IsDueOfListing source due = (runs : List Range) × IsRunsOf (area source.file) runs
+    × (due ≡ listed (image_of source).code runs)
 
 -- the sizes of the memory of a program that is listed
 abbrev pub listed_pages : Pages
@@ -52,4 +54,5 @@ listed_pages = record { heap = 256; stack = 64 }
 
 -- what `list` is to do with the program of a file that the words name
 abbrev pub IsDueOfList : Named → Files → Option (List ℕ) → Due → Type 0
-IsDueOfList input files rest due = IsDueOfProgram input listed_pages IsDueOfListing (files input.text) due
+IsDueOfList input files rest due =
+    IsDueOfProgram input listed_pages IsDueOfListing (files input.text) due

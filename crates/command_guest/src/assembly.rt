@@ -18,7 +18,8 @@ pub fn asm<H: Shelf, S: Source, O: Sink, E: Sink>(
     output: &str,
     outside: &mut Outside<'_, H, S, O, E>,
 ) -> Result<Done, Ending>
-    ensures ends { Ends H.Shelf S.Source O.Sink E.Sink (ByFiles (IsDueOfAsm input.now output.now)) outside.old outside.new result }
+    ensures ends { Ends H.Shelf S.Source O.Sink E.Sink (ByFiles (IsDueOfAsm input.now output.now))
+        outside.old outside.new result }
 {
     let text = load(alloc, input.word, input.text.as_str(), outside.shelf)?;
     let file = assembled(alloc, text.as_slice())?;
@@ -29,7 +30,8 @@ pub fn asm<H: Shelf, S: Source, O: Sink, E: Sink>(
 
 /// The program of a text.
 fn assembled(alloc: Global, text: &[u8]) -> Result<Vec<u8>, Ending>
-    ensures makes { Makes (λ file. IsProgramOf text.now file.items) (IsRefusedText text.now) result }
+    ensures makes { Makes (λ file. IsProgramOf text.now file.items) (IsRefusedText text.now)
+        result }
 {
     if text.len() > LONGEST_TEXT {
         let fault = AsmFault { line: 0, kind: 3 };

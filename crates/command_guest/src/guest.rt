@@ -1,4 +1,4 @@
-use command_launch::Launch;
+use command_deeds::Launch;
 use command_words::{Named, Pages};
 
 /// A guest that is to be run, on the reference machine or as the classes that it becomes.

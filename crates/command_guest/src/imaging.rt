@@ -34,7 +34,8 @@ pub fn load_image<H: Shelf>(
 /// The image of the program that a file holds, with these pages of heap and stack.
 pub fn image_of_file(alloc: Global, file: &[u8], pages: Pages) -> Result<Image, Ending>
     requires pages { ArePages pages }
-    ensures makes { Makes (IsImageOf (source_of pages file.now)) (IsRefusal (source_of pages file.now)) result }
+    ensures makes { Makes (IsImageOf (source_of pages file.now))
+        (IsRefusal (source_of pages file.now)) result }
 {
     match read_elf(alloc, file) {
         Ok(elf) => image_of_elf(alloc, &elf, pages),
@@ -50,7 +51,8 @@ fn image_of_elf(alloc: Global, elf: &Elf<'_>, pages: Pages) -> Result<Image, End
     requires segments { elf.now.segments.items ≡ live elf.now.file.now }
     requires code { IsRunsOf (area elf.now.file.now) elf.now.code.items }
     requires pages { ArePages pages }
-    ensures makes { Makes (IsImageOf (source_of pages elf.now.file.now)) (IsRefusal (source_of pages elf.now.file.now)) result }
+    ensures makes { Makes (IsImageOf (source_of pages elf.now.file.now))
+        (IsRefusal (source_of pages elf.now.file.now)) result }
 {
     match image(alloc, elf, pages.heap, pages.stack) {
         Ok(image) => Ok(image),

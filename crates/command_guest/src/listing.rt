@@ -24,7 +24,8 @@ pub fn list<H: Shelf, S: Source, O: Sink, E: Sink>(
     input: &Named,
     outside: &mut Outside<'_, H, S, O, E>,
 ) -> Result<Done, Ending>
-    ensures ends { Ends H.Shelf S.Source O.Sink E.Sink (ByFiles (IsDueOfList input.now)) outside.old outside.new result }
+    ensures ends { Ends H.Shelf S.Source O.Sink E.Sink (ByFiles (IsDueOfList input.now))
+        outside.old outside.new result }
 {
     let image = load_image(alloc, input, PAGES, outside.shelf)?;
     let runs = image.ranges();
@@ -39,7 +40,8 @@ fn write_runs<O: Sink>(
     runs: &[Range],
     out: &mut O,
 ) -> Result<(), Stop>
-    ensures prints { Prints (output_seen O.Sink out.old) (output_seen O.Sink out.new) (runs_lines ((image_of image.now).code) runs.now) result }
+    ensures prints { Prints (output_seen O.Sink out.old) (output_seen O.Sink out.new)
+        (runs_lines ((image_of image.now).code) runs.now) result }
 {
     for run in runs {
         write_run(alloc, image, *run, out)?;
@@ -62,7 +64,8 @@ fn write_run<O: Sink>(alloc: Global, image: &Image, run: Range, out: &mut O) -> 
 
 /// Writes the line of an address of the code.
 fn write_at<O: Sink>(alloc: Global, image: &Image, at: u32, out: &mut O) -> Result<(), Stop>
-    ensures prints { Prints (output_seen O.Sink out.old) (output_seen O.Sink out.new) (line_at ((image_of image.now).code) at) result }
+    ensures prints { Prints (output_seen O.Sink out.old) (output_seen O.Sink out.new)
+        (line_at ((image_of image.now).code) at) result }
 {
     match image.word(at) {
         Some(word) => write_word(alloc, at, word, out),
@@ -72,7 +75,8 @@ fn write_at<O: Sink>(alloc: Global, image: &Image, at: u32, out: &mut O) -> Resu
 
 /// Writes the line of a word at an address.
 fn write_word<O: Sink>(alloc: Global, at: u32, word: u32, out: &mut O) -> Result<(), Stop>
-    ensures prints { Prints (output_seen O.Sink out.old) (output_seen O.Sink out.new) (word_line at word) result }
+    ensures prints { Prints (output_seen O.Sink out.old) (output_seen O.Sink out.new)
+        (word_line at word) result }
 {
     let text = print_inst(alloc, &decode(word), at)?;
     write_columns(at, word, text.as_bytes(), out)?;
@@ -81,7 +85,8 @@ fn write_word<O: Sink>(alloc: Global, at: u32, word: u32, out: &mut O) -> Result
 
 /// Writes the line of a word at an address, given the text of its instruction. Takes no memory.
 fn write_columns<O: Sink>(at: u32, word: u32, text: &[u8], out: &mut O) -> Result<(), Failed>
-    ensures writes { Writes (output_seen O.Sink out.old) (output_seen O.Sink out.new) (columns at word text.now) result }
+    ensures writes { Writes (output_seen O.Sink out.old) (output_seen O.Sink out.new)
+        (columns at word text.now) result }
 {
     let address = hexadecimal(at);
     let digits = hexadecimal(word);

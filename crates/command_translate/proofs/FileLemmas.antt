@@ -1,20 +1,19 @@
 -- The classes that files spell.
-use Rattle.std.proofs.Common.{◌≡◌, ℕ, zero, suc, ◌+◌, ◌<◌, List, [], ◌∷◌, ◌++◌, length, take, get_or, Some}
-use Rattle.std.proofs.Common.{refl, sym, ap, ◌∙◌, subst, inl, inr, arith}
+use Rattle.std.proofs.Common.{◌≡◌, ℕ, zero, suc, ◌+◌, ◌<◌, List, [], ◌∷◌, ◌++◌, length, take, get_or, Some, refl, sym, ap, ◌∙◌, subst, inl, inr, arith}
 use Rattle.std.proofs.lemmas.List.{take_more}
 use Rattle.std.proofs.lemmas.List.Elements.{All-cons, All-nil}
 use Rattle.std.proofs.lemmas.Option.{none-some}
 use Rattle.std.specs.List.{All}
+use Rattle.nv_faults.specs.declared.class_fault.ClassFault.{ClassFault}
+use Rattle.jvm_program.specs.Typing.{AllTyped}
+use Rattle.jvm_code.specs.declared.class.Class.{Class}
 use Rattle.class_file.proofs.ClassLaws.{no_fault, same_class}
 use Rattle.class_file.specs.ClassFile as format
-use Rattle.command_classes.specs.Classes as set
-use Rattle.command_deeds.specs.Ends.{Answer, Due, answers}
-use Rattle.jvm_code.specs.declared.class.Class.{Class}
-use Rattle.jvm_link.specs.Linking as linking
-use Rattle.jvm_program.specs.Typing.{AllTyped}
 use Rattle.name_resolution.specs.Kept.{IsClass}
-use Rattle.nv_faults.specs.declared.class_fault.ClassFault.{ClassFault}
+use Rattle.jvm_link.specs.Linking as linking
 use Rattle.program_translation.specs.declared.named_file.NamedFile.{NamedFile}
+use Rattle.command_deeds.specs.Ends.{CommandAnswer, Due, answers}
+use Rattle.command_guest.specs.Classes as set
 use Rattle.command_translate.specs.Classes.{HoldAccepted, SpellClasses}
 
 -- ---- reading
@@ -73,7 +72,7 @@ no_refusal files i file bytes fault held within is same refused =
 abbrev Nothing : List Class → Due → Type 0
 Nothing classes due = ⊥
 
-all_typed : (classes : List Class) (answer : Answer) → AllTyped (linking.program_of classes) → set.IsDueByTypes Nothing classes (answers answer) → ⊥
+all_typed : (classes : List Class) (answer : CommandAnswer) → AllTyped (linking.program_of classes) → set.IsDueByTypes Nothing classes (answers answer) → ⊥
 all_typed classes answer typed (inl h) = absurd h.1
 all_typed classes answer typed (inr h) =
     let fault = h.1 in
@@ -81,6 +80,6 @@ all_typed classes answer typed (inr h) =
     fault.fails.fails typing.0 (typing.1 h.0.at)
 
 -- classes that are accepted are not refused
-pub not_refused : (classes : List Class) (answer : Answer) → linking.Accepted classes → set.IsRefusal classes answer → ⊥
+pub not_refused : (classes : List Class) (answer : CommandAnswer) → linking.Accepted classes → set.IsRefusal classes answer → ⊥
 not_refused classes answer a refused =
     all_typed classes answer a.typed (subst (λ found. set.IsDueByLink found Nothing classes (answers answer)) a.links refused)

@@ -1,26 +1,26 @@
 -- What is due of the classes of a program that is run over a system as it is held.
 use Rattle.std.proofs.Common.{ℕ, List, Option, Result}
 use Rattle.std.specs.Prelude.{IfSome}
+use Rattle.nv_outside.specs.Files.{Files}
 use Rattle.command_words.specs.declared.named.Named.{Named}
 use Rattle.command_words.specs.declared.pages.Pages.{Pages}
 use Rattle.elf_image.specs.Start.{Source, image_of}
-use Rattle.command_guest.proofs.ImagingLemmas.{due_of_imaged}
-use Rattle.command_guest.specs.Imaging.{IsImaged}
+use Rattle.unix_calls.specs.Held.{Held}
+use Rattle.jvm_program.specs.Step.{loaded, loaded_turn}
 use Rattle.jvm_code.specs.declared.class.Class.{Class}
 use Rattle.jvm_link.specs.Linking.{program_of}
-use Rattle.jvm_program.specs.Step.{loaded, loaded_turn}
-use Rattle.nv_outside.specs.Files.{Files}
 use Rattle.program_translation.specs.Bounds.{allow, need}
 use Rattle.program_translation.specs.declared.built.Built.{Built}
 use Rattle.nv_translate.specs.Translated.{Translated}
-use Rattle.unix_calls.specs.Held.{Held}
 use Rattle.command_deeds.proofs.DeedLemmas.{due_as, gives_then, over_any}
-use Rattle.command_deeds.specs.Ends.{Answer, ByFiles, Comes, Due}
+use Rattle.command_deeds.specs.Ends.{CommandAnswer, ByFiles, Comes, Due}
 use Rattle.command_deeds.specs.World.{OnlyShelf, SameShelf, World}
 use Rattle.command_deeds.specs.declared.stop.Stop.{Stop}
-use Rattle.command_launch.proofs.PlayLemmas.{StartsAs, held_due, ready_due}
-use Rattle.command_launch.specs.Readying.{IsReady}
-use Rattle.command_launch.specs.Runs.{IsDueOfHeld, Plan}
+use Rattle.command_deeds.proofs.PlayLemmas.{StartsAs, held_due, ready_due}
+use Rattle.command_deeds.specs.Readying.{IsReady}
+use Rattle.command_deeds.specs.Runs.{IsDueOfHeld, Plan}
+use Rattle.command_guest.proofs.ImagingLemmas.{due_of_imaged}
+use Rattle.command_guest.specs.Imaging.{IsImaged}
 use Rattle.command_translate.proofs.RunLemmas.{run_due}
 use Rattle.command_translate.proofs.TranslationLemmas.{translation_as}
 use Rattle.command_translate.specs.Go.{IsDueOfFound, IsDueOfGo, IsDueOfStored, IsDueOfTranslated}
@@ -54,7 +54,7 @@ module _ (plan : Plan) (starts : (held : Held) → StartsAs plan held) where
       )) h
 
   -- the image was made and the system is ready, and the rest came to this
-  pub go_comes : (input : Named) (pages : Pages) (method_bytes : ℕ) (image : Source) (unix : Held) (w u x v : World) (end : Result Answer Stop)
+  pub go_comes : (input : Named) (pages : Pages) (method_bytes : ℕ) (image : Source) (unix : Held) (w u x v : World) (end : Result CommandAnswer Stop)
       → SameShelf w.shelf u.shelf × IfSome w.shelf.told (λ files. IsImaged input pages files image) → OnlyShelf w u → SameShelf u.shelf x.shelf
       × IfSome u.shelf.told (λ files. IsReady plan files unix) → OnlyShelf u x
       → Comes (λ y. IsDueOfHeldGo plan method_bytes image unix y.input.told) x v end
@@ -70,7 +70,7 @@ module _ (plan : Plan) (starts : (held : Held) → StartsAs plan held) where
       (over_any (IsDueOfHeldGo plan method_bytes image unix) x v end comes))
 
 -- a translation was made, and its files and classes worked on
-pub built_comes : (plan : Plan) (method_bytes : ℕ) (image : Source) (unix : Held) (built : Built) (w v : World) (end : Result Answer Stop)
+pub built_comes : (plan : Plan) (method_bytes : ℕ) (image : Source) (unix : Held) (built : Built) (w v : World) (end : Result CommandAnswer Stop)
     → (t : Translated image plan.name method_bytes built) → Comes (λ x. IsDueBehind built.files.items
     (IsDueOfHeldRun plan image unix t.linked.classes w.input.told)) w v end
     → Comes (λ x. IsDueOfHeldGo plan method_bytes image unix x.input.told) w v end

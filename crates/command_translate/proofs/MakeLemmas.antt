@@ -1,26 +1,25 @@
 -- What is due of the program that is made.
 use Rattle.std.proofs.Common.{◌≡◌, ◌≢◌, ℕ, ℤ, ◌≤◌, ◌%◌, pos, List, [], Option, None, Some, Result, ap, ◌∙◌, subst, arith}
-use Rattle.elf_image.specs.Refusals.{image_fault}
-use Rattle.elf_image.specs.Start.{Source}
 use Rattle.elf_reader.specs.Area.{area}
 use Rattle.elf_reader.specs.Fault.{elf_fault, IsRunsOf}
 use Rattle.elf_reader.specs.declared.range.Range.{Range}
+use Rattle.elf_image.specs.Refusals.{image_fault}
+use Rattle.elf_image.specs.Start.{Source}
 use Rattle.elf_writer.specs.Fields.{words}
-use Rattle.command_guest.specs.Imaging.{IsDueByElf, IsDueByImage, IsImageOf, IsRefusal, source_of}
-use Rattle.made_program.specs.Words.{made_words}
 use Rattle.mips_asm.specs.File.{IsFileOf}
+use Rattle.made_program.specs.Words.{made_words}
+use Rattle.made_program.specs.Ends.{ExitsLow, made_outcome}
 use Rattle.command_deeds.proofs.DeedLemmas.{due_as}
-use Rattle.command_deeds.specs.Ends.{Answer, Comes, Due, answers}
+use Rattle.command_deeds.specs.Ends.{CommandAnswer, Comes, Due, answers}
 use Rattle.command_deeds.specs.Line.{status_of}
 use Rattle.command_deeds.specs.World.{World}
 use Rattle.command_deeds.specs.declared.done.Done.{Done}
 use Rattle.command_deeds.specs.declared.done.Done.TheVariants.{Exited, Spent}
-use Rattle.command_launch.specs.Runs.{answer_of}
-use Rattle.made_laws.specs.Ends.{ExitsLow, made_outcome}
+use Rattle.command_deeds.specs.Runs.{answer_of}
 use Rattle.command_deeds.specs.declared.stop.Stop.{Stop}
+use Rattle.command_guest.specs.Imaging.{IsDueByElf, IsDueByImage, IsImageOf, IsRefusal, source_of}
 use Rattle.command_translate.proofs.RunLemmas.{same_end}
-use Rattle.command_translate.specs.Make.{IsDueOfMade, IsDueOfMake, IsEndOfTranslation}
-use Rattle.command_translate.specs.Make.{classes_end, interp_end, made_pages, made_steps, told}
+use Rattle.command_translate.specs.Make.{IsDueOfMade, IsDueOfMake, IsEndOfTranslation, classes_end, interp_end, made_pages, made_steps, told}
 
 -- ---- both runs
 
@@ -73,7 +72,7 @@ made_due count method_bytes moment file this image due is same imaged h =
     (file, is, subst (λ s. IsDueOfMade count method_bytes moment s due) (imaged ∙ ap (source_of made_pages) same) h)
 
 -- its image was made, and the rest came to this
-pub make_comes : (count method_bytes moment : ℕ) (file this : List ℕ) (image : Source) (w v : World) (end : Result Answer Stop)
+pub make_comes : (count method_bytes moment : ℕ) (file this : List ℕ) (image : Source) (w v : World) (end : Result CommandAnswer Stop)
     → IsFileOf (words (made_words count)) [] file → this ≡ file
     → IsImageOf (source_of made_pages this) image → Comes (λ x. IsDueOfMade count method_bytes moment image) w v end
     → Comes (λ x. IsDueOfMake count method_bytes moment) w v end
@@ -86,7 +85,7 @@ make_comes count method_bytes moment file this image w v end is same imaged come
 abbrev Nothing : Source → Due → Type 0
 Nothing source due = ⊥
 
-pub make_accepted : (file this : List ℕ) (answer : Answer) → this ≡ file → elf_fault file ≡ None
+pub make_accepted : (file this : List ℕ) (answer : CommandAnswer) → this ≡ file → elf_fault file ≡ None
     → ((runs : List Range) → IsRunsOf (area file) runs → image_fault file runs 256 64 ≡ None) → IsRefusal (source_of made_pages this) answer → ⊥
 make_accepted file this answer same accepted passed refused =
     let source = source_of made_pages file in

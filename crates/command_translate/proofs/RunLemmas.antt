@@ -1,33 +1,34 @@
 -- The run of a program's classes over the system, beside the run of the program.
 use Rattle.std.proofs.Common.{◌≡◌, ◌≢◌, ℕ, ◌≤◌, IsTrue, List, [], ◌∷◌, Option, Some, None, ap, sym, unwrap_or, ◌∙◌, arith}
 use Rattle.std.specs.Prelude.{option_map}
-use Rattle.elf_image.specs.Start.{Source, image_of}
-use Rattle.jvm_link.specs.Linking.{program_of}
-use Rattle.jvm_program.specs.Step.{loaded, loaded_turn}
-use Rattle.mips_decode.specs.Step.{turn}
-use Rattle.mips_machine.specs.Loading.{start_of}
 use Rattle.nv_events.specs.Answer.{Answer as Answered, fits}
 use Rattle.nv_events.specs.Question.{Question}
 use Rattle.nv_events.specs.Run.{Run}
 use Rattle.nv_events.specs.declared.outcome.Outcome.{Outcome}
 use Rattle.nv_events.specs.declared.outcome.Outcome.TheVariants.{Exited, Faulted, Trapped, Waiting, Going}
+use Rattle.mips_decode.specs.Step.{turn}
+use Rattle.elf_image.specs.Start.{Source, image_of}
+use Rattle.unix_system.specs.System.{System}
+use Rattle.unix_system.specs.Unix.{reply, start}
+use Rattle.unix_calls.specs.Arriving.{Arriving, arrived, arriving, reply_arriving, reply_behind, without_pieces}
+use Rattle.mips_machine.specs.Loading.{start_of}
+use Rattle.jvm_program.specs.Step.{loaded, loaded_turn}
+use Rattle.jvm_link.specs.Linking.{program_of}
 use Rattle.program_translation.specs.Bounds.{allow, need}
 use Rattle.program_translation.specs.declared.built.Built.{Built}
 use Rattle.nv_translate.proofs.EndedRuns.{back, forth, system_fits}
-use Rattle.nv_translate.specs.Translated.{EndsAs, Translated}
-use Rattle.unix_calls.specs.Arriving.{Arriving, arrived, arriving, reply_arriving, reply_behind, without_pieces}
-use Rattle.unix_system.specs.System.{System}
-use Rattle.unix_system.specs.Unix.{reply, start}
-use Rattle.command_deeds.specs.Ends.{Answer, Due, says}
+use Rattle.nv_translate.specs.Ends.{EndsAs}
+use Rattle.nv_translate.specs.Translated.{Translated}
+use Rattle.command_deeds.specs.Ends.{CommandAnswer, Due, says}
 use Rattle.command_deeds.specs.declared.done.Done.{Done}
 use Rattle.command_deeds.specs.declared.done.Done.TheVariants as done
-use Rattle.command_launch.specs.Runs.{IsDueOfSteps, NamedFile, Plan, answer_of, arguments_of, of_runs, run_alone, run_for}
+use Rattle.command_deeds.specs.Runs.{IsDueOfSteps, GivenFile, Plan, answer_of, arguments_of, of_runs, run_alone, run_for}
 use Rattle.command_translate.proofs.GuestEnds.{never_trapped}
-use Rattle.command_translate.specs.Go.{IsDueOfRun, classes_for, program_for}
+use Rattle.command_translate.specs.Go.{IsDueOfTheirRun, classes_for, program_for}
 use Rattle.command_translate.specs.Make.{classes_end, interp_end, made_name}
 
 -- a trap is told of a run that ended in one
-abbrev dones : Option Answer → Option Done
+abbrev dones : Option CommandAnswer → Option Done
 dones None = None
 dones (Some answer) = Some answer.done
 
@@ -76,7 +77,7 @@ without : {S T : Type 0} (run : Run S Arriving) (other : Run T Arriving) → End
 without run other ends = record { calls = ends.calls; outcome = ends.outcome; system = ap (λ k. k.system) ends.system }
 
 module _ (plan : Plan) (method_bytes : ℕ) (source : Source) (built : Built) (t : Translated source plan.name method_bytes built)
-    (found : List NamedFile) (pieces : List (List ℕ)) where
+    (found : List GivenFile) (pieces : List (List ℕ)) where
   abbrev mapped : ℕ
   mapped = (image_of source).mapped
 
@@ -119,10 +120,10 @@ module _ (plan : Plan) (method_bytes : ℕ) (source : Source) (built : Built) (t
 
 -- what is due of the run of a translation's classes
 pub run_due : (plan : Plan) (method_bytes : ℕ) (source : Source) (built : Built) (t : Translated source plan.name method_bytes built)
-    (found : List NamedFile) (rest : Option (List ℕ)) (due : Due)
+    (found : List GivenFile) (rest : Option (List ℕ)) (due : Due)
     → IsDueOfSteps (allow (image_of source).mapped plan.session.steps) loaded_turn
     (loaded (program_of t.linked.classes) (need (image_of source).mapped)) plan rest found due
-    → IsDueOfRun plan source rest found t.linked.classes due
+    → IsDueOfTheirRun plan source rest found t.linked.classes due
 run_due plan method_bytes source built t found rest due h = (
   h.0,
   record {

@@ -1,15 +1,14 @@
 -- Files that are stored one after the other, and work behind them.
-use Rattle.std.proofs.Common.{◌≡◌, ℕ, ◌+◌, ◌<◌, List, [], ◌∷◌, ◌++◌, length, map, take, drop}
-use Rattle.std.proofs.Common.{get_or, Result, Ok, Err, refl, sym, ap, ◌∙◌, subst, inl, inr}
+use Rattle.std.proofs.Common.{◌≡◌, ℕ, ◌+◌, ◌<◌, List, [], ◌∷◌, ◌++◌, length, map, take, drop, get_or, Result, Ok, Err, refl, sym, ap, ◌∙◌, subst, inl, inr}
 use Rattle.std.proofs.lemmas.List.{map-append, map_more, take-append-drop}
 use Rattle.nv_outside.specs.Files.{Files}
 use Rattle.program_translation.specs.declared.named_file.NamedFile.{NamedFile}
 use Rattle.command_deeds.proofs.DeedLemmas.{all_then_stops, all_then_works, stays, stops_before, works_more}
 use Rattle.command_deeds.specs.Deeds.{DoesAll, StopsIn, prepares}
-use Rattle.command_deeds.specs.Ends.{Answer, Comes, Due, ShelfDoes}
+use Rattle.command_deeds.specs.Ends.{CommandAnswer, Comes, Due, ShelfDoes}
 use Rattle.command_deeds.specs.World.{Seen, World}
 use Rattle.command_deeds.specs.declared.stop.Stop.{Stop}
-use Rattle.command_launch.proofs.ReadyLemmas.{shelf_does_then, shelf_stops_before}
+use Rattle.command_deeds.proofs.ReadyLemmas.{shelf_does_then, shelf_stops_before}
 use Rattle.command_translate.specs.Stores.{IsDueBehind, after_stores, file_stored, stored}
 
 -- ---- the files
@@ -34,7 +33,7 @@ store_stops files k a b stop p =
 -- ---- work behind them
 
 -- all files are stored, and then it goes on; something is due then, whatever it comes to
-pub comes_behind : (files : List NamedFile) (IsDue : World → Due → Type 0) (w u v : World) (end : Result Answer Stop) → (some : Due) × IsDue u some
+pub comes_behind : (files : List NamedFile) (IsDue : World → Due → Type 0) (w u v : World) (end : Result CommandAnswer Stop) → (some : Due) × IsDue u some
     → DoesAll (stored files) w u → Comes IsDue u v end → Comes (λ x. IsDueBehind files (IsDue u)) w v end
 comes_behind files IsDue w u v (Ok answer) some p (inl q) = absurd q
 comes_behind files IsDue w u v (Err stop) some p (inl q) =

@@ -8,7 +8,8 @@ use Rattle.program_translation.specs.declared.named_file.NamedFile.{NamedFile}
 
 -- files spell these classes, one each
 abbrev pub SpellClasses : List NamedFile → List Class → Type 0
-SpellClasses files classes = AllZip (λ (f : NamedFile) (c : Class). Spells f.bytes.items c) files classes
+SpellClasses files classes =
+    AllZip (λ (f : NamedFile) (c : Class). Spells f.bytes.items c) files classes
 
 -- files spell classes that link, and of which each method is typed
 pub record HoldAccepted (files : List NamedFile) : Type 0 where

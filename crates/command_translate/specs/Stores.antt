@@ -14,7 +14,11 @@ stored files = map file_stored files
 
 -- files are stored, and memory is taken for what is due then
 abbrev pub after_stores : List NamedFile → Due → Due
-after_stores files due = record { deeds = stored files ++ prepares ∷ due.deeds; answer = due.answer }
+after_stores files due = record {
+  deeds = stored files
+      ++ prepares ∷ due.deeds;
+  answer = due.answer;
+}
 
 -- what is due behind stored files
 abbrev pub IsDueBehind : List NamedFile → (Due → Type 0) → Due → Type 0

@@ -1,11 +1,10 @@
 //! The runs of a program on systems of their own, in both machines.
 ghost use Rattle.std.specs.Prelude.{◌≡◌, ◌≤◌, ◌^◌, IfOk, Some};
-ghost use Rattle.command_words.specs.Limits.{AreMethodBytes};
+ghost use Rattle.command_values.specs.MethodBytes.{AreMethodBytes};
 ghost use Rattle.command_translate.specs.Make.{IsEndOfTranslation, interp_end};
 
 use crate::classes::machine_of;
-use command_deeds::Done;
-use command_launch::play_alone;
+use command_deeds::{Done, play_alone};
 use elf_image::Image;
 use mips_machine::Mips;
 use nv_translate::{allow, translate};

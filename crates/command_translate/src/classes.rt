@@ -1,17 +1,17 @@
 //! From the files of a translation to classes that may be run.
 ghost use Rattle.std.specs.Prelude.{◌≡◌, ◌++◌, ◌∷◌, [], All, IfOk, List, OnOk, false};
 ghost use Rattle.elf_image.specs.Start.{image_of};
+ghost use Rattle.jvm_program.specs.Step.{loaded};
 ghost use Rattle.jvm_code.specs.declared.class.Class.{Class};
+ghost use Rattle.name_resolution.specs.Kept.{IsClass};
 ghost use Rattle.jvm_link.specs.Linking as linking;
 ghost use Rattle.jvm_machine.specs.Machine.{has_ended, state_of};
-ghost use Rattle.jvm_program.specs.Step.{loaded};
-ghost use Rattle.name_resolution.specs.Kept.{IsClass};
 ghost use Rattle.program_translation.specs.Bounds as bounds;
 ghost use Rattle.command_translate.specs.Classes.{HoldAccepted, SpellClasses};
 
 use class_reader::{ReadError, read_class};
-use command_classes::accept_classes;
 use command_deeds::Ending;
+use command_guest::accept_classes;
 use elf_image::Image;
 use jvm_code::Class;
 use jvm_machine::Jvm;
@@ -23,7 +23,8 @@ use type_verifier::Verified;
 pub fn machine_of(alloc: Global, image: &Image, files: &[NamedFile]) -> Result<Jvm, AllocError>
     requires { HoldAccepted files.now }
     ensures state { (classes : List Class) → SpellClasses files.now classes
-        → IfOk result (λ jvm. state_of jvm ≡ loaded (linking.program_of classes) (bounds.need (image_of image.now).mapped)) }
+        → IfOk result (λ jvm. state_of jvm
+        ≡ loaded (linking.program_of classes) (bounds.need (image_of image.now).mapped)) }
     ensures going { IfOk result (λ jvm. has_ended jvm ≡ false) }
 {
     let verified = verified_files(alloc, files)?;

@@ -1,14 +1,15 @@
 ghost use Rattle.std.specs.Prelude.{◌≤◌, ◌^◌};
-ghost use Rattle.command_words.specs.Limits.{AreFileNames, AreMethodBytes, ArePages, IsClassName};
+ghost use Rattle.command_values.specs.MethodBytes.{AreMethodBytes};
+ghost use Rattle.command_values.specs.Names.{IsClassName};
+ghost use Rattle.command_words.specs.Limits.{AreFileNames, ArePages};
 ghost use Rattle.command_deeds.specs.Ends.{ByFiles, Ends};
-ghost use Rattle.command_launch.specs.Runs.{plan_of};
+ghost use Rattle.command_deeds.specs.Runs.{plan_of};
 ghost use Rattle.command_translate.specs.Go.{IsDueOfGo};
 
 use crate::classes::machine_of;
 use crate::storing::store_files;
-use command_deeds::{Done, Ending, Outside};
+use command_deeds::{Done, Ending, Outside, play_for, ready};
 use command_guest::{Guest, load_image};
-use command_launch::{play_for, ready};
 use nv_outside::{Shelf, Sink, Source};
 use nv_translate::{allow, translate};
 use std::alloc::Global;
@@ -28,7 +29,8 @@ pub fn go<H: Shelf, S: Source, O: Sink, E: Sink>(
     requires disk { guest.now.launch.session.now.disk ≤ 65536 }
     requires names { AreFileNames guest.now.launch.session.now.with.names }
     ensures ends { Ends H.Shelf S.Source O.Sink E.Sink
-        (ByFiles (IsDueOfGo guest.now.input.now guest.now.pages method_bytes (plan_of guest.now.launch))) outside.old outside.new result }
+        (ByFiles (IsDueOfGo guest.now.input.now guest.now.pages method_bytes
+        (plan_of guest.now.launch))) outside.old outside.new result }
 {
     begins_at_start();
     let launch = &guest.launch;

@@ -1,5 +1,5 @@
 ghost use Rattle.std.specs.Prelude.{◌≤◌};
-ghost use Rattle.command_words.specs.Limits.{AreMethodBytes};
+ghost use Rattle.command_values.specs.MethodBytes.{AreMethodBytes};
 ghost use Rattle.command_deeds.specs.Ends.{Ends};
 ghost use Rattle.command_deeds.specs.World.{Writes, output_seen};
 ghost use Rattle.command_translate.specs.Make.{IsDueOfMake, made_lines};
@@ -10,7 +10,7 @@ use command_deeds::{Done, Ending, Outside, decimal_long, write_pieces};
 use command_guest::image_of_file;
 use command_words::Pages;
 use itoa::Buffer;
-use made_laws::laws::{made_files_are_accepted, made_programs_end};
+use made_program::laws::{made_files_are_accepted, made_programs_end};
 use made_program::made_file;
 use nv_outside::{Failed, Shelf, Sink, Source};
 use std::alloc::Global;
@@ -32,7 +32,8 @@ pub fn make<H: Shelf, S: Source, O: Sink, E: Sink>(
 ) -> Result<Done, Ending>
     requires count { count ≤ 65536 }
     requires method_bytes { AreMethodBytes method_bytes }
-    ensures ends { Ends H.Shelf S.Source O.Sink E.Sink (λ w. IsDueOfMake count method_bytes moment) outside.old outside.new result }
+    ensures ends { Ends H.Shelf S.Source O.Sink E.Sink (λ w. IsDueOfMake count method_bytes moment)
+        outside.old outside.new result }
 {
     made_files_are_accepted();
     made_programs_end();
@@ -50,7 +51,8 @@ pub fn make<H: Shelf, S: Source, O: Sink, E: Sink>(
 /// Writes how many words the program has, and these statuses. Takes no memory.
 fn write_lines<O: Sink>(count: u32, statuses: Statuses, out: &mut O) -> Result<(), Failed>
     requires count { count ≤ 65536 }
-    ensures writes { Writes (output_seen O.Sink out.old) (output_seen O.Sink out.new) (made_lines count statuses.interp statuses.classes) result }
+    ensures writes { Writes (output_seen O.Sink out.old) (output_seen O.Sink out.new)
+        (made_lines count statuses.interp statuses.classes) result }
 {
     let (mut word_digits, mut interp_digits, mut class_digits) = (
         Buffer::new(),

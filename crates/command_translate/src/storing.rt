@@ -10,7 +10,8 @@ use nv_translate::NamedFile;
 
 /// Stores files, one after the other.
 pub fn store_files<H: Shelf>(files: &[NamedFile], shelf: &mut H) -> Result<(), Stop>
-    ensures stores { ShelfDoes (stored files.now) (shelf_seen H.Shelf shelf.old) (shelf_seen H.Shelf shelf.new) result }
+    ensures stores { ShelfDoes (stored files.now) (shelf_seen H.Shelf shelf.old)
+        (shelf_seen H.Shelf shelf.new) result }
 {
     for file in files {
         store_file(file, shelf)?;
@@ -20,7 +21,8 @@ pub fn store_files<H: Shelf>(files: &[NamedFile], shelf: &mut H) -> Result<(), S
 
 /// Stores a file.
 fn store_file<H: Shelf>(file: &NamedFile, shelf: &mut H) -> Result<(), Stop>
-    ensures stores { ShelfDoes (file_stored file.now ∷ []) (shelf_seen H.Shelf shelf.old) (shelf_seen H.Shelf shelf.new) result }
+    ensures stores { ShelfDoes (file_stored file.now ∷ []) (shelf_seen H.Shelf shelf.old)
+        (shelf_seen H.Shelf shelf.new) result }
 {
     store(shelf, file.name.as_str(), file.bytes.as_slice())
 }

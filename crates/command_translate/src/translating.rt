@@ -1,4 +1,6 @@
-ghost use Rattle.command_words.specs.Limits.{AreMethodBytes, ArePages, IsClassName};
+ghost use Rattle.command_values.specs.MethodBytes.{AreMethodBytes};
+ghost use Rattle.command_values.specs.Names.{IsClassName};
+ghost use Rattle.command_words.specs.Limits.{ArePages};
 ghost use Rattle.command_deeds.specs.Ends.{ByFiles, Ends};
 ghost use Rattle.command_deeds.specs.World.{Writes, output_seen};
 ghost use Rattle.command_translate.specs.Translate.{IsDueOfTranslate, counts_line};
@@ -25,7 +27,8 @@ pub fn translate<H: Shelf, S: Source, O: Sink, E: Sink>(
     requires name { IsClassName name.now }
     requires pages { ArePages pages }
     requires method_bytes { AreMethodBytes method_bytes }
-    ensures ends { Ends H.Shelf S.Source O.Sink E.Sink (ByFiles (IsDueOfTranslate input.now name.now pages method_bytes))
+    ensures ends { Ends H.Shelf S.Source O.Sink E.Sink
+        (ByFiles (IsDueOfTranslate input.now name.now pages method_bytes))
         outside.old outside.new result }
 {
     let image = load_image(alloc, input, pages, outside.shelf)?;
@@ -37,7 +40,8 @@ pub fn translate<H: Shelf, S: Source, O: Sink, E: Sink>(
 
 /// Writes the line of the counts of a translation. Takes no memory.
 fn write_counts<O: Sink>(built: &Built, out: &mut O) -> Result<(), Failed>
-    ensures writes { Writes (output_seen O.Sink out.old) (output_seen O.Sink out.new) (counts_line built.now) result }
+    ensures writes { Writes (output_seen O.Sink out.old) (output_seen O.Sink out.new)
+        (counts_line built.now) result }
 {
     let (mut file_digits, mut need_digits) = (Buffer::new(), Buffer::new());
     let files = decimal_long(&mut file_digits, built.files.as_slice().len() as u64);

@@ -5,7 +5,8 @@ use Rattle.std.specs.Prelude.{string_bytes, String}
 use Rattle.std.specs.declared.alloc.Global.{Global}
 use Rattle.std.proofs.lemmas.List.Sums.{prefix_len-le-length}
 use Rattle.std.proofs.lemmas.List.{take-map, length-map}
-use Rattle.command_words.specs.Word.{Text, is_end, texts}
+use Rattle.command_values.specs.Names.{Text}
+use Rattle.command_words.specs.Word.{is_end, texts}
 use Rattle.command_words.specs.Given.{Form, given_in, value_in}
 use Rattle.command_words.specs.Meaning.{Value, after_end, before_end, command_after, form_of, has_end, made, maker_of, Maker, takes_arguments}
 use Rattle.command_words.specs.Answers.{Reads}

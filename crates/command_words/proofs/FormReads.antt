@@ -2,21 +2,19 @@
 use Rattle.std.proofs.Common.{◌≡◌, ◌∙◌, ◌≤◌, ◌&&◌, ◌||◌, ℕ, Bool, cond, true, false, not, suc, refl, ap, ap₂, List, [], ◌∷◌, ◌++◌, map, length, None, is_some}
 use Rattle.std.specs.List.{fold, list_all, list_any}
 use Rattle.std.specs.Str.{bytes_eq}
-use Rattle.clap.specs.Kinds.{or_else}
-use Rattle.clap.specs.Walk.{Row, Rule, finished, first_of, has_row, nothing_held, settled, walk, with_default}
-use Rattle.clap.specs.Faults.{check_fault, defaults_fault, fault_of, is_simple_and_free, settle_fault, walk_fault}
-use Rattle.clap.specs.Simple.{App, is_buildable, is_ready, is_ready_leaf, is_simple, matches_of, names_of}
 use Rattle.std.specs.Prelude.{count_by}
-use Rattle.clap.specs.Walk.{idle, rows_after, walk_from}
-use Rattle.clap.specs.Faults.{built_fault, is_free_app}
-use Rattle.clap.specs.Walk.{is_early_multiple}
-use Rattle.clap.specs.Takes.{is_given}
-use Rattle.clap.proofs.FaultLemmas.{leaf_fault}
-use Rattle.command_words.specs.Word.{Text, is_formed}
+use Rattle.command_values.specs.Names.{Text}
+use Rattle.command_words.specs.Word.{is_formed}
 use Rattle.command_words.specs.Given.{Form, Given, given_in, value_of}
 use Rattle.command_words.proofs.FormRules.{app_built, built_option, built_rules, built_shape, built_word, built_words}
 use Rattle.command_words.specs.Builder.{form_app, option_rule, word_rules}
 use Rattle.command_words.proofs.FormWalk.{Agrees, agree, all_fault, at, end_rows, or_else-nil, rows_of_given}
+use Rattle.clap.specs.Kinds.{or_else}
+use Rattle.clap.specs.Walk.{Row, Rule, finished, first_of, has_row, nothing_held, settled, walk, with_default, idle, rows_after, walk_from, is_early_multiple}
+use Rattle.clap.specs.Faults.{check_fault, defaults_fault, fault_of, is_simple_and_free, settle_fault, walk_fault, built_fault, is_free_app}
+use Rattle.clap.specs.Simple.{App, is_buildable, is_ready, is_ready_leaf, is_simple, matches_of, names_of}
+use Rattle.clap.specs.Takes.{is_given}
+use Rattle.clap.proofs.FaultLemmas.{leaf_fault}
 
 -- ---- the end of a parse
 

@@ -5,13 +5,13 @@ use Rattle.std.specs.Str.{bytes_eq}
 use Rattle.std.proofs.lemmas.Slice.Eq.{bytes_eq-Decides}
 use Rattle.std.proofs.lemmas.Bool.{eq-eqb}
 use Rattle.std.proofs.lemmas.Bool.Decides.{eqb_tells}
+use Rattle.command_values.specs.Names.{Text}
+use Rattle.command_words.specs.Given.{Form, is_among}
+use Rattle.command_words.specs.Builder.{form_app, form_shape, option_rule, word_rules}
 use Rattle.clap.specs.Walk.{Rule, arg_by_id, arg_by_index, arg_by_long}
 use Rattle.clap.specs.Simple.{Shape, built, filled_from, new_rule}
 use Rattle.clap.specs.declared.builder.action.ArgAction.TheVariants.{Set}
 use Rattle.clap.specs.declared.builder.value_parser.ValueParser.TheVariants as vp
-use Rattle.command_words.specs.Word.{Text}
-use Rattle.command_words.specs.Given.{Form, is_among}
-use Rattle.command_words.specs.Builder.{form_app, form_shape, option_rule, word_rules}
 
 -- the rules, built
 abbrev pub value_rule : Text → Option Text → Option ℕ → Rule

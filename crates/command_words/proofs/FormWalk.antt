@@ -1,23 +1,21 @@
 -- `clap`'s walk over formed words gives what the definition gives.
 use Rattle.std.proofs.Common.{◌≡◌, ◌∙◌, ◌<◌, ◌≤◌, ◌+◌, ◌&&◌, ◌||◌, ℕ, Bool, cond, true, false, zero, suc, refl, sym, ap, ap₂, subst, arith, List, [], ◌∷◌, ◌++◌, map, length, min, Option, Some, None, option_map, inl, inr, true≢false, append-nil}
-use Rattle.std.specs.Prelude.{slice_get, option_and_then, ◌==◌}
-use Rattle.std.specs.List.{fold, list_all, list_any}
+use Rattle.std.specs.Prelude.{slice_get, option_and_then, ◌==◌, if◌then◌else◌}
+use Rattle.std.specs.List.{fold, list_all, list_any, before_first, after_first}
 use Rattle.std.specs.Str.{bytes_eq}
 use Rattle.std.proofs.lemmas.List.{map-append}
+use Rattle.std.proofs.lemmas.Bool.{eqb-true}
+use Rattle.command_values.specs.Names.{Text}
+use Rattle.command_words.specs.Word.{has_some_value, is_equals, is_formed}
+use Rattle.command_words.specs.Given.{Form, Given, Reading, given_after, given_more, has_name, is_among, value_read}
+use Rattle.command_words.proofs.FormRules.{FindsId, built_option, built_rules, built_shape, built_word, by_id, by_index, by_long, found_long, text_is_itself, value_rule}
 use Rattle.clap.specs.Lexer.{usize_max}
 use Rattle.clap.specs.Kinds.{Kinds, or_else}
-use Rattle.clap.specs.Walk.{Held, Row, Rule, Waiting, Walk, arg_by_index, arg_by_long, at_row, has_row, idle, option, settled_rows, to_positional, used, value, walked, without, with_values, more_values, long_word}
+use Rattle.clap.specs.Walk.{Held, Row, Rule, Waiting, Walk, arg_by_index, arg_by_long, at_row, has_row, idle, option, settled_rows, to_positional, used, value, walked, without, with_values, more_values, long_word, after_step}
 use Rattle.clap.specs.Faults.{long_fault, settle_fault, step_fault, turn_fault, use_fault, walk_fault}
 use Rattle.clap.specs.declared.builder.value_parser.Reading.TheVariants as reading
 use Rattle.clap.specs.declared.parser.matches.ValueSource.TheVariants.{CommandLine}
 use Rattle.clap.proofs.WalkLemmas.{list_any-map}
-use Rattle.std.specs.List.{before_first, after_first}
-use Rattle.std.specs.Prelude.{if◌then◌else◌}
-use Rattle.clap.specs.Walk.{after_step}
-use Rattle.std.proofs.lemmas.Bool.{eqb-true}
-use Rattle.command_words.specs.Word.{has_some_value, is_equals, Text, is_formed}
-use Rattle.command_words.specs.Given.{Form, Given, Reading, given_after, given_more, has_name, is_among, value_read}
-use Rattle.command_words.proofs.FormRules.{FindsId, built_option, built_rules, built_shape, built_word, by_id, by_index, by_long, found_long, text_is_itself, value_rule}
 
 -- ---- rows
 

@@ -1,23 +1,23 @@
 -- The limits that the definition keeps.
-use Rattle.std.proofs.Common.{◌≡◌, ◌∙◌, ◌<◌, ◌≤◌, ◌&&◌, ℕ, Bool, cond, true, false, not, refl, sym, ap, subst, arith, List, [], ◌∷◌, length, codes, Option, Some, None, is_some, option_map, Result, Ok, Err, IfOk, true≢false, bytes_eq}
+use Rattle.std.proofs.Common.{◌≡◌, ◌∙◌, ◌≤◌, ◌&&◌, ℕ, Bool, cond, true, false, not, refl, sym, ap, subst, arith, List, [], ◌∷◌, length, codes, Option, Some, None, is_some, option_map, Result, Ok, Err, IfOk}
 use Rattle.std.specs.Prelude.{IfSome, option_and_then, ⊤, nat_le}
 use Rattle.std.specs.List.{All, list_all}
 use Rattle.std.specs.Option.{option_map_or}
 use Rattle.std.proofs.lemmas.List.Elements.{All-cons, All-nil}
 use Rattle.std.proofs.lemmas.Bool.Decides.{nat_tests}
-use Rattle.command_words.specs.Word.{Text}
-use Rattle.command_words.specs.Given.{Form, given_in, value_in}
-use Rattle.command_words.specs.Values.{all_different, are_arguments, are_file_names, has_zero, is_class_name, is_file_name, is_number, lies_in, names_in, names_of, number_in, number_or}
 use Rattle.std.specs.Str.Parse.{digits_value}
+use Rattle.command_values.specs.Names.{Text, is_class_name, lies_in, IsClassName}
+use Rattle.command_values.specs.MethodBytes.{AreMethodBytes}
+use Rattle.command_words.specs.Given.{Form, given_in, value_in}
+use Rattle.command_words.specs.Values.{all_different, are_arguments, are_file_names, has_zero, is_file_name, is_number, names_in, names_of, number_in, number_or}
 use Rattle.command_words.specs.Meaning.{Maker, Value, arguments_in, class_in, class_steps, command_after, command_of, disk_in, go_from, guest_steps, has_end, input_in, interp_from, lawful_name, made, make_from, maker_of, method_bytes_in, name_in, name_list_in, named_command, name_of, pages_in, region_words_in, run_from, session_in, stack_in, heap_in, steps_in, takes_arguments, translate_from, verify_from, asm_from, list_from, form_of, before_end, after_end}
 use Rattle.command_words.specs.Answers.{Reads}
 use Rattle.command_words.specs.declared.words_error.WordsError.{WordsError}
-use Rattle.command_words.specs.Limits.{AreFileNames, AreMethodBytes, ArePages, IsClassName, IsFileName, IsSession, IsWithinLimits}
+use Rattle.command_words.specs.Limits.{AreFileNames, ArePages, IsFileName, IsSession, IsWithinLimits}
 use Rattle.command_words.specs.declared.command.Command.{Command}
 use Rattle.command_words.specs.declared.command_name.CommandName.{CommandName}
 use Rattle.command_words.specs.declared.command_name.CommandName.TheVariants as name
 use Rattle.command_words.specs.declared.named.Named.{Named}
-use Rattle.command_words.specs.declared.name_list.NameList.{NameList}
 use Rattle.command_words.proofs.FormWalk.{and_first, and_second}
 
 -- what holds of a first value leads to what holds of the second

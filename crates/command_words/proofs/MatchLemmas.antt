@@ -5,6 +5,13 @@ use Rattle.std.specs.Borrow.{Bor}
 use Rattle.std.specs.List.{list_all, slice_index_or}
 use Rattle.std.specs.Option.{option_map_or}
 use Rattle.std.proofs.lemmas.List.{length-map, length-take-le, map-append, take_more}
+use Rattle.command_values.specs.Names.{Text}
+use Rattle.command_words.specs.Word.{has_some_value, is_formed, is_plain, option_in}
+use Rattle.command_words.specs.Given.{Form, Given, Reading, given_after, given_in, is_among, option_read, value_of, word_read}
+use Rattle.command_words.specs.Answers.{MatchesForm, shown, words_error_of}
+use Rattle.command_words.specs.Builder.{option_rule, with_rules, word_rule, word_rules}
+use Rattle.command_words.proofs.FormWalk.{Agrees}
+use Rattle.command_words.proofs.FormReads.{value_of_row}
 use Rattle.clap.specs.Words.{first_value, rows_of}
 use Rattle.clap.specs.Kinds.{IsAmong, Kinds}
 use Rattle.clap.specs.Walk.{Row, first_of}
@@ -13,12 +20,6 @@ use Rattle.clap.specs.declared.error.kind.ErrorKind.{ErrorKind}
 use Rattle.clap.specs.declared.error.kind.ErrorKind.TheVariants.{OutOfMemory}
 use Rattle.clap.specs.declared.parser.matches.Found.{Found}
 use Rattle.clap.proofs.WalkLemmas.{first_value-rows}
-use Rattle.command_words.specs.Word.{Text, has_some_value, is_formed, is_plain, option_in}
-use Rattle.command_words.specs.Given.{Form, Given, Reading, given_after, given_in, is_among, option_read, value_of, word_read}
-use Rattle.command_words.specs.Answers.{MatchesForm, shown, words_error_of}
-use Rattle.command_words.specs.Builder.{option_rule, with_rules, word_rule, word_rules}
-use Rattle.command_words.proofs.FormWalk.{Agrees}
-use Rattle.command_words.proofs.FormReads.{value_of_row}
 
 -- ---- words that are not formed
 

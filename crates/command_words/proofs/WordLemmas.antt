@@ -5,7 +5,8 @@ use Rattle.std.specs.List.{list_any, position, position_or_len}
 use Rattle.std.proofs.lemmas.Bool.{ltb-false}
 use Rattle.std.proofs.Math.Seq.{take-length}
 use Rattle.std.proofs.lemmas.List.Sums.{prefix_len-le-length}
-use Rattle.command_words.specs.Word.{Text, is_equals, name_and_value}
+use Rattle.command_values.specs.Names.{Text}
+use Rattle.command_words.specs.Word.{is_equals, name_and_value}
 
 zero_lt : (n : ℕ) → nat_lt 0 (suc n) ≡ true
 zero_lt n = lt-ltb 0 (suc n) (omega arith)

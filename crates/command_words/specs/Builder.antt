@@ -1,10 +1,10 @@
 -- The command of `clap` that reads the words of a form: a positional argument for each plain word, and a long option for each
 -- option.
 use Rattle.std.specs.Prelude.{ℕ, true, List, [], ◌∷◌, ◌++◌, Some, codes, map, suc}
+use Rattle.command_values.specs.Names.{Text}
+use Rattle.command_words.specs.Given.{Form}
 use Rattle.clap.specs.Walk.{Rule}
 use Rattle.clap.specs.Simple.{App, Shape, new_rule, new_shape, on_top}
-use Rattle.command_words.specs.Word.{Text}
-use Rattle.command_words.specs.Given.{Form}
 
 abbrev pub option_rule : Text → Rule
 option_rule n = record (new_rule n) { long = Some n }
@@ -20,7 +20,8 @@ abbrev pub form_rules : Form → List Rule
 form_rules form = map option_rule form.options ++ word_rules 1 form.words
 
 abbrev pub form_shape : List Rule → Shape
-form_shape rules = record (new_shape (codes "words")) { rules = rules; no_binary_name = true; disable_help_flag = true }
+form_shape rules = record (new_shape (codes "words"))
+    { rules = rules; no_binary_name = true; disable_help_flag = true }
 
 abbrev pub bare_app : App
 bare_app = record { top = form_shape []; subs = [] }

@@ -3,7 +3,8 @@ use Rattle.std.specs.Prelude.{ℕ, ◌+◌, Bool, true, false, if◌then◌else�
 use Rattle.std.specs.Borrow.{Bor}
 use Rattle.std.specs.List.{list_any}
 use Rattle.std.specs.Str.{bytes_eq}
-use Rattle.command_words.specs.Word.{Text, is_plain, is_option, option_in, waits_for_value}
+use Rattle.command_values.specs.Names.{Text}
+use Rattle.command_words.specs.Word.{is_plain, is_option, option_in, waits_for_value}
 
 -- the names of the plain words that a command takes, in order, and of its options
 pub record Form : Type 0 where
@@ -11,7 +12,10 @@ pub record Form : Type 0 where
   pub options : List Text
 
 abbrev pub form_from : List (Bor Text) → List (Bor Text) → Form
-form_from words options = record { words = map (λ s. s.now) words; options = map (λ s. s.now) options }
+form_from words options = record {
+  words = map (λ s. s.now) words;
+  options = map (λ s. s.now) options;
+}
 
 pub record Given : Type 0 where
   pub name : Text
@@ -35,12 +39,17 @@ has_name name given = list_any (λ g. bytes_eq g.name name) given
 -- one more value; each name is given at most once
 abbrev pub given_more : Text → Text → Reading → Option Reading
 given_more name text r = if has_name name r.given then None
-    else Some (record r { given = r.given ++ record { name = name; text = text } ∷ []; waits = None })
+    else Some (record r {
+      given = r.given ++ record { name = name; text = text } ∷ [];
+      waits = None;
+    })
 
 -- a plain word is the value of the option that waits, or the command's next word
 abbrev pub plain_read : Form → Text → Reading → Option Text → Option Reading
 plain_read form word r (Some name) = given_more name word r
-plain_read form word r None = option_and_then (λ name. given_more name word (record r { words = r.words + 1 })) (slice_get form.words r.words)
+plain_read form word r None =
+    option_and_then (λ name. given_more name word (record r { words = r.words + 1 }))
+    (slice_get form.words r.words)
 
 -- a value after `=` is not empty
 abbrev pub value_read : Text → Option Text → Reading → Option Reading
@@ -56,11 +65,13 @@ option_read form (Some o) r None = if is_among form.options o.0 then value_read 
 
 abbrev pub word_read : Form → Text → Reading → Option Reading
 word_read form word r =
-    if is_plain word then plain_read form word r r.waits else option_read form (option_in word) r r.waits
+    if is_plain word then plain_read form word r r.waits
+    else option_read form (option_in word) r r.waits
 
 unfoldable pub given_after : Form → Reading → List Text → Option (List Given)
 given_after form r [] = if is_some r.waits then None else Some r.given
-given_after form r (word ∷ rest) = option_and_then (λ next. given_after form next rest) (word_read form word r)
+given_after form r (word ∷ rest) =
+    option_and_then (λ next. given_after form next rest) (word_read form word r)
 
 -- what lawful words give, and None where they break the rules
 abbrev pub given_in : Form → List Text → Option (List Given)
@@ -77,10 +88,12 @@ value_in form words name = option_and_then (value_of name) (given_in form words)
 abbrev pub word_place : Bool → List Text → ℕ
 word_place follows [] = 0
 word_place true (word ∷ rest) = word_place false rest + 1
-word_place false (word ∷ rest) = if is_plain word then 0 else word_place (waits_for_value word) rest + 1
+word_place false (word ∷ rest) = if is_plain word then 0
+    else word_place (waits_for_value word) rest + 1
 
 -- how many words stand before the one that holds the option's value
 abbrev pub value_place : Text → List Text → ℕ
 value_place name [] = 0
 value_place name (word ∷ rest) =
-    if is_option name word then (if waits_for_value word then 1 else 0) else value_place name rest + 1
+    if is_option name word then (if waits_for_value word then 1 else 0)
+    else value_place name rest + 1

@@ -1,12 +1,12 @@
 -- The command that lawful words mean.
 use Rattle.std.specs.Prelude.{ℕ, ◌+◌, ◌^◌, ◌-◌, Bool, true, false, not, ◌&&◌, if◌then◌else◌, List, [], ◌∷◌, Option, Some, None, Result, Err, codes, is_some, min, option_and_then, option_map}
-use Rattle.std.specs.Option.{ok_or}
+use Rattle.std.specs.Option.{ok_or, option_map_or}
 use Rattle.std.specs.List.{list_any, before_first, after_first}
-use Rattle.std.specs.Option.{option_map_or}
 use Rattle.std.specs.Str.{bytes_eq}
-use Rattle.command_words.specs.Word.{Text, is_end}
+use Rattle.command_values.specs.Names.{Text, is_class_name}
+use Rattle.command_words.specs.Word.{is_end}
 use Rattle.command_words.specs.Given.{Form, given_in, value_in, value_place, word_place}
-use Rattle.command_words.specs.Values.{are_arguments, is_class_name, names_in, number_in, number_or}
+use Rattle.command_words.specs.Values.{are_arguments, names_in, number_in, number_or}
 use Rattle.command_words.specs.declared.command.Command.{Command}
 use Rattle.command_words.specs.declared.command.Command.TheVariants.{Go, Translate, Interp, Run, Verify, Asm, List as ListIn, Make}
 use Rattle.command_words.specs.declared.command_name.CommandName.{CommandName}
@@ -62,10 +62,13 @@ word_number place = min (place + 1) (2 ^ 32 - 1)
 
 -- the first plain word
 abbrev pub input_in : List Text → Text → Value → Option Named
-input_in words name value = option_map (λ text. record { word = word_number (word_place false words); text = text }) (value name)
+input_in words name value =
+    option_map (λ text. record { word = word_number (word_place false words); text = text })
+    (value name)
 
 abbrev pub class_in : List Text → Value → Option Named
-class_in words value = option_and_then (λ text. if is_class_name text then input_in words (codes "NAME") value else None) (value (codes "NAME"))
+class_in words value = option_and_then (λ text. if is_class_name text
+    then input_in words (codes "NAME") value else None) (value (codes "NAME"))
 
 -- the names of an option, which no word holds where it is left out
 abbrev pub name_list_in : List Text → Text → Value → Option NameList
@@ -81,19 +84,23 @@ arguments_in arguments = if are_arguments arguments then Some arguments else Non
 -- ---- the commands
 
 abbrev pub pages_in : Value → Option Pages
-pages_in value = option_and_then (λ heap. option_map (λ stack. record { heap = heap; stack = stack }) (stack_in value)) (heap_in value)
+pages_in value = option_and_then (λ heap.
+    option_map (λ stack. record { heap = heap; stack = stack }) (stack_in value))
+    (heap_in value)
 
 -- how a guest or a class is run
 abbrev pub session_in : ℕ → List Text → Value → List Text → Option Session
 session_in most words value arguments =
-    option_and_then (λ steps. option_and_then (λ disk. option_and_then (λ with. option_and_then (λ keep. option_map (λ lawful. record {
+    option_and_then (λ steps. option_and_then (λ disk.
+    option_and_then (λ with. option_and_then (λ keep. option_map (λ lawful. record {
       steps = steps;
       disk = disk;
       with = with;
       keep = keep;
       arguments = lawful;
     }) (arguments_in arguments))
-    (name_list_in words (codes "keep") value)) (name_list_in words (codes "with") value)) (disk_in value)) (steps_in most value)
+    (name_list_in words (codes "keep") value)) (name_list_in words (codes "with") value))
+    (disk_in value)) (steps_in most value)
 
 -- ---- what each command makes of its words
 
@@ -110,13 +117,15 @@ name_of word =
     else None
 
 abbrev pub go_options : List Text
-go_options = codes "name" ∷ codes "heap" ∷ codes "stack" ∷ codes "method-bytes" ∷ codes "steps" ∷ codes "disk" ∷ codes "with" ∷ codes "keep" ∷ []
+go_options = codes "name" ∷ codes "heap" ∷ codes "stack" ∷ codes "method-bytes" ∷ codes "steps"
+    ∷ codes "disk" ∷ codes "with" ∷ codes "keep" ∷ []
 
 abbrev pub translate_options : List Text
 translate_options = codes "name" ∷ codes "heap" ∷ codes "stack" ∷ codes "method-bytes" ∷ []
 
 abbrev pub interp_options : List Text
-interp_options = codes "name" ∷ codes "heap" ∷ codes "stack" ∷ codes "steps" ∷ codes "disk" ∷ codes "with" ∷ codes "keep" ∷ []
+interp_options = codes "name" ∷ codes "heap" ∷ codes "stack" ∷ codes "steps" ∷ codes "disk"
+    ∷ codes "with" ∷ codes "keep" ∷ []
 
 abbrev pub run_options : List Text
 run_options = codes "words" ∷ codes "steps" ∷ codes "disk" ∷ codes "with" ∷ codes "keep" ∷ []
@@ -127,9 +136,11 @@ Maker = List Text → Value → List Text → Option Command
 
 abbrev pub go_from : Maker
 go_from words value arguments =
-    option_and_then (λ input. option_and_then (λ name. option_and_then (λ pages. option_and_then (λ method_bytes.
+    option_and_then (λ input. option_and_then (λ name.
+    option_and_then (λ pages. option_and_then (λ method_bytes.
     option_map (λ session. Go input name pages method_bytes session)
-    (session_in guest_steps words value arguments)) (method_bytes_in value)) (pages_in value)) (name_in value))
+    (session_in guest_steps words value arguments)) (method_bytes_in value)) (pages_in value))
+    (name_in value))
     (input_in words (codes "IN") value)
 
 abbrev pub translate_from : Maker
@@ -142,7 +153,8 @@ abbrev pub interp_from : Maker
 interp_from words value arguments =
     option_and_then (λ input. option_and_then (λ name. option_and_then (λ pages.
     option_map (λ session. Interp input name pages session)
-    (session_in guest_steps words value arguments)) (pages_in value)) (name_in value)) (input_in words (codes "IN") value)
+    (session_in guest_steps words value arguments)) (pages_in value)) (name_in value))
+    (input_in words (codes "IN") value)
 
 abbrev pub run_from : Maker
 run_from words value arguments =
@@ -155,14 +167,17 @@ verify_from words value arguments = option_map (λ name. Verify name) (class_in 
 
 abbrev pub asm_from : Maker
 asm_from words value arguments =
-    option_and_then (λ input. option_map (λ output. Asm input output) (value (codes "OUT"))) (input_in words (codes "IN") value)
+    option_and_then (λ input. option_map (λ output. Asm input output) (value (codes "OUT")))
+    (input_in words (codes "IN") value)
 
 abbrev pub list_from : Maker
-list_from words value arguments = option_map (λ input. ListIn input) (input_in words (codes "IN") value)
+list_from words value arguments =
+    option_map (λ input. ListIn input) (input_in words (codes "IN") value)
 
 abbrev pub make_from : Maker
 make_from words value arguments =
-    option_and_then (λ count. option_map (λ method_bytes. Make count method_bytes) (method_bytes_in value))
+    option_and_then (λ count. option_map (λ method_bytes. Make count method_bytes)
+    (method_bytes_in value))
     (option_and_then (number_in 1 65536) (value (codes "N")))
 
 -- ---- the forms

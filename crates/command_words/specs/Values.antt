@@ -3,14 +3,7 @@ use Rattle.std.specs.Prelude.{ℕ, Bool, true, false, not, ◌==◌, ◌&&◌, �
 use Rattle.std.specs.List.{list_all, list_any, slice_split}
 use Rattle.std.specs.Str.{bytes_eq}
 use Rattle.std.specs.Str.Parse.{digits_value}
-use Rattle.command_words.specs.Word.{Text}
-
-abbrev pub lies_in : ℕ → ℕ → ℕ → Bool
-lies_in least most n = nat_le least n && nat_le n most
-
--- the bytes 48 to 57
-abbrev pub is_digit : ℕ → Bool
-is_digit b = lies_in 48 57 b
+use Rattle.command_values.specs.Names.{Text, lies_in, is_digit}
 
 -- 1 to 20 decimal digits
 abbrev pub is_number : Text → Bool
@@ -18,23 +11,13 @@ is_number text = lies_in 1 20 (length text) && list_all is_digit text
 
 -- the number that the text writes, where it is in the range
 abbrev pub number_in : ℕ → ℕ → Text → Option ℕ
-number_in least most text = if is_number text && lies_in least most (digits_value 10 text) then Some (digits_value 10 text) else None
+number_in least most text = if is_number text && lies_in least most (digits_value 10 text)
+    then Some (digits_value 10 text) else None
 
 -- the value of an option, or its default where it is left out
 abbrev pub number_or : ℕ → ℕ → ℕ → Option Text → Option ℕ
 number_or least most default None = Some default
 number_or least most default (Some text) = number_in least most text
-
-abbrev pub is_letter : ℕ → Bool
-is_letter b = lies_in 65 90 b || lies_in 97 122 b
-
-abbrev pub is_letter_or_digit : ℕ → Bool
-is_letter_or_digit b = is_letter b || is_digit b
-
--- a NAME: a letter, then letters and digits, in ASCII, 64 at most
-abbrev pub is_class_name : Text → Bool
-is_class_name [] = false
-is_class_name (b ∷ bs) = is_letter b && list_all is_letter_or_digit bs && nat_lt (length bs) 64
 
 abbrev pub has_zero : Text → Bool
 has_zero text = list_any (λ b. b == 0) text
@@ -53,7 +36,8 @@ names_of text = slice_split (λ b. b == 44) text
 
 -- 1 to 64 names, all different
 abbrev pub are_file_names : List Text → Bool
-are_file_names names = nat_le (length names) 64 && list_all is_file_name names && all_different names
+are_file_names names = nat_le (length names) 64 && list_all is_file_name names
+    && all_different names
 
 -- the names that an option gives, none where it is left out
 abbrev pub names_in : Option Text → Option (List Text)

@@ -4,10 +4,7 @@ use Rattle.std.specs.List.{list_any, before_first, after_first}
 use Rattle.std.specs.Option.{option_map_or}
 use Rattle.std.specs.Str.{bytes_eq}
 use Rattle.std.specs.declared.alloc.Global.{Global}
-
--- the bytes of a word, in UTF-8
-abbrev pub Text : Type 0
-Text = List ℕ
+use Rattle.command_values.specs.Names.{Text}
 
 -- the texts of the words
 abbrev pub texts : List (String Global) → List Text

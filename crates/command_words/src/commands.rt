@@ -28,7 +28,8 @@ pub(crate) fn make(
     matches: &ArgMatches<'_>,
     arguments: &[String],
 ) -> Result<Command, WordsError>
-    ensures { Reads (maker_of command (texts words.now) (first_value (found_of matches.now)) (texts arguments.now)) result }
+    ensures { Reads (maker_of command (texts words.now) (first_value (found_of matches.now))
+        (texts arguments.now)) result }
 {
     match command {
         CommandName::Go => go(alloc, words, matches, arguments),
@@ -48,7 +49,8 @@ fn go(
     matches: &ArgMatches<'_>,
     arguments: &[String],
 ) -> Result<Command, WordsError>
-    ensures { Reads (go_from (texts words.now) (first_value (found_of matches.now)) (texts arguments.now)) result }
+    ensures { Reads (go_from (texts words.now) (first_value (found_of matches.now))
+        (texts arguments.now)) result }
 {
     let input = input(alloc, words, matches, "IN")?;
     let name = name(alloc, matches)?;
@@ -73,7 +75,8 @@ fn translate(
     words: &[String],
     matches: &ArgMatches<'_>,
 ) -> Result<Command, WordsError>
-    ensures { Reads (translate_from (texts words.now) (first_value (found_of matches.now)) []) result }
+    ensures { Reads (translate_from (texts words.now) (first_value (found_of matches.now)) [])
+        result }
 {
     let input = input(alloc, words, matches, "IN")?;
     let name = name(alloc, matches)?;
@@ -97,7 +100,8 @@ fn interp(
     matches: &ArgMatches<'_>,
     arguments: &[String],
 ) -> Result<Command, WordsError>
-    ensures { Reads (interp_from (texts words.now) (first_value (found_of matches.now)) (texts arguments.now)) result }
+    ensures { Reads (interp_from (texts words.now) (first_value (found_of matches.now))
+        (texts arguments.now)) result }
 {
     let input = input(alloc, words, matches, "IN")?;
     let name = name(alloc, matches)?;
@@ -119,7 +123,8 @@ fn run(
     matches: &ArgMatches<'_>,
     arguments: &[String],
 ) -> Result<Command, WordsError>
-    ensures { Reads (run_from (texts words.now) (first_value (found_of matches.now)) (texts arguments.now)) result }
+    ensures { Reads (run_from (texts words.now) (first_value (found_of matches.now))
+        (texts arguments.now)) result }
 {
     let name = class(alloc, words, matches)?;
     let Some(region) = region_words(matches) else {

@@ -78,7 +78,8 @@ fn with_options<'a>(
     parser: Parser<'a>,
     options: &[&'a str],
 ) -> Result<Parser<'a>, AllocError>
-    ensures { IfOk result (λ p. app_of p ≡ with_rules (map option_rule (shown options.now)) (app_of parser.entry)) }
+    ensures { IfOk result (λ p. app_of p
+        ≡ with_rules (map option_rule (shown options.now)) (app_of parser.entry)) }
 {
     let mut parser = parser;
     for name in options {
@@ -94,7 +95,8 @@ fn with_words<'a>(
     names: &[&'a str],
 ) -> Result<Parser<'a>, AllocError>
     requires { length names.now ≤ 8 }
-    ensures { IfOk result (λ p. app_of p ≡ with_rules (word_rules 1 (shown names.now)) (app_of parser.entry)) }
+    ensures { IfOk result (λ p. app_of p
+        ≡ with_rules (word_rules 1 (shown names.now)) (app_of parser.entry)) }
 {
     let mut parser = parser;
     for (place, name) in names.iter().enumerate() {

@@ -1,7 +1,8 @@
 ghost use Rattle.std.specs.Prelude.{◌≡◌, IfOk, map, string_bytes, option_map, bytes_eq, not, Some};
 ghost use Rattle.std.specs.List.{list_any, list_all};
+ghost use Rattle.command_values.specs.Names.{is_class_name, is_letter, is_letter_or_digit};
 ghost use Rattle.command_words.specs.Answers.{Reads, shown};
-ghost use Rattle.command_words.specs.Values.{all_different, are_arguments, are_file_names, has_zero, is_class_name, is_file_name, is_letter, is_letter_or_digit, names_in, names_of};
+ghost use Rattle.command_words.specs.Values.{all_different, are_arguments, are_file_names, has_zero, is_file_name, names_in, names_of};
 ghost use Rattle.command_words.specs.Word.{texts};
 
 use crate::number::is_digit;

@@ -1,6 +1,7 @@
 ghost use Rattle.std.specs.Prelude.{◌≡◌, ◌≤◌, option_map};
 ghost use Rattle.std.specs.List.{list_all};
-ghost use Rattle.command_words.specs.Values.{is_digit, is_number, lies_in, number_in, number_or};
+ghost use Rattle.command_values.specs.Names.{is_digit, lies_in};
+ghost use Rattle.command_words.specs.Values.{is_number, number_in, number_or};
 
 /// The number that 1 to 20 decimal digits write, where it is in the range.
 pub(crate) fn number_in(text: &str, least: u64, most: u64) -> Option<u64>

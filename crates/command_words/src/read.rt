@@ -26,7 +26,8 @@ pub(crate) fn input(
     matches: &ArgMatches<'_>,
     name: &str,
 ) -> Result<Named, WordsError>
-    ensures { Reads (input_in (texts words.now) name.now (first_value (found_of matches.now))) result }
+    ensures { Reads (input_in (texts words.now) name.now (first_value (found_of matches.now)))
+        result }
 {
     match matches.get_str(name) {
         Some(text) => {
@@ -83,7 +84,8 @@ fn name_list(
     matches: &ArgMatches<'_>,
     name: &str,
 ) -> Result<NameList, WordsError>
-    ensures { Reads (name_list_in (texts words.now) name.now (first_value (found_of matches.now))) result }
+    ensures { Reads (name_list_in (texts words.now) name.now (first_value (found_of matches.now)))
+        result }
 {
     let text = matches.get_str(name);
     let names = names_in(alloc, text)?;
@@ -93,7 +95,8 @@ fn name_list(
 
 /// The number of an option's word, 0 where it is left out.
 fn list_word(words: &[String], name: &str, is_given: bool) -> u32
-    ensures { result ≡ (if is_given then word_number (value_place name.now (texts words.now)) else 0) }
+    ensures { result ≡ (if is_given then word_number (value_place name.now (texts words.now))
+        else 0) }
 {
     if is_given {
         word_number(value_place(name, words))
@@ -147,7 +150,8 @@ pub(crate) fn session(
     matches: &ArgMatches<'_>,
     arguments: &[String],
 ) -> Result<Session, WordsError>
-    ensures { Reads (session_in most (texts words.now) (first_value (found_of matches.now)) (texts arguments.now)) result }
+    ensures { Reads (session_in most (texts words.now) (first_value (found_of matches.now))
+        (texts arguments.now)) result }
 {
     let Some(steps) = steps(matches, most) else {
         return Err(WordsError::Usage(Usage::NotLawful));

@@ -58,7 +58,8 @@ pub(crate) fn is_option(name: &str, word: &[u8]) -> bool
 
 /// The option that the word is.
 fn option_in(word: &[u8]) -> Option<OptionWord<'_>>
-    ensures { option_map (λ o. (o.name.now, option_map (λ v. v.now) o.value)) result ≡ option_in word.now }
+    ensures { option_map (λ o. (o.name.now, option_map (λ v. v.now) o.value)) result
+        ≡ option_in word.now }
 {
     let rest = after_hyphen(after_hyphen(word)?)?;
     name_and_value(rest)
@@ -76,7 +77,8 @@ fn after_hyphen(word: &[u8]) -> Option<&[u8]>
 
 /// What stands before the first `=`, and after it if it is there.
 fn name_and_value(text: &[u8]) -> Option<OptionWord<'_>>
-    ensures { option_map (λ o. (o.name.now, option_map (λ v. v.now) o.value)) result ≡ name_and_value text.now }
+    ensures { option_map (λ o. (o.name.now, option_map (λ v. v.now) o.value)) result
+        ≡ name_and_value text.now }
 {
     if text.is_empty() {
         return None;

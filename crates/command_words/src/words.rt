@@ -21,7 +21,8 @@ use std::alloc::Global;
 pub fn read_words(alloc: Global, words: &[String]) -> Result<Command, WordsError>
     ensures ok { IfOk result (λ command. command_of (texts words.now) ≡ Ok command) }
     ensures limits { IfOk result IsWithinLimits }
-    ensures usage { (fault : Usage) → result ≡ Err (WordsError.Usage fault) → command_of (texts words.now) ≡ Err fault }
+    ensures usage { (fault : Usage) → result ≡ Err (WordsError.Usage fault)
+        → command_of (texts words.now) ≡ Err fault }
 {
     let Some((first, others)) = words.split_first() else {
         return Err(WordsError::Usage(Usage::NoCommand));

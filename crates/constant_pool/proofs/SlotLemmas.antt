@@ -14,7 +14,7 @@ use Rattle.constant_pool.specs.declared.entry.Entry.{Entry}
 use Rattle.constant_pool.specs.declared.entry.Entry.TheVariants.{Utf8, Integer, Long, LongRest, ClassName, Text, FieldRef, MethodRef, NameAnd}
 use Rattle.constant_pool.specs.Parts.{tag_of, text_part, number_part, first_part, second_part}
 use Rattle.constant_pool.specs.Entries.{is_long}
-use Rattle.constant_pool.specs.Slots.{slots_of_entry, is_rest, IsAt, IsMissing, slots_of_map, AreSlots, IsKept}
+use Rattle.constant_pool.specs.Slots.{slots_of_entry, is_rest, IsAt, IsMissing, slots_of_map, AreSlots, IsKeptPool}
 use Rattle.std.proofs.lemmas.Option.{same_Some}
 
 -- ---- entries are the same where their parts are
@@ -251,8 +251,8 @@ are_more (q ∷ es) first p are place rest =
     let k : length (slots_of_map (q ∷ es)) ≡ length (slots_of_entry q.0) + length (slots_of_map es) = length-append (slots_of_entry q.0) (slots_of_map es) in
     (are.0, are.1, are_more es (first + length (slots_of_entry q.0)) p are.2 (omega arith) rest)
 
-pub kept_more : (es new : List (Entry × ℕ)) (next size : ℕ) (e : Entry) → IsKept es next → new ≡ es ++ (e, next) ∷ [] → is_rest e ≡ false
-    → size ≡ length (slots_of_entry e) → next + size ≤ 65535 → IsKept new (next + size)
+pub kept_more : (es new : List (Entry × ℕ)) (next size : ℕ) (e : Entry) → IsKeptPool es next → new ≡ es ++ (e, next) ∷ [] → is_rest e ≡ false
+    → size ≡ length (slots_of_entry e) → next + size ≤ 65535 → IsKeptPool new (next + size)
 kept_more es new next size e kept is rest taken few =
     let before = kept.next_is in
     let k : length (slots_of_map (es ++ (e, next) ∷ [])) ≡ length (slots_of_map es) + length (slots_of_entry e) = ap length (slots_more es (e, next)) ∙ length-append (slots_of_map es) (slots_of_entry e) in

@@ -40,7 +40,8 @@ abbrev pub pair_fault : Option (List ℕ) → Option (List ℕ) → Option ℕ
 pair_fault None descriptor = Some index
 pair_fault (Some name) None = Some index
 pair_fault (Some name) (Some descriptor) =
-    if is_member_name name && (is_field_descriptor descriptor || is_method_descriptor descriptor) then None else Some utf8
+    if is_member_name name && (is_field_descriptor descriptor || is_method_descriptor descriptor)
+    then None else Some utf8
 
 -- a class, and a name with a descriptor that passes a test
 abbrev pub ref_fault : List Entry → (List ℕ → Bool) → Option ℕ → Option (ℕ × ℕ) → Option ℕ
@@ -54,13 +55,17 @@ entry_fault pool (Utf8 characters) = None
 entry_fault pool (Integer n) = None
 entry_fault pool (Long n) = None
 entry_fault pool LongRest = None
-entry_fault pool (ClassName name) = text_fault (λ cs. is_class_name cs || is_array_name cs) (text_at pool name)
+entry_fault pool (ClassName name) =
+    text_fault (λ cs. is_class_name cs || is_array_name cs) (text_at pool name)
 entry_fault pool (Text string) = text_fault (λ _. true) (text_at pool string)
 entry_fault pool (FieldRef class name) =
-    ref_fault pool is_field_descriptor (option_and_then class_of (entry_at pool class)) (option_and_then name_of (entry_at pool name))
+    ref_fault pool is_field_descriptor (option_and_then class_of (entry_at pool class))
+    (option_and_then name_of (entry_at pool name))
 entry_fault pool (MethodRef class name) =
-    ref_fault pool is_method_descriptor (option_and_then class_of (entry_at pool class)) (option_and_then name_of (entry_at pool name))
-entry_fault pool (NameAnd name descriptor) = pair_fault (text_at pool name) (text_at pool descriptor)
+    ref_fault pool is_method_descriptor (option_and_then class_of (entry_at pool class))
+    (option_and_then name_of (entry_at pool name))
+entry_fault pool (NameAnd name descriptor) =
+    pair_fault (text_at pool name) (text_at pool descriptor)
 
 -- the number of bytes of a slot
 abbrev pub slot_size : Entry → ℕ
@@ -81,11 +86,13 @@ fault_or at (Some kind) others = Some (record { kind = kind; at = at })
 
 unfoldable pub entries_fault : List Entry → List Entry → ℕ → Option ClassFault
 entries_fault pool [] at = None
-entries_fault pool (e ∷ entries) at = fault_or at (entry_fault pool e) (entries_fault pool entries (at + slot_size e))
+entries_fault pool (e ∷ entries) at =
+    fault_or at (entry_fault pool e) (entries_fault pool entries (at + slot_size e))
 
 -- a pool: the number of slots and 1, and the slots
 abbrev pub sound_slots : ℕ → Format (List Entry)
 sound_slots count = checked (λ entries. entries_fault entries entries 0) (slots (count - 1))
 
 unfoldable pub pool : Format (List Entry)
-pool = headed (tested index (λ n. nat_le 1 n) (number cut w16)) (λ entries. length entries + 1) sound_slots
+pool = headed (tested index (λ n. nat_le 1 n) (number cut w16)) (λ entries. length entries + 1)
+    sound_slots

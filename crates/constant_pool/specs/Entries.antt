@@ -87,7 +87,8 @@ is_long _ = false
 
 -- the slot behind a Long has no bytes; any other has an entry
 abbrev pub slot : Bool → ℕ → Format Entry
-slot after_long to_come = if after_long then mapped (λ _. LongRest) rest_of nothing else entry to_come
+slot after_long to_come = if after_long then mapped (λ _. LongRest) rest_of nothing
+    else entry to_come
 
 -- so many slots
 abbrev pub slots : ℕ → Format (List Entry)

@@ -8,7 +8,12 @@ use Rattle.constant_pool.specs.declared.form.Form.{Form}
 use Rattle.constant_pool.specs.Names.{is_member_name, is_class_name, is_array_name}
 
 abbrev pub form_of : Entry → Option Form
-form_of (Utf8 cs) = Some (record { class_name = is_class_name cs || is_array_name cs; member_name = is_member_name cs })
+form_of (Utf8 cs) =
+    Some (record {
+      class_name = is_class_name cs
+          || is_array_name cs;
+      member_name = is_member_name cs;
+    })
 form_of _ = None
 
 -- the form in a slot; slots are counted from 1

@@ -11,7 +11,8 @@ same_text cs ds = pointwise nat_eq cs ds
 -- a letter, a digit, _ or $
 abbrev pub is_part_character : ℕ → Bool
 is_part_character c =
-    (nat_le 97 c && nat_le c 122) || (nat_le 65 c && nat_le c 90) || (nat_le 48 c && nat_le c 57) || c == 95 || c == 36
+    (nat_le 97 c && nat_le c 122) || (nat_le 65 c && nat_le c 90) || (nat_le 48 c && nat_le c 57)
+    || c == 95 || c == 36
 
 -- the name of a field or method: one or more of these
 abbrev pub is_member_name : List ℕ → Bool
@@ -20,7 +21,8 @@ is_member_name cs = not (length cs == 0) && list_all is_part_character cs
 -- parts joined by /, of which none is empty; inside says whether the part that goes on here has begun
 abbrev pub is_name_from : Bool → List ℕ → Bool
 is_name_from inside [] = inside
-is_name_from inside (c ∷ cs) = if c == 47 then inside && is_name_from false cs else is_part_character c && is_name_from true cs
+is_name_from inside (c ∷ cs) = if c == 47 then inside && is_name_from false cs
+    else is_part_character c && is_name_from true cs
 
 -- the name of a class
 abbrev pub is_class_name : List ℕ → Bool
@@ -38,7 +40,8 @@ after front cs = if starts_with nat_eq cs front then Some (drop (length front) c
 unfoldable pub after_field : List ℕ → Option (List ℕ)
 after_field cs =
     option_or (after (codes "I") cs)
-    (option_or (after (codes "[I") cs) (option_or (after (codes "[[I") cs) (after (codes "Ljava/lang/String;") cs)))
+    (option_or (after (codes "[I") cs)
+    (option_or (after (codes "[[I") cs) (after (codes "Ljava/lang/String;") cs)))
 
 abbrev pub is_end : Option (List ℕ) → Bool
 is_end None = false
@@ -50,7 +53,8 @@ is_field_descriptor cs = is_end (after_field cs)
 -- what follows the ) behind at most so many field descriptors
 unfoldable pub after_parameters : ℕ → List ℕ → Option (List ℕ)
 after_parameters zero cs = after (codes ")") cs
-after_parameters (suc n) cs = option_or (after (codes ")") cs) (option_and_then (after_parameters n) (after_field cs))
+after_parameters (suc n) cs =
+    option_or (after (codes ")") cs) (option_and_then (after_parameters n) (after_field cs))
 
 abbrev pub is_return : Option (List ℕ) → Bool
 is_return None = false

@@ -34,7 +34,7 @@ AreSlots first (p ∷ entries) =
     (p.1 ≡ first) × (is_rest p.0 ≡ false) × AreSlots (first + length (slots_of_entry p.0)) entries
 
 -- what holds of a pool's map and the next slot
-pub record IsKept (entries : List (Entry × ℕ)) (next : ℕ) : Type 0 where
+pub record IsKeptPool (entries : List (Entry × ℕ)) (next : ℕ) : Type 0 where
   pub slots : AreSlots 1 entries
   pub next_is : next ≡ 1 + length (slots_of_map entries)
   pub few : next ≤ 65535

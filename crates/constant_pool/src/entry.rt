@@ -6,7 +6,7 @@ ghost use Rattle.std.specs.Cmp.Rules.{comparing, hashing};
 ghost use Rattle.std.proofs.Common.{rules};
 ghost use Rattle.constant_pool.specs.Parts.{tag_of, text_part, number_part, first_part, second_part};
 
-use class_format::Sequence;
+use jvm_names::Sequence;
 use std::hash::{Hash, Hasher};
 
 /// What stands in a slot of a constant pool (JVM Specification, 4.4). Slots are counted from 1.
@@ -92,7 +92,10 @@ impl Entry {
 }
 
 impl PartialEq for Entry {
-    ghost eq = { eq_of_both (on tag_of nat_eq) (eq_of_both (on text_part (pointwise nat_eq)) (eq_of_both (on number_part int_eq) (eq_of_both (on first_part nat_eq) (on second_part nat_eq)))) };
+    ghost eq = { eq_of_both (on tag_of nat_eq)
+        (eq_of_both (on text_part (pointwise nat_eq))
+        (eq_of_both (on number_part int_eq)
+        (eq_of_both (on first_part nat_eq) (on second_part nat_eq)))) };
 
     ghost laws = { Prim.search (comparing, rules) };
 
@@ -110,7 +113,8 @@ impl Eq for Entry {
 }
 
 impl Hash for Entry {
-    ghost hash_input = { λ e. fed.slice fed.u16 (text_part e) ++ fed.i64 (number_part e) ++ fed.u16 (first_part e) ++ fed.u16 (second_part e) };
+    ghost hash_input = { λ e. fed.slice fed.u16 (text_part e) ++ fed.i64 (number_part e)
+        ++ fed.u16 (first_part e) ++ fed.u16 (second_part e) };
 
     ghost respects_eq = { Prim.search (hashing, rules) };
 

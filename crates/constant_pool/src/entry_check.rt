@@ -39,7 +39,8 @@ fn text_fault(text: Option<&[u16]>) -> Option<u32>
 // A slot that is missing comes before a text of a wrong form.
 #[tactic(auto, using(crate::proofs::FormLemmas::pair_fault_is))]
 fn pair_fault(pool: &Slots, name: u16, descriptor: u16) -> Option<u32>
-    ensures { result ≡ checks.pair_fault (checks.text_at pool.now name) (checks.text_at pool.now descriptor) }
+    ensures { result ≡ checks.pair_fault (checks.text_at pool.now name)
+        (checks.text_at pool.now descriptor) }
 {
     least_kind(
         pool.member_name_fault(name),
@@ -48,7 +49,8 @@ fn pair_fault(pool: &Slots, name: u16, descriptor: u16) -> Option<u32>
 }
 
 fn descriptor_fault(text: Option<&[u16]>) -> Option<u32>
-    ensures { result ≡ checks.text_fault (λ cs. profile.is_field_descriptor cs || profile.is_method_descriptor cs) (option_map (λ x. x.now) text.entry) }
+    ensures { result ≡ checks.text_fault (λ cs. profile.is_field_descriptor cs
+        || profile.is_method_descriptor cs) (option_map (λ x. x.now) text.entry) }
 {
     match text {
         None => Some(ClassFault::INDEX),
@@ -70,7 +72,8 @@ fn least_kind(name: Option<u32>, descriptor: Option<u32>) -> Option<u32>
 
 fn field_fault(pool: &Slots, class: u16, name: u16) -> Option<u32>
     ensures { result ≡ checks.ref_fault pool.now profile.is_field_descriptor
-        (option_and_then class_of (checks.entry_at pool.now class)) (option_and_then name_of (checks.entry_at pool.now name)) }
+        (option_and_then class_of (checks.entry_at pool.now class))
+        (option_and_then name_of (checks.entry_at pool.now name)) }
 {
     match (class_slot(pool, class), descriptor_slot(pool, name)) {
         (Some(_), Some(descriptor)) => match pool.text(descriptor) {
@@ -83,7 +86,8 @@ fn field_fault(pool: &Slots, class: u16, name: u16) -> Option<u32>
 
 fn method_fault(pool: &Slots, class: u16, name: u16) -> Option<u32>
     ensures { result ≡ checks.ref_fault pool.now profile.is_method_descriptor
-        (option_and_then class_of (checks.entry_at pool.now class)) (option_and_then name_of (checks.entry_at pool.now name)) }
+        (option_and_then class_of (checks.entry_at pool.now class))
+        (option_and_then name_of (checks.entry_at pool.now name)) }
 {
     match (class_slot(pool, class), descriptor_slot(pool, name)) {
         (Some(_), Some(descriptor)) => match pool.text(descriptor) {
@@ -106,7 +110,8 @@ fn class_slot(pool: &Slots, slot: u16) -> Option<u16>
 
 // The slot of the descriptor of the name and descriptor in a slot.
 fn descriptor_slot(pool: &Slots, slot: u16) -> Option<u16>
-    ensures { result ≡ option_map (λ x. x.1) (option_and_then name_of (checks.entry_at pool.now slot)) }
+    ensures { result
+        ≡ option_map (λ x. x.1) (option_and_then name_of (checks.entry_at pool.now slot)) }
 {
     match pool.entry(slot)? {
         Entry::NameAnd(_, descriptor) => Some(*descriptor),

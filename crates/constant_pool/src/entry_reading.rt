@@ -1,17 +1,17 @@
 //! Entries from bytes.
 ghost use Rattle.std.specs.Prelude.{◌≡◌, List, ℕ};
+ghost use Rattle.std.specs.Int.{w32};
 ghost use Rattle.class_format.specs.Gives.{Gives};
 ghost use Rattle.class_format.specs.Format.{Format, mapped, signed, number};
-ghost use Rattle.std.specs.Int.{w32};
 ghost use Rattle.constant_pool.specs.declared.entry.Entry.TheVariants.{Utf8, Integer, ClassName, Text, FieldRef, MethodRef, NameAnd};
 ghost use Rattle.constant_pool.specs.Entries as format;
 
 use crate::entry::Entry;
 use crate::text_reading::read_text;
 use class_format::{
-    ClassFault, Failure, Miss, Sequence, byte_of, half_of, missed, raw_of, signed_long_of,
-    signed_word_of,
+    ClassFault, Failure, Miss, byte_of, half_of, missed, raw_of, signed_long_of, signed_word_of,
 };
+use jvm_names::Sequence;
 use std::alloc::Global;
 
 /// What stands in a slot behind which so many are to come.
@@ -48,7 +48,8 @@ fn entry_of(alloc: Global, to_come: u16, bytes: &[u8]) -> Result<(Entry, &[u8]),
 }
 
 fn utf8_of(alloc: Global, bytes: &[u8]) -> Result<(Entry, &[u8]), Failure>
-    ensures { Gives (λ x. (x.0, x.1.now)) result ((mapped Utf8 format.utf8_of format.text).read bytes.now) }
+    ensures { Gives (λ x. (x.0, x.1.now)) result
+        ((mapped Utf8 format.utf8_of format.text).read bytes.now) }
 {
     let (length, rest) = half_of(ClassFault::CUT, bytes)?;
     let (text, rest) = raw_of(ClassFault::CUT, rest, length as usize)?;
@@ -62,7 +63,8 @@ fn utf8_of(alloc: Global, bytes: &[u8]) -> Result<(Entry, &[u8]), Failure>
 }
 
 fn integer_of(bytes: &[u8]) -> Result<(Entry, &[u8]), Failure>
-    ensures { Gives (λ x. (x.0, x.1.now)) result ((mapped Integer format.integer_of (signed 3 w32)).read bytes.now) }
+    ensures { Gives (λ x. (x.0, x.1.now)) result
+        ((mapped Integer format.integer_of (signed 3 w32)).read bytes.now) }
 {
     let (number, rest) = signed_word_of(ClassFault::CUT, bytes)?;
     Ok((Entry::Integer(number), rest))
@@ -82,21 +84,24 @@ fn long_of(to_come: u16, bytes: &[u8]) -> Result<(Entry, &[u8]), Failure>
 }
 
 fn class_of(bytes: &[u8]) -> Result<(Entry, &[u8]), Failure>
-    ensures { Gives (λ x. (x.0, x.1.now)) result ((mapped ClassName format.class_of format.slot_index).read bytes.now) }
+    ensures { Gives (λ x. (x.0, x.1.now)) result
+        ((mapped ClassName format.class_of format.slot_index).read bytes.now) }
 {
     let (name, rest) = half_of(ClassFault::CUT, bytes)?;
     Ok((Entry::ClassName(name), rest))
 }
 
 fn string_of(bytes: &[u8]) -> Result<(Entry, &[u8]), Failure>
-    ensures { Gives (λ x. (x.0, x.1.now)) result ((mapped Text format.string_of format.slot_index).read bytes.now) }
+    ensures { Gives (λ x. (x.0, x.1.now)) result
+        ((mapped Text format.string_of format.slot_index).read bytes.now) }
 {
     let (text, rest) = half_of(ClassFault::CUT, bytes)?;
     Ok((Entry::Text(text), rest))
 }
 
 fn field_of(bytes: &[u8]) -> Result<(Entry, &[u8]), Failure>
-    ensures { Gives (λ x. (x.0, x.1.now)) result ((mapped (λ x. FieldRef x.0 x.1) format.field_of format.two_slots).read bytes.now) }
+    ensures { Gives (λ x. (x.0, x.1.now)) result
+        ((mapped (λ x. FieldRef x.0 x.1) format.field_of format.two_slots).read bytes.now) }
 {
     let (class, rest) = half_of(ClassFault::CUT, bytes)?;
     let (name, rest) = half_of(ClassFault::CUT, rest)?;
@@ -104,7 +109,8 @@ fn field_of(bytes: &[u8]) -> Result<(Entry, &[u8]), Failure>
 }
 
 fn method_of(bytes: &[u8]) -> Result<(Entry, &[u8]), Failure>
-    ensures { Gives (λ x. (x.0, x.1.now)) result ((mapped (λ x. MethodRef x.0 x.1) format.method_of format.two_slots).read bytes.now) }
+    ensures { Gives (λ x. (x.0, x.1.now)) result
+        ((mapped (λ x. MethodRef x.0 x.1) format.method_of format.two_slots).read bytes.now) }
 {
     let (class, rest) = half_of(ClassFault::CUT, bytes)?;
     let (name, rest) = half_of(ClassFault::CUT, rest)?;
@@ -112,7 +118,8 @@ fn method_of(bytes: &[u8]) -> Result<(Entry, &[u8]), Failure>
 }
 
 fn name_of(bytes: &[u8]) -> Result<(Entry, &[u8]), Failure>
-    ensures { Gives (λ x. (x.0, x.1.now)) result ((mapped (λ x. NameAnd x.0 x.1) format.name_of format.two_slots).read bytes.now) }
+    ensures { Gives (λ x. (x.0, x.1.now)) result
+        ((mapped (λ x. NameAnd x.0 x.1) format.name_of format.two_slots).read bytes.now) }
 {
     let (name, rest) = half_of(ClassFault::CUT, bytes)?;
     let (descriptor, rest) = half_of(ClassFault::CUT, rest)?;

@@ -101,7 +101,8 @@ pub fn is_method_descriptor(text: &[u16]) -> bool
 
 // What follows the parameters of a method descriptor.
 fn after_descriptors(text: &[u16]) -> Option<&[u16]>
-    ensures { option_map (λ x. x.now) result ≡ option_and_then (profile.after_parameters 255) (profile.after (codes "(") text.now) }
+    ensures { option_map (λ x. x.now) result
+        ≡ option_and_then (profile.after_parameters 255) (profile.after (codes "(") text.now) }
 {
     after_parameters(after(text, &[40])?)
 }

@@ -27,11 +27,11 @@ impl Model for Pool {
 
     ghost Value = { List Entry };
 
-    ghost use Rattle.constant_pool.specs.Slots.{slots_of_map, IsKept};
+    ghost use Rattle.constant_pool.specs.Slots.{slots_of_map, IsKeptPool};
 
     ghost view = { λ p. slots_of_map p.entries.entries };
 
-    ghost invariant = { λ p. IsKept p.entries.entries p.next };
+    ghost invariant = { λ p. IsKeptPool p.entries.entries p.next };
 }
 
 impl Pool {
@@ -73,9 +73,13 @@ impl Pool {
         requires { is_rest e ≡ false }
         ensures there { IfOk result (λ slot. IsAt self.new slot e) }
         ensures present { (slot : ℕ) → IsAt self.old slot e → IsOk result × (self.new ≡ self.old) }
-        ensures added { IsMissing self.old e → IfOk result (λ slot. (slot ≡ 1 + length self.old) × (self.new ≡ self.old ++ slots_of_entry e)) }
-        ensures grown { OnOk result ((self.new ≡ self.old) ⊎ (self.new ≡ self.old ++ slots_of_entry e)) }
-        ensures full { (result ≡ Err Full) ↔ (IsMissing self.old e × (65534 < length self.old + length (slots_of_entry e))) }
+        ensures added { IsMissing self.old e
+            → IfOk result (λ slot. (slot ≡ 1 + length self.old)
+            × (self.new ≡ self.old ++ slots_of_entry e)) }
+        ensures grown { OnOk result ((self.new ≡ self.old)
+            ⊎ (self.new ≡ self.old ++ slots_of_entry e)) }
+        ensures full { (result ≡ Err Full)
+            ↔ (IsMissing self.old e × (65534 < length self.old + length (slots_of_entry e))) }
         ensures err { OnErr result (self.new ≡ self.old) }
     {
         if let Some(slot) = self.slot_of(&e) {

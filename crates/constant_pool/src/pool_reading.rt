@@ -30,7 +30,9 @@ pub fn entries_of(alloc: Global, bytes: &[u8]) -> Result<(Slots, &[u8]), Failure
 }
 
 fn sound_slots_of(alloc: Global, count: u16, bytes: &[u8]) -> Result<(Slots, &[u8]), Failure>
-    ensures { Gives (λ x. (x.0, x.1.now)) result ((checked (λ entries. checks.entries_fault entries entries 0) (format.slots count)).read bytes.now) }
+    ensures { Gives (λ x. (x.0, x.1.now)) result
+        ((checked (λ entries. checks.entries_fault entries entries 0) (format.slots count)).read
+        bytes.now) }
 {
     let (entries, rest) = slots_of(alloc, count, bytes)?;
     let slots = Slots::new(alloc, entries)?;
@@ -101,10 +103,12 @@ pub fn slot_size(entry: &Entry) -> usize
 pub fn read_pool(alloc: Global, b: &[u8], at: usize) -> Result<(Vec<Entry>, usize), ReadError>
     ensures refused { IfErr result (IsAnswer (pool_fault b.now at)) }
     ensures accepted { OnOk result (pool_fault b.now at ≡ None) }
-    ensures spelled { IfOk result (λ x. Begins checks.pool (drop at b.now) x.0.items (drop x.1 b.now)) }
+    ensures spelled { IfOk result (λ x.
+        Begins checks.pool (drop at b.now) x.0.items (drop x.1 b.now)) }
     ensures place { IfOk result (λ x. x.1 ≡ at + length (checks.pool.spell x.0.items)) }
-    ensures found { (entries : List Entry) (rest : List ℕ) → Begins checks.pool (drop at b.now) entries rest →
-        (pool_fault b.now at ≡ None) × IfOk result (λ x. x.0.items ≡ entries) }
+    ensures found { (entries : List Entry) (rest : List ℕ)
+        → Begins checks.pool (drop at b.now) entries rest → (pool_fault b.now at ≡ None)
+        × IfOk result (λ x. x.0.items ≡ entries) }
 {
     let bytes = from_place(b, at);
     match entries_of(alloc, bytes) {

@@ -77,7 +77,8 @@ impl Slots {
     /// The kind of what is wrong with a slot that is to hold the name of a class or of a type of arrays.
     #[tactic(auto, using(crate::proofs::FormLemmas::class_name_fault_is))]
     pub fn class_name_fault(&self, slot: u16) -> Option<u32>
-        ensures { result ≡ checks.text_fault (λ cs. profile.is_class_name cs || profile.is_array_name cs) (checks.text_at self.now slot) }
+        ensures { result ≡ checks.text_fault (λ cs. profile.is_class_name cs
+            || profile.is_array_name cs) (checks.text_at self.now slot) }
     {
         class_name_fault(form_at(&self.forms, slot))
     }

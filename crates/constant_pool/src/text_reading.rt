@@ -7,7 +7,7 @@ ghost use Rattle.constant_pool.specs.declared.partial.Partial.TheVariants.{Start
 use crate::error::NoMemory;
 use crate::partial::Partial;
 use crate::step::{Step, step_by};
-use class_format::Sequence;
+use jvm_names::Sequence;
 use std::alloc::Global;
 
 /// The text whose modified UTF-8 the bytes are; None exactly where they are no text's.
@@ -42,8 +42,9 @@ fn ended(text: Vec<u16>, partial: Partial) -> Option<Sequence<u16>>
 fn take_byte(text: &mut Vec<u16>, partial: Partial, byte: u8) -> Result<Option<Partial>, NoMemory>
     requires { IsPartial partial }
     ensures bits { IfOk result (λ next. IfSome next IsPartial) }
-    ensures goes_on { IfOk result (λ next. (rest : List ℕ) →
-        whole_text text.new.items (goes_on next rest) ≡ whole_text text.old.items (text_from partial (byte ∷ rest))) }
+    ensures goes_on { IfOk result (λ next. (rest : List ℕ)
+        → whole_text text.new.items (goes_on next rest)
+        ≡ whole_text text.old.items (text_from partial (byte ∷ rest))) }
 {
     match step_by(partial, byte) {
         Step::More(next) => Ok(Some(next)),

@@ -1,5 +1,5 @@
 -- A unit's turns are those that the machine makes.
-use Rattle.std.proofs.Common.{◌≡◌, ℕ, ◌+◌, ◌%◌, ◌^◌, Bool, true, false, not, ◌||◌, ◌==◌, if◌then◌else◌, List, [], ◌∷◌, Option, Some, None, is_none, refl, ap, sym, subst, ◌∙◌}
+use Rattle.std.proofs.Common.{◌≡◌, ℕ, ◌+◌, ◌%◌, ◌^◌, Bool, true, false, not, ◌||◌, ◌==◌, if◌then◌else◌, List, [], ◌∷◌, Option, Some, None, is_none, refl, ap, sym, ◌∙◌}
 use Rattle.nv_events.specs.Turn.{Turn, moves}
 use Rattle.nv_words.specs.Words.{signed_of}
 use Rattle.mips_decode.specs.Table.{inst}

@@ -34,7 +34,8 @@ done i s = done_by (effect i (word_of i) s) s
 
 -- the turn of a branch, and where a target is then pending, the turn of the delay slot
 abbrev pub then_slot : Turn State → (State → Turn State) → UnitTurns
-then_slot (moves t) second = elim t.pending [ None ↦ one_turn (moves t) | Some target ↦ two_turns t (second t) ]
+then_slot (moves t) second =
+    elim t.pending [ None ↦ one_turn (moves t) | Some target ↦ two_turns t (second t) ]
 then_slot (ends end) second = one_turn (ends end)
 then_slot (leaves question end) second = one_turn (leaves question end)
 then_slot (asks question next) second = one_turn (asks question next)
@@ -100,9 +101,12 @@ turn_count (two_turns slot last) = 2
 
 -- a likely branch that is not taken
 abbrev pub skips : Inst → State → Bool
-skips (BranchEqual name rs rt imm) x = equal_likely name && not (equal_taken name (register x rs) (register x rt))
-skips (BranchZero name rs imm) x = zero_likely name && not (zero_taken name (signed_of (register x rs)))
-skips (BranchSign name rs imm) x = sign_likely name && not (sign_taken name (signed_of (register x rs)))
+skips (BranchEqual name rs rt imm) x =
+    equal_likely name && not (equal_taken name (register x rs) (register x rt))
+skips (BranchZero name rs imm) x =
+    zero_likely name && not (zero_taken name (signed_of (register x rs)))
+skips (BranchSign name rs imm) x =
+    sign_likely name && not (sign_taken name (signed_of (register x rs)))
 skips _ x = false
 
 -- how many turns a unit has: two where it begins with a branch that does not skip its delay slot
@@ -115,6 +119,7 @@ unit_turn_count Call x = 1
 unit_turn_count (Trap kind value) x = 1
 
 -- the run of a unit's turns alone
-abbrev pub unit_run : {K : Type 0} → (K → Question → Option (Answer × K)) → UnitTurns → State → K → Run State K
+abbrev pub unit_run : {K : Type 0} → (K → Question → Option (Answer × K)) → UnitTurns → State → K
+    → Run State K
 unit_run reply (one_turn last) x k = run_of (λ s. last) reply 1 x k
 unit_run reply (two_turns slot last) x k = run_of (λ s. last) reply 1 slot k

@@ -23,7 +23,8 @@ is_branch _ = false
 -- a branch or jump, before the words that follow it in its range: the first of them stands in its delay slot
 abbrev pub branch_unit : Inst → List ℕ → Unit
 branch_unit branch [] = SlotMissing branch
-branch_unit branch (word ∷ words) = if is_branch (inst word) then SlotIsBranch branch word else Branch branch (inst word)
+branch_unit branch (word ∷ words) = if is_branch (inst word) then SlotIsBranch branch word
+    else Branch branch (inst word)
 
 -- an instruction, before the words that follow it in its range; no range that is translated has a floating-point word
 abbrev pub unit_of : Inst → List ℕ → Unit

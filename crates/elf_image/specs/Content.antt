@@ -19,7 +19,8 @@ file_byte file at s = slice_index file (s.offset + (at - s.vaddr))
 
 -- the byte at an address of the segments: the file's where one's bytes in the file reach, else 0
 unfoldable pub stored_byte : List ℕ → List Segment → ℕ → ℕ
-stored_byte file segments at = option_map_or (file_byte file at) (find (is_in_file_part at) segments) 0
+stored_byte file segments at =
+    option_map_or (file_byte file at) (find (is_in_file_part at) segments) 0
 
 -- the word at an address as a page keeps it: its lanes are the bytes, lane 0 (the most significant byte) the one of the lowest
 -- address, whatever the file's order is
@@ -42,4 +43,5 @@ is_filled_page file segments page =
 -- a page holds a byte of a segment's bytes in the file that is not 0
 unfoldable pub has_data : List ℕ → ℕ → Segment → Bool
 has_data file page s =
-    is_some (least_below (λ k. is_in_file_part (4096 * page + k) s && not (file_byte file (4096 * page + k) s == 0)) 4096)
+    is_some (least_below (λ k. is_in_file_part (4096 * page + k) s
+    && not (file_byte file (4096 * page + k) s == 0)) 4096)

@@ -10,7 +10,8 @@ use Rattle.elf_image.specs.Pages.{mapped_pages}
 use Rattle.elf_image.specs.Refusals.{image_fault}
 
 -- the segments of the layout and of the page table are those of the file, and the image passed its checks
-pub record IsKept (file : List ℕ) (entry : ℕ) (code : List Range) (laid stored : List Segment) (heap stack mapped : ℕ) : Type 0 where
+pub record IsKeptImage (file : List ℕ) (entry : ℕ) (code : List Range) (laid stored : List Segment)
+    (heap stack mapped : ℕ) : Type 0 where
   pub accepted : elf_fault file ≡ None
   pub same_entry : entry ≡ (header_of file).e_entry
   pub runs : IsRunsOf (area file) code

@@ -39,7 +39,8 @@ abbrev pub argument_page : ℕ
 argument_page = 0x7ffff
 
 abbrev pub is_heap_page : List Segment → ℕ → ℕ → Bool
-is_heap_page segments heap page = nat_le (heap_page segments) page && nat_lt page (heap_page segments + heap)
+is_heap_page segments heap page = nat_le (heap_page segments) page
+    && nat_lt page (heap_page segments + heap)
 
 abbrev pub is_stack_page : ℕ → ℕ → Bool
 is_stack_page stack page = nat_le (argument_page - stack) page && nat_lt page argument_page
@@ -50,17 +51,21 @@ is_argument_page page = page == argument_page
 -- a page can be read where a segment, the heap, the stack or the argument page covers it
 unfoldable pub is_readable_page : List Segment → ℕ → ℕ → ℕ → Bool
 is_readable_page segments heap stack page =
-    is_segment_page segments page || is_heap_page segments heap page || is_stack_page stack page || is_argument_page page
+    is_segment_page segments page || is_heap_page segments heap page || is_stack_page stack page
+    || is_argument_page page
 
 -- a page can be written where a writable segment, the heap, the stack or the argument page covers it
 unfoldable pub is_writable_page : List Segment → ℕ → ℕ → ℕ → Bool
 is_writable_page segments heap stack page =
-    is_data_page segments page || is_heap_page segments heap page || is_stack_page stack page || is_argument_page page
+    is_data_page segments page || is_heap_page segments heap page || is_stack_page stack page
+    || is_argument_page page
 
 -- a page belongs to two of segments, heap, stack and argument page
 unfoldable pub is_shared : List Segment → ℕ → ℕ → ℕ → Bool
 is_shared segments heap stack page =
-    (is_segment_page segments page && (is_heap_page segments heap page || is_stack_page stack page || is_argument_page page))
+    (is_segment_page segments page
+    && (is_heap_page segments heap page || is_stack_page stack page
+    || is_argument_page page))
     || (is_heap_page segments heap page && (is_stack_page stack page || is_argument_page page))
     || (is_stack_page stack page && is_argument_page page)
 

@@ -14,7 +14,8 @@ use Rattle.mips_decode.specs.Table.{is_float}
 
 -- a check of a number against its limit
 abbrev pub exceeds : ℕ → ℕ → ℕ → Option ImageFault
-exceeds kind limit number = if nat_lt limit number then Some (record { kind = kind; number = number; word = 0 }) else None
+exceeds kind limit number = if nat_lt limit number
+    then Some (record { kind = kind; number = number; word = 0 }) else None
 
 -- between two runs that follow one another there is a word that is in neither
 abbrev pub IsApart : List Range → Type 0
@@ -27,17 +28,20 @@ code_words code = sum_by (λ r. r.words) code
 -- the first address of a run whose word is a floating-point instruction
 abbrev pub float_in : List ℕ → List Segment → Range → Option ℕ
 float_in file segments r =
-    option_map (λ k. r.first + 4 * k) (least_below (λ k. is_float (code_word file segments (r.first + 4 * k))) r.words)
+    option_map (λ k. r.first + 4 * k)
+    (least_below (λ k. is_float (code_word file segments (r.first + 4 * k))) r.words)
 
 -- the same of runs that rise
 unfoldable pub first_float : List ℕ → List Segment → List Range → Option ℕ
 first_float file segments [] = None
-first_float file segments (r ∷ code) = option_or (float_in file segments r) (first_float file segments code)
+first_float file segments (r ∷ code) =
+    option_or (float_in file segments r) (first_float file segments code)
 
 -- the checks of the sizes of the file and of its code
 unfoldable pub size_fault : ℕ → List Range → Option ImageFault
 size_fault len code =
-    option_or (exceeds 1 67_108_864 len) (option_or (exceeds 2 1_048_576 (code_words code)) (exceeds 3 64 (length code)))
+    option_or (exceeds 1 67_108_864 len)
+    (option_or (exceeds 2 1_048_576 (code_words code)) (exceeds 3 64 (length code)))
 
 -- the check of how many pages are mapped
 abbrev pub pages_fault : List Segment → ℕ → ℕ → Option ImageFault
@@ -50,12 +54,14 @@ data_fault file segments = exceeds 5 16_384 (count_below (is_filled_page file se
 -- the check that no page is for two things
 abbrev pub layout_fault : List Segment → ℕ → ℕ → Option ImageFault
 layout_fault segments heap stack =
-    option_map (λ page. record { kind = 6; number = page; word = 0 }) (least_below (is_shared segments heap stack) pages_below)
+    option_map (λ page. record { kind = 6; number = page; word = 0 })
+    (least_below (is_shared segments heap stack) pages_below)
 
 -- the check of the code's instructions
 abbrev pub float_fault : List ℕ → List Segment → List Range → Option ImageFault
 float_fault file segments code =
-    option_map (λ at. record { kind = 7; number = at; word = code_word file segments at }) (first_float file segments code)
+    option_map (λ at. record { kind = 7; number = at; word = code_word file segments at })
+    (first_float file segments code)
 
 -- the first check that fails, for a file, the maximal runs of its code area in rising order, and pages of heap and stack
 unfoldable pub image_fault : List ℕ → List Range → ℕ → ℕ → Option ImageFault

@@ -29,11 +29,13 @@ pub record Source : Type 0 where
 -- the byte at an address that can be read
 unfoldable pub byte_at : Source → ℕ → Option ℕ
 byte_at s at =
-    if is_readable_page (live s.file) s.heap s.stack (at / 4096) then Some (stored_byte s.file (live s.file) at) else None
+    if is_readable_page (live s.file) s.heap s.stack (at / 4096)
+    then Some (stored_byte s.file (live s.file) at) else None
 
 -- the word at a multiple of 4 in the code area
 unfoldable pub code_at : Source → ℕ → Option ℕ
-code_at s at = if at % 4 == 0 && area s.file at then Some (code_word s.file (live s.file) at) else None
+code_at s at = if at % 4 == 0 && area s.file at then Some (code_word s.file (live s.file) at)
+    else None
 
 -- a page can be read, and can be written
 abbrev pub readable : Source → ℕ → Bool

@@ -55,7 +55,8 @@ fn code_words(code: &[Range]) -> u64
 
 /// The check of how many pages are mapped.
 pub fn check_pages(layout: &Layout) -> Option<ImageFault>
-    ensures { result ≡ pages_fault layout.now.segments.value.items layout.now.heap layout.now.stack }
+    ensures { result
+        ≡ pages_fault layout.now.segments.value.items layout.now.heap layout.now.stack }
 {
     fault_above(
         ImageFault::TOO_MANY_PAGES,
@@ -77,7 +78,8 @@ pub fn check_data(filled: &[bool]) -> Option<ImageFault>
 
 /// The check that no page is for two things.
 pub fn check_layout(layout: &Layout) -> Option<ImageFault>
-    ensures { result ≡ layout_fault layout.now.segments.value.items layout.now.heap layout.now.stack }
+    ensures { result
+        ≡ layout_fault layout.now.segments.value.items layout.now.heap layout.now.stack }
 {
     let page = layout.first_shared()?;
     Some(ImageFault {

@@ -31,7 +31,8 @@ pub fn piece<'a>(file: &'a [u8], segment: &Segment, page: u32) -> &'a [u8]
     ensures len { length result.now
         ≡ min (file_end segment.now) (4096 * page + 4096) - max segment.now.vaddr (4096 * page) }
     ensures bytes { (k : ℕ) → k < length result.now
-        → slice_index result.now k ≡ file_byte file.now (max segment.now.vaddr (4096 * page) + k) segment.now }
+        → slice_index result.now k
+        ≡ file_byte file.now (max segment.now.vaddr (4096 * page) + k) segment.now }
 {
     let first = first_on_page(segment, page);
     let end = file_end(segment).min(4096 * u64::from(page) + 4096);
@@ -71,7 +72,8 @@ fn mark_data(marks: &mut [bool], file: &[u8], segment: &Segment)
     requires len { length marks.old ≡ 524288 }
     requires sound { IsSound (length file.now) segment.now }
     ensures len { length marks.new ≡ length marks.old }
-    ensures marks { (p : ℕ) → marked marks.new p ≡ (marked marks.old p || has_data file.now p segment.now) }
+    ensures marks { (p : ℕ) → marked marks.new p
+        ≡ (marked marks.old p || has_data file.now p segment.now) }
 {
     for page in segment.vaddr / 4096..page_behind_data(segment) {
         mark(marks, page, has_data(file, segment, page));
@@ -87,7 +89,8 @@ pub fn filled_marks(
     requires sound { All (IsSound (length file.now)) segments.now }
     requires apart { AllPairs IsApart segments.now }
     ensures len { IfOk result (λ marks. length marks.items ≡ 524288) }
-    ensures marks { IfOk result (λ marks. (page : ℕ) → marked marks.items page ≡ is_filled_page file.now segments.now page) }
+    ensures marks { IfOk result (λ marks. (page : ℕ)
+        → marked marks.items page ≡ is_filled_page file.now segments.now page) }
 {
     let mut marks = unmarked(alloc)?;
     for segment in segments {

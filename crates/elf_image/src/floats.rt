@@ -14,8 +14,10 @@ use mips_decode::is_float;
 #[tactic(auto, using(crate::proofs::Counting::least_none, crate::proofs::Counting::least_more, crate::proofs::Counting::least_found))]
 fn float_word(table: &PageTable, range: Range) -> Option<u32>
     requires { range.first % 4 ≡ 0 }
-    ensures value { result ≡ least_below (λ k. is_float
-        (code_word table.now.file.bytes table.now.segments.value.items (range.first + 4 * k))) range.words }
+    ensures value { result
+        ≡ least_below (λ k.
+        is_float (code_word table.now.file.bytes table.now.segments.value.items
+        (range.first + 4 * k))) range.words }
     ensures bound { IfSome result (λ k. k < 2 ^ 32) }
 {
     for k in 0..range.words {
@@ -40,7 +42,8 @@ fn float_in(table: &PageTable, range: Range) -> Option<u64>
 /// The address of the first floating-point instruction of ranges that rise.
 pub fn first_float(table: &PageTable, code: &[Range]) -> Option<u64>
     requires { All (λ r. r.first % 4 ≡ 0) code.now }
-    ensures value { result ≡ first_float table.now.file.bytes table.now.segments.value.items code.now }
+    ensures value { result
+        ≡ first_float table.now.file.bytes table.now.segments.value.items code.now }
     ensures even { IfSome result (λ at. at % 4 ≡ 0) }
 {
     for range in code {

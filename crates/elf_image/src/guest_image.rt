@@ -34,13 +34,18 @@ pub struct Image {
 
 impl Model for Image {
     ghost use Rattle.elf_image.specs.Start.{Source};
-    ghost use Rattle.elf_image.specs.Kept.{IsKept};
+    ghost use Rattle.elf_image.specs.Kept.{IsKeptImage};
 
     ghost Value = { Source };
 
-    ghost view = { λ i. record { file = i.table.file.bytes; heap = i.layout.heap; stack = i.layout.stack } };
+    ghost view = { λ i. record {
+      file = i.table.file.bytes;
+      heap = i.layout.heap;
+      stack = i.layout.stack;
+    } };
 
-    ghost invariant = { λ i. IsKept i.table.file.bytes i.entry i.code.items i.layout.segments.value.items i.table.segments.value.items i.layout.heap i.layout.stack i.mapped };
+    ghost invariant = { λ i. IsKeptImage i.table.file.bytes i.entry i.code.items i.layout.segments.value.items
+        i.table.segments.value.items i.layout.heap i.layout.stack i.mapped };
 }
 
 impl Image {
@@ -57,8 +62,10 @@ impl Image {
         requires file { table.file.bytes ≡ elf.now.file.now }
         requires stored { table.segments.value.items ≡ live elf.now.file.now }
         requires laid { layout.segments.value.items ≡ live elf.now.file.now }
-        requires passed { image_fault elf.now.file.now elf.now.code.items layout.heap layout.stack ≡ None }
-        ensures { IfOk result (λ i. i ≡ record { file = elf.now.file.now; heap = layout.heap; stack = layout.stack }) }
+        requires passed { image_fault elf.now.file.now elf.now.code.items layout.heap layout.stack
+            ≡ None }
+        ensures { IfOk result (λ i. i
+            ≡ record { file = elf.now.file.now; heap = layout.heap; stack = layout.stack }) }
     {
         let code = elf.code.as_slice().to_vec(alloc)?;
         let mapped = layout.pages();
@@ -138,7 +145,8 @@ impl Image {
         ensures filled { is_some result ≡ is_filled_page self.now.file (live self.now.file) page }
         ensures len { IfSome result (λ words. length words.now ≡ 1024) }
         ensures words { IfSome result (λ words. (k : ℕ) → k < 1024
-            → slice_index words.now k ≡ stored_word self.now.file (live self.now.file) (4096 * page + 4 * k)) }
+            → slice_index words.now k
+            ≡ stored_word self.now.file (live self.now.file) (4096 * page + 4 * k)) }
     {
         self.table.page(page)
     }
@@ -171,15 +179,20 @@ impl Image {
     /// Does nothing. It tells which bytes the words of an image are; that its pages and its code end below 80000000 (hexadecimal);
     /// that they are not too many, and that it has code; and that each run of this is whole, without a word of the floating-point coprocessor.
     pub fn laws(&self)
-        ensures lanes { (at : ℕ) → lane_of_word (stored_word self.now.file (live self.now.file) (4 * (at / 4))) (at % 4) ≡ stored_byte self.now.file (live self.now.file) at }
-        ensures zeros { (at : ℕ) → is_filled_page self.now.file (live self.now.file) (at / 4096) ≡ false → stored_byte self.now.file (live self.now.file) at ≡ 0 }
+        ensures lanes { (at : ℕ)
+            → lane_of_word (stored_word self.now.file (live self.now.file) (4 * (at / 4))) (at % 4)
+            ≡ stored_byte self.now.file (live self.now.file) at }
+        ensures zeros { (at : ℕ) → is_filled_page self.now.file (live self.now.file) (at / 4096)
+            ≡ false → stored_byte self.now.file (live self.now.file) at ≡ 0 }
         ensures pages { (page : ℕ) → 524288 ≤ page → readable self.now page ≡ false }
         ensures code { (at : ℕ) → 2 ^ 31 ≤ at → area self.now.file at ≡ false }
         ensures mapped { (image_of self.now).mapped ≤ 65_536 }
-        ensures words { (code : List Range) → IsRunsOf (area self.now.file) code → code_words code ≤ 1_048_576 }
+        ensures words { (code : List Range) → IsRunsOf (area self.now.file) code
+            → code_words code ≤ 1_048_576 }
         ensures runs { (code : List Range) → IsRunsOf (area self.now.file) code → length code ≤ 64 }
         ensures some { (code : List Range) → IsRunsOf (area self.now.file) code → 1 ≤ length code }
-        ensures whole { (code : List Range) → IsRunsOf (area self.now.file) code → All (IsWholeRange (image_of self.now).code) code }
+        ensures whole { (code : List Range) → IsRunsOf (area self.now.file) code
+            → All (IsWholeRange (image_of self.now).code) code }
     {
         self.table.words_fit();
     }

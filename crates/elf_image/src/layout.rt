@@ -26,8 +26,10 @@ pub struct Layout {
     pub heap: u32,
     /// The pages of the stack.
     pub stack: u32,
-    ghost pages_are: { (page : ℕ) → marked pages.items page ≡ is_segment_page segments.value.items page },
-    ghost data_are: { (page : ℕ) → marked data.items page ≡ is_data_page segments.value.items page },
+    ghost pages_are: { (page : ℕ) → marked pages.items page
+        ≡ is_segment_page segments.value.items page },
+    ghost data_are: { (page : ℕ) → marked data.items page
+        ≡ is_data_page segments.value.items page },
     ghost first: { heap_first ≡ heap_page segments.value.items },
     ghost low: { heap_first ≤ 0x7F000 },
     ghost heap_fits: { heap ≤ 32768 },
@@ -48,7 +50,8 @@ impl Layout {
         requires low { All (λ (s : Segment). segment_end s ≤ 0x7F00_0000) segments.now.items }
         requires heap_fits { heap ≤ 32768 }
         requires stack_fits { stack ≤ 32768 }
-        ensures segments { IfOk result (λ layout. layout.segments.value.items ≡ segments.now.items) }
+        ensures segments { IfOk result (λ layout. layout.segments.value.items
+            ≡ segments.now.items) }
         ensures heap { IfOk result (λ layout. layout.heap ≡ heap) }
         ensures stack { IfOk result (λ layout. layout.stack ≡ stack) }
     {
@@ -92,7 +95,8 @@ impl Layout {
     /// Whether the page belongs to two of segments, heap, stack and argument page.
     #[tactic(auto, unfolding(crate::specs::Pages::is_shared))]
     fn is_shared(&self, page: u32) -> bool
-        ensures { result ≡ is_shared self.now.segments.value.items self.now.heap self.now.stack page }
+        ensures { result
+            ≡ is_shared self.now.segments.value.items self.now.heap self.now.stack page }
     {
         let segment = self.is_segment(page);
         let heap = self.is_heap(page);
@@ -104,7 +108,8 @@ impl Layout {
     /// Whether the page can be read.
     #[tactic(auto, unfolding(crate::specs::Pages::is_readable_page))]
     pub fn is_readable(&self, page: u32) -> bool
-        ensures { result ≡ is_readable_page self.now.segments.value.items self.now.heap self.now.stack page }
+        ensures { result
+            ≡ is_readable_page self.now.segments.value.items self.now.heap self.now.stack page }
     {
         self.is_segment(page)
             || self.is_heap(page)
@@ -115,7 +120,8 @@ impl Layout {
     /// Whether the page can be written.
     #[tactic(auto, unfolding(crate::specs::Pages::is_writable_page))]
     pub fn is_writable(&self, page: u32) -> bool
-        ensures { result ≡ is_writable_page self.now.segments.value.items self.now.heap self.now.stack page }
+        ensures { result
+            ≡ is_writable_page self.now.segments.value.items self.now.heap self.now.stack page }
     {
         self.is_data(page)
             || self.is_heap(page)
@@ -142,7 +148,9 @@ impl Layout {
     /// The lowest page that belongs to two of segments, heap, stack and argument page.
     #[tactic(auto, using(crate::proofs::Counting::least_none, crate::proofs::Counting::least_more, crate::proofs::Counting::least_found))]
     pub fn first_shared(&self) -> Option<u32>
-        ensures { result ≡ least_below (is_shared self.now.segments.value.items self.now.heap self.now.stack) pages_below }
+        ensures { result
+            ≡ least_below (is_shared self.now.segments.value.items self.now.heap self.now.stack)
+            pages_below }
     {
         for page in 0..PAGES {
             if self.is_shared(page) {

@@ -36,9 +36,12 @@ pub fn image(alloc: Global, elf: &Elf<'_>, heap: u32, stack: u32) -> Result<Imag
     requires heap_fits { heap ≤ 32768 }
     requires some_stack { 1 ≤ stack }
     requires stack_fits { stack ≤ 32768 }
-    ensures refused { IfErr result (λ e. IsAnswerTo elf.now.file.now elf.now.code.items heap stack e) }
-    ensures passed { OnOk result (image_fault elf.now.file.now elf.now.code.items heap stack ≡ None) }
-    ensures image { IfOk result (λ i. i ≡ record { file = elf.now.file.now; heap = heap; stack = stack }) }
+    ensures refused { IfErr result (λ e.
+        IsAnswerTo elf.now.file.now elf.now.code.items heap stack e) }
+    ensures passed { OnOk result (image_fault elf.now.file.now elf.now.code.items heap stack
+        ≡ None) }
+    ensures image { IfOk result (λ i. i
+        ≡ record { file = elf.now.file.now; heap = heap; stack = stack }) }
 {
     let layout = laid_out(alloc, elf, heap, stack)?;
     let table = stored_pages(alloc, elf.file, &elf.segments, &layout)?;
@@ -54,10 +57,11 @@ fn laid_out(alloc: Global, elf: &Elf<'_>, heap: u32, stack: u32) -> Result<Layou
     requires code { IsRunsOf (area elf.now.file.now) elf.now.code.items }
     requires heap_fits { heap ≤ 32768 }
     requires stack_fits { stack ≤ 32768 }
-    ensures refused { IfErr result (IsAnswer
-        (option_or (size_fault (length elf.now.file.now) elf.now.code.items) (pages_fault (live elf.now.file.now) heap stack))) }
-    ensures passed { OnOk result (
-        option_or (size_fault (length elf.now.file.now) elf.now.code.items) (pages_fault (live elf.now.file.now) heap stack) ≡ None) }
+    ensures refused { IfErr result
+        (IsAnswer (option_or (size_fault (length elf.now.file.now) elf.now.code.items)
+        (pages_fault (live elf.now.file.now) heap stack))) }
+    ensures passed { OnOk result (option_or (size_fault (length elf.now.file.now) elf.now.code.items)
+        (pages_fault (live elf.now.file.now) heap stack) ≡ None) }
     ensures segments { IfOk result (λ layout. layout.segments.value.items ≡ live elf.now.file.now) }
     ensures heap { IfOk result (λ layout. layout.heap ≡ heap) }
     ensures stack { IfOk result (λ layout. layout.stack ≡ stack) }
@@ -78,10 +82,11 @@ fn stored_pages(
     requires sound { All (IsSound (length file.now)) segments.now.items }
     requires apart { AllPairs IsApartFrom segments.now.items }
     requires segments { layout.now.segments.value.items ≡ segments.now.items }
-    ensures refused { IfErr result (IsAnswer
-        (option_or (data_fault file.now segments.now.items) (layout_fault segments.now.items layout.now.heap layout.now.stack))) }
-    ensures passed { OnOk result (
-        option_or (data_fault file.now segments.now.items) (layout_fault segments.now.items layout.now.heap layout.now.stack) ≡ None) }
+    ensures refused { IfErr result
+        (IsAnswer (option_or (data_fault file.now segments.now.items)
+        (layout_fault segments.now.items layout.now.heap layout.now.stack))) }
+    ensures passed { OnOk result (option_or (data_fault file.now segments.now.items)
+        (layout_fault segments.now.items layout.now.heap layout.now.stack) ≡ None) }
     ensures file { IfOk result (λ table. table.file.bytes ≡ file.now) }
     ensures segments { IfOk result (λ table. table.segments.value.items ≡ segments.now.items) }
 {

@@ -41,7 +41,8 @@ fn mark_segment(marks: &mut [bool], segment: &Segment)
     requires len { length marks.old ≡ 524288 }
     requires low { segment_end segment.now ≤ 0x7F00_0000 }
     ensures len { length marks.new ≡ length marks.old }
-    ensures marks { (p : ℕ) → marked marks.new p ≡ (marked marks.old p || is_on_page p segment.now) }
+    ensures marks { (p : ℕ) → marked marks.new p
+        ≡ (marked marks.old p || is_on_page p segment.now) }
 {
     for page in segment.vaddr / 4096..page_behind(segment) {
         mark(marks, page, is_on_page(segment, page));
@@ -64,7 +65,8 @@ fn mark_writable(marks: &mut [bool], segment: &Segment)
 /// The pages that hold a byte of a segment.
 pub fn segment_marks(alloc: Global, segments: &[Segment]) -> Result<Vec<bool>, AllocError>
     requires low { All (λ (s : Segment). segment_end s ≤ 0x7F00_0000) segments.now }
-    ensures { IfOk result (λ marks. (page : ℕ) → marked marks.items page ≡ is_segment_page segments.now page) }
+    ensures { IfOk result (λ marks. (page : ℕ) → marked marks.items page
+        ≡ is_segment_page segments.now page) }
 {
     let mut marks = unmarked(alloc)?;
     for segment in segments {
@@ -76,7 +78,8 @@ pub fn segment_marks(alloc: Global, segments: &[Segment]) -> Result<Vec<bool>, A
 /// The pages that hold a byte of a segment that may be written (`PF_W`).
 pub fn data_marks(alloc: Global, segments: &[Segment]) -> Result<Vec<bool>, AllocError>
     requires low { All (λ (s : Segment). segment_end s ≤ 0x7F00_0000) segments.now }
-    ensures { IfOk result (λ marks. (page : ℕ) → marked marks.items page ≡ is_data_page segments.now page) }
+    ensures { IfOk result (λ marks. (page : ℕ) → marked marks.items page
+        ≡ is_data_page segments.now page) }
 {
     let mut marks = unmarked(alloc)?;
     for segment in segments {
@@ -103,7 +106,8 @@ pub fn count_marks(marks: &[bool]) -> u32
 /// The marked pages numbered from 1 on, and 0 for each of the others.
 pub fn numbers(alloc: Global, marks: &[bool]) -> Result<Vec<u32>, AllocError>
     requires { length marks.now ≡ 524288 }
-    ensures { IfOk result (λ numbers. (page : ℕ) → slice_index numbers.items page ≡ number_of (marked marks.now) page) }
+    ensures { IfOk result (λ numbers. (page : ℕ)
+        → slice_index numbers.items page ≡ number_of (marked marks.now) page) }
 {
     let mut numbers = Vec::new(alloc);
     let mut count = 0;

@@ -27,9 +27,12 @@ pub struct PageTable {
     /// The words of the stored pages, one page after the other.
     stored: Vec<u32>,
     ghost order_is: { order ≡ order_of file.bytes },
-    ghost words: { (k : ℕ) → table_word index.items stored.items k ≡ stored_word file.bytes segments.value.items (4 * k) },
-    ghost bytes: { (at : ℕ) → table_byte index.items stored.items at ≡ stored_byte file.bytes segments.value.items at },
-    ghost filled: { (page : ℕ) → not (slice_index index.items page == 0) ≡ is_filled_page file.bytes segments.value.items page },
+    ghost words: { (k : ℕ) → table_word index.items stored.items k
+        ≡ stored_word file.bytes segments.value.items (4 * k) },
+    ghost bytes: { (at : ℕ) → table_byte index.items stored.items at
+        ≡ stored_byte file.bytes segments.value.items at },
+    ghost filled: { (page : ℕ) → not (slice_index index.items page == 0)
+        ≡ is_filled_page file.bytes segments.value.items page },
     ghost room: { (page : ℕ) → 1024 * slice_index index.items page ≤ length stored.items },
 }
 
@@ -43,7 +46,8 @@ impl PageTable {
     ) -> Result<PageTable, AllocError>
         requires sound { All (IsSound (length file.now)) segments.now.items }
         requires len { length filled.now ≡ 524288 }
-        requires filled { (page : ℕ) → marked filled.now page ≡ is_filled_page file.now segments.now.items page }
+        requires filled { (page : ℕ) → marked filled.now page
+            ≡ is_filled_page file.now segments.now.items page }
         ensures file { IfOk result (λ table. table.file.bytes ≡ file.now) }
         ensures segments { IfOk result (λ table. table.segments.value.items ≡ segments.now.items) }
     {
@@ -101,14 +105,16 @@ impl PageTable {
 
     /// Does nothing: a word has 32 bits.
     pub fn words_fit(&self)
-        ensures { (k : ℕ) → stored_word self.now.file.bytes self.now.segments.value.items (4 * k) < 2 ^ 32 }
+        ensures { (k : ℕ) → stored_word self.now.file.bytes self.now.segments.value.items (4 * k)
+            < 2 ^ 32 }
     {
         words_fit(self.stored.as_slice());
     }
 
     /// The words of a page that holds a byte that is not 0.
     pub fn page(&self, page: u32) -> Option<&[u32]>
-        ensures filled { is_some result ≡ is_filled_page self.now.file.bytes self.now.segments.value.items page }
+        ensures filled { is_some result
+            ≡ is_filled_page self.now.file.bytes self.now.segments.value.items page }
         ensures len { IfSome result (λ words. length words.now ≡ 1024) }
         ensures words { IfSome result (λ words. (k : ℕ) → k < 1024 → slice_index words.now k
             ≡ stored_word self.now.file.bytes self.now.segments.value.items (4096 * page + 4 * k)) }

@@ -13,7 +13,8 @@ use std::alloc::{AllocError, Global};
 fn put_byte(words: &mut [u32], at: usize, byte: u8)
     requires { at < 4 * length words.old }
     ensures len { length words.new ≡ length words.old }
-    ensures bytes { (j : ℕ) → byte_in words.new j ≡ (if j == at then byte else byte_in words.old j) }
+    ensures bytes { (j : ℕ) → byte_in words.new j
+        ≡ (if j == at then byte else byte_in words.old j) }
 {
     let place = at / 4;
     words[place] = with_lane(words[place], (at % 4) as u32, byte);
@@ -24,8 +25,8 @@ fn put_bytes(words: &mut [u32], first: usize, bytes: &[u8])
     requires { first + length bytes.now ≤ 4 * length words.old }
     ensures len { length words.new ≡ length words.old }
     ensures bytes { (j : ℕ) → byte_in words.new j
-        ≡ (if nat_le first j && nat_lt j (first + length bytes.now) then slice_index bytes.now (j - first)
-        else byte_in words.old j) }
+        ≡ (if nat_le first j && nat_lt j (first + length bytes.now)
+        then slice_index bytes.now (j - first) else byte_in words.old j) }
 {
     for (k, byte) in bytes.iter().enumerate() {
         put_byte(words, first + k, *byte);
@@ -44,11 +45,13 @@ fn put_page(words: &mut [u32], index: &[u32], file: &[u8], segment: &Segment, pa
     requires sound { IsSound (length file.now) segment.now }
     requires first { segment.now.vaddr / 4096 ≤ page }
     requires room { (p : ℕ) → 1024 * slice_index index.now p ≤ length words.old }
-    requires distinct { (p q : ℕ) → slice_index index.now p ≡ slice_index index.now q → (slice_index index.now p ≡ 0 → ⊥) → p ≡ q }
+    requires distinct { (p q : ℕ) → slice_index index.now p ≡ slice_index index.now q
+        → (slice_index index.now p ≡ 0 → ⊥) → p ≡ q }
     ensures len { length words.new ≡ length words.old }
-    ensures bytes { (at : ℕ) → (slice_index index.now (at / 4096) ≡ 0 → ⊥) → table_byte index.now words.new at
-        ≡ (if is_in_file_part at segment.now && at / 4096 == page then file_byte file.now at segment.now
-        else table_byte index.now words.old at) }
+    ensures bytes { (at : ℕ) → (slice_index index.now (at / 4096) ≡ 0 → ⊥)
+        → table_byte index.now words.new at
+        ≡ (if is_in_file_part at segment.now && at / 4096 == page
+        then file_byte file.now at segment.now else table_byte index.now words.old at) }
 {
     let number = number_of(index, page);
     if number != 0 {
@@ -65,9 +68,11 @@ fn put_page(words: &mut [u32], index: &[u32], file: &[u8], segment: &Segment, pa
 fn put_segment(words: &mut [u32], index: &[u32], file: &[u8], segment: &Segment)
     requires sound { IsSound (length file.now) segment.now }
     requires room { (p : ℕ) → 1024 * slice_index index.now p ≤ length words.old }
-    requires distinct { (p q : ℕ) → slice_index index.now p ≡ slice_index index.now q → (slice_index index.now p ≡ 0 → ⊥) → p ≡ q }
+    requires distinct { (p q : ℕ) → slice_index index.now p ≡ slice_index index.now q
+        → (slice_index index.now p ≡ 0 → ⊥) → p ≡ q }
     ensures len { length words.new ≡ length words.old }
-    ensures bytes { (at : ℕ) → (slice_index index.now (at / 4096) ≡ 0 → ⊥) → table_byte index.now words.new at
+    ensures bytes { (at : ℕ) → (slice_index index.now (at / 4096) ≡ 0 → ⊥)
+        → table_byte index.now words.new at
         ≡ (if is_in_file_part at segment.now then file_byte file.now at segment.now
         else table_byte index.now words.old at) }
 {
@@ -88,7 +93,8 @@ pub fn stored_words(
 ) -> Result<Vec<u32>, AllocError>
     requires sound { All (IsSound (length file.now)) segments.now }
     requires room { (p : ℕ) → slice_index index.now p ≤ count }
-    requires distinct { (p q : ℕ) → slice_index index.now p ≡ slice_index index.now q → (slice_index index.now p ≡ 0 → ⊥) → p ≡ q }
+    requires distinct { (p q : ℕ) → slice_index index.now p ≡ slice_index index.now q
+        → (slice_index index.now p ≡ 0 → ⊥) → p ≡ q }
     ensures len { IfOk result (λ words. length words.items ≡ 1024 * count) }
     ensures bytes { IfOk result (λ words. (at : ℕ) → (slice_index index.now (at / 4096) ≡ 0 → ⊥)
         → table_byte index.now words.items at ≡ stored_byte file.now segments.now at) }

@@ -45,7 +45,8 @@ pub fn parts_are_held(parts: &Parts)
     requires { IsWritable parts.now }
     ensures entry { (header_of (elf_file parts.now)).e_entry ≡ parts.now.entry }
     ensures order { order_of (elf_file parts.now) ≡ Big }
-    ensures segments { contents_in (elf_file parts.now) (live (elf_file parts.now)) ≡ with_memory (map segment_of parts.now.segments.items) }
+    ensures segments { contents_in (elf_file parts.now) (live (elf_file parts.now))
+        ≡ with_memory (map segment_of parts.now.segments.items) }
 {
     let _entry = parts.entry;
     parts_have_words(parts.segments.as_slice());
@@ -61,7 +62,8 @@ pub fn read_written<'a>(alloc: Global, parts: &Parts, file: &'a [u8]) -> Result<
     ensures refused { IfErr result (IsAnswer (elf_fault file.now)) }
     ensures entry { IfOk result (λ elf. elf.entry ≡ parts.now.entry) }
     ensures order { IfOk result (λ elf. elf.order ≡ Big) }
-    ensures segments { IfOk result (λ elf. contents_in file.now elf.segments.items ≡ with_memory (map segment_of parts.now.segments.items)) }
+    ensures segments { IfOk result (λ elf. contents_in file.now elf.segments.items
+        ≡ with_memory (map segment_of parts.now.segments.items)) }
 {
     parts_are_held(parts);
     read_elf(alloc, file)
@@ -70,15 +72,22 @@ pub fn read_written<'a>(alloc: Global, parts: &Parts, file: &'a [u8]) -> Result<
 /// The file of a text without a fault passes every check where its text segment has a word. Where that has none, the file has no
 /// code, and fails no check before that one.
 pub fn assembled_files_pass()
-    ensures passes { (text file : List ℕ) → asm_fault text ≡ None → 1 ≤ length (text_words text) → IsAssembled text file → elf_fault file ≡ None }
-    ensures no_code { (text file : List ℕ) → asm_fault text ≡ None → text_words text ≡ [] → IsAssembled text file → elf_fault file ≡ fails 21 true }
+    ensures passes { (text file : List ℕ) → asm_fault text ≡ None → 1 ≤ length (text_words text)
+        → IsAssembled text file → elf_fault file ≡ None }
+    ensures no_code { (text file : List ℕ) → asm_fault text ≡ None → text_words text ≡ []
+        → IsAssembled text file → elf_fault file ≡ fails 21 true }
 {}
 
 /// The file of a text without a fault begins with the text, and its live segments are the text and the data, where there are any:
 /// each with its address, its flags, its length and its words. Its numbers are big-endian. Its code is the text, where it has a word.
 pub fn assembled_files_hold_their_programs()
-    ensures entry { (text file : List ℕ) → IsAssembled text file → (header_of file).e_entry ≡ 0x00400000 }
+    ensures entry { (text file : List ℕ) → IsAssembled text file
+        → (header_of file).e_entry ≡ 0x00400000 }
     ensures order { (text file : List ℕ) → IsAssembled text file → order_of file ≡ Big }
-    ensures segments { (text file : List ℕ) → asm_fault text ≡ None → IsAssembled text file → contents_in file (live file) ≡ with_memory (segments_of (words (text_words text)) (words (data_words text))) }
-    ensures code { (text file : List ℕ) → asm_fault text ≡ None → 1 ≤ length (text_words text) → IsAssembled text file → code_ranges file ≡ record { first = 0x00400000; words = length (text_words text) } ∷ [] }
+    ensures segments { (text file : List ℕ) → asm_fault text ≡ None → IsAssembled text file
+        → contents_in file (live file)
+        ≡ with_memory (segments_of (words (text_words text)) (words (data_words text))) }
+    ensures code { (text file : List ℕ) → asm_fault text ≡ None → 1 ≤ length (text_words text)
+        → IsAssembled text file → code_ranges file
+        ≡ record { first = 0x00400000; words = length (text_words text) } ∷ [] }
 {}

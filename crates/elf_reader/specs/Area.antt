@@ -16,12 +16,16 @@ section_range s = record { first = s.sh_addr; words = s.sh_size / 4 }
 
 -- the words of a segment's bytes in the file, from its start rounded up to its end rounded down
 abbrev pub segment_range : Segment → Range
-segment_range s = record { first = (s.vaddr + 3) / 4 * 4; words = file_end s / 4 - (s.vaddr + 3) / 4 }
+segment_range s = record {
+  first = (s.vaddr + 3) / 4 * 4;
+  words = file_end s / 4 - (s.vaddr + 3) / 4;
+}
 
 -- the words of each code section, or, without sections, of each executable segment
 abbrev pub ranges_of : Bool → List SectionHeader → List Segment → List Range
 ranges_of with_sections sections segments =
-    if with_sections then map section_range (filter is_code sections) else map segment_range (filter is_executable segments)
+    if with_sections then map section_range (filter is_code sections)
+    else map segment_range (filter is_executable segments)
 
 -- the words of the code area, range by range
 unfoldable pub code_ranges : List ℕ → List Range
@@ -48,7 +52,8 @@ abbrev pub range_is_on_page : ℕ → Range → Bool
 range_is_on_page page r = meet r.first (range_end r) (4096 * page) (4096 * page + 4096)
 
 abbrev pub data_is_on_page : ℕ → Segment → Bool
-data_is_on_page page s = is_writable s && meet s.vaddr (segment_end s) (4096 * page) (4096 * page + 4096)
+data_is_on_page page s =
+    is_writable s && meet s.vaddr (segment_end s) (4096 * page) (4096 * page + 4096)
 
 -- a page holds a byte of the ranges and a byte of a writable segment
 unfoldable pub is_shared_page : List Range → List Segment → ℕ → Bool

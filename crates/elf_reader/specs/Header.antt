@@ -10,7 +10,8 @@ use Rattle.elf_reader.specs.Check.{fails, first_fault}
 -- e_ident[EI_MAG0] to e_ident[EI_MAG3]: 7F, then E, L, F
 abbrev pub has_magic : List ℕ → Bool
 has_magic file =
-    slice_index file 0 == 0x7F && slice_index file 1 == 0x45 && slice_index file 2 == 0x4C && slice_index file 3 == 0x46
+    slice_index file 0 == 0x7F && slice_index file 1 == 0x45 && slice_index file 2 == 0x4C
+    && slice_index file 3 == 0x46
 
 -- e_ident[EI_DATA] names the order of every number in the file: 1, ELFDATA2LSB, the least significant byte first, and 2,
 -- ELFDATA2MSB, the most significant. A file with another byte there is refused.

@@ -35,7 +35,8 @@ is_code s = s.sh_type == 1 && has_flag s.sh_flags 2 && has_flag s.sh_flags 4 && 
 -- a segment is executable, and the section lies within its bytes in the file
 abbrev pub holds_section : SectionHeader → Segment → Bool
 holds_section s segment =
-    is_executable segment && nat_le segment.vaddr s.sh_addr && nat_le (s.sh_addr + s.sh_size) (file_end segment)
+    is_executable segment && nat_le segment.vaddr s.sh_addr
+    && nat_le (s.sh_addr + s.sh_size) (file_end segment)
 
 -- a code section lies within the bytes in the file of no executable segment of these
 abbrev pub is_code_outside : List Segment → SectionHeader → Bool

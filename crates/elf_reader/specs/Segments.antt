@@ -57,7 +57,8 @@ is_dynamic h = h.p_type == 2 || h.p_type == 3
 
 -- a segment's bytes run past the end of a file of this length
 abbrev pub is_outside : ℕ → ProgramHeader → Bool
-is_outside len h = is_segment h && nat_lt 0 h.segment.filesz && nat_lt len (h.segment.offset + h.segment.filesz)
+is_outside len h = is_segment h && nat_lt 0 h.segment.filesz
+    && nat_lt len (h.segment.offset + h.segment.filesz)
 
 -- a segment has more bytes in the file than in memory
 abbrev pub is_oversized : ProgramHeader → Bool

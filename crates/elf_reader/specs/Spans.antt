@@ -22,7 +22,8 @@ AreFilled spans = All (λ s. s.first < s.end) spans
 -- the least number from a place on that passes a test, if there is one
 abbrev pub IsLeastFrom : ℕ → (ℕ → Bool) → Option ℕ → Type 0
 IsLeastFrom at test None = (n : ℕ) → at ≤ n → test n ≡ false
-IsLeastFrom at test (Some n) = (at ≤ n) × (test n ≡ true) × ((m : ℕ) → at ≤ m → m < n → test m ≡ false)
+IsLeastFrom at test (Some n) = (at ≤ n) × (test n ≡ true)
+    × ((m : ℕ) → at ≤ m → m < n → test m ≡ false)
 
 -- the lesser of two numbers that may be there
 abbrev pub lesser : Option ℕ → Option ℕ → Option ℕ

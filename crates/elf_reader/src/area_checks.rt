@@ -51,7 +51,8 @@ fn shared_page(
 ) -> Result<Option<usize>, AllocError>
     requires low { All (λ (r : Range). range_end r ≤ 2 ^ 32) ranges.now }
     requires live { All (λ (s : Segment). 1 ≤ s.memsz) segments.now }
-    ensures least { IfOk result (λ page. page ≡ least_below (is_shared_page ranges.now segments.now) page_count) }
+    ensures least { IfOk result (λ page. page
+        ≡ least_below (is_shared_page ranges.now segments.now) page_count) }
     ensures bound { IfOk result (λ page. IfSome page (λ i. i < 2 ^ 20)) }
 {
     let pages = rising(alloc, data_pages(alloc, segments)?)?;
@@ -77,8 +78,8 @@ fn least_shared(ranges: &[Range], pages: &[Span]) -> Option<usize>
     requires rise { AreRising pages.now }
     requires filled { AreFilled pages.now }
     requires low { All (λ (r : Range). range_end r ≤ 2 ^ 32) ranges.now }
-    ensures least { IsLeastFrom 0
-        (λ page. list_any (range_is_on_page page) ranges.now && are_within page (page + 1) pages.now) result }
+    ensures least { IsLeastFrom 0 (λ page. list_any (range_is_on_page page) ranges.now
+        && are_within page (page + 1) pages.now) result }
     ensures bound { IfSome result (λ i. i < 2 ^ 20) }
 {
     let mut least = None;
@@ -93,7 +94,8 @@ fn shared_with(range: Range, pages: &[Span]) -> Option<usize>
     requires rise { AreRising pages.now }
     requires filled { AreFilled pages.now }
     requires low { range_end range ≤ 2 ^ 32 }
-    ensures least { IsLeastFrom 0 (λ page. range_is_on_page page range && are_within page (page + 1) pages.now) result }
+    ensures least { IsLeastFrom 0 (λ page. range_is_on_page page range
+        && are_within page (page + 1) pages.now) result }
     ensures bound { IfSome result (λ i. i < 2 ^ 20) }
 {
     if range.words == 0 {

@@ -77,8 +77,10 @@ pub fn read_elf(alloc: Global, b: &[u8]) -> Result<Elf<'_>, ElfError>
 
 /// Reads the header, with the checks up to where the program header table stands.
 fn read_header(b: &[u8]) -> Result<ElfHeader, ElfError>
-    ensures refused { IfErr result (IsAnswer (first_fault (identity_fault b.now ∷ program_table_fault b.now ∷ []))) }
-    ensures passed { OnOk result (first_fault (identity_fault b.now ∷ program_table_fault b.now ∷ []) ≡ None) }
+    ensures refused { IfErr result
+        (IsAnswer (first_fault (identity_fault b.now ∷ program_table_fault b.now ∷ []))) }
+    ensures passed { OnOk result (first_fault (identity_fault b.now ∷ program_table_fault b.now ∷ [])
+        ≡ None) }
     ensures header { IfOk result (λ header. header ≡ header_of b.now) }
     ensures there { IfOk result (λ header. header.e_phoff + 32 * header.e_phnum ≤ length b.now) }
 {
@@ -126,7 +128,8 @@ fn read_code(
         ∷ [])
         ≡ None) }
     ensures code { IfOk result (λ code. IsRunsOf (area b.now) code.items) }
-    ensures text { OnOk result ((at : ℕ) → area b.now at ≡ true → list_any (is_in_text at) segments.now ≡ true) }
+    ensures text { OnOk result ((at : ℕ) → area b.now at ≡ true
+        → list_any (is_in_text at) segments.now ≡ true) }
     ensures low { IfOk result (λ code. All (λ (r : Range). range_end r ≤ 0x7F00_0000) code.items) }
 {
     let sections = read_sections(alloc, b, header, segments)?;
@@ -143,8 +146,8 @@ fn read_sections(
     requires { header ≡ header_of b.now }
     ensures refused { IfErr result (IsAnswer (first_fault
         (section_table_fault b.now ∷ section_fault segments.now (section_headers b.now) ∷ []))) }
-    ensures passed { OnOk result (first_fault
-        (section_table_fault b.now ∷ section_fault segments.now (section_headers b.now) ∷ []) ≡ None) }
+    ensures passed { OnOk result (first_fault (section_table_fault b.now
+        ∷ section_fault segments.now (section_headers b.now) ∷ []) ≡ None) }
     ensures sections { IfOk result (λ sections. sections.items ≡ section_headers b.now) }
 {
     refuse(check_section_table(b, header))?;
@@ -160,14 +163,16 @@ fn read_area(
     sections: &[SectionHeader],
     segments: &[Segment],
 ) -> Result<Vec<Range>, ElfError>
-    requires sound { All (λ (s : Segment). (1 ≤ s.memsz) × (file_end s ≤ 0x7F00_0000)) segments.now }
+    requires sound { All (λ (s : Segment). (1 ≤ s.memsz)
+        × (file_end s ≤ 0x7F00_0000)) segments.now }
     requires passed { section_fault segments.now sections.now ≡ None }
     ensures refused { IfErr result (IsAnswer (area_fault
         (ranges_of (has_sections header) sections.now segments.now) segments.now)) }
     ensures passed { OnOk result (area_fault
         (ranges_of (has_sections header) sections.now segments.now) segments.now ≡ None) }
-    ensures code { IfOk result (λ code. IsRunsOf
-        (λ at. list_any (has_address at) (ranges_of (has_sections header) sections.now segments.now)) code.items) }
+    ensures code { IfOk result (λ code.
+        IsRunsOf (λ at. list_any (has_address at)
+        (ranges_of (has_sections header) sections.now segments.now)) code.items) }
 {
     let ranges = code_ranges(alloc, header, sections, segments)?;
     refuse(check_area(alloc, ranges.as_slice(), segments)?)?;

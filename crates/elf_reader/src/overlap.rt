@@ -44,8 +44,9 @@ fn first_overlapping(
 ) -> Option<usize>
     requires firsts_rise { IsNonDecreasing firsts.now }
     requires ends_rise { IsNonDecreasing ends.now }
-    requires counted { IsTrue (is_live h.now) →
-        count_by (overlap h.now) later.now + 1 + count_by (λ x. nat_le x h.now.segment.vaddr) ends.now
+    requires counted { IsTrue (is_live h.now)
+        → count_by (overlap h.now) later.now + 1
+        + count_by (λ x. nat_le x h.now.segment.vaddr) ends.now
         ≤ count_by (λ x. nat_lt x (segment_end h.now.segment)) firsts.now }
     ensures first { result ≡ position (overlap h.now) later.now }
     ensures bound { IfSome result (λ k. k < length later.now) }
@@ -92,7 +93,8 @@ fn count_to(numbers: &[u64], limit: u64) -> usize
 fn sorted_firsts(alloc: Global, headers: &[ProgramHeader]) -> Result<Vec<u64>, AllocError>
     ensures rise { IfOk result (λ v. IsNonDecreasing v.items) }
     ensures same { IfOk result (λ v.
-        IsPermutation (map (λ (h : ProgramHeader). h.segment.vaddr) (filter is_live headers.now)) v.items) }
+        IsPermutation (map (λ (h : ProgramHeader). h.segment.vaddr)
+        (filter is_live headers.now)) v.items) }
 {
     let mut firsts = live_firsts(alloc, headers)?;
     firsts.sort()?;
@@ -103,7 +105,8 @@ fn sorted_firsts(alloc: Global, headers: &[ProgramHeader]) -> Result<Vec<u64>, A
 fn sorted_ends(alloc: Global, headers: &[ProgramHeader]) -> Result<Vec<u64>, AllocError>
     ensures rise { IfOk result (λ v. IsNonDecreasing v.items) }
     ensures same { IfOk result (λ v.
-        IsPermutation (map (λ (h : ProgramHeader). segment_end h.segment) (filter is_live headers.now)) v.items) }
+        IsPermutation (map (λ (h : ProgramHeader). segment_end h.segment)
+        (filter is_live headers.now)) v.items) }
 {
     let mut ends = live_ends(alloc, headers)?;
     ends.sort()?;

@@ -49,7 +49,11 @@ impl Range {
         requires low { range_end self ≤ 2 ^ 32 }
         requires next_low { range_end next ≤ 2 ^ 32 }
         requires first { self.first ≤ next.first }
-        ensures { result ≡ record { first = self.first; words = (max (range_end self) (range_end next) - self.first) / 4 } }
+        ensures { result
+            ≡ record {
+              first = self.first;
+              words = (max (range_end self) (range_end next) - self.first) / 4;
+            } }
     {
         let end = self.end().max(next.end());
         Range {

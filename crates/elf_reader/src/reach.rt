@@ -78,7 +78,8 @@ fn begun_at(spans: &[Span], at: u64) -> usize
     requires { AreRising spans.now }
     ensures bound { result ≤ length spans.now }
     ensures begun { (k : ℕ) (d : Span) → k < result → (slice_index_or spans.now k d).first ≤ at }
-    ensures later { (k : ℕ) (d : Span) → result ≤ k → k < length spans.now → at < (slice_index_or spans.now k d).first }
+    ensures later { (k : ℕ) (d : Span) → result ≤ k → k < length spans.now
+        → at < (slice_index_or spans.now k d).first }
 {
     spans.partition_point(|s| s.first <= at)
 }

@@ -41,7 +41,8 @@ pub fn read_section_headers(
     header: ElfHeader,
 ) -> Result<Vec<SectionHeader>, AllocError>
     requires read { header ≡ header_of b.now }
-    requires there { IsTrue (has_sections header) → header.e_shoff + 40 * header.e_shnum ≤ length b.now }
+    requires there { IsTrue (has_sections header)
+        → header.e_shoff + 40 * header.e_shnum ≤ length b.now }
     ensures read { IfOk result (λ sections. sections.items ≡ section_headers b.now) }
     ensures few { IfOk result (λ sections. length sections.items < 65536) }
 {
@@ -58,8 +59,8 @@ pub fn read_section_headers(
 /// The first code section that lies in none of the rising spans.
 fn first_code_outside(sections: &[SectionHeader], texts: &[Span]) -> Option<usize>
     requires { AreRising texts.now }
-    ensures first { result
-        ≡ position (λ (s : SectionHeader). is_code s && not (are_within s.sh_addr (s.sh_addr + s.sh_size) texts.now)) sections.now }
+    ensures first { result ≡ position (λ (s : SectionHeader). is_code s
+        && not (are_within s.sh_addr (s.sh_addr + s.sh_size) texts.now)) sections.now }
     ensures bound { IfSome result (λ i. i < length sections.now) }
 {
     sections.iter().position(|s| s.is_code() && !are_within(texts, u64::from(s.sh_addr), s.end()))
@@ -113,7 +114,8 @@ fn outside_of(
     segments: &[Segment],
     sections: &[SectionHeader],
 ) -> Result<Option<usize>, AllocError>
-    ensures first { IfOk result (λ place. place ≡ position (is_code_outside segments.now) sections.now) }
+    ensures first { IfOk result (λ place. place
+        ≡ position (is_code_outside segments.now) sections.now) }
     ensures bound { IfOk result (λ place. IfSome place (λ i. i < length sections.now)) }
 {
     let texts = rising(alloc, executable_spans(alloc, segments)?)?;

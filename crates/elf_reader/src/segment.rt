@@ -53,7 +53,8 @@ impl Segment {
 
     /// Whether the two share an address.
     pub(crate) fn meets(&self, other: &Segment) -> bool
-        ensures { result ≡ meet self.now.vaddr (segment_end self.now) other.now.vaddr (segment_end other.now) }
+        ensures { result ≡ meet self.now.vaddr (segment_end self.now) other.now.vaddr
+            (segment_end other.now) }
     {
         u64::from(self.vaddr.max(other.vaddr)) < self.end().min(other.end())
     }

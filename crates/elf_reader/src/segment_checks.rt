@@ -116,7 +116,8 @@ fn check_each(headers: &[ProgramHeader], len: usize) -> Option<ElfFault>
 
 /// The live segments, in the order of the table.
 pub fn live_segments(alloc: Global, headers: &[ProgramHeader]) -> Result<Vec<Segment>, AllocError>
-    ensures { IfOk result (λ v. v.items ≡ map (λ (h : ProgramHeader). h.segment) (filter is_live headers.now)) }
+    ensures { IfOk result (λ v. v.items
+        ≡ map (λ (h : ProgramHeader). h.segment) (filter is_live headers.now)) }
 {
     headers
         .iter()

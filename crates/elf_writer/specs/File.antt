@@ -19,12 +19,14 @@ elf_header entry table segments headers =
 
 -- "Program Header": p_type (PT_LOAD), p_offset, p_vaddr, p_paddr, p_filesz, p_memsz, p_flags, p_align
 abbrev pub program_header : ℕ → Part → List ℕ
-program_header offset s = words (1 ∷ offset ∷ s.vaddr ∷ s.vaddr ∷ length s.bytes.items ∷ s.mem ∷ s.flags ∷ 4 ∷ [])
+program_header offset s =
+    words (1 ∷ offset ∷ s.vaddr ∷ s.vaddr ∷ length s.bytes.items ∷ s.mem ∷ s.flags ∷ 4 ∷ [])
 
 -- the program headers of segments whose bytes stand from a place on
 abbrev pub program_headers : ℕ → List Part → List ℕ
 program_headers at [] = []
-program_headers at (s ∷ segments) = program_header (aligned at) s ++ program_headers (part_end at s) segments
+program_headers at (s ∷ segments) = program_header (aligned at) s
+    ++ program_headers (part_end at s) segments
 
 -- zeros up to the next multiple of 4
 abbrev pub padding : ℕ → List ℕ
@@ -37,7 +39,8 @@ contents at (s ∷ segments) = padding at ++ s.bytes.items ++ contents (part_end
 
 -- "Section Header": sh_name, sh_type, sh_flags, sh_addr, sh_offset, sh_size, sh_link, sh_info, sh_addralign, sh_entsize
 abbrev pub section_header : ℕ → Sec → List ℕ
-section_header offset s = words (0 ∷ s.kind ∷ s.flags ∷ s.addr ∷ offset ∷ s.size ∷ 0 ∷ 0 ∷ 4 ∷ 0 ∷ [])
+section_header offset s =
+    words (0 ∷ s.kind ∷ s.flags ∷ s.addr ∷ offset ∷ s.size ∷ 0 ∷ 0 ∷ 4 ∷ 0 ∷ [])
 
 -- the headers of the sections of a file with these segments, whose bytes stand from a place on
 abbrev pub section_headers : ℕ → List Part → List Sec → List ℕ
@@ -49,12 +52,14 @@ section_headers at segments (s ∷ sections) =
 abbrev pub section_table : ℕ → List Part → List Sec → List ℕ
 section_table at segments [] = []
 section_table at segments (s ∷ sections) =
-    padding at ++ replicate 40 0 ++ section_headers (contents_place segments) segments (s ∷ sections)
+    padding at ++ replicate 40 0
+    ++ section_headers (contents_place segments) segments (s ∷ sections)
 
 -- the file
 abbrev pub elf_file : Parts → List ℕ
 elf_file parts =
-    elf_header parts.entry (table_place (segments_end parts) parts.sections.items) (length parts.segments.items)
+    elf_header parts.entry (table_place (segments_end parts) parts.sections.items)
+    (length parts.segments.items)
     (header_count parts.sections.items)
     ++ program_headers (contents_place parts.segments.items) parts.segments.items
     ++ contents (contents_place parts.segments.items) parts.segments.items

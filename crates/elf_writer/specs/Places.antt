@@ -30,7 +30,8 @@ holds s address = nat_le s.vaddr address && nat_lt address (s.vaddr + length s.b
 abbrev pub file_offset : ℕ → List Part → ℕ → ℕ
 file_offset at [] address = 0
 file_offset at (s ∷ segments) address =
-    if holds s address then aligned at + (address - s.vaddr) else file_offset (part_end at s) segments address
+    if holds s address then aligned at + (address - s.vaddr)
+    else file_offset (part_end at s) segments address
 
 -- the number of section headers: none, or one for no section (index 0, SHN_UNDEF) and one for each section
 abbrev pub header_count : List Sec → ℕ

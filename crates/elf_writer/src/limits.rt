@@ -32,7 +32,8 @@ pub fn is_writable(parts: &Parts) -> bool
 #[tactic(auto, using(crate::proofs::PlaceLemmas::le_contents_end))]
 fn contents_end_within(start: u32, segments: &[Part]) -> Option<u32>
     requires { start ≤ 67108864 }
-    ensures { SomeIff result (contents_end start segments.now ≤ 67108864) (contents_end start segments.now) }
+    ensures { SomeIff result (contents_end start segments.now ≤ 67108864)
+        (contents_end start segments.now) }
 {
     let mut at = start;
     let mut rest = segments;

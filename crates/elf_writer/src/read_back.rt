@@ -12,6 +12,8 @@ use crate::parts::Parts;
 pub fn segments_read_back(_parts: &Parts)
     requires { IsWritable _parts.now }
     ensures segments { All HasWords _parts.now.segments.items
-        → live (elf_file _parts.now) ≡ part_segments (contents_place _parts.now.segments.items) _parts.now.segments.items }
-    ensures bytes { HoldsParts (elf_file _parts.now) (contents_place _parts.now.segments.items) _parts.now.segments.items }
+        → live (elf_file _parts.now)
+        ≡ part_segments (contents_place _parts.now.segments.items) _parts.now.segments.items }
+    ensures bytes { HoldsParts (elf_file _parts.now) (contents_place _parts.now.segments.items)
+        _parts.now.segments.items }
 {}

@@ -20,7 +20,8 @@ pub fn append_elf_header(
     segments: u16,
     headers: u16,
 ) -> Result<(), NoMemory>
-    ensures { OnOk result (file.new.items ≡ file.old.items ++ elf_header entry table segments headers) }
+    ensures { OnOk result (file.new.items ≡ file.old.items
+        ++ elf_header entry table segments headers) }
 {
     file.extend_from_slice(&IDENTIFICATION)?;
     append_halves(file, &[2, 8])?;
@@ -86,7 +87,8 @@ pub fn append_section_headers(
     sections: &[Sec],
 ) -> Result<(), NoMemory>
     requires { contents_end start segments.now ≤ 67108864 }
-    ensures { OnOk result (file.new.items ≡ file.old.items ++ section_headers start segments.now sections.now) }
+    ensures { OnOk result (file.new.items ≡ file.old.items
+        ++ section_headers start segments.now sections.now) }
 {
     let mut rest = sections;
     while let Some((section, others)) = rest.split_first() {

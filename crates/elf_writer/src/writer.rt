@@ -85,7 +85,8 @@ fn append_section_table(
     requires few { length segments.now ≤ 65534 }
     requires within { end ≤ 67108864 }
     requires short { contents_end (contents_place segments.now) segments.now ≤ 67108864 }
-    ensures { OnOk result (file.new.items ≡ file.old.items ++ section_table end segments.now sections.now) }
+    ensures { OnOk result (file.new.items ≡ file.old.items
+        ++ section_table end segments.now sections.now) }
 {
     match sections {
         [] => Ok(()),

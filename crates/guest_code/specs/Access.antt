@@ -2,16 +2,16 @@
 -- variables, register r in local variable r. Every other register is in its field.
 use Rattle.std.specs.Prelude.{ℕ, ◌+◌, ◌%◌, ◌^◌, Bool, ◌&&◌, ◌==◌, nat_lt, if◌then◌else◌, List, [], ◌∷◌}
 use Rattle.std.specs.Int.{bit_at}
-use Rattle.jvm_code.specs.declared.names.int_arithmetic.IntArithmetic.{IntArithmetic}
-use Rattle.jvm_code.specs.declared.names.int_arithmetic.IntArithmetic.TheVariants.{Iadd}
-use Rattle.jvm_code.specs.declared.names.stack_name.StackName.TheVariants.{Pop}
+use Rattle.jvm_names.specs.declared.int_arithmetic.IntArithmetic.{IntArithmetic}
+use Rattle.jvm_names.specs.declared.int_arithmetic.IntArithmetic.TheVariants.{Iadd}
+use Rattle.jvm_names.specs.declared.stack_name.StackName.TheVariants.{Pop}
 use Rattle.jvm_program.specs.declared.constant.Constant.TheVariants as constants
 use Rattle.jvm_program.specs.declared.kind.Kind.TheVariants as kinds
 use Rattle.jvm_program.specs.declared.local_kind.LocalKind.TheVariants as local_kinds
 use Rattle.jvm_program.specs.declared.instruction.Instruction.TheVariants as instructions
 use Rattle.code_steps.specs.declared.step.Step.{Step}
 use Rattle.code_steps.specs.declared.step.Step.TheVariants.{Does}
-use Rattle.guest_match.specs.Match.{register_field}
+use Rattle.guest_layout.specs.FieldNumbers.{register_field}
 
 -- a word is pushed
 abbrev pub push_word : ℕ → Step

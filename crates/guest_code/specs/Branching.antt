@@ -1,10 +1,5 @@
 -- The code of branches and jumps. Where the guest goes is put into field pc and local variable 0 before the code of the delay slot.
 use Rattle.std.specs.Prelude.{ℕ, ◌+◌, ◌%◌, ◌^◌, Bool, if◌then◌else◌, List, [], ◌∷◌, ◌++◌, length, Option, Some, None}
-use Rattle.jvm_code.specs.declared.names.stack_name.StackName.TheVariants.{Dup}
-use Rattle.jvm_code.specs.declared.names.branch_name.BranchName.{BranchName}
-use Rattle.jvm_code.specs.declared.names.branch_name.BranchName.TheVariants.{Iflt, Ifge, Ifgt, Ifle, IfIcmpeq, IfIcmpne, Goto}
-use Rattle.jvm_program.specs.declared.local_kind.LocalKind.TheVariants as local_kinds
-use Rattle.jvm_program.specs.declared.instruction.Instruction.TheVariants.{Stack, Store}
 use Rattle.mips_decode.specs.Targets.{branch_target, jump_target}
 use Rattle.mips_decode.specs.Branches.{equal_likely, zero_likely, sign_likely}
 use Rattle.mips_decode.specs.declared.names.branch_equal_name.BranchEqualName.{BranchEqualName}
@@ -17,9 +12,14 @@ use Rattle.mips_decode.specs.declared.names.jump_name.JumpName.{JumpName}
 use Rattle.mips_decode.specs.declared.names.jump_name.JumpName.TheVariants.{J, Jal}
 use Rattle.mips_decode.specs.declared.inst.Inst.{Inst}
 use Rattle.mips_decode.specs.declared.inst.Inst.TheVariants as inst
+use Rattle.jvm_names.specs.declared.stack_name.StackName.TheVariants.{Dup}
+use Rattle.jvm_names.specs.declared.branch_name.BranchName.{BranchName}
+use Rattle.jvm_names.specs.declared.branch_name.BranchName.TheVariants.{Iflt, Ifge, Ifgt, Ifle, IfIcmpeq, IfIcmpne, Goto}
+use Rattle.jvm_program.specs.declared.local_kind.LocalKind.TheVariants as local_kinds
+use Rattle.jvm_program.specs.declared.instruction.Instruction.TheVariants.{Stack, Store}
 use Rattle.code_steps.specs.declared.step.Step.{Step}
 use Rattle.code_steps.specs.declared.step.Step.TheVariants.{Does, Skips}
-use Rattle.guest_match.specs.Match.{pc_field}
+use Rattle.guest_layout.specs.FieldNumbers.{pc_field}
 use Rattle.guest_code.specs.Access.{push_word, put_field, get_register, put_register}
 
 -- the address that is on the stack is where the guest goes
@@ -77,7 +77,8 @@ jump_link Jal = Some 31
 -- the goal is chosen, then the link is written, then comes the slot
 abbrev pub branch_code : BranchName → ℕ → ℕ → List Step → List Step → List Step
 branch_code test target behind link slot =
-    Skips test 2 ∷ push_word behind ∷ Skips Goto 1 ∷ push_word target ∷ (settle_code ++ link ++ slot)
+    Skips test 2 ∷ push_word behind ∷ Skips Goto 1 ∷ push_word target
+    ∷ (settle_code ++ link ++ slot)
 
 -- a likely branch that is not taken passes its slot over: a goal has four steps
 abbrev pub likely_code : BranchName → ℕ → ℕ → List Step → List Step → List Step
@@ -87,18 +88,22 @@ likely_code test target behind link slot =
 
 abbrev pub conditional_code : Bool → BranchName → ℕ → ℕ → List Step → List Step → List Step
 conditional_code likely test target behind link slot =
-    if likely then likely_code test target behind link slot else branch_code test target behind link slot
+    if likely then likely_code test target behind link slot
+    else branch_code test target behind link slot
 
 -- a branch or jump at an address, before the code of its slot; every other instruction has no such code
 abbrev pub transfer_code : ℕ → Inst → ℕ → List Step → List Step
 transfer_code bank (inst.BranchEqual name rs rt imm) at slot =
     get_register bank rs ∷ get_register bank rt
-    ∷ conditional_code (equal_likely name) (equal_test name) (branch_target at imm) (behind_slot at) [] slot
+    ∷ conditional_code (equal_likely name) (equal_test name) (branch_target at imm) (behind_slot at)
+    [] slot
 transfer_code bank (inst.BranchZero name rs imm) at slot =
-    get_register bank rs ∷ conditional_code (zero_likely name) (zero_test name) (branch_target at imm) (behind_slot at) [] slot
+    get_register bank rs ∷ conditional_code (zero_likely name) (zero_test name)
+    (branch_target at imm) (behind_slot at) [] slot
 transfer_code bank (inst.BranchSign name rs imm) at slot =
     get_register bank rs
-    ∷ conditional_code (sign_likely name) (sign_test name) (branch_target at imm) (behind_slot at) (link_code bank (sign_link name) at) slot
+    ∷ conditional_code (sign_likely name) (sign_test name) (branch_target at imm) (behind_slot at)
+    (link_code bank (sign_link name) at) slot
 transfer_code bank (inst.Jump name index) at slot =
     goes_to_code (jump_target at index) ++ link_code bank (jump_link name) at ++ slot
 transfer_code bank (inst.JumpRegister rs) at slot = get_register bank rs ∷ (settle_code ++ slot)

@@ -1,13 +1,5 @@
 -- The code of the instructions that compute.
 use Rattle.std.specs.Prelude.{ℕ, ◌*◌, ◌^◌, ◌==◌, if◌then◌else◌, List, [], ◌∷◌, ◌++◌}
-use Rattle.jvm_code.specs.declared.names.int_arithmetic.IntArithmetic.{IntArithmetic}
-use Rattle.jvm_code.specs.declared.names.int_arithmetic.IntArithmetic.TheVariants.{Iadd, Isub, Iand, Ior, Ixor}
-use Rattle.jvm_code.specs.declared.names.int_shift.IntShift.{IntShift}
-use Rattle.jvm_code.specs.declared.names.int_shift.IntShift.TheVariants.{Ishl, Ishr, Iushr}
-use Rattle.jvm_code.specs.declared.names.stack_name.StackName.TheVariants.{Dup, DupX1, Swap}
-use Rattle.jvm_code.specs.declared.names.branch_name.BranchName.{BranchName}
-use Rattle.jvm_code.specs.declared.names.branch_name.BranchName.TheVariants.{Ifeq, Ifne, Ifge, IfIcmplt, Goto}
-use Rattle.jvm_program.specs.declared.instruction.Instruction.TheVariants as instructions
 use Rattle.mips_decode.specs.Effect.{overflow_fault}
 use Rattle.mips_decode.specs.Targets.{extended_imm}
 use Rattle.mips_decode.specs.declared.names.arithmetic_name.ArithmeticName.{ArithmeticName}
@@ -23,9 +15,17 @@ use Rattle.mips_decode.specs.declared.names.variable_shift_name.VariableShiftNam
 use Rattle.mips_decode.specs.declared.names.hi_lo.HiLo.{HiLo}
 use Rattle.mips_decode.specs.declared.names.hi_lo.HiLo.TheVariants.{Hi, Lo}
 use Rattle.mips_decode.specs.declared.names.product_name.ProductName.{ProductName}
+use Rattle.jvm_names.specs.declared.int_arithmetic.IntArithmetic.{IntArithmetic}
+use Rattle.jvm_names.specs.declared.int_arithmetic.IntArithmetic.TheVariants.{Iadd, Isub, Iand, Ior, Ixor}
+use Rattle.jvm_names.specs.declared.int_shift.IntShift.{IntShift}
+use Rattle.jvm_names.specs.declared.int_shift.IntShift.TheVariants.{Ishl, Ishr, Iushr}
+use Rattle.jvm_names.specs.declared.stack_name.StackName.TheVariants.{Dup, DupX1, Swap}
+use Rattle.jvm_names.specs.declared.branch_name.BranchName.{BranchName}
+use Rattle.jvm_names.specs.declared.branch_name.BranchName.TheVariants.{Ifeq, Ifne, Ifge, IfIcmplt, Goto}
+use Rattle.jvm_program.specs.declared.instruction.Instruction.TheVariants as instructions
 use Rattle.code_steps.specs.declared.step.Step.{Step}
 use Rattle.code_steps.specs.declared.step.Step.TheVariants.{Does, Skips}
-use Rattle.guest_match.specs.Match.{hi_field, lo_field}
+use Rattle.guest_layout.specs.FieldNumbers.{hi_field, lo_field}
 use Rattle.guest_code.specs.Access.{push_word, get_field, put_field, arithmetic, get_register, put_register, get_turned, turned}
 use Rattle.guest_code.specs.Faulting.{fault_code}
 use Rattle.guest_code.specs.Helpers.{product_helper}
@@ -41,16 +41,19 @@ combined_code bank name rs rt rd =
 
 -- where rt is register 0, it is a move
 abbrev pub combined_or_moved_code : ℕ → IntArithmetic → ℕ → ℕ → ℕ → List Step
-combined_or_moved_code bank name rs rt rd = if rt == 0 then moved_code bank rs rd else combined_code bank name rs rt rd
+combined_or_moved_code bank name rs rt rd = if rt == 0 then moved_code bank rs rd
+    else combined_code bank name rs rt rd
 
 -- NOR: the complement is the word beside FFFFFFFF
 abbrev pub nor_code : ℕ → ℕ → ℕ → ℕ → List Step
 nor_code bank rs rt rd =
-    get_register bank rs ∷ get_register bank rt ∷ arithmetic Ior ∷ push_word 0xFFFF_FFFF ∷ arithmetic Ixor ∷ put_register bank rd ∷ []
+    get_register bank rs ∷ get_register bank rt ∷ arithmetic Ior ∷ push_word 0xFFFF_FFFF
+    ∷ arithmetic Ixor ∷ put_register bank rd ∷ []
 
 -- what is on the stack is tested, and 1 or 0 goes to a register
 abbrev pub chosen_code : ℕ → BranchName → ℕ → List Step
-chosen_code bank test rd = Skips test 2 ∷ push_word 0 ∷ Skips Goto 1 ∷ push_word 1 ∷ put_register bank rd ∷ []
+chosen_code bank test rd = Skips test 2 ∷ push_word 0 ∷ Skips Goto 1 ∷ push_word 1
+    ∷ put_register bank rd ∷ []
 
 abbrev pub slt_code : ℕ → ℕ → ℕ → ℕ → List Step
 slt_code bank rs rt rd = get_register bank rs ∷ get_register bank rt ∷ chosen_code bank IfIcmplt rd
@@ -64,14 +67,16 @@ sltu_code bank rs rt rd =
 -- Two words are on the stack above a sum or difference, which overflows where both have their top bits set.
 abbrev pub overflow_code : ℕ → ℕ → ℕ → ℕ → List Step
 overflow_code bank rd at word =
-    arithmetic Iand ∷ Skips Ifge 4 ∷ (fault_code overflow_fault at word ++ put_register bank rd ∷ [])
+    arithmetic Iand ∷ Skips Ifge 4 ∷ (fault_code overflow_fault at word
+    ++ put_register bank rd ∷ [])
 
 -- ADD: the sum stands on the stack, and overflows where it has another sign than both summands
 abbrev pub add_code : ℕ → ℕ → ℕ → ℕ → ℕ → ℕ → List Step
 add_code bank rs rt rd at word =
     get_register bank rs ∷ get_register bank rt ∷ arithmetic Iadd
     ∷ Does (instructions.Stack Dup) ∷ get_register bank rs ∷ arithmetic Ixor
-    ∷ Does (instructions.Stack Swap) ∷ Does (instructions.Stack DupX1) ∷ get_register bank rt ∷ arithmetic Ixor
+    ∷ Does (instructions.Stack Swap) ∷ Does (instructions.Stack DupX1) ∷ get_register bank rt
+    ∷ arithmetic Ixor
     ∷ overflow_code bank rd at word
 
 -- SUB: the difference overflows where its sign is not that of rs, and the signs of rs and rt differ
@@ -111,12 +116,14 @@ abbrev pub shift_code : ℕ → ShiftName → ℕ → ℕ → ℕ → List Step
 shift_code bank name rt rd sa =
     if rd == 0 then Does instructions.Nop ∷ []
     else if sa == 0 then moved_code bank rt rd
-    else get_register bank rt ∷ push_word sa ∷ Does (instructions.IntShift (shift_name name)) ∷ put_register bank rd ∷ []
+    else get_register bank rt ∷ push_word sa ∷ Does (instructions.IntShift (shift_name name))
+    ∷ put_register bank rd ∷ []
 
 -- the class machine takes the low five bits of the amount, as the guest does
 abbrev pub variable_shift_code : ℕ → VariableShiftName → ℕ → ℕ → ℕ → List Step
 variable_shift_code bank name rs rt rd =
-    get_register bank rt ∷ get_register bank rs ∷ Does (instructions.IntShift (variable_shift_name name)) ∷ put_register bank rd ∷ []
+    get_register bank rt ∷ get_register bank rs
+    ∷ Does (instructions.IntShift (variable_shift_name name)) ∷ put_register bank rd ∷ []
 
 -- ---- HI and LO
 
@@ -132,7 +139,8 @@ move_to_code bank name rs = get_register bank rs ∷ put_field (hi_lo_field name
 
 abbrev pub product_code : ℕ → ProductName → ℕ → ℕ → List Step
 product_code bank name rs rt =
-    get_register bank rs ∷ get_register bank rt ∷ Does (instructions.Call (product_helper name)) ∷ []
+    get_register bank rs ∷ get_register bank rt ∷ Does (instructions.Call (product_helper name))
+    ∷ []
 
 -- ---- of a register and an immediate
 
@@ -153,7 +161,8 @@ abbrev pub addi_code : ℕ → ℕ → ℕ → ℕ → ℕ → ℕ → List Step
 addi_code bank rs w rt at word =
     get_register bank rs ∷ push_word w ∷ arithmetic Iadd
     ∷ Does (instructions.Stack Dup) ∷ get_register bank rs ∷ arithmetic Ixor
-    ∷ Does (instructions.Stack Swap) ∷ Does (instructions.Stack DupX1) ∷ push_word w ∷ arithmetic Ixor
+    ∷ Does (instructions.Stack Swap) ∷ Does (instructions.Stack DupX1) ∷ push_word w
+    ∷ arithmetic Ixor
     ∷ overflow_code bank rt at word
 
 abbrev pub slti_code : ℕ → ℕ → ℕ → ℕ → List Step
@@ -166,8 +175,10 @@ sltiu_code bank rs w rt =
     else get_turned bank rs ++ push_word (turned w) ∷ chosen_code bank IfIcmplt rt
 
 abbrev pub arithmetic_immediate_code : ℕ → ArithmeticImmediateName → ℕ → ℕ → ℕ → ℕ → ℕ → List Step
-arithmetic_immediate_code bank Addi rs rt imm at word = addi_code bank rs (extended_imm imm) rt at word
-arithmetic_immediate_code bank Addiu rs rt imm at word = joined_with_code bank Iadd rs (extended_imm imm) rt
+arithmetic_immediate_code bank Addi rs rt imm at word =
+    addi_code bank rs (extended_imm imm) rt at word
+arithmetic_immediate_code bank Addiu rs rt imm at word =
+    joined_with_code bank Iadd rs (extended_imm imm) rt
 arithmetic_immediate_code bank Slti rs rt imm at word = slti_code bank rs (extended_imm imm) rt
 arithmetic_immediate_code bank Sltiu rs rt imm at word = sltiu_code bank rs (extended_imm imm) rt
 

@@ -1,13 +1,13 @@
 -- Code that ends the run in a fault, and the code of traps.
 use Rattle.std.specs.Prelude.{ℕ, List, [], ◌∷◌, ◌++◌}
-use Rattle.jvm_code.specs.declared.names.branch_name.BranchName.{BranchName}
-use Rattle.jvm_code.specs.declared.names.branch_name.BranchName.TheVariants.{IfIcmpeq, IfIcmpne, IfIcmplt, IfIcmpge}
-use Rattle.jvm_program.specs.declared.instruction.Instruction.TheVariants.{FaultHost}
 use Rattle.mips_decode.specs.Effect.{trap_fault}
 use Rattle.mips_decode.specs.declared.names.trap_name.TrapName.{TrapName}
 use Rattle.mips_decode.specs.declared.names.trap_name.TrapName.TheVariants.{Tge, Tgeu, Tlt, Tltu, Teq, Tne}
 use Rattle.mips_decode.specs.declared.names.trap_immediate_name.TrapImmediateName.{TrapImmediateName}
 use Rattle.mips_decode.specs.declared.names.trap_immediate_name.TrapImmediateName.TheVariants.{Tgei, Tgeiu, Tlti, Tltiu, Teqi, Tnei}
+use Rattle.jvm_names.specs.declared.branch_name.BranchName.{BranchName}
+use Rattle.jvm_names.specs.declared.branch_name.BranchName.TheVariants.{IfIcmpeq, IfIcmpne, IfIcmplt, IfIcmpge}
+use Rattle.jvm_program.specs.declared.instruction.Instruction.TheVariants.{FaultHost}
 use Rattle.code_steps.specs.declared.step.Step.{Step}
 use Rattle.code_steps.specs.declared.step.Step.TheVariants.{Does, Skips}
 use Rattle.guest_code.specs.Access.{push_word, get_register, get_turned, turned}
@@ -61,4 +61,5 @@ trap_code bank name rs rt at word = compared bank name rs rt ++ unless_code (pas
 
 -- of rs and a word
 abbrev pub trap_with_code : ℕ → TrapImmediateName → ℕ → ℕ → ℕ → ℕ → List Step
-trap_with_code bank name rs w at word = compared_with bank name rs w ++ unless_code (passing_immediate name) at word
+trap_with_code bank name rs w at word =
+    compared_with bank name rs w ++ unless_code (passing_immediate name) at word

@@ -6,7 +6,7 @@ use crate::NoMemory;
 use crate::bank::Bank;
 use crate::fields::register_field;
 use code_steps::Step;
-use jvm_code::{IntArithmetic, StackName};
+use jvm_names::{IntArithmetic, StackName};
 use jvm_program::{Constant, Instruction, Kind, LocalKind};
 
 /// The top bit of a word.

@@ -9,7 +9,7 @@ use crate::fields::{LINKED, READABLE, WRITABLE};
 use crate::helpers::{LOAD_LINKED, STORE_CONDITIONAL, load_helper, store_helper};
 use crate::immediates::extended;
 use code_steps::Step;
-use jvm_code::IntArithmetic;
+use jvm_names::IntArithmetic;
 use jvm_program::{Instruction, Kind};
 use mips_decode::{LoadName, StoreName};
 
@@ -23,7 +23,8 @@ pub fn append_load(
     at: u32,
     code: &mut Vec<Step>,
 ) -> Result<(), NoMemory>
-    ensures { OnOk result (code.new.items ≡ code.old.items ++ emitted.load_code bank.now name rs rt imm at) }
+    ensures { OnOk result (code.new.items ≡ code.old.items
+        ++ emitted.load_code bank.now name rs rt imm at) }
 {
     if matches!(name, LoadName::Lwl | LoadName::Lwr) {
         code.push(get_register(bank, rt))?;
@@ -43,7 +44,8 @@ pub fn append_store(
     at: u32,
     code: &mut Vec<Step>,
 ) -> Result<(), NoMemory>
-    ensures { OnOk result (code.new.items ≡ code.old.items ++ emitted.store_code bank.now name rs rt imm at) }
+    ensures { OnOk result (code.new.items ≡ code.old.items
+        ++ emitted.store_code bank.now name rs rt imm at) }
 {
     code.push(get_register(bank, rt))?;
     append_access(bank, store_helper(name), rs, imm, at, code)
@@ -58,7 +60,8 @@ pub fn append_load_linked(
     at: u32,
     code: &mut Vec<Step>,
 ) -> Result<(), NoMemory>
-    ensures { OnOk result (code.new.items ≡ code.old.items ++ emitted.load_linked_code bank.now rs rt imm at) }
+    ensures { OnOk result (code.new.items ≡ code.old.items
+        ++ emitted.load_linked_code bank.now rs rt imm at) }
 {
     append_access(bank, LOAD_LINKED, rs, imm, at, code)?;
     code.push(put_register(bank, rt))?;
@@ -74,7 +77,8 @@ pub fn append_store_conditional(
     at: u32,
     code: &mut Vec<Step>,
 ) -> Result<(), NoMemory>
-    ensures { OnOk result (code.new.items ≡ code.old.items ++ emitted.store_conditional_code bank.now rs rt imm at) }
+    ensures { OnOk result (code.new.items ≡ code.old.items
+        ++ emitted.store_conditional_code bank.now rs rt imm at) }
 {
     code.push(get_register(bank, rt))?;
     append_access(bank, STORE_CONDITIONAL, rs, imm, at, code)?;
@@ -91,7 +95,8 @@ fn append_access(
     at: u32,
     code: &mut Vec<Step>,
 ) -> Result<(), NoMemory>
-    ensures { OnOk result (code.new.items ≡ code.old.items ++ emitted.access_code bank.now helper rs imm at) }
+    ensures { OnOk result (code.new.items ≡ code.old.items
+        ++ emitted.access_code bank.now helper rs imm at) }
 {
     append_address(bank, rs, extended(imm), code)?;
     code.push(push_word(at))?;
@@ -100,7 +105,8 @@ fn append_access(
 }
 
 fn append_address(bank: &Bank, rs: u8, immediate: u32, code: &mut Vec<Step>) -> Result<(), NoMemory>
-    ensures { OnOk result (code.new.items ≡ code.old.items ++ emitted.address_code bank.now rs immediate) }
+    ensures { OnOk result (code.new.items ≡ code.old.items
+        ++ emitted.address_code bank.now rs immediate) }
 {
     code.push(get_register(bank, rs))?;
     if immediate != 0 {

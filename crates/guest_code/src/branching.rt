@@ -9,7 +9,7 @@ use crate::conditions::{equal_branch, jump_link, sign_branch, zero_branch};
 use crate::fields::PC;
 use crate::transfer::Transfer;
 use code_steps::Step;
-use jvm_code::{BranchName, StackName};
+use jvm_names::{BranchName, StackName};
 use jvm_program::{Instruction, LocalKind};
 use mips_decode::{Inst, jump_target};
 
@@ -22,7 +22,8 @@ pub fn append_transfer(
     code: &mut Vec<Step>,
 ) -> Result<(), NoMemory>
     requires short { length slot.items < 2 ^ 16 }
-    ensures { OnOk result (code.new.items ≡ code.old.items ++ emitted.transfer_code bank.now inst.now at slot.items) }
+    ensures { OnOk result (code.new.items ≡ code.old.items
+        ++ emitted.transfer_code bank.now inst.now at slot.items) }
 {
     match *inst {
         Inst::BranchEqual { name, rs, rt, imm } => {
@@ -64,8 +65,9 @@ fn append_conditional(
     code: &mut Vec<Step>,
 ) -> Result<(), NoMemory>
     requires short { length slot.items < 2 ^ 16 }
-    ensures { OnOk result (code.new.items ≡ code.old.items ++ emitted.conditional_code branch.likely branch.test branch.target (emitted.behind_slot at)
-        (emitted.link_code bank.now branch.link at) slot.items) }
+    ensures { OnOk result (code.new.items ≡ code.old.items
+        ++ emitted.conditional_code branch.likely branch.test branch.target
+        (emitted.behind_slot at) (emitted.link_code bank.now branch.link at) slot.items) }
 {
     if branch.likely {
         append_likely(bank, branch, at, slot, code)
@@ -82,7 +84,8 @@ fn append_branch(
     slot: Vec<Step>,
     code: &mut Vec<Step>,
 ) -> Result<(), NoMemory>
-    ensures { OnOk result (code.new.items ≡ code.old.items ++ emitted.branch_code branch.test branch.target (emitted.behind_slot at)
+    ensures { OnOk result (code.new.items ≡ code.old.items
+        ++ emitted.branch_code branch.test branch.target (emitted.behind_slot at)
         (emitted.link_code bank.now branch.link at) slot.items) }
 {
     code.push(Step::Skips(branch.test, 2))?;
@@ -102,7 +105,8 @@ fn append_likely(
     code: &mut Vec<Step>,
 ) -> Result<(), NoMemory>
     requires short { length slot.items < 2 ^ 16 }
-    ensures { OnOk result (code.new.items ≡ code.old.items ++ emitted.likely_code branch.test branch.target (emitted.behind_slot at)
+    ensures { OnOk result (code.new.items ≡ code.old.items
+        ++ emitted.likely_code branch.test branch.target (emitted.behind_slot at)
         (emitted.link_code bank.now branch.link at) slot.items) }
 {
     let link = link_steps(branch.link);
@@ -139,7 +143,8 @@ fn append_linked(
     slot: Vec<Step>,
     code: &mut Vec<Step>,
 ) -> Result<(), NoMemory>
-    ensures { OnOk result (code.new.items ≡ code.old.items ++ (emitted.link_code bank.now link at ++ slot.items)) }
+    ensures { OnOk result (code.new.items ≡ code.old.items
+        ++ (emitted.link_code bank.now link at ++ slot.items)) }
 {
     append_link(bank, link, at, code)?;
     append_all(slot, code)

@@ -7,7 +7,7 @@ use crate::access::{arithmetic, get_register, push_word, put_register};
 use crate::bank::Bank;
 use crate::faulting::{FAULT_STEPS, append_fault};
 use code_steps::Step;
-use jvm_code::{BranchName, IntArithmetic};
+use jvm_names::{BranchName, IntArithmetic};
 use mips_decode::fault_kinds::OVERFLOW;
 
 /// A register becomes what another one is.
@@ -26,7 +26,8 @@ pub fn append_chosen(
     rd: u8,
     code: &mut Vec<Step>,
 ) -> Result<(), NoMemory>
-    ensures { OnOk result (code.new.items ≡ code.old.items ++ emitted.chosen_code bank.now test rd) }
+    ensures { OnOk result (code.new.items ≡ code.old.items
+        ++ emitted.chosen_code bank.now test rd) }
 {
     code.push(Step::Skips(test, 2))?;
     code.push(push_word(0))?;
@@ -45,7 +46,8 @@ pub fn append_overflow(
     word: u32,
     code: &mut Vec<Step>,
 ) -> Result<(), NoMemory>
-    ensures { OnOk result (code.new.items ≡ code.old.items ++ emitted.overflow_code bank.now rd at word) }
+    ensures { OnOk result (code.new.items ≡ code.old.items
+        ++ emitted.overflow_code bank.now rd at word) }
 {
     code.push(arithmetic(IntArithmetic::Iand))?;
     code.push(Step::Skips(BranchName::Ifge, FAULT_STEPS))?;

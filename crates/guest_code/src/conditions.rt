@@ -5,7 +5,7 @@ ghost use Rattle.mips_decode.specs.Targets as targets;
 ghost use Rattle.guest_code.specs.Branching as emitted;
 
 use crate::transfer::Transfer;
-use jvm_code::BranchName;
+use jvm_names::BranchName;
 use mips_decode::{BranchEqualName, BranchSignName, BranchZeroName, JumpName, branch_target};
 
 /// BEQ to BNEL at an address.

@@ -6,7 +6,7 @@ use crate::NoMemory;
 use crate::access::{append_turned, get_register, push_word, turned};
 use crate::bank::Bank;
 use code_steps::Step;
-use jvm_code::BranchName;
+use jvm_names::BranchName;
 use jvm_program::Instruction;
 use mips_decode::fault_kinds::TRAP;
 use mips_decode::{TrapImmediateName, TrapName};
@@ -35,7 +35,8 @@ pub fn append_trap(
     word: u32,
     code: &mut Vec<Step>,
 ) -> Result<(), NoMemory>
-    ensures { OnOk result (code.new.items ≡ code.old.items ++ emitted.trap_code bank.now name rs rt at word) }
+    ensures { OnOk result (code.new.items ≡ code.old.items
+        ++ emitted.trap_code bank.now name rs rt at word) }
 {
     match name {
         TrapName::Tgeu | TrapName::Tltu => {
@@ -60,7 +61,8 @@ pub fn append_trap_with(
     word: u32,
     code: &mut Vec<Step>,
 ) -> Result<(), NoMemory>
-    ensures { OnOk result (code.new.items ≡ code.old.items ++ emitted.trap_with_code bank.now name rs immediate at word) }
+    ensures { OnOk result (code.new.items ≡ code.old.items
+        ++ emitted.trap_with_code bank.now name rs immediate at word) }
 {
     match name {
         TrapImmediateName::Tgeiu | TrapImmediateName::Tltiu => {

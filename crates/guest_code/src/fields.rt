@@ -1,7 +1,7 @@
 //! The fields of the main class, by their numbers in the program: r1 to r31 are 0 to 30.
 ghost use Rattle.std.specs.Prelude.{◌≡◌, ◌<◌};
+ghost use Rattle.guest_layout.specs.FieldNumbers as matching;
 ghost use Rattle.guest_code.specs.Computing.{hi_lo_field};
-ghost use Rattle.guest_match.specs.Match as matching;
 
 use mips_decode::HiLo;
 

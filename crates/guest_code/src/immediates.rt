@@ -8,7 +8,7 @@ use crate::access::{append_turned, arithmetic, get_register, push_word, put_regi
 use crate::bank::Bank;
 use crate::computing::{append_chosen, append_moved, append_overflow};
 use code_steps::Step;
-use jvm_code::{BranchName, IntArithmetic, StackName};
+use jvm_names::{BranchName, IntArithmetic, StackName};
 use jvm_program::Instruction;
 use mips_decode::{ArithmeticImmediateName, LogicalImmediateName};
 
@@ -34,7 +34,8 @@ pub fn append_arithmetic_immediate(
     word: u32,
     code: &mut Vec<Step>,
 ) -> Result<(), NoMemory>
-    ensures { OnOk result (code.new.items ≡ code.old.items ++ emitted.arithmetic_immediate_code bank.now name rs rt imm at word) }
+    ensures { OnOk result (code.new.items ≡ code.old.items
+        ++ emitted.arithmetic_immediate_code bank.now name rs rt imm at word) }
 {
     let immediate = extended(imm);
     match name {
@@ -61,7 +62,8 @@ pub fn append_logical_immediate(
     imm: u16,
     code: &mut Vec<Step>,
 ) -> Result<(), NoMemory>
-    ensures { OnOk result (code.new.items ≡ code.old.items ++ emitted.logical_immediate_code bank.now name rs rt imm) }
+    ensures { OnOk result (code.new.items ≡ code.old.items
+        ++ emitted.logical_immediate_code bank.now name rs rt imm) }
 {
     let immediate = u32::from(imm);
     match name {
@@ -99,7 +101,8 @@ pub fn append_load_upper(
     imm: u16,
     code: &mut Vec<Step>,
 ) -> Result<(), NoMemory>
-    ensures { OnOk result (code.new.items ≡ code.old.items ++ emitted.load_upper_code bank.now rt imm) }
+    ensures { OnOk result (code.new.items ≡ code.old.items
+        ++ emitted.load_upper_code bank.now rt imm) }
 {
     append_set(bank, u32::from(imm) << 16, rt, code)
 }
@@ -121,7 +124,8 @@ fn append_combined_with(
     rt: u8,
     code: &mut Vec<Step>,
 ) -> Result<(), NoMemory>
-    ensures { OnOk result (code.new.items ≡ code.old.items ++ emitted.combined_with_code bank.now name rs word rt) }
+    ensures { OnOk result (code.new.items ≡ code.old.items
+        ++ emitted.combined_with_code bank.now name rs word rt) }
 {
     code.push(get_register(bank, rs))?;
     code.push(push_word(word))?;
@@ -139,7 +143,8 @@ fn append_joined_with(
     rt: u8,
     code: &mut Vec<Step>,
 ) -> Result<(), NoMemory>
-    ensures { OnOk result (code.new.items ≡ code.old.items ++ emitted.joined_with_code bank.now name rs word rt) }
+    ensures { OnOk result (code.new.items ≡ code.old.items
+        ++ emitted.joined_with_code bank.now name rs word rt) }
 {
     if rs == 0 {
         append_set(bank, word, rt, code)
@@ -159,7 +164,8 @@ fn append_addi(
     word: u32,
     code: &mut Vec<Step>,
 ) -> Result<(), NoMemory>
-    ensures { OnOk result (code.new.items ≡ code.old.items ++ emitted.addi_code bank.now rs immediate rt at word) }
+    ensures { OnOk result (code.new.items ≡ code.old.items
+        ++ emitted.addi_code bank.now rs immediate rt at word) }
 {
     code.push(get_register(bank, rs))?;
     code.push(push_word(immediate))?;
@@ -181,7 +187,8 @@ fn append_slti(
     rt: u8,
     code: &mut Vec<Step>,
 ) -> Result<(), NoMemory>
-    ensures { OnOk result (code.new.items ≡ code.old.items ++ emitted.slti_code bank.now rs immediate rt) }
+    ensures { OnOk result (code.new.items ≡ code.old.items
+        ++ emitted.slti_code bank.now rs immediate rt) }
 {
     code.push(get_register(bank, rs))?;
     code.push(push_word(immediate))?;
@@ -195,7 +202,8 @@ fn append_sltiu(
     rt: u8,
     code: &mut Vec<Step>,
 ) -> Result<(), NoMemory>
-    ensures { OnOk result (code.new.items ≡ code.old.items ++ emitted.sltiu_code bank.now rs immediate rt) }
+    ensures { OnOk result (code.new.items ≡ code.old.items
+        ++ emitted.sltiu_code bank.now rs immediate rt) }
 {
     if immediate == 1 {
         code.push(get_register(bank, rs))?;

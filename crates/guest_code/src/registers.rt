@@ -11,7 +11,7 @@ use crate::computing::{append_chosen, append_moved, append_overflow};
 use crate::fields::hi_lo_field;
 use crate::helpers::product_helper;
 use code_steps::Step;
-use jvm_code::{BranchName, IntArithmetic, IntShift, StackName};
+use jvm_names::{BranchName, IntArithmetic, IntShift, StackName};
 use jvm_program::Instruction;
 use mips_decode::{ArithmeticName, HiLo, ProductName, ShiftName, VariableShiftName};
 
@@ -26,7 +26,8 @@ pub fn append_arithmetic(
     word: u32,
     code: &mut Vec<Step>,
 ) -> Result<(), NoMemory>
-    ensures { OnOk result (code.new.items ≡ code.old.items ++ emitted.arithmetic_code bank.now name rs rt rd at word) }
+    ensures { OnOk result (code.new.items ≡ code.old.items
+        ++ emitted.arithmetic_code bank.now name rs rt rd at word) }
 {
     match name {
         ArithmeticName::Add => append_add(bank, rs, rt, rd, at, word, code),
@@ -57,7 +58,8 @@ fn append_combined(
     rd: u8,
     code: &mut Vec<Step>,
 ) -> Result<(), NoMemory>
-    ensures { OnOk result (code.new.items ≡ code.old.items ++ emitted.combined_code bank.now name rs rt rd) }
+    ensures { OnOk result (code.new.items ≡ code.old.items
+        ++ emitted.combined_code bank.now name rs rt rd) }
 {
     code.push(get_register(bank, rs))?;
     code.push(get_register(bank, rt))?;
@@ -75,7 +77,8 @@ fn append_combined_or_moved(
     rd: u8,
     code: &mut Vec<Step>,
 ) -> Result<(), NoMemory>
-    ensures { OnOk result (code.new.items ≡ code.old.items ++ emitted.combined_or_moved_code bank.now name rs rt rd) }
+    ensures { OnOk result (code.new.items ≡ code.old.items
+        ++ emitted.combined_or_moved_code bank.now name rs rt rd) }
 {
     if rt == 0 {
         append_moved(bank, rs, rd, code)
@@ -126,7 +129,8 @@ fn append_add(
     word: u32,
     code: &mut Vec<Step>,
 ) -> Result<(), NoMemory>
-    ensures { OnOk result (code.new.items ≡ code.old.items ++ emitted.add_code bank.now rs rt rd at word) }
+    ensures { OnOk result (code.new.items ≡ code.old.items
+        ++ emitted.add_code bank.now rs rt rd at word) }
 {
     code.push(get_register(bank, rs))?;
     code.push(get_register(bank, rt))?;
@@ -150,7 +154,8 @@ fn append_sub(
     word: u32,
     code: &mut Vec<Step>,
 ) -> Result<(), NoMemory>
-    ensures { OnOk result (code.new.items ≡ code.old.items ++ emitted.sub_code bank.now rs rt rd at word) }
+    ensures { OnOk result (code.new.items ≡ code.old.items
+        ++ emitted.sub_code bank.now rs rt rd at word) }
 {
     code.push(get_register(bank, rs))?;
     code.push(get_register(bank, rt))?;
@@ -173,7 +178,8 @@ pub fn append_shift(
     sa: u8,
     code: &mut Vec<Step>,
 ) -> Result<(), NoMemory>
-    ensures { OnOk result (code.new.items ≡ code.old.items ++ emitted.shift_code bank.now name rt rd sa) }
+    ensures { OnOk result (code.new.items ≡ code.old.items
+        ++ emitted.shift_code bank.now name rt rd sa) }
 {
     if rd == 0 {
         code.push(Step::Does(Instruction::Nop))?;
@@ -208,7 +214,8 @@ pub fn append_variable_shift(
     rd: u8,
     code: &mut Vec<Step>,
 ) -> Result<(), NoMemory>
-    ensures { OnOk result (code.new.items ≡ code.old.items ++ emitted.variable_shift_code bank.now name rs rt rd) }
+    ensures { OnOk result (code.new.items ≡ code.old.items
+        ++ emitted.variable_shift_code bank.now name rs rt rd) }
 {
     code.push(get_register(bank, rt))?;
     code.push(get_register(bank, rs))?;
@@ -234,7 +241,8 @@ pub fn append_move_from(
     rd: u8,
     code: &mut Vec<Step>,
 ) -> Result<(), NoMemory>
-    ensures { OnOk result (code.new.items ≡ code.old.items ++ emitted.move_from_code bank.now name rd) }
+    ensures { OnOk result (code.new.items ≡ code.old.items
+        ++ emitted.move_from_code bank.now name rd) }
 {
     code.push(get_field(hi_lo_field(name)))?;
     code.push(put_register(bank, rd))?;
@@ -243,7 +251,8 @@ pub fn append_move_from(
 
 /// MTHI and MTLO.
 pub fn append_move_to(bank: &Bank, name: HiLo, rs: u8, code: &mut Vec<Step>) -> Result<(), NoMemory>
-    ensures { OnOk result (code.new.items ≡ code.old.items ++ emitted.move_to_code bank.now name rs) }
+    ensures { OnOk result (code.new.items ≡ code.old.items
+        ++ emitted.move_to_code bank.now name rs) }
 {
     code.push(get_register(bank, rs))?;
     code.push(put_field(hi_lo_field(name)))?;
@@ -258,7 +267,8 @@ pub fn append_product(
     rt: u8,
     code: &mut Vec<Step>,
 ) -> Result<(), NoMemory>
-    ensures { OnOk result (code.new.items ≡ code.old.items ++ emitted.product_code bank.now name rs rt) }
+    ensures { OnOk result (code.new.items ≡ code.old.items
+        ++ emitted.product_code bank.now name rs rt) }
 {
     code.push(get_register(bank, rs))?;
     code.push(get_register(bank, rt))?;

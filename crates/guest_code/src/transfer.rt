@@ -1,4 +1,4 @@
-use jvm_code::BranchName;
+use jvm_names::BranchName;
 
 /// A conditional branch: whether it is a likely one, the test that what is on the stack passes where it is taken, where it goes, and
 /// the register of its link, if it has one.

@@ -35,7 +35,8 @@ pub fn append_unit(
     at: u32,
     code: &mut Vec<Step>,
 ) -> Result<(), NoMemory>
-    ensures { OnOk result (code.new.items ≡ code.old.items ++ emitted.unit_code bank.now unit.now at) }
+    ensures { OnOk result (code.new.items ≡ code.old.items
+        ++ emitted.unit_code bank.now unit.now at) }
 {
     match *unit {
         Unit::Plain(inst) => append_instruction(bank, &inst, at, code),
@@ -69,7 +70,8 @@ pub fn append_instruction(
     at: u32,
     code: &mut Vec<Step>,
 ) -> Result<(), NoMemory>
-    ensures { OnOk result (code.new.items ≡ code.old.items ++ emitted.instruction_code bank.now inst.now at) }
+    ensures { OnOk result (code.new.items ≡ code.old.items
+        ++ emitted.instruction_code bank.now inst.now at) }
 {
     match *inst {
         Inst::Arithmetic { name, rs, rt, rd } => append_arithmetic(

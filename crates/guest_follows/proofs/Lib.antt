@@ -1,4 +1,8 @@
 pub mod RegisterLaws
 pub mod GuestFollows
-mod LawfulUnits
-pub mod PieceSets
+mod MatchExamples
+pub mod Signs
+pub mod MatchedPages
+pub mod ReadLemmas
+pub mod Stores
+pub mod Patches

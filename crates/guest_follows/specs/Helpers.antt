@@ -1,5 +1,5 @@
 -- The helper methods as methods of a program.
-use Rattle.std.specs.Prelude.{◌≡◌, ℕ, ◌<◌, ◌==◌, nat_lt, nat_le, ◌&&◌, ◌||◌, if◌then◌else◌, List, [], ◌∷◌, Some}
+use Rattle.std.specs.Prelude.{◌≡◌, ℕ, ◌<◌, nat_lt, nat_le, ◌&&◌, ◌||◌, if◌then◌else◌, List, [], ◌∷◌, Some}
 use Rattle.nv_words.specs.declared.order.Order.{Order}
 use Rattle.jvm_program.specs.declared.kind.Kind.{Kind}
 use Rattle.jvm_program.specs.declared.kind.Kind.TheVariants.{Int}
@@ -14,7 +14,8 @@ helper_count = 20
 -- loads of whole words, half-words and bytes, products, quotients and LL have two ints as parameters, all others three
 abbrev pub helper_parameters : ℕ → List Kind
 helper_parameters number =
-    if nat_lt number 5 || (nat_le 12 number && nat_lt number 17) then Int ∷ Int ∷ [] else Int ∷ Int ∷ Int ∷ []
+    if nat_lt number 5 || (nat_le 12 number && nat_lt number 17) then Int ∷ Int ∷ []
+    else Int ∷ Int ∷ Int ∷ []
 
 -- The method of this number is that helper, for programs of an order of bytes.
 pub record IsHelper (program : Program) (order : Order) (number : ℕ) : Type 0 where

@@ -2,14 +2,15 @@
 use Rattle.std.specs.Prelude.{◌≡◌, ℕ, ◌<◌, ◌==◌, Bool, true, ◌||◌, ◌⊎◌, if◌then◌else◌, List, Option, Some, None}
 use Rattle.nv_words.specs.Words.{IsWord}
 use Rattle.nv_events.specs.Memory.{Memory}
+use Rattle.mips_decode.specs.State.{State}
 use Rattle.jvm_program.specs.declared.value.Value.{Value}
 use Rattle.jvm_program.specs.declared.value.Value.TheVariants.{Int as int, Array as array}
 use Rattle.jvm_program.specs.Values.{Heap}
 use Rattle.jvm_program.specs.Effect.{Workspace, with_operands, with_local, with_field}
-use Rattle.mips_decode.specs.State.{State}
-use Rattle.guest_match.specs.Match.{HoldsMemory, register_field, hi_field, lo_field, pc_field, readable_field, writable_field}
+use Rattle.guest_layout.specs.FieldNumbers.{register_field, hi_field, lo_field, pc_field, readable_field, writable_field}
 use Rattle.guest_code.specs.Access.{keeps}
 use Rattle.guest_code.specs.Fields.{link_field, linked_field}
+use Rattle.guest_follows.specs.Match.{HoldsMemory}
 
 -- what is found where code over a bank looks for a register
 abbrev pub reached : ℕ → Workspace → ℕ → Value
@@ -22,7 +23,8 @@ IsLink fields (Some at) = (fields linked_field ≡ int 1) × (fields link_field 
 
 -- What is reached in some registers, the known ones, is what they hold, and the fields and arrays hold the rest of a state, wherever the guest
 -- stands.
-pub record Holds (known : ℕ → Bool) (reach fields : ℕ → Value) (heap : Heap) (registers : ℕ → ℕ) (hi lo : ℕ) (link : Option ℕ) (memory : Memory) : Type 0 where
+pub record Holds (known : ℕ → Bool) (reach fields : ℕ → Value) (heap : Heap) (registers : ℕ → ℕ)
+    (hi lo : ℕ) (link : Option ℕ) (memory : Memory) : Type 0 where
   pub register_is : (r : ℕ) → 0 < r → r < 32 → known r ≡ true → reach r ≡ int (registers r)
   pub register_word : (r : ℕ) → 0 < r → r < 32 → IsWord (registers r)
   pub hi_is : fields hi_field ≡ int hi
@@ -40,15 +42,8 @@ pub record Holds (known : ℕ → Bool) (reach fields : ℕ → Value) (heap : H
 
 -- a workspace holds a guest's state over a bank of which some registers are known
 abbrev pub HoldsOn : ℕ → (ℕ → Bool) → Workspace → State → Type 0
-HoldsOn bank known w s = Holds known (reached bank w) w.fields w.heap s.registers s.hi s.lo s.load_link s.memory
-
--- a register that code may read: register 0, or a known one
-abbrev pub IsKnown : (ℕ → Bool) → ℕ → Type 0
-IsKnown known r = (r ≡ 0) ⊎ ((r < 32) × (known r ≡ true))
-
--- one register more
-abbrev pub gaining : (ℕ → Bool) → ℕ → ℕ → Bool
-gaining known d = λ r. d == r || known r
+HoldsOn bank known w s =
+    Holds known (reached bank w) w.fields w.heap s.registers s.hi s.lo s.load_link s.memory
 
 -- the workspace with a value in a register, as code over a bank puts it, and these operands
 abbrev pub with_value : ℕ → ℕ → Value → Workspace → List Value → Workspace
@@ -59,7 +54,8 @@ with_value bank r v w operands =
 
 -- Code over a bank has left the fields of the bank's registers alone, and the operands.
 pub record Keeps (bank : ℕ) (old new : Workspace) : Type 0 where
-  pub fields_kept : (r : ℕ) → 0 < r → r < 32 → keeps bank r ≡ true → new.fields (register_field r) ≡ old.fields (register_field r)
+  pub fields_kept : (r : ℕ) → 0 < r → r < 32 → keeps bank r ≡ true
+      → new.fields (register_field r) ≡ old.fields (register_field r)
   pub operands_kept : new.operands ≡ old.operands
 
 -- It has left field pc and local variable 0 alone, where the goal of a branch is.

@@ -3,6 +3,7 @@ pub mod Outcomes
 pub mod Helpers
 pub mod Sites
 pub mod Following
-pub mod Knowing
 pub mod Laws
-pub mod Lawful
+pub mod Match
+pub mod Memory
+pub mod Behind

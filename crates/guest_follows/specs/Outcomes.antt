@@ -10,30 +10,38 @@ use Rattle.code_steps.specs.declared.step.Step.{Step}
 use Rattle.code_steps.specs.Outcomes.{outcome, stopped}
 
 -- It comes to its return within so many instructions, with a result, and what is then in the fields and arrays is as said.
-pub record Gives (program : Program) (words most : ℕ) (code : List Step) (given : List Value) (caller : Workspace) (result : Option Value) (Leaves : (ℕ → Value) → Heap → Type 0) : Type 0 where
+pub record Gives (program : Program) (words most : ℕ) (code : List Step) (given : List Value)
+    (caller : Workspace) (result : Option Value) (Leaves : (ℕ → Value) → Heap → Type 0)
+    : Type 0 where
   pub turns : ℕ
   pub step : ℕ
   pub at : Workspace
   pub back : Workspace
-  pub comes : outcome program words code (body_workspace given caller) ≡ stopped turns step at (gives result back)
+  pub comes : outcome program words code (body_workspace given caller)
+      ≡ stopped turns step at (gives result back)
   pub in_time : turns ≤ most
   pub leaves : Leaves back.fields back.heap
 
 -- It ends the run in a fault.
-pub record Faults (program : Program) (words most : ℕ) (code : List Step) (given : List Value) (caller : Workspace) (fault : Fault) : Type 0 where
+pub record Faults (program : Program) (words most : ℕ) (code : List Step) (given : List Value)
+    (caller : Workspace) (fault : Fault) : Type 0 where
   pub turns : ℕ
   pub step : ℕ
   pub at : Workspace
-  pub comes : outcome program words code (body_workspace given caller) ≡ stopped turns step at (faults fault)
+  pub comes : outcome program words code (body_workspace given caller)
+      ≡ stopped turns step at (faults fault)
   pub in_time : turns ≤ most
 
 -- It calls a method which ends the run in a fault. The code of methods goes by their numbers.
-pub record CallsFault (program : Program) (words most : ℕ) (codes : ℕ → List Step) (code : List Step) (given : List Value) (caller : Workspace) (callee : ℕ) (fault : Fault) : Type 0 where
+pub record CallsFault (program : Program) (words most : ℕ) (codes : ℕ → List Step)
+    (code : List Step) (given : List Value) (caller : Workspace) (callee : ℕ) (fault : Fault)
+    : Type 0 where
   pub turns : ℕ
   pub step : ℕ
   pub at : Workspace
   pub arguments : List Value
   pub waiting : Workspace
-  pub comes : outcome program words code (body_workspace given caller) ≡ stopped turns step at (enters callee arguments waiting)
+  pub comes : outcome program words code (body_workspace given caller)
+      ≡ stopped turns step at (enters callee arguments waiting)
   pub in_time : turns ≤ most
   pub ends : Faults program words most (codes callee) arguments waiting fault

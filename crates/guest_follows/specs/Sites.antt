@@ -30,14 +30,16 @@ stands site at w = placed site.method at w site.others
 
 -- a path whose places in the site's method lie between two offsets
 abbrev pub PathIn : Site → ℕ → ℕ → ℕ → ((Instruction → ℕ) → ℕ) → State → State → Type 0
-PathIn site low high turns total x y = Path site.program site.words site.method low high turns total x y
+PathIn site low high turns total x y =
+    Path site.program site.words site.method low high turns total x y
 
 -- ---- what code weighs together with the methods that it calls
 
 -- a helper method, and the methods that it may call to end the run
 abbrev pub helper_weight : Order → (Instruction → ℕ) → ℕ → ℕ
 helper_weight order weight h =
-    weigh weight (helper_code order h) + weigh weight (helper_code order read_fault_number) + weigh weight (helper_code order write_fault_number)
+    weigh weight (helper_code order h) + weigh weight (helper_code order read_fault_number)
+    + weigh weight (helper_code order write_fault_number)
 
 abbrev pub called_weight : Order → (Instruction → ℕ) → Step → ℕ
 called_weight order weight (Does (Call h)) = helper_weight order weight h
@@ -46,4 +48,5 @@ called_weight order weight _ = 0
 -- each step with what it calls
 abbrev pub whole_weight : Order → List Step → (Instruction → ℕ) → ℕ
 whole_weight order [] weight = 0
-whole_weight order (s ∷ code) weight = step_weight weight s + called_weight order weight s + whole_weight order code weight
+whole_weight order (s ∷ code) weight =
+    step_weight weight s + called_weight order weight s + whole_weight order code weight

@@ -1,7 +1,7 @@
-//! When code follows the guest, wherever it lies: states that are held over a bank of registers, what calls of methods come to, and what
-//! holds of units because words spell them. Each law is the contract of a call that does nothing.
+//! When code follows the guest, wherever it lies: when arrays hold its memory, states that are held over a bank of registers, and what calls
+//! of methods come to. Each law is the contract of a call that does nothing.
 #![tactic(auto)]
 
-pub mod lawful_units;
 pub mod laws;
+pub mod memory_laws;
 pub mod register_laws;

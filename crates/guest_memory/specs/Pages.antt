@@ -43,7 +43,10 @@ memory_of p = record {
 unfoldable pub put_byte_at : Pages → ℕ → ℕ → Pages
 put_byte_at p a b = elim (cell p (a / 4)) [
   | None ↦ p
-  | Some i ↦ record p { words = slice_set p.words i (word_with_lane (slice_index p.words i) (a % 4) b) }
+  | Some i ↦ record p {
+    words = slice_set p.words i
+        (word_with_lane (slice_index p.words i) (a % 4) b);
+  }
 ]
 
 -- Each page's words are there, and no two pages share any.
@@ -60,6 +63,7 @@ no_memory = record { byte = λ a. None; writable = λ a. false }
 -- a memory with one more page
 abbrev pub with_page : Memory → ℕ → Bool → List ℕ → Memory
 with_page m page writable words = record {
-  byte = λ a. if a / 4096 == page then Some (lane_of_word (slice_index words (a / 4 % 1024)) (a % 4)) else m.byte a;
+  byte = λ a. if a / 4096 == page
+      then Some (lane_of_word (slice_index words (a / 4 % 1024)) (a % 4)) else m.byte a;
   writable = λ a. if a / 4096 == page then writable else m.writable a;
 }

@@ -8,7 +8,8 @@ use Rattle.guest_memory.specs.declared.page.Page.TheVariants.{Unmapped, ReadOnly
 use Rattle.guest_memory.specs.Pages.{Pages, place_of, is_writable, entry, cell, memory_of, put_byte_at}
 
 -- what a look for a word that may be written finds
-writable_place : (e : Page) (n : ℕ) → is_writable e ≡ true → (i : ℕ) × (option_map (λ k. k * 1024 + n % 1024) (place_of e) ≡ Some i)
+writable_place : (e : Page) (n : ℕ) → is_writable e ≡ true → (i : ℕ)
+    × (option_map (λ k. k * 1024 + n % 1024) (place_of e) ≡ Some i)
 writable_place Unmapped n w = cc
 writable_place (ReadOnly k) n w = cc
 writable_place (Writable k) n w = (k * 1024 + n % 1024, refl)
@@ -16,11 +17,15 @@ writable_place (Writable k) n w = (k * 1024 + n % 1024, refl)
 pub page_number : (a : ℕ) → a / 4 / 1024 ≡ a / 4096
 page_number a = omega arith
 
-pub cell-writable : (p : Pages) (a : ℕ) → (memory_of p).writable a ≡ true → (i : ℕ) × (cell p (a / 4) ≡ Some i)
+pub cell-writable : (p : Pages) (a : ℕ) → (memory_of p).writable a ≡ true → (i : ℕ)
+    × (cell p (a / 4) ≡ Some i)
 unfolding memory_of cell
-cell-writable p a w = writable_place (entry p (a / 4 / 1024)) (a / 4) (ap (λ n. is_writable (entry p n)) (page_number a) ∙ w)
+cell-writable p a w =
+    writable_place (entry p (a / 4 / 1024)) (a / 4)
+    (ap (λ n. is_writable (entry p n)) (page_number a) ∙ w)
 
-pub written_is_readable : (p : Pages) (a : ℕ) → IsTrue ((memory_of p).writable a) → IsTrue (is_some ((memory_of p).byte a))
+pub written_is_readable : (p : Pages) (a : ℕ) → IsTrue ((memory_of p).writable a)
+    → IsTrue (is_some ((memory_of p).byte a))
 unfolding memory_of
 written_is_readable p a w =
     let at = cell-writable p a w in
@@ -30,9 +35,13 @@ pub byte-past : (p : Pages) (a : ℕ) → 2 ^ 32 ≤ a → (memory_of p).byte a 
 unfolding memory_of cell entry
 byte-past p a h =
     let t : nat_lt (a / 4 / 1024) 524288 ≡ false = le-ltb (a / 4 / 1024) 524288 (omega arith) in
-    ap (λ t. option_map (λ w. lane_of_word w (a % 4)) (option_map (slice_index p.words) (option_map (λ k. k * 1024 + a / 4 % 1024) (place_of (if t then slice_index_or p.table (a / 4 / 1024) Unmapped else Unmapped))))) t
+    ap (λ t. option_map (λ w. lane_of_word w (a % 4))
+    (option_map (slice_index p.words)
+    (option_map (λ k. k * 1024 + a / 4 % 1024)
+    (place_of (if t then slice_index_or p.table (a / 4 / 1024) Unmapped else Unmapped))))) t
 
-same_some : (f g : ℕ → ℕ) (h k : ℕ → ℕ) (o : Option ℕ) → is_some (option_map f (option_map h o)) ≡ is_some (option_map g (option_map k o))
+same_some : (f g : ℕ → ℕ) (h k : ℕ → ℕ) (o : Option ℕ)
+    → is_some (option_map f (option_map h o)) ≡ is_some (option_map g (option_map k o))
 same_some f g h k None = refl
 same_some f g h k (Some i) = refl
 
@@ -40,25 +49,33 @@ put_none : (p : Pages) (a b : ℕ) → cell p (a / 4) ≡ None → put_byte_at p
 unfolding put_byte_at
 put_none p a b e = rw (e, put_byte_at) refl
 
-pub put_some : (p : Pages) (a b i : ℕ) → cell p (a / 4) ≡ Some i → put_byte_at p a b ≡ record p { words = slice_set p.words i (word_with_lane (slice_index p.words i) (a % 4) b) }
+pub put_some : (p : Pages) (a b i : ℕ) → cell p (a / 4) ≡ Some i
+    → put_byte_at p a b
+    ≡ record p { words = slice_set p.words i (word_with_lane (slice_index p.words i) (a % 4) b) }
 unfolding put_byte_at
 put_some p a b i e = rw (e, put_byte_at) refl
 
-put_keeps_cells : (p : Pages) (a b n : ℕ) (o : Option ℕ) → cell p (a / 4) ≡ o → cell (put_byte_at p a b) n ≡ cell p n
+put_keeps_cells : (p : Pages) (a b n : ℕ) (o : Option ℕ) → cell p (a / 4) ≡ o
+    → cell (put_byte_at p a b) n ≡ cell p n
 unfolding cell entry
 put_keeps_cells p a b n None e = ap (λ q. cell q n) (put_none p a b e)
 put_keeps_cells p a b n (Some i) e = ap (λ q. cell q n) (put_some p a b i e)
 
-pub readable_stays : (p : Pages) (a b x : ℕ) → is_some ((memory_of (put_byte_at p a b)).byte x) ≡ is_some ((memory_of p).byte x)
+pub readable_stays : (p : Pages) (a b x : ℕ) → is_some ((memory_of (put_byte_at p a b)).byte x)
+    ≡ is_some ((memory_of p).byte x)
 unfolding memory_of
 readable_stays p a b x =
-    rw (put_keeps_cells p a b (x / 4) (cell p (a / 4)) refl) (same_some (λ w. lane_of_word w (x % 4)) (λ w. lane_of_word w (x % 4)) (slice_index (put_byte_at p a b).words) (slice_index p.words) (cell p (x / 4)))
+    rw (put_keeps_cells p a b (x / 4) (cell p (a / 4)) refl)
+    (same_some (λ w. lane_of_word w (x % 4)) (λ w. lane_of_word w (x % 4))
+    (slice_index (put_byte_at p a b).words) (slice_index p.words) (cell p (x / 4)))
 
-put_keeps_pages : (p : Pages) (a b n : ℕ) (o : Option ℕ) → cell p (a / 4) ≡ o → entry (put_byte_at p a b) n ≡ entry p n
+put_keeps_pages : (p : Pages) (a b n : ℕ) (o : Option ℕ) → cell p (a / 4) ≡ o
+    → entry (put_byte_at p a b) n ≡ entry p n
 unfolding entry
 put_keeps_pages p a b n None e = ap (λ q. entry q n) (put_none p a b e)
 put_keeps_pages p a b n (Some i) e = ap (λ q. entry q n) (put_some p a b i e)
 
-pub writable_stays : (p : Pages) (a b x : ℕ) → (memory_of (put_byte_at p a b)).writable x ≡ (memory_of p).writable x
+pub writable_stays : (p : Pages) (a b x : ℕ) → (memory_of (put_byte_at p a b)).writable x
+    ≡ (memory_of p).writable x
 unfolding memory_of
 writable_stays p a b x = ap is_writable (put_keeps_pages p a b (x / 4096) (cell p (a / 4)) refl)

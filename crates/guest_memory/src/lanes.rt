@@ -33,7 +33,8 @@ pub(crate) fn from_word(name: LoadName, order: Order, place: u32, word: u32, old
 pub(crate) fn into_word(name: StoreName, order: Order, place: u32, word: u32, w: u32) -> u32
     requires place { place < 4 }
     requires aligned { IsTrue (store_aligned name place) }
-    ensures { (j : ℕ) → j < 4 → (stored name order (one_word word) place w).byte j ≡ Some (lane_of_word result j) }
+    ensures { (j : ℕ) → j < 4 → (stored name order (one_word word) place w).byte j
+        ≡ Some (lane_of_word result j) }
 {
     match name {
         StoreName::Sb => with_lane(word, place, lane(w, 3)),
@@ -98,7 +99,8 @@ fn big_half(word: u32, place: u32) -> u32
 fn with_half(order: Order, word: u32, place: u32, w: u32) -> u32
     requires place { place < 4 }
     requires aligned { IsTrue (store_aligned StoreName.Sh place) }
-    ensures { (j : ℕ) → j < 4 → (stored StoreName.Sh order (one_word word) place w).byte j ≡ Some (lane_of_word result j) }
+    ensures { (j : ℕ) → j < 4 → (stored StoreName.Sh order (one_word word) place w).byte j
+        ≡ Some (lane_of_word result j) }
 {
     match order {
         Order::Big => with_big_half(word, place, w),
@@ -111,7 +113,8 @@ fn with_half(order: Order, word: u32, place: u32, w: u32) -> u32
 fn with_big_half(word: u32, place: u32, w: u32) -> u32
     requires place { place < 4 }
     requires aligned { IsTrue (store_aligned StoreName.Sh place) }
-    ensures { (j : ℕ) → j < 4 → (stored StoreName.Sh Big (one_word word) place w).byte j ≡ Some (lane_of_word result j) }
+    ensures { (j : ℕ) → j < 4 → (stored StoreName.Sh Big (one_word word) place w).byte j
+        ≡ Some (lane_of_word result j) }
 {
     if place == 0 {
         (w << 16) + word % 0x1_0000
@@ -148,7 +151,8 @@ fn right(order: Order, word: u32, place: u32, old: u32) -> u32
 #[inline]
 fn with_left(order: Order, word: u32, place: u32, w: u32) -> u32
     requires { place < 4 }
-    ensures { (j : ℕ) → j < 4 → (stored StoreName.Swl order (one_word word) place w).byte j ≡ Some (lane_of_word result j) }
+    ensures { (j : ℕ) → j < 4 → (stored StoreName.Swl order (one_word word) place w).byte j
+        ≡ Some (lane_of_word result j) }
 {
     match order {
         Order::Big => up_to(w, 3 - place, word),
@@ -160,7 +164,8 @@ fn with_left(order: Order, word: u32, place: u32, w: u32) -> u32
 #[inline]
 fn with_right(order: Order, word: u32, place: u32, w: u32) -> u32
     requires { place < 4 }
-    ensures { (j : ℕ) → j < 4 → (stored StoreName.Swr order (one_word word) place w).byte j ≡ Some (lane_of_word result j) }
+    ensures { (j : ℕ) → j < 4 → (stored StoreName.Swr order (one_word word) place w).byte j
+        ≡ Some (lane_of_word result j) }
 {
     match order {
         Order::Big => from_on(w, 3 - place, word),

@@ -58,7 +58,8 @@ impl GuestMemory {
         requires low { page < 524288 }
         requires whole { length words.now ≡ 1024 }
         requires fresh { (memory_of self.old).byte (page * 4096) ≡ None }
-        ensures ok { OnOk result (memory_of self.new ≡ with_page (memory_of self.old) page writable words.now) }
+        ensures ok { OnOk result (memory_of self.new
+            ≡ with_page (memory_of self.old) page writable words.now) }
         ensures err { OnErr result (memory_of self.new ≡ memory_of self.old) }
     {
         // more than 2^32 pages are more than there is memory for
@@ -75,7 +76,8 @@ impl GuestMemory {
     #[inline]
     pub fn load(&self, name: LoadName, order: Order, at: u32, old: u32) -> Option<u32>
         requires { IsTrue (load_aligned name at) }
-        ensures { result ≡ (if is_none ((memory_of self.now).byte at) then None else Some (loaded name order (memory_of self.now) at old)) }
+        ensures { result ≡ (if is_none ((memory_of self.now).byte at) then None
+            else Some (loaded name order (memory_of self.now) at old)) }
     {
         match self.word_around(at) {
             Some(word) => Some(from_word(name, order, at % 4, word, old)),
@@ -89,7 +91,8 @@ impl GuestMemory {
     pub fn store(&mut self, name: StoreName, order: Order, at: u32, w: u32) -> bool
         requires { IsTrue (store_aligned name at) }
         ensures answer { result ≡ store_allowed name order (memory_of self.old) at }
-        ensures after { memory_of self.new ≡ (if result then stored name order (memory_of self.old) at w else memory_of self.old) }
+        ensures after { memory_of self.new
+            ≡ (if result then stored name order (memory_of self.old) at w else memory_of self.old) }
     {
         match self.writable_cell(at) {
             Some(cell) => {
@@ -114,7 +117,8 @@ impl GuestMemory {
     pub fn answer<V: Server>(&mut self, call: &Call, server: &mut V) -> Result<Option<i32>, IoFault>
         requires not_exit { call.now.number ≢ 1 }
         requires usable { V.usable server.old }
-        ensures served { Serves V.goes V.held V.fell with_byte (asked call.now (memory_of self.old)) server.old server.new (memory_of self.old) (memory_of self.new) result }
+        ensures served { Serves V.goes V.held V.fell with_byte (asked call.now (memory_of self.old))
+            server.old server.new (memory_of self.old) (memory_of self.new) result }
         ensures causes { Causes (V.faults server.old) (V.faults server.new) result }
         ensures none_falls { NoneFalls (V.faults server.old) (V.faults server.new) }
         ensures ready { IsTrue (V.ready server.old) → result ≢ Ok None }
@@ -161,7 +165,9 @@ impl GuestMemory {
     #[inline]
     #[tactic(auto, unfolding(crate::specs::Pages::cell, crate::specs::Pages::memory_of))]
     fn writable_cell(&self, at: u32) -> Option<usize>
-        ensures { MatchOption result ((memory_of self.now).writable at ≡ false) (λ i. ((memory_of self.now).writable at ≡ true) × (cell self.now (at / 4) ≡ Some i)) }
+        ensures { MatchOption result ((memory_of self.now).writable at
+            ≡ false) (λ i. ((memory_of self.now).writable at ≡ true)
+            × (cell self.now (at / 4) ≡ Some i)) }
     {
         match self.page(at >> 12) {
             Page::Writable(place) => Some(word_place(place, at)),
@@ -213,7 +219,8 @@ impl View for GuestMemory {
     fn put(&mut self, at: u32, b: u8) -> bool
         ensures answer { result ≡ (memory_of self.old).writable at }
         ensures after { self.new ≡ (if result then put_byte_at self.old at b else self.old) }
-        ensures alone { memory_of self.new ≡ (if result then with_byte (memory_of self.old) at b else memory_of self.old) }
+        ensures alone { memory_of self.new
+            ≡ (if result then with_byte (memory_of self.old) at b else memory_of self.old) }
     {
         match self.writable_cell(at) {
             Some(cell) => {
@@ -248,7 +255,8 @@ fn page_at(place: u32, writable: bool) -> Page
 /// A table of so many pages that are not there.
 fn no_pages(alloc: Global, n: usize) -> Result<Vec<Page>, NoMemory>
     ensures size { IfOk result (λ table. length table.items ≡ n) }
-    ensures empty { IfOk result (λ table. (i : ℕ) → slice_index_or table.items i Page.Unmapped ≡ Page.Unmapped) }
+    ensures empty { IfOk result (λ table. (i : ℕ)
+        → slice_index_or table.items i Page.Unmapped ≡ Page.Unmapped) }
 {
     vec![in alloc; Page::Unmapped; n]
 }

@@ -22,7 +22,11 @@ impl View for Cells {
 
     ghost content = { λ s. s.bytes };
 
-    ghost memory = { λ c. record { byte = λ a. if nat_lt a 4 then Some (slice_index c a) else None; writable = λ a. nat_lt a 3 } };
+    ghost memory = { λ c. record {
+      byte = λ a. if nat_lt a 4 then Some (slice_index c a)
+          else None;
+      writable = λ a. nat_lt a 3;
+    } };
 
     ghost put_at = { λ c a b. slice_set c a b };
 
@@ -88,10 +92,10 @@ impl Machine for Reader {
 
     ghost use Rattle.guest_tests.specs.declared.small_machine.TheConstants.{READ, LEAVE};
 
-    ghost turn = { λ s.
-        let cells = ⟦<Cells as View>⟧.memory s.2 in
-        if s.0 == 0 then moves (1, s.1, s.2)
-        else if s.0 == 1 then asks (asked READ cells) (λ a. (2, a.value, answered slice_set s.2 (asked READ cells) a.patch))
+    ghost turn = { λ s. let cells = ⟦<Cells as View>⟧.memory s.2 in
+        if s.0 == 0 then moves (1, s.1, s.2) else if s.0 == 1
+        then asks (asked READ cells)
+        (λ a. (2, a.value, answered slice_set s.2 (asked READ cells) a.patch))
         else leaves (asked LEAVE cells) (exit s.1) };
 
     ghost has_ended = { λ m. m.ended };

@@ -9,7 +9,7 @@ use Rattle.std.specs.Vec.{with_items}
 use lib.Seq.{paste}
 use borrow.Rule.Slice.PartMut.{put_mid}
 use Rattle.int_region.specs.Arrays.{Block, Contents, used_by, array_at, IsLive, kind_in, kind_at, values_in, values_at, zeros, with_element, with_value, IsSound}
-use Rattle.int_region.specs.Kept.{words_of, spelled, read_after, contents_of, IsKept}
+use Rattle.int_region.specs.Kept.{words_of, spelled, read_after, contents_of, IsKeptRegion}
 use Rattle.int_region.proofs.ArrayLemmas.{stands, live_within, used_by-added, IsSound-added, IsSound-with_value, IsSound-take, used_by-with_value}
 
 abbrev pub region : ℕ → List Block → Contents
@@ -42,7 +42,7 @@ pub contents_of-spelled : (words : List ℕ) (used : ℕ) (arrays : List Block) 
 contents_of-spelled words used arrays rest is uses =
     ap (λ l. region (length words) l) (ap (λ l. read_after 0 l) (front_of words used arrays rest is uses) ∙ read_after-spelled arrays)
 
-pub IsKept-spelled : (words : List ℕ) (used : ℕ) (arrays : List Block) (rest : List ℕ) → words ≡ spelled arrays ++ rest → used_by arrays ≡ used → IsSound (region (length words) arrays) → IsKept words used
+pub IsKept-spelled : (words : List ℕ) (used : ℕ) (arrays : List Block) (rest : List ℕ) → words ≡ spelled arrays ++ rest → used_by arrays ≡ used → IsSound (region (length words) arrays) → IsKeptRegion words used
 IsKept-spelled words used arrays rest is uses sound =
     let same = contents_of-spelled words used arrays rest is uses in
     record {
@@ -55,10 +55,10 @@ IsKept-spelled words used arrays rest is uses sound =
 abbrev pub arrays_of : List ℕ → ℕ → List Block
 arrays_of words used = (contents_of words used).arrays
 
-pub used_of : (words : List ℕ) (used : ℕ) → IsKept words used → used_by (arrays_of words used) ≡ used
+pub used_of : (words : List ℕ) (used : ℕ) → IsKeptRegion words used → used_by (arrays_of words used) ≡ used
 used_of words used h = sym (length-spelled (arrays_of words used)) ∙ (ap length h.is_spelled ∙ length-take-le used words h.is_used)
 
-pub words_are : (words : List ℕ) (used : ℕ) → IsKept words used → words ≡ spelled (arrays_of words used) ++ drop used words
+pub words_are : (words : List ℕ) (used : ℕ) → IsKeptRegion words used → words ≡ spelled (arrays_of words used) ++ drop used words
 words_are words used h = sym (ap (λ l. l ++ drop used words) h.is_spelled ∙ take-append-drop used words)
 
 spelled_around : (before after : List Block) (here : Block) (more : List ℕ) → spelled (before ++ here ∷ after) ++ more ≡ spelled before ++ (words_of here ++ (spelled after ++ more))
@@ -75,7 +75,7 @@ pub record StandsIn (words : List ℕ) (arrays : List Block) (p : ℕ) : Type 0 
   pub place : length front ≡ p
   pub found : array_at arrays p ≡ Some here
 
-stands_in : (words : List ℕ) (used p : ℕ) → IsKept words used → IsLive (arrays_of words used) p → StandsIn words (arrays_of words used) p
+stands_in : (words : List ℕ) (used p : ℕ) → IsKeptRegion words used → IsLive (arrays_of words used) p → StandsIn words (arrays_of words used) p
 stands_in words used p h live =
     let s = stands (arrays_of words used) 0 p live in
     record {
@@ -88,7 +88,7 @@ stands_in words used p h live =
     }
 
 -- so a word at its place is its kind, the next its length, and then come its values
-pub live_room : (words : List ℕ) (used p : ℕ) → IsKept words used → IsLive (arrays_of words used) p → p + (length (values_at (arrays_of words used) p) + 2) ≤ length words
+pub live_room : (words : List ℕ) (used p : ℕ) → IsKeptRegion words used → IsLive (arrays_of words used) p → p + (length (values_at (arrays_of words used) p) + 2) ≤ length words
 live_room words used p h live = omega (arith, live_within (arrays_of words used) p live, used_of words used h, h.is_used)
 
 kind_read : (words : List ℕ) (arrays : List Block) (p x : ℕ) → StandsIn words arrays p → x ≡ get_or words p x → x ≡ kind_at arrays p
@@ -103,15 +103,15 @@ word_read words arrays p n x s read =
     read ∙ (ap (λ l. get_or l (p + n) x) s.is
     ∙ (get_or-append_right s.front (words_of s.here ++ s.rest) p (p + n) x s.place (omega arith) ∙ ap (λ k. get_or (words_of s.here ++ s.rest) k x) after))
 
-pub kind_kept : (words : List ℕ) (used p x : ℕ) → IsKept words used → IsLive (arrays_of words used) p → x ≡ get_or words p x → x ≡ kind_at (arrays_of words used) p
+pub kind_kept : (words : List ℕ) (used p x : ℕ) → IsKeptRegion words used → IsLive (arrays_of words used) p → x ≡ get_or words p x → x ≡ kind_at (arrays_of words used) p
 kind_kept words used p x h live read = kind_read words (arrays_of words used) p x (stands_in words used p h live) read
 
-pub len_kept : (words : List ℕ) (used p x : ℕ) → IsKept words used → IsLive (arrays_of words used) p → x ≡ get_or words (p + 1) x → x ≡ length (values_at (arrays_of words used) p)
+pub len_kept : (words : List ℕ) (used p x : ℕ) → IsKeptRegion words used → IsLive (arrays_of words used) p → x ≡ get_or words (p + 1) x → x ≡ length (values_at (arrays_of words used) p)
 len_kept words used p x h live read =
     let s = stands_in words used p h live in
     word_read words (arrays_of words used) p 1 x s read ∙ sym (ap (λ o. length (values_in o)) s.found)
 
-pub value_kept : (words : List ℕ) (used p i x : ℕ) → IsKept words used → IsLive (arrays_of words used) p → i < length (values_at (arrays_of words used) p) → x ≡ get_or words (p + 2 + i) x → x ≡ get_or (values_at (arrays_of words used) p) i 0
+pub value_kept : (words : List ℕ) (used p i x : ℕ) → IsKeptRegion words used → IsLive (arrays_of words used) p → i < length (values_at (arrays_of words used) p) → x ≡ get_or words (p + 2 + i) x → x ≡ get_or (values_at (arrays_of words used) p) i 0
 value_kept words used p i x h live within read =
     let s = stands_in words used p h live in
     let sum : p + 2 + i ≡ p + suc (suc i) = omega arith in
@@ -131,7 +131,7 @@ set_words front values rest kind p i v place within =
     ∙ (ap (λ l. front ++ (kind ∷ length values ∷ l)) (set-append_left values rest i v within)
     ∙ ap (λ n. front ++ (kind ∷ n ∷ (set values i v ++ rest))) (sym (length-set values i v))))
 
-put_words : (words : List ℕ) (used p i v : ℕ) → IsKept words used → IsLive (arrays_of words used) p → i < length (values_at (arrays_of words used) p) → set words (p + 2 + i) v ≡ spelled (with_value (arrays_of words used) p i v) ++ drop used words
+put_words : (words : List ℕ) (used p i v : ℕ) → IsKeptRegion words used → IsLive (arrays_of words used) p → i < length (values_at (arrays_of words used) p) → set words (p + 2 + i) v ≡ spelled (with_value (arrays_of words used) p i v) ++ drop used words
 put_words words used p i v h live within =
     let s = stands (arrays_of words used) 0 p live in
     let short : i < length s.here.values = subst (λ o. i < length (values_in o)) s.found within in
@@ -140,49 +140,49 @@ put_words words used p i v h live within =
     ∙ (set_words (spelled s.before) s.here.values (spelled s.after ++ drop used words) s.here.kind p i v place short
     ∙ (sym (spelled_around s.before s.after (with_element i v s.here) (drop used words)) ∙ ap (λ l. spelled l ++ drop used words) (sym (s.written i v))))
 
-pub contents_of-put : (words : List ℕ) (used p i v : ℕ) → IsKept words used → IsLive (arrays_of words used) p → i < length (values_at (arrays_of words used) p) → contents_of (set words (p + 2 + i) v) used ≡ region (length words) (with_value (arrays_of words used) p i v)
+pub contents_of-put : (words : List ℕ) (used p i v : ℕ) → IsKeptRegion words used → IsLive (arrays_of words used) p → i < length (values_at (arrays_of words used) p) → contents_of (set words (p + 2 + i) v) used ≡ region (length words) (with_value (arrays_of words used) p i v)
 contents_of-put words used p i v h live within =
     contents_of-spelled (set words (p + 2 + i) v) used (with_value (arrays_of words used) p i v) (drop used words) (put_words words used p i v h live within) (used_by-with_value (arrays_of words used) p i v ∙ used_of words used h)
     ∙ ap (λ n. region n (with_value (arrays_of words used) p i v)) (length-set words (p + 2 + i) v)
 
-pub IsKept-put : (words : List ℕ) (used p i v : ℕ) → IsKept words used → IsLive (arrays_of words used) p → i < length (values_at (arrays_of words used) p) → IsKept (set words (p + 2 + i) v) used
+pub IsKept-put : (words : List ℕ) (used p i v : ℕ) → IsKeptRegion words used → IsLive (arrays_of words used) p → i < length (values_at (arrays_of words used) p) → IsKeptRegion (set words (p + 2 + i) v) used
 IsKept-put words used p i v h live within =
     let arrays = with_value (arrays_of words used) p i v in
     let sound = IsSound-with_value (length words) (arrays_of words used) p i v h.sound in
     IsKept-spelled (set words (p + 2 + i) v) used arrays (drop used words) (put_words words used p i v h live within) (used_by-with_value (arrays_of words used) p i v ∙ used_of words used h) (subst (λ n. IsSound (region n arrays)) (sym (length-set words (p + 2 + i) v)) sound)
 
 -- a new array behind the others
-added_words : (words : List ℕ) (used : ℕ) (b : Block) (rest : List ℕ) → IsKept words used → take used words ++ (words_of b ++ rest) ≡ spelled (arrays_of words used ++ b ∷ []) ++ rest
+added_words : (words : List ℕ) (used : ℕ) (b : Block) (rest : List ℕ) → IsKeptRegion words used → take used words ++ (words_of b ++ rest) ≡ spelled (arrays_of words used ++ b ∷ []) ++ rest
 added_words words used b rest h =
     ap (λ l. l ++ (words_of b ++ rest)) (sym h.is_spelled) ∙ sym (spelled_around (arrays_of words used) [] b rest)
 
-used_till : (words : List ℕ) (used end kind len : ℕ) → end ≡ used + (len + 2) → IsKept words used → used_by (arrays_of words used ++ zeros kind len ∷ []) ≡ end
+used_till : (words : List ℕ) (used end kind len : ℕ) → end ≡ used + (len + 2) → IsKeptRegion words used → used_by (arrays_of words used ++ zeros kind len ∷ []) ≡ end
 used_till words used end kind len till h = omega (arith, used_by-added (arrays_of words used) (zeros kind len), length-replicate {A = ℕ} len 0, used_of words used h)
 
-pub contents_of-added : (words more : List ℕ) (used end kind len : ℕ) (rest : List ℕ) → more ≡ take used words ++ (words_of (zeros kind len) ++ rest) → length more ≡ length words → end ≡ used + (len + 2) → IsKept words used → contents_of more end ≡ region (length words) (arrays_of words used ++ zeros kind len ∷ [])
+pub contents_of-added : (words more : List ℕ) (used end kind len : ℕ) (rest : List ℕ) → more ≡ take used words ++ (words_of (zeros kind len) ++ rest) → length more ≡ length words → end ≡ used + (len + 2) → IsKeptRegion words used → contents_of more end ≡ region (length words) (arrays_of words used ++ zeros kind len ∷ [])
 contents_of-added words more used end kind len rest is same till h =
     let arrays = arrays_of words used ++ zeros kind len ∷ [] in
     contents_of-spelled more end arrays rest (is ∙ added_words words used (zeros kind len) rest h) (used_till words used end kind len till h)
     ∙ ap (λ n. region n arrays) same
 
-pub IsKept-added : (words more : List ℕ) (used end kind len : ℕ) (rest : List ℕ) → more ≡ take used words ++ (words_of (zeros kind len) ++ rest) → length more ≡ length words → end ≡ used + (len + 2) → end ≤ length words → kind < 2 → IsKept words used → IsKept more end
+pub IsKept-added : (words more : List ℕ) (used end kind len : ℕ) (rest : List ℕ) → more ≡ take used words ++ (words_of (zeros kind len) ++ rest) → length more ≡ length words → end ≡ used + (len + 2) → end ≤ length words → kind < 2 → IsKeptRegion words used → IsKeptRegion more end
 IsKept-added words more used end kind len rest is same till room low h =
     let arrays = arrays_of words used ++ zeros kind len ∷ [] in
     let sound = IsSound-added (length words) (arrays_of words used) kind len low (omega (arith, used_of words used h)) h.sound in
     IsKept-spelled more end arrays rest (is ∙ added_words words used (zeros kind len) rest h) (used_till words used end kind len till h) (subst (λ n. IsSound (region n arrays)) (sym same) sound)
 
 -- the first of the arrays
-taken_words : (words : List ℕ) (used k : ℕ) → IsKept words used → words ≡ spelled (take k (arrays_of words used)) ++ (spelled (drop k (arrays_of words used)) ++ drop used words)
+taken_words : (words : List ℕ) (used k : ℕ) → IsKeptRegion words used → words ≡ spelled (take k (arrays_of words used)) ++ (spelled (drop k (arrays_of words used)) ++ drop used words)
 taken_words words used k h =
     let arrays = arrays_of words used in
     words_are words used h
     ∙ (ap (λ l. spelled l ++ drop used words) (sym (take-append-drop k arrays))
     ∙ (ap (λ l. l ++ drop used words) (spelled-append (take k arrays) (drop k arrays)) ∙ append_assoc (spelled (take k arrays)) (spelled (drop k arrays)) (drop used words)))
 
-pub contents_of-taken : (words : List ℕ) (used k m : ℕ) → used_by (take k (arrays_of words used)) ≡ m → IsKept words used → contents_of words m ≡ region (length words) (take k (arrays_of words used))
+pub contents_of-taken : (words : List ℕ) (used k m : ℕ) → used_by (take k (arrays_of words used)) ≡ m → IsKeptRegion words used → contents_of words m ≡ region (length words) (take k (arrays_of words used))
 contents_of-taken words used k m uses h = contents_of-spelled words m (take k (arrays_of words used)) (spelled (drop k (arrays_of words used)) ++ drop used words) (taken_words words used k h) uses
 
-pub IsKept-taken : (words : List ℕ) (used k m : ℕ) → used_by (take k (arrays_of words used)) ≡ m → IsKept words used → IsKept words m
+pub IsKept-taken : (words : List ℕ) (used k m : ℕ) → used_by (take k (arrays_of words used)) ≡ m → IsKeptRegion words used → IsKeptRegion words m
 IsKept-taken words used k m uses h = IsKept-spelled words m (take k (arrays_of words used)) (spelled (drop k (arrays_of words used)) ++ drop used words) (taken_words words used k h) uses (IsSound-take (length words) (arrays_of words used) k h.sound)
 
 -- what is written over the words that a new array is to use

@@ -61,7 +61,8 @@ with_element i v b = record b { values = slice_set b.values i v }
 abbrev pub with_value_from : ℕ → List Block → ℕ → ℕ → ℕ → List Block
 with_value_from first [] p i v = []
 with_value_from first (b ∷ rest) p i v =
-    if p == first then (with_element i v b ∷ rest) else (b ∷ with_value_from (first + weight b) rest p i v)
+    if p == first then (with_element i v b ∷ rest)
+    else (b ∷ with_value_from (first + weight b) rest p i v)
 
 abbrev pub with_value : List Block → ℕ → ℕ → ℕ → List Block
 with_value arrays p i v = with_value_from 0 arrays p i v

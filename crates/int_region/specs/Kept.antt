@@ -16,14 +16,15 @@ abbrev pub read_after : ℕ → List ℕ → List Block
 read_after n [] = []
 read_after (suc n) (w ∷ words) = read_after n words
 read_after zero (kind ∷ []) = []
-read_after zero (kind ∷ len ∷ words) = record { kind = kind; values = take len words } ∷ read_after len words
+read_after zero (kind ∷ len ∷ words) = record { kind = kind; values = take len words }
+    ∷ read_after len words
 
 -- the region that is kept in these words, of which so many are used
 abbrev pub contents_of : List ℕ → ℕ → Contents
 contents_of words used = record { size = length words; arrays = read_after 0 (take used words) }
 
 -- what is always true of what is kept
-pub record IsKept (words : List ℕ) (used : ℕ) : Type 0 where
+pub record IsKeptRegion (words : List ℕ) (used : ℕ) : Type 0 where
   pub is_spelled : spelled (contents_of words used).arrays ≡ take used words
   pub is_used : used ≤ length words
   pub sound : IsSound (contents_of words used)

@@ -33,13 +33,13 @@ pub struct Region {
 
 impl Model for Region {
     ghost use Rattle.int_region.specs.Arrays.{Contents};
-    ghost use Rattle.int_region.specs.Kept.{contents_of, IsKept};
+    ghost use Rattle.int_region.specs.Kept.{contents_of, IsKeptRegion};
 
     ghost Value = { Contents };
 
     ghost view = { λ a. contents_of a.words.items a.used };
 
-    ghost invariant = { λ a. IsKept a.words.items a.used };
+    ghost invariant = { λ a. IsKeptRegion a.words.items a.used };
 }
 
 impl Region {
@@ -58,7 +58,8 @@ impl Region {
     pub fn array(&mut self, kind: u32, len: u32) -> Result<Place, Full>
         requires { kind < 2 }
         ensures place { IfOk result (λ p. p.0 ≡ used_by self.old.arrays) }
-        ensures added { OnOk result (self.new ≡ record self.old { arrays = self.old.arrays ++ zeros kind len ∷ [] }) }
+        ensures added { OnOk result (self.new
+            ≡ record self.old { arrays = self.old.arrays ++ zeros kind len ∷ [] }) }
         ensures made { IfOk result (λ p. array_at self.new.arrays p.0 ≡ Some (zeros kind len)) }
         ensures full { IsErr result ↔ (self.old.size < used_by self.old.arrays + (len + 2)) }
         ensures err { OnErr result (self.new ≡ self.old) }
@@ -103,7 +104,8 @@ impl Region {
     pub fn put(&mut self, p: Place, i: u32, v: u32)
         requires live { IsLive self.old.arrays p.0 }
         requires within { i < length (values_at self.old.arrays p.0) }
-        ensures changed { self.new ≡ record self.old { arrays = with_value self.old.arrays p.0 i v } }
+        ensures changed { self.new
+            ≡ record self.old { arrays = with_value self.old.arrays p.0 i v } }
         ensures sound { IsSound self.new }
     {
         self.words[p.0 as usize + 2 + i as usize] = v;
@@ -135,7 +137,8 @@ impl Region {
     pub fn release(&mut self, m: Mark)
         requires { IsMark self.old.arrays m.0 }
         ensures size { self.new.size ≡ self.old.size }
-        ensures kept { (k : ℕ) → used_by (take k self.old.arrays) ≡ m.0 → self.new.arrays ≡ take k self.old.arrays }
+        ensures kept { (k : ℕ) → used_by (take k self.old.arrays) ≡ m.0
+            → self.new.arrays ≡ take k self.old.arrays }
         ensures used { used_by self.new.arrays ≡ m.0 }
         ensures sound { IsSound self.new }
     {

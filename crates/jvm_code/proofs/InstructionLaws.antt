@@ -2,6 +2,17 @@
 use Rattle.std.proofs.Common.{◌≡◌, ℕ, ◌^◌, ◌%◌, ◌<◌, Bool, true, false, cond, eqb, List, [], ◌∷◌, ◌++◌, length, Option, Some, None, Ok, Err, refl, sym, ap, subst, ◌∙◌, arith, lit<}
 use Rattle.std.specs.Int.{w8, w16, to_be_bytes}
 use Rattle.std.proofs.lemmas.Bool.{eqb-true, lt-ltb, ltb-true}
+use Rattle.jvm_names.specs.declared.array_name.ArrayName.TheVariants.{Iaload, Aaload, Iastore, Aastore}
+use Rattle.jvm_names.specs.declared.stack_name.StackName.TheVariants.{Pop, Pop2, Dup, DupX1, DupX2, Dup2, Swap}
+use Rattle.jvm_names.specs.declared.int_arithmetic.IntArithmetic.TheVariants.{Iadd, Isub, Imul, Iand, Ior, Ixor}
+use Rattle.jvm_names.specs.declared.int_division.IntDivision.TheVariants.{Idiv, Irem}
+use Rattle.jvm_names.specs.declared.int_shift.IntShift.TheVariants.{Ishl, Ishr, Iushr}
+use Rattle.jvm_names.specs.declared.long_arithmetic.LongArithmetic.TheVariants.{Ladd, Lmul, Land}
+use Rattle.jvm_names.specs.declared.long_division.LongDivision.TheVariants.{Ldiv, Lrem}
+use Rattle.jvm_names.specs.declared.long_shift.LongShift.TheVariants.{Lshl, Lshr, Lushr}
+use Rattle.jvm_names.specs.declared.conversion.Conversion.TheVariants.{I2l, L2i, I2b, I2c, I2s}
+use Rattle.jvm_names.specs.declared.return_name.ReturnName.TheVariants.{Ireturn, Return}
+use Rattle.jvm_names.specs.declared.branch_name.BranchName.TheVariants.{Ifeq, Ifne, Iflt, Ifge, Ifgt, Ifle, IfIcmpeq, IfIcmpne, IfIcmplt, IfIcmpge, IfIcmpgt, IfIcmple, Goto, Ifnull, Ifnonnull}
 use Rattle.class_format.specs.declared.miss.Miss.{Miss}
 use Rattle.class_format.specs.Format.{Format, Reading, signed}
 use Rattle.class_format.specs.Laws.{IsBytes, Begins, IsFormat}
@@ -13,18 +24,7 @@ use Rattle.class_format.proofs.Parts.{exactly_law}
 use Rattle.jvm_code.specs.declared.op.Op.{Op}
 use Rattle.jvm_code.specs.declared.op.Op.TheVariants.{Nop, AconstNull, Iconst, Bipush, Sipush, Ldc, Pool, Local, ShortLocal, Array, Stack, IntArithmetic, IntDivision, IntShift, LongArithmetic, LongDivision, LongShift, Iinc, Convert, Lcmp, Branch, GotoW, TableSwitch, LookupSwitch, Give, Newarray, Arraylength}
 use Rattle.jvm_code.specs.declared.names.iconst.Iconst.TheVariants as iconsts
-use Rattle.jvm_code.specs.declared.names.array_name.ArrayName.TheVariants.{Iaload, Aaload, Iastore, Aastore}
-use Rattle.jvm_code.specs.declared.names.stack_name.StackName.TheVariants.{Pop, Pop2, Dup, DupX1, DupX2, Dup2, Swap}
-use Rattle.jvm_code.specs.declared.names.int_arithmetic.IntArithmetic.TheVariants.{Iadd, Isub, Imul, Iand, Ior, Ixor}
-use Rattle.jvm_code.specs.declared.names.int_division.IntDivision.TheVariants.{Idiv, Irem}
-use Rattle.jvm_code.specs.declared.names.int_shift.IntShift.TheVariants.{Ishl, Ishr, Iushr}
-use Rattle.jvm_code.specs.declared.names.long_arithmetic.LongArithmetic.TheVariants.{Ladd, Lmul, Land}
-use Rattle.jvm_code.specs.declared.names.long_division.LongDivision.TheVariants.{Ldiv, Lrem}
-use Rattle.jvm_code.specs.declared.names.long_shift.LongShift.TheVariants.{Lshl, Lshr, Lushr}
-use Rattle.jvm_code.specs.declared.names.conversion.Conversion.TheVariants.{I2l, L2i, I2b, I2c, I2s}
-use Rattle.jvm_code.specs.declared.names.return_name.ReturnName.TheVariants.{Ireturn, Return}
 use Rattle.jvm_code.specs.declared.names.local_name.LocalName.TheVariants.{Iload, Aload, Istore, Astore}
-use Rattle.jvm_code.specs.declared.names.branch_name.BranchName.TheVariants.{Ifeq, Ifne, Iflt, Ifge, Ifgt, Ifle, IfIcmpeq, IfIcmpne, IfIcmplt, IfIcmpge, IfIcmpgt, IfIcmple, Goto, Ifnull, Ifnonnull}
 use Rattle.jvm_code.specs.declared.names.pool_name.PoolName.TheVariants.{LdcW, Ldc2W, Getstatic, Putstatic, Invokevirtual, Invokestatic, Anewarray}
 use Rattle.jvm_code.specs.declared.names.short_index.ShortIndex.TheVariants.{Zero, One, Two, Three}
 use Rattle.jvm_code.specs.Opcodes.{row_of, plain_of, local_names, branch_names, pool_names}

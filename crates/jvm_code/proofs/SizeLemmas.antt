@@ -3,11 +3,11 @@ use Rattle.std.proofs.Common.{◌≡◌, ℕ, ℤ, suc, ◌+◌, ◌*◌, ◌^�
 use Rattle.std.specs.Int.{w8, w16, w32}
 use Rattle.std.proofs.lemmas.Bool.{and_parts}
 use Rattle.std.proofs.lemmas.List.{length-append, length-replicate}
+use Rattle.jvm_names.specs.declared.pair.Pair.{Pair}
+use Rattle.jvm_names.specs.declared.table_switch.TableSwitch.{TableSwitch}
+use Rattle.jvm_names.specs.declared.lookup_switch.LookupSwitch.{LookupSwitch}
 use Rattle.class_format.specs.Format.{Format, number, repeated, signed, chain_spelling, chain_fits, tested, unless, is_sound}
 use Rattle.class_format.proofs.FieldLaws.{wide8, wide16, wide32}
-use Rattle.jvm_code.specs.declared.pair.Pair.{Pair}
-use Rattle.jvm_code.specs.declared.table_switch.TableSwitch.{TableSwitch}
-use Rattle.jvm_code.specs.declared.lookup_switch.LookupSwitch.{LookupSwitch}
 use Rattle.jvm_code.specs.declared.op.Op.{Op}
 use Rattle.jvm_code.specs.declared.op.Op.TheVariants as ops
 use Rattle.jvm_code.specs.Targets.{cut, near, wide, switch_keys}

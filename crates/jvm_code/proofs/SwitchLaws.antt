@@ -3,19 +3,19 @@ use Rattle.std.proofs.Common.{◌≡◌, ℕ, ℤ, pos, negsuc, ◌^◌, ◌<◌
 use Rattle.std.specs.Int.{w32}
 use Rattle.std.proofs.lemmas.Int.{ints}
 use Rattle.std.proofs.lemmas.Bool.{and_parts, eqb-true, ltb-true}
+use Rattle.std.proofs.lemmas.Option.{same_Some}
+use Rattle.jvm_names.specs.declared.pair.Pair.{Pair}
+use Rattle.jvm_names.specs.declared.table_switch.TableSwitch.{TableSwitch}
+use Rattle.jvm_names.specs.declared.lookup_switch.LookupSwitch.{LookupSwitch}
 use Rattle.class_format.specs.Format.{number, raw, both, repeated, tested, unless, is_sound, signed}
 use Rattle.class_format.specs.Laws.{IsFormat}
 use Rattle.class_format.proofs.FieldLaws.{wide32, number_law, raw_law}
 use Rattle.class_format.proofs.Signed.{signed32, signed_law}
 use Rattle.class_format.proofs.Combined.{both_law, repeated_law, mapped_law, tested_law}
 use Rattle.class_format.proofs.Parts.{passes}
-use Rattle.jvm_code.specs.declared.pair.Pair.{Pair}
-use Rattle.jvm_code.specs.declared.table_switch.TableSwitch.{TableSwitch}
-use Rattle.jvm_code.specs.declared.lookup_switch.LookupSwitch.{LookupSwitch}
 use Rattle.jvm_code.specs.Targets.{cut, switch_keys, wide}
 use Rattle.jvm_code.specs.Switches.{pad_of, is_padding, keys_in, TableHead, table_count, table_head, last_key, table_switch, LookupHead, lookup_head, pair, rises, lookup_switch}
 use Rattle.jvm_code.proofs.TargetLaws.{wide_law}
-use Rattle.std.proofs.lemmas.Option.{same_Some}
 
 -- padding is zeros
 padding_is : (bytes : List ℕ) (n : ℕ) → is_padding bytes ≡ true → length bytes ≡ n → bytes ≡ replicate n 0

@@ -2,13 +2,13 @@
 use Rattle.std.proofs.Common.{◌≡◌, ℕ, true, false, cond, eqb, List, [], ◌∷◌, Option, Some, None, refl, subst, inl, inr, ◌⊎◌}
 use Rattle.std.specs.Option.{option_or}
 use Rattle.std.proofs.lemmas.Bool.{eqb-true}
+use Rattle.std.proofs.lemmas.Option.{same_Some}
+use Rattle.jvm_names.specs.declared.branch_name.BranchName.{BranchName}
 use Rattle.jvm_code.specs.declared.op.Op.{Op}
 use Rattle.jvm_code.specs.declared.names.local_name.LocalName.{LocalName}
-use Rattle.jvm_code.specs.declared.names.branch_name.BranchName.{BranchName}
 use Rattle.jvm_code.specs.declared.names.pool_name.PoolName.{PoolName}
 use Rattle.jvm_code.specs.Opcodes.{row_of, constants, short_locals, moves, arithmetic, others, plain_of, local_names, branch_names, pool_names, local_name_opcode, branch_name_opcode, pool_name_opcode}
 use Rattle.jvm_code.specs.Instructions.{opcode, operand_bytes, operands_fit}
-use Rattle.std.proofs.lemmas.Option.{same_Some}
 
 -- an instruction of an opcode, without operands
 abbrev pub IsPlain : ℕ → Op → Type 0

@@ -2,12 +2,12 @@
 use Rattle.std.proofs.Common.{◌≡◌, ℕ, ℤ, ◌^◌, ◌<◌, ◌&&◌, Bool, true, false, cond, ltb, eqb, List, ◌++◌, length, replicate, Option, Some, None, refl, append_assoc}
 use Rattle.std.specs.Int.{Width, w32, byte_len, to_be_bytes, cast_signed, cast_unsigned}
 use Rattle.std.proofs.lemmas.Bool.{and_parts, ltb-true}
+use Rattle.jvm_names.specs.declared.pair.Pair.{Pair}
+use Rattle.jvm_names.specs.declared.table_switch.TableSwitch.{TableSwitch}
+use Rattle.jvm_names.specs.declared.lookup_switch.LookupSwitch.{LookupSwitch}
 use Rattle.class_format.specs.Format.{number, repeated, tested, signed, spelled_by, fits_by, fits_signed, chain_spelling, unless, is_sound}
 use Rattle.class_format.proofs.FieldLaws.{IsWide}
 use Rattle.class_format.proofs.Signed.{signed32}
-use Rattle.jvm_code.specs.declared.pair.Pair.{Pair}
-use Rattle.jvm_code.specs.declared.table_switch.TableSwitch.{TableSwitch}
-use Rattle.jvm_code.specs.declared.lookup_switch.LookupSwitch.{LookupSwitch}
 use Rattle.jvm_code.specs.Targets.{cut, switch_keys, wide}
 use Rattle.jvm_code.specs.Switches.{pad_of, is_padding, last_key, TableHead, table_head, table_count, LookupHead, lookup_head, pair, rises, table_switch, lookup_switch}
 

@@ -22,7 +22,8 @@ abbrev pub LinesFrom : ℕ → List ℕ → List Line → Type 0
 LinesFrom at code [] = code ≡ []
 LinesFrom at code (l ∷ lines) =
     (l.at ≡ at) × ((instruction at).fits l.op ≡ true)
-    × ((rest : List ℕ) × (code ≡ (instruction at).spell l.op ++ rest) × LinesFrom (at + length ((instruction at).spell l.op)) rest lines)
+    × ((rest : List ℕ) × (code ≡ (instruction at).spell l.op ++ rest)
+    × LinesFrom (at + length ((instruction at).spell l.op)) rest lines)
 
 abbrev pub Lines : List ℕ → List Line → Type 0
 Lines code lines = LinesFrom 0 code lines
@@ -33,7 +34,8 @@ abbrev pub behind_line : Line → Result (List Line) Miss → Result (List Line)
 behind_line l (Ok lines) = Ok (l ∷ lines)
 behind_line l (Err miss) = Err miss
 
-abbrev pub then_lines : (Op × List ℕ → Result (List Line) Miss) → Reading Op → Result (List Line) Miss
+abbrev pub then_lines : (Op × List ℕ → Result (List Line) Miss) → Reading Op
+    → Result (List Line) Miss
 then_lines f (Ok x) = f x
 then_lines f (Err miss) = Err miss
 
@@ -42,7 +44,8 @@ unfoldable pub lines_from : ℕ → ℕ → List ℕ → Result (List Line) Miss
 lines_from size zero bytes = Ok []
 lines_from size (suc n) bytes =
     if length bytes == 0 then Ok []
-    else then_lines (λ x. behind_line (record { at = size - length bytes; op = x.0 }) (lines_from size n x.1)) ((instruction (size - length bytes)).read bytes)
+    else then_lines (λ x. behind_line (record { at = size - length bytes; op = x.0 })
+    (lines_from size n x.1)) ((instruction (size - length bytes)).read bytes)
 
 -- the offsets to which an instruction may go, but for the next one
 abbrev pub targets_of : Op → List ℕ

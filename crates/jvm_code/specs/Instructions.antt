@@ -109,7 +109,8 @@ operands at opcode bytes =
     chosen (plain_of opcode) (λ op. Ok (op, bytes))
     (chosen (row_of opcode local_names) (λ name. made (Local name) byte bytes)
     (chosen (row_of opcode branch_names) (λ name. made (Branch name) (near at) bytes)
-    (chosen (row_of opcode pool_names) (λ name. made (Pool name) half bytes) (single at opcode bytes))))
+    (chosen (row_of opcode pool_names) (λ name. made (Pool name) half bytes)
+    (single at opcode bytes))))
 
 -- an opcode and its operands
 abbrev pub inner : ℕ → List ℕ → Reading Op

@@ -1,32 +1,32 @@
 -- JVM Specification, 6.5: the opcodes.
 use Rattle.std.specs.Prelude.{ℕ, ◌+◌, ◌==◌, if◌then◌else◌, List, [], ◌∷◌, Option, Some, None}
 use Rattle.std.specs.Option.{option_or}
+use Rattle.jvm_names.specs.declared.array_name.ArrayName.{ArrayName}
+use Rattle.jvm_names.specs.declared.array_name.ArrayName.TheVariants.{Iaload, Aaload, Iastore, Aastore}
+use Rattle.jvm_names.specs.declared.stack_name.StackName.{StackName}
+use Rattle.jvm_names.specs.declared.stack_name.StackName.TheVariants.{Pop, Pop2, Dup, DupX1, DupX2, Dup2, Swap}
+use Rattle.jvm_names.specs.declared.int_arithmetic.IntArithmetic.{IntArithmetic}
+use Rattle.jvm_names.specs.declared.int_arithmetic.IntArithmetic.TheVariants.{Iadd, Isub, Imul, Iand, Ior, Ixor}
+use Rattle.jvm_names.specs.declared.int_division.IntDivision.{IntDivision}
+use Rattle.jvm_names.specs.declared.int_division.IntDivision.TheVariants.{Idiv, Irem}
+use Rattle.jvm_names.specs.declared.int_shift.IntShift.{IntShift}
+use Rattle.jvm_names.specs.declared.int_shift.IntShift.TheVariants.{Ishl, Ishr, Iushr}
+use Rattle.jvm_names.specs.declared.long_arithmetic.LongArithmetic.{LongArithmetic}
+use Rattle.jvm_names.specs.declared.long_arithmetic.LongArithmetic.TheVariants.{Ladd, Lmul, Land}
+use Rattle.jvm_names.specs.declared.long_division.LongDivision.{LongDivision}
+use Rattle.jvm_names.specs.declared.long_division.LongDivision.TheVariants.{Ldiv, Lrem}
+use Rattle.jvm_names.specs.declared.long_shift.LongShift.{LongShift}
+use Rattle.jvm_names.specs.declared.long_shift.LongShift.TheVariants.{Lshl, Lshr, Lushr}
+use Rattle.jvm_names.specs.declared.conversion.Conversion.{Conversion}
+use Rattle.jvm_names.specs.declared.conversion.Conversion.TheVariants.{I2l, L2i, I2b, I2c, I2s}
+use Rattle.jvm_names.specs.declared.return_name.ReturnName.{ReturnName}
+use Rattle.jvm_names.specs.declared.return_name.ReturnName.TheVariants.{Ireturn, Return}
+use Rattle.jvm_names.specs.declared.branch_name.BranchName.{BranchName}
+use Rattle.jvm_names.specs.declared.branch_name.BranchName.TheVariants.{Ifeq, Ifne, Iflt, Ifge, Ifgt, Ifle, IfIcmpeq, IfIcmpne, IfIcmplt, IfIcmpge, IfIcmpgt, IfIcmple, Goto, Ifnull, Ifnonnull}
 use Rattle.jvm_code.specs.declared.names.iconst.Iconst.{Iconst}
 use Rattle.jvm_code.specs.declared.names.iconst.Iconst.TheVariants as iconsts
-use Rattle.jvm_code.specs.declared.names.array_name.ArrayName.{ArrayName}
-use Rattle.jvm_code.specs.declared.names.array_name.ArrayName.TheVariants.{Iaload, Aaload, Iastore, Aastore}
-use Rattle.jvm_code.specs.declared.names.stack_name.StackName.{StackName}
-use Rattle.jvm_code.specs.declared.names.stack_name.StackName.TheVariants.{Pop, Pop2, Dup, DupX1, DupX2, Dup2, Swap}
-use Rattle.jvm_code.specs.declared.names.int_arithmetic.IntArithmetic.{IntArithmetic}
-use Rattle.jvm_code.specs.declared.names.int_arithmetic.IntArithmetic.TheVariants.{Iadd, Isub, Imul, Iand, Ior, Ixor}
-use Rattle.jvm_code.specs.declared.names.int_division.IntDivision.{IntDivision}
-use Rattle.jvm_code.specs.declared.names.int_division.IntDivision.TheVariants.{Idiv, Irem}
-use Rattle.jvm_code.specs.declared.names.int_shift.IntShift.{IntShift}
-use Rattle.jvm_code.specs.declared.names.int_shift.IntShift.TheVariants.{Ishl, Ishr, Iushr}
-use Rattle.jvm_code.specs.declared.names.long_arithmetic.LongArithmetic.{LongArithmetic}
-use Rattle.jvm_code.specs.declared.names.long_arithmetic.LongArithmetic.TheVariants.{Ladd, Lmul, Land}
-use Rattle.jvm_code.specs.declared.names.long_division.LongDivision.{LongDivision}
-use Rattle.jvm_code.specs.declared.names.long_division.LongDivision.TheVariants.{Ldiv, Lrem}
-use Rattle.jvm_code.specs.declared.names.long_shift.LongShift.{LongShift}
-use Rattle.jvm_code.specs.declared.names.long_shift.LongShift.TheVariants.{Lshl, Lshr, Lushr}
-use Rattle.jvm_code.specs.declared.names.conversion.Conversion.{Conversion}
-use Rattle.jvm_code.specs.declared.names.conversion.Conversion.TheVariants.{I2l, L2i, I2b, I2c, I2s}
-use Rattle.jvm_code.specs.declared.names.return_name.ReturnName.{ReturnName}
-use Rattle.jvm_code.specs.declared.names.return_name.ReturnName.TheVariants.{Ireturn, Return}
 use Rattle.jvm_code.specs.declared.names.local_name.LocalName.{LocalName}
 use Rattle.jvm_code.specs.declared.names.local_name.LocalName.TheVariants.{Iload, Aload, Istore, Astore}
-use Rattle.jvm_code.specs.declared.names.branch_name.BranchName.{BranchName}
-use Rattle.jvm_code.specs.declared.names.branch_name.BranchName.TheVariants.{Ifeq, Ifne, Iflt, Ifge, Ifgt, Ifle, IfIcmpeq, IfIcmpne, IfIcmplt, IfIcmpge, IfIcmpgt, IfIcmple, Goto, Ifnull, Ifnonnull}
 use Rattle.jvm_code.specs.declared.names.pool_name.PoolName.{PoolName}
 use Rattle.jvm_code.specs.declared.names.pool_name.PoolName.TheVariants.{LdcW, Ldc2W, Getstatic, Putstatic, Invokevirtual, Invokestatic, Anewarray}
 use Rattle.jvm_code.specs.declared.names.short_index.ShortIndex.{ShortIndex}

@@ -2,10 +2,10 @@
 use Rattle.std.specs.Prelude.{ℕ, ℤ, pos, negsuc, suc, int_lt, ◌-◌, ◌%◌, ◌^◌, ◌+ℤ◌, ◌-ℤ◌, ◌&&◌, ◌==◌, Bool, true, nat_lt, List, [], ◌∷◌, length, replicate, Some}
 use Rattle.std.specs.List.{list_all}
 use Rattle.std.specs.Int.{w32}
+use Rattle.jvm_names.specs.declared.pair.Pair.{Pair}
+use Rattle.jvm_names.specs.declared.table_switch.TableSwitch.{TableSwitch}
+use Rattle.jvm_names.specs.declared.lookup_switch.LookupSwitch.{LookupSwitch}
 use Rattle.class_format.specs.Format.{Format, number, raw, both, repeated, mapped, tested, signed}
-use Rattle.jvm_code.specs.declared.pair.Pair.{Pair}
-use Rattle.jvm_code.specs.declared.table_switch.TableSwitch.{TableSwitch}
-use Rattle.jvm_code.specs.declared.lookup_switch.LookupSwitch.{LookupSwitch}
 use Rattle.jvm_code.specs.Targets.{cut, switch_keys, wide}
 
 -- the number of padding bytes behind the opcode at a place, up to a multiple of 4
@@ -34,7 +34,8 @@ table_count head = key_count head.1.1.0 head.1.1.1
 abbrev pub table_head : ℕ → Format TableHead
 table_head at =
     tested switch_keys (λ head. is_padding head.0 && nat_lt 0 (table_count head))
-    (both (raw cut (pad_of at)) (λ _. both (wide at) (λ _. both (signed cut w32) (λ _. signed cut w32))))
+    (both (raw cut (pad_of at)) (λ _.
+    both (wide at) (λ _. both (signed cut w32) (λ _. signed cut w32))))
 
 -- the greatest key
 abbrev pub last_key : TableSwitch → ℤ
@@ -58,7 +59,8 @@ lookup_head at =
 
 abbrev pub pair : ℕ → Format Pair
 pair at =
-    mapped (λ x. record { key = x.0; target = x.1 }) (λ p. Some (p.key, p.target)) (both (signed cut w32) (λ _. wide at))
+    mapped (λ x. record { key = x.0; target = x.1 }) (λ p. Some (p.key, p.target))
+    (both (signed cut w32) (λ _. wide at))
 
 -- each key is above the one before
 abbrev pub rises_from : ℤ → List Pair → Bool

@@ -39,10 +39,12 @@ near_bits offset =
 -- a target that is given by an offset of two bytes, and of four
 abbrev pub near : ℕ → Format ℕ
 near at =
-    mapped (λ bits. target_from at (extended bits)) (λ target. if nat_lt target (2 ^ 32) then near_bits (offset_to at target) else None)
+    mapped (λ bits. target_from at (extended bits)) (λ target. if nat_lt target (2 ^ 32)
+    then near_bits (offset_to at target) else None)
     (number cut w16)
 
 abbrev pub wide : ℕ → Format ℕ
 wide at =
-    mapped (λ bits. target_from at bits) (λ target. if nat_lt target (2 ^ 32) then Some (offset_to at target) else None)
+    mapped (λ bits. target_from at bits) (λ target. if nat_lt target (2 ^ 32)
+    then Some (offset_to at target) else None)
     (number cut w32)

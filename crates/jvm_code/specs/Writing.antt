@@ -31,7 +31,8 @@ HasFewTargets _ = Unit {0}
 -- each line stands where the one before ends and can be spelled there, and the last one ends within the greatest code
 abbrev pub AreLaid : ℕ → List Line → Type 0
 AreLaid at [] = at ≤ 65535
-AreLaid at (l ∷ lines) = (l.at ≡ at) × ((instruction at).fits l.op ≡ true) × AreLaid (at + size_at at l.op) lines
+AreLaid at (l ∷ lines) = (l.at ≡ at) × ((instruction at).fits l.op ≡ true)
+    × AreLaid (at + size_at at l.op) lines
 
 -- lines from which code can be made: there is one, they are laid out from 0 on, and each target is a line's offset
 abbrev pub AreCode : List Line → Type 0

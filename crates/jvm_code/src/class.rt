@@ -1,7 +1,7 @@
 use crate::member::Member;
 use crate::method::Method;
-use class_format::Sequence;
 use constant_pool::Entry;
+use jvm_names::Sequence;
 
 /// A class file (JVM Specification, 4.1).
 #[derive(Drop)]

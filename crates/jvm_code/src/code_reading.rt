@@ -11,7 +11,8 @@ use std::alloc::Global;
 /// The lines of code of at most 65,535 bytes.
 pub fn lines_of(alloc: Global, code: &[u8]) -> Result<Vec<Line>, Failure>
     requires { length code.now ≤ 65535 }
-    ensures { Gives (λ x. x.items) result (format.lines_from (length code.now) (length code.now) code.now) }
+    ensures { Gives (λ x. x.items) result
+        (format.lines_from (length code.now) (length code.now) code.now) }
 {
     let mut lines = Vec::new(alloc);
     let mut rest = code;

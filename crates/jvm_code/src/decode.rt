@@ -26,7 +26,8 @@ pub fn decode_ops(alloc: Global, code: &[u8]) -> Result<Vec<Line>, CodeError>
     ensures refused { IfErr result (format.IsAnswer (format.code_fault code.now)) }
     ensures accepted { OnOk result (format.code_fault code.now ≡ None) }
     ensures lines { IfOk result (λ lines. format.Lines code.now lines.items) }
-    ensures only_lines { IfOk result (λ lines. (others : List Line) → format.Lines code.now others → others ≡ lines.items) }
+    ensures only_lines { IfOk result (λ lines. (others : List Line) → format.Lines code.now others
+        → others ≡ lines.items) }
     ensures code { IfOk result (λ lines. AreCode lines.items) }
 {
     if is_bad_length(code.len()) {
@@ -63,7 +64,8 @@ fn refusal(size: usize, failure: Failure) -> CodeError
 // These lines of a code of so many bytes, where their targets are lines.
 fn with_targets(alloc: Global, size: usize, lines: Vec<Line>) -> Result<Vec<Line>, CodeError>
     ensures refused { IfErr result (format.IsAnswer (format.target_fault lines.items lines.items)) }
-    ensures accepted { IfOk result (λ kept. (kept.items ≡ lines.items) × (format.target_fault lines.items lines.items ≡ None)) }
+    ensures accepted { IfOk result (λ kept. (kept.items ≡ lines.items)
+        × (format.target_fault lines.items lines.items ≡ None)) }
 {
     match marks_of(alloc, size, &lines) {
         Err(_) => Err(CodeError::NoMemory),

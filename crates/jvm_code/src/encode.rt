@@ -23,8 +23,10 @@ pub type NoMemory = AllocError;
 pub fn encode_ops(alloc: Global, lines: &[Line]) -> Result<Vec<u8>, NoMemory>
     requires { AreCode lines.now }
     ensures lines { IfOk result (λ code. format.Lines code.items lines.now) }
-    ensures only_lines { IfOk result (λ code. (others : List Line) → format.Lines code.items others → others ≡ lines.now) }
-    ensures only_bytes { IfOk result (λ code. (others : List ℕ) → format.Lines others lines.now → others ≡ code.items) }
+    ensures only_lines { IfOk result (λ code. (others : List Line) → format.Lines code.items others
+        → others ≡ lines.now) }
+    ensures only_bytes { IfOk result (λ code. (others : List ℕ) → format.Lines others lines.now
+        → others ≡ code.items) }
     ensures sound { IfOk result (λ code. format.code_fault code.items ≡ None) }
 {
     let mut code = Vec::new(alloc);

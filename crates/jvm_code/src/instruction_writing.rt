@@ -16,7 +16,8 @@ const INTS: u8 = 10;
 pub fn append_instruction(code: &mut Vec<u8>, at: u32, op: &Op) -> Result<(), NoMemory>
     requires low { at < 2 ^ 16 }
     requires fits { (format.instruction at).fits op.now ≡ true }
-    ensures { OnOk result (code.new.items ≡ code.old.items ++ (format.instruction at).spell op.now) }
+    ensures { OnOk result (code.new.items ≡ code.old.items
+        ++ (format.instruction at).spell op.now) }
 {
     code.push(opcode_of(op))?;
     append_operands(code, at, op)
@@ -44,7 +45,8 @@ fn append_operands(code: &mut Vec<u8>, at: u32, op: &Op) -> Result<(), NoMemory>
 }
 
 fn append_iinc(code: &mut Vec<u8>, index: u8, number: i8) -> Result<(), NoMemory>
-    ensures { OnOk result (code.new.items ≡ code.old.items ++ format.byte_pair.spell (index, number)) }
+    ensures { OnOk result (code.new.items ≡ code.old.items
+        ++ format.byte_pair.spell (index, number)) }
 {
     append_byte(code, index)?;
     append_signed_byte(code, number)

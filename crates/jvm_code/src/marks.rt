@@ -6,7 +6,7 @@ ghost use Rattle.jvm_code.specs.Code as format;
 use crate::code_fault::CodeFault;
 use crate::line::Line;
 use crate::op::Op;
-use crate::pair::Pair;
+use jvm_names::Pair;
 use std::alloc::{AllocError, Global};
 
 const BAD_TARGET: u32 = 3;

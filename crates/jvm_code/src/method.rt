@@ -1,4 +1,4 @@
-use class_format::Sequence;
+use jvm_names::Sequence;
 
 /// A static method of a class (JVM Specification, 4.6 and 4.7.3).
 #[derive(Drop)]

@@ -1,20 +1,11 @@
-use crate::lookup_switch::LookupSwitch;
-use crate::names::array_name::ArrayName;
-use crate::names::branch_name::BranchName;
-use crate::names::conversion::Conversion;
 use crate::names::iconst::Iconst;
-use crate::names::int_arithmetic::IntArithmetic;
-use crate::names::int_division::IntDivision;
-use crate::names::int_shift::IntShift;
 use crate::names::local_name::LocalName;
-use crate::names::long_arithmetic::LongArithmetic;
-use crate::names::long_division::LongDivision;
-use crate::names::long_shift::LongShift;
 use crate::names::pool_name::PoolName;
-use crate::names::return_name::ReturnName;
 use crate::names::short_index::ShortIndex;
-use crate::names::stack_name::StackName;
-use crate::table_switch::TableSwitch;
+use jvm_names::{
+    ArrayName, BranchName, Conversion, IntArithmetic, IntDivision, IntShift, LongArithmetic,
+    LongDivision, LongShift, LookupSwitch, ReturnName, StackName, TableSwitch,
+};
 
 /// An instruction with its operands (JVM Specification, 6.5). A branch's target is an offset from the code's start, and a slot
 /// of the constant pool is counted from 1.

@@ -2,22 +2,15 @@
 ghost use Rattle.std.specs.Prelude.{◌≡◌};
 ghost use Rattle.jvm_code.specs.Opcodes.{row_of, constants, short_locals, moves, arithmetic, others, plain_of, local_names, branch_names, pool_names};
 
-use crate::names::array_name::ArrayName;
-use crate::names::branch_name::BranchName;
-use crate::names::conversion::Conversion;
 use crate::names::iconst::Iconst;
-use crate::names::int_arithmetic::IntArithmetic;
-use crate::names::int_division::IntDivision;
-use crate::names::int_shift::IntShift;
 use crate::names::local_name::LocalName;
-use crate::names::long_arithmetic::LongArithmetic;
-use crate::names::long_division::LongDivision;
-use crate::names::long_shift::LongShift;
 use crate::names::pool_name::PoolName;
-use crate::names::return_name::ReturnName;
 use crate::names::short_index::ShortIndex;
-use crate::names::stack_name::StackName;
 use crate::op::Op;
+use jvm_names::{
+    ArrayName, BranchName, Conversion, IntArithmetic, IntDivision, IntShift, LongArithmetic,
+    LongDivision, LongShift, ReturnName, StackName,
+};
 
 /// The instruction without operands of an opcode.
 pub fn plain_by_opcode(opcode: u8) -> Option<Op>

@@ -12,7 +12,8 @@ use crate::switch_reading::pad_of;
 pub fn size(op: &Op, at: u32) -> u32
     requires { format.HasFewTargets op.now }
     ensures value { result ≡ format.size_at at op.now }
-    ensures spelled { (instruction at).fits op.now ≡ true → length ((instruction at).spell op.now) ≡ result }
+    ensures spelled { (instruction at).fits op.now ≡ true
+        → length ((instruction at).spell op.now) ≡ result }
 {
     match op {
         Op::Bipush(_) | Op::Ldc(_) | Op::Local(_, _) | Op::Newarray => 2,

@@ -5,11 +5,9 @@ ghost use Rattle.class_format.specs.Format.{repeated};
 ghost use Rattle.jvm_code.specs.Targets.{wide};
 ghost use Rattle.jvm_code.specs.Switches as format;
 
-use crate::lookup_switch::LookupSwitch;
-use crate::pair::Pair;
 use crate::reading::wide_of;
-use crate::table_switch::TableSwitch;
-use class_format::{Failure, Sequence, missed, raw_of, signed_word_of, word_of};
+use class_format::{Failure, missed, raw_of, signed_word_of, word_of};
+use jvm_names::{LookupSwitch, Pair, Sequence, TableSwitch};
 use std::alloc::Global;
 
 const CUT: u32 = 2;
@@ -42,7 +40,8 @@ pub fn table_switch_of(
 // The padding, the default target, and the least and the greatest key.
 fn table_head_of(at: u32, bytes: &[u8]) -> Result<((&[u8], u32, i32, i32), &[u8]), Failure>
     requires { at < 2 ^ 16 }
-    ensures { Gives (λ x. ((x.0.0.now, (x.0.1, (x.0.2, x.0.3))), x.1.now)) result ((format.table_head at).read bytes.now) }
+    ensures { Gives (λ x. ((x.0.0.now, (x.0.1, (x.0.2, x.0.3))), x.1.now)) result
+        ((format.table_head at).read bytes.now) }
 {
     let (padding, rest) = raw_of(CUT, bytes, pad_of(at))?;
     let (default, rest) = wide_of(at, rest)?;
@@ -147,7 +146,8 @@ fn pair_of(at: u32, bytes: &[u8]) -> Result<(Pair, &[u8]), Failure>
 
 fn pairs_of(alloc: Global, at: u32, count: u32, bytes: &[u8]) -> Result<(Vec<Pair>, &[u8]), Failure>
     requires { at < 2 ^ 16 }
-    ensures { Gives (λ x. (x.0.items, x.1.now)) result ((repeated (format.pair at) count).read bytes.now) }
+    ensures { Gives (λ x. (x.0.items, x.1.now)) result
+        ((repeated (format.pair at) count).read bytes.now) }
 {
     let mut pairs = Vec::new(alloc);
     let mut rest = bytes;

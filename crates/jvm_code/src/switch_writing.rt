@@ -6,12 +6,10 @@ ghost use Rattle.jvm_code.specs.Targets.{wide};
 ghost use Rattle.jvm_code.specs.Switches as format;
 
 use crate::encode::NoMemory;
-use crate::lookup_switch::LookupSwitch;
 use crate::number_writing::{append_signed_word, append_word};
-use crate::pair::Pair;
 use crate::switch_reading::pad_of;
-use crate::table_switch::TableSwitch;
 use crate::target_writing::append_wide;
+use jvm_names::{LookupSwitch, Pair, TableSwitch};
 
 /// Appends the operands of a `tableswitch` at a place.
 pub fn append_table_switch(
@@ -21,7 +19,8 @@ pub fn append_table_switch(
 ) -> Result<(), NoMemory>
     requires low { at < 2 ^ 16 }
     requires fits { (format.table_switch at).fits switch.now ≡ true }
-    ensures { OnOk result (code.new.items ≡ code.old.items ++ (format.table_switch at).spell switch.now) }
+    ensures { OnOk result (code.new.items ≡ code.old.items
+        ++ (format.table_switch at).spell switch.now) }
 {
     let last = last_key(switch);
     append_padding(code, at)?;
@@ -51,7 +50,8 @@ fn append_padding(code: &mut Vec<u8>, at: u32) -> Result<(), NoMemory>
 
 fn append_targets(code: &mut Vec<u8>, at: u32, targets: &[u32]) -> Result<(), NoMemory>
     requires { at < 2 ^ 16 }
-    ensures { OnOk result (code.new.items ≡ code.old.items ++ chain_spelling {S = Unit {0}} (λ _ _. wide at) (λ s _. s) tt targets.now) }
+    ensures { OnOk result (code.new.items ≡ code.old.items
+        ++ chain_spelling {S = Unit {0}} (λ _ _. wide at) (λ s _. s) tt targets.now) }
 {
     let mut rest = targets;
     while let Some((target, others)) = rest.split_first() {
@@ -69,7 +69,8 @@ pub fn append_lookup_switch(
 ) -> Result<(), NoMemory>
     requires low { at < 2 ^ 16 }
     requires fits { (format.lookup_switch at).fits switch.now ≡ true }
-    ensures { OnOk result (code.new.items ≡ code.old.items ++ (format.lookup_switch at).spell switch.now) }
+    ensures { OnOk result (code.new.items ≡ code.old.items
+        ++ (format.lookup_switch at).spell switch.now) }
 {
     let pairs = switch.pairs.as_slice();
     append_padding(code, at)?;
@@ -80,7 +81,8 @@ pub fn append_lookup_switch(
 
 fn append_pairs(code: &mut Vec<u8>, at: u32, pairs: &[Pair]) -> Result<(), NoMemory>
     requires { at < 2 ^ 16 }
-    ensures { OnOk result (code.new.items ≡ code.old.items ++ chain_spelling {S = Unit {0}} (λ _ _. format.pair at) (λ s _. s) tt pairs.now) }
+    ensures { OnOk result (code.new.items ≡ code.old.items
+        ++ chain_spelling {S = Unit {0}} (λ _ _. format.pair at) (λ s _. s) tt pairs.now) }
 {
     let mut rest = pairs;
     while let Some((pair, others)) = rest.split_first() {

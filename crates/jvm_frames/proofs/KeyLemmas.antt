@@ -7,9 +7,9 @@ use Rattle.std.specs.declared.cmp.Ordering.TheVariants.{Less, Equal, Greater}
 use Rattle.std.proofs.lemmas.Bool.{ne_eqb, cases_lt}
 use Rattle.std.proofs.lemmas.Map.Lookups.{exact_signed}
 use Rattle.std.proofs.lemmas.Int.{ints}
-use Rattle.jvm_code.specs.declared.pair.Pair.{Pair}
-use Rattle.jvm_frames.proofs.TestLemmas.{both}
+use Rattle.jvm_names.specs.declared.pair.Pair.{Pair}
 use Rattle.jvm_program.specs.Effect.{same, lookup_target}
+use Rattle.jvm_frames.proofs.TestLemmas.{both}
 use Rattle.jvm_frames.specs.Keys.{keys_of, rise, rise_from, number_of}
 
 pub target_by_keys : (pairs : List Pair) (key : ℤ) (number : ℕ) → lookup_target pairs key number ≡ number_of (keys_of pairs) key number

@@ -8,7 +8,7 @@ ghost use Rattle.jvm_frames.specs.Stack.{on_top};
 ghost use Rattle.jvm_frames.specs.Forms.{Chooses, Gives, branch_operands, return_operands};
 
 use crate::operands::Operands;
-use jvm_code::{BranchName, ReturnName};
+use jvm_names::{BranchName, ReturnName};
 use jvm_program::Value;
 use nv_words::signed;
 
@@ -17,7 +17,8 @@ impl Operands {
     #[inline]
     pub fn branch(&mut self, name: BranchName) -> bool
         requires { IsTrue (on_top (branch_operands name) self.old.items) }
-        ensures chooses { (target : ℕ) → Chooses (instructions.Branch name target) self.old.items result self.new.items }
+        ensures chooses { (target : ℕ)
+            → Chooses (instructions.Branch name target) self.old.items result self.new.items }
         ensures limit { self.new.limit ≡ self.old.limit }
     {
         match name {

@@ -12,7 +12,7 @@ use crate::int_words::{byte_of, int_quotient, int_result, int_shifted, short_of}
 use crate::long_words::{long_of, long_order, long_quotient, long_result, long_shifted, low_word};
 use crate::operands::Operands;
 use crate::trap::Trap;
-use jvm_code::{
+use jvm_names::{
     Conversion, IntArithmetic, IntDivision, IntShift, LongArithmetic, LongDivision, LongShift,
 };
 use jvm_program::{Constant, Value};
@@ -72,8 +72,10 @@ impl Operands {
     #[inline]
     pub fn int_division(&mut self, name: IntDivision) -> Result<(), Trap>
         requires { IsTrue (on_top (is_int ∷ is_int ∷ []) self.old.items) }
-        ensures ok { OnOk result (Does (instructions.IntDivision name) self.old.items self.new.items) }
-        ensures err { IfErr result (λ trap. Traps (instructions.IntDivision name) self.old.items (trap_kind trap)) }
+        ensures ok { OnOk result
+            (Does (instructions.IntDivision name) self.old.items self.new.items) }
+        ensures err { IfErr result (λ trap.
+            Traps (instructions.IntDivision name) self.old.items (trap_kind trap)) }
         ensures unchanged { OnErr result (self.new ≡ self.old) }
         ensures limit { self.new.limit ≡ self.old.limit }
     {
@@ -115,8 +117,10 @@ impl Operands {
     #[inline]
     pub fn long_division(&mut self, name: LongDivision) -> Result<(), Trap>
         requires { IsTrue (on_top (is_long ∷ is_long ∷ []) self.old.items) }
-        ensures ok { OnOk result (Does (instructions.LongDivision name) self.old.items self.new.items) }
-        ensures err { IfErr result (λ trap. Traps (instructions.LongDivision name) self.old.items (trap_kind trap)) }
+        ensures ok { OnOk result
+            (Does (instructions.LongDivision name) self.old.items self.new.items) }
+        ensures err { IfErr result (λ trap.
+            Traps (instructions.LongDivision name) self.old.items (trap_kind trap)) }
         ensures unchanged { OnErr result (self.new ≡ self.old) }
         ensures limit { self.new.limit ≡ self.old.limit }
     {

@@ -50,7 +50,8 @@ impl Frame {
     pub(crate) fn enter(&mut self, callee: Callee, arguments: &[Value])
         requires arguments { length arguments.now ≤ callee.locals }
         requires room { callee.locals ≤ self.old.locals.limit }
-        ensures { self.new ≡ entered callee arguments.now self.old.locals.limit self.old.operands.limit }
+        ensures { self.new
+            ≡ entered callee arguments.now self.old.locals.limit self.old.operands.limit }
     {
         self.method = callee.method;
         self.at = callee.start;
@@ -63,7 +64,10 @@ impl Frame {
     pub fn load(&mut self, i: u8)
         requires local { i < length self.old.locals.items }
         requires room { length self.old.operands.items < self.old.operands.limit }
-        ensures does { (kind : Moved) → IsTrue (moves kind (numbered self.old.locals.items i)) → DoesWith (instructions.Load kind i) self.old.locals.items self.old.operands.items self.new.locals.items self.new.operands.items }
+        ensures does { (kind : Moved) → IsTrue (moves kind (numbered self.old.locals.items i))
+            → DoesWith (instructions.Load kind i)
+            self.old.locals.items self.old.operands.items self.new.locals.items
+            self.new.operands.items }
         ensures keeps { Keeps self.old self.new }
     {
         self.operands.push(self.locals.get(i as usize));
@@ -74,7 +78,11 @@ impl Frame {
     pub fn store(&mut self, i: u8)
         requires local { i < length self.old.locals.items }
         requires operand { 0 < length self.old.operands.items }
-        ensures does { (kind : Moved) → IsTrue (moves kind (slice_index_or self.old.operands.items 0 unset)) → DoesWith (instructions.Store kind i) self.old.locals.items self.old.operands.items self.new.locals.items self.new.operands.items }
+        ensures does { (kind : Moved)
+            → IsTrue (moves kind (slice_index_or self.old.operands.items 0 unset))
+            → DoesWith (instructions.Store kind i)
+            self.old.locals.items self.old.operands.items self.new.locals.items
+            self.new.operands.items }
         ensures keeps { Keeps self.old self.new }
     {
         let v = self.operands.pop();
@@ -86,7 +94,9 @@ impl Frame {
     pub fn increment(&mut self, i: u8, by: u32)
         requires local { i < length self.old.locals.items }
         requires int { IsTrue (is_int (numbered self.old.locals.items i)) }
-        ensures does { DoesWith (instructions.Increment i by) self.old.locals.items self.old.operands.items self.new.locals.items self.new.operands.items }
+        ensures does { DoesWith (instructions.Increment i by)
+            self.old.locals.items self.old.operands.items self.new.locals.items
+            self.new.operands.items }
         ensures keeps { Keeps self.old self.new }
     {
         let Value::Int(n) = self.locals.get(i as usize) else {

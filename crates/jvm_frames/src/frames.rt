@@ -29,7 +29,12 @@ impl Frames {
         locals_limit: usize,
         operands_limit: usize,
     ) -> Result<Frames, NoMemory>
-        ensures waiting { IfOk result (λ frames. frames.waiting ≡ record { frames = []; locals_limit = locals_limit; operands_limit = operands_limit }) }
+        ensures waiting { IfOk result (λ frames. frames.waiting
+            ≡ record {
+              frames = [];
+              locals_limit = locals_limit;
+              operands_limit = operands_limit;
+            }) }
         ensures room { IfOk result (λ frames. HasRoom locals_limit operands_limit frames.current) }
     {
         let current = Frame::new(alloc, locals_limit, operands_limit)?;
@@ -49,9 +54,11 @@ impl Frames {
     /// The one frame of a method that is entered with no arguments.
     #[inline]
     pub fn reset(&mut self, callee: Callee)
-        requires room { HasRoom self.old.waiting.locals_limit self.old.waiting.operands_limit self.old.current }
+        requires room { HasRoom self.old.waiting.locals_limit self.old.waiting.operands_limit
+            self.old.current }
         requires locals { callee.locals ≤ self.old.waiting.locals_limit }
-        ensures entered { self.new.current ≡ entered callee [] self.old.waiting.locals_limit self.old.waiting.operands_limit }
+        ensures entered { self.new.current
+            ≡ entered callee [] self.old.waiting.locals_limit self.old.waiting.operands_limit }
         ensures waiting { self.new.waiting ≡ with_frames self.old.waiting [] }
         ensures definition { frame_at 0 self.new.current ≡ definition.entered callee.method [] }
     {
@@ -64,14 +71,22 @@ impl Frames {
     #[inline]
     pub fn call(&mut self, callee: Callee, return_at: u32)
         requires full { length self.old.waiting.frames < 63 }
-        requires room { HasRoom self.old.waiting.locals_limit self.old.waiting.operands_limit self.old.current }
+        requires room { HasRoom self.old.waiting.locals_limit self.old.waiting.operands_limit
+            self.old.current }
         requires arguments { callee.parameters ≤ length self.old.current.operands.items }
         requires parameters { callee.parameters ≤ callee.locals }
         requires locals { callee.locals ≤ self.old.waiting.locals_limit }
-        ensures entered { self.new.current ≡ entered callee (given callee.parameters self.old.current) self.old.waiting.locals_limit self.old.waiting.operands_limit }
-        ensures waits { self.new.waiting ≡ with_frames self.old.waiting (waiting_at return_at callee.parameters self.old.current ∷ self.old.waiting.frames) }
-        ensures definition { frame_at 0 self.new.current ≡ definition.entered callee.method (given callee.parameters self.old.current) }
-        ensures enters { Enters callee.method callee.parameters self.old.current.operands.items (given callee.parameters self.old.current) (drop callee.parameters self.old.current.operands.items) }
+        ensures entered { self.new.current
+            ≡ entered callee (given callee.parameters self.old.current)
+            self.old.waiting.locals_limit self.old.waiting.operands_limit }
+        ensures waits { self.new.waiting
+            ≡ with_frames self.old.waiting (waiting_at return_at callee.parameters self.old.current
+            ∷ self.old.waiting.frames) }
+        ensures definition { frame_at 0 self.new.current
+            ≡ definition.entered callee.method (given callee.parameters self.old.current) }
+        ensures enters { Enters callee.method callee.parameters self.old.current.operands.items
+            (given callee.parameters self.old.current)
+            (drop callee.parameters self.old.current.operands.items) }
     {
         self.waiting.call(&mut self.current, callee, return_at);
     }
@@ -80,13 +95,19 @@ impl Frames {
     /// waits.
     #[inline]
     pub fn give(&mut self, value: Option<Value>) -> bool
-        requires room { HasRoom self.old.waiting.locals_limit self.old.waiting.operands_limit self.old.current }
+        requires room { HasRoom self.old.waiting.locals_limit self.old.waiting.operands_limit
+            self.old.current }
         requires operand { CanTake value self.old.waiting.frames }
         ensures answer { IsTrue result ↔ (0 < length self.old.waiting.frames) }
-        ensures back { (f : Kept) (others : List Kept) → self.old.waiting.frames ≡ f ∷ others → (self.new.current ≡ with_result value f) × (self.new.waiting ≡ with_frames self.old.waiting others) }
-        ensures definition { (offset : ℕ) (f : Kept) (others : List Kept) → self.old.waiting.frames ≡ f ∷ others → frame_at offset self.new.current ≡ definition.with_result value (frame_at offset f) }
+        ensures back { (f : Kept) (others : List Kept) → self.old.waiting.frames ≡ f ∷ others
+            → (self.new.current ≡ with_result value f)
+            × (self.new.waiting ≡ with_frames self.old.waiting others) }
+        ensures definition { (offset : ℕ) (f : Kept) (others : List Kept)
+            → self.old.waiting.frames ≡ f ∷ others
+            → frame_at offset self.new.current ≡ definition.with_result value (frame_at offset f) }
         ensures unchanged { IsFalse result → self.new ≡ self.old }
-        ensures limits { HasRoom self.new.waiting.locals_limit self.new.waiting.operands_limit self.new.current }
+        ensures limits { HasRoom self.new.waiting.locals_limit self.new.waiting.operands_limit
+            self.new.current }
     {
         if !self.waiting.give(&mut self.current) {
             return false;

@@ -21,7 +21,10 @@ impl Model for Locals {
 
     ghost Value = { Variables };
 
-    ghost view = { λ l. record { items = take l.count l.values.items; limit = length l.values.items } };
+    ghost view = { λ l. record {
+      items = take l.count l.values.items;
+      limit = length l.values.items;
+    } };
 
     ghost invariant = { λ l. l.count ≤ length l.values.items };
 }
@@ -56,7 +59,8 @@ impl Locals {
     pub fn enter(&mut self, arguments: &[Value], count: usize)
         requires arguments { length arguments.now ≤ count }
         requires room { count ≤ self.old.limit }
-        ensures { self.new ≡ with_variables self.old (arguments.now ++ replicate (count - length arguments.now) unset) }
+        ensures { self.new ≡ with_variables self.old (arguments.now
+            ++ replicate (count - length arguments.now) unset) }
     {
         self.count = count;
         set_variables(&mut self.values, arguments, count);
@@ -68,7 +72,8 @@ impl Locals {
 fn set_variables(values: &mut [Value], arguments: &[Value], count: usize)
     requires arguments { length arguments.now ≤ count }
     requires room { count ≤ length values.old }
-    ensures first { take count values.new ≡ arguments.now ++ replicate (count - length arguments.now) unset }
+    ensures first { take count values.new ≡ arguments.now
+        ++ replicate (count - length arguments.now) unset }
     ensures len { length values.new ≡ length values.old }
 {
     let (variables, _) = values.split_at_mut(count);

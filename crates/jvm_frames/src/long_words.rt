@@ -4,7 +4,7 @@ ghost use Rattle.std.specs.Int.{w64, cast_unsigned};
 ghost use Rattle.nv_words.specs.Words.{signed_of};
 ghost use Rattle.jvm_program.specs.Words as words;
 
-use jvm_code::{LongArithmetic, LongDivision, LongShift};
+use jvm_names::{LongArithmetic, LongDivision, LongShift};
 use nv_words::signed;
 
 /// The result of an operation.

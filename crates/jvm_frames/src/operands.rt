@@ -23,7 +23,10 @@ impl Model for Operands {
 
     ghost Value = { Stack };
 
-    ghost view = { λ o. record { items = stacked o.slots.items o.top; limit = length o.slots.items } };
+    ghost view = { λ o. record {
+      items = stacked o.slots.items o.top;
+      limit = length o.slots.items;
+    } };
 
     ghost invariant = { λ o. o.top ≤ length o.slots.items };
 }

@@ -6,14 +6,15 @@ ghost use Rattle.jvm_program.specs.Shuffles.{forms_of, shuffled};
 ghost use Rattle.jvm_frames.specs.Forms.{Does};
 
 use crate::operands::Operands;
-use jvm_code::StackName;
+use jvm_names::StackName;
 use jvm_program::Value;
 
 impl Operands {
     /// `pop` to `swap`.
     #[inline]
     pub fn shuffle(&mut self, name: StackName)
-        requires { IsSomeAnd (shuffled values.is_long (forms_of name) self.old.items) (λ items. length items ≤ self.old.limit) }
+        requires { IsSomeAnd (shuffled values.is_long (forms_of name) self.old.items)
+            (λ items. length items ≤ self.old.limit) }
         ensures does { Does (instructions.Stack name) self.old.items self.new.items }
         ensures limit { self.new.limit ≡ self.old.limit }
     {
@@ -35,8 +36,10 @@ impl Operands {
 
     #[inline]
     fn pop_two(&mut self)
-        requires { IsSomeAnd (shuffled values.is_long (forms_of StackName.Pop2) self.old.items) (λ items. length items ≤ self.old.limit) }
-        ensures shuffled { shuffled values.is_long (forms_of StackName.Pop2) self.old.items ≡ Some self.new.items }
+        requires { IsSomeAnd (shuffled values.is_long (forms_of StackName.Pop2) self.old.items)
+            (λ items. length items ≤ self.old.limit) }
+        ensures shuffled { shuffled values.is_long (forms_of StackName.Pop2) self.old.items
+            ≡ Some self.new.items }
         ensures limit { self.new.limit ≡ self.old.limit }
     {
         if !is_long(self.pop()) {
@@ -46,8 +49,10 @@ impl Operands {
 
     #[inline]
     fn dup_below_one(&mut self)
-        requires { IsSomeAnd (shuffled values.is_long (forms_of StackName.DupX1) self.old.items) (λ items. length items ≤ self.old.limit) }
-        ensures shuffled { shuffled values.is_long (forms_of StackName.DupX1) self.old.items ≡ Some self.new.items }
+        requires { IsSomeAnd (shuffled values.is_long (forms_of StackName.DupX1) self.old.items)
+            (λ items. length items ≤ self.old.limit) }
+        ensures shuffled { shuffled values.is_long (forms_of StackName.DupX1) self.old.items
+            ≡ Some self.new.items }
         ensures limit { self.new.limit ≡ self.old.limit }
     {
         let a = self.pop();
@@ -59,8 +64,10 @@ impl Operands {
 
     #[inline]
     fn dup_below_two(&mut self)
-        requires { IsSomeAnd (shuffled values.is_long (forms_of StackName.DupX2) self.old.items) (λ items. length items ≤ self.old.limit) }
-        ensures shuffled { shuffled values.is_long (forms_of StackName.DupX2) self.old.items ≡ Some self.new.items }
+        requires { IsSomeAnd (shuffled values.is_long (forms_of StackName.DupX2) self.old.items)
+            (λ items. length items ≤ self.old.limit) }
+        ensures shuffled { shuffled values.is_long (forms_of StackName.DupX2) self.old.items
+            ≡ Some self.new.items }
         ensures limit { self.new.limit ≡ self.old.limit }
     {
         let a = self.pop();
@@ -78,8 +85,10 @@ impl Operands {
 
     #[inline]
     fn dup_two(&mut self)
-        requires { IsSomeAnd (shuffled values.is_long (forms_of StackName.Dup2) self.old.items) (λ items. length items ≤ self.old.limit) }
-        ensures shuffled { shuffled values.is_long (forms_of StackName.Dup2) self.old.items ≡ Some self.new.items }
+        requires { IsSomeAnd (shuffled values.is_long (forms_of StackName.Dup2) self.old.items)
+            (λ items. length items ≤ self.old.limit) }
+        ensures shuffled { shuffled values.is_long (forms_of StackName.Dup2) self.old.items
+            ≡ Some self.new.items }
         ensures limit { self.new.limit ≡ self.old.limit }
     {
         let a = self.pop();
@@ -97,8 +106,10 @@ impl Operands {
 
     #[inline]
     fn swap(&mut self)
-        requires { IsSomeAnd (shuffled values.is_long (forms_of StackName.Swap) self.old.items) (λ items. length items ≤ self.old.limit) }
-        ensures shuffled { shuffled values.is_long (forms_of StackName.Swap) self.old.items ≡ Some self.new.items }
+        requires { IsSomeAnd (shuffled values.is_long (forms_of StackName.Swap) self.old.items)
+            (λ items. length items ≤ self.old.limit) }
+        ensures shuffled { shuffled values.is_long (forms_of StackName.Swap) self.old.items
+            ≡ Some self.new.items }
         ensures limit { self.new.limit ≡ self.old.limit }
     {
         let a = self.pop();

@@ -1,7 +1,7 @@
 //! Switches (JVM Specification, 2.11.7). A target goes by its number, and the default one is 0.
 ghost use Rattle.std.specs.Prelude.{◌≡◌, ℕ, ◌-ℤ◌, List, [], ◌∷◌, IsTrue, length};
-ghost use Rattle.jvm_code.specs.declared.table_switch.TableSwitch.{TableSwitch};
-ghost use Rattle.jvm_code.specs.declared.lookup_switch.LookupSwitch.{LookupSwitch};
+ghost use Rattle.jvm_names.specs.declared.table_switch.TableSwitch.{TableSwitch};
+ghost use Rattle.jvm_names.specs.declared.lookup_switch.LookupSwitch.{LookupSwitch};
 ghost use Rattle.jvm_program.specs.declared.instruction.Instruction.TheVariants as instructions;
 ghost use Rattle.jvm_program.specs.Values.{is_int};
 ghost use Rattle.jvm_program.specs.Effect as effects;
@@ -17,7 +17,8 @@ impl Operands {
     #[inline]
     pub fn table_switch(&mut self, low: i32, count: usize) -> usize
         requires { IsTrue (on_top (is_int ∷ []) self.old.items) }
-        ensures jumps { (s : TableSwitch) → s.low ≡ low → length s.targets ≡ count → Jumps (instructions.TableSwitch s) self.old.items result self.new.items }
+        ensures jumps { (s : TableSwitch) → s.low ≡ low → length s.targets ≡ count
+            → Jumps (instructions.TableSwitch s) self.old.items result self.new.items }
         ensures limit { self.new.limit ≡ self.old.limit }
     {
         table_target(signed(self.pop_int()), low, count)
@@ -28,7 +29,8 @@ impl Operands {
     pub fn lookup_switch(&mut self, keys: &[i32]) -> usize
         requires operand { IsTrue (on_top (is_int ∷ []) self.old.items) }
         requires rise { IsTrue (rise keys.now) }
-        ensures jumps { (s : LookupSwitch) → keys_of s.pairs ≡ keys.now → Jumps (instructions.LookupSwitch s) self.old.items result self.new.items }
+        ensures jumps { (s : LookupSwitch) → keys_of s.pairs ≡ keys.now
+            → Jumps (instructions.LookupSwitch s) self.old.items result self.new.items }
         ensures limit { self.new.limit ≡ self.old.limit }
     {
         lookup_target(keys, signed(self.pop_int()))

@@ -20,13 +20,17 @@ pub struct Waiting {
 }
 
 impl Model for Waiting {
-    ghost use Rattle.jvm_frames.specs.Waiting.{Waits, waiting_of, IsKept};
+    ghost use Rattle.jvm_frames.specs.Waiting.{Waits, waiting_of, AreKeptFrames};
 
     ghost Value = { Waits };
 
-    ghost view = { λ w. record { frames = waiting_of w.frames.items w.depth; locals_limit = w.locals_limit; operands_limit = w.operands_limit } };
+    ghost view = { λ w. record {
+      frames = waiting_of w.frames.items w.depth;
+      locals_limit = w.locals_limit;
+      operands_limit = w.operands_limit;
+    } };
 
-    ghost invariant = { λ w. IsKept w.frames.items w.depth w.locals_limit w.operands_limit };
+    ghost invariant = { λ w. AreKeptFrames w.frames.items w.depth w.locals_limit w.operands_limit };
 }
 
 impl Waiting {
@@ -38,7 +42,12 @@ impl Waiting {
         locals_limit: usize,
         operands_limit: usize,
     ) -> Result<Waiting, NoMemory>
-        ensures { IfOk result (λ waiting. waiting ≡ record { frames = []; locals_limit = locals_limit; operands_limit = operands_limit }) }
+        ensures { IfOk result (λ waiting. waiting
+            ≡ record {
+              frames = [];
+              locals_limit = locals_limit;
+              operands_limit = operands_limit;
+            }) }
     {
         let mut frames = Vec::with_capacity(alloc, 63)?;
         for _ in 0..63usize {
@@ -77,8 +86,12 @@ impl Waiting {
         requires arguments { callee.parameters ≤ length current.old.operands.items }
         requires parameters { callee.parameters ≤ callee.locals }
         requires locals { callee.locals ≤ self.old.locals_limit }
-        ensures entered { current.new ≡ entered callee (given callee.parameters current.old) self.old.locals_limit self.old.operands_limit }
-        ensures waits { self.new ≡ with_frames self.old (waiting_at return_at callee.parameters current.old ∷ self.old.frames) }
+        ensures entered { current.new
+            ≡ entered callee (given callee.parameters current.old)
+            self.old.locals_limit self.old.operands_limit }
+        ensures waits { self.new
+            ≡ with_frames self.old (waiting_at return_at callee.parameters current.old
+            ∷ self.old.frames) }
     {
         let spare = &mut self.frames[self.depth];
         let parameters = callee.parameters as usize;
@@ -94,7 +107,8 @@ impl Waiting {
     pub(crate) fn give(&mut self, current: &mut Frame) -> bool
         requires { HasRoom self.old.locals_limit self.old.operands_limit current.old }
         ensures answer { IsTrue result ↔ (0 < length self.old.frames) }
-        ensures back { IsTrue result → self.old ≡ with_frames self.new (current.new ∷ self.new.frames) }
+        ensures back { IsTrue result → self.old
+            ≡ with_frames self.new (current.new ∷ self.new.frames) }
         ensures room { HasRoom self.old.locals_limit self.old.operands_limit current.new }
         ensures unchanged { IsFalse result → self.new ≡ self.old }
         ensures stays { IsFalse result → current.new ≡ current.old }

@@ -1,14 +1,13 @@
 -- The effects of the instructions on arrays, over a region's arrays.
-use Rattle.std.proofs.Common.{◌≡◌, ◌≢◌, ℕ, ◌+◌, ◌<◌, ◌≤◌, ◌^◌, nat_lt, nat_le, ◌==◌, ◌&&◌, Bool, true, false, if◌then◌else◌, List, [], ◌∷◌, ◌++◌, length, slice_index, Option, Some, None, option_map, refl, ap, sym, ◌∙◌, arith}
+use Rattle.std.proofs.Common.{◌≡◌, ◌≢◌, ℕ, ◌+◌, ◌<◌, ◌≤◌, ◌^◌, nat_lt, ◌==◌, ◌&&◌, Bool, true, false, if◌then◌else◌, List, [], ◌∷◌, ◌++◌, length, slice_index, Option, Some, None, option_map, refl, ap, sym, ◌∙◌, arith}
 use Rattle.std.proofs.lemmas.Bool.{lt-ltb, le-ltb, le-leb, lt-leb, eqb-true, eqb-false}
-use Rattle.jvm_code.specs.declared.names.array_name.ArrayName.TheVariants.{Iastore, Aastore}
+use Rattle.jvm_names.specs.declared.array_name.ArrayName.TheVariants.{Iastore, Aastore}
 use Rattle.jvm_program.specs.declared.array_kind.ArrayKind.{ArrayKind}
 use Rattle.jvm_program.specs.declared.instruction.Instruction.{Instruction}
 use Rattle.jvm_program.specs.declared.instruction.Instruction.TheVariants as instructions
 use Rattle.jvm_program.specs.declared.value.Value.{Value}
 use Rattle.jvm_program.specs.declared.value.Value.TheVariants.{Int as int, Null as null, Array as array}
 use Rattle.jvm_program.specs.Values.{Array, ints, pages, Heap, is_ints, is_ints_reference, is_pages, is_pages_reference, new_array, with_new, with_int, with_page}
-use Rattle.jvm_program.specs.Program.{Program}
 use Rattle.jvm_program.specs.Effect.{Workspace, Effect, goes_on, traps, wrong, index_trap, size_trap, room_trap, effect, with_heap, as_ints, as_pages, within}
 use Rattle.int_region.specs.Arrays.{Block, used_by, array_at, with_value, zeros, values_at, values_in, kind_at, kind_in}
 use Rattle.jvm_heap.specs.Regions.{place_of, value_of, kind_of, array_of, heap_of}

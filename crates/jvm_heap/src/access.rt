@@ -1,6 +1,6 @@
 //! The instructions on arrays. Where one traps, operands and arrays are as they were.
 ghost use Rattle.std.specs.Prelude.{◌≡◌, ◌∷◌, [], ℕ, Option, IsTrue, OnOk, OnErr, IfErr};
-ghost use Rattle.jvm_code.specs.declared.names.array_name.ArrayName.TheVariants.{Iaload, Aaload, Iastore, Aastore};
+ghost use Rattle.jvm_names.specs.declared.array_name.ArrayName.TheVariants.{Iaload, Aaload, Iastore, Aastore};
 ghost use Rattle.jvm_program.specs.declared.instruction.Instruction.TheVariants as instructions;
 ghost use Rattle.jvm_program.specs.Values.{is_int, is_ints_reference, is_pages_reference, reference as reference_to};
 ghost use Rattle.jvm_frames.specs.Stack.{on_top};
@@ -16,9 +16,13 @@ use jvm_program::{ArrayKind, Value};
 /// `iaload`.
 #[inline]
 pub fn load_int(operands: &mut Operands, region: &Region) -> Result<(), Trap>
-    requires { IsTrue (on_top (is_int ∷ is_ints_reference (heap_of region.now.arrays) ∷ []) operands.old.items) }
-    ensures ok { OnOk result (Does region.now.size (instructions.Array Iaload) operands.old.items (heap_of region.now.arrays) operands.new.items (heap_of region.now.arrays)) }
-    ensures err { IfErr result (λ trap. Traps region.now.size (instructions.Array Iaload) operands.old.items (heap_of region.now.arrays) (trap_kind trap)) }
+    requires { IsTrue (on_top (is_int ∷ is_ints_reference (heap_of region.now.arrays) ∷ [])
+        operands.old.items) }
+    ensures ok { OnOk result (Does region.now.size (instructions.Array Iaload) operands.old.items
+        (heap_of region.now.arrays) operands.new.items (heap_of region.now.arrays)) }
+    ensures err { IfErr result (λ trap.
+        Traps region.now.size (instructions.Array Iaload) operands.old.items
+        (heap_of region.now.arrays) (trap_kind trap)) }
     ensures unchanged { OnErr result (operands.new ≡ operands.old) }
     ensures limit { operands.new.limit ≡ operands.old.limit }
 {
@@ -39,9 +43,13 @@ pub fn load_int(operands: &mut Operands, region: &Region) -> Result<(), Trap>
 /// `aaload`.
 #[inline]
 pub fn load_page(operands: &mut Operands, region: &Region) -> Result<(), Trap>
-    requires { IsTrue (on_top (is_int ∷ is_pages_reference (heap_of region.now.arrays) ∷ []) operands.old.items) }
-    ensures ok { OnOk result (Does region.now.size (instructions.Array Aaload) operands.old.items (heap_of region.now.arrays) operands.new.items (heap_of region.now.arrays)) }
-    ensures err { IfErr result (λ trap. Traps region.now.size (instructions.Array Aaload) operands.old.items (heap_of region.now.arrays) (trap_kind trap)) }
+    requires { IsTrue (on_top (is_int ∷ is_pages_reference (heap_of region.now.arrays) ∷ [])
+        operands.old.items) }
+    ensures ok { OnOk result (Does region.now.size (instructions.Array Aaload) operands.old.items
+        (heap_of region.now.arrays) operands.new.items (heap_of region.now.arrays)) }
+    ensures err { IfErr result (λ trap.
+        Traps region.now.size (instructions.Array Aaload) operands.old.items
+        (heap_of region.now.arrays) (trap_kind trap)) }
     ensures unchanged { OnErr result (operands.new ≡ operands.old) }
     ensures limit { operands.new.limit ≡ operands.old.limit }
 {
@@ -62,13 +70,18 @@ pub fn load_page(operands: &mut Operands, region: &Region) -> Result<(), Trap>
 /// `iastore`.
 #[inline]
 pub fn store_int(operands: &mut Operands, region: &mut Region) -> Result<(), Trap>
-    requires { IsTrue (on_top (is_int ∷ is_int ∷ is_ints_reference (heap_of region.old.arrays) ∷ []) operands.old.items) }
-    ensures ok { OnOk result (Does region.old.size (instructions.Array Iastore) operands.old.items (heap_of region.old.arrays) operands.new.items (heap_of region.new.arrays)) }
-    ensures err { IfErr result (λ trap. Traps region.old.size (instructions.Array Iastore) operands.old.items (heap_of region.old.arrays) (trap_kind trap)) }
+    requires { IsTrue (on_top (is_int ∷ is_int ∷ is_ints_reference (heap_of region.old.arrays) ∷ [])
+        operands.old.items) }
+    ensures ok { OnOk result (Does region.old.size (instructions.Array Iastore) operands.old.items
+        (heap_of region.old.arrays) operands.new.items (heap_of region.new.arrays)) }
+    ensures err { IfErr result (λ trap.
+        Traps region.old.size (instructions.Array Iastore) operands.old.items
+        (heap_of region.old.arrays) (trap_kind trap)) }
     ensures unchanged { OnErr result ((operands.new ≡ operands.old) × (region.new ≡ region.old)) }
     ensures limit { operands.new.limit ≡ operands.old.limit }
     ensures size { region.new.size ≡ region.old.size }
-    ensures safe { (readable writable : Option ℕ) → IsSafe region.old readable writable → IsSafe region.new readable writable }
+    ensures safe { (readable writable : Option ℕ) → IsSafe region.old readable writable
+        → IsSafe region.new readable writable }
 {
     let n = operands.pop_int();
     let i = operands.pop_int();
@@ -91,8 +104,11 @@ pub fn store_int(operands: &mut Operands, region: &mut Region) -> Result<(), Tra
 #[inline]
 pub fn measure(operands: &mut Operands, region: &Region) -> Result<(), Trap>
     requires { IsTrue (on_top (is_array_reference region.now.arrays ∷ []) operands.old.items) }
-    ensures ok { OnOk result (Does region.now.size instructions.ArrayLength operands.old.items (heap_of region.now.arrays) operands.new.items (heap_of region.now.arrays)) }
-    ensures err { IfErr result (λ trap. Traps region.now.size instructions.ArrayLength operands.old.items (heap_of region.now.arrays) (trap_kind trap)) }
+    ensures ok { OnOk result (Does region.now.size instructions.ArrayLength operands.old.items
+        (heap_of region.now.arrays) operands.new.items (heap_of region.now.arrays)) }
+    ensures err { IfErr result (λ trap.
+        Traps region.now.size instructions.ArrayLength operands.old.items
+        (heap_of region.now.arrays) (trap_kind trap)) }
     ensures unchanged { OnErr result (operands.new ≡ operands.old) }
     ensures limit { operands.new.limit ≡ operands.old.limit }
 {
@@ -108,12 +124,16 @@ pub fn measure(operands: &mut Operands, region: &Region) -> Result<(), Trap>
 #[inline]
 pub fn new_array(operands: &mut Operands, region: &mut Region, kind: ArrayKind) -> Result<(), Trap>
     requires { IsTrue (on_top (is_int ∷ []) operands.old.items) }
-    ensures ok { OnOk result (Does region.old.size (instructions.NewArray kind) operands.old.items (heap_of region.old.arrays) operands.new.items (heap_of region.new.arrays)) }
-    ensures err { IfErr result (λ trap. Traps region.old.size (instructions.NewArray kind) operands.old.items (heap_of region.old.arrays) (trap_kind trap)) }
+    ensures ok { OnOk result (Does region.old.size (instructions.NewArray kind) operands.old.items
+        (heap_of region.old.arrays) operands.new.items (heap_of region.new.arrays)) }
+    ensures err { IfErr result (λ trap.
+        Traps region.old.size (instructions.NewArray kind) operands.old.items
+        (heap_of region.old.arrays) (trap_kind trap)) }
     ensures unchanged { OnErr result ((operands.new ≡ operands.old) × (region.new ≡ region.old)) }
     ensures limit { operands.new.limit ≡ operands.old.limit }
     ensures size { region.new.size ≡ region.old.size }
-    ensures safe { (readable writable : Option ℕ) → IsSafe region.old readable writable → IsSafe region.new readable writable }
+    ensures safe { (readable writable : Option ℕ) → IsSafe region.old readable writable
+        → IsSafe region.new readable writable }
 {
     let size = operands.pop_int();
     if size >= 0x8000_0000 {
@@ -157,13 +177,18 @@ fn reference(element: u32) -> Value
 /// `aastore`.
 #[inline]
 pub fn store_page(operands: &mut Operands, region: &mut Region) -> Result<(), Trap>
-    requires { IsTrue (on_top (is_ints_reference (heap_of region.old.arrays) ∷ is_int ∷ is_pages_reference (heap_of region.old.arrays) ∷ []) operands.old.items) }
-    ensures ok { OnOk result (Does region.old.size (instructions.Array Aastore) operands.old.items (heap_of region.old.arrays) operands.new.items (heap_of region.new.arrays)) }
-    ensures err { IfErr result (λ trap. Traps region.old.size (instructions.Array Aastore) operands.old.items (heap_of region.old.arrays) (trap_kind trap)) }
+    requires { IsTrue (on_top (is_ints_reference (heap_of region.old.arrays) ∷ is_int
+        ∷ is_pages_reference (heap_of region.old.arrays) ∷ []) operands.old.items) }
+    ensures ok { OnOk result (Does region.old.size (instructions.Array Aastore) operands.old.items
+        (heap_of region.old.arrays) operands.new.items (heap_of region.new.arrays)) }
+    ensures err { IfErr result (λ trap.
+        Traps region.old.size (instructions.Array Aastore) operands.old.items
+        (heap_of region.old.arrays) (trap_kind trap)) }
     ensures unchanged { OnErr result ((operands.new ≡ operands.old) × (region.new ≡ region.old)) }
     ensures limit { operands.new.limit ≡ operands.old.limit }
     ensures size { region.new.size ≡ region.old.size }
-    ensures safe { (readable writable : Option ℕ) → IsSafe region.old readable writable → IsSafe region.new readable writable }
+    ensures safe { (readable writable : Option ℕ) → IsSafe region.old readable writable
+        → IsSafe region.new readable writable }
 {
     let page = operands.pop();
     let i = operands.pop_int();

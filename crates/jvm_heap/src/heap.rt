@@ -28,7 +28,11 @@ impl Model for Heap {
 
     ghost Value = { Held };
 
-    ghost view = { λ h. record { region = h.region; readable = h.readable; writable = h.writable } };
+    ghost view = { λ h. record {
+      region = h.region;
+      readable = h.readable;
+      writable = h.writable;
+    } };
 
     ghost invariant = { λ h. IsSafe h.region h.readable h.writable };
 }
@@ -71,7 +75,8 @@ impl Heap {
     pub fn open(&mut self, readable: Option<u32>, writable: Option<u32>)
         requires reads { IsTrue (is_pages_reference (heap_of self.old.region.arrays) (reference readable)) }
         requires writes { IsTrue (is_pages_reference (heap_of self.old.region.arrays) (reference writable)) }
-        ensures { self.new ≡ record { region = self.old.region; readable = readable; writable = writable } }
+        ensures { self.new
+            ≡ record { region = self.old.region; readable = readable; writable = writable } }
     {
         self.readable = readable;
         self.writable = writable;

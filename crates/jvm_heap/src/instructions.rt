@@ -1,6 +1,6 @@
 //! The instructions on the arrays of a program.
 ghost use Rattle.std.specs.Prelude.{◌≡◌, ◌∷◌, [], IsTrue, OnOk, OnErr, IfErr};
-ghost use Rattle.jvm_code.specs.declared.names.array_name.ArrayName.TheVariants.{Iaload, Aaload, Iastore, Aastore};
+ghost use Rattle.jvm_names.specs.declared.array_name.ArrayName.TheVariants.{Iaload, Aaload, Iastore, Aastore};
 ghost use Rattle.jvm_program.specs.declared.instruction.Instruction.TheVariants as instructions;
 ghost use Rattle.jvm_program.specs.Values.{is_int, is_ints_reference, is_pages_reference};
 ghost use Rattle.jvm_frames.specs.Stack.{on_top};
@@ -17,9 +17,15 @@ impl Heap {
     /// `iaload`.
     #[inline]
     pub fn load_int(&self, operands: &mut Operands) -> Result<(), Trap>
-        requires { IsTrue (on_top (is_int ∷ is_ints_reference (heap_of self.now.region.arrays) ∷ []) operands.old.items) }
-        ensures ok { OnOk result (Does self.now.region.size (instructions.Array Iaload) operands.old.items (heap_of self.now.region.arrays) operands.new.items (heap_of self.now.region.arrays)) }
-        ensures err { IfErr result (λ trap. Traps self.now.region.size (instructions.Array Iaload) operands.old.items (heap_of self.now.region.arrays) (trap_kind trap)) }
+        requires { IsTrue (on_top (is_int ∷ is_ints_reference (heap_of self.now.region.arrays) ∷ [])
+            operands.old.items) }
+        ensures ok { OnOk result
+            (Does self.now.region.size (instructions.Array Iaload) operands.old.items
+            (heap_of self.now.region.arrays) operands.new.items
+            (heap_of self.now.region.arrays)) }
+        ensures err { IfErr result (λ trap.
+            Traps self.now.region.size (instructions.Array Iaload) operands.old.items
+            (heap_of self.now.region.arrays) (trap_kind trap)) }
         ensures unchanged { OnErr result (operands.new ≡ operands.old) }
         ensures limit { operands.new.limit ≡ operands.old.limit }
     {
@@ -29,9 +35,15 @@ impl Heap {
     /// `aaload`.
     #[inline]
     pub fn load_page(&self, operands: &mut Operands) -> Result<(), Trap>
-        requires { IsTrue (on_top (is_int ∷ is_pages_reference (heap_of self.now.region.arrays) ∷ []) operands.old.items) }
-        ensures ok { OnOk result (Does self.now.region.size (instructions.Array Aaload) operands.old.items (heap_of self.now.region.arrays) operands.new.items (heap_of self.now.region.arrays)) }
-        ensures err { IfErr result (λ trap. Traps self.now.region.size (instructions.Array Aaload) operands.old.items (heap_of self.now.region.arrays) (trap_kind trap)) }
+        requires { IsTrue (on_top (is_int ∷ is_pages_reference (heap_of self.now.region.arrays)
+            ∷ []) operands.old.items) }
+        ensures ok { OnOk result
+            (Does self.now.region.size (instructions.Array Aaload) operands.old.items
+            (heap_of self.now.region.arrays) operands.new.items
+            (heap_of self.now.region.arrays)) }
+        ensures err { IfErr result (λ trap.
+            Traps self.now.region.size (instructions.Array Aaload) operands.old.items
+            (heap_of self.now.region.arrays) (trap_kind trap)) }
         ensures unchanged { OnErr result (operands.new ≡ operands.old) }
         ensures limit { operands.new.limit ≡ operands.old.limit }
     {
@@ -41,9 +53,15 @@ impl Heap {
     /// `arraylength`.
     #[inline]
     pub fn measure(&self, operands: &mut Operands) -> Result<(), Trap>
-        requires { IsTrue (on_top (is_array_reference self.now.region.arrays ∷ []) operands.old.items) }
-        ensures ok { OnOk result (Does self.now.region.size instructions.ArrayLength operands.old.items (heap_of self.now.region.arrays) operands.new.items (heap_of self.now.region.arrays)) }
-        ensures err { IfErr result (λ trap. Traps self.now.region.size instructions.ArrayLength operands.old.items (heap_of self.now.region.arrays) (trap_kind trap)) }
+        requires { IsTrue (on_top (is_array_reference self.now.region.arrays ∷ [])
+            operands.old.items) }
+        ensures ok { OnOk result
+            (Does self.now.region.size instructions.ArrayLength operands.old.items
+            (heap_of self.now.region.arrays) operands.new.items
+            (heap_of self.now.region.arrays)) }
+        ensures err { IfErr result (λ trap.
+            Traps self.now.region.size instructions.ArrayLength operands.old.items
+            (heap_of self.now.region.arrays) (trap_kind trap)) }
         ensures unchanged { OnErr result (operands.new ≡ operands.old) }
         ensures limit { operands.new.limit ≡ operands.old.limit }
     {
@@ -53,9 +71,16 @@ impl Heap {
     /// `iastore`.
     #[inline]
     pub fn store_int(&mut self, operands: &mut Operands) -> Result<(), Trap>
-        requires { IsTrue (on_top (is_int ∷ is_int ∷ is_ints_reference (heap_of self.old.region.arrays) ∷ []) operands.old.items) }
-        ensures ok { OnOk result (Does self.old.region.size (instructions.Array Iastore) operands.old.items (heap_of self.old.region.arrays) operands.new.items (heap_of self.new.region.arrays)) }
-        ensures err { IfErr result (λ trap. Traps self.old.region.size (instructions.Array Iastore) operands.old.items (heap_of self.old.region.arrays) (trap_kind trap)) }
+        requires { IsTrue
+            (on_top (is_int ∷ is_int ∷ is_ints_reference (heap_of self.old.region.arrays) ∷ [])
+            operands.old.items) }
+        ensures ok { OnOk result
+            (Does self.old.region.size (instructions.Array Iastore) operands.old.items
+            (heap_of self.old.region.arrays) operands.new.items
+            (heap_of self.new.region.arrays)) }
+        ensures err { IfErr result (λ trap.
+            Traps self.old.region.size (instructions.Array Iastore) operands.old.items
+            (heap_of self.old.region.arrays) (trap_kind trap)) }
         ensures unchanged { OnErr result ((operands.new ≡ operands.old) × (self.new ≡ self.old)) }
         ensures limit { operands.new.limit ≡ operands.old.limit }
         ensures size { self.new.region.size ≡ self.old.region.size }
@@ -66,9 +91,15 @@ impl Heap {
     /// `aastore`.
     #[inline]
     pub fn store_page(&mut self, operands: &mut Operands) -> Result<(), Trap>
-        requires { IsTrue (on_top (is_ints_reference (heap_of self.old.region.arrays) ∷ is_int ∷ is_pages_reference (heap_of self.old.region.arrays) ∷ []) operands.old.items) }
-        ensures ok { OnOk result (Does self.old.region.size (instructions.Array Aastore) operands.old.items (heap_of self.old.region.arrays) operands.new.items (heap_of self.new.region.arrays)) }
-        ensures err { IfErr result (λ trap. Traps self.old.region.size (instructions.Array Aastore) operands.old.items (heap_of self.old.region.arrays) (trap_kind trap)) }
+        requires { IsTrue (on_top (is_ints_reference (heap_of self.old.region.arrays) ∷ is_int
+            ∷ is_pages_reference (heap_of self.old.region.arrays) ∷ []) operands.old.items) }
+        ensures ok { OnOk result
+            (Does self.old.region.size (instructions.Array Aastore) operands.old.items
+            (heap_of self.old.region.arrays) operands.new.items
+            (heap_of self.new.region.arrays)) }
+        ensures err { IfErr result (λ trap.
+            Traps self.old.region.size (instructions.Array Aastore) operands.old.items
+            (heap_of self.old.region.arrays) (trap_kind trap)) }
         ensures unchanged { OnErr result ((operands.new ≡ operands.old) × (self.new ≡ self.old)) }
         ensures limit { operands.new.limit ≡ operands.old.limit }
         ensures size { self.new.region.size ≡ self.old.region.size }
@@ -80,8 +111,13 @@ impl Heap {
     #[inline]
     pub fn new_array(&mut self, operands: &mut Operands, kind: ArrayKind) -> Result<(), Trap>
         requires { IsTrue (on_top (is_int ∷ []) operands.old.items) }
-        ensures ok { OnOk result (Does self.old.region.size (instructions.NewArray kind) operands.old.items (heap_of self.old.region.arrays) operands.new.items (heap_of self.new.region.arrays)) }
-        ensures err { IfErr result (λ trap. Traps self.old.region.size (instructions.NewArray kind) operands.old.items (heap_of self.old.region.arrays) (trap_kind trap)) }
+        ensures ok { OnOk result
+            (Does self.old.region.size (instructions.NewArray kind) operands.old.items
+            (heap_of self.old.region.arrays) operands.new.items
+            (heap_of self.new.region.arrays)) }
+        ensures err { IfErr result (λ trap.
+            Traps self.old.region.size (instructions.NewArray kind) operands.old.items
+            (heap_of self.old.region.arrays) (trap_kind trap)) }
         ensures unchanged { OnErr result ((operands.new ≡ operands.old) × (self.new ≡ self.old)) }
         ensures limit { operands.new.limit ≡ operands.old.limit }
         ensures size { self.new.region.size ≡ self.old.region.size }

@@ -5,6 +5,15 @@ use Rattle.std.specs.List.{AllByRecursion}
 use Rattle.std.proofs.lemmas.Bool.{and_parts}
 use Rattle.std.proofs.lemmas.List.{map-append}
 use Rattle.std.proofs.lemmas.Slice.Eq.{bytes_eq-Decides}
+use Rattle.jvm_names.specs.declared.return_name.ReturnName.{ReturnName}
+use Rattle.jvm_names.specs.declared.return_name.ReturnName.TheVariants as returns
+use Rattle.jvm_program.specs.declared.kind.Kind.{Kind}
+use Rattle.jvm_program.specs.declared.linked_line.LinkedLine.{LinkedLine}
+use Rattle.jvm_program.specs.declared.linked_method.LinkedMethod.{LinkedMethod}
+use Rattle.jvm_program.specs.declared.instruction.Instruction.{Instruction}
+use Rattle.jvm_program.specs.declared.instruction.Instruction.TheVariants.{Wrong, Get, Put}
+use Rattle.jvm_program.specs.Program.{line_in}
+use Rattle.jvm_program.specs.Typing.{NamesField, IsLinked}
 use Rattle.constant_pool.specs.declared.entry.Entry.{Entry}
 use Rattle.constant_pool.specs.declared.entry.Entry.TheVariants as entries
 use Rattle.constant_pool.specs.Names.{same_text, after_field}
@@ -19,20 +28,11 @@ use Rattle.jvm_code.specs.declared.names.local_name.LocalName.{LocalName}
 use Rattle.jvm_code.specs.declared.names.local_name.LocalName.TheVariants.{Iload, Aload, Istore, Astore}
 use Rattle.jvm_code.specs.declared.names.pool_name.PoolName.{PoolName}
 use Rattle.jvm_code.specs.declared.names.pool_name.PoolName.TheVariants.{LdcW, Ldc2W, Getstatic, Putstatic, Invokevirtual, Invokestatic, Anewarray}
-use Rattle.jvm_code.specs.declared.names.return_name.ReturnName.{ReturnName}
-use Rattle.jvm_code.specs.declared.names.return_name.ReturnName.TheVariants as returns
-use Rattle.jvm_program.specs.declared.kind.Kind.{Kind}
-use Rattle.jvm_program.specs.declared.linked_line.LinkedLine.{LinkedLine}
-use Rattle.jvm_program.specs.declared.linked_method.LinkedMethod.{LinkedMethod}
-use Rattle.jvm_program.specs.declared.instruction.Instruction.{Instruction}
-use Rattle.jvm_program.specs.declared.instruction.Instruction.TheVariants.{Wrong, Get, Put}
-use Rattle.jvm_program.specs.Program.{line_in}
-use Rattle.jvm_program.specs.Typing.{NamesField, IsLinked}
 use Rattle.name_resolution.specs.Names.{text_of, class_name_at, own_name, Signature, same_signature, signature_at, Reference, reference, same_reference, field_signature, method_signature, all_fields, field_number, method_number, string_name, host_name, length_signature, char_at_signature, host_call_signature, host_fault_signature}
 use Rattle.name_resolution.specs.Faults.{run_signature, has_run}
+use Rattle.name_resolution.proofs.PlaceLemmas.{position-cons}
 use Rattle.jvm_link.specs.Linking.{kind_of, parameters_from, parameters_of, gives_int, field_kind, field_kinds, field_of, field_instruction, call_of, host_method, static_call, string_method, string_call, call_instruction, word_constant, long_constant, pool_instruction, local_instruction, return_instruction, linked_instruction, linked_line, lines_of, linked_method, methods_from, linked_methods, first_method, program_of}
 use Rattle.jvm_link.proofs.ReturnLaws.{returns_are}
-use Rattle.name_resolution.proofs.PlaceLemmas.{position-cons}
 use Rattle.jvm_link.proofs.RunLemmas.{run_found, run_there}
 
 -- ---- what stands at the place that was found

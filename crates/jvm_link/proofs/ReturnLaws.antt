@@ -2,6 +2,15 @@
 use Rattle.std.proofs.Common.{◌≡◌, ℕ, zero, suc, Bool, true, false, cond, eqb, List, [], ◌∷◌, ◌++◌, map, Option, Some, None, refl, subst, slice_get}
 use Rattle.std.specs.Prelude.{codes}
 use Rattle.std.specs.List.{AllByRecursion}
+use Rattle.jvm_names.specs.declared.return_name.ReturnName.{ReturnName}
+use Rattle.jvm_names.specs.declared.return_name.ReturnName.TheVariants as returns
+use Rattle.jvm_program.specs.declared.kind.Kind.{Kind}
+use Rattle.jvm_program.specs.declared.linked_line.LinkedLine.{LinkedLine}
+use Rattle.jvm_program.specs.declared.linked_method.LinkedMethod.{LinkedMethod}
+use Rattle.jvm_program.specs.declared.instruction.Instruction.{Instruction}
+use Rattle.jvm_program.specs.declared.instruction.Instruction.TheVariants.{Wrong, Get, Put, Return}
+use Rattle.jvm_program.specs.Program.{line_in}
+use Rattle.jvm_program.specs.Typing.{GivesAs, returns_int}
 use Rattle.constant_pool.specs.declared.entry.Entry.{Entry}
 use Rattle.constant_pool.specs.declared.entry.Entry.TheVariants as entries
 use Rattle.constant_pool.specs.Names.{same_text}
@@ -15,15 +24,6 @@ use Rattle.jvm_code.specs.declared.names.local_name.LocalName.{LocalName}
 use Rattle.jvm_code.specs.declared.names.local_name.LocalName.TheVariants.{Iload, Aload, Istore, Astore}
 use Rattle.jvm_code.specs.declared.names.pool_name.PoolName.{PoolName}
 use Rattle.jvm_code.specs.declared.names.pool_name.PoolName.TheVariants.{LdcW, Ldc2W, Getstatic, Putstatic, Invokevirtual, Invokestatic, Anewarray}
-use Rattle.jvm_code.specs.declared.names.return_name.ReturnName.{ReturnName}
-use Rattle.jvm_code.specs.declared.names.return_name.ReturnName.TheVariants as returns
-use Rattle.jvm_program.specs.declared.kind.Kind.{Kind}
-use Rattle.jvm_program.specs.declared.linked_line.LinkedLine.{LinkedLine}
-use Rattle.jvm_program.specs.declared.linked_method.LinkedMethod.{LinkedMethod}
-use Rattle.jvm_program.specs.declared.instruction.Instruction.{Instruction}
-use Rattle.jvm_program.specs.declared.instruction.Instruction.TheVariants.{Wrong, Get, Put, Return}
-use Rattle.jvm_program.specs.Program.{line_in}
-use Rattle.jvm_program.specs.Typing.{GivesAs, returns_int}
 use Rattle.name_resolution.specs.Names.{text_of, class_name_at, Signature, same_signature, signature_at, Reference, reference, field_number, method_number, string_name, host_name, length_signature, char_at_signature, host_call_signature, host_fault_signature}
 use Rattle.jvm_link.specs.Linking.{gives_int, field_of, field_instruction, call_of, host_method, static_call, string_method, string_call, call_instruction, word_constant, long_constant, pool_instruction, local_instruction, return_instruction, linked_instruction, linked_line, lines_of, linked_method, methods_from, linked_methods}
 

@@ -2,27 +2,27 @@
 use Rattle.std.proofs.Common.{◌≡◌, ℕ, Bool, true, false, cond, List, length, replicate, Option, Some, None, refl}
 use Rattle.std.specs.Prelude.{codes}
 use Rattle.std.proofs.lemmas.Bool.{and_parts}
+use Rattle.jvm_names.specs.declared.lookup_switch.LookupSwitch.{LookupSwitch}
+use Rattle.jvm_names.specs.declared.return_name.ReturnName.{ReturnName}
+use Rattle.jvm_names.specs.declared.return_name.ReturnName.TheVariants as returns
+use Rattle.jvm_program.specs.declared.kind.Kind.{Kind}
+use Rattle.jvm_program.specs.declared.instruction.Instruction.{Instruction}
+use Rattle.jvm_program.specs.declared.instruction.Instruction.TheVariants.{Wrong, Get, Put}
 use Rattle.class_format.specs.Format.{repeated, tested, unless, is_sound}
 use Rattle.constant_pool.specs.declared.entry.Entry.{Entry}
 use Rattle.constant_pool.specs.declared.entry.Entry.TheVariants as entries
 use Rattle.constant_pool.specs.Names.{same_text}
 use Rattle.constant_pool.specs.Checks.{entry_at}
 use Rattle.jvm_code.specs.declared.class.Class.{Class}
-use Rattle.jvm_code.specs.declared.lookup_switch.LookupSwitch.{LookupSwitch}
 use Rattle.jvm_code.specs.declared.op.Op.{Op}
 use Rattle.jvm_code.specs.declared.op.Op.TheVariants as ops
 use Rattle.jvm_code.specs.declared.names.local_name.LocalName.{LocalName}
 use Rattle.jvm_code.specs.declared.names.local_name.LocalName.TheVariants.{Iload, Aload, Istore, Astore}
 use Rattle.jvm_code.specs.declared.names.pool_name.PoolName.{PoolName}
 use Rattle.jvm_code.specs.declared.names.pool_name.PoolName.TheVariants.{LdcW, Ldc2W, Getstatic, Putstatic, Invokevirtual, Invokestatic, Anewarray}
-use Rattle.jvm_code.specs.declared.names.return_name.ReturnName.{ReturnName}
-use Rattle.jvm_code.specs.declared.names.return_name.ReturnName.TheVariants as returns
 use Rattle.jvm_code.specs.Instructions.{instruction}
 use Rattle.jvm_code.specs.Switches.{pad_of, LookupHead, lookup_head, pair, rises, lookup_switch}
 use Rattle.jvm_code.specs.Targets.{switch_keys}
-use Rattle.jvm_program.specs.declared.kind.Kind.{Kind}
-use Rattle.jvm_program.specs.declared.instruction.Instruction.{Instruction}
-use Rattle.jvm_program.specs.declared.instruction.Instruction.TheVariants.{Wrong, Get, Put}
 use Rattle.name_resolution.specs.Names.{class_name_at, Signature, same_signature, signature_at, Reference, reference, field_number, method_number, string_name, host_name, length_signature, char_at_signature, host_call_signature, host_fault_signature}
 use Rattle.jvm_link.specs.Linking.{field_of, field_instruction, call_of, host_method, static_call, string_method, string_call, call_instruction, word_constant, long_constant, pool_instruction, local_instruction, return_instruction, linked_instruction}
 use Rattle.jvm_link.specs.Order.{KeysRise}

@@ -3,6 +3,20 @@ use Rattle.std.specs.Prelude.{◌≡◌, ℕ, zero, suc, ◌+◌, ◌-◌, ◌^�
 use Rattle.std.specs.List.{starts_with}
 use Rattle.std.specs.Int.{w64, cast_unsigned}
 use Rattle.nv_words.specs.Words.{unsigned_of}
+use Rattle.jvm_names.specs.declared.return_name.ReturnName.{ReturnName}
+use Rattle.jvm_names.specs.declared.return_name.ReturnName.TheVariants as returns
+use Rattle.jvm_names.specs.declared.branch_name.BranchName.TheVariants.{Goto}
+use Rattle.jvm_program.specs.declared.kind.Kind.{Kind}
+use Rattle.jvm_program.specs.declared.kind.Kind.TheVariants as kinds
+use Rattle.jvm_program.specs.declared.constant.Constant.TheVariants as constants
+use Rattle.jvm_program.specs.declared.local_kind.LocalKind.TheVariants as local_kinds
+use Rattle.jvm_program.specs.declared.array_kind.ArrayKind.TheVariants as array_kinds
+use Rattle.jvm_program.specs.declared.linked_line.LinkedLine.{LinkedLine}
+use Rattle.jvm_program.specs.declared.linked_method.LinkedMethod.{LinkedMethod}
+use Rattle.jvm_program.specs.declared.instruction.Instruction.{Instruction}
+use Rattle.jvm_program.specs.declared.instruction.Instruction.TheVariants as instructions
+use Rattle.jvm_program.specs.Program.{Program}
+use Rattle.jvm_program.specs.Typing.{AllTyped}
 use Rattle.class_format.specs.declared.miss.Miss.{Miss}
 use Rattle.constant_pool.specs.declared.entry.Entry.{Entry}
 use Rattle.constant_pool.specs.declared.entry.Entry.TheVariants as entries
@@ -22,22 +36,8 @@ use Rattle.jvm_code.specs.declared.names.short_index.ShortIndex.{ShortIndex}
 use Rattle.jvm_code.specs.declared.names.short_index.ShortIndex.TheVariants as short_indices
 use Rattle.jvm_code.specs.declared.names.pool_name.PoolName.{PoolName}
 use Rattle.jvm_code.specs.declared.names.pool_name.PoolName.TheVariants.{LdcW, Ldc2W, Getstatic, Putstatic, Invokevirtual, Invokestatic, Anewarray}
-use Rattle.jvm_code.specs.declared.names.return_name.ReturnName.{ReturnName}
-use Rattle.jvm_code.specs.declared.names.return_name.ReturnName.TheVariants as returns
-use Rattle.jvm_code.specs.declared.names.branch_name.BranchName.TheVariants.{Goto}
 use Rattle.jvm_code.specs.Code.{lines_from}
 use Rattle.jvm_code.specs.Writing.{size_at}
-use Rattle.jvm_program.specs.declared.kind.Kind.{Kind}
-use Rattle.jvm_program.specs.declared.kind.Kind.TheVariants as kinds
-use Rattle.jvm_program.specs.declared.constant.Constant.TheVariants as constants
-use Rattle.jvm_program.specs.declared.local_kind.LocalKind.TheVariants as local_kinds
-use Rattle.jvm_program.specs.declared.array_kind.ArrayKind.TheVariants as array_kinds
-use Rattle.jvm_program.specs.declared.linked_line.LinkedLine.{LinkedLine}
-use Rattle.jvm_program.specs.declared.linked_method.LinkedMethod.{LinkedMethod}
-use Rattle.jvm_program.specs.declared.instruction.Instruction.{Instruction}
-use Rattle.jvm_program.specs.declared.instruction.Instruction.TheVariants as instructions
-use Rattle.jvm_program.specs.Program.{Program}
-use Rattle.jvm_program.specs.Typing.{AllTyped}
 use Rattle.name_resolution.specs.Names.{Signature, same_signature, Reference, reference, text_of, class_name_at, own_name, signature_at, string_name, host_name, length_signature, char_at_signature, host_call_signature, host_fault_signature, field_number, method_number}
 use Rattle.name_resolution.specs.Faults.{run_signature, link_fault}
 
@@ -87,16 +87,19 @@ field_kinds classes = flat_map (λ c. map (field_kind c) c.fields) classes
 -- ---- references
 
 abbrev pub reference_of : Class → Option (ℕ × ℕ) → Option Reference
-reference_of c r = option_map (λ slots. reference (class_name_at c slots.0) (signature_at c slots.1)) r
+reference_of c r =
+    option_map (λ slots. reference (class_name_at c slots.0) (signature_at c slots.1)) r
 
 -- a field with its type, where there is one
 abbrev pub field_of : (ℕ → Kind → Instruction) → Option ℕ → Signature → Instruction
 field_of make None s = instructions.Wrong
 field_of make (Some n) s = make n (kind_of s.descriptor)
 
-abbrev pub field_instruction : List Class → (ℕ → Kind → Instruction) → Class → Option Entry → Instruction
+abbrev pub field_instruction : List Class → (ℕ → Kind → Instruction) → Class → Option Entry
+    → Instruction
 field_instruction classes make c (Some (entries.FieldRef class name)) =
-    field_of make (field_number classes (reference (class_name_at c class) (signature_at c name))) (signature_at c name)
+    field_of make (field_number classes (reference (class_name_at c class) (signature_at c name)))
+    (signature_at c name)
 field_instruction classes make c _ = instructions.Wrong
 
 abbrev pub call_of : Option ℕ → Instruction
@@ -107,11 +110,13 @@ call_of (Some n) = instructions.Call n
 abbrev pub host_method : Signature → Instruction
 host_method s =
     if same_signature s host_call_signature then instructions.CallHost
-    else if same_signature s host_fault_signature then instructions.FaultHost else instructions.Wrong
+    else if same_signature s host_fault_signature then instructions.FaultHost
+    else instructions.Wrong
 
 -- a call of a method of the classes, or of the host
 abbrev pub static_call : List Class → Reference → Instruction
-static_call classes r = if same_text r.class_name host_name then host_method r.signature else call_of (method_number classes r)
+static_call classes r = if same_text r.class_name host_name then host_method r.signature
+    else call_of (method_number classes r)
 
 -- a method of strings
 abbrev pub string_method : Signature → Instruction
@@ -121,10 +126,12 @@ string_method s =
 
 -- a call of a method of strings
 abbrev pub string_call : Reference → Instruction
-string_call r = if same_text r.class_name string_name then string_method r.signature else instructions.Wrong
+string_call r = if same_text r.class_name string_name then string_method r.signature
+    else instructions.Wrong
 
 abbrev pub call_instruction : (Reference → Instruction) → Class → Option Entry → Instruction
-call_instruction call c (Some (entries.MethodRef class name)) = call (reference (class_name_at c class) (signature_at c name))
+call_instruction call c (Some (entries.MethodRef class name)) =
+    call (reference (class_name_at c class) (signature_at c name))
 call_instruction call c _ = instructions.Wrong
 
 -- ---- constants, of a class with a number
@@ -153,15 +160,20 @@ long_constant _ = instructions.Wrong
 
 -- a new array of arrays of ints
 abbrev pub array_instruction : List ℕ → Instruction
-array_instruction name = if same_text name (codes "[I") then instructions.NewArray array_kinds.Pages else instructions.Wrong
+array_instruction name = if same_text name (codes "[I") then instructions.NewArray array_kinds.Pages
+    else instructions.Wrong
 
 abbrev pub pool_instruction : List Class → ℕ → Class → PoolName → ℕ → Instruction
 pool_instruction classes number c LdcW slot = word_constant number (entry_at c.pool slot)
 pool_instruction classes number c Ldc2W slot = long_constant (entry_at c.pool slot)
-pool_instruction classes number c Getstatic slot = field_instruction classes instructions.Get c (entry_at c.pool slot)
-pool_instruction classes number c Putstatic slot = field_instruction classes instructions.Put c (entry_at c.pool slot)
-pool_instruction classes number c Invokevirtual slot = call_instruction string_call c (entry_at c.pool slot)
-pool_instruction classes number c Invokestatic slot = call_instruction (static_call classes) c (entry_at c.pool slot)
+pool_instruction classes number c Getstatic slot =
+    field_instruction classes instructions.Get c (entry_at c.pool slot)
+pool_instruction classes number c Putstatic slot =
+    field_instruction classes instructions.Put c (entry_at c.pool slot)
+pool_instruction classes number c Invokevirtual slot =
+    call_instruction string_call c (entry_at c.pool slot)
+pool_instruction classes number c Invokestatic slot =
+    call_instruction (static_call classes) c (entry_at c.pool slot)
 pool_instruction classes number c Anewarray slot = array_instruction (class_name_at c slot)
 
 -- ---- local variables
@@ -182,29 +194,37 @@ short_index short_indices.Three = 3
 
 -- a return of the kind of its method
 abbrev pub return_instruction : Bool → ReturnName → Instruction
-return_instruction gives returns.Ireturn = if gives then instructions.Return returns.Ireturn else instructions.Wrong
-return_instruction gives returns.Return = if gives then instructions.Wrong else instructions.Return returns.Return
+return_instruction gives returns.Ireturn = if gives then instructions.Return returns.Ireturn
+    else instructions.Wrong
+return_instruction gives returns.Return = if gives then instructions.Wrong
+    else instructions.Return returns.Return
 
 -- the instruction of a method of a class with a number; the method gives an int or nothing
 abbrev pub linked_instruction : List Class → ℕ → Class → Bool → Op → Instruction
 linked_instruction classes number c gives ops.Nop = instructions.Nop
 linked_instruction classes number c gives ops.AconstNull = instructions.Push constants.Null
-linked_instruction classes number c gives (ops.Iconst name) = instructions.Push (constants.Int (iconst_word name))
+linked_instruction classes number c gives (ops.Iconst name) =
+    instructions.Push (constants.Int (iconst_word name))
 linked_instruction classes number c gives (ops.Bipush n) = pushed_int n
 linked_instruction classes number c gives (ops.Sipush n) = pushed_int n
-linked_instruction classes number c gives (ops.Ldc slot) = word_constant number (entry_at c.pool slot)
-linked_instruction classes number c gives (ops.Pool name slot) = pool_instruction classes number c name slot
+linked_instruction classes number c gives (ops.Ldc slot) =
+    word_constant number (entry_at c.pool slot)
+linked_instruction classes number c gives (ops.Pool name slot) =
+    pool_instruction classes number c name slot
 linked_instruction classes number c gives (ops.Local name index) = local_instruction name index
-linked_instruction classes number c gives (ops.ShortLocal name index) = local_instruction name (short_index index)
+linked_instruction classes number c gives (ops.ShortLocal name index) =
+    local_instruction name (short_index index)
 linked_instruction classes number c gives (ops.Array name) = instructions.Array name
 linked_instruction classes number c gives (ops.Stack name) = instructions.Stack name
 linked_instruction classes number c gives (ops.IntArithmetic name) = instructions.IntArithmetic name
 linked_instruction classes number c gives (ops.IntDivision name) = instructions.IntDivision name
 linked_instruction classes number c gives (ops.IntShift name) = instructions.IntShift name
-linked_instruction classes number c gives (ops.LongArithmetic name) = instructions.LongArithmetic name
+linked_instruction classes number c gives (ops.LongArithmetic name) =
+    instructions.LongArithmetic name
 linked_instruction classes number c gives (ops.LongDivision name) = instructions.LongDivision name
 linked_instruction classes number c gives (ops.LongShift name) = instructions.LongShift name
-linked_instruction classes number c gives (ops.Iinc index n) = instructions.Increment index (unsigned_of n)
+linked_instruction classes number c gives (ops.Iinc index n) =
+    instructions.Increment index (unsigned_of n)
 linked_instruction classes number c gives (ops.Convert name) = instructions.Convert name
 linked_instruction classes number c gives ops.Lcmp = instructions.LongCompare
 linked_instruction classes number c gives (ops.Branch name target) = instructions.Branch name target
@@ -217,7 +237,11 @@ linked_instruction classes number c gives ops.Arraylength = instructions.ArrayLe
 
 abbrev pub linked_line : List Class → ℕ → Class → Bool → Line → LinkedLine
 linked_line classes number c gives l =
-    record { at = l.at; next = l.at + size_at l.at l.op; instruction = linked_instruction classes number c gives l.op }
+    record {
+      at = l.at;
+      next = l.at + size_at l.at l.op;
+      instruction = linked_instruction classes number c gives l.op;
+    }
 
 -- ---- methods
 
@@ -241,7 +265,8 @@ linked_method classes number c m = record {
 -- the methods of classes from a number on, of all classes
 abbrev pub methods_from : List Class → ℕ → List Class → List LinkedMethod
 methods_from classes number [] = []
-methods_from classes number (c ∷ others) = map (linked_method classes number c) c.methods ++ methods_from classes (suc number) others
+methods_from classes number (c ∷ others) =
+    map (linked_method classes number c) c.methods ++ methods_from classes (suc number) others
 
 abbrev pub linked_methods : List Class → List LinkedMethod
 linked_methods classes = methods_from classes 0 classes
@@ -251,7 +276,8 @@ linked_methods classes = methods_from classes 0 classes
 -- the number of the first class's method run()V: that class's methods are the first ones
 abbrev pub first_method : List Class → ℕ
 first_method [] = 0
-first_method (c ∷ classes) = unwrap_or (method_number (c ∷ classes) (reference (own_name c) run_signature)) 0
+first_method (c ∷ classes) =
+    unwrap_or (method_number (c ∷ classes) (reference (own_name c) run_signature)) 0
 
 abbrev pub class_characters : Option Class → ℕ → List ℕ
 class_characters None slot = []

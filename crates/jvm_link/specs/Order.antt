@@ -42,4 +42,5 @@ IsInOrder-prop : (m : LinkedMethod) → IsProp (IsInOrder m)
 IsInOrder-prop m = hlevel (props, LaidFrom-prop 0 m.lines, AllRise-prop m.lines)
 
 pub AllInOrder-prop : (ms : List LinkedMethod) → IsProp (All IsInOrder ms)
-AllInOrder-prop ms = Π_prop (λ k. Π_prop (λ d. Π_prop (λ _. IsInOrder-prop (slice_index_or ms k d))))
+AllInOrder-prop ms =
+    Π_prop (λ k. Π_prop (λ d. Π_prop (λ _. IsInOrder-prop (slice_index_or ms k d))))

@@ -6,7 +6,8 @@ ghost use Rattle.jvm_link.specs.Linking as linking;
 
 use crate::kinds::is_ints;
 use constant_pool::{Entry, entry_of};
-use jvm_code::{Class, Iconst, LocalName, ReturnName, ShortIndex};
+use jvm_code::{Class, Iconst, LocalName, ShortIndex};
+use jvm_names::ReturnName;
 use jvm_program::{ArrayKind, Constant, Instruction, LocalKind};
 use name_resolution::class_name_at;
 use nv_words::unsigned;

@@ -20,7 +20,8 @@ pub fn field_kinds(alloc: Global, classes: &[Class]) -> Result<Vec<Kind>, NoMemo
 }
 
 fn push_kinds(kinds: &mut Vec<Kind>, class: &Class) -> Result<(), NoMemory>
-    ensures { OnOk result (kinds.new.items ≡ kinds.old.items ++ map (linking.field_kind class.now) class.now.fields) }
+    ensures { OnOk result (kinds.new.items ≡ kinds.old.items
+        ++ map (linking.field_kind class.now) class.now.fields) }
 {
     for field in class.fields.as_slice() {
         kinds.push(kind_of(text_of(class, field.desc)))?;

@@ -1,13 +1,14 @@
 //! Instructions with what they name.
 ghost use Rattle.std.specs.Prelude.{◌≡◌};
-ghost use Rattle.jvm_link.specs.Linking as linking;
 ghost use Rattle.name_resolution.specs.Keys.{IsNumbered, classes_in};
+ghost use Rattle.jvm_link.specs.Linking as linking;
 
 use crate::constants::{
     iconst_word, local_instruction, pushed_int, return_instruction, short_index, word_constant,
 };
 use crate::pool_instructions::pool_instruction;
-use jvm_code::{BranchName, Op};
+use jvm_code::Op;
+use jvm_names::BranchName;
 use jvm_program::{ArrayKind, Constant, Instruction};
 use name_resolution::{Names, NumberedClass};
 use nv_words::unsigned;
@@ -21,7 +22,8 @@ pub fn linked_instruction(
     op: Op,
 ) -> Instruction
     requires { IsNumbered names.now.numbered.texts.keys class.now }
-    ensures { result ≡ linking.linked_instruction (classes_in names.now.numbered.classes.items) number class.now.class.now gives op }
+    ensures { result ≡ linking.linked_instruction (classes_in names.now.numbered.classes.items)
+        number class.now.class.now gives op }
 {
     match op {
         Op::Nop => Instruction::Nop,

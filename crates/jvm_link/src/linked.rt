@@ -4,8 +4,8 @@ ghost use Rattle.name_resolution.specs.Faults.{link_fault};
 ghost use Rattle.jvm_link.specs.Linking.{field_kinds, linked_methods, first_method};
 ghost use Rattle.jvm_link.specs.Order.{IsInOrder, AllInOrder-prop};
 
-use class_format::Sequence;
 use jvm_code::Class;
+use jvm_names::Sequence;
 use jvm_program::{Kind, LinkedMethod};
 use name_resolution::text_of;
 

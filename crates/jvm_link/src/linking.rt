@@ -3,17 +3,17 @@ ghost use Rattle.std.specs.Prelude.{◌≡◌, ◌≤◌, length, IfOk, IfErr, O
 ghost use Rattle.jvm_program.specs.Typing.{IsLinked};
 ghost use Rattle.name_resolution.specs.Kept.{IsClass};
 ghost use Rattle.name_resolution.specs.Faults.{IsAnswer, link_fault};
+ghost use Rattle.name_resolution.specs.Keys.{classes_in};
 ghost use Rattle.jvm_link.specs.Linking as linking;
 ghost use Rattle.jvm_link.specs.Order.{IsInOrder};
-ghost use Rattle.name_resolution.specs.Keys.{classes_in};
 ghost use Rattle.jvm_link.specs.Meant.{IsMeant};
 
 use crate::fields::field_kinds;
 use crate::linked::Linked;
 use crate::methods::linked_methods;
 use crate::run::first_method;
-use class_format::Sequence;
 use jvm_code::Class;
+use jvm_names::Sequence;
 use jvm_program::{Kind, LinkedMethod};
 use name_resolution::{LinkError, LinkFault, Names, Numbered, references_fault, twice_fault};
 use std::alloc::Global;
@@ -63,7 +63,8 @@ fn program_of(alloc: Global, classes: &[Class]) -> Result<LinkedProgram, LinkErr
     ensures refused { IfErr result (IsAnswer (link_fault classes.now)) }
     ensures faultless { OnOk result (link_fault classes.now ≡ None) }
     ensures fields { IfOk result (λ program. program.fields ≡ linking.field_kinds classes.now) }
-    ensures methods { IfOk result (λ program. program.methods ≡ linking.linked_methods classes.now) }
+    ensures methods { IfOk result (λ program. program.methods
+        ≡ linking.linked_methods classes.now) }
     ensures laid { IfOk result (λ program. All IsInOrder program.methods) }
     ensures first { IfOk result (λ program. program.first ≡ linking.first_method classes.now) }
 {
@@ -80,7 +81,8 @@ fn program_by(alloc: Global, names: &Names, classes: &[Class]) -> Result<LinkedP
     ensures refused { IfErr result (IsAnswer (link_fault classes.now)) }
     ensures faultless { OnOk result (link_fault classes.now ≡ None) }
     ensures fields { IfOk result (λ program. program.fields ≡ linking.field_kinds classes.now) }
-    ensures methods { IfOk result (λ program. program.methods ≡ linking.linked_methods classes.now) }
+    ensures methods { IfOk result (λ program. program.methods
+        ≡ linking.linked_methods classes.now) }
     ensures laid { IfOk result (λ program. All IsInOrder program.methods) }
     ensures first { IfOk result (λ program. program.first ≡ linking.first_method classes.now) }
 {

@@ -2,14 +2,14 @@
 ghost use Rattle.std.specs.Prelude.{◌≡◌, ◌≤◌, ◌<◌, ◌++◌, ◌+◌, map, IfOk, OnOk, None, length, All};
 ghost use Rattle.jvm_code.specs.Code.{code_fault};
 ghost use Rattle.jvm_code.specs.Writing.{AreLaid, size_at};
+ghost use Rattle.name_resolution.specs.Keys.{IsNumbered, classes_in};
 ghost use Rattle.jvm_link.specs.Linking as linking;
 ghost use Rattle.jvm_link.specs.Order.{AreInOrder, IsInOrder};
-ghost use Rattle.name_resolution.specs.Keys.{IsNumbered, classes_in};
 
 use crate::instructions::linked_instruction;
 use crate::kinds::{gives_int, parameters_of};
-use class_format::Sequence;
 use jvm_code::{Line, Method, decode_ops, size};
+use jvm_names::Sequence;
 use jvm_program::{LinkedLine, LinkedMethod};
 use name_resolution::{Names, NoMemory, NumberedClass, text_of};
 use std::alloc::{AllocError, Global};
@@ -17,7 +17,8 @@ use std::alloc::{AllocError, Global};
 /// The methods of all classes, class by class.
 pub fn linked_methods(alloc: Global, names: &Names) -> Result<Vec<LinkedMethod>, NoMemory>
     requires { length names.now.numbered.classes.items ≤ 1024 }
-    ensures methods { IfOk result (λ methods. methods.items ≡ linking.linked_methods (classes_in names.now.numbered.classes.items)) }
+    ensures methods { IfOk result (λ methods. methods.items
+        ≡ linking.linked_methods (classes_in names.now.numbered.classes.items)) }
     ensures laid { IfOk result (λ methods. All IsInOrder methods.items) }
 {
     let mut methods = Vec::new(alloc);
@@ -37,7 +38,9 @@ fn push_methods(
 ) -> Result<(), NoMemory>
     requires numbered { IsNumbered names.now.numbered.texts.keys class.now }
     requires laid { All IsInOrder methods.old.items }
-    ensures methods { OnOk result (methods.new.items ≡ methods.old.items ++ map (linking.linked_method (classes_in names.now.numbered.classes.items) number class.now.class.now) class.now.class.now.methods) }
+    ensures methods { OnOk result (methods.new.items ≡ methods.old.items
+        ++ map (linking.linked_method (classes_in names.now.numbered.classes.items)
+        number class.now.class.now) class.now.class.now.methods) }
     ensures laid { OnOk result (All IsInOrder methods.new.items) }
 {
     for method in class.class.methods.as_slice() {
@@ -57,7 +60,9 @@ fn linked_method(
 ) -> Result<LinkedMethod, NoMemory>
     requires numbered { IsNumbered names.now.numbered.texts.keys class.now }
     requires sound { code_fault method.now.code ≡ None }
-    ensures method { IfOk result (λ linked. linked ≡ linking.linked_method (classes_in names.now.numbered.classes.items) number class.now.class.now method.now) }
+    ensures method { IfOk result (λ linked. linked
+        ≡ linking.linked_method (classes_in names.now.numbered.classes.items)
+        number class.now.class.now method.now) }
     ensures laid { IfOk result IsInOrder }
 {
     let descriptor = text_of(class.class, method.desc);
@@ -96,7 +101,9 @@ fn linked_lines(
 ) -> Result<Vec<LinkedLine>, NoMemory>
     requires numbered { IsNumbered names.now.numbered.texts.keys class.now }
     requires laid { AreLaid 0 lines.items }
-    ensures lines { IfOk result (λ linked. linked.items ≡ map (linking.linked_line (classes_in names.now.numbered.classes.items) number class.now.class.now gives) lines.items) }
+    ensures lines { IfOk result (λ linked. linked.items
+        ≡ map (linking.linked_line (classes_in names.now.numbered.classes.items)
+        number class.now.class.now gives) lines.items) }
     ensures laid { IfOk result (λ linked. AreInOrder linked.items) }
 {
     let mut linked = Vec::new(alloc);
@@ -115,7 +122,8 @@ fn linked_line(
 ) -> LinkedLine
     requires numbered { IsNumbered names.now.numbered.texts.keys class.now }
     requires within { line.at + size_at line.at line.op ≤ 65535 }
-    ensures { result ≡ linking.linked_line (classes_in names.now.numbered.classes.items) number class.now.class.now gives line }
+    ensures { result ≡ linking.linked_line (classes_in names.now.numbered.classes.items)
+        number class.now.class.now gives line }
 {
     let next = line.at + size(&line.op, line.at);
     LinkedLine {

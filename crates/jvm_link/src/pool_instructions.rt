@@ -28,7 +28,8 @@ pub fn pool_instruction(
     slot: u16,
 ) -> Instruction
     requires { IsNumbered names.now.numbered.texts.keys class.now }
-    ensures { result ≡ linking.pool_instruction (classes_in names.now.numbered.classes.items) number class.now.class.now name slot }
+    ensures { result ≡ linking.pool_instruction (classes_in names.now.numbered.classes.items)
+        number class.now.class.now name slot }
 {
     match name {
         PoolName::LdcW => word_constant(number, class.class, slot),
@@ -43,7 +44,8 @@ pub fn pool_instruction(
 
 fn get(names: &Names, class: &NumberedClass, slot: u16) -> Instruction
     requires { IsNumbered names.now.numbered.texts.keys class.now }
-    ensures { result ≡ linking.field_instruction (classes_in names.now.numbered.classes.items) Instruction.Get class.now.class.now (entry_at class.now.class.now.pool slot) }
+    ensures { result ≡ linking.field_instruction (classes_in names.now.numbered.classes.items)
+        Instruction.Get class.now.class.now (entry_at class.now.class.now.pool slot) }
 {
     match field(names, class, slot) {
         Some((number, kind)) => Instruction::Get(number, kind),
@@ -53,7 +55,8 @@ fn get(names: &Names, class: &NumberedClass, slot: u16) -> Instruction
 
 fn put(names: &Names, class: &NumberedClass, slot: u16) -> Instruction
     requires { IsNumbered names.now.numbered.texts.keys class.now }
-    ensures { result ≡ linking.field_instruction (classes_in names.now.numbered.classes.items) Instruction.Put class.now.class.now (entry_at class.now.class.now.pool slot) }
+    ensures { result ≡ linking.field_instruction (classes_in names.now.numbered.classes.items)
+        Instruction.Put class.now.class.now (entry_at class.now.class.now.pool slot) }
 {
     match field(names, class, slot) {
         Some((number, kind)) => Instruction::Put(number, kind),
@@ -64,7 +67,10 @@ fn put(names: &Names, class: &NumberedClass, slot: u16) -> Instruction
 // The field in a slot, with its type.
 fn field(names: &Names, class: &NumberedClass, slot: u16) -> Option<(u32, Kind)>
     requires { IsNumbered names.now.numbered.texts.keys class.now }
-    ensures { (make : ℕ → Kind → Instruction) → linking.field_instruction (classes_in names.now.numbered.classes.items) make class.now.class.now (entry_at class.now.class.now.pool slot) ≡ field_made make result }
+    ensures { (make : ℕ → Kind → Instruction)
+        → linking.field_instruction (classes_in names.now.numbered.classes.items)
+        make class.now.class.now (entry_at class.now.class.now.pool slot)
+        ≡ field_made make result }
 {
     match entry_of(class.class.pool.as_slice(), slot) {
         Some(Entry::FieldRef(owner, name)) => typed_field(names, class, *owner, *name),
@@ -74,7 +80,11 @@ fn field(names: &Names, class: &NumberedClass, slot: u16) -> Option<(u32, Kind)>
 
 fn typed_field(names: &Names, class: &NumberedClass, owner: u16, name: u16) -> Option<(u32, Kind)>
     requires { IsNumbered names.now.numbered.texts.keys class.now }
-    ensures { (make : ℕ → Kind → Instruction) → linking.field_of make (words.field_number (classes_in names.now.numbered.classes.items) (words.reference (words.class_name_at class.now.class.now owner) (words.signature_at class.now.class.now name))) (words.signature_at class.now.class.now name) ≡ field_made make result }
+    ensures { (make : ℕ → Kind → Instruction)
+        → linking.field_of make (words.field_number (classes_in names.now.numbered.classes.items)
+        (words.reference (words.class_name_at class.now.class.now owner)
+        (words.signature_at class.now.class.now name)))
+        (words.signature_at class.now.class.now name) ≡ field_made make result }
 {
     let number = names.field_number(class, owner, name)?;
     Some((number, kind_of(signature_at(class.class, name).1)))
@@ -82,7 +92,8 @@ fn typed_field(names: &Names, class: &NumberedClass, owner: u16, name: u16) -> O
 
 // A call of a method of strings.
 fn string_call(class: &NumberedClass, slot: u16) -> Instruction
-    ensures { result ≡ linking.call_instruction linking.string_call class.now.class.now (entry_at class.now.class.now.pool slot) }
+    ensures { result ≡ linking.call_instruction linking.string_call class.now.class.now
+        (entry_at class.now.class.now.pool slot) }
 {
     match entry_of(class.class.pool.as_slice(), slot) {
         Some(Entry::MethodRef(owner, name)) if is_string(class_name_at(class.class, *owner)) => {
@@ -108,7 +119,10 @@ fn string_method(method: &[u16], descriptor: &[u16]) -> Instruction
 // A call of a method of the classes, or of the host.
 fn static_call(names: &Names, class: &NumberedClass, slot: u16) -> Instruction
     requires { IsNumbered names.now.numbered.texts.keys class.now }
-    ensures { result ≡ linking.call_instruction (linking.static_call (classes_in names.now.numbered.classes.items)) class.now.class.now (entry_at class.now.class.now.pool slot) }
+    ensures { result
+        ≡ linking.call_instruction
+        (linking.static_call (classes_in names.now.numbered.classes.items)) class.now.class.now
+        (entry_at class.now.class.now.pool slot) }
 {
     match entry_of(class.class.pool.as_slice(), slot) {
         Some(Entry::MethodRef(owner, name)) => method_call(names, class, *owner, *name),
@@ -118,7 +132,9 @@ fn static_call(names: &Names, class: &NumberedClass, slot: u16) -> Instruction
 
 fn method_call(names: &Names, class: &NumberedClass, owner: u16, name: u16) -> Instruction
     requires { IsNumbered names.now.numbered.texts.keys class.now }
-    ensures { result ≡ linking.static_call (classes_in names.now.numbered.classes.items) (words.reference (words.class_name_at class.now.class.now owner) (words.signature_at class.now.class.now name)) }
+    ensures { result ≡ linking.static_call (classes_in names.now.numbered.classes.items)
+        (words.reference (words.class_name_at class.now.class.now owner)
+        (words.signature_at class.now.class.now name)) }
 {
     if is_host(class_name_at(class.class, owner)) {
         let (method, descriptor) = signature_at(class.class, name);

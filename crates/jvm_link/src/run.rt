@@ -32,7 +32,9 @@ pub fn first_method(classes: &[Class]) -> Option<u32>
 
 // The place of the method `run()V` among those of a class.
 fn run_place(class: &Class) -> Option<usize>
-    ensures { result ≡ position (λ m. names.same_signature run_signature (names.method_signature class.now m)) class.now.methods }
+    ensures { result
+        ≡ position (λ m. names.same_signature run_signature (names.method_signature class.now m))
+        class.now.methods }
 {
     class
         .methods
@@ -42,7 +44,8 @@ fn run_place(class: &Class) -> Option<usize>
 }
 
 fn is_run(class: &Class, method: &Method) -> bool
-    ensures { result ≡ names.same_signature run_signature (names.method_signature class.now method.now) }
+    ensures { result ≡ names.same_signature run_signature
+        (names.method_signature class.now method.now) }
 {
     RUN.as_slice() == text_of(class, method.name)
         && RUN_DESCRIPTOR.as_slice() == text_of(class, method.desc)

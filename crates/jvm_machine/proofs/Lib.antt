@@ -1,3 +1,6 @@
+pub mod Results
+pub mod Targets
+pub mod Places
 pub mod Ordered
 pub mod Finding
 pub mod Arriving
@@ -11,3 +14,6 @@ pub mod LoadLemmas
 pub mod BeginLemmas
 pub mod OpeningLemmas
 pub mod TurnLemmas
+pub mod Lines
+pub mod Methods
+pub mod Fetching

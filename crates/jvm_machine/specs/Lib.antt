@@ -1,3 +1,6 @@
+pub mod Workings
+pub mod Ready
+pub mod Executes
 pub mod Standing
 pub mod Settling
 pub mod Hosting
@@ -5,3 +8,4 @@ pub mod Rooms
 pub mod Loading
 pub mod Unique
 pub mod Machine
+pub mod Decoded

@@ -1,6 +1,6 @@
-use class_format::Sequence;
+use crate::machine_code::MachineCode;
 use jvm_code::Class;
-use machine_code::MachineCode;
+use jvm_names::Sequence;
 
 /// Classes with the instructions of all their methods.
 #[derive(Drop)]

@@ -1,14 +1,29 @@
-//! The class machine (JVM Specification, 2.5, 2.6 and 2.11): runs linked and verified classes over a server that answers their calls.
+//! The class machine (JVM Specification, 2.5, 2.6, 2.11 and 6.5): runs linked and verified classes over a server that answers their calls.
+//! The instructions of all methods stand in one array, in which branches name their targets by index.
 #![tactic(auto)]
 
+mod accessing;
 mod calling;
+pub mod code_laws;
+mod computing;
+mod decoding;
 mod ending;
 mod executable;
+mod executed;
+mod execution;
+mod fields;
 mod host_words;
+mod jumping;
 mod jvm;
 mod loading;
+mod machine_code;
+mod machine_method;
+mod naming;
+mod retargeting;
 mod room;
+mod search;
 mod turning;
+mod working;
 
 pub use jvm::Jvm;
 pub use loading::NoMemory;

@@ -2,21 +2,22 @@
 ghost use Rattle.std.specs.Prelude.{◌≡◌, ◌≤◌, ◌<◌, IfOk, map, length, Some, slice_get};
 ghost use Rattle.jvm_program.specs.Step.{start};
 ghost use Rattle.jvm_program.specs.Values.{zero_of};
+ghost use Rattle.jvm_link.specs.Linking.{program_of};
 ghost use Rattle.jvm_frames.specs.Frames.{HasRoom};
 ghost use Rattle.jvm_heap.specs.Heaps.{nothing_in};
-ghost use Rattle.jvm_link.specs.Linking.{program_of};
-ghost use Rattle.machine_code.specs.declared.machine_method.MachineMethod.{MachineMethod};
+ghost use Rattle.jvm_machine.specs.declared.machine_method.MachineMethod.{MachineMethod};
 ghost use Rattle.jvm_machine.specs.Standing.{Going, Roomy, state_in};
 ghost use Rattle.jvm_machine.specs.Loading.{IsLoaded};
 ghost use Rattle.jvm_machine.specs.Rooms.{IsRoomFor};
 
 use crate::executable::Executable;
+use crate::fields::Fields;
+use crate::machine_code::MachineCode;
 use crate::room::room_for;
+use crate::working::Working;
 use jvm_frames::{Callee, Frames};
 use jvm_heap::Heap;
 use jvm_program::{Kind, LinkedMethod};
-use jvm_steps::{Fields, Working};
-use machine_code::MachineCode;
 use std::alloc::{AllocError, Global};
 
 /// Want of memory.
@@ -34,8 +35,10 @@ pub(crate) fn working_for(
     requires few { words ≤ 68288580 }
     ensures fields { IfOk result (λ w. w.fields ≡ map zero_of kinds.now) }
     ensures heap { IfOk result (λ w. w.heap ≡ nothing_in words) }
-    ensures room { IfOk result (λ w. HasRoom w.frames.waiting.locals_limit w.frames.waiting.operands_limit w.frames.current) }
-    ensures each { IfOk result (λ w. IsRoomFor w.frames.waiting.locals_limit w.frames.waiting.operands_limit methods.now) }
+    ensures room { IfOk result (λ w.
+        HasRoom w.frames.waiting.locals_limit w.frames.waiting.operands_limit w.frames.current) }
+    ensures each { IfOk result (λ w.
+        IsRoomFor w.frames.waiting.locals_limit w.frames.waiting.operands_limit methods.now) }
 {
     let room = room_for(methods);
     Ok(Working {
@@ -48,7 +51,13 @@ pub(crate) fn working_for(
 /// The method with a number, as one that is entered without arguments.
 pub(crate) fn callee_of(code: &MachineCode, method: u32) -> Callee
     requires { method < length code.now.methods }
-    ensures { (entry : MachineMethod) → slice_get code.now.methods method ≡ Some entry → result ≡ record { method = method; start = entry.start; parameters = 0; locals = entry.locals } }
+    ensures { (entry : MachineMethod) → slice_get code.now.methods method ≡ Some entry
+        → result ≡ record {
+          method = method;
+          start = entry.start;
+          parameters = 0;
+          locals = entry.locals;
+        } }
 {
     let entry = code.methods.as_slice()[method as usize];
     Callee {
@@ -65,7 +74,8 @@ pub(crate) fn begin(program: &Executable, kinds: &[Kind], entry: Callee, working
     requires roomy { Roomy program.now.classes working.old }
     ensures going { Going program.now.classes program.now.code working.new }
     ensures roomy { Roomy program.now.classes working.new }
-    ensures state { state_in program.now.classes working.new ≡ start (program_of program.now.classes) }
+    ensures state { state_in program.now.classes working.new
+        ≡ start (program_of program.now.classes) }
     ensures size { working.new.heap.region.size ≡ working.old.heap.region.size }
 {
     working.fields.reset(kinds);

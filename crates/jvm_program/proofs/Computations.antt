@@ -1,11 +1,11 @@
 -- What single instructions compute, as tables: the operands before, top first, and those after.
 use Rattle.std.proofs.Common.{◌≡◌, ℕ, ◌+◌, ◌-◌, ◌^◌, pos, negsuc, List, [], ◌∷◌, map, slice_get, Option, Some, None, refl}
-use Rattle.jvm_code.specs.declared.names.conversion.Conversion.TheVariants.{I2b, I2c, I2s, I2l, L2i}
-use Rattle.jvm_code.specs.declared.names.int_division.IntDivision.TheVariants.{Idiv, Irem}
-use Rattle.jvm_code.specs.declared.names.int_shift.IntShift.TheVariants.{Ishl, Ishr, Iushr}
-use Rattle.jvm_code.specs.declared.names.long_division.LongDivision.TheVariants.{Ldiv, Lrem}
-use Rattle.jvm_code.specs.declared.names.long_shift.LongShift.TheVariants.{Lshl, Lshr, Lushr}
-use Rattle.jvm_code.specs.declared.names.stack_name.StackName.TheVariants.{Pop2, DupX1, DupX2, Dup2, Swap}
+use Rattle.jvm_names.specs.declared.conversion.Conversion.TheVariants.{I2b, I2c, I2s, I2l, L2i}
+use Rattle.jvm_names.specs.declared.int_division.IntDivision.TheVariants.{Idiv, Irem}
+use Rattle.jvm_names.specs.declared.int_shift.IntShift.TheVariants.{Ishl, Ishr, Iushr}
+use Rattle.jvm_names.specs.declared.long_division.LongDivision.TheVariants.{Ldiv, Lrem}
+use Rattle.jvm_names.specs.declared.long_shift.LongShift.TheVariants.{Lshl, Lshr, Lushr}
+use Rattle.jvm_names.specs.declared.stack_name.StackName.TheVariants.{Pop2, DupX1, DupX2, Dup2, Swap}
 use Rattle.jvm_program.specs.declared.instruction.Instruction.{Instruction}
 use Rattle.jvm_program.specs.declared.instruction.Instruction.TheVariants.{Stack, IntDivision, IntShift, LongDivision, LongShift, Convert, LongCompare, TableSwitch, LookupSwitch}
 use Rattle.jvm_program.specs.Values.{Value, unset, int, long, no_arrays}

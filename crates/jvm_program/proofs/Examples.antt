@@ -5,12 +5,12 @@ use Rattle.nv_events.specs.Answer.{Answer, next_answer}
 use Rattle.nv_events.specs.Run.{Run, run_of}
 use Rattle.nv_events.specs.declared.outcome.Outcome.{Outcome}
 use Rattle.nv_events.specs.declared.outcome.Outcome.TheVariants.{Exited, Faulted, Trapped, Waiting, Going}
-use Rattle.jvm_code.specs.declared.names.array_name.ArrayName.TheVariants.{Iaload, Aaload, Aastore}
-use Rattle.jvm_code.specs.declared.names.branch_name.BranchName.TheVariants.{IfIcmplt}
-use Rattle.jvm_code.specs.declared.names.int_division.IntDivision.TheVariants.{Idiv}
-use Rattle.jvm_code.specs.declared.names.int_arithmetic.IntArithmetic.TheVariants.{Iadd, Imul}
-use Rattle.jvm_code.specs.declared.names.stack_name.StackName.TheVariants.{Pop}
-use Rattle.jvm_code.specs.declared.names.return_name.ReturnName.TheVariants as returns
+use Rattle.jvm_names.specs.declared.array_name.ArrayName.TheVariants.{Iaload, Aaload, Aastore}
+use Rattle.jvm_names.specs.declared.branch_name.BranchName.TheVariants.{IfIcmplt}
+use Rattle.jvm_names.specs.declared.int_division.IntDivision.TheVariants.{Idiv}
+use Rattle.jvm_names.specs.declared.int_arithmetic.IntArithmetic.TheVariants.{Iadd, Imul}
+use Rattle.jvm_names.specs.declared.stack_name.StackName.TheVariants.{Pop}
+use Rattle.jvm_names.specs.declared.return_name.ReturnName.TheVariants as returns
 use Rattle.jvm_program.specs.declared.array_kind.ArrayKind.TheVariants as array_kinds
 use Rattle.jvm_program.specs.declared.constant.Constant.TheVariants as constants
 use Rattle.jvm_program.specs.declared.kind.Kind.{Kind}

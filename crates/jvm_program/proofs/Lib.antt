@@ -3,3 +3,4 @@ mod Examples
 pub mod Moving
 pub mod Stretches
 pub mod Turning
+pub mod KindTrials

@@ -1,13 +1,13 @@
 -- An instruction whose targets are moved has the effect that it had, and its targets are the moved ones.
-use Rattle.std.proofs.Common.{◌≡◌, ℕ, suc, ◌+◌, ℤ, ◌-ℤ◌, List, [], ◌∷◌, map, length, slice_get, if◌then◌else◌, Bool, true, false, Option, Some, None, option_map, refl, ap, sym, ◌∙◌}
+use Rattle.std.proofs.Common.{◌≡◌, ℕ, suc, ◌+◌, ℤ, ◌-ℤ◌, List, [], ◌∷◌, map, slice_get, if◌then◌else◌, option_map, refl, ap, ◌∙◌}
 use Rattle.std.proofs.lemmas.List.{length-map}
 use Rattle.std.proofs.lemmas.Option.{slice_get-map}
 use Rattle.nv_words.specs.Words.{signed_of}
-use Rattle.jvm_code.specs.declared.pair.Pair.{Pair}
+use Rattle.jvm_names.specs.declared.pair.Pair.{Pair}
 use Rattle.jvm_program.specs.declared.instruction.Instruction.{Instruction}
-use Rattle.jvm_program.specs.declared.instruction.Instruction.TheVariants.{Branch, TableSwitch, LookupSwitch}
+use Rattle.jvm_program.specs.declared.instruction.Instruction.TheVariants.{TableSwitch, LookupSwitch}
 use Rattle.jvm_program.specs.Program.{Program, targets_of}
-use Rattle.jvm_program.specs.Effect.{Workspace, Effect, jumps, popping_int, with_operands, table_target, lookup_target, same, effect}
+use Rattle.jvm_program.specs.Effect.{Workspace, jumps, popping_int, with_operands, table_target, lookup_target, same, effect}
 use Rattle.jvm_program.specs.Stretch.{moved_instruction}
 
 -- a pair with its target moved

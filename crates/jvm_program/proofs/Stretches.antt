@@ -1,5 +1,5 @@
 -- A stretch of code that is run by itself is a run of the machine wherever it stands.
-use Rattle.std.proofs.Common.{◌≡◌, ℕ, zero, suc, ◌+◌, ◌==◌, ◌<◌, List, [], ◌∷◌, map, length, slice_get, if◌then◌else◌, Bool, true, false, Option, Some, None, option_map, option_and_then, refl, ap, subst, sym, ◌∙◌, arith, eqb→eq, unwrap_or}
+use Rattle.std.proofs.Common.{◌≡◌, ℕ, zero, suc, ◌+◌, ◌==◌, ◌<◌, List, [], ◌∷◌, length, slice_get, if◌then◌else◌, Bool, true, false, Option, Some, None, option_map, option_and_then, refl, ap, subst, sym, ◌∙◌, arith, eqb→eq, unwrap_or}
 use Rattle.std.proofs.lemmas.Bool.{lt-ltb}
 use Rattle.std.proofs.lemmas.Option.{none-some}
 use Rattle.std.specs.Bool.{passes}
@@ -11,9 +11,9 @@ use Rattle.nv_events.proofs.RunLaws.{turned, run_of-suc}
 use Rattle.jvm_program.specs.declared.linked_line.LinkedLine.{LinkedLine}
 use Rattle.jvm_program.specs.Program.{Program, line_in, line_at, targets_of}
 use Rattle.jvm_program.specs.Values.{Value}
-use Rattle.jvm_program.specs.Effect.{Workspace, Effect, goes_on, jumps, enters, gives, asks_host, faults, traps, wrong, frames_trap, effect}
+use Rattle.jvm_program.specs.Effect.{Workspace, Effect, goes_on, jumps, enters, gives, frames_trap, effect}
 use Rattle.jvm_program.specs.Step.{State, Frame, placed, turn, turn_by, executed, jumped, entered, called, returned_to}
-use Rattle.jvm_program.specs.Stretch.{advanced, Point, arrived, led, passed, stretch, moved_instruction, moved_line, StandsAt, body_workspace, caller_workspace, CallsAndReturns}
+use Rattle.jvm_program.specs.Stretch.{advanced, Point, arrived, led, passed, stretch, moved_line, StandsAt, body_workspace, caller_workspace, CallsAndReturns}
 use Rattle.jvm_program.proofs.Moving.{effect-moved, target-moved}
 
 -- a point further on

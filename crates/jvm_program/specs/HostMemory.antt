@@ -1,6 +1,6 @@
 -- The memory that a call of the system sees: two arrays of pages, one of the pages that can be read and one of those that may be
 -- written. The byte at address a is lane a modulo 4 of element (a / 4) modulo 1024 of page a / 4096.
-use Rattle.std.specs.Prelude.{ℕ, ◌+◌, ◌*◌, ◌/◌, ◌%◌, ◌^◌, Bool, nat_lt, if◌then◌else◌, Option, Some, None, is_some, option_map, option_and_then}
+use Rattle.std.specs.Prelude.{ℕ, ◌/◌, ◌%◌, ◌^◌, nat_lt, if◌then◌else◌, Option, Some, None, is_some, option_map, option_and_then}
 use Rattle.std.specs.Option.{option_or}
 use Rattle.nv_words.specs.Words.{lane_of_word, word_with_lane}
 use Rattle.nv_events.specs.Memory.{Memory}
@@ -29,11 +29,13 @@ word_in _ i = None
 -- the element with the byte at an address, where the array, the page and the element are there
 abbrev pub cell_of : Heap → Option ℕ → ℕ → Option Cell
 cell_of heap table a =
-    option_and_then (λ p. option_map (λ w. record { place = p; index = a / 4 % 1024; word = w }) (word_in (heap.array_at p) (a / 4 % 1024)))
+    option_and_then (λ p. option_map (λ w. record { place = p; index = a / 4 % 1024; word = w })
+    (word_in (heap.array_at p) (a / 4 % 1024)))
     (option_and_then (λ t. page_in (heap.array_at t) (a / 4096)) table)
 
 abbrev pub byte_of : Heap → Option ℕ → ℕ → Option ℕ
-byte_of heap table a = if nat_lt a (2 ^ 32) then option_map (λ c. lane_of_word c.word (a % 4)) (cell_of heap table a) else None
+byte_of heap table a = if nat_lt a (2 ^ 32)
+    then option_map (λ c. lane_of_word c.word (a % 4)) (cell_of heap table a) else None
 
 -- what both arrays have is read through the first
 abbrev pub memory_of : HostMemory → Memory

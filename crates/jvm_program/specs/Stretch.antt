@@ -1,7 +1,7 @@
 -- Stretches of code: instructions that are run by themselves, at offsets from their own start, and that stand in a method.
-use Rattle.std.specs.Prelude.{◌≡◌, ℕ, zero, suc, ◌+◌, List, [], ◌∷◌, map, slice_get, Option, Some, None, option_map, option_and_then}
+use Rattle.std.specs.Prelude.{◌≡◌, ℕ, zero, suc, ◌+◌, List, [], ◌∷◌, map, slice_get, Option, Some, None, option_and_then}
 use Rattle.nv_events.specs.Turn.{Turn, moves, ends, leaves, asks}
-use Rattle.jvm_code.specs.declared.pair.Pair.{Pair}
+use Rattle.jvm_names.specs.declared.pair.Pair.{Pair}
 use Rattle.jvm_program.specs.declared.linked_line.LinkedLine.{LinkedLine}
 use Rattle.jvm_program.specs.declared.instruction.Instruction.{Instruction}
 use Rattle.jvm_program.specs.declared.instruction.Instruction.TheVariants.{Branch, TableSwitch, LookupSwitch}
@@ -52,7 +52,8 @@ passed program words (Some line) w = led (effect program words line.instruction 
 abbrev pub stretch : Program → ℕ → List LinkedLine → ℕ → ℕ → Workspace → Option Point
 stretch program words lines zero at w = Some (record { at = at; workspace = w })
 stretch program words lines (suc n) at w =
-    option_and_then (λ (p : Point). stretch program words lines n p.at p.workspace) (passed program words (line_in lines at) w)
+    option_and_then (λ (p : Point). stretch program words lines n p.at p.workspace)
+    (passed program words (line_in lines at) w)
 
 -- ---- lines that stand in a method
 
@@ -60,32 +61,60 @@ stretch program words lines (suc n) at w =
 abbrev pub moved_instruction : ℕ → Instruction → Instruction
 moved_instruction by (Branch name target) = Branch name (by + target)
 moved_instruction by (TableSwitch s) =
-    TableSwitch (record { default = by + s.default; low = s.low; targets = map (λ t. by + t) s.targets })
+    TableSwitch (record {
+      default = by + s.default;
+      low = s.low;
+      targets = map (λ t. by + t) s.targets;
+    })
 moved_instruction by (LookupSwitch s) =
-    LookupSwitch (record { default = by + s.default; pairs = map (λ (p : Pair). record { key = p.key; target = by + p.target }) s.pairs })
+    LookupSwitch (record {
+      default = by + s.default;
+      pairs = map (λ (p : Pair). record { key = p.key; target = by + p.target }) s.pairs;
+    })
 moved_instruction by instruction = instruction
 
 abbrev pub moved_line : ℕ → LinkedLine → LinkedLine
-moved_line by l = record { at = by + l.at; next = by + l.next; instruction = moved_instruction by l.instruction }
+moved_line by l = record {
+  at = by + l.at;
+  next = by + l.next;
+  instruction = moved_instruction by l.instruction;
+}
 
 -- a method has the lines from an offset on
 abbrev pub StandsAt : Program → ℕ → ℕ → List LinkedLine → Type 0
 StandsAt program m by [] = Unit {0}
-StandsAt program m by (l ∷ lines) = (line_at program m (by + l.at) ≡ Some (moved_line by l)) × StandsAt program m by lines
+StandsAt program m by (l ∷ lines) = (line_at program m (by + l.at) ≡ Some (moved_line by l))
+    × StandsAt program m by lines
 
 -- ---- calls
 
 -- what the body of a called method begins with
 abbrev pub body_workspace : List Value → Workspace → Workspace
-body_workspace given w = record { locals = (entered 0 given).locals; operands = []; fields = w.fields; heap = w.heap }
+body_workspace given w = record {
+  locals = (entered 0 given).locals;
+  operands = [];
+  fields = w.fields;
+  heap = w.heap;
+}
 
 -- what the caller goes on with
 abbrev pub caller_workspace : Option Value → Workspace → Workspace → Workspace
-caller_workspace None w back = record { locals = w.locals; operands = w.operands; fields = back.fields; heap = back.heap }
-caller_workspace (Some v) w back = record { locals = w.locals; operands = v ∷ w.operands; fields = back.fields; heap = back.heap }
+caller_workspace None w back = record {
+  locals = w.locals;
+  operands = w.operands;
+  fields = back.fields;
+  heap = back.heap;
+}
+caller_workspace (Some v) w back = record {
+  locals = w.locals;
+  operands = v ∷ w.operands;
+  fields = back.fields;
+  heap = back.heap;
+}
 
 -- A line calls a method with arguments; the method's lines lead from their start to a return after so many instructions.
-pub record CallsAndReturns (program : Program) (words m : ℕ) (line : LinkedLine) (w : Workspace) (n : ℕ) (result : Option Value) (caller back : Workspace) : Type 0 where
+pub record CallsAndReturns (program : Program) (words m : ℕ) (line : LinkedLine) (w : Workspace)
+    (n : ℕ) (result : Option Value) (caller back : Workspace) : Type 0 where
   pub stands : line_at program m line.at ≡ Some line
   pub callee : ℕ
   pub given : List Value

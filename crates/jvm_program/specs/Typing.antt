@@ -1,13 +1,13 @@
 -- JVM Specification, 4.10: when a method's code is typed. A typing gives the frame with which an instruction is entered.
-use Rattle.std.specs.Prelude.{◌≡◌, ℕ, zero, suc, ◌+◌, ◌==◌, ◌<◌, ◌≤◌, ◌&&◌, Bool, true, false, not, if◌then◌else◌, List, [], ◌∷◌, ◌++◌, length, slice_index_or, Option, Some, None, option_map, IsTrue, All}
-use Rattle.jvm_code.specs.declared.names.array_name.ArrayName.{ArrayName}
-use Rattle.jvm_code.specs.declared.names.array_name.ArrayName.TheVariants.{Iaload, Aaload, Iastore, Aastore}
-use Rattle.jvm_code.specs.declared.names.branch_name.BranchName.{BranchName}
-use Rattle.jvm_code.specs.declared.names.branch_name.BranchName.TheVariants.{Ifeq, Ifne, Iflt, Ifge, Ifgt, Ifle, IfIcmpeq, IfIcmpne, IfIcmplt, IfIcmpge, IfIcmpgt, IfIcmple, Goto, Ifnull, Ifnonnull}
-use Rattle.jvm_code.specs.declared.names.conversion.Conversion.{Conversion}
-use Rattle.jvm_code.specs.declared.names.conversion.Conversion.TheVariants.{I2l, L2i, I2b, I2c, I2s}
-use Rattle.jvm_code.specs.declared.names.return_name.ReturnName.{ReturnName}
-use Rattle.jvm_code.specs.declared.names.return_name.ReturnName.TheVariants as returns
+use Rattle.std.specs.Prelude.{◌≡◌, ℕ, ◌+◌, ◌==◌, ◌<◌, ◌≤◌, ◌&&◌, Bool, true, false, not, if◌then◌else◌, List, [], ◌∷◌, ◌++◌, length, slice_index_or, Option, Some, None, option_map, All}
+use Rattle.jvm_names.specs.declared.array_name.ArrayName.{ArrayName}
+use Rattle.jvm_names.specs.declared.array_name.ArrayName.TheVariants.{Iaload, Aaload, Iastore, Aastore}
+use Rattle.jvm_names.specs.declared.branch_name.BranchName.{BranchName}
+use Rattle.jvm_names.specs.declared.branch_name.BranchName.TheVariants.{Ifeq, Ifne, Iflt, Ifge, Ifgt, Ifle, IfIcmpeq, IfIcmpne, IfIcmplt, IfIcmpge, IfIcmpgt, IfIcmple, Goto, Ifnull, Ifnonnull}
+use Rattle.jvm_names.specs.declared.conversion.Conversion.{Conversion}
+use Rattle.jvm_names.specs.declared.conversion.Conversion.TheVariants.{I2l, L2i, I2b, I2c, I2s}
+use Rattle.jvm_names.specs.declared.return_name.ReturnName.{ReturnName}
+use Rattle.jvm_names.specs.declared.return_name.ReturnName.TheVariants as returns
 use Rattle.jvm_program.specs.declared.array_kind.ArrayKind.{ArrayKind}
 use Rattle.jvm_program.specs.declared.array_kind.ArrayKind.TheVariants as array_kinds
 use Rattle.jvm_program.specs.declared.constant.Constant.{Constant}
@@ -172,7 +172,8 @@ type_effect program (Put f kind) = exchanges (kind ∷ []) []
 type_effect program Length = exchanges (Text ∷ []) (Int ∷ [])
 type_effect program CharAt = exchanges (Int ∷ Text ∷ []) (Int ∷ [])
 type_effect program (Call m) = call_type (program.method m)
-type_effect program CallHost = exchanges (Int ∷ Int ∷ Int ∷ Int ∷ Int ∷ Pages ∷ Pages ∷ []) (Int ∷ [])
+type_effect program CallHost =
+    exchanges (Int ∷ Int ∷ Int ∷ Int ∷ Int ∷ Pages ∷ Pages ∷ []) (Int ∷ [])
 type_effect program FaultHost = exchanges (Int ∷ Int ∷ Int ∷ []) []
 type_effect program (Return name) = return_type name
 type_effect program (NewArray kind) = exchanges (Int ∷ []) (array_type kind ∷ [])
@@ -185,7 +186,11 @@ abbrev pub with_stack : TypeFrame → List Kind → TypeFrame
 with_stack f stack = record { locals = f.locals; stack = stack }
 
 abbrev pub with_local_kind : TypeFrame → ℕ → Kind → List Kind → TypeFrame
-with_local_kind f i kind stack = record { locals = λ k. if k == i then kind else f.locals k; stack = stack }
+with_local_kind f i kind stack = record {
+  locals = λ k. if k == i then kind
+      else f.locals k;
+  stack = stack;
+}
 
 -- the operands below those that are taken
 abbrev pub taken : List Kind → List Kind → Option (List Kind)
@@ -207,13 +212,17 @@ moves_kind local_kinds.Reference kind = is_reference_kind kind
 
 abbrev pub stored : LocalKind → ℕ → TypeFrame → List Kind → Option TypeFrame
 stored moved i f [] = None
-stored moved i f (s ∷ stack) = if moves_kind moved s then Some (with_local_kind f i s stack) else None
+stored moved i f (s ∷ stack) = if moves_kind moved s then Some (with_local_kind f i s stack)
+    else None
 
 abbrev pub applied : TypeEffect → TypeFrame → Option TypeFrame
-applied (exchanges kinds given) f = option_map (λ stack. with_stack f (given ++ stack)) (taken kinds f.stack)
+applied (exchanges kinds given) f =
+    option_map (λ stack. with_stack f (given ++ stack)) (taken kinds f.stack)
 applied takes_reference f = option_map (with_stack f) (taken_one is_reference_kind f.stack)
-applied takes_array f = option_map (λ stack. with_stack f (Int ∷ stack)) (taken_one is_array_kind f.stack)
-applied (loads moved i) f = if moves_kind moved (f.locals i) then Some (with_stack f (f.locals i ∷ f.stack)) else None
+applied takes_array f =
+    option_map (λ stack. with_stack f (Int ∷ stack)) (taken_one is_array_kind f.stack)
+applied (loads moved i) f = if moves_kind moved (f.locals i)
+    then Some (with_stack f (f.locals i ∷ f.stack)) else None
 applied (stores moved i) f = stored moved i f f.stack
 applied (increments i) f = if same_kind (f.locals i) Int then Some f else None
 applied (shuffles forms) f = option_map (with_stack f) (shuffled is_long_kind forms f.stack)
@@ -235,10 +244,12 @@ Frames = ℕ → Option TypeFrame
 -- an offset has an instruction, and a frame above the given one
 abbrev pub Receives : LinkedMethod → Frames → TypeFrame → ℕ → Type 0
 Receives method frames f at =
-    (line : LinkedLine) × (g : TypeFrame) × (line_in method.lines at ≡ Some line) × (frames at ≡ Some g) × Below f g
+    (line : LinkedLine) × (g : TypeFrame) × (line_in method.lines at ≡ Some line)
+    × (frames at ≡ Some g) × Below f g
 
 -- the rule of an instruction that is entered with a frame
-pub record Follows (program : Program) (method : LinkedMethod) (frames : Frames) (line : LinkedLine) (f : TypeFrame) : Type 0 where
+pub record Follows (program : Program) (method : LinkedMethod) (frames : Frames) (line : LinkedLine)
+    (f : TypeFrame) : Type 0 where
   pub local : local_within (type_effect program line.instruction) method.locals
   pub behind : TypeFrame
   pub fits : applied (type_effect program line.instruction) f ≡ Some behind
@@ -250,11 +261,14 @@ abbrev pub entry_frame : LinkedMethod → TypeFrame
 entry_frame method = record { locals = λ i. slice_index_or method.parameters i Top; stack = [] }
 
 -- the rules of the method's start and of the instructions at offsets up to one
-pub record IsTypingTo (program : Program) (method : LinkedMethod) (frames : Frames) (last : ℕ) : Type 0 where
+pub record IsTypingTo (program : Program) (method : LinkedMethod) (frames : Frames) (last : ℕ)
+    : Type 0 where
   pub operands : (at : ℕ) (f : TypeFrame) → frames at ≡ Some f → no_top f.stack ≡ true
   pub parameters : length method.parameters ≤ method.locals
   pub entry : Receives method frames (entry_frame method) 0
-  pub rules : (at : ℕ) (line : LinkedLine) (f : TypeFrame) → at ≤ last → line_in method.lines at ≡ Some line → frames at ≡ Some f → Follows program method frames line f
+  pub rules : (at : ℕ) (line : LinkedLine) (f : TypeFrame) → at ≤ last
+      → line_in method.lines at ≡ Some line → frames at ≡ Some f
+      → Follows program method frames line f
 
 -- the rules of the method's start and of all instructions
 abbrev pub IsTyping : Program → LinkedMethod → Frames → Type 0
@@ -265,7 +279,8 @@ Typed program method = (frames : Frames) × IsTyping program method frames
 
 -- each method of the program is typed
 abbrev pub AllTyped : Program → Type 0
-AllTyped program = (m : ℕ) (method : LinkedMethod) → program.method m ≡ Some method → Typed program method
+AllTyped program = (m : ℕ) (method : LinkedMethod) → program.method m ≡ Some method
+    → Typed program method
 
 abbrev pub NamesField : Program → Instruction → Type 0
 NamesField program (Get f kind) = program.field f ≡ Some kind
@@ -284,8 +299,12 @@ GivesAs method _ = Unit {0}
 -- what linking promises: an instruction names a field with the field's type, a return is of its method's kind, and the first method
 -- takes and gives nothing
 pub record IsLinked (program : Program) : Type 0 where
-  pub fields : (m : ℕ) (method : LinkedMethod) (at : ℕ) (line : LinkedLine) → program.method m ≡ Some method → line_in method.lines at ≡ Some line → NamesField program line.instruction
-  pub returns : (m : ℕ) (method : LinkedMethod) (at : ℕ) (line : LinkedLine) → program.method m ≡ Some method → line_in method.lines at ≡ Some line → GivesAs method line.instruction
+  pub fields : (m : ℕ) (method : LinkedMethod) (at : ℕ) (line : LinkedLine)
+      → program.method m ≡ Some method → line_in method.lines at ≡ Some line
+      → NamesField program line.instruction
+  pub returns : (m : ℕ) (method : LinkedMethod) (at : ℕ) (line : LinkedLine)
+      → program.method m ≡ Some method → line_in method.lines at ≡ Some line
+      → GivesAs method line.instruction
   pub first : LinkedMethod
   pub first_is : program.method program.first ≡ Some first
   pub takes_nothing : first.parameters ≡ []

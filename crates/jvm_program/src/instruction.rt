@@ -2,7 +2,7 @@ use crate::array_kind::ArrayKind;
 use crate::constant::Constant;
 use crate::kind::Kind;
 use crate::local_kind::LocalKind;
-use jvm_code::{
+use jvm_names::{
     ArrayName, BranchName, Conversion, IntArithmetic, IntDivision, IntShift, LongArithmetic,
     LongDivision, LongShift, LookupSwitch, ReturnName, StackName, TableSwitch,
 };

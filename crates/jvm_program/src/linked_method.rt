@@ -1,6 +1,6 @@
 use crate::kind::Kind;
 use crate::linked_line::LinkedLine;
-use class_format::Sequence;
+use jvm_names::Sequence;
 
 /// A static method whose code is linked (JVM Specification, 4.6 and 4.7.3).
 #[derive(Drop)]

@@ -3,15 +3,15 @@ use Rattle.std.proofs.Common.{◌≡◌, ℕ, suc, ◌+◌, ◌^◌, ◌<◌, �
 use Rattle.std.proofs.lemmas.Bool.Decides.{nat_tests}
 use Rattle.std.proofs.lemmas.List.{append-nil}
 use Rattle.nv_words.specs.Words.{signed_of}
-use Rattle.jvm_code.specs.declared.pair.Pair.{Pair}
-use Rattle.jvm_code.specs.declared.names.array_name.ArrayName.{ArrayName}
-use Rattle.jvm_code.specs.declared.names.array_name.ArrayName.TheVariants.{Iaload, Aaload, Iastore, Aastore}
-use Rattle.jvm_code.specs.declared.names.branch_name.BranchName.{BranchName}
-use Rattle.jvm_code.specs.declared.names.branch_name.BranchName.TheVariants.{Ifeq, Ifne, Iflt, Ifge, Ifgt, Ifle, IfIcmpeq, IfIcmpne, IfIcmplt, IfIcmpge, IfIcmpgt, IfIcmple, Goto, Ifnull, Ifnonnull}
-use Rattle.jvm_code.specs.declared.names.conversion.Conversion.{Conversion}
-use Rattle.jvm_code.specs.declared.names.conversion.Conversion.TheVariants.{I2l, L2i, I2b, I2c, I2s}
-use Rattle.jvm_code.specs.declared.names.return_name.ReturnName.{ReturnName}
-use Rattle.jvm_code.specs.declared.names.return_name.ReturnName.TheVariants as returns
+use Rattle.jvm_names.specs.declared.pair.Pair.{Pair}
+use Rattle.jvm_names.specs.declared.array_name.ArrayName.{ArrayName}
+use Rattle.jvm_names.specs.declared.array_name.ArrayName.TheVariants.{Iaload, Aaload, Iastore, Aastore}
+use Rattle.jvm_names.specs.declared.branch_name.BranchName.{BranchName}
+use Rattle.jvm_names.specs.declared.branch_name.BranchName.TheVariants.{Ifeq, Ifne, Iflt, Ifge, Ifgt, Ifle, IfIcmpeq, IfIcmpne, IfIcmplt, IfIcmpge, IfIcmpgt, IfIcmple, Goto, Ifnull, Ifnonnull}
+use Rattle.jvm_names.specs.declared.conversion.Conversion.{Conversion}
+use Rattle.jvm_names.specs.declared.conversion.Conversion.TheVariants.{I2l, L2i, I2b, I2c, I2s}
+use Rattle.jvm_names.specs.declared.return_name.ReturnName.{ReturnName}
+use Rattle.jvm_names.specs.declared.return_name.ReturnName.TheVariants as returns
 use Rattle.jvm_program.specs.declared.array_kind.ArrayKind.{ArrayKind}
 use Rattle.jvm_program.specs.declared.array_kind.ArrayKind.TheVariants as array_kinds
 use Rattle.jvm_program.specs.declared.constant.Constant.{Constant}

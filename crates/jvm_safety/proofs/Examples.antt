@@ -3,8 +3,8 @@ use Rattle.std.proofs.Common.{◌≡◌, ℕ, zero, suc, ◌==◌, Bool, true, f
 use Rattle.nv_events.specs.Answer.{next_answer}
 use Rattle.nv_events.specs.Run.{run_of}
 use Rattle.nv_events.specs.declared.outcome.Outcome.TheVariants.{Trapped}
-use Rattle.jvm_code.specs.declared.names.stack_name.StackName.TheVariants.{Pop}
-use Rattle.jvm_code.specs.declared.names.return_name.ReturnName.TheVariants as returns
+use Rattle.jvm_names.specs.declared.stack_name.StackName.TheVariants.{Pop}
+use Rattle.jvm_names.specs.declared.return_name.ReturnName.TheVariants as returns
 use Rattle.jvm_program.specs.declared.linked_line.LinkedLine.{LinkedLine}
 use Rattle.jvm_program.specs.declared.linked_method.LinkedMethod.{LinkedMethod}
 use Rattle.jvm_program.specs.declared.instruction.Instruction.{Instruction}

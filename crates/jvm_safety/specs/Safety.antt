@@ -24,12 +24,15 @@ Conform heap (k ∷ kinds) (v ∷ values) = (conforms heap k v ≡ true) × Conf
 
 -- An element of an array of arrays is null or the place of an array of ints; and nothing stands where new arrays will.
 pub record HeapIsSafe (heap : Heap) : Type 0 where
-  pub elements : (p size : ℕ) (places : ℕ → Option ℕ) (i q : ℕ) → heap.array_at p ≡ Some (pages size places) → i < size → places i ≡ Some q → is_ints (heap.array_at q) ≡ true
+  pub elements : (p size : ℕ) (places : ℕ → Option ℕ) (i q : ℕ)
+      → heap.array_at p ≡ Some (pages size places) → i < size → places i ≡ Some q
+      → is_ints (heap.array_at q) ≡ true
   pub free : (p : ℕ) → heap.used ≤ p → heap.array_at p ≡ None
 
 -- each field is of its type
 abbrev pub FieldsAreSafe : Program → Heap → (ℕ → Value) → Type 0
-FieldsAreSafe program heap fields = (f : ℕ) (kind : Kind) → program.field f ≡ Some kind → conforms heap kind (fields f) ≡ true
+FieldsAreSafe program heap fields = (f : ℕ) (kind : Kind) → program.field f ≡ Some kind
+    → conforms heap kind (fields f) ≡ true
 
 -- ---- frames
 
@@ -52,7 +55,8 @@ given gives_int n = if gives_int then Some (int n) else None
 
 -- a frame that waits for a call, which stands behind it, is safe once it has what the called method gives
 abbrev pub CallerIsSafe : Program → Heap → Bool → Frame → Type 0
-CallerIsSafe program heap gives_int f = (n : ℕ) → FrameIsSafe program heap (with_result (given gives_int n) f)
+CallerIsSafe program heap gives_int f =
+    (n : ℕ) → FrameIsSafe program heap (with_result (given gives_int n) f)
 
 abbrev pub gives_int_of : Option LinkedMethod → Bool
 gives_int_of None = false
@@ -62,12 +66,14 @@ gives_int_of (Some method) = method.gives_int
 abbrev pub CallersAreSafe : Program → Heap → Bool → List Frame → Type 0
 CallersAreSafe program heap gives_int [] = gives_int ≡ false
 CallersAreSafe program heap gives_int (f ∷ others) =
-    CallerIsSafe program heap gives_int f × CallersAreSafe program heap (gives_int_of (program.method f.method)) others
+    CallerIsSafe program heap gives_int f
+    × CallersAreSafe program heap (gives_int_of (program.method f.method)) others
 
 abbrev pub FramesAreSafe : Program → Heap → List Frame → Type 0
 FramesAreSafe program heap [] = ⊥
 FramesAreSafe program heap (f ∷ others) =
-    FrameIsSafe program heap f × CallersAreSafe program heap (gives_int_of (program.method f.method)) others
+    FrameIsSafe program heap f
+    × CallersAreSafe program heap (gives_int_of (program.method f.method)) others
 
 pub record IsSafe (program : Program) (s : State) : Type 0 where
   pub heap : HeapIsSafe s.heap

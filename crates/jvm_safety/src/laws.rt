@@ -17,40 +17,60 @@ use nv_events::Server;
 
 /// The state with which a program begins is safe.
 pub fn start_is_safe()
-    ensures { (program : Program) → AllTyped program → IsLinked program → IsSafe program (start program) }
+    ensures { (program : Program) → AllTyped program → IsLinked program
+        → IsSafe program (start program) }
 {}
 
 /// Preservation (JVM Specification, 4.10): a step from a safe state leads to a safe state, whatever the system answers.
 pub fn steps_stay_safe()
-    ensures moves { (program : Program) (words : ℕ) (s t : State) → AllTyped program → IsLinked program → IsSafe program s → turn program words s ≡ moves t → IsSafe program t }
-    ensures asks { (program : Program) (words : ℕ) (s : State) (q : Question) (next : Answer → State) → AllTyped program → IsLinked program → IsSafe program s → turn program words s ≡ asks q next → (a : Answer) → IsSafe program (next a) }
+    ensures moves { (program : Program) (words : ℕ) (s t : State) → AllTyped program
+        → IsLinked program → IsSafe program s → turn program words s ≡ moves t → IsSafe program t }
+    ensures asks { (program : Program) (words : ℕ) (s : State) (q : Question)
+        (next : Answer → State) → AllTyped program → IsLinked program → IsSafe program s
+        → turn program words s ≡ asks q next → (a : Answer) → IsSafe program (next a) }
 {}
 
 /// Progress: a safe state has a step.
 pub fn safe_states_step()
-    ensures { (program : Program) (words : ℕ) (s : State) → AllTyped program → IsLinked program → IsSafe program s → turn program words s ≢ stuck }
+    ensures { (program : Program) (words : ℕ) (s : State) → AllTyped program → IsLinked program
+        → IsSafe program s → turn program words s ≢ stuck }
 {}
 
 /// What the instruction of a safe state finds: its method and itself, a local variable that is there, operands that it takes, and
 /// room for those that it leaves.
 pub fn operands_fit()
-    ensures { (program : Program) (words : ℕ) (s : State) (f : Frame) (others : List Frame) → IsLinked program → IsSafe program s → s.frames ≡ f ∷ others → InstructionFits program words s f }
+    ensures { (program : Program) (words : ℕ) (s : State) (f : Frame) (others : List Frame)
+        → IsLinked program → IsSafe program s → s.frames ≡ f ∷ others
+        → InstructionFits program words s f }
 {}
 
 /// A safe frame has no more operands than its method declares, and a frame that waits has room for what it is given.
 pub fn frames_hold()
-    ensures running { (program : Program) (heap : Heap) (f : Frame) (method : LinkedMethod) → FrameIsSafe program heap f → program.method f.method ≡ Some method → slots_in f.operands ≤ method.stack }
-    ensures waiting { (program : Program) (heap : Heap) (gives_int : Bool) (f : Frame) (method : LinkedMethod) → CallerIsSafe program heap gives_int f → program.method f.method ≡ Some method → slots_in f.operands + (if gives_int then 1 else 0) ≤ method.stack }
+    ensures running { (program : Program) (heap : Heap) (f : Frame) (method : LinkedMethod)
+        → FrameIsSafe program heap f → program.method f.method ≡ Some method
+        → slots_in f.operands ≤ method.stack }
+    ensures waiting { (program : Program) (heap : Heap) (gives_int : Bool) (f : Frame)
+        (method : LinkedMethod) → CallerIsSafe program heap gives_int f
+        → program.method f.method ≡ Some method
+        → slots_in f.operands + (if gives_int then 1 else 0) ≤ method.stack }
 {}
 
 /// A run from a safe state leaves a safe one.
 pub fn runs_stay_safe<V: Server>()
-    ensures answers { (program : Program) (words n : ℕ) (s : State) (answers : List Answer) → AllTyped program → IsLinked program → IsSafe program s → IsSafe program (run_of (turn program words) next_answer n s answers).last }
-    ensures servers { (program : Program) (words n : ℕ) (s : State) (k : V.State) → AllTyped program → IsLinked program → IsSafe program s → IsSafe program (run_of (turn program words) V.reply n s k).last }
+    ensures answers { (program : Program) (words n : ℕ) (s : State) (answers : List Answer)
+        → AllTyped program → IsLinked program → IsSafe program s
+        → IsSafe program (run_of (turn program words) next_answer n s answers).last }
+    ensures servers { (program : Program) (words n : ℕ) (s : State) (k : V.State) → AllTyped program
+        → IsLinked program → IsSafe program s
+        → IsSafe program (run_of (turn program words) V.reply n s k).last }
 {}
 
 /// No run of a typed program comes to a step that no rule gives: not over any list of answers, and not over any server.
 pub fn typed_programs_are_never_stuck<V: Server>()
-    ensures answers { (program : Program) (words n : ℕ) (answers : List Answer) → AllTyped program → IsLinked program → (run_of (turn program words) next_answer n (start program) answers).outcome ≢ Trapped 0 }
-    ensures servers { (program : Program) (words n : ℕ) (k : V.State) → AllTyped program → IsLinked program → (run_of (turn program words) V.reply n (start program) k).outcome ≢ Trapped 0 }
+    ensures answers { (program : Program) (words n : ℕ) (answers : List Answer) → AllTyped program
+        → IsLinked program
+        → (run_of (turn program words) next_answer n (start program) answers).outcome ≢ Trapped 0 }
+    ensures servers { (program : Program) (words n : ℕ) (k : V.State) → AllTyped program
+        → IsLinked program
+        → (run_of (turn program words) V.reply n (start program) k).outcome ≢ Trapped 0 }
 {}

@@ -1,7 +1,7 @@
 -- The method of a class that puts the words of the class's texts into pages.
 use Rattle.std.specs.Prelude.{ℕ, List, [], ◌∷◌, ◌++◌}
 use Rattle.std.specs.List.{flat_map}
-use Rattle.jvm_code.specs.declared.names.array_name.ArrayName.TheVariants.{Aaload}
+use Rattle.jvm_names.specs.declared.array_name.ArrayName.TheVariants.{Aaload}
 use Rattle.jvm_program.specs.declared.constant.Constant.TheVariants as constants
 use Rattle.jvm_program.specs.declared.instruction.Instruction.TheVariants as instructions
 use Rattle.code_steps.specs.declared.step.Step.{Step}
@@ -17,7 +17,8 @@ push_text class slot = Does (instructions.Push (constants.Text class slot))
 -- a page and its text are given to the method that puts words into pages
 abbrev pub page_code : ℕ → ℕ → PageSlot → List Step
 page_code class words s =
-    readable_table ∷ push_word s.page ∷ Does (instructions.Array Aaload) ∷ push_text class s.slot ∷ call words ∷ []
+    readable_table ∷ push_word s.page ∷ Does (instructions.Array Aaload) ∷ push_text class s.slot
+    ∷ call words ∷ []
 
 abbrev pub filled_code : List PageSlot → ℕ → ℕ → List Step
 filled_code slots class words = flat_map (page_code class words) slots

@@ -1,9 +1,9 @@
 -- The method that makes pages, whose argument is a text. The text has three characters for each run of pages: the run's first page
 -- divided by 4,096, with 128 added where its pages can be written; the first page modulo 4,096; and the number of its pages less 1.
 use Rattle.std.specs.Prelude.{ℕ, List, [], ◌∷◌, ◌++◌, length}
-use Rattle.jvm_code.specs.declared.names.array_name.ArrayName.TheVariants.{Aaload, Aastore}
-use Rattle.jvm_code.specs.declared.names.branch_name.BranchName.TheVariants.{IfIcmplt, IfIcmpgt}
-use Rattle.jvm_code.specs.declared.names.int_arithmetic.IntArithmetic.TheVariants.{Iadd, Iand}
+use Rattle.jvm_names.specs.declared.array_name.ArrayName.TheVariants.{Aaload, Aastore}
+use Rattle.jvm_names.specs.declared.branch_name.BranchName.TheVariants.{IfIcmplt, IfIcmpgt}
+use Rattle.jvm_names.specs.declared.int_arithmetic.IntArithmetic.TheVariants.{Iadd, Iand}
 use Rattle.jvm_program.specs.declared.array_kind.ArrayKind.TheVariants.{Ints}
 use Rattle.jvm_program.specs.declared.instruction.Instruction.TheVariants as instructions
 use Rattle.code_steps.specs.declared.step.Step.{Step}
@@ -20,7 +20,8 @@ begun_code = push_word 0 ∷ store 1 ∷ []
 -- the run's first page
 abbrev pub first_page_code : List Step
 first_page_code =
-    load 2 ∷ push_word 127 ∷ arithmetic Iand ∷ push_word 12 ∷ shift_left ∷ (next_character 0 1 ++ arithmetic Iadd ∷ store 3 ∷ [])
+    load 2 ∷ push_word 127 ∷ arithmetic Iand ∷ push_word 12 ∷ shift_left
+    ∷ (next_character 0 1 ++ arithmetic Iadd ∷ store 3 ∷ [])
 
 abbrev pub last_page_code : List Step
 last_page_code = load 3 ∷ (next_character 0 1 ++ arithmetic Iadd ∷ store 4 ∷ [])
@@ -32,19 +33,22 @@ run_code = next_character 0 1 ++ store 2 ∷ (first_page_code ++ last_page_code)
 -- a page of zeros can be read
 abbrev pub made_code : List Step
 made_code =
-    readable_table ∷ load 3 ∷ push_word 1024 ∷ Does (instructions.NewArray Ints) ∷ Does (instructions.Array Aastore) ∷ []
+    readable_table ∷ load 3 ∷ push_word 1024 ∷ Does (instructions.NewArray Ints)
+    ∷ Does (instructions.Array Aastore) ∷ []
 
 -- the page can be written: the array is the same
 abbrev pub shared_code : List Step
 shared_code =
-    writable_table ∷ load 3 ∷ readable_table ∷ load 3 ∷ Does (instructions.Array Aaload) ∷ Does (instructions.Array Aastore) ∷ []
+    writable_table ∷ load 3 ∷ readable_table ∷ load 3 ∷ Does (instructions.Array Aaload)
+    ∷ Does (instructions.Array Aastore) ∷ []
 
 abbrev pub writable_code : List Step
 writable_code = load 2 ∷ push_word 128 ∷ Skips IfIcmplt (length shared_code) ∷ shared_code
 
 -- the run's next page, whose code is at an offset, unless the last one was made
 abbrev pub next_code : ℕ → List Step
-next_code target = Does (instructions.Increment 3 1) ∷ load 3 ∷ load 4 ∷ Skips IfIcmpgt 1 ∷ Leaves target ∷ []
+next_code target = Does (instructions.Increment 3 1) ∷ load 3 ∷ load 4 ∷ Skips IfIcmpgt 1
+    ∷ Leaves target ∷ []
 
 -- ---- The method: a loop over the runs, and in it a loop over the run's pages.
 

@@ -1,14 +1,14 @@
 -- Parts of the code that makes a program's memory. A text is a string in a local variable.
 use Rattle.std.specs.Prelude.{ℕ, List, [], ◌∷◌}
-use Rattle.jvm_code.specs.declared.names.branch_name.BranchName.TheVariants.{IfIcmpge}
-use Rattle.jvm_code.specs.declared.names.int_shift.IntShift.TheVariants.{Ishl}
-use Rattle.jvm_code.specs.declared.names.return_name.ReturnName.TheVariants as return_names
+use Rattle.jvm_names.specs.declared.branch_name.BranchName.TheVariants.{IfIcmpge}
+use Rattle.jvm_names.specs.declared.int_shift.IntShift.TheVariants.{Ishl}
+use Rattle.jvm_names.specs.declared.return_name.ReturnName.TheVariants as return_names
 use Rattle.jvm_program.specs.declared.kind.Kind.TheVariants as kinds
 use Rattle.jvm_program.specs.declared.local_kind.LocalKind.TheVariants as local_kinds
 use Rattle.jvm_program.specs.declared.instruction.Instruction.TheVariants as instructions
 use Rattle.code_steps.specs.declared.step.Step.{Step}
 use Rattle.code_steps.specs.declared.step.Step.TheVariants.{Does, Skips}
-use Rattle.guest_match.specs.Match.{readable_field, writable_field}
+use Rattle.guest_layout.specs.FieldNumbers.{readable_field, writable_field}
 
 -- a local variable that holds an int, or a reference
 abbrev pub load : ℕ → Step
@@ -39,8 +39,10 @@ writable_table = Does (instructions.Get writable_field kinds.Pages)
 -- the character of a text at a place, which then is that of the next one; the place is in a local variable too
 abbrev pub next_character : ℕ → ℕ → List Step
 next_character text place =
-    load_reference text ∷ load place ∷ Does instructions.CharAt ∷ Does (instructions.Increment place 1) ∷ []
+    load_reference text ∷ load place ∷ Does instructions.CharAt
+    ∷ Does (instructions.Increment place 1) ∷ []
 
 -- the place is behind the text: that many of the following steps are passed over
 abbrev pub ended_code : ℕ → ℕ → ℕ → List Step
-ended_code text place over = load place ∷ load_reference text ∷ Does instructions.Length ∷ Skips IfIcmpge over ∷ []
+ended_code text place over =
+    load place ∷ load_reference text ∷ Does instructions.Length ∷ Skips IfIcmpge over ∷ []

@@ -2,14 +2,14 @@
 use Rattle.std.specs.Prelude.{ℕ, List, [], ◌∷◌, ◌++◌, map}
 use Rattle.std.specs.List.{flat_map}
 use Rattle.nv_events.specs.declared.call.Call.{Call}
+use Rattle.mips_decode.specs.State.{argument_page, stack_start}
+use Rattle.mips_decode.specs.Step.{order_number}
 use Rattle.jvm_program.specs.declared.array_kind.ArrayKind.TheVariants.{Pages}
 use Rattle.jvm_program.specs.declared.kind.Kind.TheVariants as kinds
 use Rattle.jvm_program.specs.declared.instruction.Instruction.TheVariants as instructions
-use Rattle.mips_decode.specs.State.{argument_page, stack_start}
-use Rattle.mips_decode.specs.Step.{order_number}
 use Rattle.code_steps.specs.declared.step.Step.{Step}
 use Rattle.code_steps.specs.declared.step.Step.TheVariants.{Does}
-use Rattle.guest_match.specs.Match.{register_field, pc_field, readable_field, writable_field, page_count}
+use Rattle.guest_layout.specs.FieldNumbers.{register_field, pc_field, readable_field, writable_field, page_count}
 use Rattle.guest_code.specs.Access.{push_word, put_field}
 use Rattle.loading_code.specs.declared.beginning.Beginning.{Beginning}
 use Rattle.loading_code.specs.Parts.{call, returns, readable_table, writable_table}
@@ -19,7 +19,8 @@ use Rattle.loading_code.specs.Filling.{push_text}
 
 -- a table of pages of which none is there
 abbrev pub table_code : ℕ → List Step
-table_code field = push_word page_count ∷ Does (instructions.NewArray Pages) ∷ Does (instructions.Put field kinds.Pages) ∷ []
+table_code field = push_word page_count ∷ Does (instructions.NewArray Pages)
+    ∷ Does (instructions.Put field kinds.Pages) ∷ []
 
 -- a text is given to the method that makes pages
 abbrev pub page_text_code : ℕ → ℕ → ℕ → List Step
@@ -31,18 +32,26 @@ page_texts_code class pages slots = flat_map (page_text_code class pages) slots
 -- the tables, the pages of all texts, and their words
 abbrev pub memory_code : List ℕ → ℕ → ℕ → List ℕ → List Step
 memory_code page_texts class pages fills =
-    table_code readable_field ++ table_code writable_field ++ page_texts_code class pages page_texts ++ map call fills
+    table_code readable_field ++ table_code writable_field ++ page_texts_code class pages page_texts
+    ++ map call fills
 
 -- ---- the loader's call
 
 abbrev pub beginning_call : Beginning → Call
 beginning_call b =
-    record { number = 0; a0 = argument_page; a1 = b.heap_start; a2 = b.heap_bytes; a3 = order_number b.order }
+    record {
+      number = 0;
+      a0 = argument_page;
+      a1 = b.heap_start;
+      a2 = b.heap_bytes;
+      a3 = order_number b.order;
+    }
 
 -- a call of the system, with the tables of pages
 abbrev pub asked_code : Call → List Step
 asked_code c =
-    readable_table ∷ writable_table ∷ push_word c.number ∷ push_word c.a0 ∷ push_word c.a1 ∷ push_word c.a2 ∷ push_word c.a3
+    readable_table ∷ writable_table ∷ push_word c.number ∷ push_word c.a0 ∷ push_word c.a1
+    ∷ push_word c.a2 ∷ push_word c.a3
     ∷ Does instructions.CallHost ∷ []
 
 -- the number of arguments becomes r4, r5 is where they stand, and r29 is where the stack begins
@@ -61,4 +70,5 @@ begun_code b choose = asked_code (beginning_call b) ++ answered_code ++ entered_
 -- ---- the method
 
 abbrev pub run_code : Beginning → List ℕ → ℕ → ℕ → List ℕ → ℕ → List Step
-run_code b page_texts class pages fills choose = memory_code page_texts class pages fills ++ begun_code b choose
+run_code b page_texts class pages fills choose =
+    memory_code page_texts class pages fills ++ begun_code b choose

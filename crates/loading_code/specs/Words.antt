@@ -1,9 +1,9 @@
 -- The method that puts words into a page, whose arguments are an array of ints, if there is one, and a text. The text has five characters
 -- of 7 bits for each word, most significant first, of the 35 bits that are three zeros and the word.
 use Rattle.std.specs.Prelude.{ℕ, List, [], ◌∷◌, ◌++◌, length}
-use Rattle.jvm_code.specs.declared.names.array_name.ArrayName.TheVariants.{Iastore}
-use Rattle.jvm_code.specs.declared.names.branch_name.BranchName.TheVariants.{Ifnull}
-use Rattle.jvm_code.specs.declared.names.int_arithmetic.IntArithmetic.TheVariants.{Iadd}
+use Rattle.jvm_names.specs.declared.array_name.ArrayName.TheVariants.{Iastore}
+use Rattle.jvm_names.specs.declared.branch_name.BranchName.TheVariants.{Ifnull}
+use Rattle.jvm_names.specs.declared.int_arithmetic.IntArithmetic.TheVariants.{Iadd}
 use Rattle.jvm_program.specs.declared.instruction.Instruction.TheVariants as instructions
 use Rattle.code_steps.specs.declared.step.Step.{Step}
 use Rattle.code_steps.specs.declared.step.Step.TheVariants.{Does, Skips, Leaves}
@@ -34,7 +34,8 @@ abbrev pub words_offset : ℕ
 words_offset = size (absent_code 0 ++ begun_code)
 
 abbrev pub put_code : List Step
-put_code = Does (instructions.Array Iastore) ∷ Does (instructions.Increment 2 1) ∷ Leaves words_offset ∷ []
+put_code = Does (instructions.Array Iastore) ∷ Does (instructions.Increment 2 1)
+    ∷ Leaves words_offset ∷ []
 
 abbrev pub words_body : List Step
 words_body = load_reference 0 ∷ load 2 ∷ (word_code ++ put_code)

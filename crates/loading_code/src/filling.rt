@@ -7,7 +7,7 @@ use crate::page_slot::PageSlot;
 use crate::parts::{call, readable_table, returns};
 use code_steps::Step;
 use guest_code::push_word;
-use jvm_code::ArrayName;
+use jvm_names::ArrayName;
 use jvm_program::{Constant, Instruction};
 
 /// Appends the code of a method of no arguments that puts the words of texts into the pages of the table of what can be read, where these
@@ -22,7 +22,8 @@ pub fn append_fill(
     words: u32,
     code: &mut Vec<Step>,
 ) -> Result<(), NoMemory>
-    ensures { OnOk result (code.new.items ≡ code.old.items ++ emitted.fill_code slots.now class words) }
+    ensures { OnOk result (code.new.items ≡ code.old.items
+        ++ emitted.fill_code slots.now class words) }
 {
     append_filled(slots, class, words, code)?;
     code.push(returns())?;
@@ -35,7 +36,8 @@ fn append_filled(
     words: u32,
     code: &mut Vec<Step>,
 ) -> Result<(), NoMemory>
-    ensures { OnOk result (code.new.items ≡ code.old.items ++ emitted.filled_code slots.now class words) }
+    ensures { OnOk result (code.new.items ≡ code.old.items
+        ++ emitted.filled_code slots.now class words) }
 {
     for slot in slots {
         append_page(slot, class, words, code)?;
@@ -50,7 +52,8 @@ fn append_page(
     words: u32,
     code: &mut Vec<Step>,
 ) -> Result<(), NoMemory>
-    ensures { OnOk result (code.new.items ≡ code.old.items ++ emitted.page_code class words filled.now) }
+    ensures { OnOk result (code.new.items ≡ code.old.items
+        ++ emitted.page_code class words filled.now) }
 {
     code.push(readable_table())?;
     code.push(push_word(filled.page))?;

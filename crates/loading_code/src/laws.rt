@@ -12,7 +12,8 @@ ghost use Rattle.loading_code.specs.Starting.{beginning_call};
 /// The call that the program begins with is the loader's call of the guest machine.
 pub fn the_first_call_is_the_loaders()
     ensures { (b : Beginning) (memory : Memory) (code : ℕ → Option ℕ)
-        → beginning_call b ≡ loader_call (start b.order b.entry memory code b.heap_start b.heap_bytes) }
+        → beginning_call b
+        ≡ loader_call (start b.order b.entry memory code b.heap_start b.heap_bytes) }
 {}
 
 /// Each loop begins at one of its method's steps.

@@ -9,7 +9,7 @@ use crate::parts::{
 };
 use code_steps::Step;
 use guest_code::{arithmetic, push_word};
-use jvm_code::{ArrayName, BranchName, IntArithmetic};
+use jvm_names::{ArrayName, BranchName, IntArithmetic};
 use jvm_program::{ArrayKind, Instruction};
 
 /// The offset of the loop over the runs.

@@ -5,7 +5,7 @@ ghost use Rattle.loading_code.specs.Parts as emitted;
 use crate::NoMemory;
 use code_steps::Step;
 use guest_code::fields::{READABLE, WRITABLE};
-use jvm_code::{BranchName, IntShift, ReturnName};
+use jvm_names::{BranchName, IntShift, ReturnName};
 use jvm_program::{Instruction, Kind, LocalKind};
 
 /// A local variable that holds an int is pushed.

@@ -39,7 +39,8 @@ pub fn append_run(
     choose: u32,
     code: &mut Vec<Step>,
 ) -> Result<(), NoMemory>
-    ensures { OnOk result (code.new.items ≡ code.old.items ++ emitted.run_code beginning.now page_texts.now class pages fills.now choose) }
+    ensures { OnOk result (code.new.items ≡ code.old.items
+        ++ emitted.run_code beginning.now page_texts.now class pages fills.now choose) }
 {
     append_memory(page_texts, class, pages, fills, code)?;
     append_begun(beginning, choose, code)
@@ -53,7 +54,8 @@ fn append_memory(
     fills: &[u32],
     code: &mut Vec<Step>,
 ) -> Result<(), NoMemory>
-    ensures { OnOk result (code.new.items ≡ code.old.items ++ emitted.memory_code page_texts.now class pages fills.now) }
+    ensures { OnOk result (code.new.items ≡ code.old.items
+        ++ emitted.memory_code page_texts.now class pages fills.now) }
 {
     append_table(READABLE, code)?;
     append_table(WRITABLE, code)?;
@@ -77,7 +79,8 @@ fn append_page_texts(
     pages: u32,
     code: &mut Vec<Step>,
 ) -> Result<(), NoMemory>
-    ensures { OnOk result (code.new.items ≡ code.old.items ++ emitted.page_texts_code class pages page_texts.now) }
+    ensures { OnOk result (code.new.items ≡ code.old.items
+        ++ emitted.page_texts_code class pages page_texts.now) }
 {
     for slot in page_texts {
         append_page_text(class, pages, *slot, code)?;
@@ -87,7 +90,8 @@ fn append_page_texts(
 
 // A text is given to the method that makes pages.
 fn append_page_text(class: u16, pages: u32, slot: u16, code: &mut Vec<Step>) -> Result<(), NoMemory>
-    ensures { OnOk result (code.new.items ≡ code.old.items ++ emitted.page_text_code class pages slot) }
+    ensures { OnOk result (code.new.items ≡ code.old.items
+        ++ emitted.page_text_code class pages slot) }
 {
     code.push(push_text(class, slot))?;
     code.push(call(pages))?;
@@ -105,7 +109,8 @@ fn append_fills(fills: &[u32], code: &mut Vec<Step>) -> Result<(), NoMemory>
 
 // The loader's call, and what follows it.
 fn append_begun(beginning: &Beginning, choose: u32, code: &mut Vec<Step>) -> Result<(), NoMemory>
-    ensures { OnOk result (code.new.items ≡ code.old.items ++ emitted.begun_code beginning.now choose) }
+    ensures { OnOk result (code.new.items ≡ code.old.items
+        ++ emitted.begun_code beginning.now choose) }
 {
     append_asked(&beginning_call(beginning), code)?;
     append_answered(code)?;

@@ -32,7 +32,8 @@ block_words target x =
 -- so many blocks from one on, which has the number x
 abbrev pub blocks_from : ℕ → ℕ → ℕ → ℕ → List ℕ
 blocks_from count number x zero = []
-blocks_from count number x (suc left) = block_words (place (successor count number)) x ++ blocks_from count (number + 1) (next x) left
+blocks_from count number x (suc left) =
+    block_words (place (successor count number)) x ++ blocks_from count (number + 1) (next x) left
 
 -- andi $4,$8,127; addiu $2,$0,1; syscall 0: it exits with the seven low bits of $8
 abbrev pub end_words : List ℕ

@@ -21,7 +21,8 @@ pub fn made_text(alloc: Global, count: u32) -> Result<Vec<u8>, AllocError>
 /// Appends all blocks.
 fn push_blocks(text: &mut Vec<u8>, count: u32) -> Result<(), AllocError>
     requires { count ≤ 65536 }
-    ensures { OnOk result (text.new.items ≡ text.old.items ++ words (made.blocks_from count 0 count count)) }
+    ensures { OnOk result (text.new.items ≡ text.old.items
+        ++ words (made.blocks_from count 0 count count)) }
 {
     let mut x = count;
     for number in 0..count {

@@ -3,4 +3,3 @@ pub mod Loads
 pub mod Stores
 pub mod Products
 pub mod Methods
-pub mod Assembled

@@ -2,18 +2,18 @@
 use Rattle.std.specs.Prelude.{ℕ, ◌+◌, List, [], ◌∷◌, ◌++◌}
 use Rattle.nv_words.specs.declared.order.Order.{Order}
 use Rattle.nv_words.specs.declared.order.Order.TheVariants.{Big, Little}
-use Rattle.jvm_code.specs.declared.names.array_name.ArrayName.TheVariants.{Iaload}
-use Rattle.jvm_code.specs.declared.names.conversion.Conversion.{Conversion}
-use Rattle.jvm_code.specs.declared.names.conversion.Conversion.TheVariants.{I2b, I2c, I2s}
-use Rattle.jvm_code.specs.declared.names.int_arithmetic.IntArithmetic.TheVariants.{Iand, Ior, Ixor}
-use Rattle.jvm_code.specs.declared.names.int_shift.IntShift.{IntShift}
-use Rattle.jvm_code.specs.declared.names.int_shift.IntShift.TheVariants.{Ishl, Iushr}
-use Rattle.jvm_code.specs.declared.names.return_name.ReturnName.TheVariants.{Ireturn}
-use Rattle.jvm_code.specs.declared.names.stack_name.StackName.TheVariants.{Dup, Swap}
+use Rattle.jvm_names.specs.declared.array_name.ArrayName.TheVariants.{Iaload}
+use Rattle.jvm_names.specs.declared.conversion.Conversion.{Conversion}
+use Rattle.jvm_names.specs.declared.conversion.Conversion.TheVariants.{I2b, I2c, I2s}
+use Rattle.jvm_names.specs.declared.int_arithmetic.IntArithmetic.TheVariants.{Iand, Ior, Ixor}
+use Rattle.jvm_names.specs.declared.int_shift.IntShift.{IntShift}
+use Rattle.jvm_names.specs.declared.int_shift.IntShift.TheVariants.{Ishl, Iushr}
+use Rattle.jvm_names.specs.declared.return_name.ReturnName.TheVariants.{Ireturn}
+use Rattle.jvm_names.specs.declared.stack_name.StackName.TheVariants.{Dup, Swap}
 use Rattle.jvm_program.specs.declared.instruction.Instruction.TheVariants as instructions
 use Rattle.code_steps.specs.declared.step.Step.{Step}
 use Rattle.code_steps.specs.declared.step.Step.TheVariants.{Does}
-use Rattle.guest_match.specs.Match.{readable_field}
+use Rattle.guest_layout.specs.FieldNumbers.{readable_field}
 use Rattle.guest_code.specs.Access.{push_word, put_field, arithmetic}
 use Rattle.guest_code.specs.Fields.{link_field, linked_field}
 use Rattle.mem_helpers.specs.declared.amount.Amount.{Amount}
@@ -28,14 +28,16 @@ abbrev pub read_fault_number : ℕ
 read_fault_number = 18
 
 abbrev pub read_fault_code : ℕ → ℕ → List Step
-read_fault_code a bits = load a ∷ load (a + 1) ∷ push_word bits ∷ Does (instructions.Call read_fault_number) ∷ gives
+read_fault_code a bits = load a ∷ load (a + 1) ∷ push_word bits
+    ∷ Does (instructions.Call read_fault_number) ∷ gives
 
 -- the word of a page that is on the stack
 abbrev pub word_code : ℕ → List Step
 word_code a = index_code a ++ Does (instructions.Array Iaload) ∷ []
 
 abbrev pub loading : ℕ → ℕ → ℕ → List Step → List Step
-loading a bytes bits found = accessed readable_field a bytes (word_code a ++ found ++ gives) (read_fault_code a bits)
+loading a bytes bits found =
+    accessed readable_field a bytes (word_code a ++ found ++ gives) (read_fault_code a bits)
 
 -- ---- whole words
 
@@ -44,7 +46,9 @@ lw_method order = loading 0 4 3 (ordered_code order 2)
 
 -- LL: the address is linked
 abbrev pub ll_method : Order → List Step
-ll_method order = loading 0 4 3 (ordered_code order 2 ++ load 0 ∷ put_field link_field ∷ push_word 1 ∷ put_field linked_field ∷ [])
+ll_method order =
+    loading 0 4 3 (ordered_code order 2 ++ load 0 ∷ put_field link_field ∷ push_word 1
+    ∷ put_field linked_field ∷ [])
 
 -- ---- bytes and half-words
 
@@ -57,7 +61,8 @@ byte_code = backward_code 3 0 ++ shift Iushr ∷ []
 -- the two low bytes of what is on the stack, turned round, with other bits above them
 abbrev pub turned_half_code : List Step
 turned_half_code =
-    stack Dup ∷ push_word 8 ∷ shift Ishl ∷ stack Swap ∷ push_word 8 ∷ shift Iushr ∷ push_word 255 ∷ arithmetic Iand ∷ arithmetic Ior ∷ []
+    stack Dup ∷ push_word 8 ∷ shift Ishl ∷ stack Swap ∷ push_word 8 ∷ shift Iushr ∷ push_word 255
+    ∷ arithmetic Iand ∷ arithmetic Ior ∷ []
 
 -- the half-word at the address in the guest's order, with other bits above it
 abbrev pub half_ordered_code : Order → List Step
@@ -85,7 +90,8 @@ lbu_method = loading 0 1 0 (byte_code ++ push_word 255 ∷ arithmetic Iand ∷ [
 abbrev pub kept_code : IntShift → Amount → List Step
 kept_code name amount =
     amount_code amount ++ shift name ∷ load 0 ∷ push_word 0xFFFF_FFFF
-    ∷ (amount_code amount ++ shift name ∷ push_word 0xFFFF_FFFF ∷ arithmetic Ixor ∷ arithmetic Iand ∷ arithmetic Ior ∷ [])
+    ∷ (amount_code amount ++ shift name ∷ push_word 0xFFFF_FFFF ∷ arithmetic Ixor ∷ arithmetic Iand
+    ∷ arithmetic Ior ∷ [])
 
 abbrev pub lwl_method : Order → List Step
 lwl_method order = loading 1 1 0 (ordered_code order 3 ++ kept_code Ishl (left_amount order))

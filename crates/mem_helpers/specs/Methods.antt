@@ -1,10 +1,10 @@
 -- The helper methods in the order in which they stand in the main class, and the two that end the run for them.
 use Rattle.std.specs.Prelude.{ℕ, ◌==◌, if◌then◌else◌, List, [], ◌∷◌, ◌++◌}
 use Rattle.nv_words.specs.declared.order.Order.{Order}
-use Rattle.jvm_code.specs.declared.names.branch_name.BranchName.TheVariants.{Ifne, Goto}
-use Rattle.jvm_code.specs.declared.names.int_arithmetic.IntArithmetic.TheVariants.{Iand}
-use Rattle.jvm_program.specs.declared.instruction.Instruction.TheVariants as instructions
 use Rattle.mips_decode.specs.Effect.{read_unmapped_fault, read_align_fault, write_refused_fault, write_align_fault}
+use Rattle.jvm_names.specs.declared.branch_name.BranchName.TheVariants.{Ifne, Goto}
+use Rattle.jvm_names.specs.declared.int_arithmetic.IntArithmetic.TheVariants.{Iand}
+use Rattle.jvm_program.specs.declared.instruction.Instruction.TheVariants as instructions
 use Rattle.code_steps.specs.declared.step.Step.{Step}
 use Rattle.code_steps.specs.declared.step.Step.TheVariants.{Does, Skips}
 use Rattle.guest_code.specs.Access.{push_word, arithmetic}
@@ -16,7 +16,8 @@ use Rattle.mem_helpers.specs.Products.{div_method, divu_method, mult_method, mul
 -- an address, the instruction's address, and the bits that have to be 0: the fault is that of alignment where one of them is set
 abbrev pub fault_code : ℕ → ℕ → List Step
 fault_code unmapped unaligned =
-    load 0 ∷ load 2 ∷ arithmetic Iand ∷ Skips Ifne 2 ∷ push_word unmapped ∷ Skips Goto 1 ∷ push_word unaligned
+    load 0 ∷ load 2 ∷ arithmetic Iand ∷ Skips Ifne 2 ∷ push_word unmapped ∷ Skips Goto 1
+    ∷ push_word unaligned
     ∷ load 1 ∷ load 0 ∷ Does instructions.FaultHost ∷ []
 
 abbrev pub read_fault_method : List Step

@@ -3,13 +3,13 @@
 use Rattle.std.specs.Prelude.{ℕ, ◌+◌, ◌==◌, if◌then◌else◌, List, [], ◌∷◌, ◌++◌, length}
 use Rattle.nv_words.specs.declared.order.Order.{Order}
 use Rattle.nv_words.specs.declared.order.Order.TheVariants.{Big, Little}
-use Rattle.jvm_code.specs.declared.names.array_name.ArrayName.TheVariants.{Aaload}
-use Rattle.jvm_code.specs.declared.names.int_arithmetic.IntArithmetic.TheVariants.{Iand, Ior, Ixor}
-use Rattle.jvm_code.specs.declared.names.int_shift.IntShift.{IntShift}
-use Rattle.jvm_code.specs.declared.names.int_shift.IntShift.TheVariants.{Ishl, Iushr}
-use Rattle.jvm_code.specs.declared.names.stack_name.StackName.{StackName}
-use Rattle.jvm_code.specs.declared.names.stack_name.StackName.TheVariants.{Pop, Dup}
-use Rattle.jvm_code.specs.declared.names.branch_name.BranchName.TheVariants.{Ifne, Iflt, Ifnull}
+use Rattle.jvm_names.specs.declared.array_name.ArrayName.TheVariants.{Aaload}
+use Rattle.jvm_names.specs.declared.int_arithmetic.IntArithmetic.TheVariants.{Iand, Ior, Ixor}
+use Rattle.jvm_names.specs.declared.int_shift.IntShift.{IntShift}
+use Rattle.jvm_names.specs.declared.int_shift.IntShift.TheVariants.{Ishl, Iushr}
+use Rattle.jvm_names.specs.declared.stack_name.StackName.{StackName}
+use Rattle.jvm_names.specs.declared.stack_name.StackName.TheVariants.{Pop, Dup}
+use Rattle.jvm_names.specs.declared.branch_name.BranchName.TheVariants.{Ifne, Iflt, Ifnull}
 use Rattle.jvm_program.specs.declared.kind.Kind.TheVariants as kinds
 use Rattle.jvm_program.specs.declared.local_kind.LocalKind.TheVariants as local_kinds
 use Rattle.jvm_program.specs.declared.instruction.Instruction.TheVariants as instructions
@@ -39,7 +39,8 @@ unfit_code a bytes over =
 -- the address's page of a table is pushed; where none is there, null is, and that many of the following steps are passed over
 abbrev pub page_code : ℕ → ℕ → ℕ → List Step
 page_code table a over =
-    Does (instructions.Get table kinds.Pages) ∷ load a ∷ push_word 12 ∷ shift Iushr ∷ Does (instructions.Array Aaload)
+    Does (instructions.Get table kinds.Pages) ∷ load a ∷ push_word 12 ∷ shift Iushr
+    ∷ Does (instructions.Array Aaload)
     ∷ stack Dup ∷ Skips Ifnull over ∷ []
 
 -- the number of the address's word in its page

@@ -2,17 +2,17 @@
 use Rattle.std.specs.Prelude.{ℕ, List, [], ◌∷◌, ◌++◌, length}
 use Rattle.nv_words.specs.declared.order.Order.{Order}
 use Rattle.nv_words.specs.declared.order.Order.TheVariants.{Big, Little}
-use Rattle.jvm_code.specs.declared.names.array_name.ArrayName.TheVariants.{Iaload, Iastore}
-use Rattle.jvm_code.specs.declared.names.branch_name.BranchName.TheVariants.{Ifeq, IfIcmpne}
-use Rattle.jvm_code.specs.declared.names.int_arithmetic.IntArithmetic.TheVariants.{Iand, Ior, Ixor}
-use Rattle.jvm_code.specs.declared.names.int_shift.IntShift.{IntShift}
-use Rattle.jvm_code.specs.declared.names.int_shift.IntShift.TheVariants.{Ishl, Iushr}
-use Rattle.jvm_code.specs.declared.names.return_name.ReturnName.TheVariants as returns
-use Rattle.jvm_code.specs.declared.names.stack_name.StackName.TheVariants.{Pop, Dup2}
+use Rattle.jvm_names.specs.declared.array_name.ArrayName.TheVariants.{Iaload, Iastore}
+use Rattle.jvm_names.specs.declared.branch_name.BranchName.TheVariants.{Ifeq, IfIcmpne}
+use Rattle.jvm_names.specs.declared.int_arithmetic.IntArithmetic.TheVariants.{Iand, Ior, Ixor}
+use Rattle.jvm_names.specs.declared.int_shift.IntShift.{IntShift}
+use Rattle.jvm_names.specs.declared.int_shift.IntShift.TheVariants.{Ishl, Iushr}
+use Rattle.jvm_names.specs.declared.return_name.ReturnName.TheVariants as returns
+use Rattle.jvm_names.specs.declared.stack_name.StackName.TheVariants.{Pop, Dup2}
 use Rattle.jvm_program.specs.declared.instruction.Instruction.TheVariants as instructions
 use Rattle.code_steps.specs.declared.step.Step.{Step}
 use Rattle.code_steps.specs.declared.step.Step.TheVariants.{Does, Skips}
-use Rattle.guest_match.specs.Match.{writable_field}
+use Rattle.guest_layout.specs.FieldNumbers.{writable_field}
 use Rattle.guest_code.specs.Access.{push_word, get_field, put_field, arithmetic}
 use Rattle.guest_code.specs.Fields.{link_field, linked_field}
 use Rattle.mem_helpers.specs.declared.amount.Amount.{Amount}
@@ -27,13 +27,16 @@ abbrev pub write_fault_number : ℕ
 write_fault_number = 19
 
 abbrev pub write_fault_code : ℕ → List Step
-write_fault_code bits = load 1 ∷ load 2 ∷ push_word bits ∷ Does (instructions.Call write_fault_number) ∷ []
+write_fault_code bits = load 1 ∷ load 2 ∷ push_word bits
+    ∷ Does (instructions.Call write_fault_number) ∷ []
 
 abbrev pub put_word : List Step
 put_word = Does (instructions.Array Iastore) ∷ []
 
 abbrev pub storing : ℕ → ℕ → List Step → List Step
-storing bytes bits found = accessed writable_field 1 bytes (found ++ returns_nothing) (write_fault_code bits ++ returns_nothing)
+storing bytes bits found =
+    accessed writable_field 1 bytes (found ++ returns_nothing) (write_fault_code bits
+    ++ returns_nothing)
 
 -- ---- whole words
 
@@ -53,7 +56,8 @@ abbrev pub sc_method : Order → List Step
 sc_method order =
     let store = index_code 1 ++ value_code order ++ put_word ++ concluded_code 1 in
     let linked = get_field link_field ∷ load 1 ∷ Skips IfIcmpne (length store) ∷ store in
-    accessed writable_field 1 4 (get_field linked_field ∷ Skips Ifeq (length linked) ∷ (linked ++ stack Pop ∷ concluded_code 0))
+    accessed writable_field 1 4 (get_field linked_field ∷ Skips Ifeq (length linked)
+    ∷ (linked ++ stack Pop ∷ concluded_code 0))
     (write_fault_code 3 ++ push_word 0 ∷ gives)
 
 -- ---- parts of words: the word is read, and what is stored replaces some of its bits
@@ -78,7 +82,8 @@ byte_value_code = load 0 ∷ push_word 255 ∷ arithmetic Iand ∷ []
 
 abbrev pub sb_method : List Step
 sb_method =
-    storing 1 0 (read_code ++ cleared_code 255 (backward_code 3 1) Ishl ++ byte_value_code ++ set_code (backward_code 3 1) Ishl ++ put_word)
+    storing 1 0 (read_code ++ cleared_code 255 (backward_code 3 1) Ishl ++ byte_value_code
+    ++ set_code (backward_code 3 1) Ishl ++ put_word)
 
 -- the half-word that is stored, in the order of pages
 abbrev pub half_value_code : Order → List Step
@@ -102,7 +107,8 @@ sh_method order = storing 2 1 (half_cleared ++ half_stored order)
 
 -- the word in the guest's order without the part, and with it in the order of pages
 abbrev pub part_cleared : Order → IntShift → Amount → List Step
-part_cleared order name amount = read_code ++ ordered_code order 3 ++ cleared_code 0xFFFF_FFFF (amount_code amount) name
+part_cleared order name amount = read_code ++ ordered_code order 3
+    ++ cleared_code 0xFFFF_FFFF (amount_code amount) name
 
 abbrev pub part_put : Order → IntShift → Amount → List Step
 part_put order name amount = set_code (amount_code amount) name ++ ordered_code order 3 ++ put_word

@@ -2,14 +2,12 @@
 #![tactic(auto)]
 
 mod amount;
-mod assembled;
 mod loads;
 mod methods;
 mod parts;
 mod products;
 mod stores;
 
-pub use assembled::helper_bytes;
 pub use methods::{METHODS, append_helper};
 
 /// Want of memory, the one error of what makes code.

@@ -10,7 +10,7 @@ use crate::parts::{
 };
 use code_steps::Step;
 use guest_code::{arithmetic, fields, push_word, put_field};
-use jvm_code::{ArrayName, Conversion, IntArithmetic, IntShift, ReturnName, StackName};
+use jvm_names::{ArrayName, Conversion, IntArithmetic, IntShift, ReturnName, StackName};
 use jvm_program::Instruction;
 use nv_words::Order;
 use std::alloc::Global;
@@ -38,7 +38,8 @@ fn append_loading(
     requires bytes { bytes ≤ 4 }
     requires a { a < 8 }
     requires short { length rest.items < 2 ^ 8 }
-    ensures { OnOk result (code.new.items ≡ code.old.items ++ emitted.loading a bytes bits rest.items) }
+    ensures { OnOk result (code.new.items ≡ code.old.items
+        ++ emitted.loading a bytes bits rest.items) }
 {
     let mut found = Vec::new(alloc);
     append_index(a, &mut found)?;

@@ -14,7 +14,7 @@ use crate::stores::{
 };
 use code_steps::Step;
 use guest_code::{arithmetic, push_word};
-use jvm_code::{BranchName, IntArithmetic};
+use jvm_names::{BranchName, IntArithmetic};
 use jvm_program::Instruction;
 use mips_decode::fault_kinds::{READ_ALIGN, READ_UNMAPPED, WRITE_ALIGN, WRITE_REFUSED};
 use nv_words::Order;
@@ -88,7 +88,8 @@ fn append_other(
 
 // An address, the instruction's address, and the bits that have to be 0: the fault is that of alignment where one of them is set.
 fn append_fault(unmapped: u32, unaligned: u32, code: &mut Vec<Step>) -> Result<(), NoMemory>
-    ensures { OnOk result (code.new.items ≡ code.old.items ++ emitted.fault_code unmapped unaligned) }
+    ensures { OnOk result (code.new.items ≡ code.old.items
+        ++ emitted.fault_code unmapped unaligned) }
 {
     code.push(load(0))?;
     code.push(load(2))?;

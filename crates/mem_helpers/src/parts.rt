@@ -6,7 +6,7 @@ use crate::NoMemory;
 use crate::amount::Amount;
 use code_steps::Step;
 use guest_code::{arithmetic, push_word};
-use jvm_code::{ArrayName, BranchName, IntArithmetic, IntShift, StackName};
+use jvm_names::{ArrayName, BranchName, IntArithmetic, IntShift, StackName};
 use jvm_program::{Instruction, Kind, LocalKind};
 use nv_words::Order;
 use std::alloc::Global;
@@ -88,7 +88,8 @@ pub fn append_accessed(
 ) -> Result<(), NoMemory>
     requires bytes { bytes ≤ 4 }
     requires short { length found.items < 2 ^ 16 }
-    ensures { OnOk result (code.new.items ≡ code.old.items ++ emitted.accessed table a bytes found.items fault.items) }
+    ensures { OnOk result (code.new.items ≡ code.old.items
+        ++ emitted.accessed table a bytes found.items fault.items) }
 {
     let size = found.len() as u32;
     append_unfit(a, bytes, PAGE_STEPS + size + 1, code)?;

@@ -7,7 +7,7 @@ use crate::parts::{load, stack};
 use crate::stores::append_return;
 use code_steps::Step;
 use guest_code::{fields, push_word, put_field};
-use jvm_code::{
+use jvm_names::{
     BranchName, Conversion, IntDivision, LongArithmetic, LongDivision, LongShift, StackName,
 };
 use jvm_program::{Constant, Instruction};

@@ -1,7 +1,7 @@
 //! The helper methods that store.
 ghost use Rattle.std.specs.Prelude.{◌≡◌, ◌++◌, ◌<◌, ◌≤◌, ◌^◌, OnOk, length};
-ghost use Rattle.jvm_code.specs.declared.names.int_shift.IntShift.TheVariants.{Ishl};
 ghost use Rattle.nv_words.specs.declared.order.Order.TheVariants.{Big, Little};
+ghost use Rattle.jvm_names.specs.declared.int_shift.IntShift.TheVariants.{Ishl};
 ghost use Rattle.mem_helpers.specs.Parts.{backward_code};
 ghost use Rattle.mem_helpers.specs.Stores as emitted;
 
@@ -14,7 +14,7 @@ use crate::parts::{
 };
 use code_steps::Step;
 use guest_code::{arithmetic, fields, get_field, push_word, put_field};
-use jvm_code::{ArrayName, BranchName, IntArithmetic, IntShift, ReturnName, StackName};
+use jvm_names::{ArrayName, BranchName, IntArithmetic, IntShift, ReturnName, StackName};
 use jvm_program::Instruction;
 use nv_words::Order;
 use std::alloc::Global;
@@ -57,7 +57,8 @@ fn append_storing(
 ) -> Result<(), NoMemory>
     requires bytes { bytes ≤ 4 }
     requires short { length found.items < 2 ^ 8 }
-    ensures { OnOk result (code.new.items ≡ code.old.items ++ emitted.storing bytes bits found.items) }
+    ensures { OnOk result (code.new.items ≡ code.old.items
+        ++ emitted.storing bytes bits found.items) }
 {
     append_return(&mut found)?;
     let mut fault = Vec::new(alloc);
@@ -136,7 +137,8 @@ fn append_read(code: &mut Vec<Step>) -> Result<(), NoMemory>
 
 // Where a byte or a half-word stands in its word: eight times the address whose low bits are turned.
 fn append_lane_cleared(bits: u32, low: u32, code: &mut Vec<Step>) -> Result<(), NoMemory>
-    ensures { OnOk result (code.new.items ≡ code.old.items ++ emitted.cleared_code bits (backward_code low 1) Ishl) }
+    ensures { OnOk result (code.new.items ≡ code.old.items
+        ++ emitted.cleared_code bits (backward_code low 1) Ishl) }
 {
     code.push(push_word(bits))?;
     append_backward(low, 1, code)?;
@@ -155,7 +157,8 @@ fn append_cut(name: IntShift, code: &mut Vec<Step>) -> Result<(), NoMemory>
 }
 
 fn append_lane_set(low: u32, code: &mut Vec<Step>) -> Result<(), NoMemory>
-    ensures { OnOk result (code.new.items ≡ code.old.items ++ emitted.set_code (backward_code low 1) Ishl) }
+    ensures { OnOk result (code.new.items ≡ code.old.items
+        ++ emitted.set_code (backward_code low 1) Ishl) }
 {
     append_backward(low, 1, code)?;
     code.push(shift(IntShift::Ishl))?;
@@ -290,7 +293,8 @@ fn append_part_cleared(
     amount: Amount,
     code: &mut Vec<Step>,
 ) -> Result<(), NoMemory>
-    ensures { OnOk result (code.new.items ≡ code.old.items ++ emitted.part_cleared order name amount) }
+    ensures { OnOk result (code.new.items ≡ code.old.items
+        ++ emitted.part_cleared order name amount) }
 {
     append_read(code)?;
     append_ordered(order, 3, code)?;

@@ -11,7 +11,8 @@ span_weight weights = 96 + sum_by (λ w. 4 + w) weights
 abbrev pub Cuts : ℕ → List ℕ → ℕ → List Span → Type 0
 Cuts first weights limit [] = weights ≡ []
 Cuts first weights limit (s ∷ spans) =
-    (s.first ≡ first) × (0 < s.words) × (s.words ≤ length weights) × (span_weight (take s.words weights) ≤ limit)
+    (s.first ≡ first) × (0 < s.words) × (s.words ≤ length weights)
+    × (span_weight (take s.words weights) ≤ limit)
     × Cuts (first + s.words) (drop s.words weights) limit spans
 
 -- each span that words follow would be above the limit with the next one

@@ -23,7 +23,8 @@ pub fn cut(alloc: Global, weights: &[u32], limit: u32) -> Result<Vec<Span>, Allo
     requires each_fits { All (λ w. 100 + w ≤ limit) weights.now }
     ensures cuts { IfOk result (λ spans. Cuts 0 weights.now limit spans.items) }
     ensures fills { IfOk result (λ spans. Fills weights.now limit spans.items) }
-    ensures least { IfOk result (λ spans. (others : List Span) → Cuts 0 weights.now limit others → length spans.items ≤ length others) }
+    ensures least { IfOk result (λ spans. (others : List Span) → Cuts 0 weights.now limit others
+        → length spans.items ≤ length others) }
 {
     let mut spans = Vec::new(alloc);
     let mut first = 0;
@@ -46,7 +47,8 @@ fn fitting(weights: &[u32], limit: u32) -> usize
     ensures some { 0 < result }
     ensures within { result ≤ length weights.now }
     ensures fits { span_weight (take result weights.now) ≤ limit }
-    ensures full { result < length weights.now → limit < span_weight (take (result + 1) weights.now) }
+    ensures full { result < length weights.now
+        → limit < span_weight (take (result + 1) weights.now) }
 {
     let mut bytes = SPAN_BYTES;
     let mut words = 0;

@@ -15,11 +15,21 @@ pub record Segment : Type 0 where
   pub contents : List ℕ
 
 abbrev pub segment_of : Part → Segment
-segment_of part = record { address = part.vaddr; flags = part.flags; memory = part.mem; contents = part.bytes.items }
+segment_of part = record {
+  address = part.vaddr;
+  flags = part.flags;
+  memory = part.mem;
+  contents = part.bytes.items;
+}
 
 -- a segment all of whose bytes are in the file
 abbrev pub whole_segment : ℕ → ℕ → List ℕ → Segment
-whole_segment address flags bytes = record { address = address; flags = flags; memory = length bytes; contents = bytes }
+whole_segment address flags bytes = record {
+  address = address;
+  flags = flags;
+  memory = length bytes;
+  contents = bytes;
+}
 
 abbrev pub data_segments : List ℕ → List Segment
 data_segments [] = []
@@ -31,11 +41,13 @@ segments_of text data_bytes = whole_segment 0x00400000 5 text ∷ data_segments 
 -- the parts of the program with these bytes of text and of data
 abbrev pub IsProgram : List ℕ → List ℕ → Parts → Type 0
 IsProgram text data_bytes parts =
-    (parts.entry ≡ 0x00400000) × (map segment_of parts.segments.items ≡ segments_of text data_bytes) × (parts.sections.items ≡ [])
+    (parts.entry ≡ 0x00400000) × (map segment_of parts.segments.items ≡ segments_of text data_bytes)
+    × (parts.sections.items ≡ [])
 
 -- the file that is written of the program with these bytes of text and of data
 abbrev pub IsFileOf : List ℕ → List ℕ → List ℕ → Type 0
-IsFileOf text data_bytes file = (parts : Parts) × IsProgram text data_bytes parts × (file ≡ elf_file parts)
+IsFileOf text data_bytes file = (parts : Parts) × IsProgram text data_bytes parts
+    × (file ≡ elf_file parts)
 
 -- the file of an assembly text
 abbrev pub IsAssembled : List ℕ → List ℕ → Type 0

@@ -65,7 +65,8 @@ abbrev pub all_values : LabelList → ℕ → List Form → List (List ℕ) → 
 all_values labels at [] [] = Ok []
 all_values labels at [] (text ∷ texts) = Err 2
 all_values labels at (form ∷ forms) [] = Err 2
-all_values labels at (form ∷ forms) (text ∷ texts) = both (values labels at form text) (all_values labels at forms texts)
+all_values labels at (form ∷ forms) (text ∷ texts) =
+    both (values labels at form text) (all_values labels at forms texts)
 
 -- the instruction of a mnemonic with the values of its operands in their order
 abbrev pub instruction : Mnemonic → (ℕ → ℕ) → Inst

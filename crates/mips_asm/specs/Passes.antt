@@ -29,7 +29,8 @@ is_again known NoForm = false
 abbrev pub first_again : LabelList → Place → ℕ → List Line → Option ℕ
 first_again known p n [] = None
 first_again known p n (l ∷ lines) =
-    cond (is_again known l) (Some n) (first_again (with_label l (address p) known) (behind l p) (n + 1) lines)
+    cond (is_again known l) (Some n)
+    (first_again (with_label l (address p) known) (behind l p) (n + 1) lines)
 
 -- whether a line is the one marked
 abbrev pub is_line : Option ℕ → ℕ → Bool
@@ -45,9 +46,11 @@ unmarked false r = r
 abbrev pub fault_marked : LabelList → Option ℕ → Place → ℕ → List Line → Option (ℕ × ℕ)
 fault_marked all mark p n [] = None
 fault_marked all mark p n (l ∷ lines) =
-    fault_by n (unmarked (is_line mark n) (line_words all [] p l)) (fault_marked all mark (behind l p) (n + 1) lines)
+    fault_by n (unmarked (is_line mark n) (line_words all [] p l))
+    (fault_marked all mark (behind l p) (n + 1) lines)
 
 -- the words that lines put into the text or the data segment, whatever labels stand before
 abbrev pub words_left : Bool → LabelList → Place → List Line → List ℕ
 words_left in_data all p [] = []
-words_left in_data all p (l ∷ lines) = words_in in_data p (line_words all [] p l) ++ words_left in_data all (behind l p) lines
+words_left in_data all p (l ∷ lines) =
+    words_in in_data p (line_words all [] p l) ++ words_left in_data all (behind l p) lines

@@ -17,7 +17,8 @@ abbrev pub address : Place → ℕ
 address p = cond p.in_data (0x10000000 + p.data_bytes) (0x00400000 + p.text)
 
 abbrev pub filled : ℕ → Place → Place
-filled n p = cond p.in_data (record p { data_bytes = p.data_bytes + n }) (record p { text = p.text + n })
+filled n p = cond p.in_data (record p { data_bytes = p.data_bytes + n })
+    (record p { text = p.text + n })
 
 -- no more than 1,048,576 words of text and 16,777,216 bytes of data
 abbrev pub is_within : Place → Bool
@@ -105,14 +106,17 @@ bare (b ∷ bs) = Err 2
 -- the words of a line at a place, where all lines have some labels and those before it have others
 abbrev pub line_words : LabelList → LabelList → Place → Line → Result (List ℕ) ℕ
 line_words all earlier p Nothing = Ok []
-line_words all earlier p (Label name) = unless 4 (cond (is_some (address_of earlier name)) false true) (Ok [])
+line_words all earlier p (Label name) =
+    unless 4 (cond (is_some (address_of earlier name)) false true) (Ok [])
 line_words all earlier p (TextSegment rest) = bare rest
 line_words all earlier p (DataSegment rest) = bare rest
 line_words all earlier p (Word rest) = unless 3 (is_within (filled 4 p)) (as_list (word_value rest))
 line_words all earlier p (Space rest) =
-    unless 3 (cond (size (Space rest) == 0) true (is_within (filled (size (Space rest)) p))) (zeros (space_value rest))
+    unless 3 (cond (size (Space rest) == 0) true (is_within (filled (size (Space rest)) p)))
+    (zeros (space_value rest))
 line_words all earlier p (Instruction m rest) =
-    unless 3 (cond p.in_data false (is_within (filled 4 p))) (as_list (instruction_word all (address p) m rest))
+    unless 3 (cond p.in_data false (is_within (filled 4 p)))
+    (as_list (instruction_word all (address p) m rest))
 line_words all earlier p NoForm = Err 1
 
 -- the first faulty line from a line's number on, and its kind

@@ -20,9 +20,14 @@ pub fn lines_have_words()
 
 /// Labels, both segments, and the halves of an address.
 pub fn texts_have_programs()
-    ensures loops { text_words (codes "top:" ++ 10 ∷ codes "bne $1,$0,top" ++ 10 ∷ codes "jal end" ++ 10 ∷ codes "end:") ≡ 0x1420FFFF ∷ 0x0C100002 ∷ [] }
-    ensures halves { text_words (codes "lui $8,%hi(x)" ++ 10 ∷ codes "lbu $8,%lo(x)($8)" ++ 10 ∷ codes ".data" ++ 10 ∷ codes ".space 4" ++ 10 ∷ codes "x:") ≡ 0x3C081000 ∷ 0x91080004 ∷ [] }
-    ensures zeros { data_words (codes ".data" ++ 10 ∷ codes ".space 8" ++ 10 ∷ codes ".text" ++ 10 ∷ codes "syscall 0" ++ 10 ∷ codes ".data" ++ 10 ∷ codes ".word 0xfF") ≡ 0 ∷ 0 ∷ 255 ∷ [] }
+    ensures loops { text_words (codes "top:" ++ 10 ∷ codes "bne $1,$0,top" ++ 10 ∷ codes "jal end"
+        ++ 10 ∷ codes "end:") ≡ 0x1420FFFF ∷ 0x0C100002 ∷ [] }
+    ensures halves { text_words (codes "lui $8,%hi(x)" ++ 10 ∷ codes "lbu $8,%lo(x)($8)"
+        ++ 10 ∷ codes ".data" ++ 10 ∷ codes ".space 4" ++ 10 ∷ codes "x:")
+        ≡ 0x3C081000 ∷ 0x91080004 ∷ [] }
+    ensures zeros { data_words (codes ".data" ++ 10 ∷ codes ".space 8" ++ 10 ∷ codes ".text"
+        ++ 10 ∷ codes "syscall 0" ++ 10 ∷ codes ".data" ++ 10 ∷ codes ".word 0xfF")
+        ≡ 0 ∷ 0 ∷ 255 ∷ [] }
     ensures nothing { text_words [] ≡ [] }
 {}
 

@@ -22,7 +22,8 @@ pub fn filling_of<'a>(
     statement: Statement<'a>,
 ) -> Result<Filling, u32>
     requires { IsLow (2 ^ 50) place }
-    ensures { words_or_kind result ≡ program.line_words labels.now [] place (line_of_statement statement.entry) }
+    ensures { words_or_kind result
+        ≡ program.line_words labels.now [] place (line_of_statement statement.entry) }
 {
     match statement {
         Statement::Nothing | Statement::Label(_) => Ok(Filling::Nothing),
@@ -77,7 +78,8 @@ fn instruction<'a>(
     rest: &'a [u8],
 ) -> Result<Filling, u32>
     requires { IsLow (2 ^ 50) place }
-    ensures { words_or_kind result ≡ program.line_words labels.now [] place (Instruction mnemonic rest.now) }
+    ensures { words_or_kind result
+        ≡ program.line_words labels.now [] place (Instruction mnemonic rest.now) }
 {
     let has_room = !place.in_data && place.filled(4).is_within();
     let operands = Operands {

@@ -16,8 +16,11 @@ use std::alloc::{AllocError, Global};
 /// Where there is no memory for the labels.
 pub fn find_labels<'a>(alloc: Global, text: &'a [u8]) -> Result<Found<'a>, AllocError>
     requires { length text.now ≤ 67108864 }
-    ensures labels { IfOk result (λ found. (name : List ℕ) → address_of found.labels name ≡ address_of (program.labels_from program.start (program.parsed text.now)) name) }
-    ensures again { IfOk result (λ found. found.again ≡ first_again [] program.start 1 (program.parsed text.now)) }
+    ensures labels { IfOk result (λ found. (name : List ℕ)
+        → address_of found.labels name
+        ≡ address_of (program.labels_from program.start (program.parsed text.now)) name) }
+    ensures again { IfOk result (λ found. found.again
+        ≡ first_again [] program.start 1 (program.parsed text.now)) }
 {
     let mut labels = Labels::new(alloc);
     let mut again = None;
@@ -42,8 +45,12 @@ fn note_label<'a>(
     statement: Statement<'a>,
     address: u64,
 ) -> Result<bool, AllocError>
-    ensures again { IfOk result (λ again. again ≡ is_again labels.old (line_of_statement statement.entry)) }
-    ensures addresses { OnOk result ((name : List ℕ) → address_of labels.new name ≡ first_of (address_of labels.old name) (address_of (program.with_label (line_of_statement statement.entry) address []) name)) }
+    ensures again { IfOk result (λ again. again
+        ≡ is_again labels.old (line_of_statement statement.entry)) }
+    ensures addresses { OnOk result ((name : List ℕ)
+        → address_of labels.new name
+        ≡ first_of (address_of labels.old name)
+        (address_of (program.with_label (line_of_statement statement.entry) address []) name)) }
 {
     match statement {
         Statement::Label(name) => {

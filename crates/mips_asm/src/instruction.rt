@@ -15,7 +15,8 @@ use mips_decode::{
 
 /// The instruction of a mnemonic with operands, or the lowest kind of their faults.
 pub fn instruction_of(mnemonic: Mnemonic, operands: &Operands<'_, '_>) -> Result<Inst, u32>
-    ensures { word_or_kind result ≡ instruction_word operands.now.labels.now operands.now.at mnemonic operands.now.text.now }
+    ensures { word_or_kind result
+        ≡ instruction_word operands.now.labels.now operands.now.at mnemonic operands.now.text.now }
 {
     match mnemonic {
         Mnemonic::Arithmetic(name) => arithmetic(name, operands),
@@ -46,7 +47,9 @@ pub fn instruction_of(mnemonic: Mnemonic, operands: &Operands<'_, '_>) -> Result
 }
 
 fn arithmetic(name: ArithmeticName, operands: &Operands<'_, '_>) -> Result<Inst, u32>
-    ensures { word_or_kind result ≡ instruction_word operands.now.labels.now operands.now.at (mnemonic.Arithmetic name) operands.now.text.now }
+    ensures { word_or_kind result
+        ≡ instruction_word operands.now.labels.now operands.now.at (mnemonic.Arithmetic name)
+        operands.now.text.now }
 {
     match operands.three_registers() {
         Ok((rd, (rs, rt))) => Ok(Inst::Arithmetic { name, rs, rt, rd }),
@@ -55,7 +58,9 @@ fn arithmetic(name: ArithmeticName, operands: &Operands<'_, '_>) -> Result<Inst,
 }
 
 fn variable_shift(name: VariableShiftName, operands: &Operands<'_, '_>) -> Result<Inst, u32>
-    ensures { word_or_kind result ≡ instruction_word operands.now.labels.now operands.now.at (mnemonic.VariableShift name) operands.now.text.now }
+    ensures { word_or_kind result
+        ≡ instruction_word operands.now.labels.now operands.now.at (mnemonic.VariableShift name)
+        operands.now.text.now }
 {
     match operands.three_registers() {
         Ok((rd, (rt, rs))) => Ok(Inst::VariableShift { name, rs, rt, rd }),
@@ -64,7 +69,9 @@ fn variable_shift(name: VariableShiftName, operands: &Operands<'_, '_>) -> Resul
 }
 
 fn shift(name: ShiftName, operands: &Operands<'_, '_>) -> Result<Inst, u32>
-    ensures { word_or_kind result ≡ instruction_word operands.now.labels.now operands.now.at (mnemonic.Shift name) operands.now.text.now }
+    ensures { word_or_kind result
+        ≡ instruction_word operands.now.labels.now operands.now.at (mnemonic.Shift name)
+        operands.now.text.now }
 {
     match operands.two_registers_and_amount() {
         Ok((rd, (rt, sa))) => Ok(Inst::Shift { name, rt, rd, sa }),
@@ -73,7 +80,9 @@ fn shift(name: ShiftName, operands: &Operands<'_, '_>) -> Result<Inst, u32>
 }
 
 fn jump_register(operands: &Operands<'_, '_>) -> Result<Inst, u32>
-    ensures { word_or_kind result ≡ instruction_word operands.now.labels.now operands.now.at mnemonic.JumpRegister operands.now.text.now }
+    ensures { word_or_kind result
+        ≡ instruction_word operands.now.labels.now operands.now.at mnemonic.JumpRegister
+        operands.now.text.now }
 {
     match operands.one_register() {
         Ok(rs) => Ok(Inst::JumpRegister { rs }),
@@ -82,7 +91,9 @@ fn jump_register(operands: &Operands<'_, '_>) -> Result<Inst, u32>
 }
 
 fn jump_and_link_register(operands: &Operands<'_, '_>) -> Result<Inst, u32>
-    ensures { word_or_kind result ≡ instruction_word operands.now.labels.now operands.now.at mnemonic.JumpAndLinkRegister operands.now.text.now }
+    ensures { word_or_kind result
+        ≡ instruction_word operands.now.labels.now operands.now.at mnemonic.JumpAndLinkRegister
+        operands.now.text.now }
 {
     match operands.two_registers() {
         Ok((rd, rs)) => Ok(Inst::JumpAndLinkRegister { rs, rd }),
@@ -91,7 +102,9 @@ fn jump_and_link_register(operands: &Operands<'_, '_>) -> Result<Inst, u32>
 }
 
 fn syscall(operands: &Operands<'_, '_>) -> Result<Inst, u32>
-    ensures { word_or_kind result ≡ instruction_word operands.now.labels.now operands.now.at mnemonic.Syscall operands.now.text.now }
+    ensures { word_or_kind result
+        ≡ instruction_word operands.now.labels.now operands.now.at mnemonic.Syscall
+        operands.now.text.now }
 {
     match operands.one_code() {
         Ok(code) => Ok(Inst::Syscall { code }),
@@ -100,7 +113,9 @@ fn syscall(operands: &Operands<'_, '_>) -> Result<Inst, u32>
 }
 
 fn breakpoint(operands: &Operands<'_, '_>) -> Result<Inst, u32>
-    ensures { word_or_kind result ≡ instruction_word operands.now.labels.now operands.now.at mnemonic.Break operands.now.text.now }
+    ensures { word_or_kind result
+        ≡ instruction_word operands.now.labels.now operands.now.at mnemonic.Break
+        operands.now.text.now }
 {
     match operands.one_code() {
         Ok(code) => Ok(Inst::Break { code }),
@@ -109,7 +124,9 @@ fn breakpoint(operands: &Operands<'_, '_>) -> Result<Inst, u32>
 }
 
 fn move_from(name: HiLo, operands: &Operands<'_, '_>) -> Result<Inst, u32>
-    ensures { word_or_kind result ≡ instruction_word operands.now.labels.now operands.now.at (mnemonic.MoveFrom name) operands.now.text.now }
+    ensures { word_or_kind result
+        ≡ instruction_word operands.now.labels.now operands.now.at (mnemonic.MoveFrom name)
+        operands.now.text.now }
 {
     match operands.one_register() {
         Ok(rd) => Ok(Inst::MoveFrom { name, rd }),
@@ -118,7 +135,9 @@ fn move_from(name: HiLo, operands: &Operands<'_, '_>) -> Result<Inst, u32>
 }
 
 fn move_to(name: HiLo, operands: &Operands<'_, '_>) -> Result<Inst, u32>
-    ensures { word_or_kind result ≡ instruction_word operands.now.labels.now operands.now.at (mnemonic.MoveTo name) operands.now.text.now }
+    ensures { word_or_kind result
+        ≡ instruction_word operands.now.labels.now operands.now.at (mnemonic.MoveTo name)
+        operands.now.text.now }
 {
     match operands.one_register() {
         Ok(rs) => Ok(Inst::MoveTo { name, rs }),
@@ -127,7 +146,9 @@ fn move_to(name: HiLo, operands: &Operands<'_, '_>) -> Result<Inst, u32>
 }
 
 fn product(name: ProductName, operands: &Operands<'_, '_>) -> Result<Inst, u32>
-    ensures { word_or_kind result ≡ instruction_word operands.now.labels.now operands.now.at (mnemonic.Product name) operands.now.text.now }
+    ensures { word_or_kind result
+        ≡ instruction_word operands.now.labels.now operands.now.at (mnemonic.Product name)
+        operands.now.text.now }
 {
     match operands.two_registers() {
         Ok((rs, rt)) => Ok(Inst::Product { name, rs, rt }),
@@ -136,7 +157,9 @@ fn product(name: ProductName, operands: &Operands<'_, '_>) -> Result<Inst, u32>
 }
 
 fn branch_sign(name: BranchSignName, operands: &Operands<'_, '_>) -> Result<Inst, u32>
-    ensures { word_or_kind result ≡ instruction_word operands.now.labels.now operands.now.at (mnemonic.BranchSign name) operands.now.text.now }
+    ensures { word_or_kind result
+        ≡ instruction_word operands.now.labels.now operands.now.at (mnemonic.BranchSign name)
+        operands.now.text.now }
 {
     match operands.register_and_half(HalfForm::Near) {
         Ok((rs, imm)) => Ok(Inst::BranchSign { name, rs, imm }),
@@ -145,7 +168,9 @@ fn branch_sign(name: BranchSignName, operands: &Operands<'_, '_>) -> Result<Inst
 }
 
 fn jump(name: JumpName, operands: &Operands<'_, '_>) -> Result<Inst, u32>
-    ensures { word_or_kind result ≡ instruction_word operands.now.labels.now operands.now.at (mnemonic.Jump name) operands.now.text.now }
+    ensures { word_or_kind result
+        ≡ instruction_word operands.now.labels.now operands.now.at (mnemonic.Jump name)
+        operands.now.text.now }
 {
     match operands.one_index() {
         Ok(index) => Ok(Inst::Jump { name, index }),
@@ -154,7 +179,9 @@ fn jump(name: JumpName, operands: &Operands<'_, '_>) -> Result<Inst, u32>
 }
 
 fn branch_equal(name: BranchEqualName, operands: &Operands<'_, '_>) -> Result<Inst, u32>
-    ensures { word_or_kind result ≡ instruction_word operands.now.labels.now operands.now.at (mnemonic.BranchEqual name) operands.now.text.now }
+    ensures { word_or_kind result
+        ≡ instruction_word operands.now.labels.now operands.now.at (mnemonic.BranchEqual name)
+        operands.now.text.now }
 {
     match operands.two_registers_and_half(HalfForm::Near) {
         Ok((rs, (rt, imm))) => Ok(Inst::BranchEqual { name, rs, rt, imm }),
@@ -163,7 +190,9 @@ fn branch_equal(name: BranchEqualName, operands: &Operands<'_, '_>) -> Result<In
 }
 
 fn branch_zero(name: BranchZeroName, operands: &Operands<'_, '_>) -> Result<Inst, u32>
-    ensures { word_or_kind result ≡ instruction_word operands.now.labels.now operands.now.at (mnemonic.BranchZero name) operands.now.text.now }
+    ensures { word_or_kind result
+        ≡ instruction_word operands.now.labels.now operands.now.at (mnemonic.BranchZero name)
+        operands.now.text.now }
 {
     match operands.register_and_half(HalfForm::Near) {
         Ok((rs, imm)) => Ok(Inst::BranchZero { name, rs, imm }),
@@ -175,7 +204,9 @@ fn arithmetic_immediate(
     name: ArithmeticImmediateName,
     operands: &Operands<'_, '_>,
 ) -> Result<Inst, u32>
-    ensures { word_or_kind result ≡ instruction_word operands.now.labels.now operands.now.at (mnemonic.ArithmeticImmediate name) operands.now.text.now }
+    ensures { word_or_kind result
+        ≡ instruction_word operands.now.labels.now operands.now.at
+        (mnemonic.ArithmeticImmediate name) operands.now.text.now }
 {
     match operands.two_registers_and_half(HalfForm::Signed) {
         Ok((rt, (rs, imm))) => Ok(Inst::ArithmeticImmediate { name, rs, rt, imm }),
@@ -184,7 +215,9 @@ fn arithmetic_immediate(
 }
 
 fn logical_immediate(name: LogicalImmediateName, operands: &Operands<'_, '_>) -> Result<Inst, u32>
-    ensures { word_or_kind result ≡ instruction_word operands.now.labels.now operands.now.at (mnemonic.LogicalImmediate name) operands.now.text.now }
+    ensures { word_or_kind result
+        ≡ instruction_word operands.now.labels.now operands.now.at (mnemonic.LogicalImmediate name)
+        operands.now.text.now }
 {
     match operands.two_registers_and_half(HalfForm::Unsigned) {
         Ok((rt, (rs, imm))) => Ok(Inst::LogicalImmediate { name, rs, rt, imm }),
@@ -193,7 +226,9 @@ fn logical_immediate(name: LogicalImmediateName, operands: &Operands<'_, '_>) ->
 }
 
 fn load_upper(operands: &Operands<'_, '_>) -> Result<Inst, u32>
-    ensures { word_or_kind result ≡ instruction_word operands.now.labels.now operands.now.at mnemonic.LoadUpper operands.now.text.now }
+    ensures { word_or_kind result
+        ≡ instruction_word operands.now.labels.now operands.now.at mnemonic.LoadUpper
+        operands.now.text.now }
 {
     match operands.register_and_half(HalfForm::Unsigned) {
         Ok((rt, imm)) => Ok(Inst::LoadUpper { rt, imm }),
@@ -202,7 +237,9 @@ fn load_upper(operands: &Operands<'_, '_>) -> Result<Inst, u32>
 }
 
 fn load(name: LoadName, operands: &Operands<'_, '_>) -> Result<Inst, u32>
-    ensures { word_or_kind result ≡ instruction_word operands.now.labels.now operands.now.at (mnemonic.Load name) operands.now.text.now }
+    ensures { word_or_kind result
+        ≡ instruction_word operands.now.labels.now operands.now.at (mnemonic.Load name)
+        operands.now.text.now }
 {
     match operands.register_and_memory() {
         Ok((rt, (imm, rs))) => Ok(Inst::Load { name, rs, rt, imm }),
@@ -211,7 +248,9 @@ fn load(name: LoadName, operands: &Operands<'_, '_>) -> Result<Inst, u32>
 }
 
 fn store(name: StoreName, operands: &Operands<'_, '_>) -> Result<Inst, u32>
-    ensures { word_or_kind result ≡ instruction_word operands.now.labels.now operands.now.at (mnemonic.Store name) operands.now.text.now }
+    ensures { word_or_kind result
+        ≡ instruction_word operands.now.labels.now operands.now.at (mnemonic.Store name)
+        operands.now.text.now }
 {
     match operands.register_and_memory() {
         Ok((rt, (imm, rs))) => Ok(Inst::Store { name, rs, rt, imm }),
@@ -220,7 +259,9 @@ fn store(name: StoreName, operands: &Operands<'_, '_>) -> Result<Inst, u32>
 }
 
 fn trap(name: TrapName, operands: &Operands<'_, '_>) -> Result<Inst, u32>
-    ensures { word_or_kind result ≡ instruction_word operands.now.labels.now operands.now.at (mnemonic.Trap name) operands.now.text.now }
+    ensures { word_or_kind result
+        ≡ instruction_word operands.now.labels.now operands.now.at (mnemonic.Trap name)
+        operands.now.text.now }
 {
     match operands.two_registers_and_half(HalfForm::TrapCode) {
         Ok((rs, (rt, code))) => Ok(Inst::Trap { name, rs, rt, code }),
@@ -229,7 +270,9 @@ fn trap(name: TrapName, operands: &Operands<'_, '_>) -> Result<Inst, u32>
 }
 
 fn trap_immediate(name: TrapImmediateName, operands: &Operands<'_, '_>) -> Result<Inst, u32>
-    ensures { word_or_kind result ≡ instruction_word operands.now.labels.now operands.now.at (mnemonic.TrapImmediate name) operands.now.text.now }
+    ensures { word_or_kind result
+        ≡ instruction_word operands.now.labels.now operands.now.at (mnemonic.TrapImmediate name)
+        operands.now.text.now }
 {
     match operands.register_and_half(HalfForm::Signed) {
         Ok((rs, imm)) => Ok(Inst::TrapImmediate { name, rs, imm }),
@@ -238,7 +281,9 @@ fn trap_immediate(name: TrapImmediateName, operands: &Operands<'_, '_>) -> Resul
 }
 
 fn sync(operands: &Operands<'_, '_>) -> Result<Inst, u32>
-    ensures { word_or_kind result ≡ instruction_word operands.now.labels.now operands.now.at mnemonic.Sync operands.now.text.now }
+    ensures { word_or_kind result
+        ≡ instruction_word operands.now.labels.now operands.now.at mnemonic.Sync
+        operands.now.text.now }
 {
     match operands.one_amount() {
         Ok(sa) => Ok(Inst::Sync { sa }),
@@ -247,7 +292,9 @@ fn sync(operands: &Operands<'_, '_>) -> Result<Inst, u32>
 }
 
 fn load_linked(operands: &Operands<'_, '_>) -> Result<Inst, u32>
-    ensures { word_or_kind result ≡ instruction_word operands.now.labels.now operands.now.at mnemonic.LoadLinked operands.now.text.now }
+    ensures { word_or_kind result
+        ≡ instruction_word operands.now.labels.now operands.now.at mnemonic.LoadLinked
+        operands.now.text.now }
 {
     match operands.register_and_memory() {
         Ok((rt, (imm, rs))) => Ok(Inst::LoadLinked { rs, rt, imm }),
@@ -256,7 +303,9 @@ fn load_linked(operands: &Operands<'_, '_>) -> Result<Inst, u32>
 }
 
 fn store_conditional(operands: &Operands<'_, '_>) -> Result<Inst, u32>
-    ensures { word_or_kind result ≡ instruction_word operands.now.labels.now operands.now.at mnemonic.StoreConditional operands.now.text.now }
+    ensures { word_or_kind result
+        ≡ instruction_word operands.now.labels.now operands.now.at mnemonic.StoreConditional
+        operands.now.text.now }
 {
     match operands.register_and_memory() {
         Ok((rt, (imm, rs))) => Ok(Inst::StoreConditional { rs, rt, imm }),

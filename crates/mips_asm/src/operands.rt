@@ -28,7 +28,9 @@ impl<'l, 'a> Operands<'l, 'a> {
     /// `$r,$r,$r`.
     #[tactic(auto, using(crate::proofs::ShapeLemmas::other_count, crate::proofs::ShapeLemmas::three_values))]
     pub fn three_registers(&self) -> Result<(u8, (u8, u8)), u32>
-        ensures { list_of_three result ≡ all_values self.now.labels.now self.now.at (Register ∷ Register ∷ Register ∷ []) (operands_of self.now.text.now) }
+        ensures { list_of_three result
+            ≡ all_values self.now.labels.now self.now.at (Register ∷ Register ∷ Register ∷ [])
+            (operands_of self.now.text.now) }
     {
         match three_operands(self.text) {
             None => Err(WRONG_FORM),
@@ -39,7 +41,9 @@ impl<'l, 'a> Operands<'l, 'a> {
     /// `$r,$r,sa`.
     #[tactic(auto, using(crate::proofs::ShapeLemmas::other_count, crate::proofs::ShapeLemmas::three_values))]
     pub fn two_registers_and_amount(&self) -> Result<(u8, (u8, u8)), u32>
-        ensures { list_of_three result ≡ all_values self.now.labels.now self.now.at (Register ∷ Register ∷ Amount ∷ []) (operands_of self.now.text.now) }
+        ensures { list_of_three result
+            ≡ all_values self.now.labels.now self.now.at (Register ∷ Register ∷ Amount ∷ [])
+            (operands_of self.now.text.now) }
     {
         match three_operands(self.text) {
             None => Err(WRONG_FORM),
@@ -50,7 +54,9 @@ impl<'l, 'a> Operands<'l, 'a> {
     /// `$r,$r` and an operand of 16 bits.
     #[tactic(auto, using(crate::proofs::ShapeLemmas::other_count, crate::proofs::ShapeLemmas::three_values))]
     pub fn two_registers_and_half(&self, form: HalfForm) -> Result<(u8, (u8, u16)), u32>
-        ensures { list_of_three result ≡ all_values self.now.labels.now self.now.at (Register ∷ Register ∷ form_of form ∷ []) (operands_of self.now.text.now) }
+        ensures { list_of_three result
+            ≡ all_values self.now.labels.now self.now.at (Register ∷ Register ∷ form_of form ∷ [])
+            (operands_of self.now.text.now) }
     {
         match three_operands(self.text) {
             None => Err(WRONG_FORM),
@@ -61,7 +67,9 @@ impl<'l, 'a> Operands<'l, 'a> {
     /// `$r,$r`.
     #[tactic(auto, using(crate::proofs::ShapeLemmas::other_count, crate::proofs::ShapeLemmas::two_values))]
     pub fn two_registers(&self) -> Result<(u8, u8), u32>
-        ensures { list_of_two result ≡ all_values self.now.labels.now self.now.at (Register ∷ Register ∷ []) (operands_of self.now.text.now) }
+        ensures { list_of_two result
+            ≡ all_values self.now.labels.now self.now.at (Register ∷ Register ∷ [])
+            (operands_of self.now.text.now) }
     {
         match two_operands(self.text) {
             None => Err(WRONG_FORM),
@@ -72,7 +80,9 @@ impl<'l, 'a> Operands<'l, 'a> {
     /// `$r` and an operand of 16 bits.
     #[tactic(auto, using(crate::proofs::ShapeLemmas::other_count, crate::proofs::ShapeLemmas::two_values))]
     pub fn register_and_half(&self, form: HalfForm) -> Result<(u8, u16), u32>
-        ensures { list_of_two result ≡ all_values self.now.labels.now self.now.at (Register ∷ form_of form ∷ []) (operands_of self.now.text.now) }
+        ensures { list_of_two result
+            ≡ all_values self.now.labels.now self.now.at (Register ∷ form_of form ∷ [])
+            (operands_of self.now.text.now) }
     {
         match two_operands(self.text) {
             None => Err(WRONG_FORM),
@@ -83,7 +93,9 @@ impl<'l, 'a> Operands<'l, 'a> {
     /// `$r,imm($r)`.
     #[tactic(auto, using(crate::proofs::ShapeLemmas::other_count, crate::proofs::ShapeLemmas::memory_values))]
     pub fn register_and_memory(&self) -> Result<(u8, (u16, u8)), u32>
-        ensures { list_of_three result ≡ all_values self.now.labels.now self.now.at (Register ∷ InMemory ∷ []) (operands_of self.now.text.now) }
+        ensures { list_of_three result
+            ≡ all_values self.now.labels.now self.now.at (Register ∷ InMemory ∷ [])
+            (operands_of self.now.text.now) }
     {
         match two_operands(self.text) {
             None => Err(WRONG_FORM),
@@ -94,7 +106,9 @@ impl<'l, 'a> Operands<'l, 'a> {
     /// `$r`.
     #[tactic(auto, using(crate::proofs::ShapeLemmas::other_count, crate::proofs::ShapeLemmas::one_value))]
     pub fn one_register(&self) -> Result<u8, u32>
-        ensures { list_of_one result ≡ all_values self.now.labels.now self.now.at (Register ∷ []) (operands_of self.now.text.now) }
+        ensures { list_of_one result
+            ≡ all_values self.now.labels.now self.now.at (Register ∷ [])
+            (operands_of self.now.text.now) }
     {
         match one_operand(self.text) {
             None => Err(WRONG_FORM),
@@ -105,7 +119,9 @@ impl<'l, 'a> Operands<'l, 'a> {
     /// `sa`.
     #[tactic(auto, using(crate::proofs::ShapeLemmas::other_count, crate::proofs::ShapeLemmas::one_value))]
     pub fn one_amount(&self) -> Result<u8, u32>
-        ensures { list_of_one result ≡ all_values self.now.labels.now self.now.at (Amount ∷ []) (operands_of self.now.text.now) }
+        ensures { list_of_one result
+            ≡ all_values self.now.labels.now self.now.at (Amount ∷ [])
+            (operands_of self.now.text.now) }
     {
         match one_operand(self.text) {
             None => Err(WRONG_FORM),
@@ -116,7 +132,8 @@ impl<'l, 'a> Operands<'l, 'a> {
     /// `code`.
     #[tactic(auto, using(crate::proofs::ShapeLemmas::other_count, crate::proofs::ShapeLemmas::one_value))]
     pub fn one_code(&self) -> Result<u32, u32>
-        ensures { list_of_one result ≡ all_values self.now.labels.now self.now.at (Code ∷ []) (operands_of self.now.text.now) }
+        ensures { list_of_one result
+            ≡ all_values self.now.labels.now self.now.at (Code ∷ []) (operands_of self.now.text.now) }
     {
         match one_operand(self.text) {
             None => Err(WRONG_FORM),
@@ -127,7 +144,8 @@ impl<'l, 'a> Operands<'l, 'a> {
     /// The target of a jump, as its index.
     #[tactic(auto, using(crate::proofs::ShapeLemmas::other_count, crate::proofs::ShapeLemmas::one_value))]
     pub fn one_index(&self) -> Result<u32, u32>
-        ensures { list_of_one result ≡ all_values self.now.labels.now self.now.at (Far ∷ []) (operands_of self.now.text.now) }
+        ensures { list_of_one result
+            ≡ all_values self.now.labels.now self.now.at (Far ∷ []) (operands_of self.now.text.now) }
     {
         match one_operand(self.text) {
             None => Err(WRONG_FORM),
@@ -140,7 +158,8 @@ impl<'l, 'a> Operands<'l, 'a> {
 
     /// The 16 bits of an operand.
     fn half(&self, form: HalfForm, text: &'a [u8]) -> Result<u16, u32>
-        ensures { list_of_one result ≡ values self.now.labels.now self.now.at (form_of form) text.now }
+        ensures { list_of_one result
+            ≡ values self.now.labels.now self.now.at (form_of form) text.now }
     {
         match form {
             HalfForm::Signed => immediate(32768, self.labels, text),

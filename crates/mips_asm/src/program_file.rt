@@ -23,7 +23,8 @@ const DATA_FLAGS: u32 = 6;
 pub fn write_program(alloc: Global, segments: Segments) -> Result<Vec<u8>, AsmError>
     requires short_text { length segments.text.items ≤ 4194304 }
     requires short_data { length segments.data_bytes.items ≤ 16777216 }
-    ensures file { IfOk result (λ file. IsFileOf segments.text.items segments.data_bytes.items file.items) }
+    ensures file { IfOk result (λ file.
+        IsFileOf segments.text.items segments.data_bytes.items file.items) }
     ensures memory { IfErr result (λ e. e ≡ NoMemory) }
 {
     match program_parts(alloc, segments) {
@@ -55,7 +56,8 @@ fn program_parts(alloc: Global, segments: Segments) -> Result<Parts, AllocError>
 /// Appends the data, where there is any.
 fn push_data(parts: &mut Vec<Part>, bytes: Vec<u8>) -> Result<(), AllocError>
     requires { length bytes.items ≤ 16777216 }
-    ensures { OnOk result (map segment_of parts.new.items ≡ map segment_of parts.old.items ++ data_segments bytes.items) }
+    ensures { OnOk result (map segment_of parts.new.items ≡ map segment_of parts.old.items
+        ++ data_segments bytes.items) }
 {
     if bytes.is_empty() {
         return Ok(());

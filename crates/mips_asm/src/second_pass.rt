@@ -28,10 +28,15 @@ pub fn fill_segments<'a>(
     found: &Found<'a>,
 ) -> Result<Segments, AsmError>
     requires { length text.now ≤ 67108864 }
-    ensures text { IfOk result (λ s. s.text.items ≡ words (words_left false found.now.labels program.start (program.parsed text.now))) }
-    ensures data_bytes { IfOk result (λ s. s.data_bytes.items ≡ words (words_left true found.now.labels program.start (program.parsed text.now))) }
-    ensures whole { OnOk result (fault_marked found.now.labels found.now.again program.start 1 (program.parsed text.now) ≡ None) }
-    ensures refused { IfErr result (IsFault (fault_marked found.now.labels found.now.again program.start 1 (program.parsed text.now))) }
+    ensures text { IfOk result (λ s. s.text.items
+        ≡ words (words_left false found.now.labels program.start (program.parsed text.now))) }
+    ensures data_bytes { IfOk result (λ s. s.data_bytes.items
+        ≡ words (words_left true found.now.labels program.start (program.parsed text.now))) }
+    ensures whole { OnOk result (fault_marked found.now.labels found.now.again program.start 1
+        (program.parsed text.now) ≡ None) }
+    ensures refused { IfErr result
+        (IsFault (fault_marked found.now.labels found.now.again program.start 1
+        (program.parsed text.now))) }
     ensures short_text { IfOk result (λ s. length s.text.items ≤ 4194304) }
     ensures short_data { IfOk result (λ s. length s.data_bytes.items ≤ 16777216) }
 {
@@ -62,7 +67,9 @@ fn line_filling<'a>(
     statement: Statement<'a>,
 ) -> Result<Filling, u32>
     requires { IsLow (2 ^ 50) place }
-    ensures { words_or_kind result ≡ unmarked (passes.is_line found.now.again line) (program.line_words found.now.labels [] place (line_of_statement statement.entry)) }
+    ensures { words_or_kind result
+        ≡ unmarked (passes.is_line found.now.again line)
+        (program.line_words found.now.labels [] place (line_of_statement statement.entry)) }
 {
     if is_line(found.again, line) {
         return Err(LABEL_TWICE);

@@ -32,8 +32,10 @@ impl Segments {
     /// # Errors
     /// Where there is no memory for it.
     pub fn append(&mut self, in_data: bool, filling: Filling) -> Result<(), AllocError>
-        ensures text { OnOk result (self.new.text.items ≡ self.old.text.items ++ words (cond in_data [] (filling_words filling))) }
-        ensures data_bytes { OnOk result (self.new.data_bytes.items ≡ self.old.data_bytes.items ++ words (cond in_data (filling_words filling) [])) }
+        ensures text { OnOk result (self.new.text.items ≡ self.old.text.items
+            ++ words (cond in_data [] (filling_words filling))) }
+        ensures data_bytes { OnOk result (self.new.data_bytes.items ≡ self.old.data_bytes.items
+            ++ words (cond in_data (filling_words filling) [])) }
     {
         if in_data {
             append_filling(&mut self.data_bytes, filling)

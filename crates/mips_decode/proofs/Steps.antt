@@ -1,5 +1,5 @@
 -- What holds of every step: how it goes by the word at pc, and what no instruction changes.
-use Rattle.std.proofs.Common.{◌≡◌, refl, ap, ℕ, ◌%◌, Bool, true, false, ◌||◌, ◌==◌, not, is_none, if◌then◌else◌, Option, Some, None}
+use Rattle.std.proofs.Common.{◌≡◌, refl, ℕ, ◌%◌, Bool, true, false, ◌||◌, ◌==◌, not, is_none, if◌then◌else◌, Option, Some, None}
 use Rattle.nv_words.specs.Words.{signed_of}
 use Rattle.mips_decode.specs.State.{State, register, with_register}
 use Rattle.mips_decode.specs.Effect.{Effect, goes_on, branches, skips_slot, faults, calls, read_align_fault, read_unmapped_fault, write_align_fault, write_refused_fault}

@@ -36,7 +36,8 @@ use Rattle.mips_decode.specs.declared.names.trap_immediate_name.TrapImmediateNam
 -- ---- the formats; a register, a shift amount, an index or a code is cut to the bits of its field
 abbrev pub register_word : ℕ → ℕ → ℕ → ℕ → ℕ → ℕ → ℕ
 register_word op rs rt rd sa funct =
-    op * 2 ^ 26 + rs % 2 ^ 5 * 2 ^ 21 + rt % 2 ^ 5 * 2 ^ 16 + rd % 2 ^ 5 * 2 ^ 11 + sa % 2 ^ 5 * 2 ^ 6 + funct
+    op * 2 ^ 26 + rs % 2 ^ 5 * 2 ^ 21 + rt % 2 ^ 5 * 2 ^ 16 + rd % 2 ^ 5 * 2 ^ 11 + sa % 2 ^ 5
+    * 2 ^ 6 + funct
 
 abbrev pub immediate_word : ℕ → ℕ → ℕ → ℕ → ℕ
 immediate_word op rs rt imm = op * 2 ^ 26 + rs % 2 ^ 5 * 2 ^ 21 + rt % 2 ^ 5 * 2 ^ 16 + imm
@@ -48,7 +49,8 @@ abbrev pub code_word : ℕ → ℕ → ℕ
 code_word code funct = code % 2 ^ 20 * 2 ^ 6 + funct
 
 abbrev pub trap_word : ℕ → ℕ → ℕ → ℕ → ℕ
-trap_word rs rt code funct = rs % 2 ^ 5 * 2 ^ 21 + rt % 2 ^ 5 * 2 ^ 16 + code % 2 ^ 10 * 2 ^ 6 + funct
+trap_word rs rt code funct =
+    rs % 2 ^ 5 * 2 ^ 21 + rt % 2 ^ 5 * 2 ^ 16 + code % 2 ^ 10 * 2 ^ 6 + funct
 
 -- ---- the numbers that select the names of a form
 abbrev pub arithmetic_funct : ArithmeticName → ℕ
@@ -172,7 +174,8 @@ word_of (BranchSign name rs imm) = immediate_word 0x01 rs (branch_sign_rt name) 
 word_of (Jump name index) = jump_word (jump_op name) index
 word_of (BranchEqual name rs rt imm) = immediate_word (branch_equal_op name) rs rt imm
 word_of (BranchZero name rs imm) = immediate_word (branch_zero_op name) rs 0 imm
-word_of (ArithmeticImmediate name rs rt imm) = immediate_word (arithmetic_immediate_op name) rs rt imm
+word_of (ArithmeticImmediate name rs rt imm) =
+    immediate_word (arithmetic_immediate_op name) rs rt imm
 word_of (LogicalImmediate name rs rt imm) = immediate_word (logical_immediate_op name) rs rt imm
 word_of (LoadUpper rt imm) = immediate_word 0x0F 0 rt imm
 word_of (Load name rs rt imm) = immediate_word (load_op name) rs rt imm

@@ -20,42 +20,59 @@ hex_text w = let ds = digits 16 true w in codes "0x" ++ (replicate (8 - length d
 -- the text of the instruction at the address
 abbrev pub text_of : Inst → ℕ → List ℕ
 text_of (Arithmetic name rs rt rd) at =
-    joined (arithmetic_text name ∷ codes " $" ∷ decimal rd ∷ codes ",$" ∷ decimal rs ∷ codes ",$" ∷ decimal rt ∷ [])
+    joined (arithmetic_text name ∷ codes " $" ∷ decimal rd ∷ codes ",$" ∷ decimal rs ∷ codes ",$"
+    ∷ decimal rt ∷ [])
 text_of (VariableShift name rs rt rd) at =
-    joined (variable_shift_text name ∷ codes " $" ∷ decimal rd ∷ codes ",$" ∷ decimal rt ∷ codes ",$" ∷ decimal rs ∷ [])
+    joined (variable_shift_text name ∷ codes " $" ∷ decimal rd ∷ codes ",$" ∷ decimal rt
+    ∷ codes ",$" ∷ decimal rs ∷ [])
 text_of (Shift name rt rd sa) at =
-    joined (shift_text name ∷ codes " $" ∷ decimal rd ∷ codes ",$" ∷ decimal rt ∷ codes "," ∷ decimal sa ∷ [])
+    joined (shift_text name ∷ codes " $" ∷ decimal rd ∷ codes ",$" ∷ decimal rt ∷ codes ","
+    ∷ decimal sa ∷ [])
 text_of (JumpRegister rs) at = joined (codes "jr $" ∷ decimal rs ∷ [])
-text_of (JumpAndLinkRegister rs rd) at = joined (codes "jalr $" ∷ decimal rd ∷ codes ",$" ∷ decimal rs ∷ [])
+text_of (JumpAndLinkRegister rs rd) at =
+    joined (codes "jalr $" ∷ decimal rd ∷ codes ",$" ∷ decimal rs ∷ [])
 text_of (Syscall code) at = joined (codes "syscall " ∷ decimal code ∷ [])
 text_of (Break code) at = joined (codes "break " ∷ decimal code ∷ [])
 text_of (MoveFrom name rd) at = joined (codes "mf" ∷ hi_lo_text name ∷ codes " $" ∷ decimal rd ∷ [])
 text_of (MoveTo name rs) at = joined (codes "mt" ∷ hi_lo_text name ∷ codes " $" ∷ decimal rs ∷ [])
-text_of (Product name rs rt) at = joined (product_text name ∷ codes " $" ∷ decimal rs ∷ codes ",$" ∷ decimal rt ∷ [])
+text_of (Product name rs rt) at =
+    joined (product_text name ∷ codes " $" ∷ decimal rs ∷ codes ",$" ∷ decimal rt ∷ [])
 text_of (BranchSign name rs imm) at =
-    joined (branch_sign_text name ∷ codes " $" ∷ decimal rs ∷ codes "," ∷ hex_text (branch_target at imm) ∷ [])
-text_of (Jump name index) at = joined (jump_text name ∷ codes " " ∷ hex_text (jump_target at index) ∷ [])
+    joined (branch_sign_text name ∷ codes " $" ∷ decimal rs ∷ codes ","
+    ∷ hex_text (branch_target at imm) ∷ [])
+text_of (Jump name index) at =
+    joined (jump_text name ∷ codes " " ∷ hex_text (jump_target at index) ∷ [])
 text_of (BranchEqual name rs rt imm) at = joined
-    (branch_equal_text name ∷ codes " $" ∷ decimal rs ∷ codes ",$" ∷ decimal rt ∷ codes "," ∷ hex_text (branch_target at imm) ∷ [])
+    (branch_equal_text name ∷ codes " $" ∷ decimal rs ∷ codes ",$" ∷ decimal rt ∷ codes ","
+    ∷ hex_text (branch_target at imm) ∷ [])
 text_of (BranchZero name rs imm) at =
-    joined (branch_zero_text name ∷ codes " $" ∷ decimal rs ∷ codes "," ∷ hex_text (branch_target at imm) ∷ [])
+    joined (branch_zero_text name ∷ codes " $" ∷ decimal rs ∷ codes ","
+    ∷ hex_text (branch_target at imm) ∷ [])
 text_of (ArithmeticImmediate name rs rt imm) at = joined
-    (arithmetic_immediate_text name ∷ codes " $" ∷ decimal rt ∷ codes ",$" ∷ decimal rs ∷ codes "," ∷ signed_decimal (signed_imm imm) ∷ [])
+    (arithmetic_immediate_text name ∷ codes " $" ∷ decimal rt ∷ codes ",$" ∷ decimal rs ∷ codes ","
+    ∷ signed_decimal (signed_imm imm) ∷ [])
 text_of (LogicalImmediate name rs rt imm) at =
-    joined (logical_immediate_text name ∷ codes " $" ∷ decimal rt ∷ codes ",$" ∷ decimal rs ∷ codes "," ∷ decimal imm ∷ [])
+    joined (logical_immediate_text name ∷ codes " $" ∷ decimal rt ∷ codes ",$" ∷ decimal rs
+    ∷ codes "," ∷ decimal imm ∷ [])
 text_of (LoadUpper rt imm) at = joined (codes "lui $" ∷ decimal rt ∷ codes "," ∷ decimal imm ∷ [])
 text_of (Load name rs rt imm) at = joined
-    (load_text name ∷ codes " $" ∷ decimal rt ∷ codes "," ∷ signed_decimal (signed_imm imm) ∷ codes "($" ∷ decimal rs ∷ codes ")" ∷ [])
+    (load_text name ∷ codes " $" ∷ decimal rt ∷ codes "," ∷ signed_decimal (signed_imm imm)
+    ∷ codes "($" ∷ decimal rs ∷ codes ")" ∷ [])
 text_of (Store name rs rt imm) at = joined
-    (store_text name ∷ codes " $" ∷ decimal rt ∷ codes "," ∷ signed_decimal (signed_imm imm) ∷ codes "($" ∷ decimal rs ∷ codes ")" ∷ [])
+    (store_text name ∷ codes " $" ∷ decimal rt ∷ codes "," ∷ signed_decimal (signed_imm imm)
+    ∷ codes "($" ∷ decimal rs ∷ codes ")" ∷ [])
 text_of (Trap name rs rt code) at =
-    joined (trap_text name ∷ codes " $" ∷ decimal rs ∷ codes ",$" ∷ decimal rt ∷ codes "," ∷ decimal code ∷ [])
+    joined (trap_text name ∷ codes " $" ∷ decimal rs ∷ codes ",$" ∷ decimal rt ∷ codes ","
+    ∷ decimal code ∷ [])
 text_of (TrapImmediate name rs imm) at =
-    joined (trap_immediate_text name ∷ codes " $" ∷ decimal rs ∷ codes "," ∷ signed_decimal (signed_imm imm) ∷ [])
+    joined (trap_immediate_text name ∷ codes " $" ∷ decimal rs ∷ codes ","
+    ∷ signed_decimal (signed_imm imm) ∷ [])
 text_of (Sync sa) at = joined (codes "sync " ∷ decimal sa ∷ [])
 text_of (LoadLinked rs rt imm) at = joined
-    (codes "ll $" ∷ decimal rt ∷ codes "," ∷ signed_decimal (signed_imm imm) ∷ codes "($" ∷ decimal rs ∷ codes ")" ∷ [])
+    (codes "ll $" ∷ decimal rt ∷ codes "," ∷ signed_decimal (signed_imm imm) ∷ codes "($"
+    ∷ decimal rs ∷ codes ")" ∷ [])
 text_of (StoreConditional rs rt imm) at = joined
-    (codes "sc $" ∷ decimal rt ∷ codes "," ∷ signed_decimal (signed_imm imm) ∷ codes "($" ∷ decimal rs ∷ codes ")" ∷ [])
+    (codes "sc $" ∷ decimal rt ∷ codes "," ∷ signed_decimal (signed_imm imm) ∷ codes "($"
+    ∷ decimal rs ∷ codes ")" ∷ [])
 text_of (Reserved w) at = joined (codes ".word " ∷ hex_text w ∷ [])
 text_of (Float w) at = joined (codes ".word " ∷ hex_text w ∷ [])

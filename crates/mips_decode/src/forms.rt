@@ -56,7 +56,8 @@ pub(crate) fn shift(name: ShiftName, w: u32) -> Inst
 }
 
 pub(crate) fn jump_register(w: u32) -> Inst
-    ensures { result ≡ (if rt_of w == 0 && (rd_of w == 0 && sa_of w == 0) then table.jump_register w else Reserved w) }
+    ensures { result ≡ (if rt_of w == 0 && (rd_of w == 0 && sa_of w == 0) then table.jump_register w
+        else Reserved w) }
 {
     if rt(w) != 0 || rd(w) != 0 || sa(w) != 0 {
         return Inst::Reserved(w);
@@ -65,7 +66,8 @@ pub(crate) fn jump_register(w: u32) -> Inst
 }
 
 pub(crate) fn jump_and_link_register(w: u32) -> Inst
-    ensures { result ≡ (if rt_of w == 0 && sa_of w == 0 then table.jump_and_link_register w else Reserved w) }
+    ensures { result ≡ (if rt_of w == 0 && sa_of w == 0 then table.jump_and_link_register w
+        else Reserved w) }
 {
     if rt(w) != 0 || sa(w) != 0 {
         return Inst::Reserved(w);
@@ -89,7 +91,8 @@ pub(crate) fn break_point(w: u32) -> Inst
 }
 
 pub(crate) fn move_from(name: HiLo, w: u32) -> Inst
-    ensures { result ≡ (if rs_of w == 0 && (rt_of w == 0 && sa_of w == 0) then table.move_from name w else Reserved w) }
+    ensures { result ≡ (if rs_of w == 0 && (rt_of w == 0 && sa_of w == 0)
+        then table.move_from name w else Reserved w) }
 {
     if rs(w) != 0 || rt(w) != 0 || sa(w) != 0 {
         return Inst::Reserved(w);
@@ -98,7 +101,8 @@ pub(crate) fn move_from(name: HiLo, w: u32) -> Inst
 }
 
 pub(crate) fn move_to(name: HiLo, w: u32) -> Inst
-    ensures { result ≡ (if rt_of w == 0 && (rd_of w == 0 && sa_of w == 0) then table.move_to name w else Reserved w) }
+    ensures { result ≡ (if rt_of w == 0 && (rd_of w == 0 && sa_of w == 0) then table.move_to name w
+        else Reserved w) }
 {
     if rt(w) != 0 || rd(w) != 0 || sa(w) != 0 {
         return Inst::Reserved(w);
@@ -240,7 +244,8 @@ pub(crate) fn trap_immediate(name: TrapImmediateName, w: u32) -> Inst
 }
 
 pub(crate) fn sync(w: u32) -> Inst
-    ensures { result ≡ (if rs_of w == 0 && (rt_of w == 0 && rd_of w == 0) then table.sync w else Reserved w) }
+    ensures { result ≡ (if rs_of w == 0 && (rt_of w == 0 && rd_of w == 0) then table.sync w
+        else Reserved w) }
 {
     if rs(w) != 0 || rt(w) != 0 || rd(w) != 0 {
         return Inst::Reserved(w);

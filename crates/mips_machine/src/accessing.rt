@@ -16,7 +16,8 @@ impl Processor {
     pub(crate) fn load(&mut self, name: LoadName, rs: u8, rt: u8, imm: u16) -> Executed
         requires rs { rs < 32 }
         requires rt { rt < 32 }
-        ensures effect { effect_of result (processor_state self.new) ≡ load_effect name (processor_state self.old) rs rt imm }
+        ensures effect { effect_of result (processor_state self.new)
+            ≡ load_effect name (processor_state self.old) rs rt imm }
         ensures stays { Stays result (processor_state self.old) (processor_state self.new) }
     {
         let at = self.address(rs, imm);
@@ -44,7 +45,8 @@ impl Processor {
     pub(crate) fn store(&mut self, name: StoreName, rs: u8, rt: u8, imm: u16) -> Executed
         requires rs { rs < 32 }
         requires rt { rt < 32 }
-        ensures effect { effect_of result (processor_state self.new) ≡ store_effect name (processor_state self.old) rs rt imm }
+        ensures effect { effect_of result (processor_state self.new)
+            ≡ store_effect name (processor_state self.old) rs rt imm }
         ensures stays { Stays result (processor_state self.old) (processor_state self.new) }
     {
         let at = self.address(rs, imm);

@@ -16,7 +16,8 @@ impl Processor {
     pub(crate) fn branch_equal(&self, name: BranchEqualName, rs: u8, rt: u8, imm: u16) -> Executed
         requires rs { rs < 32 }
         requires rt { rt < 32 }
-        ensures effect { effect_of result (processor_state self.now) ≡ manual.branch_equal_effect name (processor_state self.now) rs rt imm }
+        ensures effect { effect_of result (processor_state self.now)
+            ≡ manual.branch_equal_effect name (processor_state self.now) rs rt imm }
         ensures stays { Stays result (processor_state self.now) (processor_state self.now) }
     {
         let equal = self.register(rs) == self.register(rt);
@@ -32,7 +33,8 @@ impl Processor {
     #[inline]
     pub(crate) fn branch_zero(&self, name: BranchZeroName, rs: u8, imm: u16) -> Executed
         requires { rs < 32 }
-        ensures effect { effect_of result (processor_state self.now) ≡ manual.branch_zero_effect name (processor_state self.now) rs imm }
+        ensures effect { effect_of result (processor_state self.now)
+            ≡ manual.branch_zero_effect name (processor_state self.now) rs imm }
         ensures stays { Stays result (processor_state self.now) (processor_state self.now) }
     {
         let w = signed(self.register(rs));
@@ -48,7 +50,8 @@ impl Processor {
     #[inline]
     pub(crate) fn branch_sign(&self, name: BranchSignName, rs: u8, imm: u16) -> Executed
         requires { rs < 32 }
-        ensures effect { effect_of result (processor_state self.now) ≡ manual.branch_sign_effect name (processor_state self.now) rs imm }
+        ensures effect { effect_of result (processor_state self.now)
+            ≡ manual.branch_sign_effect name (processor_state self.now) rs imm }
         ensures stays { Stays result (processor_state self.now) (processor_state self.now) }
     {
         let negative = signed(self.register(rs)) < 0;
@@ -68,7 +71,8 @@ impl Processor {
     #[inline]
     pub(crate) fn jump(&self, name: JumpName, index: u32) -> Executed
         requires { index < 2 ^ 26 }
-        ensures effect { effect_of result (processor_state self.now) ≡ manual.jump_effect name (processor_state self.now) index }
+        ensures effect { effect_of result (processor_state self.now)
+            ≡ manual.jump_effect name (processor_state self.now) index }
         ensures stays { Stays result (processor_state self.now) (processor_state self.now) }
     {
         let target = jump_target(self.pc(), index);
@@ -83,7 +87,8 @@ impl Processor {
     #[inline]
     pub(crate) fn jump_register(&self, rs: u8) -> Executed
         requires { rs < 32 }
-        ensures effect { effect_of result (processor_state self.now) ≡ manual.jump_register_effect (processor_state self.now) rs }
+        ensures effect { effect_of result (processor_state self.now)
+            ≡ manual.jump_register_effect (processor_state self.now) rs }
         ensures stays { Stays result (processor_state self.now) (processor_state self.now) }
     {
         let target = self.register(rs);
@@ -95,7 +100,8 @@ impl Processor {
     pub(crate) fn jump_and_link_register(&self, rs: u8, rd: u8) -> Executed
         requires rs { rs < 32 }
         requires rd { rd < 32 }
-        ensures effect { effect_of result (processor_state self.now) ≡ manual.jump_and_link_register_effect (processor_state self.now) rs rd }
+        ensures effect { effect_of result (processor_state self.now)
+            ≡ manual.jump_and_link_register_effect (processor_state self.now) rs rd }
         ensures stays { Stays result (processor_state self.now) (processor_state self.now) }
     {
         let target = self.register(rs);
@@ -106,7 +112,8 @@ impl Processor {
     /// A branch to its target where it is taken, and else past its slot.
     #[inline]
     fn branch(&self, taken: bool, imm: u16, link: Option<u8>) -> Executed
-        ensures { result ≡ Executed.Branch (manual.taken_or_not (processor_state self.now) taken imm) link }
+        ensures { result
+            ≡ Executed.Branch (manual.taken_or_not (processor_state self.now) taken imm) link }
     {
         let target = if taken {
             branch_target(self.pc(), imm)
@@ -120,7 +127,9 @@ impl Processor {
     #[inline]
     fn branch_likely(&self, taken: bool, imm: u16, link: Option<u8>) -> Executed
         requires { IsRegister link }
-        ensures effect { effect_of result (processor_state self.now) ≡ manual.branch_effect true taken (processor_state self.now) (with_link link (processor_state self.now)) imm }
+        ensures effect { effect_of result (processor_state self.now)
+            ≡ manual.branch_effect true taken (processor_state self.now)
+            (with_link link (processor_state self.now)) imm }
         ensures stays { Stays result (processor_state self.now) (processor_state self.now) }
     {
         if taken {

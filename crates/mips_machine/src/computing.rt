@@ -29,7 +29,10 @@ impl Processor {
         requires rs { rs < 32 }
         requires rt { rt < 32 }
         requires rd { rd < 32 }
-        ensures effect { effect_of result (processor_state self.new) ≡ result_effect (processor_state self.old) word rd (manual.arithmetic_result name (register (processor_state self.old) rs) (register (processor_state self.old) rt)) }
+        ensures effect { effect_of result (processor_state self.new)
+            ≡ result_effect (processor_state self.old) word rd
+            (manual.arithmetic_result name (register (processor_state self.old) rs)
+            (register (processor_state self.old) rt)) }
         ensures stays { Stays result (processor_state self.old) (processor_state self.new) }
     {
         let computed = arithmetic::arithmetic(name, self.register(rs), self.register(rt));
@@ -48,7 +51,10 @@ impl Processor {
     ) -> Executed
         requires rs { rs < 32 }
         requires rt { rt < 32 }
-        ensures effect { effect_of result (processor_state self.new) ≡ result_effect (processor_state self.old) word rt (manual.arithmetic_immediate_result name (register (processor_state self.old) rs) imm) }
+        ensures effect { effect_of result (processor_state self.new)
+            ≡ result_effect (processor_state self.old) word rt
+            (manual.arithmetic_immediate_result name (register (processor_state self.old) rs)
+            imm) }
         ensures stays { Stays result (processor_state self.old) (processor_state self.new) }
     {
         let computed = arithmetic::arithmetic_immediate(name, self.register(rs), imm);
@@ -66,7 +72,9 @@ impl Processor {
     ) -> Executed
         requires rs { rs < 32 }
         requires rt { rt < 32 }
-        ensures effect { effect_of result (processor_state self.new) ≡ goes_on (with_register (processor_state self.old) rt (manual.logical_immediate_result name (register (processor_state self.old) rs) imm)) }
+        ensures effect { effect_of result (processor_state self.new)
+            ≡ goes_on (with_register (processor_state self.old) rt
+            (manual.logical_immediate_result name (register (processor_state self.old) rs) imm)) }
         ensures stays { Stays result (processor_state self.old) (processor_state self.new) }
     {
         let computed = arithmetic::logical_immediate(name, self.register(rs), imm);
@@ -78,7 +86,8 @@ impl Processor {
     #[inline]
     pub(crate) fn load_upper(&mut self, rt: u8, imm: u16) -> Executed
         requires { rt < 32 }
-        ensures effect { effect_of result (processor_state self.new) ≡ goes_on (with_register (processor_state self.old) rt (imm * 2 ^ 16)) }
+        ensures effect { effect_of result (processor_state self.new)
+            ≡ goes_on (with_register (processor_state self.old) rt (imm * 2 ^ 16)) }
         ensures stays { Stays result (processor_state self.old) (processor_state self.new) }
     {
         self.set_register(rt, u32::from(imm) << 16);
@@ -91,7 +100,9 @@ impl Processor {
         requires rt { rt < 32 }
         requires rd { rd < 32 }
         requires sa { sa < 32 }
-        ensures effect { effect_of result (processor_state self.new) ≡ goes_on (with_register (processor_state self.old) rd (manual.shifted name (register (processor_state self.old) rt) sa)) }
+        ensures effect { effect_of result (processor_state self.new)
+            ≡ goes_on (with_register (processor_state self.old) rd
+            (manual.shifted name (register (processor_state self.old) rt) sa)) }
         ensures stays { Stays result (processor_state self.old) (processor_state self.new) }
     {
         let computed = arithmetic::shift(name, self.register(rt), u32::from(sa));
@@ -111,7 +122,10 @@ impl Processor {
         requires rs { rs < 32 }
         requires rt { rt < 32 }
         requires rd { rd < 32 }
-        ensures effect { effect_of result (processor_state self.new) ≡ goes_on (with_register (processor_state self.old) rd (manual.variable_shifted name (register (processor_state self.old) rt) (register (processor_state self.old) rs))) }
+        ensures effect { effect_of result (processor_state self.new)
+            ≡ goes_on (with_register (processor_state self.old) rd
+            (manual.variable_shifted name (register (processor_state self.old) rt)
+            (register (processor_state self.old) rs))) }
         ensures stays { Stays result (processor_state self.old) (processor_state self.new) }
     {
         let computed = arithmetic::variable_shift(name, self.register(rt), self.register(rs));
@@ -125,7 +139,14 @@ impl Processor {
     pub(crate) fn product(&mut self, name: ProductName, rs: u8, rt: u8) -> Executed
         requires rs { rs < 32 }
         requires rt { rt < 32 }
-        ensures effect { effect_of result (processor_state self.new) ≡ goes_on (record (processor_state self.old) { hi = manual.product_hi name (register (processor_state self.old) rs) (register (processor_state self.old) rt); lo = manual.product_lo name (register (processor_state self.old) rs) (register (processor_state self.old) rt) }) }
+        ensures effect { effect_of result (processor_state self.new)
+            ≡ goes_on (record (processor_state self.old) {
+              hi = manual.product_hi name (register (processor_state self.old) rs)
+                  (register (processor_state self.old) rt);
+              lo =
+                  manual.product_lo name (register (processor_state self.old) rs)
+                  (register (processor_state self.old) rt);
+            }) }
         ensures stays { Stays result (processor_state self.old) (processor_state self.new) }
     {
         let (hi, lo) = arithmetic::product(name, self.register(rs), self.register(rt));
@@ -139,7 +160,8 @@ impl Processor {
     #[tactic(auto, unfolding(crate::specs::Processor::processor_state))]
     pub(crate) fn move_from(&mut self, name: HiLo, rd: u8) -> Executed
         requires { rd < 32 }
-        ensures effect { effect_of result (processor_state self.new) ≡ move_from_effect name (processor_state self.old) rd }
+        ensures effect { effect_of result (processor_state self.new)
+            ≡ move_from_effect name (processor_state self.old) rd }
         ensures stays { Stays result (processor_state self.old) (processor_state self.new) }
     {
         match name {
@@ -154,7 +176,8 @@ impl Processor {
     #[tactic(auto, unfolding(crate::specs::Processor::processor_state))]
     pub(crate) fn move_to(&mut self, name: HiLo, rs: u8) -> Executed
         requires { rs < 32 }
-        ensures effect { effect_of result (processor_state self.new) ≡ move_to_effect name (processor_state self.old) rs }
+        ensures effect { effect_of result (processor_state self.new)
+            ≡ move_to_effect name (processor_state self.old) rs }
         ensures stays { Stays result (processor_state self.old) (processor_state self.new) }
     {
         let w = self.register(rs);
@@ -169,7 +192,8 @@ impl Processor {
     #[inline]
     fn take(&mut self, r: u8, computed: Option<u32>, word: u32) -> Executed
         requires { r < 32 }
-        ensures effect { effect_of result (processor_state self.new) ≡ result_effect (processor_state self.old) word r computed }
+        ensures effect { effect_of result (processor_state self.new)
+            ≡ result_effect (processor_state self.old) word r computed }
         ensures stays { Stays result (processor_state self.old) (processor_state self.new) }
     {
         match computed {

@@ -14,7 +14,8 @@ impl Processor {
     #[inline]
     pub(crate) fn execute(&mut self, inst: Inst, word: u32) -> Executed
         requires { HasFields inst }
-        ensures effect { effect_of result (processor_state self.new) ≡ effect inst word (processor_state self.old) }
+        ensures effect { effect_of result (processor_state self.new)
+            ≡ effect inst word (processor_state self.old) }
         ensures stays { Stays result (processor_state self.old) (processor_state self.new) }
     {
         match inst {

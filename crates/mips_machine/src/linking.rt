@@ -17,7 +17,8 @@ impl Processor {
     pub(crate) fn load_linked(&mut self, rs: u8, rt: u8, imm: u16) -> Executed
         requires rs { rs < 32 }
         requires rt { rt < 32 }
-        ensures effect { effect_of result (processor_state self.new) ≡ load_linked_effect (processor_state self.old) rs rt imm }
+        ensures effect { effect_of result (processor_state self.new)
+            ≡ load_linked_effect (processor_state self.old) rs rt imm }
         ensures stays { Stays result (processor_state self.old) (processor_state self.new) }
     {
         let at = self.address(rs, imm);
@@ -49,7 +50,8 @@ impl Processor {
     pub(crate) fn store_conditional(&mut self, rs: u8, rt: u8, imm: u16) -> Executed
         requires rs { rs < 32 }
         requires rt { rt < 32 }
-        ensures effect { effect_of result (processor_state self.new) ≡ store_conditional_effect (processor_state self.old) rs rt imm }
+        ensures effect { effect_of result (processor_state self.new)
+            ≡ store_conditional_effect (processor_state self.old) rs rt imm }
         ensures stays { Stays result (processor_state self.old) (processor_state self.new) }
     {
         let at = self.address(rs, imm);
@@ -74,7 +76,8 @@ impl Processor {
     fn conclude(&mut self, rt: u8, at: u32)
         requires rt { rt < 32 }
         requires aligned { IsTrue (store_aligned StoreName.Sw at) }
-        requires allowed { IsTrue (store_allowed StoreName.Sw (processor_state self.old).order (processor_state self.old).memory at) }
+        requires allowed { IsTrue (store_allowed StoreName.Sw (processor_state self.old).order
+            (processor_state self.old).memory at) }
         ensures { processor_state self.new ≡ concluded (processor_state self.old) rt at }
     {
         if self.is_linked(at) {
@@ -90,8 +93,14 @@ impl Processor {
     fn store_linked(&mut self, rt: u8, at: u32)
         requires rt { rt < 32 }
         requires aligned { IsTrue (store_aligned StoreName.Sw at) }
-        requires allowed { IsTrue (store_allowed StoreName.Sw (processor_state self.old).order (processor_state self.old).memory at) }
-        ensures { processor_state self.new ≡ record (with_register (processor_state self.old) rt 1) { memory = stored StoreName.Sw (processor_state self.old).order (processor_state self.old).memory at (register (processor_state self.old) rt); load_link = None } }
+        requires allowed { IsTrue (store_allowed StoreName.Sw (processor_state self.old).order
+            (processor_state self.old).memory at) }
+        ensures { processor_state self.new
+            ≡ record (with_register (processor_state self.old) rt 1) {
+              memory = stored StoreName.Sw (processor_state self.old).order
+                  (processor_state self.old).memory at (register (processor_state self.old) rt);
+              load_link = None;
+            } }
     {
         let w = self.register(rt);
         self.memory.store(StoreName::Sw, self.order, at, w);
@@ -104,7 +113,8 @@ impl Processor {
     #[tactic(auto, unfolding(crate::specs::Processor::processor_state))]
     fn store_nothing(&mut self, rt: u8)
         requires { rt < 32 }
-        ensures { processor_state self.new ≡ record (with_register (processor_state self.old) rt 0) { load_link = None } }
+        ensures { processor_state self.new
+            ≡ record (with_register (processor_state self.old) rt 0) { load_link = None } }
     {
         self.set_register(rt, 0);
         self.load_link = None;

@@ -37,7 +37,8 @@ fn add_page(
     requires low { page < 524288 }
     requires earlier { memory_of memory.old ≡ pages_below (image_of image.now).memory page }
     requires zeros { AreZeros zeros.now }
-    ensures { OnOk result (memory_of memory.new ≡ pages_below (image_of image.now).memory (page + 1)) }
+    ensures { OnOk result (memory_of memory.new
+        ≡ pages_below (image_of image.now).memory (page + 1)) }
 {
     if !image.readable(page) {
         return Ok(());

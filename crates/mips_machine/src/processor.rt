@@ -38,7 +38,8 @@ impl Processor {
         heap_start: u32,
         heap_bytes: u32,
     ) -> Processor
-        ensures { processor_state result ≡ start order entry (memory_of memory) (code_of code) heap_start heap_bytes }
+        ensures { processor_state result
+            ≡ start order entry (memory_of memory) (code_of code) heap_start heap_bytes }
     {
         Processor {
             begun: false,

@@ -42,7 +42,8 @@ impl Registers {
     #[inline]
     pub fn set(&mut self, r: u8, w: u32)
         requires { r < 32 }
-        ensures { registers_of self.new ≡ (λ k. if nat_lt 0 r && k == r then w else registers_of self.old k) }
+        ensures { registers_of self.new ≡ (λ k. if nat_lt 0 r && k == r then w
+            else registers_of self.old k) }
     {
         self.values[r as usize] = w;
         self.values[0] = 0;

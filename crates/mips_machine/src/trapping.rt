@@ -16,7 +16,8 @@ impl Processor {
     pub(crate) fn trap(&self, name: TrapName, rs: u8, rt: u8, word: u32) -> Executed
         requires rs { rs < 32 }
         requires rt { rt < 32 }
-        ensures effect { effect_of result (processor_state self.now) ≡ manual.trap_effect name word (processor_state self.now) rs rt }
+        ensures effect { effect_of result (processor_state self.now)
+            ≡ manual.trap_effect name word (processor_state self.now) rs rt }
         ensures stays { Stays result (processor_state self.now) (processor_state self.now) }
     {
         if holds(name, self.register(rs), self.register(rt)) {
@@ -39,7 +40,8 @@ impl Processor {
         word: u32,
     ) -> Executed
         requires { rs < 32 }
-        ensures effect { effect_of result (processor_state self.now) ≡ manual.trap_immediate_effect name word (processor_state self.now) rs imm }
+        ensures effect { effect_of result (processor_state self.now)
+            ≡ manual.trap_immediate_effect name word (processor_state self.now) rs imm }
         ensures stays { Stays result (processor_state self.now) (processor_state self.now) }
     {
         if immediate_holds(name, self.register(rs), imm) {

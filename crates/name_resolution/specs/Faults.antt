@@ -44,25 +44,29 @@ has_equal (s ∷ signatures) = has_signature signatures s || has_equal signature
 -- a class with the name of one before it or of a known one, or with two equal members
 abbrev pub is_twice : List (List ℕ) → Class → Bool
 is_twice before c =
-    list_any (same_text (own_name c)) before || is_known (own_name c) || has_equal (fields_of c) || has_equal (methods_of c)
+    list_any (same_text (own_name c)) before || is_known (own_name c) || has_equal (fields_of c)
+    || has_equal (methods_of c)
 
 abbrev pub twice_fault : List (List ℕ) → ℕ → List Class → Option LinkFault
 twice_fault before number [] = None
 twice_fault before number (c ∷ classes) =
-    if is_twice before c then at_class twice number else twice_fault (own_name c ∷ before) (suc number) classes
+    if is_twice before c then at_class twice number
+    else twice_fault (own_name c ∷ before) (suc number) classes
 
 -- ---- references
 
 -- a member by name and descriptor
 abbrev pub member_fault : ℕ → List Signature → Signature → Option ℕ
 member_fault missing members s =
-    if has_signature members s then None else if has_name members s.name then Some other_descriptors else Some missing
+    if has_signature members s then None else if has_name members s.name then Some other_descriptors
+    else Some missing
 
 abbrev pub is_class : List Class → List ℕ → Bool
 is_class classes name = is_array_name name || is_known name || has_class classes name
 
 abbrev pub entry_fault : List Class → Class → Entry → Option ℕ
-entry_fault classes c (ClassName name) = if is_class classes (text_of c name) then None else Some no_class
+entry_fault classes c (ClassName name) = if is_class classes (text_of c name) then None
+    else Some no_class
 entry_fault classes c (FieldRef class name) =
     member_fault no_field (fields_named classes (class_name_at c class)) (signature_at c name)
 entry_fault classes c (MethodRef class name) =
@@ -71,13 +75,15 @@ entry_fault classes c _ = None
 
 abbrev pub fault_at_slot : ℕ → ℕ → Option ℕ → Option LinkFault → Option LinkFault
 fault_at_slot number slot None others = others
-fault_at_slot number slot (Some kind) others = Some (record { kind = kind; class = number; slot = slot })
+fault_at_slot number slot (Some kind) others =
+    Some (record { kind = kind; class = number; slot = slot })
 
 -- the first fault among the entries from a slot on
 abbrev pub slots_fault : List Class → Class → ℕ → ℕ → List Entry → Option LinkFault
 slots_fault classes c number slot [] = None
 slots_fault classes c number slot (e ∷ entries) =
-    fault_at_slot number slot (entry_fault classes c e) (slots_fault classes c number (suc slot) entries)
+    fault_at_slot number slot (entry_fault classes c e)
+    (slots_fault classes c number (suc slot) entries)
 
 -- the first among the classes from a number on
 abbrev pub references_fault : List Class → ℕ → List Class → Option LinkFault
@@ -102,7 +108,8 @@ run_fault classes = if has_run classes then None else at_class no_run 0
 abbrev pub link_fault : List Class → Option LinkFault
 link_fault classes =
     if nat_lt 1024 (length classes) then at_class too_many 1024
-    else option_or (twice_fault [] 0 classes) (option_or (references_fault classes 0 classes) (run_fault classes))
+    else option_or (twice_fault [] 0 classes)
+    (option_or (references_fault classes 0 classes) (run_fault classes))
 
 -- an error is the first fault; want of memory may come anywhere
 abbrev pub IsAnswer : Option LinkFault → LinkError → Type 0

@@ -14,7 +14,8 @@ use Rattle.name_resolution.specs.Numbers.{IsNumber, number_at}
 
 -- each slot has the number of its text
 abbrev pub IsNumbered : List (List ℕ) → NumberedClass → Type 0
-IsNumbered texts x = (slot : ℕ) → IsNumber texts (number_at x.numbers slot) (text_of x.class.now slot)
+IsNumbered texts x = (slot : ℕ)
+    → IsNumber texts (number_at x.numbers slot) (text_of x.class.now slot)
 
 abbrev pub classes_in : List NumberedClass → List Class
 classes_in xs = map (λ x. x.class.now) xs
@@ -22,7 +23,8 @@ classes_in xs = map (λ x. x.class.now) xs
 -- ---- keys
 
 abbrev pub same_key : Key → Key → Bool
-same_key = eq_of_both (on (λ k. k.class) nat_eq) (eq_of_both (on (λ k. k.name) nat_eq) (on (λ k. k.descriptor) nat_eq))
+same_key = eq_of_both (on (λ k. k.class) nat_eq)
+    (eq_of_both (on (λ k. k.name) nat_eq) (on (λ k. k.descriptor) nat_eq))
 
 -- but for the descriptor
 abbrev pub same_name : Key → Key → Bool
@@ -58,7 +60,11 @@ abbrev pub own_number : NumberedClass → ℕ
 own_number x = class_number_at x x.class.now.this_class
 
 abbrev pub own_key : NumberedClass → ℕ → ℕ → Key
-own_key x name descriptor = record { class = own_number x; name = number_at x.numbers name; descriptor = number_at x.numbers descriptor }
+own_key x name descriptor = record {
+  class = own_number x;
+  name = number_at x.numbers name;
+  descriptor = number_at x.numbers descriptor;
+}
 
 abbrev pub field_keys : NumberedClass → List Key
 field_keys x = map (λ f. own_key x f.name f.desc) x.class.now.fields
@@ -75,16 +81,26 @@ has_equal_keys (k ∷ keys) = list_any (same_key k) keys || has_equal_keys keys
 -- a class with the name of one before it or of a known one, or with two equal members
 abbrev pub is_twice_by : List ℕ → NumberedClass → Bool
 is_twice_by before x =
-    list_any (nat_eq (own_number x)) before || is_known (own_name x.class.now) || has_equal_keys (field_keys x) || has_equal_keys (method_keys x)
+    list_any (nat_eq (own_number x)) before || is_known (own_name x.class.now)
+    || has_equal_keys (field_keys x) || has_equal_keys (method_keys x)
 
 abbrev pub key_fault : ℕ → List Key → Key → Option ℕ
 key_fault missing keys k =
-    if list_any (same_key k) keys then None else if list_any (same_name k) keys then Some other_descriptors else Some missing
+    if list_any (same_key k) keys then None else if list_any (same_name k) keys
+    then Some other_descriptors else Some missing
 
 -- what the keys of fields and methods, and the numbers of names, say of classes
-pub record Knows (texts : List (List ℕ)) (names : List ℕ) (fields methods : List Key) (classes : List Class) : Type 0 where
-  pub class : (n : ℕ) (text : List ℕ) → IsNumber texts n text → list_any (nat_eq n) names ≡ has_class classes text
-  pub field : (k : Key) (r : Reference) → IsKey texts k r → position (same_key k) fields ≡ field_number classes r
-  pub method : (k : Key) (r : Reference) → IsKey texts k r → position (same_key k) methods ≡ method_number classes r
-  pub field_fault : (k : Key) (r : Reference) → IsKey texts k r → key_fault no_field fields k ≡ member_fault no_field (fields_named classes r.class_name) r.signature
-  pub method_fault : (k : Key) (r : Reference) → IsKey texts k r → has_class classes r.class_name ≡ true → key_fault no_method methods k ≡ member_fault no_method (methods_named classes r.class_name) r.signature
+pub record Knows (texts : List (List ℕ)) (names : List ℕ) (fields methods : List Key)
+    (classes : List Class) : Type 0 where
+  pub class : (n : ℕ) (text : List ℕ) → IsNumber texts n text
+      → list_any (nat_eq n) names ≡ has_class classes text
+  pub field : (k : Key) (r : Reference) → IsKey texts k r
+      → position (same_key k) fields ≡ field_number classes r
+  pub method : (k : Key) (r : Reference) → IsKey texts k r
+      → position (same_key k) methods ≡ method_number classes r
+  pub field_fault : (k : Key) (r : Reference) → IsKey texts k r
+      → key_fault no_field fields k
+      ≡ member_fault no_field (fields_named classes r.class_name) r.signature
+  pub method_fault : (k : Key) (r : Reference) → IsKey texts k r
+      → has_class classes r.class_name ≡ true → key_fault no_method methods k
+      ≡ member_fault no_method (methods_named classes r.class_name) r.signature

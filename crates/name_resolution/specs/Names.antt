@@ -98,9 +98,11 @@ abbrev pub has_class : List Class → List ℕ → Bool
 has_class classes name = list_any (is_named name) classes
 
 -- the members of the class of a name, of which there is one at most, and others where there is none
-abbrev pub members_named : (Class → List Signature) → List Signature → List Class → List ℕ → List Signature
+abbrev pub members_named : (Class → List Signature) → List Signature → List Class → List ℕ
+    → List Signature
 members_named members others [] name = others
-members_named members others (c ∷ classes) name = if is_named name c then members c else members_named members others classes name
+members_named members others (c ∷ classes) name =
+    if is_named name c then members c else members_named members others classes name
 
 abbrev pub fields_named : List Class → List ℕ → List Signature
 fields_named classes name = members_named fields_of [] classes name

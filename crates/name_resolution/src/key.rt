@@ -15,7 +15,8 @@ pub struct Key {
 }
 
 impl PartialEq for Key {
-    ghost eq = { eq_of_both (on (λ k. k.class) nat_eq) (eq_of_both (on (λ k. k.name) nat_eq) (on (λ k. k.descriptor) nat_eq)) };
+    ghost eq = { eq_of_both (on (λ k. k.class) nat_eq)
+        (eq_of_both (on (λ k. k.name) nat_eq) (on (λ k. k.descriptor) nat_eq)) };
 
     ghost laws = { Prim.search (comparing, rules) };
 

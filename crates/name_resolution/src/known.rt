@@ -64,35 +64,40 @@ pub fn is_host(name: &[u16]) -> bool
 
 /// `String.length`.
 pub fn is_length(name: &[u16], descriptor: &[u16]) -> bool
-    ensures { result ≡ names.same_signature (names.signature name.now descriptor.now) names.length_signature }
+    ensures { result ≡ names.same_signature (names.signature name.now descriptor.now)
+        names.length_signature }
 {
     name == LENGTH.as_slice() && descriptor == LENGTH_DESCRIPTOR.as_slice()
 }
 
 /// `String.charAt`.
 pub fn is_char_at(name: &[u16], descriptor: &[u16]) -> bool
-    ensures { result ≡ names.same_signature (names.signature name.now descriptor.now) names.char_at_signature }
+    ensures { result ≡ names.same_signature (names.signature name.now descriptor.now)
+        names.char_at_signature }
 {
     name == CHAR_AT.as_slice() && descriptor == CHAR_AT_DESCRIPTOR.as_slice()
 }
 
 /// `Host.call`.
 pub fn is_host_call(name: &[u16], descriptor: &[u16]) -> bool
-    ensures { result ≡ names.same_signature (names.signature name.now descriptor.now) names.host_call_signature }
+    ensures { result ≡ names.same_signature (names.signature name.now descriptor.now)
+        names.host_call_signature }
 {
     name == CALL.as_slice() && descriptor == CALL_DESCRIPTOR.as_slice()
 }
 
 /// `Host.fault`.
 pub fn is_host_fault(name: &[u16], descriptor: &[u16]) -> bool
-    ensures { result ≡ names.same_signature (names.signature name.now descriptor.now) names.host_fault_signature }
+    ensures { result ≡ names.same_signature (names.signature name.now descriptor.now)
+        names.host_fault_signature }
 {
     name == FAULT.as_slice() && descriptor == FAULT_DESCRIPTOR.as_slice()
 }
 
 /// What is wrong with a reference to a method of a known class, or of one that is not there.
 pub fn known_method_fault(class: &[u16], name: &[u16], descriptor: &[u16]) -> Option<u32>
-    ensures { result ≡ member_fault no_method (names.known_methods class.now) (names.signature name.now descriptor.now) }
+    ensures { result ≡ member_fault no_method (names.known_methods class.now)
+        (names.signature name.now descriptor.now) }
 {
     if is_string(class) {
         string_method_fault(name, descriptor)
@@ -104,7 +109,8 @@ pub fn known_method_fault(class: &[u16], name: &[u16], descriptor: &[u16]) -> Op
 }
 
 fn string_method_fault(name: &[u16], descriptor: &[u16]) -> Option<u32>
-    ensures { result ≡ member_fault no_method (names.length_signature ∷ names.char_at_signature ∷ []) (names.signature name.now descriptor.now) }
+    ensures { result ≡ member_fault no_method (names.length_signature ∷ names.char_at_signature
+        ∷ []) (names.signature name.now descriptor.now) }
 {
     if is_length(name, descriptor) || is_char_at(name, descriptor) {
         None
@@ -116,7 +122,8 @@ fn string_method_fault(name: &[u16], descriptor: &[u16]) -> Option<u32>
 }
 
 fn host_method_fault(name: &[u16], descriptor: &[u16]) -> Option<u32>
-    ensures { result ≡ member_fault no_method (names.host_call_signature ∷ names.host_fault_signature ∷ []) (names.signature name.now descriptor.now) }
+    ensures { result ≡ member_fault no_method (names.host_call_signature
+        ∷ names.host_fault_signature ∷ []) (names.signature name.now descriptor.now) }
 {
     if is_host_call(name, descriptor) || is_host_fault(name, descriptor) {
         None

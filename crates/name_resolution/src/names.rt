@@ -20,7 +20,8 @@ pub struct Names<'a> {
     pub class_names: IndexSet<usize>,
     pub fields: Members,
     pub methods: Members,
-    pub ghost knows: { Knows numbered.texts.keys class_names.keys fields methods (classes_in numbered.classes.items) },
+    pub ghost knows: { Knows numbered.texts.keys class_names.keys fields methods
+        (classes_in numbered.classes.items) },
 }
 
 impl<'a> Names<'a> {
@@ -47,7 +48,9 @@ impl<'a> Names<'a> {
     /// The number of the field that a class refers to, by the slots of its class and of its name and descriptor.
     pub fn field_number(&self, class: &NumberedClass, owner: u16, name: u16) -> Option<u32>
         requires { IsNumbered self.now.numbered.texts.keys class.now }
-        ensures { result ≡ field_number (classes_in self.now.numbered.classes.items) (reference (class_name_at class.now.class.now owner) (signature_at class.now.class.now name)) }
+        ensures { result ≡ field_number (classes_in self.now.numbered.classes.items)
+            (reference (class_name_at class.now.class.now owner)
+            (signature_at class.now.class.now name)) }
     {
         self.fields.number(&class.key(owner, name))
     }
@@ -55,14 +58,17 @@ impl<'a> Names<'a> {
     /// The number of the method that a class refers to, likewise.
     pub fn method_number(&self, class: &NumberedClass, owner: u16, name: u16) -> Option<u32>
         requires { IsNumbered self.now.numbered.texts.keys class.now }
-        ensures { result ≡ method_number (classes_in self.now.numbered.classes.items) (reference (class_name_at class.now.class.now owner) (signature_at class.now.class.now name)) }
+        ensures { result ≡ method_number (classes_in self.now.numbered.classes.items)
+            (reference (class_name_at class.now.class.now owner)
+            (signature_at class.now.class.now name)) }
     {
         self.methods.number(&class.key(owner, name))
     }
 }
 
 fn class_names_of(alloc: Global, classes: &[NumberedClass]) -> Result<IndexSet<usize>, NoMemory>
-    ensures { IfOk result (λ names. (n : ℕ) → list_any (nat_eq n) names.keys ≡ list_any (nat_eq n) (map own_number classes.now)) }
+    ensures { IfOk result (λ names. (n : ℕ) → list_any (nat_eq n) names.keys
+        ≡ list_any (nat_eq n) (map own_number classes.now)) }
 {
     let mut names = IndexSet::new(alloc);
     for class in classes {

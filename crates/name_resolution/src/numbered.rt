@@ -1,14 +1,14 @@
 ghost use Rattle.std.specs.Prelude.{◌≡◌, All, IfOk};
+ghost use Rattle.std.proofs.Props.{props};
 ghost use Rattle.name_resolution.specs.Numbers.{AreTexts, Keeps};
 ghost use Rattle.name_resolution.specs.Keys.{IsNumbered};
 ghost use Rattle.name_resolution.specs.Kept.{IsClass};
-ghost use Rattle.std.proofs.Props.{props};
 
 use crate::link_error::NoMemory;
 use crate::numbered_class::NumberedClass;
 use crate::texts::{Texts, first_texts, pool_numbers};
-use class_format::Sequence;
 use jvm_code::Class;
+use jvm_names::Sequence;
 use std::alloc::Global;
 
 /// Classes, and the numbers of all texts in their pools.

@@ -2,9 +2,9 @@ ghost use Rattle.name_resolution.specs.Kept.{IsClass};
 
 use crate::key::Key;
 use crate::link_error::NoMemory;
-use class_format::Sequence;
 use constant_pool::{Entry, entry_of};
 use jvm_code::Class;
+use jvm_names::Sequence;
 
 /// A class, and the number of the text in each slot of its pool.
 #[derive(Drop)]
@@ -64,7 +64,8 @@ impl NumberedClass<'_> {
 
     // The numbers of the name and descriptor in a slot.
     fn pair(&self, slot: u16) -> (usize, usize)
-        ensures { result ≡ pair_numbers (number_at self.now.numbers) (entry_at self.now.class.now.pool slot) }
+        ensures { result ≡ pair_numbers (number_at self.now.numbers)
+            (entry_at self.now.class.now.pool slot) }
     {
         match entry_of(self.class.pool.as_slice(), slot) {
             Some(Entry::NameAnd(name, descriptor)) => {

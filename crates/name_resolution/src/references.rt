@@ -14,7 +14,8 @@ use nv_faults::LinkFault;
 /// The first slot that names what is not there, of all classes.
 pub fn references_fault(names: &Names) -> Option<LinkFault>
     requires { length names.now.numbered.classes.items ≤ 1024 }
-    ensures { result ≡ faults.references_fault (classes_in names.now.numbered.classes.items) 0 (classes_in names.now.numbered.classes.items) }
+    ensures { result ≡ faults.references_fault (classes_in names.now.numbered.classes.items) 0
+        (classes_in names.now.numbered.classes.items) }
 {
     for (number, class) in names.numbered.classes.iter().enumerate() {
         if let Some(fault) = slots_fault(names, number as u32, class) {
@@ -27,7 +28,8 @@ pub fn references_fault(names: &Names) -> Option<LinkFault>
 // The first slot of a class with a number.
 fn slots_fault(names: &Names, number: u32, class: &NumberedClass) -> Option<LinkFault>
     requires { IsNumbered names.now.numbered.texts.keys class.now }
-    ensures { result ≡ faults.slots_fault (classes_in names.now.numbered.classes.items) class.now.class.now number 1 class.now.class.now.pool }
+    ensures { result ≡ faults.slots_fault (classes_in names.now.numbered.classes.items)
+        class.now.class.now number 1 class.now.class.now.pool }
 {
     let pool = class.class.pool.as_slice();
     for (i, entry) in pool.iter().enumerate() {
@@ -44,7 +46,8 @@ fn slots_fault(names: &Names, number: u32, class: &NumberedClass) -> Option<Link
 
 fn entry_fault(names: &Names, class: &NumberedClass, entry: &Entry) -> Option<u32>
     requires { IsNumbered names.now.numbered.texts.keys class.now }
-    ensures { result ≡ faults.entry_fault (classes_in names.now.numbered.classes.items) class.now.class.now entry.now }
+    ensures { result ≡ faults.entry_fault (classes_in names.now.numbered.classes.items)
+        class.now.class.now entry.now }
 {
     match entry {
         Entry::ClassName(name) => class_fault(names, class, *name),
@@ -56,7 +59,9 @@ fn entry_fault(names: &Names, class: &NumberedClass, entry: &Entry) -> Option<u3
 
 fn class_fault(names: &Names, class: &NumberedClass, name: u16) -> Option<u32>
     requires { IsNumbered names.now.numbered.texts.keys class.now }
-    ensures { result ≡ (if faults.is_class (classes_in names.now.numbered.classes.items) (words.text_of class.now.class.now name) then None else Some faults.no_class) }
+    ensures { result
+        ≡ (if faults.is_class (classes_in names.now.numbered.classes.items)
+        (words.text_of class.now.class.now name) then None else Some faults.no_class) }
 {
     let text = text_of(class.class, name);
     if is_array_name(text) || is_known(text) || names.class_names.contains(&class.number(name)) {
@@ -68,7 +73,10 @@ fn class_fault(names: &Names, class: &NumberedClass, name: u16) -> Option<u32>
 
 fn field_fault(names: &Names, class: &NumberedClass, owner: u16, name: u16) -> Option<u32>
     requires { IsNumbered names.now.numbered.texts.keys class.now }
-    ensures { result ≡ faults.member_fault faults.no_field (words.fields_named (classes_in names.now.numbered.classes.items) (words.class_name_at class.now.class.now owner)) (words.signature_at class.now.class.now name) }
+    ensures { result ≡ faults.member_fault faults.no_field
+        (words.fields_named (classes_in names.now.numbered.classes.items)
+        (words.class_name_at class.now.class.now owner))
+        (words.signature_at class.now.class.now name) }
 {
     names
         .fields
@@ -77,7 +85,10 @@ fn field_fault(names: &Names, class: &NumberedClass, owner: u16, name: u16) -> O
 
 fn method_fault(names: &Names, class: &NumberedClass, owner: u16, name: u16) -> Option<u32>
     requires { IsNumbered names.now.numbered.texts.keys class.now }
-    ensures { result ≡ faults.member_fault faults.no_method (words.methods_named (classes_in names.now.numbered.classes.items) (words.class_name_at class.now.class.now owner)) (words.signature_at class.now.class.now name) }
+    ensures { result ≡ faults.member_fault faults.no_method
+        (words.methods_named (classes_in names.now.numbered.classes.items)
+        (words.class_name_at class.now.class.now owner))
+        (words.signature_at class.now.class.now name) }
 {
     if names.class_names.contains(&class.class_number(owner)) {
         names

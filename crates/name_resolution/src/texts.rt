@@ -4,9 +4,9 @@ ghost use Rattle.std.specs.List.{AllZip};
 ghost use Rattle.name_resolution.specs.Numbers.{IsNumber, AreTexts, Keeps, entry_text};
 
 use crate::link_error::NoMemory;
-use class_format::Sequence;
 use constant_pool::Entry;
 use indexmap::IndexSet;
+use jvm_names::Sequence;
 use std::alloc::Global;
 
 /// The texts that have a number: their place among them.
@@ -53,7 +53,8 @@ pub fn pool_numbers(
     pool: &[Entry],
 ) -> Result<Vec<usize>, NoMemory>
     requires { AreTexts texts.old.keys }
-    ensures numbers { IfOk result (λ numbers. AllZip (IsNumber texts.new.keys) numbers.items (map entry_text pool.now)) }
+    ensures numbers { IfOk result (λ numbers.
+        AllZip (IsNumber texts.new.keys) numbers.items (map entry_text pool.now)) }
     ensures texts { AreTexts texts.new.keys }
     ensures kept { Keeps texts.old.keys texts.new.keys }
 {

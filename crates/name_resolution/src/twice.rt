@@ -16,7 +16,8 @@ use std::alloc::Global;
 /// The first class with the name of one before it or of a known one, or with two equal members.
 pub fn twice_fault(alloc: Global, numbered: &Numbered) -> Result<Option<LinkFault>, NoMemory>
     requires { length numbered.now.classes.items ≤ 1024 }
-    ensures { IfOk result (λ fault. fault ≡ twice_fault [] 0 (classes_in numbered.now.classes.items)) }
+    ensures { IfOk result (λ fault. fault
+        ≡ twice_fault [] 0 (classes_in numbered.now.classes.items)) }
 {
     let mut names = IndexSet::new(alloc);
     for (number, class) in numbered.classes.iter().enumerate() {

@@ -3,7 +3,7 @@ use Rattle.std.proofs.Common.{◌≡◌, ◌⊎◌, ℕ, true, false, List, Resu
 use Rattle.command_words.specs.Meaning.{command_of}
 use Rattle.command_words.specs.declared.command.Command.{Command}
 use Rattle.command_words.specs.declared.usage.Usage.{Usage}
-use Rattle.command_deeds.specs.Ends.{Answer, Comes, final, is_stop, says}
+use Rattle.command_deeds.specs.Ends.{CommandAnswer, Comes, final, is_stop, says}
 use Rattle.command_deeds.specs.Line.{line_of}
 use Rattle.command_deeds.specs.World.{Rises, World}
 use Rattle.command_deeds.specs.declared.done.Done.{Done}
@@ -81,11 +81,11 @@ stop_told NoMemory w u v p q = record {
   falls = falls_then w u v p.falls (none_falls u v q);
 }
 
-end_told : (end : Result Answer Stop) (w u v : World) → EndSays end w u → NoFaults u v → Faults w v (final end).done
+end_told : (end : Result CommandAnswer Stop) (w u v : World) → EndSays end w u → NoFaults u v → Faults w v (final end).done
 end_told (Ok answer) w u v p q = no_faults w v answer.done p.0 (none_then w u v p.1 q)
 end_told (Err stop) w u v p q = stop_told stop w u v p q
 
-end_falls : (end : Result Answer Stop) (w u : World) → EndSays end w u → NoneFalls w u
+end_falls : (end : Result CommandAnswer Stop) (w u : World) → EndSays end w u → NoneFalls w u
 end_falls (Ok answer) w u p = none_falls w u p.1
 end_falls (Err stop) w u p = p.falls
 
@@ -99,7 +99,7 @@ line_failed w u v p q rises = record {
   falls = falls_then w u v p q;
 }
 
-told_faults : (end : Result Answer Stop) (line : List ℕ) (w u v : World) (said : Done) → EndSays end w u → Says line u v (final end).done said
+told_faults : (end : Result CommandAnswer Stop) (line : List ℕ) (w u v : World) (said : Done) → EndSays end w u → Says line u v (final end).done said
     → Faults w v said
 told_faults end line w u v said p says = by says.3
   where
@@ -123,7 +123,7 @@ told_faults end line w u v said p says = by says.3
 -- ---- the whole call
 
 -- what an end says of the counts, by the words
-end_says : (words : List (List ℕ)) (moment : ℕ) (w u : World) (end : Result Answer Stop)
+end_says : (words : List (List ℕ)) (moment : ℕ) (w u : World) (end : Result CommandAnswer Stop)
     → ((misuse : Usage) → command_of words ≡ Err misuse → Misuses misuse w u end)
     → ((c : Command) → command_of words ≡ Ok c → Comes (IsDueOf c moment) w u end) → EndSays end w u
 end_says words moment w u end usage due = by (command_of words) refl
@@ -136,7 +136,7 @@ end_says words moment w u end usage due = by (command_of words) refl
     by (Ok c) e = comes_says (IsDueOf c moment) w u end (due c e)
     by (Err misuse) e = misused misuse (usage misuse e)
 
-pub does : (words : List (List ℕ)) (moment : ℕ) (w u v : World) (end : Result Answer Stop) (said : Done)
+pub does : (words : List (List ℕ)) (moment : ℕ) (w u v : World) (end : Result CommandAnswer Stop) (said : Done)
     → ((misuse : Usage) → command_of words ≡ Err misuse → Misuses misuse w u end)
     → ((c : Command) → command_of words ≡ Ok c → Comes (IsDueOf c moment) w u end)
     → ((c : Command) → command_of words ≡ Ok c → Comes (IsRunOf c moment) w u end)

@@ -4,7 +4,7 @@ use Rattle.nv_events.specs.declared.io_fault.IoFault.{IoFault}
 use Rattle.nv_events.specs.declared.io_fault.IoFault.TheVariants as io
 use Rattle.unix_calls.specs.Stages.{FailsCall, OneFailsBehind, Stage}
 use Rattle.command_deeds.specs.Deeds.{Deed, DoesAll, DoesDeed, StopsDeed, StopsIn, plays, prepares, prints, stores}
-use Rattle.command_deeds.specs.Ends.{Answer, Comes, Due, is_stop}
+use Rattle.command_deeds.specs.Ends.{CommandAnswer, Comes, Due, is_stop}
 use Rattle.command_deeds.specs.Stops.{stop_of}
 use Rattle.command_deeds.specs.World.{Rises, StopsLoad, StopsPrint, StopsStore, World}
 use Rattle.command_deeds.specs.World as world
@@ -179,11 +179,11 @@ stops_say (deed ∷ deeds) w v stop (inr p) = after_sound w p.0 v stop (deed_sou
 -- ---- ends
 
 -- what an end says of the counts
-abbrev pub EndSays : Result Answer Stop → World → World → Type 0
+abbrev pub EndSays : Result CommandAnswer Stop → World → World → Type 0
 EndSays (Ok answer) w v = (is_stop answer.done ≡ false) × NoFaults w v
 EndSays (Err stop) w v = StopSays stop w v
 
-pub comes_says : (IsDueAt : World → Due → Type 0) (w v : World) (end : Result Answer Stop) → Comes IsDueAt w v end → EndSays end w v
+pub comes_says : (IsDueAt : World → Due → Type 0) (w v : World) (end : Result CommandAnswer Stop) → Comes IsDueAt w v end → EndSays end w v
 comes_says IsDueAt w v (Ok answer) (inl q) = absurd q
 comes_says IsDueAt w v (Ok answer) (inr q) = (q.2.1, all_sound q.0.deeds w v q.2.2)
 comes_says IsDueAt w v (Err stop) (inl q) = load_says w v stop q.0 q.1

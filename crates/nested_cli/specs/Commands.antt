@@ -1,21 +1,21 @@
 -- What the program is to do by its words, and what it leaves.
 use Rattle.std.specs.Prelude.{◌≡◌, ℕ, List, Result, Ok, Err, ⊤}
-use Rattle.command_words.specs.Word.{Text}
+use Rattle.command_values.specs.Names.{Text}
 use Rattle.command_words.specs.Meaning.{command_of}
 use Rattle.command_words.specs.declared.command.Command.{Command}
 use Rattle.command_words.specs.declared.command.Command.TheVariants as command
 use Rattle.command_words.specs.declared.session.Session.{Session}
 use Rattle.command_words.specs.declared.usage.Usage.{Usage}
-use Rattle.command_deeds.specs.Ends.{Answer, ByFiles, Comes, Due, final}
+use Rattle.command_deeds.specs.Ends.{CommandAnswer, ByFiles, Comes, Due, final}
 use Rattle.command_deeds.specs.Line.{line_of}
 use Rattle.command_deeds.specs.World.{World}
 use Rattle.command_deeds.specs.declared.done.Done.{Done}
 use Rattle.command_deeds.specs.declared.stop.Stop.{Stop}
+use Rattle.command_deeds.specs.Runs.{Plan}
 use Rattle.command_guest.specs.Assembly.{IsDueOfAsm}
 use Rattle.command_guest.specs.Interp.{IsDueOfInterp}
 use Rattle.command_guest.specs.Listing.{IsDueOfList}
-use Rattle.command_classes.specs.Classes.{IsDueOfRun, IsDueOfVerify}
-use Rattle.command_launch.specs.Runs.{Plan}
+use Rattle.command_guest.specs.Classes.{IsDueOfRun, IsDueOfVerify}
 use Rattle.command_translate.specs.Go.{IsDueOfGo}
 use Rattle.command_translate.specs.Make.{IsDueOfMake}
 use Rattle.command_translate.specs.Translate.{IsDueOfTranslate}
@@ -28,7 +28,8 @@ plan name session moment = record { name = name; session = session; moment = mom
 
 -- What a command that runs nothing is to do: by the words and the files, where these are told; `make` by the words alone.
 abbrev pub IsDueOf : Command → ℕ → World → Due → Type 0
-IsDueOf (command.Translate input name pages method_bytes) moment w due = ByFiles (IsDueOfTranslate input name pages method_bytes) w due
+IsDueOf (command.Translate input name pages method_bytes) moment w due =
+    ByFiles (IsDueOfTranslate input name pages method_bytes) w due
 IsDueOf (command.Verify name) moment w due = ByFiles (IsDueOfVerify name) w due
 IsDueOf (command.Asm input output) moment w due = ByFiles (IsDueOfAsm input output) w due
 IsDueOf (command.List input) moment w due = ByFiles (IsDueOfList input) w due
@@ -40,15 +41,17 @@ IsDueOf other moment w due = ⊤
 abbrev pub IsRunOf : Command → ℕ → World → Due → Type 0
 IsRunOf (command.Go input name pages method_bytes session) moment w due =
     ByFiles (IsDueOfGo input pages method_bytes (plan name session moment)) w due
-IsRunOf (command.Interp input name pages session) moment w due = ByFiles (IsDueOfInterp input pages (plan name session moment)) w due
-IsRunOf (command.Run name words session) moment w due = ByFiles (IsDueOfRun name words (plan name.text session moment)) w due
+IsRunOf (command.Interp input name pages session) moment w due =
+    ByFiles (IsDueOfInterp input pages (plan name session moment)) w due
+IsRunOf (command.Run name words session) moment w due =
+    ByFiles (IsDueOfRun name words (plan name.text session moment)) w due
 IsRunOf other moment w due = ⊤
 
 -- What a call of the program leaves, and its answer.
 pub record Does (words : List Text) (moment : ℕ) (w v : World) (said : Done) : Type 0 where
   -- the world before the answer's line, and how the work ended: with an answer, or stopped on the way
   pub worked : World
-  pub end : Result Answer Stop
+  pub end : Result CommandAnswer Stop
   -- words that are no command line are answered so over every outside, and nothing else is done
   pub usage : (misuse : Usage) → command_of words ≡ Err misuse → Misuses misuse w worked end
   -- what a command that runs nothing is to do is done, or stopped on the way

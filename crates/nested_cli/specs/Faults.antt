@@ -25,8 +25,10 @@ pub record NoneFalls (w v : World) : Type 0 where
 -- A fault comes only where its own count rose, and where a count rose the answer is a fault: one fault ends the call. Behind a fault only
 -- the answer's line may fail, and then the answer is a write fault.
 pub record Faults (w v : World) (said : Done) : Type 0 where
-  pub read : said ≡ ReadFault → Rises w.input.faults v.input.faults × SameFaults w.shelf v.shelf × SameFaults w.out v.out × SameFaults w.err v.err
+  pub read : said ≡ ReadFault → Rises w.input.faults v.input.faults × SameFaults w.shelf v.shelf
+      × SameFaults w.out v.out × SameFaults w.err v.err
   pub write : said ≡ WriteFault → Rises w.out.faults v.out.faults ⊎ Rises w.err.faults v.err.faults
-  pub shelf : said ≡ ShelfFault → Rises w.shelf.faults v.shelf.faults × SameFaults w.input v.input × SameFaults w.out v.out × SameFaults w.err v.err
+  pub shelf : said ≡ ShelfFault → Rises w.shelf.faults v.shelf.faults × SameFaults w.input v.input
+      × SameFaults w.out v.out × SameFaults w.err v.err
   pub none : said ≢ ReadFault → said ≢ WriteFault → said ≢ ShelfFault → NoFaults w v
   pub falls : NoneFalls w v

@@ -13,4 +13,5 @@ Tells line old new answer said =
 
 -- nothing but error output changes for it
 abbrev pub Says : List ℕ → World → World → Done → Done → Type 0
-Says line u v answer said = SameShelf u.shelf v.shelf × (v.input ≡ u.input) × (v.out ≡ u.out) × Tells line u.err v.err answer said
+Says line u v answer said = SameShelf u.shelf v.shelf × (v.input ≡ u.input) × (v.out ≡ u.out)
+    × Tells line u.err v.err answer said

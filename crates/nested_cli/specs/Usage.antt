@@ -4,7 +4,7 @@ use Rattle.command_words.specs.declared.usage.Usage.{Usage}
 use Rattle.command_words.specs.declared.usage.Usage.TheVariants.{NoCommand, NotLawful}
 use Rattle.command_words.specs.declared.words_error.WordsError.{WordsError}
 use Rattle.command_words.specs.declared.words_error.WordsError.TheVariants as words
-use Rattle.command_deeds.specs.Ends.{Answer, says}
+use Rattle.command_deeds.specs.Ends.{CommandAnswer, says}
 use Rattle.command_deeds.specs.World.{Stays, World}
 use Rattle.command_deeds.specs.declared.done.Done.{Done}
 use Rattle.command_deeds.specs.declared.ending.Ending.{Ending}
@@ -17,8 +17,9 @@ usage_number NoCommand = 1
 usage_number NotLawful = 2
 
 -- Nothing is done, and the answer says what is wrong with the words, where memory does not run out.
-abbrev pub Misuses : Usage → World → World → Result Answer Stop → Type 0
-Misuses usage w v end = Stays w v × ((end ≡ Ok (says (Done.Usage (usage_number usage)))) ⊎ (end ≡ Err Stop.NoMemory))
+abbrev pub Misuses : Usage → World → World → Result CommandAnswer Stop → Type 0
+Misuses usage w v end = Stays w v
+    × ((end ≡ Ok (says (Done.Usage (usage_number usage)))) ⊎ (end ≡ Err Stop.NoMemory))
 
 -- how a command ends whose words were refused
 abbrev pub ending_of : WordsError → Ending

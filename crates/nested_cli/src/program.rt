@@ -12,10 +12,8 @@ ghost use Rattle.nested_cli.specs.Line.{Tells};
 ghost use Rattle.nested_cli.specs.Usage.{Misuses};
 
 use crate::misuse::refused_words;
-use command_classes::{run, verify};
-use command_deeds::{Done, Ending, Outside, write_line};
-use command_guest::{Guest, asm, interp, list};
-use command_launch::Launch;
+use command_deeds::{Done, Ending, Launch, Outside, write_line};
+use command_guest::{Guest, asm, interp, list, run, verify};
 use command_translate::{go, make, translate};
 use command_words::{Command, read_words};
 use nv_outside::{Failed, Shelf, Sink, Source};
@@ -43,8 +41,10 @@ pub fn nested<H: Shelf, S: Source, O: Sink, E: Sink>(
     err: &mut E,
 ) -> Done
     ensures does { Does (texts words.now) moment
-        (world (shelf_seen H.Shelf shelf.old) (input_seen S.Source input.old) (output_seen O.Sink out.old) (output_seen E.Sink err.old))
-        (world (shelf_seen H.Shelf shelf.new) (input_seen S.Source input.new) (output_seen O.Sink out.new) (output_seen E.Sink err.new)) result }
+        (world (shelf_seen H.Shelf shelf.old) (input_seen S.Source input.old)
+        (output_seen O.Sink out.old) (output_seen E.Sink err.old))
+        (world (shelf_seen H.Shelf shelf.new) (input_seen S.Source input.new)
+        (output_seen O.Sink out.new) (output_seen E.Sink err.new)) result }
 {
     let mut outside = Outside::new(shelf, input, out, err);
     call(alloc, words, moment, &mut outside)
@@ -71,7 +71,8 @@ fn call<H: Shelf, S: Source, O: Sink, E: Sink>(
 
 /// Writes the line of an answer, and gives the answer. `name` is the name that was asked for where there is no such file.
 fn tell<E: Sink>(err: &mut E, name: &str, done: Done) -> Done
-    ensures tells { Tells (line_of name.now done) (output_seen E.Sink err.old) (output_seen E.Sink err.new) done result }
+    ensures tells { Tells (line_of name.now done) (output_seen E.Sink err.old)
+        (output_seen E.Sink err.new) done result }
 {
     match write_line(err, name, &done) {
         Ok(()) => done,
@@ -88,13 +89,14 @@ fn perform<H: Shelf, S: Source, O: Sink, E: Sink>(
 ) -> Result<Done, Ending>
     ensures same { SameParts outside.old outside.new }
     ensures usage { (u : misuse.Usage) → command_of (texts words.now) ≡ Err u
-        → Misuses u (seen H.Shelf S.Source O.Sink E.Sink outside.old) (seen H.Shelf S.Source O.Sink E.Sink outside.new) (ended result) }
+        → Misuses u (seen H.Shelf S.Source O.Sink E.Sink outside.old)
+        (seen H.Shelf S.Source O.Sink E.Sink outside.new) (ended result) }
     ensures due { (c : meant.Command) → command_of (texts words.now) ≡ Ok c
-        → Comes (IsDueOf c moment) (seen H.Shelf S.Source O.Sink E.Sink outside.old) (seen H.Shelf S.Source O.Sink E.Sink outside.new)
-        (ended result) }
+        → Comes (IsDueOf c moment) (seen H.Shelf S.Source O.Sink E.Sink outside.old)
+        (seen H.Shelf S.Source O.Sink E.Sink outside.new) (ended result) }
     ensures run { (c : meant.Command) → command_of (texts words.now) ≡ Ok c
-        → Comes (IsRunOf c moment) (seen H.Shelf S.Source O.Sink E.Sink outside.old) (seen H.Shelf S.Source O.Sink E.Sink outside.new)
-        (ended result) }
+        → Comes (IsRunOf c moment) (seen H.Shelf S.Source O.Sink E.Sink outside.old)
+        (seen H.Shelf S.Source O.Sink E.Sink outside.new) (ended result) }
 {
     match read_words(alloc, words) {
         Ok(command) => perform_command(alloc, &command, moment, outside),
@@ -110,8 +112,10 @@ fn perform_command<H: Shelf, S: Source, O: Sink, E: Sink>(
     outside: &mut Outside<'_, H, S, O, E>,
 ) -> Result<Done, Ending>
     requires { IsWithinLimits command.now }
-    ensures due { Ends H.Shelf S.Source O.Sink E.Sink (IsDueOf command.now moment) outside.old outside.new result }
-    ensures run { Ends H.Shelf S.Source O.Sink E.Sink (IsRunOf command.now moment) outside.old outside.new result }
+    ensures due { Ends H.Shelf S.Source O.Sink E.Sink (IsDueOf command.now moment)
+        outside.old outside.new result }
+    ensures run { Ends H.Shelf S.Source O.Sink E.Sink (IsRunOf command.now moment)
+        outside.old outside.new result }
 {
     match command {
         Command::Go {

@@ -6,23 +6,27 @@ const WRITE_FAULT: u8 = 75;
 
 const HELP: &str = "nested: runs MIPS programs without native code
 
-    nested interp IN [--steps N] [--heap N] [--stack N] [--disk N] [--with NAMES] [--keep NAMES] [--name NAME] [-- ARGS]
-                        runs the program in the file IN
-    nested translate IN [--name NAME] [--heap N] [--stack N] [--method-bytes N]
-                        translates it, and stores its classes
-    nested go IN [options of interp and translate] [-- ARGS]
-                        translates it, stores its classes, and runs them
-    nested list IN      prints the code of a program, a line a word
-    nested asm IN OUT   assembles the text in IN into the program OUT
-    nested verify NAME  loads, links and verifies the class NAME and those that it names
-    nested run NAME [--steps N] [--words N] [--disk N] [--with NAMES] [--keep NAMES] [-- ARGS]
-                        verifies them, and runs them
-    nested make N [--method-bytes N]
-                        makes a program of N blocks, and runs it and its classes
-    nested --help       prints this text
-    nested --version    prints the version
+    nested interp IN [options] [-- ARGS]      runs the program in the file IN
+    nested translate IN [options]             translates it, and stores its classes
+    nested go IN [options] [-- ARGS]          translates it, stores its classes, and runs them
+    nested list IN                            prints the code of a program, a line a word
+    nested asm IN OUT                         assembles the text in IN into the program OUT
+    nested verify NAME                        loads, links and verifies the class NAME and those that it names
+    nested run NAME [options] [-- ARGS]       verifies them, and runs them
+    nested make N [options]                   makes a program of N blocks (1 to 65536), and runs it and its classes
+    nested --help, nested --version           print this text, and the version
 
-README.md tells more.
+    --name NAME         of go, translate, interp: the main class and the first argument (Main)
+    --heap N            of go, translate, interp: pages of heap, 0 to 32768 (256)
+    --stack N           of go, translate, interp: pages of stack, 1 to 32768 (64)
+    --method-bytes N    of go, translate, make: the most bytes of a method, 4096 to 65535 (65535)
+    --steps N           of go, interp, run: the most instructions, 0 to 2^40, of run 2^50 (the most)
+    --words N           of run: words for arrays, 1 to 68288580 (4194304)
+    --disk N            of go, interp, run: blocks of 4096 bytes for files, 0 to 65536 (1024)
+    --with NAMES        of go, interp, run: files that the program finds, a list with commas (none)
+    --keep NAMES        of go, interp, run: files that are stored when it ends, a list with commas (none)
+
+In brackets stands what holds where an option is left out. README.md tells more.
 ";
 
 const VERSION: &str = "nested 0.1.0

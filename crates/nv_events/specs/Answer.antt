@@ -13,7 +13,8 @@ abbrev pub fits_room : List ℕ → Room → Bool
 fits_room [] room = true
 fits_room (b ∷ bs) no_room = false
 fits_room (b ∷ bs) missing = false
-fits_room (b ∷ bs) (there place size) = nat_le (length (b ∷ bs)) size && list_all (λ x. nat_lt x 256) (b ∷ bs)
+fits_room (b ∷ bs) (there place size) =
+    nat_le (length (b ∷ bs)) size && list_all (λ x. nat_lt x 256) (b ∷ bs)
 
 abbrev pub fits : Answer → Question → Bool
 fits answer question = fits_room answer.patch question.room
@@ -31,4 +32,5 @@ answered put_at c question patch = patched put_at c (room_place question.room) p
 -- which the first is given where it fits.
 abbrev pub next_answer : List Answer → Question → Option (Answer × List Answer)
 next_answer [] question = None
-next_answer (answer ∷ answers) question = if fits answer question then Some (answer, answers) else None
+next_answer (answer ∷ answers) question = if fits answer question then Some (answer, answers)
+    else None

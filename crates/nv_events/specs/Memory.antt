@@ -8,7 +8,8 @@ pub record Memory : Type 0 where
 -- the n bytes from an address, if each of them can be read
 abbrev pub bytes_from : Memory → ℕ → ℕ → Option (List ℕ)
 bytes_from m a zero = Some []
-bytes_from m a (suc n) = elim (m.byte a) [ None ↦ None | Some b ↦ option_map (λ bs. b ∷ bs) (bytes_from m (a + 1) n) ]
+bytes_from m a (suc n) =
+    elim (m.byte a) [ None ↦ None | Some b ↦ option_map (λ bs. b ∷ bs) (bytes_from m (a + 1) n) ]
 
 -- each of the n addresses from one on may be written
 abbrev pub can_write : Memory → ℕ → ℕ → Bool

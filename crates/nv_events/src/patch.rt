@@ -46,7 +46,9 @@ fn put_all<V: View>(patch: &[u8], place: u32, view: &mut V)
 /// Puts a patch into the room that it fits.
 pub fn lay<V: View>(patch: &[u8], room: Option<(u32, u32)>, view: &mut V)
     requires { IsTrue (fits_room patch.now (room_at (V.memory (V.content view.old)) room)) }
-    ensures { V.content view.new ≡ patched V.put_at (V.content view.old) (room_place (room_at (V.memory (V.content view.old)) room)) patch.now }
+    ensures { V.content view.new
+        ≡ patched V.put_at (V.content view.old)
+        (room_place (room_at (V.memory (V.content view.old)) room)) patch.now }
 {
     if let Some((place, _)) = room {
         put_all(patch, place, view);

@@ -43,7 +43,8 @@ impl Scripted {
 
     /// The next reply.
     fn first(&self) -> Option<&Reply>
-        ensures { MatchOption result (self.now ≡ []) (λ r. self.now ≡ answer_of r.now ∷ drop 1 self.now) }
+        ensures { MatchOption result (self.now ≡ []) (λ r. self.now
+            ≡ answer_of r.now ∷ drop 1 self.now) }
     {
         self.replies.get(self.next)
     }

@@ -50,7 +50,9 @@ pub trait Server {
     fn serve<M: View>(&mut self, call: &Call, view: &mut M) -> Result<Option<i32>, IoFault>
         requires not_exit { call.now.number ≢ 1 }
         requires usable { usable self.old }
-        ensures served { Serves goes held fell M.put_at (asked call.now (M.memory (M.content view.old))) self.old self.new (M.content view.old) (M.content view.new) result }
+        ensures served { Serves goes held fell M.put_at
+            (asked call.now (M.memory (M.content view.old))) self.old self.new
+            (M.content view.old) (M.content view.new) result }
         ensures causes { Causes (faults self.old) (faults self.new) result }
         ensures none_falls { NoneFalls (faults self.old) (faults self.new) }
         ensures ready { IsTrue (ready self.old) → result ≢ Ok None }
@@ -59,9 +61,11 @@ pub trait Server {
         ensures keeps { keeps self.old self.new };
 
     /// Where the state is told, an answer is the definition's, and the state after it is told.
-    ghost goes_as_told: { (s t : Self) (q : Question) (a : Answer) (k : State) → told s ≡ Some k → goes s q a t → ((l : State) × (reply k q ≡ Some (a, l)) × (told t ≡ Some l)) };
+    ghost goes_as_told: { (s t : Self) (q : Question) (a : Answer) (k : State) → told s ≡ Some k
+        → goes s q a t → ((l : State) × (reply k q ≡ Some (a, l)) × (told t ≡ Some l)) };
 
-    ghost held_as_told: { (s t : Self) (q : Question) (k : State) → told s ≡ Some k → held s q t → reply k q ≡ None };
+    ghost held_as_told: { (s t : Self) (q : Question) (k : State) → told s ≡ Some k → held s q t
+        → reply k q ≡ None };
 
     ghost keeps_itself: { (s : Self) → keeps s s };
 

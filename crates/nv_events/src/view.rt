@@ -24,15 +24,19 @@ pub trait View {
     /// Puts a byte where the address may be written; otherwise answers false and changes nothing.
     fn put(&mut self, at: u32, b: u8) -> bool
         ensures answer { result ≡ (memory (content self.old)).writable at }
-        ensures after { content self.new ≡ (if result then put_at (content self.old) at b else content self.old) };
+        ensures after { content self.new ≡ (if result then put_at (content self.old) at b
+            else content self.old) };
 
     /// What may be written can be read.
-    ghost written_is_readable: { (c : Content) (a : ℕ) → IsTrue ((memory c).writable a) → IsTrue (is_some ((memory c).byte a)) };
+    ghost written_is_readable: { (c : Content) (a : ℕ) → IsTrue ((memory c).writable a)
+        → IsTrue (is_some ((memory c).byte a)) };
 
     /// Addresses end at 2^32.
     ghost ends: { (c : Content) (a : ℕ) → 2 ^ 32 ≤ a → (memory c).byte a ≡ None };
 
-    ghost readable_stays: { (c : Content) (a b x : ℕ) → b < 256 → IsTrue ((memory c).writable a) → is_some ((memory (put_at c a b)).byte x) ≡ is_some ((memory c).byte x) };
+    ghost readable_stays: { (c : Content) (a b x : ℕ) → b < 256 → IsTrue ((memory c).writable a)
+        → is_some ((memory (put_at c a b)).byte x) ≡ is_some ((memory c).byte x) };
 
-    ghost writable_stays: { (c : Content) (a b x : ℕ) → b < 256 → IsTrue ((memory c).writable a) → (memory (put_at c a b)).writable x ≡ (memory c).writable x };
+    ghost writable_stays: { (c : Content) (a b x : ℕ) → b < 256 → IsTrue ((memory c).writable a)
+        → (memory (put_at c a b)).writable x ≡ (memory c).writable x };
 }

@@ -23,7 +23,8 @@ OthersStay (Some old) (Some new) changed = (name : List ℕ) → name ≢ change
 abbrev pub SetsFile : Option Files → Option Files → List ℕ → List ℕ → Type 0
 SetsFile None new name bytes = ⊤
 SetsFile (Some old) None name bytes = ⊥
-SetsFile (Some old) (Some new) name bytes = (new name ≡ Some bytes) × ((other : List ℕ) → other ≢ name → new other ≡ old other)
+SetsFile (Some old) (Some new) name bytes = (new name ≡ Some bytes)
+    × ((other : List ℕ) → other ≢ name → new other ≡ old other)
 
 -- what was found under a name is what the files have there
 abbrev pub Finds : Option Files → List ℕ → Option (Vec ℕ Global) → Type 0
@@ -31,7 +32,8 @@ Finds None name found = ⊤
 Finds (Some files) name found = option_map (λ v. v.items) found ≡ files name
 
 -- What `store` leaves: the file is set; after a failure it may hold anything; after want of memory nothing has changed.
-abbrev pub Stores : Option Files → Option Files → List ℕ → List ℕ → Result (Unit {0}) ShelfError → Type 0
+abbrev pub Stores : Option Files → Option Files → List ℕ → List ℕ → Result (Unit {0}) ShelfError
+    → Type 0
 Stores old new name bytes (Ok done) = SetsFile old new name bytes
 Stores old new name bytes (Err Failed) = OthersStay old new name
 Stores old new name bytes (Err NoMemory) = SameFiles old new

@@ -17,7 +17,12 @@ abbrev pub after_fault : Script → Script
 after_fault s = record { made = s.made; fails = s.fails; faults = one_more s.faults }
 
 abbrev pub after_call : Script → Script
-after_call s = record { made = one_more s.made; fails = s.fails; faults = if next_fails s then one_more s.faults else s.faults }
+after_call s = record {
+  made = one_more s.made;
+  fails = s.fails;
+  faults = if next_fails s
+      then one_more s.faults else s.faults;
+}
 
 abbrev pub new_script : List ℕ → Script
 new_script fails = record { made = 0; fails = fails; faults = 0 }

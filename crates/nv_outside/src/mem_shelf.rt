@@ -34,8 +34,11 @@ impl MemShelf {
 
     /// Sets a file. This is no call of the shelf.
     pub fn add(&mut self, name: &str, bytes: &[u8]) -> Result<(), NoMemory>
-        ensures ok { OnOk result (SetsFile (Some (files_in self.old.files)) (Some (files_in self.new.files)) name.now bytes.now) }
-        ensures err { OnErr result (SameFiles (Some (files_in self.old.files)) (Some (files_in self.new.files))) }
+        ensures ok { OnOk result
+            (SetsFile (Some (files_in self.old.files)) (Some (files_in self.new.files))
+            name.now bytes.now) }
+        ensures err { OnErr result
+            (SameFiles (Some (files_in self.old.files)) (Some (files_in self.new.files))) }
         ensures calls { self.new.calls ≡ self.old.calls }
     {
         let key = String::from_str(self.alloc, name)?;
@@ -60,7 +63,8 @@ impl Shelf for MemShelf {
     fn load(&mut self, alloc: Global, name: &str) -> Result<Option<Vec<u8>>, ShelfError>
         ensures found { IfOk result (Finds (Some (files_in self.old.files)) name.now) }
         ensures same { SameFiles (Some (files_in self.old.files)) (Some (files_in self.new.files)) }
-        ensures count { CountsFailure (shelf_failed result) self.old.calls.faults self.new.calls.faults }
+        ensures count { CountsFailure (shelf_failed result)
+            self.old.calls.faults self.new.calls.faults }
         ensures fails { shelf_failed result ≡ next_fails self.old.calls }
         ensures calls { self.new.calls ≡ after_call self.old.calls }
     {
@@ -77,10 +81,13 @@ impl Shelf for MemShelf {
     }
 
     fn store(&mut self, name: &str, bytes: &[u8]) -> Result<(), ShelfError>
-        ensures stored { Stores (Some (files_in self.old.files)) (Some (files_in self.new.files)) name.now bytes.now result }
-        ensures count { CountsFailure (shelf_failed result) self.old.calls.faults self.new.calls.faults }
+        ensures stored { Stores (Some (files_in self.old.files)) (Some (files_in self.new.files))
+            name.now bytes.now result }
+        ensures count { CountsFailure (shelf_failed result)
+            self.old.calls.faults self.new.calls.faults }
         ensures fails { shelf_failed result ≡ next_fails self.old.calls }
-        ensures unchanged { OnErr result (SameFiles (Some (files_in self.old.files)) (Some (files_in self.new.files))) }
+        ensures unchanged { OnErr result
+            (SameFiles (Some (files_in self.old.files)) (Some (files_in self.new.files))) }
         ensures calls { self.new.calls ≡ after_call self.old.calls }
     {
         if self.calls.next_fails() {

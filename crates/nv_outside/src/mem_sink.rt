@@ -33,7 +33,8 @@ impl Model for MemSink {
 impl MemSink {
     /// A sink with room for `room` bytes, whose memory is taken here. Its calls with the numbers in `fails`, counted from 1, fail.
     pub fn new(alloc: Global, room: usize, fails: Vec<u64>) -> Result<MemSink, NoMemory>
-        ensures { IfOk result (λ s. s ≡ record { taken = []; room = room; calls = new_script fails.items }) }
+        ensures { IfOk result (λ s. s
+            ≡ record { taken = []; room = room; calls = new_script fails.items }) }
     {
         let bytes = Vec::with_capacity(alloc, room)?;
         Ok(MemSink {
@@ -62,7 +63,9 @@ impl Sink for MemSink {
         ensures takes { 0 < length piece.now → result ≢ Ok 0 }
         ensures count { CountsFailure (is_err result) self.old.calls.faults self.new.calls.faults }
         ensures fails { is_err result ≡ (next_fails self.old.calls || is_full self.old piece.now) }
-        ensures calls { self.new.calls ≡ (if is_full self.old piece.now && not (next_fails self.old.calls) then after_fault (after_call self.old.calls) else after_call self.old.calls) }
+        ensures calls { self.new.calls
+            ≡ (if is_full self.old piece.now && not (next_fails self.old.calls)
+            then after_fault (after_call self.old.calls) else after_call self.old.calls) }
         ensures whole { IfOk result (λ n. n ≡ taken_of self.old piece.now) }
         ensures room { self.new.room ≡ self.old.room }
     {

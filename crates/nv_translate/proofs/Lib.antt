@@ -1,2 +1,9 @@
 mod OneLayout
 pub mod EndedRuns
+mod LinkedTranslations
+mod TranslatedMethods
+mod TranslatedLoading
+mod TranslatedTypes
+mod AcceptedTranslations
+mod CountedTranslations
+mod WarmTranslations

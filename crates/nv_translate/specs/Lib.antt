@@ -1,1 +1,16 @@
 pub mod Translated
+pub mod WholeCode
+pub mod Linked
+pub mod AcceptedCode
+pub mod Standing
+pub mod MappedPages
+pub mod Loading
+pub mod Accepted
+pub mod Stored
+pub mod Images
+pub mod Running
+pub mod Counts
+pub mod Staying
+pub mod Warm
+pub mod Sizes
+pub mod Ends

@@ -1,8 +1,19 @@
-//! Translates MIPS programs to class files for the Java virtual machine.
+//! Translates MIPS programs to class files for the Java virtual machine. A translation is accepted, and runs as its program: each law is the
+//! contract of a call that does nothing, and `translate` promises all of them.
 #![tactic(auto)]
 
+pub mod accepted_translations;
+pub mod counted_translations;
+pub mod ended_translations;
+pub mod laws;
 mod layouts;
+pub mod linked_translations;
+pub mod sized_translations;
+pub mod translated_loading;
+pub mod translated_methods;
+pub mod translated_types;
 mod translation;
+pub mod warm_translations;
 
 pub use layouts::layouts_are_one;
 pub use program_translation::{

@@ -1,11 +1,12 @@
 ghost use Rattle.std.specs.Prelude.{IfOk};
-ghost use Rattle.command_words.specs.Limits.{AreMethodBytes, IsClassName};
-ghost use Rattle.translation_laws.specs.Translated.{Translated};
+ghost use Rattle.command_values.specs.MethodBytes.{AreMethodBytes};
+ghost use Rattle.command_values.specs.Names.{IsClassName};
+ghost use Rattle.nv_translate.specs.Translated.{Translated};
 
+use crate::laws::images_are_translated;
 use elf_image::Image;
 use program_translation::{Built, NoMemory};
 use std::alloc::Global;
-use translation_laws::laws::images_are_translated;
 
 /// Translates a program to class files.
 ///

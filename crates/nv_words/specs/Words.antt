@@ -45,9 +45,11 @@ half_of_list Little bs at = half_of_bytes (slice_index bs (at + 1)) (slice_index
 -- the word that stands at a place of a list of bytes
 abbrev pub word_of_list : Order → List ℕ → ℕ → ℕ
 word_of_list Big bs at =
-    word_of_bytes (slice_index bs at) (slice_index bs (at + 1)) (slice_index bs (at + 2)) (slice_index bs (at + 3))
+    word_of_bytes (slice_index bs at) (slice_index bs (at + 1)) (slice_index bs (at + 2))
+    (slice_index bs (at + 3))
 word_of_list Little bs at =
-    word_of_bytes (slice_index bs (at + 3)) (slice_index bs (at + 2)) (slice_index bs (at + 1)) (slice_index bs at)
+    word_of_bytes (slice_index bs (at + 3)) (slice_index bs (at + 2)) (slice_index bs (at + 1))
+    (slice_index bs at)
 
 -- the two bytes of a half-word, the more significant first
 abbrev pub bytes_of_half : ℕ → List ℕ

@@ -74,7 +74,8 @@ pub fn put_word(b: &mut [u8], at: usize, v: u32) -> bool
 fn field(b: &[u8], at: usize, n: usize) -> Option<&[u8]>
     ensures there { IsSome result ↔ (at + n ≤ length b.now) }
     ensures len { IfSome result (λ bytes. length bytes.now ≡ n) }
-    ensures bytes { IfSome result (λ bytes. (k : ℕ) → k < n → slice_index bytes.now k ≡ slice_index b.now (at + k)) }
+    ensures bytes { IfSome result (λ bytes. (k : ℕ) → k < n
+        → slice_index bytes.now k ≡ slice_index b.now (at + k)) }
 {
     b.get(at..)?.get(..n)
 }

@@ -27,7 +27,8 @@ pub fn lane_of(order: Order, w: u32, i: u32) -> u8
 pub fn with_lane(w: u32, i: u32, b: u8) -> u32
     requires { i < 4 }
     ensures value { result ≡ word_with_lane w i b }
-    ensures lanes { (k : ℕ) → k < 4 → lane_of_word result k ≡ (if k == i then b else lane_of_word w k) }
+    ensures lanes { (k : ℕ) → k < 4 → lane_of_word result k
+        ≡ (if k == i then b else lane_of_word w k) }
 {
     let place = 24 - 8 * i;
     let old = u32::from(lane(w, i)) << place;

@@ -32,7 +32,8 @@ has_block units leads span k = begins leads span k && not (is_slot units leads k
 
 -- the words of a span of the class, as words of the range
 abbrev pub span_words : Part → List Span → ℕ → SpanWords
-span_words part spans j = span_of part.start (part.first + (span_at spans j).first) (span_at spans j).words
+span_words part spans j =
+    span_of part.start (part.first + (span_at spans j).first) (span_at spans j).words
 
 -- the piece of a span that begins with a word of the range: its warm code in the method of the span, the address of its first word, and its words
 abbrev pub piece_of : Part → List Span → ℕ → ℕ → Piece
@@ -51,7 +52,8 @@ piece_of part spans j k =
 abbrev pub pieces_of_span : Part → List Span → ℕ → List Piece
 pieces_of_span part spans j =
     let span = span_words part spans j in
-    map (piece_of part spans j) (filter (has_block part.units.now (flagged part.leads.now) span) (all_words span))
+    map (piece_of part spans j) (filter (has_block part.units.now (flagged part.leads.now) span)
+    (all_words span))
 
 -- those of the first spans, and of all
 abbrev pub first_pieces : Part → List Span → ℕ → List Piece
@@ -64,7 +66,13 @@ pieces_of_class part spans = first_pieces part spans (length spans)
 
 -- a piece with its warm code
 abbrev pub placed : Part → ℕ → Block × Stretch → Piece
-placed part j p = record { span = j; from = p.1.from; to = p.1.to; first = part.start + 4 * p.0.first; words = p.0.words }
+placed part j p = record {
+  span = j;
+  from = p.1.from;
+  to = p.1.to;
+  first = part.start + 4 * p.0.first;
+  words = p.0.words;
+}
 
 abbrev pub is_told : Part → Block × Stretch → Bool
 is_told part p = not (is_slot part.units.now (flagged part.leads.now) p.0.first)

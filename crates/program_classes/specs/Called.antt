@@ -1,10 +1,10 @@
 -- The methods that the main class names. Their slots go by their numbers in the program.
 use Rattle.std.specs.Prelude.{◌≡◌, ℕ, ◌<◌, List, ◌++◌, codes, length, slice_index_or}
 use Rattle.constant_pool.specs.declared.entry.Entry.{Entry}
+use Rattle.guest_layout.specs.ClassNames.{code_class_name, data_class_name}
+use Rattle.guest_layout.specs.Helpers.{helper_name, helper_descriptor}
+use Rattle.guest_layout.specs.Numbers.{choose_number, pages_number, missing_number}
 use Rattle.class_builder.specs.Named.{IsClassAt, IsMethodAt}
-use Rattle.class_members.specs.ClassNames.{code_class_name, data_class_name}
-use Rattle.class_members.specs.Helpers.{helper_name, helper_descriptor}
-use Rattle.class_members.specs.Numbers.{choose_number, pages_number, missing_number}
 use Rattle.program_classes.specs.Making.{nothing}
 use Rattle.program_classes.specs.declared.content.MainClass.{MainClass}
 use Rattle.program_classes.specs.declared.other_class.OtherClass.{OtherClass}
@@ -25,7 +25,8 @@ pages_descriptor = codes "(Ljava/lang/String;)V"
 
 -- the helper methods, and those that are called behind them, of the class in a slot
 pub record AreOwnMethods (pool : List Entry) (own : ℕ) (slots : List ℕ) : Type 0 where
-  pub helpers : (k : ℕ) → k < 20 → IsMethodAt pool (slot_of slots k) own (helper_name k) (helper_descriptor k)
+  pub helpers : (k : ℕ) → k < 20
+      → IsMethodAt pool (slot_of slots k) own (helper_name k) (helper_descriptor k)
   pub choose : IsMethodAt pool (slot_of slots choose_number) own (codes "choose") nothing
   pub pages : IsMethodAt pool (slot_of slots pages_number) own (codes "pages") pages_descriptor
   pub missing : IsMethodAt pool (slot_of slots missing_number) own (codes "missing") nothing
@@ -43,7 +44,8 @@ method_name Code = codes "run"
 method_name Data = codes "fill"
 
 -- the method of one class, by its number in the program
-pub record IsOther (pool : List Entry) (main : List ℕ) (kind : OtherClass) (i : ℕ) (slots : List ℕ) (number : ℕ) : Type 0 where
+pub record IsOther (pool : List Entry) (main : List ℕ) (kind : OtherClass) (i : ℕ) (slots : List ℕ)
+    (number : ℕ) : Type 0 where
   pub within : number < length slots
   pub owner : ℕ
   pub owner_is : IsClassAt pool owner (class_name kind main i)
@@ -51,11 +53,13 @@ pub record IsOther (pool : List Entry) (main : List ℕ) (kind : OtherClass) (i 
 
 -- the methods of the first classes of a kind, by their numbers in the program
 abbrev pub AreOthers : List Entry → List ℕ → OtherClass → List ℕ → List ℕ → ℕ → Type 0
-AreOthers pool main kind numbers slots count = (i : ℕ) → i < count → IsOther pool main kind i slots (slice_index_or numbers i 0)
+AreOthers pool main kind numbers slots count = (i : ℕ) → i < count
+    → IsOther pool main kind i slots (slice_index_or numbers i 0)
 
 -- ---- all of them
 
-pub record AreMainMethods (pool : List Entry) (name : List ℕ) (own : ℕ) (main : MainClass) (slots : List ℕ) : Type 0 where
+pub record AreMainMethods (pool : List Entry) (name : List ℕ) (own : ℕ) (main : MainClass)
+    (slots : List ℕ) : Type 0 where
   pub own_are : AreOwnMethods pool own slots
   pub code_are : AreOthers pool name Code main.code.now slots (length main.code.now)
   pub data_are : AreOthers pool name Data main.data.now slots (length main.data.now)

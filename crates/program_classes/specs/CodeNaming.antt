@@ -3,10 +3,10 @@ use Rattle.std.specs.Prelude.{◌≡◌, ℕ, List, [], ◌∷◌, ◌++◌}
 use Rattle.constant_pool.specs.declared.entry.Entry.{Entry}
 use Rattle.constant_pool.specs.declared.entry.Entry.TheVariants.{MethodRef}
 use Rattle.name_resolution.specs.Names.{object_name}
+use Rattle.guest_layout.specs.ClassNames.{span_name}
 use Rattle.class_builder.specs.declared.member_kind.MemberKind.TheVariants.{Method}
 use Rattle.class_builder.specs.Named.{IsClassAt}
 use Rattle.class_builder.specs.Mentioned.{Mention, OfClass, Mentions}
-use Rattle.class_members.specs.ClassNames.{span_name}
 use Rattle.program_classes.specs.Named.{AreMembers, AreNames, AreHelpers}
 use Rattle.program_classes.specs.Mentioned.{member_mentions, helper_mentions, names_mentions}
 use Rattle.program_classes.specs.declared.code_naming.NamedClass.{NamedClass}
@@ -14,7 +14,8 @@ use Rattle.program_classes.specs.Making.{nothing}
 
 -- slots of the methods of the first spans of a class, which is in a slot
 abbrev pub AreSpanMethods : List Entry → ℕ → List ℕ → ℕ → Type 0
-AreSpanMethods pool class slots count = AreMembers MethodRef span_name (λ k. nothing) pool class slots count
+AreSpanMethods pool class slots count =
+    AreMembers MethodRef span_name (λ k. nothing) pool class slots count
 
 -- the methods of the first spans of a class
 abbrev pub span_mentions : List ℕ → ℕ → List Mention
@@ -24,7 +25,8 @@ span_mentions name count = member_mentions Method span_name (λ k. nothing) name
 abbrev pub code_mentions : List ℕ → List ℕ → ℕ → List Mention
 code_mentions name main spans =
     (OfClass name ∷ OfClass object_name ∷ [])
-    ++ (names_mentions main ++ helper_mentions main 20 ++ OfClass name ∷ [] ++ span_mentions name spans)
+    ++ (names_mentions main ++ helper_mentions main 20 ++ OfClass name ∷ []
+    ++ span_mentions name spans)
 
 pub record IsNamedClass (name main : List ℕ) (spans : ℕ) (n : NamedClass) : Type 0 where
   pub no_methods : n.class.methods ≡ []

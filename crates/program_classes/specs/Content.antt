@@ -1,10 +1,10 @@
 -- What the main class is made of.
 use Rattle.std.specs.Prelude.{ℕ, ◌+◌, ◌≤◌, ◌<◌, ◌^◌, List, [], ◌∷◌, ◌++◌, map, length, All, ⊤}
 use Rattle.std.specs.List.{range_with_len}
-use Rattle.equal_shares.specs.Shares.{share_at, share_count, shared}
-use Rattle.page_runs.specs.declared.page_run.PageRun.{PageRun}
-use Rattle.page_runs.specs.Runs.{IsRun, text_of}
-use Rattle.class_members.specs.Numbers.{main_methods}
+use Rattle.image_parts.specs.declared.page_run.PageRun.{PageRun}
+use Rattle.image_parts.specs.Runs.{IsRun, text_of}
+use Rattle.guest_layout.specs.Numbers.{main_methods}
+use Rattle.method_splitter.specs.Shares.{share_at, share_count, shared}
 use Rattle.program_classes.specs.declared.content.MainClass.{MainClass}
 
 -- numbers that rise, from one on

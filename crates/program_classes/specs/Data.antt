@@ -1,24 +1,30 @@
 -- Classes of data: the method that puts the words of a text into a page, and behind it the one that does so for each page of the class.
 use Rattle.std.specs.Prelude.{◌≡◌, ℕ, List, [], ◌∷◌, codes}
 use Rattle.std.specs.List.{AllZip}
+use Rattle.image_parts.specs.Pages.{Page}
 use Rattle.jvm_code.specs.declared.class.Class.{Class}
 use Rattle.class_file.specs.ClassFile.{Spells}
-use Rattle.code_assembly.specs.declared.references.References.{References}
+use Rattle.guest_layout.specs.ClassNames.{data_class_name}
 use Rattle.loading_code.specs.declared.page_slot.PageSlot.{PageSlot}
 use Rattle.loading_code.specs.Words.{words_code}
 use Rattle.loading_code.specs.Filling.{fill_code}
+use Rattle.code_assembly.specs.declared.references.References.{References}
 use Rattle.class_builder.specs.Named.{IsClassAt}
 use Rattle.class_builder.specs.Mentioned.{Mentions}
-use Rattle.class_members.specs.ClassNames.{data_class_name}
 use Rattle.program_classes.specs.Making.{Plan, IsMade, nothing}
 use Rattle.program_classes.specs.declared.names.Names.{Names}
 use Rattle.program_classes.specs.Tables.{references_of}
-use Rattle.program_classes.specs.Pages.{Page}
 use Rattle.program_classes.specs.DataNaming.{AreDataNames, words_descriptor, data_mentions}
 
 abbrev pub words_plan : References → Plan
 words_plan references =
-    record { name = codes "words"; descriptor = words_descriptor; locals = 4; references = references; code = words_code }
+    record {
+      name = codes "words";
+      descriptor = words_descriptor;
+      locals = 4;
+      references = references;
+      code = words_code;
+    }
 
 -- the texts are those of the class that has a number in the program, and the method `words` has one too
 abbrev pub fill_plan : List PageSlot → ℕ → ℕ → References → Plan
@@ -31,7 +37,8 @@ fill_plan texts number words references = record {
 }
 
 -- The class of data of a number, with these pages. Its number in the program is given, and that of its first method.
-pub record IsDataClass (main : List ℕ) (number class_number first_method : ℕ) (pages : List Page) (bytes : List ℕ) : Type 0 where
+pub record IsDataClass (main : List ℕ) (number class_number first_method : ℕ) (pages : List Page)
+    (bytes : List ℕ) : Type 0 where
   pub class : Class
   pub spells : Spells bytes class
   pub named : IsClassAt class.pool class.this_class (data_class_name main number)
@@ -40,7 +47,8 @@ pub record IsDataClass (main : List ℕ) (number class_number first_method : ℕ
   pub own : ℕ
   pub words : ℕ
   pub texts : List PageSlot
-  pub names_are : AreDataNames class.pool (data_class_name main number) main pages names own words texts
+  pub names_are : AreDataNames class.pool (data_class_name main number)
+      main pages names own words texts
   pub mentions : Mentions class.pool (data_mentions (data_class_name main number) main)
   pub methods : AllZip (IsMade class.pool) class.methods
       (words_plan (references_of names first_method (words ∷ []))

@@ -1,22 +1,24 @@
 -- What a class of data names.
 use Rattle.std.specs.Prelude.{◌≡◌, ℕ, List, [], ◌∷◌, ◌++◌, codes}
 use Rattle.std.specs.List.{AllZip}
+use Rattle.image_parts.specs.Pages.{Page}
 use Rattle.constant_pool.specs.declared.entry.Entry.{Entry}
 use Rattle.name_resolution.specs.Names.{object_name}
+use Rattle.loading_code.specs.declared.page_slot.PageSlot.{PageSlot}
 use Rattle.class_builder.specs.Named.{IsClassAt, IsMethodAt}
 use Rattle.class_builder.specs.Mentioned.{Mention, OfClass, method_mention, Mentions}
-use Rattle.loading_code.specs.declared.page_slot.PageSlot.{PageSlot}
 use Rattle.program_classes.specs.declared.names.Names.{Names}
 use Rattle.program_classes.specs.Named.{AreNames}
 use Rattle.program_classes.specs.Mentioned.{names_mentions}
 use Rattle.program_classes.specs.declared.data_naming.NamedClass.{NamedClass}
-use Rattle.program_classes.specs.Pages.{Page, IsPageSlot}
+use Rattle.program_classes.specs.Pages.{IsPageSlot}
 
 abbrev pub words_descriptor : List ℕ
 words_descriptor = codes "([ILjava/lang/String;)V"
 
 -- The slots of all that a class of data names: what every class names, the class itself, its method `words`, and the texts of its pages.
-pub record AreDataNames (pool : List Entry) (name main : List ℕ) (pages : List Page) (names : Names) (own words : ℕ)
+pub record AreDataNames (pool : List Entry) (name main : List ℕ) (pages : List Page) (names : Names)
+    (own words : ℕ)
     (texts : List PageSlot) : Type 0 where
   pub names_are : AreNames pool main names
   pub own_is : IsClassAt pool own name
@@ -27,7 +29,8 @@ pub record AreDataNames (pool : List Entry) (name main : List ℕ) (pages : List
 abbrev pub data_mentions : List ℕ → List ℕ → List Mention
 data_mentions name main =
     (OfClass name ∷ OfClass object_name ∷ [])
-    ++ (OfClass name ∷ [] ++ names_mentions main ++ method_mention name (codes "words") words_descriptor ∷ [])
+    ++ (OfClass name ∷ [] ++ names_mentions main
+    ++ method_mention name (codes "words") words_descriptor ∷ [])
 
 pub record IsNamedClass (name main : List ℕ) (pages : List Page) (n : NamedClass) : Type 0 where
   pub no_methods : n.class.methods ≡ []

@@ -4,10 +4,10 @@ use Rattle.std.specs.List.{AllZip, range_with_len}
 use Rattle.constant_pool.specs.declared.entry.Entry.{Entry}
 use Rattle.jvm_code.specs.declared.class.Class.{Class}
 use Rattle.jvm_code.specs.declared.member.Member.{Member}
+use Rattle.guest_layout.specs.Fields.{field_name, field_descriptor}
 use Rattle.code_assembly.specs.Assembling.{Extends}
 use Rattle.class_builder.specs.Built.{IsNamed}
 use Rattle.class_builder.specs.Mentioned.{mentioned, Mentions}
-use Rattle.class_members.specs.Fields.{field_name, field_descriptor}
 
 -- the field of a number
 abbrev pub IsField : List Entry → Member → ℕ → Type 0

@@ -5,15 +5,15 @@ use Rattle.std.specs.List.{range_with_len, AllZip}
 use Rattle.nv_words.specs.declared.order.Order.{Order}
 use Rattle.jvm_code.specs.declared.class.Class.{Class}
 use Rattle.class_file.specs.ClassFile.{Spells}
-use Rattle.code_assembly.specs.declared.references.References.{References}
+use Rattle.guest_layout.specs.Helpers.{helper_name, helper_descriptor}
+use Rattle.guest_layout.specs.Numbers.{choose_number, pages_number, missing_number}
 use Rattle.mem_helpers.specs.Methods.{helper_code}
 use Rattle.trampoline.specs.Choosers.{main_chooser, missing_code}
 use Rattle.loading_code.specs.Pages.{pages_code}
 use Rattle.loading_code.specs.Starting.{run_code}
+use Rattle.code_assembly.specs.declared.references.References.{References}
 use Rattle.class_builder.specs.Named.{IsClassAt}
 use Rattle.class_builder.specs.Mentioned.{Mentions}
-use Rattle.class_members.specs.Helpers.{helper_name, helper_descriptor}
-use Rattle.class_members.specs.Numbers.{choose_number, pages_number, missing_number}
 use Rattle.program_classes.specs.Making.{Plan, IsMade, nothing}
 use Rattle.program_classes.specs.declared.names.Names.{Names}
 use Rattle.program_classes.specs.Tables.{references_of}
@@ -60,18 +60,32 @@ choose_plan main references = record {
 
 abbrev pub pages_plan : References → Plan
 pages_plan references =
-    record { name = codes "pages"; descriptor = pages_descriptor; locals = 5; references = references; code = pages_code }
+    record {
+      name = codes "pages";
+      descriptor = pages_descriptor;
+      locals = 5;
+      references = references;
+      code = pages_code;
+    }
 
 abbrev pub missing_plan : References → Plan
 missing_plan references =
-    record { name = codes "missing"; descriptor = nothing; locals = 1; references = references; code = missing_code }
+    record {
+      name = codes "missing";
+      descriptor = nothing;
+      locals = 1;
+      references = references;
+      code = missing_code;
+    }
 
 abbrev pub other_plans : MainClass → List ℕ → References → List Plan
 other_plans main texts references =
-    run_plan main texts references ∷ choose_plan main references ∷ pages_plan references ∷ missing_plan references ∷ []
+    run_plan main texts references ∷ choose_plan main references ∷ pages_plan references
+    ∷ missing_plan references ∷ []
 
 abbrev pub main_plans : MainClass → List ℕ → References → List Plan
-main_plans main texts references = helper_plans main.beginning.order references 20 ++ other_plans main texts references
+main_plans main texts references = helper_plans main.beginning.order references 20
+    ++ other_plans main texts references
 
 -- ---- the class
 
@@ -86,4 +100,5 @@ pub record IsMainClass (name : List ℕ) (main : MainClass) (bytes : List ℕ) :
   pub texts : List ℕ
   pub names_are : AreMainNames class.pool name main names slots texts
   pub mentions : Mentions class.pool (main_mentions name main)
-  pub methods : AllZip (IsMade class.pool) class.methods (main_plans main texts (references_of names 0 slots))
+  pub methods : AllZip (IsMade class.pool) class.methods
+      (main_plans main texts (references_of names 0 slots))

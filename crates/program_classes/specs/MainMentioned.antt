@@ -22,7 +22,8 @@ own_mentions name =
 -- a class of a kind, and the method that is called of it
 abbrev pub other_mention : List ℕ → OtherClass → ℕ → List Mention
 other_mention name kind i =
-    OfClass (class_name kind name i) ∷ method_mention (class_name kind name i) (method_name kind) nothing ∷ []
+    OfClass (class_name kind name i) ∷ method_mention (class_name kind name i) (method_name kind)
+    nothing ∷ []
 
 -- the same of the first classes of a kind
 abbrev pub other_mentions : List ℕ → OtherClass → ℕ → List Mention
@@ -31,8 +32,10 @@ other_mentions name kind count = flat_map (other_mention name kind) (range_with_
 -- all methods that are called
 abbrev pub called_mentions : List ℕ → MainClass → List Mention
 called_mentions name main =
-    own_mentions name ++ other_mentions name Code (length main.code.now) ++ other_mentions name Data (length main.data.now)
+    own_mentions name ++ other_mentions name Code (length main.code.now)
+    ++ other_mentions name Data (length main.data.now)
 
 -- all that the main class of a name asks for
 abbrev pub main_mentions : List ℕ → MainClass → List Mention
-main_mentions name main = (OfClass name ∷ OfClass object_name ∷ []) ++ (names_mentions name ++ called_mentions name main)
+main_mentions name main = (OfClass name ∷ OfClass object_name ∷ [])
+    ++ (names_mentions name ++ called_mentions name main)

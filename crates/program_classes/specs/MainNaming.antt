@@ -14,7 +14,8 @@ use Rattle.program_classes.specs.Called.{AreMainMethods}
 use Rattle.program_classes.specs.MainMentioned.{main_mentions}
 
 -- the slots of all that the main class names: what every class names, the methods that it calls, and the texts of pages
-pub record AreMainNames (pool : List Entry) (name : List ℕ) (main : MainClass) (names : Names) (methods texts : List ℕ) : Type 0 where
+pub record AreMainNames (pool : List Entry) (name : List ℕ) (main : MainClass) (names : Names)
+    (methods texts : List ℕ) : Type 0 where
   pub names_are : AreNames pool name names
   pub methods_are : AreMainMethods pool name names.main main methods
   pub texts_are : AllZip (IsTextAt pool) texts (share_texts main.runs.now)

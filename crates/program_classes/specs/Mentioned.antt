@@ -2,15 +2,16 @@
 use Rattle.std.specs.Prelude.{ℕ, List, [], ◌∷◌, ◌++◌, map, codes}
 use Rattle.std.specs.List.{range_with_len}
 use Rattle.name_resolution.specs.Names.{Signature, reference, string_name, host_name, length_signature, char_at_signature, host_call_signature, host_fault_signature}
+use Rattle.guest_layout.specs.Fields.{field_name, field_descriptor}
+use Rattle.guest_layout.specs.Helpers.{helper_name, helper_descriptor}
 use Rattle.class_builder.specs.declared.member_kind.MemberKind.{MemberKind}
 use Rattle.class_builder.specs.declared.member_kind.MemberKind.TheVariants.{Field, Method}
 use Rattle.class_builder.specs.Mentioned.{Mention, OfClass, OfMember, member_mention}
-use Rattle.class_members.specs.Fields.{field_name, field_descriptor}
-use Rattle.class_members.specs.Helpers.{helper_name, helper_descriptor}
 
 -- the first members of a class, by their names and descriptors
 abbrev pub member_mentions : MemberKind → (ℕ → List ℕ) → (ℕ → List ℕ) → List ℕ → ℕ → List Mention
-member_mentions kind name descriptor owner count = map (λ k. member_mention kind owner (name k) (descriptor k)) (range_with_len 0 count)
+member_mentions kind name descriptor owner count =
+    map (λ k. member_mention kind owner (name k) (descriptor k)) (range_with_len 0 count)
 
 -- the first fields of the main class
 abbrev pub field_mentions : List ℕ → ℕ → List Mention
@@ -25,11 +26,14 @@ abbrev pub called : List ℕ → Signature → Mention
 called owner method = OfMember Method (reference owner method)
 
 abbrev pub host_mentions : List Mention
-host_mentions = OfClass host_name ∷ called host_name host_call_signature ∷ called host_name host_fault_signature ∷ []
+host_mentions = OfClass host_name ∷ called host_name host_call_signature
+    ∷ called host_name host_fault_signature ∷ []
 
 abbrev pub string_mentions : List Mention
-string_mentions = OfClass string_name ∷ called string_name length_signature ∷ called string_name char_at_signature ∷ []
+string_mentions = OfClass string_name ∷ called string_name length_signature
+    ∷ called string_name char_at_signature ∷ []
 
 -- the main class with its fields, the host, strings, and the type of arrays of ints
 abbrev pub names_mentions : List ℕ → List Mention
-names_mentions main = OfClass main ∷ [] ++ field_mentions main 38 ++ host_mentions ++ string_mentions ++ OfClass (codes "[I") ∷ []
+names_mentions main = OfClass main ∷ [] ++ field_mentions main 38 ++ host_mentions
+    ++ string_mentions ++ OfClass (codes "[I") ∷ []

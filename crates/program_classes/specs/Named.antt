@@ -3,25 +3,29 @@ use Rattle.std.specs.Prelude.{◌≡◌, ℕ, ◌<◌, List, codes, length, slic
 use Rattle.constant_pool.specs.declared.entry.Entry.{Entry}
 use Rattle.constant_pool.specs.declared.entry.Entry.TheVariants.{FieldRef, MethodRef}
 use Rattle.name_resolution.specs.Names.{Signature, string_name, host_name, length_signature, char_at_signature, host_call_signature, host_fault_signature}
+use Rattle.guest_layout.specs.Fields.{field_name, field_descriptor}
+use Rattle.guest_layout.specs.Helpers.{helper_name, helper_descriptor}
 use Rattle.class_builder.specs.Named.{IsClassAt, IsMemberAt, IsMethodAt}
-use Rattle.class_members.specs.Fields.{field_name, field_descriptor}
-use Rattle.class_members.specs.Helpers.{helper_name, helper_descriptor}
 use Rattle.program_classes.specs.declared.host.HostSlots.{HostSlots}
 use Rattle.program_classes.specs.declared.strings.StringSlots.{StringSlots}
 use Rattle.program_classes.specs.declared.names.Names.{Names}
 
 -- slots of the first members of the class in a slot, by their names and descriptors
-pub record AreMembers (kind : ℕ → ℕ → Entry) (name descriptor : ℕ → List ℕ) (pool : List Entry) (class : ℕ) (slots : List ℕ) (count : ℕ) : Type 0 where
+pub record AreMembers (kind : ℕ → ℕ → Entry) (name descriptor : ℕ → List ℕ) (pool : List Entry)
+    (class : ℕ) (slots : List ℕ) (count : ℕ) : Type 0 where
   pub count_is : length slots ≡ count
-  pub each : (k : ℕ) → k < count → IsMemberAt kind pool (slice_index_or slots k 0) class (name k) (descriptor k)
+  pub each : (k : ℕ) → k < count
+      → IsMemberAt kind pool (slice_index_or slots k 0) class (name k) (descriptor k)
 
 -- slots of the first fields of the main class, which is in a slot
 abbrev pub AreFields : List Entry → ℕ → List ℕ → ℕ → Type 0
-AreFields pool main slots count = AreMembers FieldRef field_name field_descriptor pool main slots count
+AreFields pool main slots count =
+    AreMembers FieldRef field_name field_descriptor pool main slots count
 
 -- slots of its first helper methods
 abbrev pub AreHelpers : List Entry → ℕ → List ℕ → ℕ → Type 0
-AreHelpers pool main slots count = AreMembers MethodRef helper_name helper_descriptor pool main slots count
+AreHelpers pool main slots count =
+    AreMembers MethodRef helper_name helper_descriptor pool main slots count
 
 -- a method of a class in a slot, by name and descriptor
 abbrev pub IsCalled : List Entry → ℕ → ℕ → Signature → Type 0

@@ -1,15 +1,11 @@
 -- The pages of a class of data.
 use Rattle.std.specs.Prelude.{◌≡◌, ℕ, List}
+use Rattle.image_parts.specs.Pages.{Page}
 use Rattle.constant_pool.specs.declared.entry.Entry.{Entry}
-use Rattle.class_builder.specs.Named.{IsTextAt}
-use Rattle.data_strings.specs.Texts.{page_text}
 use Rattle.loading_code.specs.declared.page_slot.PageSlot.{PageSlot}
+use Rattle.data_strings.specs.Texts.{page_text}
+use Rattle.class_builder.specs.Named.{IsTextAt}
 use Rattle.program_classes.specs.declared.page_data.PageData.{PageData}
-
--- a page by its number, with its words
-pub record Page : Type 0 where
-  pub number : ℕ
-  pub words : List ℕ
 
 abbrev pub page_of : PageData → Page
 page_of p = record { number = p.page; words = p.words.now }

@@ -21,7 +21,8 @@ can_name_class name = names_class name && is_short name
 
 -- the name and descriptor of a field, or of a method, that is named
 abbrev pub can_name_member : MemberKind → List ℕ → List ℕ → Bool
-can_name_member kind name descriptor = names_member kind name descriptor && (is_short name && is_short descriptor)
+can_name_member kind name descriptor =
+    names_member kind name descriptor && (is_short name && is_short descriptor)
 
 abbrev pub can_name_field : List ℕ → List ℕ → Bool
 can_name_field name descriptor = can_name_member Field name descriptor
@@ -31,4 +32,5 @@ can_name_method name descriptor = can_name_member Method name descriptor
 
 -- the name and descriptor of a method that is made
 abbrev pub is_own_method : List ℕ → List ℕ → Bool
-is_own_method name descriptor = (is_member_name name && is_own_descriptor descriptor) && (is_short name && is_short descriptor)
+is_own_method name descriptor = (is_member_name name && is_own_descriptor descriptor)
+    && (is_short name && is_short descriptor)

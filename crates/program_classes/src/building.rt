@@ -36,7 +36,8 @@ pub fn new_class(alloc: Global, name: &str) -> Result<ClassBuilder, NoMemory>
     ensures fields { IfOk result (λ b. b.fields ≡ []) }
     ensures methods { IfOk result (λ b. b.methods ≡ []) }
     ensures few { IfOk result (λ b. length b.pool ≤ 5) }
-    ensures mentions { IfOk result (λ b. Mentions b.pool (OfClass name.now ∷ OfClass object_name ∷ [])) }
+    ensures mentions { IfOk result (λ b.
+        Mentions b.pool (OfClass name.now ∷ OfClass object_name ∷ [])) }
 {
     sure(ClassBuilder::new(alloc, name))
 }
@@ -48,7 +49,8 @@ pub fn class_reference(alloc: Global, class: &mut ClassBuilder, name: &str) -> R
     ensures there { IfOk result (λ slot. IsClassAt class.new.pool slot name.now) }
     ensures grown { OnOk result (GrowsPool class.old class.new 2) }
     ensures few { OnOk result (length class.new.pool ≤ length class.old.pool + 2) }
-    ensures mentions { OnOk result (Mentions class.new.pool (mentioned class.old.pool ++ OfClass name.now ∷ [])) }
+    ensures mentions { OnOk result (Mentions class.new.pool (mentioned class.old.pool
+        ++ OfClass name.now ∷ [])) }
 {
     sure(class.class_reference(alloc, name))
 }
@@ -64,9 +66,11 @@ pub fn field_reference(
     requires room { length class.old.pool + 4 ≤ 65534 }
     requires owner { has_class class.old.pool owner ≡ true }
     requires name { can_name_field name.now descriptor.now ≡ true }
-    ensures there { IfOk result (λ slot. IsFieldAt class.new.pool slot owner name.now descriptor.now) }
+    ensures there { IfOk result (λ slot.
+        IsFieldAt class.new.pool slot owner name.now descriptor.now) }
     ensures grown { OnOk result (GrowsPool class.old class.new 4) }
-    ensures mentions { OnOk result (MentionsOf class.old.pool class.new.pool owner (λ of. field_mention of name.now descriptor.now ∷ [])) }
+    ensures mentions { OnOk result (MentionsOf class.old.pool class.new.pool owner
+        (λ of. field_mention of name.now descriptor.now ∷ [])) }
 {
     sure(class.field_reference(alloc, owner, name, descriptor))
 }
@@ -82,9 +86,11 @@ pub fn method_reference(
     requires room { length class.old.pool + 4 ≤ 65534 }
     requires owner { has_class class.old.pool owner ≡ true }
     requires name { can_name_method name.now descriptor.now ≡ true }
-    ensures there { IfOk result (λ slot. IsMethodAt class.new.pool slot owner name.now descriptor.now) }
+    ensures there { IfOk result (λ slot.
+        IsMethodAt class.new.pool slot owner name.now descriptor.now) }
     ensures grown { OnOk result (GrowsPool class.old class.new 4) }
-    ensures mentions { OnOk result (MentionsOf class.old.pool class.new.pool owner (λ of. method_mention of name.now descriptor.now ∷ [])) }
+    ensures mentions { OnOk result (MentionsOf class.old.pool class.new.pool owner
+        (λ of. method_mention of name.now descriptor.now ∷ [])) }
 {
     sure(class.method_reference(alloc, owner, name, descriptor))
 }
@@ -118,7 +124,8 @@ pub fn put_method(
     requires room { length class.old.pool + (2 + slots_of code.now) ≤ 65534 }
     requires name { is_own_method name.now descriptor.now ≡ true }
     requires code { is_code references.now class.old.pool code.now ≡ true }
-    ensures { OnOk result (AddsMethod class.old class.new name.now descriptor.now locals references.now code.now) }
+    ensures { OnOk result
+        (AddsMethod class.old class.new name.now descriptor.now locals references.now code.now) }
 {
     sure(class.add_method(alloc, name, descriptor, locals, code, references))
 }

@@ -1,6 +1,6 @@
 //! Classes of code.
 ghost use Rattle.std.specs.Prelude.{◌≡◌, ◌+◌, ◌≤◌, ◌<◌, ◌^◌, All, IfOk, OnOk, length, sum_by};
-ghost use Rattle.command_words.specs.Limits.{IsClassName};
+ghost use Rattle.command_values.specs.Names.{IsClassName};
 ghost use Rattle.code_steps.specs.Widths.{size};
 ghost use Rattle.program_classes.specs.Parts.{IsCode, IsPart, IsSpan};
 ghost use Rattle.program_classes.specs.Code.{IsCodeClass, code_of_span};
@@ -12,8 +12,8 @@ use crate::part::Part;
 use crate::piece::Piece;
 use crate::running::add_run;
 use crate::spans::add_spans;
-use class_format::Sequence;
-use class_members::code_class_name;
+use guest_layout::code_class_name;
+use jvm_names::Sequence;
 use method_splitter::Span;
 use std::alloc::Global;
 
@@ -47,9 +47,11 @@ pub fn code_class(
     requires words { sum_by (λ s. s.words) spans.now ≤ 6144 }
     requires sizes { All (λ s. size (code_of_span part.now s) ≤ 65535) spans.now }
     requires methods { first_method + length spans.now < 2 ^ 32 }
-    ensures class { IfOk result (λ made. IsCodeClass main.now number part.now spans.now first_method made.bytes.items) }
+    ensures class { IfOk result (λ made.
+        IsCodeClass main.now number part.now spans.now first_method made.bytes.items) }
     ensures pieces { IfOk result (λ made. made.pieces.items ≡ pieces_of_class part.now spans.now) }
-    ensures pieces_within { IfOk result (λ made. All (λ p. p.span < length spans.now) made.pieces.items) }
+    ensures pieces_within { IfOk result (λ made.
+        All (λ p. p.span < length spans.now) made.pieces.items) }
 {
     let name = code_class_name(alloc, main, number)?;
     let named = named_class(alloc, name.as_str(), main, spans.len() as u32)?;

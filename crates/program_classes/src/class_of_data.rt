@@ -1,6 +1,6 @@
 //! A class of data.
 ghost use Rattle.std.specs.Prelude.{◌≤◌, ◌<◌, ◌^◌, All, IfOk, length, map};
-ghost use Rattle.command_words.specs.Limits.{IsClassName};
+ghost use Rattle.command_values.specs.Names.{IsClassName};
 ghost use Rattle.program_classes.specs.Pages.{page_of};
 ghost use Rattle.program_classes.specs.Data.{IsDataClass};
 
@@ -8,7 +8,7 @@ use crate::NoMemory;
 use crate::data_naming::named_class;
 use crate::filling::{add_fill, add_words};
 use crate::page_data::PageData;
-use class_members::data_class_name;
+use guest_layout::data_class_name;
 use std::alloc::Global;
 
 /// The class of data of this number as a class file: the text of each of its pages, `words([ILjava/lang/String;)V`, which puts a text's
@@ -29,7 +29,8 @@ pub fn data_class(
     requires number { number < 2 ^ 15 }
     requires pages { length pages.now ≤ 1024 }
     requires words { All (λ p. length p.words.now ≤ 1024) pages.now }
-    ensures { IfOk result (λ bytes. IsDataClass main.now number class first_method (map page_of pages.now) bytes.items) }
+    ensures { IfOk result (λ bytes. IsDataClass main.now number class first_method
+        (map page_of pages.now) bytes.items) }
 {
     let name = data_class_name(alloc, main, number)?;
     let named = named_class(alloc, name.as_str(), main, pages)?;

@@ -1,6 +1,6 @@
 //! The main class.
 ghost use Rattle.std.specs.Prelude.{IfOk};
-ghost use Rattle.command_words.specs.Limits.{IsClassName};
+ghost use Rattle.command_values.specs.Names.{IsClassName};
 ghost use Rattle.program_classes.specs.Content.{IsMain};
 ghost use Rattle.program_classes.specs.Main.{IsMainClass};
 

@@ -1,18 +1,20 @@
 //! What a class of code names.
 ghost use Rattle.std.specs.Prelude.{◌≡◌, ◌+◌, ◌*◌, ◌<◌, ◌≤◌, true, [], ◌∷◌, length, IfOk, OnOk};
+ghost use Rattle.guest_layout.specs.ClassNames.{span_name};
 ghost use Rattle.class_builder.specs.Built.{GrowsPool};
 ghost use Rattle.class_builder.specs.Lawful.{has_class};
 ghost use Rattle.class_builder.specs.Mentioned.{MentionsOf, method_mention};
 ghost use Rattle.class_builder.specs.Named.{IsMethodAt};
-ghost use Rattle.class_members.specs.ClassNames.{span_name};
 ghost use Rattle.program_classes.specs.Making.{nothing};
 ghost use Rattle.program_classes.specs.CodeNaming.{AreSpanMethods, IsNamedClass, span_mentions};
 ghost use Rattle.program_classes.specs.Room.{can_name_class, is_own_name};
 
+use crate::NoMemory;
 use crate::building::{class_reference, method_reference, new_class};
-use crate::{Names, NoMemory, helper_references};
+use crate::known_helpers::helper_references;
+use crate::names::Names;
 use class_builder::ClassBuilder;
-use class_members::span_name;
+use guest_layout::span_name;
 use std::alloc::Global;
 
 /// A class of code without methods, with the slots of all that its methods name.
@@ -67,7 +69,8 @@ fn span_references(
     requires few { spans ≤ 2048 }
     ensures there { IfOk result (λ slots. AreSpanMethods class.new.pool own slots.items spans) }
     ensures grown { OnOk result (GrowsPool class.old class.new (4 * spans)) }
-    ensures mentions { OnOk result (MentionsOf class.old.pool class.new.pool own (λ owner. span_mentions owner spans)) }
+    ensures mentions { OnOk result (MentionsOf class.old.pool class.new.pool own
+        (λ owner. span_mentions owner spans)) }
 {
     let mut slots = Vec::new(alloc);
     for k in 0..spans {

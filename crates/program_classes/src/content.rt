@@ -1,5 +1,5 @@
+use image_parts::PageRun;
 use loading_code::Beginning;
-use page_runs::PageRun;
 use trampoline::Start;
 
 /// What the main class is made of.

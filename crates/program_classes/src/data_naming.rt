@@ -7,8 +7,9 @@ ghost use Rattle.program_classes.specs.DataNaming.{IsNamedClass};
 ghost use Rattle.program_classes.specs.Room.{can_name_class, is_own_name};
 
 use crate::building::{class_reference, method_reference, new_class};
+use crate::names::Names;
 use crate::page_data::PageData;
-use crate::{Names, NoMemory, building};
+use crate::{NoMemory, building};
 use class_builder::ClassBuilder;
 use data_strings::page_text;
 use loading_code::PageSlot;
@@ -63,7 +64,8 @@ fn page_slots(
 ) -> Result<Vec<PageSlot>, NoMemory>
     requires room { length class.old.pool + length pages.now ≤ 65534 }
     requires words { All (λ p. length p.words.now ≤ 1024) pages.now }
-    ensures there { IfOk result (λ slots. AllZip (IsPageSlot class.new.pool) slots.items (map page_of pages.now)) }
+    ensures there { IfOk result (λ slots.
+        AllZip (IsPageSlot class.new.pool) slots.items (map page_of pages.now)) }
     ensures grown { OnOk result (AddsMethods class.old class.new []) }
     ensures few { OnOk result (length class.new.pool ≤ length class.old.pool + length pages.now) }
 {

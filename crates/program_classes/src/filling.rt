@@ -9,7 +9,7 @@ use crate::NoMemory;
 use crate::building::put_method;
 use class_builder::ClassBuilder;
 use code_assembly::References;
-use constant_counts::laws::loading_takes_few_slots;
+use code_limits::slot_laws::loading_takes_few_slots;
 use loading_code::{PageSlot, append_fill, append_words};
 use std::alloc::Global;
 use whole_methods::named_code::loading_names_well;
@@ -59,7 +59,8 @@ pub fn add_fill(
     requires texts { All (λ s. has_text class.old.pool s.slot ≡ true) texts.now }
     requires few_methods { length class.old.methods < 65535 }
     requires room { length class.old.pool + (2 + 2 * length texts.now) ≤ 65534 }
-    ensures { OnOk result (AddsMethods class.old class.new (fill_plan texts.now number words references.now ∷ [])) }
+    ensures { OnOk result (AddsMethods class.old class.new
+        (fill_plan texts.now number words references.now ∷ [])) }
 {
     let mut code = Vec::new(alloc);
     append_fill(texts, number, words, &mut code)?;

@@ -23,7 +23,8 @@ pub fn host_slots(alloc: Global, class: &mut ClassBuilder) -> Result<HostSlots, 
     requires { length class.old.pool + 10 ≤ 65534 }
     ensures there { IfOk result (IsHost class.new.pool) }
     ensures grown { OnOk result (GrowsPool class.old class.new 10) }
-    ensures mentions { OnOk result (Mentions class.new.pool (mentioned class.old.pool ++ host_mentions)) }
+    ensures mentions { OnOk result (Mentions class.new.pool (mentioned class.old.pool
+        ++ host_mentions)) }
 {
     let host = class_reference(alloc, class, "nestedvm/Host")?;
     let call = method_reference(alloc, class, host, "call", "([[I[[IIIIII)I")?;

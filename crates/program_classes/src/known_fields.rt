@@ -1,16 +1,16 @@
 //! The fields of the main class.
 ghost use Rattle.std.specs.Prelude.{◌≡◌, ◌+◌, ◌<◌, ◌≤◌, true, [], ◌∷◌, length, OnOk, IfOk};
+ghost use Rattle.guest_layout.specs.Fields.{field_descriptor, field_name};
 ghost use Rattle.class_builder.specs.Built.{GrowsPool};
 ghost use Rattle.class_builder.specs.Lawful.{has_class};
 ghost use Rattle.class_builder.specs.Mentioned.{MentionsOf, field_mention};
 ghost use Rattle.class_builder.specs.Named.{IsFieldAt};
-ghost use Rattle.class_members.specs.Fields.{field_descriptor, field_name};
 ghost use Rattle.program_classes.specs.Mentioned.{field_mentions};
 ghost use Rattle.program_classes.specs.Named.{AreFields};
 
 use crate::{NoMemory, building};
 use class_builder::ClassBuilder;
-use class_members::{FIELDS, field_descriptor, field_name};
+use guest_layout::{FIELDS, field_descriptor, field_name};
 use std::alloc::Global;
 
 /// The slots of the fields of the main class, by their numbers; `main` is the slot of that class.
@@ -23,7 +23,8 @@ pub fn field_references(
     requires owner { has_class class.old.pool main ≡ true }
     ensures there { IfOk result (λ slots. AreFields class.new.pool main slots.items 38) }
     ensures grown { OnOk result (GrowsPool class.old class.new 152) }
-    ensures mentions { OnOk result (MentionsOf class.old.pool class.new.pool main (λ owner. field_mentions owner 38)) }
+    ensures mentions { OnOk result (MentionsOf class.old.pool class.new.pool main
+        (λ owner. field_mentions owner 38)) }
 {
     let mut slots = Vec::new(alloc);
     for field in 0..FIELDS {
@@ -42,7 +43,8 @@ fn field_reference(
     requires room { length class.old.pool + 4 ≤ 65534 }
     requires owner { has_class class.old.pool main ≡ true }
     requires within { field < 38 }
-    ensures there { IfOk result (λ slot. IsFieldAt class.new.pool slot main (field_name field) (field_descriptor field)) }
+    ensures there { IfOk result (λ slot.
+        IsFieldAt class.new.pool slot main (field_name field) (field_descriptor field)) }
     ensures grown { OnOk result (GrowsPool class.old class.new 4) }
     ensures mentions { OnOk result (MentionsOf class.old.pool class.new.pool main
         (λ owner. field_mention owner (field_name field) (field_descriptor field) ∷ [])) }

@@ -1,17 +1,17 @@
 //! The helper methods of the main class.
 ghost use Rattle.std.specs.Prelude.{◌≡◌, ◌+◌, ◌<◌, ◌≤◌, true, [], ◌∷◌, length, OnOk, IfOk};
+ghost use Rattle.guest_layout.specs.Helpers.{helper_descriptor, helper_name};
 ghost use Rattle.class_builder.specs.Built.{GrowsPool};
 ghost use Rattle.class_builder.specs.Lawful.{has_class};
 ghost use Rattle.class_builder.specs.Mentioned.{MentionsOf, method_mention};
 ghost use Rattle.class_builder.specs.Named.{IsMethodAt};
-ghost use Rattle.class_members.specs.Helpers.{helper_descriptor, helper_name};
 ghost use Rattle.program_classes.specs.Mentioned.{helper_mentions};
 ghost use Rattle.program_classes.specs.Named.{AreHelpers};
 
 use crate::NoMemory;
 use crate::building::method_reference;
 use class_builder::ClassBuilder;
-use class_members::{HELPERS, helper_descriptor, helper_name};
+use guest_layout::{HELPERS, helper_descriptor, helper_name};
 use std::alloc::Global;
 
 /// The slots of the helper methods of the main class, by their numbers; `main` is the slot of that class.
@@ -24,7 +24,8 @@ pub fn helper_references(
     requires owner { has_class class.old.pool main ≡ true }
     ensures there { IfOk result (λ slots. AreHelpers class.new.pool main slots.items 20) }
     ensures grown { OnOk result (GrowsPool class.old class.new 80) }
-    ensures mentions { OnOk result (MentionsOf class.old.pool class.new.pool main (λ owner. helper_mentions owner 20)) }
+    ensures mentions { OnOk result (MentionsOf class.old.pool class.new.pool main
+        (λ owner. helper_mentions owner 20)) }
 {
     let mut slots = Vec::new(alloc);
     for number in 0..HELPERS {
@@ -43,7 +44,8 @@ fn helper_reference(
     requires room { length class.old.pool + 4 ≤ 65534 }
     requires owner { has_class class.old.pool main ≡ true }
     requires within { number < 20 }
-    ensures there { IfOk result (λ slot. IsMethodAt class.new.pool slot main (helper_name number) (helper_descriptor number)) }
+    ensures there { IfOk result (λ slot.
+        IsMethodAt class.new.pool slot main (helper_name number) (helper_descriptor number)) }
     ensures grown { OnOk result (GrowsPool class.old class.new 4) }
     ensures mentions { OnOk result (MentionsOf class.old.pool class.new.pool main
         (λ owner. method_mention owner (helper_name number) (helper_descriptor number) ∷ [])) }

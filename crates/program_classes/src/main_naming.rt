@@ -1,16 +1,17 @@
 //! What the main class names.
 ghost use Rattle.std.specs.Prelude.{◌≡◌, ◌≤◌, ◌++◌, IfOk, length};
-ghost use Rattle.command_words.specs.Limits.{IsClassName};
-ghost use Rattle.class_members.specs.Numbers.{main_methods};
+ghost use Rattle.command_values.specs.Names.{IsClassName};
+ghost use Rattle.guest_layout.specs.Numbers.{main_methods};
 ghost use Rattle.program_classes.specs.Content.{IsMain, behind};
 ghost use Rattle.program_classes.specs.MainNaming.{IsNamedClass};
 
+use crate::NoMemory;
 use crate::building::new_class;
 use crate::content::MainClass;
 use crate::main_fields::add_fields;
+use crate::names::Names;
 use crate::references::method_references;
 use crate::texts::text_slots;
-use crate::{Names, NoMemory};
 use class_builder::ClassBuilder;
 use std::alloc::Global;
 
@@ -30,7 +31,8 @@ pub fn named_class(alloc: Global, name: &str, main: &MainClass) -> Result<NamedC
     requires name { IsClassName name.now }
     requires main { IsMain main.now }
     ensures names { IfOk result (IsNamedClass name.now main.now) }
-    ensures count { IfOk result (λ n. length n.methods.items ≡ behind main_methods (main.now.code.now ++ main.now.data.now)) }
+    ensures count { IfOk result (λ n. length n.methods.items
+        ≡ behind main_methods (main.now.code.now ++ main.now.data.now)) }
     ensures few { IfOk result (λ n. length n.class.pool ≤ 30000) }
 {
     let mut class = new_class(alloc, name)?;

@@ -1,7 +1,7 @@
 //! The methods of the main class.
 ghost use Rattle.std.specs.Prelude.{◌≡◌, ◌+◌, ◌<◌, ◌≤◌, ◌++◌, true, ◌∷◌, [], All, OnOk, length};
+ghost use Rattle.guest_layout.specs.Numbers.{main_methods};
 ghost use Rattle.class_builder.specs.Lawful.{has_text};
-ghost use Rattle.class_members.specs.Numbers.{main_methods};
 ghost use Rattle.whole_methods.specs.Whole.{HasHelpers};
 ghost use Rattle.program_classes.specs.Making.{AddsMethods};
 ghost use Rattle.program_classes.specs.Content.{IsMain, behind};
@@ -11,11 +11,11 @@ use crate::NoMemory;
 use crate::building::put_method;
 use crate::content::MainClass;
 use class_builder::ClassBuilder;
-use class_members::{CHOOSE, HELPERS, MISSING, PAGES, helper_descriptor, helper_name};
 use code_assembly::References;
-use constant_counts::laws::{
+use code_limits::slot_laws::{
     choosers_take_few_slots, helpers_take_few_slots, loading_takes_few_slots,
 };
+use guest_layout::{CHOOSE, HELPERS, MISSING, PAGES, helper_descriptor, helper_name};
 use loading_code::{append_pages, append_run};
 use mem_helpers::append_helper;
 use nv_words::Order;
@@ -57,7 +57,8 @@ fn add_helper(
     requires references { HasHelpers references.now }
     requires few { length class.old.methods < 65535 }
     requires room { length class.old.pool + 6 ≤ 65534 }
-    ensures method { OnOk result (AddsMethods class.old class.new (helper_plan order references.now number ∷ [])) }
+    ensures method { OnOk result (AddsMethods class.old class.new
+        (helper_plan order references.now number ∷ [])) }
     ensures few { OnOk result (length class.new.pool ≤ length class.old.pool + 6) }
 {
     let mut code = Vec::new(alloc);
@@ -87,12 +88,15 @@ pub fn add_others(
 ) -> Result<(), NoMemory>
     requires main { IsMain main.now }
     requires references { HasHelpers references.now }
-    requires count { length references.now.methods ≡ behind main_methods (main.now.code.now ++ main.now.data.now) }
+    requires count { length references.now.methods
+        ≡ behind main_methods (main.now.code.now ++ main.now.data.now) }
     requires texts { All (λ slot. has_text class.old.pool slot ≡ true) texts.now }
     requires few_texts { length texts.now ≤ 2048 }
     requires few { length class.old.methods ≤ 65000 }
-    requires room { length class.old.pool + (40 + length texts.now + length main.now.starts.now) ≤ 65534 }
-    ensures { OnOk result (AddsMethods class.old class.new (other_plans main.now texts.now references.now)) }
+    requires room { length class.old.pool + (40 + length texts.now + length main.now.starts.now)
+        ≤ 65534 }
+    ensures { OnOk result (AddsMethods class.old class.new
+        (other_plans main.now texts.now references.now)) }
 {
     add_run(alloc, class, main, texts, references)?;
     add_choose(alloc, class, main, references)?;
@@ -110,13 +114,16 @@ fn add_run(
 ) -> Result<(), NoMemory>
     requires main { IsMain main.now }
     requires references { HasHelpers references.now }
-    requires count { length references.now.methods ≡ behind main_methods (main.now.code.now ++ main.now.data.now) }
+    requires count { length references.now.methods
+        ≡ behind main_methods (main.now.code.now ++ main.now.data.now) }
     requires texts { All (λ slot. has_text class.old.pool slot ≡ true) texts.now }
     requires few_texts { length texts.now ≤ 2048 }
     requires few { length class.old.methods < 65535 }
     requires room { length class.old.pool + (18 + length texts.now) ≤ 65534 }
-    ensures few { OnOk result (length class.new.pool ≤ length class.old.pool + (18 + length texts.now)) }
-    ensures method { OnOk result (AddsMethods class.old class.new (run_plan main.now texts.now references.now ∷ [])) }
+    ensures few { OnOk result (length class.new.pool
+        ≤ length class.old.pool + (18 + length texts.now)) }
+    ensures method { OnOk result (AddsMethods class.old class.new
+        (run_plan main.now texts.now references.now ∷ [])) }
 {
     let mut code = Vec::new(alloc);
     append_run(
@@ -142,11 +149,14 @@ fn add_choose(
 ) -> Result<(), NoMemory>
     requires main { IsMain main.now }
     requires references { HasHelpers references.now }
-    requires count { length references.now.methods ≡ behind main_methods (main.now.code.now ++ main.now.data.now) }
+    requires count { length references.now.methods
+        ≡ behind main_methods (main.now.code.now ++ main.now.data.now) }
     requires few { length class.old.methods < 65535 }
     requires room { length class.old.pool + (6 + length main.now.starts.now) ≤ 65534 }
-    ensures few { OnOk result (length class.new.pool ≤ length class.old.pool + (6 + length main.now.starts.now)) }
-    ensures method { OnOk result (AddsMethods class.old class.new (choose_plan main.now references.now ∷ [])) }
+    ensures few { OnOk result (length class.new.pool
+        ≤ length class.old.pool + (6 + length main.now.starts.now)) }
+    ensures method { OnOk result (AddsMethods class.old class.new
+        (choose_plan main.now references.now ∷ [])) }
 {
     let mut code = Vec::new(alloc);
     append_main_chooser(main.starts, MISSING, &mut code)?;

@@ -34,7 +34,8 @@ impl Names {
         requires main { can_name_class main.now ≡ true }
         ensures there { IfOk result (AreNames class.new.pool main.now) }
         ensures grown { OnOk result (GrowsPool class.old class.new 176) }
-        ensures mentions { OnOk result (Mentions class.new.pool (mentioned class.old.pool ++ names_mentions main.now)) }
+        ensures mentions { OnOk result (Mentions class.new.pool (mentioned class.old.pool
+            ++ names_mentions main.now)) }
     {
         let main = class_reference(alloc, class, main)?;
         let fields = field_references(alloc, class, main)?;

@@ -3,7 +3,7 @@ ghost use Rattle.std.specs.Prelude.{◌≡◌, IfOk, string_bytes};
 ghost use Rattle.program_classes.specs.Called as called;
 
 use crate::NoMemory;
-use class_members::{code_class_name, data_class_name};
+use guest_layout::{code_class_name, data_class_name};
 use std::alloc::Global;
 
 /// Whether a class has code or data.

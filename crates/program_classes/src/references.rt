@@ -1,7 +1,7 @@
 //! The methods that the main class calls.
 ghost use Rattle.std.specs.Prelude.{◌≡◌, ℕ, ◌+◌, ◌*◌, ◌≤◌, ◌<◌, true, ◌++◌, List, IfOk, OnOk, length};
-ghost use Rattle.command_words.specs.Limits.{IsClassName};
-ghost use Rattle.class_members.specs.Numbers.{main_methods};
+ghost use Rattle.command_values.specs.Names.{IsClassName};
+ghost use Rattle.guest_layout.specs.Numbers.{main_methods};
 ghost use Rattle.class_builder.specs.Lawful.{has_class};
 ghost use Rattle.class_builder.specs.Named.{IsClassAt};
 ghost use Rattle.program_classes.specs.Making.{NamesMore};
@@ -9,10 +9,11 @@ ghost use Rattle.program_classes.specs.Content.{IsMain, RiseFrom, behind};
 ghost use Rattle.program_classes.specs.Called.{AreMainMethods, AreOthers, AreOwnMethods, BeginsWith, IsOther};
 ghost use Rattle.program_classes.specs.MainMentioned.{called_mentions, other_mention, other_mentions, own_mentions};
 
+use crate::NoMemory;
 use crate::building::{class_reference, method_reference};
 use crate::content::MainClass;
+use crate::known_helpers::helper_references;
 use crate::other_class::OtherClass;
-use crate::{NoMemory, helper_references};
 use class_builder::ClassBuilder;
 use std::alloc::Global;
 
@@ -27,11 +28,17 @@ pub fn method_references(
     requires main { IsMain main.now }
     requires name { IsClassName name.now }
     requires owner { has_class class.old.pool own ≡ true }
-    requires room { length class.old.pool + (92 + 6 * length main.now.code.now + 6 * length main.now.data.now) ≤ 65534 }
-    ensures there { IfOk result (λ slots. AreMainMethods class.new.pool name.now own main.now slots.items) }
-    ensures count { IfOk result (λ slots. length slots.items ≡ behind main_methods (main.now.code.now ++ main.now.data.now)) }
-    ensures grown { OnOk result (IsClassAt class.old.pool own name.now → NamesMore class.old class.new (called_mentions name.now main.now)) }
-    ensures few { OnOk result (length class.new.pool ≤ length class.old.pool + (92 + 6 * length main.now.code.now + 6 * length main.now.data.now)) }
+    requires room { length class.old.pool
+        + (92 + 6 * length main.now.code.now + 6 * length main.now.data.now) ≤ 65534 }
+    ensures there { IfOk result (λ slots.
+        AreMainMethods class.new.pool name.now own main.now slots.items) }
+    ensures count { IfOk result (λ slots. length slots.items
+        ≡ behind main_methods (main.now.code.now ++ main.now.data.now)) }
+    ensures grown { OnOk result (IsClassAt class.old.pool own name.now
+        → NamesMore class.old class.new (called_mentions name.now main.now)) }
+    ensures few { OnOk result (length class.new.pool
+        ≤ length class.old.pool
+        + (92 + 6 * length main.now.code.now + 6 * length main.now.data.now)) }
 {
     let mut slots = own_references(alloc, class, own)?;
     add_references(alloc, class, name, OtherClass::Code, main.code, &mut slots)?;
@@ -45,7 +52,8 @@ fn own_references(alloc: Global, class: &mut ClassBuilder, own: u16) -> Result<V
     requires room { length class.old.pool + 92 ≤ 65534 }
     ensures there { IfOk result (λ slots. AreOwnMethods class.new.pool own slots.items) }
     ensures count { IfOk result (λ slots. length slots.items ≡ 24) }
-    ensures grown { OnOk result ((name : List ℕ) → IsClassAt class.old.pool own name → NamesMore class.old class.new (own_mentions name)) }
+    ensures grown { OnOk result ((name : List ℕ) → IsClassAt class.old.pool own name
+        → NamesMore class.old class.new (own_mentions name)) }
     ensures few { OnOk result (length class.new.pool ≤ length class.old.pool + 92) }
 {
     let mut slots = helper_references(alloc, class, own)?;
@@ -72,11 +80,15 @@ fn add_references(
     requires few { length numbers.now ≤ 2048 }
     requires room { length class.old.pool + 6 * length numbers.now ≤ 65534 }
     requires rise { RiseFrom (length slots.old.items) numbers.now }
-    ensures there { OnOk result (AreOthers class.new.pool name.now kind numbers.now slots.new.items (length numbers.now)) }
+    ensures there { OnOk result (AreOthers class.new.pool name.now kind numbers.now slots.new.items
+        (length numbers.now)) }
     ensures kept { OnOk result (BeginsWith slots.old.items slots.new.items) }
-    ensures count { OnOk result (length slots.new.items ≡ behind (length slots.old.items) numbers.now) }
-    ensures grown { OnOk result (NamesMore class.old class.new (other_mentions name.now kind (length numbers.now))) }
-    ensures few { OnOk result (length class.new.pool ≤ length class.old.pool + 6 * length numbers.now) }
+    ensures count { OnOk result (length slots.new.items
+        ≡ behind (length slots.old.items) numbers.now) }
+    ensures grown { OnOk result (NamesMore class.old class.new
+        (other_mentions name.now kind (length numbers.now))) }
+    ensures few { OnOk result (length class.new.pool
+        ≤ length class.old.pool + 6 * length numbers.now) }
 {
     for i in 0..numbers.len() as u32 {
         add_reference(alloc, class, name, kind, i, numbers[i as usize], slots)?;

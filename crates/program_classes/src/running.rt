@@ -9,7 +9,7 @@ use crate::building::put_method;
 use crate::part::Part;
 use class_builder::ClassBuilder;
 use code_assembly::References;
-use constant_counts::laws::choosers_take_few_slots;
+use code_limits::slot_laws::choosers_take_few_slots;
 use method_splitter::Span;
 use std::alloc::Global;
 use trampoline::{Start, append_class_chooser};
@@ -33,7 +33,8 @@ pub fn add_run(
     requires count { length references.now.methods ≡ length spans.now }
     requires few_methods { length class.old.methods < 65535 }
     requires room { length class.old.pool + (6 + length spans.now) ≤ 65534 }
-    ensures { OnOk result (AddsMethods class.old class.new (run_plan part.now spans.now references.now.first_method references.now ∷ [])) }
+    ensures { OnOk result (AddsMethods class.old class.new
+        (run_plan part.now spans.now references.now.first_method references.now ∷ [])) }
 {
     let starts = starts_of(alloc, part, spans, references.first_method)?;
     let mut code = Vec::new(alloc);
@@ -61,7 +62,8 @@ fn starts_of(
     requires spans { All (IsSpan part.now.words) spans.now }
     requires few { length spans.now ≤ 2048 }
     requires methods { first_method + length spans.now < 2 ^ 32 }
-    ensures value { IfOk result (λ starts. starts.items ≡ starts_of part.now spans.now first_method (length spans.now)) }
+    ensures value { IfOk result (λ starts. starts.items
+        ≡ starts_of part.now spans.now first_method (length spans.now)) }
     ensures count { IfOk result (λ starts. length starts.items ≡ length spans.now) }
 {
     let mut starts = Vec::new(alloc);

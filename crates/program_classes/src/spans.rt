@@ -1,10 +1,10 @@
 //! The methods of spans.
 ghost use Rattle.std.specs.Prelude.{◌≡◌, ◌+◌, ◌*◌, ◌≤◌, ◌<◌, ◌∷◌, ◌++◌, [], All, IfOk, OnOk, length, sum_by, zip};
 ghost use Rattle.code_steps.specs.Widths.{size};
-ghost use Rattle.whole_methods.specs.Whole.{HasHelpers};
 ghost use Rattle.span_code.specs.Locals.{locals_of};
 ghost use Rattle.span_code.specs.Pieces.{flagged, pieces_of, span_of};
 ghost use Rattle.span_code.specs.Laying.{stretches_of};
+ghost use Rattle.whole_methods.specs.Whole.{HasHelpers};
 ghost use Rattle.program_classes.specs.Parts.{IsCode, IsPart, IsSpan};
 ghost use Rattle.program_classes.specs.Making.{AddsMethods};
 ghost use Rattle.program_classes.specs.Code.{code_of_span, span_at, span_plan, span_plans};
@@ -16,11 +16,11 @@ use crate::part::Part;
 use crate::piece::Piece;
 use block_builder::Block;
 use class_builder::ClassBuilder;
-use class_members::span_name;
 use code_assembly::References;
-use constant_counts::laws::spans_take_few_slots;
+use code_limits::slot_laws::spans_take_few_slots;
 use delay_slots::Unit;
-use guest_follows::lawful_units::units_are_lawful;
+use guest_layout::span_name;
+use lawful_units::laws::units_are_lawful;
 use method_splitter::Span;
 use span_code::{SpanError, SpanMethod, Stretch, span_method};
 use std::alloc::{AllocError, Global};
@@ -42,10 +42,14 @@ pub fn add_spans(
     requires sizes { All (λ s. size (code_of_span part.now s) ≤ 65535) spans.now }
     requires references { HasHelpers references.now }
     requires none { class.old.methods ≡ [] }
-    requires room { length class.old.pool + (4 * length spans.now + 9 * sum_by (λ s. s.words) spans.now) ≤ 65534 }
-    ensures methods { OnOk result (AddsMethods class.old class.new (span_plans part.now spans.now references.now (length spans.now))) }
-    ensures few { OnOk result (length class.new.pool ≤ length class.old.pool + (4 * length spans.now + 9 * sum_by (λ s. s.words) spans.now)) }
-    ensures pieces { IfOk result (λ pieces. pieces.items ≡ first_pieces part.now spans.now (length spans.now)) }
+    requires room { length class.old.pool
+        + (4 * length spans.now + 9 * sum_by (λ s. s.words) spans.now) ≤ 65534 }
+    ensures methods { OnOk result (AddsMethods class.old class.new
+        (span_plans part.now spans.now references.now (length spans.now))) }
+    ensures few { OnOk result (length class.new.pool
+        ≤ length class.old.pool + (4 * length spans.now + 9 * sum_by (λ s. s.words) spans.now)) }
+    ensures pieces { IfOk result (λ pieces. pieces.items
+        ≡ first_pieces part.now spans.now (length spans.now)) }
 {
     let mut pieces = Vec::new(alloc);
     for k in 0..spans.len() as u32 {
@@ -73,11 +77,16 @@ fn add_span(
     requires references { HasHelpers references.now }
     requires few { length class.old.methods < 65535 }
     requires room { length class.old.pool + (4 + 9 * (span_at spans.now k).words) ≤ 65534 }
-    ensures method { OnOk result (AddsMethods class.old class.new (span_plan part.now spans.now references.now k ∷ [])) }
-    ensures few { OnOk result (length class.new.pool ≤ length class.old.pool + (4 + 9 * (span_at spans.now k).words)) }
-    ensures pieces { IfOk result (λ m. m.pieces.items ≡ pieces_of part.now.units.now (flagged part.now.leads.now) (span_words part.now spans.now k)) }
-    ensures stretches { IfOk result (λ m.
-        m.stretches.items ≡ stretches_of part.now.units.now (flagged part.now.leads.now) (span_words part.now spans.now k)) }
+    ensures method { OnOk result (AddsMethods class.old class.new
+        (span_plan part.now spans.now references.now k ∷ [])) }
+    ensures few { OnOk result (length class.new.pool
+        ≤ length class.old.pool + (4 + 9 * (span_at spans.now k).words)) }
+    ensures pieces { IfOk result (λ m. m.pieces.items
+        ≡ pieces_of part.now.units.now (flagged part.now.leads.now)
+        (span_words part.now spans.now k)) }
+    ensures stretches { IfOk result (λ m. m.stretches.items
+        ≡ stretches_of part.now.units.now (flagged part.now.leads.now)
+        (span_words part.now spans.now k)) }
 {
     let span = &spans[k as usize];
     let method = method_of(alloc, part, span)?;
@@ -104,9 +113,11 @@ fn method_of(alloc: Global, part: &Part, span: &Span) -> Result<SpanMethod, NoMe
     requires size { size (code_of_span part.now span.now) ≤ 65535 }
     ensures code { IfOk result (λ m. m.code.items ≡ code_of_span part.now span.now) }
     ensures locals { IfOk result (λ m. m.locals ≡ locals_of (code_of_span part.now span.now)) }
-    ensures pieces { IfOk result (λ m. m.pieces.items ≡ pieces_of part.now.units.now (flagged part.now.leads.now)
+    ensures pieces { IfOk result (λ m. m.pieces.items
+        ≡ pieces_of part.now.units.now (flagged part.now.leads.now)
         (span_of part.now.start (part.now.first + span.now.first) span.now.words)) }
-    ensures stretches { IfOk result (λ m. m.stretches.items ≡ stretches_of part.now.units.now (flagged part.now.leads.now)
+    ensures stretches { IfOk result (λ m. m.stretches.items
+        ≡ stretches_of part.now.units.now (flagged part.now.leads.now)
         (span_of part.now.start (part.now.first + span.now.first) span.now.words)) }
 {
     let first = part.first + span.first;
@@ -126,7 +137,8 @@ fn append_pieces(
 ) -> Result<(), NoMemory>
     requires part { IsPart part.now }
     requires within { All (λ p. p.first < length part.now.units.now) method.now.pieces.items }
-    ensures { OnOk result (pieces.new.items ≡ pieces.old.items ++ told_pieces part.now k (zip method.now.pieces.items method.now.stretches.items)) }
+    ensures { OnOk result (pieces.new.items ≡ pieces.old.items
+        ++ told_pieces part.now k (zip method.now.pieces.items method.now.stretches.items)) }
 {
     for (piece, stretch) in method.pieces.iter().zip(method.stretches.iter()) {
         append_piece(part, k, piece, stretch, pieces)?;
@@ -143,7 +155,8 @@ fn append_piece(
 ) -> Result<(), NoMemory>
     requires part { IsPart part.now }
     requires within { piece.now.first < length part.now.units.now }
-    ensures { OnOk result (pieces.new.items ≡ pieces.old.items ++ told_pieces part.now k ((piece.now, stretch.now) ∷ [])) }
+    ensures { OnOk result (pieces.new.items ≡ pieces.old.items
+        ++ told_pieces part.now k ((piece.now, stretch.now) ∷ [])) }
 {
     if !is_slot(part, piece.first) {
         pieces.push(placed(part, k, piece, stretch))?;

@@ -23,7 +23,8 @@ pub fn string_slots(alloc: Global, class: &mut ClassBuilder) -> Result<StringSlo
     requires { length class.old.pool + 10 ≤ 65534 }
     ensures there { IfOk result (AreStrings class.new.pool) }
     ensures grown { OnOk result (GrowsPool class.old class.new 10) }
-    ensures mentions { OnOk result (Mentions class.new.pool (mentioned class.old.pool ++ string_mentions)) }
+    ensures mentions { OnOk result (Mentions class.new.pool (mentioned class.old.pool
+        ++ string_mentions)) }
 {
     let string = class_reference(alloc, class, "java/lang/String")?;
     let length = method_reference(alloc, class, string, "length", "()I")?;

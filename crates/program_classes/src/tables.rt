@@ -3,8 +3,8 @@ ghost use Rattle.std.specs.Prelude.{◌≡◌};
 ghost use Rattle.program_classes.specs.Tables.{references_of};
 
 use crate::names::Names;
-use class_format::Sequence;
 use code_assembly::References;
+use jvm_names::Sequence;
 
 impl Names {
     /// All of them, with the slots of methods whose numbers in the program follow each other from a first one on.

@@ -1,16 +1,16 @@
 //! The texts of pages.
 ghost use Rattle.std.specs.Prelude.{◌+◌, ◌<◌, ◌≤◌, [], All, IfOk, OnOk, length};
-ghost use Rattle.equal_shares.specs.Shares as equal;
 ghost use Rattle.std.specs.List.{AllZip};
+ghost use Rattle.image_parts.specs.Runs.{IsRun};
+ghost use Rattle.method_splitter.specs.Shares as equal;
 ghost use Rattle.class_builder.specs.Named.{IsTextAt};
 ghost use Rattle.program_classes.specs.Making.{AddsMethods};
-ghost use Rattle.page_runs.specs.Runs.{IsRun};
 ghost use Rattle.program_classes.specs.Content.{share_text, share_texts, text_runs};
 
 use crate::{NoMemory, building};
 use class_builder::ClassBuilder;
-use equal_shares::{share_at, share_count, shared};
-use page_runs::{PageRun, run_text};
+use image_parts::{PageRun, run_text};
+use method_splitter::{share_at, share_count, shared};
 use std::alloc::Global;
 
 /// How many runs of pages one text holds: in a class file each takes 8 bytes at most, and a text 65,535.
@@ -24,9 +24,11 @@ pub fn text_slots(
 ) -> Result<Vec<u16>, NoMemory>
     requires runs { All IsRun runs.now }
     requires room { length class.old.pool + equal.share_count text_runs (length runs.now) ≤ 65534 }
-    ensures there { IfOk result (λ slots. AllZip (IsTextAt class.new.pool) slots.items (share_texts runs.now)) }
+    ensures there { IfOk result (λ slots.
+        AllZip (IsTextAt class.new.pool) slots.items (share_texts runs.now)) }
     ensures grown { OnOk result (AddsMethods class.old class.new []) }
-    ensures few { OnOk result (length class.new.pool ≤ length class.old.pool + equal.share_count text_runs (length runs.now)) }
+    ensures few { OnOk result (length class.new.pool
+        ≤ length class.old.pool + equal.share_count text_runs (length runs.now)) }
 {
     let mut slots = Vec::new(alloc);
     for k in 0..share_count(runs.len(), TEXT_RUNS) {

@@ -1,9 +1,9 @@
 -- The classes of code of a program so far.
 use Rattle.std.specs.Prelude.{◌≡◌, ℕ, ◌+◌, ◌*◌, ◌≤◌, List, [], ◌∷◌, ◌++◌, map, length, Option}
 use Rattle.std.specs.List.{AllZip}
-use Rattle.command_words.specs.Word.{Text}
-use Rattle.class_members.specs.Numbers.{main_methods}
+use Rattle.command_values.specs.Names.{Text}
 use Rattle.elf_image.specs.Start.{Source}
+use Rattle.guest_layout.specs.Numbers.{main_methods}
 use Rattle.program_classes.specs.declared.part.Part.{Part}
 use Rattle.program_classes.specs.Blocks.{pieces_of_class}
 use Rattle.program_translation.specs.declared.named_file.NamedFile.{NamedFile}
@@ -15,14 +15,16 @@ use Rattle.program_translation.specs.Classes.{Placed, run_of, methods_behind, Ar
 use Rattle.program_translation.specs.Blocks.{blocks_of_class, blocks_of}
 
 -- the class of these words, with numbers that are given
-pub record IsClassOf (method_bytes number first_method : ℕ) (part : Part) (c : Placed) : Type 0 where
+pub record IsClassOf (method_bytes number first_method : ℕ) (part : Part) (c : Placed)
+    : Type 0 where
   pub number_is : c.number ≡ number
   pub first_is : c.first_method ≡ first_method
   pub part_is : c.part ≡ part
   pub spans_are : AreSpans c.part method_bytes c.spans
 
 -- its file, its spans with their pieces, and the number of its method `run`
-pub record IsFileOfCode (name : Text) (method_bytes number first_method : ℕ) (part : Part) (f : FileOfCode) : Type 0 where
+pub record IsFileOfCode (name : Text) (method_bytes number first_method : ℕ) (part : Part)
+    (f : FileOfCode) : Type 0 where
   pub class : Placed
   pub class_is : IsClassOf method_bytes number first_method part class
   pub file_is : IsCodeFile name class f.file
@@ -49,7 +51,8 @@ pub record AddsClass (name : Text) (method_bytes : ℕ) (part : Part) (old new :
   pub starts_are : new.starts.items ≡ old.starts.items ++ starts_of_class class
   pub runs_are : new.runs.items ≡ old.runs.items ++ run_of class ∷ []
   pub spans_are : new.spans.items ≡ old.spans.items ++ spans_of_class class
-  pub blocks_are : new.blocks.items ≡ old.blocks.items ++ blocks_of_class (length old.spans.items) class
+  pub blocks_are : new.blocks.items ≡ old.blocks.items
+      ++ blocks_of_class (length old.spans.items) class
   pub methods_are : new.methods ≡ run_of class + 1
 
 -- the classes so far have few spans each, and the program has few methods
@@ -58,7 +61,8 @@ pub record HasFew (code : Code) : Type 0 where
   pub methods : code.methods ≤ main_methods + 880 * length code.files.items
 
 -- the classes of the words at these places
-pub record HasPlaces (code : ℕ → Option ℕ) (name : Text) (method_bytes : ℕ) (places : List Place) (c : Code) : Type 0 where
+pub record HasPlaces (code : ℕ → Option ℕ) (name : Text) (method_bytes : ℕ) (places : List Place)
+    (c : Code) : Type 0 where
   pub classes : List Placed
   pub placed : ArePlaced code method_bytes places classes
   pub told : IsTold name classes c

@@ -7,7 +7,13 @@ use Rattle.program_translation.specs.Classes.{Placed}
 
 -- a piece of a class, behind so many spans of other classes
 abbrev pub block_of : ℕ → Piece → BlockInfo
-block_of before p = record { span = before + p.span; from = p.from; to = p.to; first = p.first; words = p.words }
+block_of before p = record {
+  span = before + p.span;
+  from = p.from;
+  to = p.to;
+  first = p.first;
+  words = p.words;
+}
 
 abbrev pub blocks_of_class : ℕ → Placed → List BlockInfo
 blocks_of_class before c = map (block_of before) (pieces_of_class c.part c.spans)
@@ -15,4 +21,5 @@ blocks_of_class before c = map (block_of before) (pieces_of_class c.part c.spans
 -- those of classes, each behind the spans of those before it
 abbrev pub blocks_of : ℕ → List Placed → List BlockInfo
 blocks_of before [] = []
-blocks_of before (c ∷ classes) = blocks_of_class before c ++ blocks_of (before + length c.spans) classes
+blocks_of before (c ∷ classes) = blocks_of_class before c
+    ++ blocks_of (before + length c.spans) classes

@@ -1,15 +1,15 @@
 -- The classes of code of a program, and their files.
 use Rattle.std.specs.Prelude.{◌≡◌, ℕ, ◌+◌, Bool, ◌==◌, if◌then◌else◌, List, [], ◌∷◌, map, flat_map, length, Option, ⊤}
 use Rattle.std.specs.List.{range_with_len, AllZip}
-use Rattle.command_words.specs.Word.{Text}
+use Rattle.command_values.specs.Names.{Text}
 use Rattle.elf_reader.specs.Area.{area}
 use Rattle.elf_reader.specs.Fault.{IsRunsOf}
 use Rattle.elf_reader.specs.declared.range.Range.{Range}
 use Rattle.elf_image.specs.Start.{Source, image_of}
+use Rattle.guest_layout.specs.ClassNames.{file_name, code_class_name}
+use Rattle.guest_layout.specs.Numbers.{main_methods, missing_number}
 use Rattle.method_splitter.specs.declared.span.Span.{Span}
 use Rattle.trampoline.specs.declared.start.Start.{Start}
-use Rattle.class_members.specs.ClassNames.{file_name, code_class_name}
-use Rattle.class_members.specs.Numbers.{main_methods, missing_number}
 use Rattle.program_classes.specs.declared.part.Part.{Part}
 use Rattle.program_classes.specs.Code.{IsCodeClass, address, span_at}
 use Rattle.program_translation.specs.declared.named_file.NamedFile.{NamedFile}
@@ -37,20 +37,24 @@ methods_behind first (c ∷ classes) = methods_behind (run_of c + 1) classes
 -- the classes follow each other by their numbers, and by those of their methods
 abbrev pub Follow : ℕ → ℕ → List Placed → Type 0
 Follow number first [] = ⊤
-Follow number first (c ∷ classes) = (c.number ≡ number) × (c.first_method ≡ first) × Follow (number + 1) (run_of c + 1) classes
+Follow number first (c ∷ classes) = (c.number ≡ number) × (c.first_method ≡ first)
+    × Follow (number + 1) (run_of c + 1) classes
 
 -- a class has the words at a place, in spans of at most so many bytes
-pub record IsPlaced (code : ℕ → Option ℕ) (method_bytes : ℕ) (place : Place) (c : Placed) : Type 0 where
+pub record IsPlaced (code : ℕ → Option ℕ) (method_bytes : ℕ) (place : Place) (c : Placed)
+    : Type 0 where
   pub part_is : IsPartAt code place c.part
   pub spans_are : AreSpans c.part method_bytes c.spans
 
 -- the classes of the words at places
-pub record ArePlaced (code : ℕ → Option ℕ) (method_bytes : ℕ) (places : List Place) (classes : List Placed) : Type 0 where
+pub record ArePlaced (code : ℕ → Option ℕ) (method_bytes : ℕ) (places : List Place)
+    (classes : List Placed) : Type 0 where
   pub follow : Follow 0 main_methods classes
   pub each : AllZip (IsPlaced code method_bytes) places classes
 
 -- All classes of code of a program: those of the maximal runs of its code.
-pub record AreCodeClasses (source : Source) (method_bytes : ℕ) (classes : List Placed) : Type 0 where
+pub record AreCodeClasses (source : Source) (method_bytes : ℕ) (classes : List Placed)
+    : Type 0 where
   pub ranges : List Range
   pub ranges_are : IsRunsOf (area source.file) ranges
   pub placed : ArePlaced (image_of source).code method_bytes (places_of ranges) classes
@@ -71,7 +75,8 @@ is_last part = part.first + part.words == length part.units.now
 abbrev pub starts_at : Part → ℕ → List Start
 starts_at part run =
     record { first = address part 0; method = run }
-    ∷ (if is_last part then record { first = address part part.words; method = missing_number } ∷ [] else [])
+    ∷ (if is_last part then record { first = address part part.words; method = missing_number } ∷ []
+    else [])
 
 abbrev pub starts_of_class : Placed → List Start
 starts_of_class c = starts_at c.part (run_of c)
@@ -84,7 +89,12 @@ starts_of classes = flat_map starts_of_class classes
 -- the spans of a class, from number 0 on
 abbrev pub span_info : ℕ → Part → List Span → ℕ → SpanInfo
 span_info number part spans k =
-    record { class = number; method = k; first = address part (span_at spans k).first; words = (span_at spans k).words }
+    record {
+      class = number;
+      method = k;
+      first = address part (span_at spans k).first;
+      words = (span_at spans k).words;
+    }
 
 abbrev pub span_infos : ℕ → Part → List Span → ℕ → List SpanInfo
 span_infos number part spans count = map (span_info number part spans) (range_with_len 0 count)

@@ -1,17 +1,16 @@
 -- The classes of data of a program, and their files.
 use Rattle.std.specs.Prelude.{◌≡◌, ℕ, ◌+◌, ◌*◌, List, [], ◌∷◌, ◌++◌, map, length}
 use Rattle.std.specs.List.{range_with_len, AllZip}
-use Rattle.command_words.specs.Word.{Text}
+use Rattle.command_values.specs.Names.{Text}
 use Rattle.elf_image.specs.Start.{Source}
 use Rattle.elf_image.specs.Pages.{pages_below}
-use Rattle.equal_shares.specs.Shares.{share_at, share_count, shared}
-use Rattle.class_members.specs.ClassNames.{file_name, data_class_name}
-use Rattle.program_classes.specs.Pages.{Page}
+use Rattle.image_parts.specs.Pages.{Page, filled_below}
+use Rattle.guest_layout.specs.ClassNames.{file_name, data_class_name}
+use Rattle.method_splitter.specs.Shares.{share_at, share_count, shared}
 use Rattle.program_classes.specs.Data.{IsDataClass}
 use Rattle.program_translation.specs.declared.named_file.NamedFile.{NamedFile}
 use Rattle.program_translation.specs.Files.{name_of}
 use Rattle.program_translation.specs.declared.data_files.Data.{Data}
-use Rattle.program_translation.specs.Pages.{filled_below}
 
 -- ---- which pages each class has
 
@@ -47,29 +46,35 @@ fills_of methods count = map (fill_of methods) (range_with_len 0 count)
 -- ---- their files
 
 -- the class of a number, whose number in the program is given, and that of its first method
-pub record IsFileOfPages (name : Text) (k class first : ℕ) (pages : List Page) (file : NamedFile) : Type 0 where
+pub record IsFileOfPages (name : Text) (k class first : ℕ) (pages : List Page) (file : NamedFile)
+    : Type 0 where
   pub named : name_of file ≡ file_name (data_class_name name k)
   pub class_is : IsDataClass name k class first pages file.bytes.items
 
 abbrev pub IsDataFile : Text → ℕ → ℕ → List Page → ℕ → NamedFile → Type 0
 IsDataFile name code_classes methods pages k file =
-    IsFileOfPages name k (class_number code_classes k) (first_method methods k) (pages_of_class pages k) file
+    IsFileOfPages name k (class_number code_classes k) (first_method methods k)
+    (pages_of_class pages k) file
 
 -- the files of the first classes of these pages
 abbrev pub AreDataFiles : Text → ℕ → ℕ → List Page → ℕ → List NamedFile → Type 0
-AreDataFiles name code_classes methods pages count files = AllZip (IsDataFile name code_classes methods pages) (range_with_len 0 count) files
+AreDataFiles name code_classes methods pages count files =
+    AllZip (IsDataFile name code_classes methods pages) (range_with_len 0 count) files
 
 -- ---- the classes so far
 
 -- the same with the class of a number, of these pages
-pub record AddsFile (name : Text) (code_classes methods k : ℕ) (pages : List Page) (old new : Data) : Type 0 where
+pub record AddsFile (name : Text) (code_classes methods k : ℕ) (pages : List Page) (old new : Data)
+    : Type 0 where
   pub file : NamedFile
-  pub file_is : IsFileOfPages name k (class_number code_classes k) (first_method methods k) pages file
+  pub file_is : IsFileOfPages name k (class_number code_classes k) (first_method methods k)
+      pages file
   pub files_are : new.files.items ≡ old.files.items ++ file ∷ []
   pub fills_are : new.fills.items ≡ old.fills.items ++ fill_of methods k ∷ []
 
 -- the files of the first classes, and the numbers of their methods `fill`
-pub record HasFiles (name : Text) (code_classes methods : ℕ) (pages : List Page) (count : ℕ) (d : Data) : Type 0 where
+pub record HasFiles (name : Text) (code_classes methods : ℕ) (pages : List Page) (count : ℕ)
+    (d : Data) : Type 0 where
   pub files_are : AreDataFiles name code_classes methods pages count d.files.items
   pub fills_are : d.fills.items ≡ fills_of methods count
 

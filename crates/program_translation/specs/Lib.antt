@@ -5,7 +5,6 @@ pub mod Classes
 pub mod Blocks
 pub mod Parts
 pub mod Adding
-pub mod Pages
 pub mod DataFiles
 pub mod Bounds
 pub mod MainFile

@@ -1,11 +1,11 @@
 -- The main class of a program, and its file.
 use Rattle.std.specs.Prelude.{◌≡◌, ℕ, List, flat_map, All}
-use Rattle.command_words.specs.Word.{Text}
+use Rattle.command_values.specs.Names.{Text}
 use Rattle.elf_image.specs.Start.{Source, image_of, readable, writable}
-use Rattle.loading_code.specs.declared.beginning.Beginning.{Beginning}
-use Rattle.page_runs.specs.Runs.{IsRun, pages_of, pages_below, run_pages}
+use Rattle.image_parts.specs.Runs.{IsRun, pages_of, pages_below, run_pages}
+use Rattle.guest_layout.specs.ClassNames.{file_name}
 use Rattle.trampoline.specs.declared.start.Start.{Start}
-use Rattle.class_members.specs.ClassNames.{file_name}
+use Rattle.loading_code.specs.declared.beginning.Beginning.{Beginning}
 use Rattle.program_classes.specs.declared.content.MainClass.{MainClass}
 use Rattle.program_classes.specs.Main.{IsMainClass}
 use Rattle.program_translation.specs.declared.named_file.NamedFile.{NamedFile}
@@ -22,15 +22,18 @@ beginning_of s = record {
 
 -- What the main class of a program is made of: with what the program begins, the pages that can be read, where its classes of code begin,
 -- and the numbers of the methods that are called of these and of the classes of data.
-pub record IsContent (source : Source) (starts : List Start) (runs fills : List ℕ) (main : MainClass) : Type 0 where
+pub record IsContent (source : Source) (starts : List Start) (runs fills : List ℕ)
+    (main : MainClass) : Type 0 where
   pub beginning_is : main.beginning ≡ beginning_of source
-  pub pages_are : flat_map run_pages main.runs.now ≡ pages_of (readable source) (writable source) pages_below
+  pub pages_are : flat_map run_pages main.runs.now
+      ≡ pages_of (readable source) (writable source) pages_below
   pub runs_are : All IsRun main.runs.now
   pub starts_are : main.starts.now ≡ starts
   pub code_is : main.code.now ≡ runs
   pub data_is : main.data.now ≡ fills
 
-pub record IsMainFile (source : Source) (name : Text) (starts : List Start) (runs fills : List ℕ) (file : NamedFile) : Type 0 where
+pub record IsMainFile (source : Source) (name : Text) (starts : List Start) (runs fills : List ℕ)
+    (file : NamedFile) : Type 0 where
   pub named : name_of file ≡ file_name name
   pub main : MainClass
   pub content : IsContent source starts runs fills main

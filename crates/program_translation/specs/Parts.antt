@@ -1,7 +1,7 @@
 -- A range of code, from which the words of a class are taken.
 use Rattle.std.specs.Prelude.{◌≡◌, ◌+◌, ◌*◌, ◌^◌, ◌<◌, ℕ, length}
-use Rattle.equal_shares.specs.Shares.{share_at}
-use Rattle.code_ranges.specs.declared.code.RangeCode.{RangeCode}
+use Rattle.image_parts.specs.declared.code.RangeCode.{RangeCode}
+use Rattle.method_splitter.specs.Shares.{share_at}
 use Rattle.program_classes.specs.declared.part.Part.{Part}
 use Rattle.program_translation.specs.Places.{class_words}
 

@@ -2,9 +2,9 @@
 use Rattle.std.specs.Prelude.{◌≡◌, ℕ, ◌+◌, ◌*◌, List, map, flat_map, Option}
 use Rattle.std.specs.List.{range_with_len}
 use Rattle.elf_reader.specs.declared.range.Range.{Range}
-use Rattle.equal_shares.specs.declared.share.Share.{Share}
-use Rattle.equal_shares.specs.Shares.{share_at, share_count}
-use Rattle.code_ranges.specs.Ranges.{IsRangeCode}
+use Rattle.image_parts.specs.Ranges.{IsRangeCode}
+use Rattle.method_splitter.specs.declared.share.Share.{Share}
+use Rattle.method_splitter.specs.Shares.{share_at, share_count}
 use Rattle.program_classes.specs.declared.part.Part.{Part}
 
 -- how many words of a range one class has at most

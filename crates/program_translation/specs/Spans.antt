@@ -2,9 +2,9 @@
 use Rattle.std.specs.Prelude.{ℕ, ◌+◌, List, map}
 use Rattle.std.specs.List.{range_with_len}
 use Rattle.block_builder.specs.Blocks.{unit_at}
-use Rattle.word_weights.specs.Weights.{weight}
 use Rattle.method_splitter.specs.Cuts.{Cuts, Fills}
 use Rattle.method_splitter.specs.declared.span.Span.{Span}
+use Rattle.code_limits.specs.Weights.{weight}
 use Rattle.program_classes.specs.declared.part.Part.{Part}
 
 abbrev pub weight_at : Part → ℕ → ℕ

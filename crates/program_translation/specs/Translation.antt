@@ -1,9 +1,9 @@
 -- What a translation of a program is.
 use Rattle.std.specs.Prelude.{◌≡◌, ℕ, ◌≤◌, List, ◌∷◌, ◌++◌, map, length}
 use Rattle.std.specs.List.{AllZip}
-use Rattle.command_words.specs.Word.{Text}
+use Rattle.command_values.specs.Names.{Text}
 use Rattle.elf_image.specs.Start.{Source, image_of}
-use Rattle.class_members.specs.Numbers.{main_methods}
+use Rattle.guest_layout.specs.Numbers.{main_methods}
 use Rattle.program_translation.specs.declared.named_file.NamedFile.{NamedFile}
 use Rattle.program_translation.specs.Classes.{Placed, AreCodeClasses, IsCodeFile, methods_behind, run_of, starts_of, spans_of}
 use Rattle.program_translation.specs.Blocks.{blocks_of}
@@ -22,7 +22,8 @@ fills_behind source code = fills_of (code_methods code) (class_count (filled_pag
 
 -- The files: the main class, then the classes of code, of which there is one at least, then those of data. The layout has the spans of the classes
 -- of code and their blocks, and its need is that of the mapped pages.
-pub record IsTranslation (source : Source) (name : Text) (method_bytes : ℕ) (built : Built) : Type 0 where
+pub record IsTranslation (source : Source) (name : Text) (method_bytes : ℕ) (built : Built)
+    : Type 0 where
   pub code : List Placed
   pub some : 1 ≤ length code
   pub code_is : AreCodeClasses source method_bytes code
@@ -30,9 +31,11 @@ pub record IsTranslation (source : Source) (name : Text) (method_bytes : ℕ) (b
   pub code_files : List NamedFile
   pub data_files : List NamedFile
   pub files_are : built.files.items ≡ main_file ∷ (code_files ++ data_files)
-  pub main_is : IsMainFile source name (starts_of code) (map run_of code) (fills_behind source code) main_file
+  pub main_is : IsMainFile source name (starts_of code) (map run_of code) (fills_behind source code)
+      main_file
   pub code_are : AllZip (IsCodeFile name) code code_files
-  pub data_are : AreDataFiles name (length code) (code_methods code) (filled_pages source) (class_count (filled_pages source)) data_files
+  pub data_are : AreDataFiles name (length code) (code_methods code) (filled_pages source)
+      (class_count (filled_pages source)) data_files
   pub spans_are : built.layout.spans.items ≡ spans_of code
   pub blocks_are : built.layout.blocks.items ≡ blocks_of 0 code
   pub need_is : built.layout.need ≡ need (image_of source).mapped

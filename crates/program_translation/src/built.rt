@@ -1,5 +1,5 @@
-use crate::NamedFile;
 use crate::layout::Layout;
+use crate::named_file::NamedFile;
 
 /// What a program is translated to.
 #[derive(Debug, Drop)]

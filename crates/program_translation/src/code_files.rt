@@ -1,25 +1,27 @@
 //! The classes of code.
 ghost use Rattle.std.specs.Prelude.{◌≡◌, ◌+◌, ◌≤◌, ◌<◌, ◌^◌, ◌++◌, ◌∷◌, [], All, List, IfOk, OnOk, length, map};
-ghost use Rattle.command_words.specs.Limits.{AreMethodBytes, IsClassName};
+ghost use Rattle.command_values.specs.MethodBytes.{AreMethodBytes};
+ghost use Rattle.command_values.specs.Names.{IsClassName};
 ghost use Rattle.elf_image.specs.Start.{image_of};
 ghost use Rattle.elf_image.specs.Whole.{IsWholeRange};
-ghost use Rattle.equal_shares.specs.Shares.{share_count};
+ghost use Rattle.method_splitter.specs.Shares.{share_count};
 ghost use Rattle.program_classes.specs.Parts.{IsCode, IsPart};
 ghost use Rattle.program_translation.specs.Places.{Place, class_words, places_in};
 ghost use Rattle.program_translation.specs.Classes.{starts_at};
 ghost use Rattle.program_translation.specs.Blocks.{block_of};
 ghost use Rattle.program_translation.specs.Adding.{AddsClass, HasFew, HasPlaces, IsCodeOf};
 
+use crate::NoMemory;
 use crate::block_info::BlockInfo;
 use crate::code_layout::{add_blocks, add_starts};
 use crate::coding::{FileOfCode, code_file};
+use crate::named_file::NamedFile;
 use crate::parts::{part_at, part_count};
 use crate::span_info::SpanInfo;
-use crate::{NamedFile, NoMemory};
-use class_members::METHODS;
-use code_ranges::range_code;
 use elf_image::Image;
 use elf_reader::Range;
+use guest_layout::METHODS;
+use image_parts::range_code;
 use program_classes::Part;
 use std::alloc::Global;
 use trampoline::Start;
@@ -86,8 +88,10 @@ fn add_range(
     requires classes { length code.old.files.items + share_count class_words range.words ≤ 235 }
     requires few { HasFew code.old }
     ensures few { OnOk result (HasFew code.new) }
-    ensures places { OnOk result ((places : List Place) → HasPlaces (image_of image.now).code name.now method_bytes places code.old
-        → HasPlaces (image_of image.now).code name.now method_bytes (places ++ places_in range) code.new) }
+    ensures places { OnOk result ((places : List Place)
+        → HasPlaces (image_of image.now).code name.now method_bytes places code.old
+        → HasPlaces (image_of image.now).code name.now method_bytes (places
+        ++ places_in range) code.new) }
 {
     let words = range_code(alloc, image, range)?;
     for k in 0..part_count(range.words) {
@@ -135,10 +139,12 @@ fn add_file(code: &mut Code, part: &Part, file: FileOfCode) -> Result<(), NoMemo
     requires before { length code.old.spans.items < 2 ^ 31 }
     requires pieces { All (λ p. p.span < 2048) file.pieces.items }
     ensures files { OnOk result (code.new.files.items ≡ code.old.files.items ++ file.file ∷ []) }
-    ensures starts { OnOk result (code.new.starts.items ≡ code.old.starts.items ++ starts_at part.now file.run) }
+    ensures starts { OnOk result (code.new.starts.items ≡ code.old.starts.items
+        ++ starts_at part.now file.run) }
     ensures runs { OnOk result (code.new.runs.items ≡ code.old.runs.items ++ file.run ∷ []) }
     ensures spans { OnOk result (code.new.spans.items ≡ code.old.spans.items ++ file.spans.items) }
-    ensures blocks { OnOk result (code.new.blocks.items ≡ code.old.blocks.items ++ map (block_of (length code.old.spans.items)) file.pieces.items) }
+    ensures blocks { OnOk result (code.new.blocks.items ≡ code.old.blocks.items
+        ++ map (block_of (length code.old.spans.items)) file.pieces.items) }
     ensures methods { OnOk result (code.new.methods ≡ file.run + 1) }
 {
     let before = code.spans.len() as u32;

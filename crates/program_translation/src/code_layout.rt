@@ -6,7 +6,7 @@ ghost use Rattle.program_translation.specs.Classes.{starts_at};
 
 use crate::NoMemory;
 use crate::block_info::BlockInfo;
-use class_members::MISSING;
+use guest_layout::MISSING;
 use program_classes::{Part, Piece};
 use trampoline::Start;
 
@@ -18,7 +18,8 @@ pub fn add_blocks(
 ) -> Result<(), NoMemory>
     requires low { before < 2 ^ 31 }
     requires spans { All (λ p. p.span < 2048) pieces.now }
-    ensures { OnOk result (blocks.new.items ≡ blocks.old.items ++ map (block_of before) pieces.now) }
+    ensures { OnOk result (blocks.new.items ≡ blocks.old.items
+        ++ map (block_of before) pieces.now) }
 {
     for piece in pieces {
         blocks.push(BlockInfo {

@@ -1,14 +1,16 @@
 //! One class of code as a file.
 ghost use Rattle.std.specs.Prelude.{◌≡◌, ◌+◌, ◌≤◌, ◌<◌, ◌^◌, All, IfOk, length};
-ghost use Rattle.command_words.specs.Limits.{AreMethodBytes, IsClassName};
+ghost use Rattle.command_values.specs.MethodBytes.{AreMethodBytes};
+ghost use Rattle.command_values.specs.Names.{IsClassName};
 ghost use Rattle.program_classes.specs.Parts.{IsCode, IsPart, IsSpan};
 ghost use Rattle.program_translation.specs.Adding.{IsFileOfCode};
 ghost use Rattle.program_translation.specs.Classes.{span_info, span_infos};
 
+use crate::NoMemory;
+use crate::named_file::NamedFile;
 use crate::span_info::SpanInfo;
 use crate::spans::spans_of;
-use crate::{NamedFile, NoMemory};
-use class_members::{code_class_name, file_name};
+use guest_layout::{code_class_name, file_name};
 use method_splitter::Span;
 use program_classes::{Part, Piece, code_class};
 use std::alloc::Global;
@@ -73,7 +75,8 @@ fn span_infos(
     requires part { IsPart part.now }
     requires spans { All (IsSpan part.now.words) spans.now }
     requires few { length spans.now ≤ 2048 }
-    ensures { IfOk result (λ infos. infos.items ≡ span_infos class part.now spans.now (length spans.now)) }
+    ensures { IfOk result (λ infos. infos.items
+        ≡ span_infos class part.now spans.now (length spans.now)) }
 {
     let mut infos = Vec::new(alloc);
     for k in 0..spans.len() as u32 {

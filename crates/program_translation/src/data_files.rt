@@ -1,14 +1,15 @@
 //! The classes of data.
 ghost use Rattle.std.specs.Prelude.{◌≤◌, ◌<◌, ◌^◌, All, IfOk, OnOk, length, map};
-ghost use Rattle.command_words.specs.Limits.{IsClassName};
+ghost use Rattle.command_values.specs.Names.{IsClassName};
 ghost use Rattle.program_classes.specs.Pages.{page_of};
 ghost use Rattle.program_translation.specs.DataFiles.{AddsFile, IsDataOf};
 
+use crate::NoMemory;
+use crate::named_file::NamedFile;
 use crate::one_file::data_file;
 use crate::pages::filled_pages;
-use crate::{NamedFile, NoMemory};
 use elf_image::Image;
-use equal_shares::{share_at, share_count, shared};
+use method_splitter::{share_at, share_count, shared};
 use program_classes::PageData;
 use std::alloc::Global;
 
@@ -68,7 +69,8 @@ fn add_class(
     requires number { k < 2 ^ 15 }
     requires pages { length pages.now ≤ 1024 }
     requires words { All (λ p. length p.words.now ≤ 1024) pages.now }
-    ensures { OnOk result (AddsFile name.now code_classes methods k (map page_of pages.now) made.old made.new) }
+    ensures { OnOk result (AddsFile name.now code_classes methods k (map page_of pages.now)
+        made.old made.new) }
 {
     let class = (code_classes + 1 + k) as u16;
     let first = methods + 2 * k as u32;

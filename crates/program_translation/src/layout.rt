@@ -1,4 +1,5 @@
-use crate::{BlockInfo, SpanInfo};
+use crate::block_info::BlockInfo;
+use crate::span_info::SpanInfo;
 
 /// Where the words of a program stand in its classes, and how much memory a run of them takes.
 #[derive(Debug, Drop)]

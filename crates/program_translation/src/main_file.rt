@@ -1,15 +1,18 @@
 //! The main class as a file.
 ghost use Rattle.std.specs.Prelude.{◌≡◌, ◌<◌, ◌≤◌, ◌++◌, All, IfOk, length};
-ghost use Rattle.class_members.specs.Numbers.{main_methods};
-ghost use Rattle.command_words.specs.Limits.{IsClassName};
+ghost use Rattle.command_values.specs.Names.{IsClassName};
+ghost use Rattle.guest_layout.specs.Numbers.{main_methods};
 ghost use Rattle.program_classes.specs.Content.{RiseFrom, behind};
 ghost use Rattle.program_translation.specs.MainFile.{IsMainFile, beginning_of};
 
-use crate::{Code, Data, NamedFile, NoMemory};
-use class_members::file_name;
+use crate::NoMemory;
+use crate::code_files::Code;
+use crate::data_files::Data;
+use crate::named_file::NamedFile;
 use elf_image::Image;
+use guest_layout::file_name;
+use image_parts::page_runs;
 use loading_code::Beginning;
-use page_runs::page_runs;
 use program_classes::{MainClass, main_class};
 use std::alloc::Global;
 
@@ -27,9 +30,12 @@ pub fn main_file(
     requires few { length code.now.starts.items ≤ 1200 }
     requires few_code { length code.now.runs.items ≤ 2048 }
     requires few_data { length stored.now.fills.items ≤ 2048 }
-    requires known { All (λ start. start.method < behind main_methods code.now.runs.items) code.now.starts.items }
+    requires known { All (λ start. start.method < behind main_methods code.now.runs.items)
+        code.now.starts.items }
     requires rise { RiseFrom main_methods (code.now.runs.items ++ stored.now.fills.items) }
-    ensures { IfOk result (IsMainFile image.now name.now code.now.starts.items code.now.runs.items stored.now.fills.items) }
+    ensures { IfOk result
+        (IsMainFile image.now name.now code.now.starts.items code.now.runs.items
+        stored.now.fills.items) }
 {
     let runs = page_runs(alloc, image)?;
     let main = MainClass {

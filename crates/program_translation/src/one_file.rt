@@ -1,11 +1,12 @@
 //! One class of data as a file.
 ghost use Rattle.std.specs.Prelude.{◌≤◌, ◌<◌, ◌^◌, All, IfOk, length, map};
-ghost use Rattle.command_words.specs.Limits.{IsClassName};
+ghost use Rattle.command_values.specs.Names.{IsClassName};
 ghost use Rattle.program_classes.specs.Pages.{page_of};
 ghost use Rattle.program_translation.specs.DataFiles.{IsFileOfPages};
 
-use crate::{NamedFile, NoMemory};
-use class_members::{data_class_name, file_name};
+use crate::NoMemory;
+use crate::named_file::NamedFile;
+use guest_layout::{data_class_name, file_name};
 use program_classes::{PageData, data_class};
 use std::alloc::Global;
 

@@ -1,8 +1,8 @@
 //! The pages of an image that are not all zero.
 ghost use Rattle.std.specs.Prelude.{◌≡◌, ◌+◌, ◌≤◌, All, IfOk, OnOk, length, map};
 ghost use Rattle.elf_image.specs.Pages.{pages_below};
+ghost use Rattle.image_parts.specs.Pages.{filled_below};
 ghost use Rattle.program_classes.specs.Pages.{page_of};
-ghost use Rattle.program_translation.specs.Pages.{filled_below};
 
 use crate::NoMemory;
 use elf_image::Image;
@@ -14,7 +14,8 @@ const PAGES: u32 = 1 << 19;
 
 /// The pages of an image that are not all zero, in rising order.
 pub fn filled_pages<'a>(alloc: Global, image: &'a Image) -> Result<Vec<PageData<'a>>, NoMemory>
-    ensures pages { IfOk result (λ pages. map page_of pages.items ≡ filled_below image.now pages_below) }
+    ensures pages { IfOk result (λ pages. map page_of pages.items
+        ≡ filled_below image.now pages_below) }
     ensures words { IfOk result (λ pages. All (λ p. length p.words.now ≤ 1024) pages.items) }
 {
     let mut pages = Vec::new(alloc);

@@ -1,12 +1,12 @@
 //! Which words of a range each class of code has.
 ghost use Rattle.std.specs.Prelude.{◌≡◌, ◌<◌, ◌≤◌};
-ghost use Rattle.equal_shares.specs.Shares.{share_count};
+ghost use Rattle.method_splitter.specs.Shares.{share_count};
 ghost use Rattle.program_classes.specs.Parts.{IsPart};
 ghost use Rattle.program_translation.specs.Parts.{IsLow, IsPartOf};
 ghost use Rattle.program_translation.specs.Places.{class_words};
 
-use code_ranges::RangeCode;
-use equal_shares::{share_at, share_count};
+use image_parts::RangeCode;
+use method_splitter::{share_at, share_count};
 use program_classes::Part;
 
 /// How many words one class of code holds at most.

@@ -1,17 +1,17 @@
 //! The spans of a part of the code.
 ghost use Rattle.std.specs.Prelude.{◌≡◌, ◌≤◌, ◌<◌, All, IfOk, length, sum_by};
+ghost use Rattle.command_values.specs.MethodBytes.{AreMethodBytes};
 ghost use Rattle.code_steps.specs.Widths.{size};
-ghost use Rattle.command_words.specs.Limits.{AreMethodBytes};
 ghost use Rattle.program_classes.specs.Code.{code_of_span};
 ghost use Rattle.program_classes.specs.Parts.{IsPart, IsSpan};
 ghost use Rattle.program_translation.specs.Spans.{AreSpans, weight_at, weights_of};
 
 use crate::NoMemory;
+use code_limits::size_laws::divided_words_keep_to_the_limit;
+use code_limits::weight;
 use method_splitter::{Span, cut};
 use program_classes::Part;
-use span_sizes::laws::divided_words_keep_to_the_limit;
 use std::alloc::Global;
-use word_weights::weight;
 
 /// The spans of a part, of at most 6,144 words: as few as there can be with at most `method_bytes` bytes each, and each but the last would
 /// have more with the next word. There are at most 879, and the code of each has at most 65,535 bytes.
@@ -28,7 +28,8 @@ pub fn spans_of(alloc: Global, part: &Part, method_bytes: u32) -> Result<Vec<Spa
     ensures some { IfOk result (λ spans. 1 ≤ length spans.items) }
     ensures few { IfOk result (λ spans. length spans.items ≤ 879) }
     ensures words { IfOk result (λ spans. sum_by (λ s. s.words) spans.items ≤ 6144) }
-    ensures sizes { IfOk result (λ spans. All (λ s. size (code_of_span part.now s) ≤ 65535) spans.items) }
+    ensures sizes { IfOk result (λ spans.
+        All (λ s. size (code_of_span part.now s) ≤ 65535) spans.items) }
 {
     divided_words_keep_to_the_limit();
     let weights = weights_of(alloc, part)?;

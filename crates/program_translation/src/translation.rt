@@ -1,12 +1,16 @@
 ghost use Rattle.std.specs.Prelude.{◌≡◌, ◌∷◌, ◌++◌, IfOk};
-ghost use Rattle.command_words.specs.Limits.{AreMethodBytes, IsClassName};
+ghost use Rattle.command_values.specs.MethodBytes.{AreMethodBytes};
+ghost use Rattle.command_values.specs.Names.{IsClassName};
 ghost use Rattle.program_translation.specs.Translation.{IsTranslation};
 
+use crate::NoMemory;
 use crate::bounds::need;
 use crate::built::Built;
+use crate::code_files::code_of;
+use crate::data_files::data_of;
 use crate::layout::Layout;
 use crate::main_file::main_file;
-use crate::{NamedFile, NoMemory, code_of, data_of};
+use crate::named_file::NamedFile;
 use elf_image::Image;
 use std::alloc::Global;
 

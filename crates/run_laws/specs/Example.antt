@@ -7,7 +7,16 @@ use Rattle.run_laws.specs.Trail.{Step}
 use Rattle.run_laws.specs.Turns.{Pair}
 
 abbrev pub question : ℕ → Room → Question
-question number room = record { number = number; a0 = 0; a1 = 0; a2 = 4; a3 = 0; text = no_text; second = no_text; room = room }
+question number room = record {
+  number = number;
+  a0 = 0;
+  a1 = 0;
+  a2 = 4;
+  a3 = 0;
+  text = no_text;
+  second = no_text;
+  room = room;
+}
 
 abbrev pub is_empty : List ℕ → Bool
 is_empty [] = true

@@ -20,7 +20,8 @@ metered turn spent s = metered_by turn spent s.0 s.1
 
 -- A run that a meter bounds, beside the guest's run of so many turns: the same questions, the same end where the guest has one, and
 -- otherwise the meter's end at the guest's last state.
-pub record IsMetered {S T K : Type 0} (spent : S → End) (run : Run S K) (by_meter : Run T K) : Type 0 where
+pub record IsMetered {S T K : Type 0} (spent : S → End) (run : Run S K) (by_meter : Run T K)
+    : Type 0 where
   pub questions : by_meter.questions ≡ run.questions
   pub system : by_meter.system ≡ run.system
   pub goes : run.outcome ≡ Going → by_meter.outcome ≡ outcome_of (spent run.last)

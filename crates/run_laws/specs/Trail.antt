@@ -16,18 +16,21 @@ abbrev pub stood : {S : Type 0} → S → Step S
 stood s = record { from = s; to = None }
 
 -- a turn before the trail that follows it, by the turn, and by the answer that a question got
-abbrev pub trail_given : {S K : Type 0} → Option (Answer × K) → (Answer → S) → S → (S → K → List (Step S)) → List (Step S)
+abbrev pub trail_given : {S K : Type 0} → Option (Answer × K) → (Answer → S) → S
+    → (S → K → List (Step S)) → List (Step S)
 trail_given None next s more = stood s ∷ []
 trail_given (Some given) next s more = went s (next given.0) ∷ more (next given.0) given.1
 
-abbrev pub trail_by : {S K : Type 0} → (K → Question → Option (Answer × K)) → Turn S → S → K → (S → K → List (Step S)) → List (Step S)
+abbrev pub trail_by : {S K : Type 0} → (K → Question → Option (Answer × K)) → Turn S → S → K
+    → (S → K → List (Step S)) → List (Step S)
 trail_by reply (moves t) s k more = went s t ∷ more t k
 trail_by reply (ends e) s k more = stood s ∷ []
 trail_by reply (leaves q e) s k more = stood s ∷ []
 trail_by reply (asks q next) s k more = trail_given (reply k q) next s more
 
 -- the trail of the run of at most n turns from a state, over a kind of system state
-abbrev pub trail_of : {S K : Type 0} → (S → Turn S) → (K → Question → Option (Answer × K)) → ℕ → S → K → List (Step S)
+abbrev pub trail_of : {S K : Type 0} → (S → Turn S) → (K → Question → Option (Answer × K)) → ℕ → S
+    → K → List (Step S)
 trail_of turn reply zero s k = []
 trail_of turn reply (suc n) s k = trail_by reply (turn s) s k (trail_of turn reply n)
 

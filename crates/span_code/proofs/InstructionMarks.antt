@@ -1,10 +1,5 @@
 -- The code of each instruction goes to no offset.
 use Rattle.std.proofs.Common.{ℕ, ◌*◌, ◌^◌, ◌≤◌, ◌==◌, if◌then◌else◌, [], ◌∷◌, ◌++◌, arith}
-use Rattle.jvm_code.specs.declared.names.int_arithmetic.IntArithmetic.{IntArithmetic}
-use Rattle.jvm_code.specs.declared.names.int_arithmetic.IntArithmetic.TheVariants.{Iadd, Isub, Iand, Ior, Ixor}
-use Rattle.jvm_code.specs.declared.names.branch_name.BranchName.{BranchName}
-use Rattle.jvm_code.specs.declared.names.branch_name.BranchName.TheVariants.{Ifeq, Ifne, IfIcmplt}
-use Rattle.jvm_program.specs.declared.instruction.Instruction.TheVariants.{Nop, IntShift, Call}
 use Rattle.mips_decode.specs.Effect.{break_fault, reserved_fault}
 use Rattle.mips_decode.specs.Encoding.{word_of}
 use Rattle.mips_decode.specs.Targets.{extended_imm}
@@ -23,6 +18,11 @@ use Rattle.mips_decode.specs.declared.names.trap_immediate_name.TrapImmediateNam
 use Rattle.mips_decode.specs.declared.names.trap_immediate_name.TrapImmediateName.TheVariants.{Tgei, Tgeiu, Tlti, Tltiu, Teqi, Tnei}
 use Rattle.mips_decode.specs.declared.inst.Inst.{Inst}
 use Rattle.mips_decode.specs.declared.inst.Inst.TheVariants as inst
+use Rattle.jvm_names.specs.declared.int_arithmetic.IntArithmetic.{IntArithmetic}
+use Rattle.jvm_names.specs.declared.int_arithmetic.IntArithmetic.TheVariants.{Iadd, Isub, Iand, Ior, Ixor}
+use Rattle.jvm_names.specs.declared.branch_name.BranchName.{BranchName}
+use Rattle.jvm_names.specs.declared.branch_name.BranchName.TheVariants.{Ifeq, Ifne, IfIcmplt}
+use Rattle.jvm_program.specs.declared.instruction.Instruction.TheVariants.{Nop, IntShift, Call}
 use Rattle.code_steps.specs.declared.step.Step.TheVariants.{Does}
 use Rattle.guest_code.specs.Access.{get_register, get_turned, put_register, push_word, arithmetic, turned}
 use Rattle.guest_code.specs.Faulting.{fault_code, unless_code, compared, compared_with, passing, passing_immediate, trap_code, trap_with_code}

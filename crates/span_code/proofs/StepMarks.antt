@@ -1,11 +1,11 @@
 -- How many steps of code go to an offset of the method: `goto_w` and switches.
 use Rattle.std.proofs.Common.{◌≡◌, ℕ, ◌+◌, ◌≤◌, ◌==◌, Bool, true, false, if◌then◌else◌, List, [], ◌∷◌, ◌++◌, arith}
-use Rattle.jvm_code.specs.declared.names.stack_name.StackName.TheVariants.{Pop}
+use Rattle.jvm_names.specs.declared.stack_name.StackName.TheVariants.{Pop}
 use Rattle.jvm_program.specs.declared.local_kind.LocalKind.TheVariants as local_kinds
 use Rattle.jvm_program.specs.declared.instruction.Instruction.TheVariants as instructions
 use Rattle.code_steps.specs.declared.step.Step.{Step}
 use Rattle.code_steps.specs.declared.step.Step.TheVariants.{Does, Skips, Leaves, Selects}
-use Rattle.guest_match.specs.Match.{register_field}
+use Rattle.guest_layout.specs.FieldNumbers.{register_field}
 use Rattle.guest_code.specs.Access.{push_word, get_field, put_field, keeps, get_register, put_register, get_turned}
 
 abbrev pub mark : Step → ℕ

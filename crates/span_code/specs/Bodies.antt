@@ -10,10 +10,12 @@ use Rattle.span_code.specs.Laying.{base, warm_before, cold_before, stretch_at}
 -- where the code of a word begins: warm code in the method, each other code in the code of such words
 abbrev pub part_offset : List Unit → (ℕ → Bool) → SpanWords → ℕ → ℕ
 part_offset units leads span k =
-    if begins leads span k then base span + size (warm_before units leads span k) else size (cold_before units leads span k)
+    if begins leads span k then base span + size (warm_before units leads span k)
+    else size (cold_before units leads span k)
 
 -- The codes of the words before one are laid down.
-pub record IsBody (units : List Unit) (leads : ℕ → Bool) (span : SpanWords) (k : ℕ) (b : Body) : Type 0 where
+pub record IsBody (units : List Unit) (leads : ℕ → Bool) (span : SpanWords) (k : ℕ) (b : Body)
+    : Type 0 where
   pub warm : b.warm.steps.items ≡ warm_before units leads span k
   pub warm_end : b.warm.end ≡ base span + size (warm_before units leads span k)
   pub warm_small : b.warm.end ≤ 65535
@@ -21,5 +23,7 @@ pub record IsBody (units : List Unit) (leads : ℕ → Bool) (span : SpanWords) 
   pub cold_end : b.cold.end ≡ size (cold_before units leads span k)
   pub cold_small : b.cold.end ≤ 65535
   pub offsets : b.offsets.items ≡ map (part_offset units leads span) (words_before span k)
-  pub pieces : b.pieces.items ≡ map (piece_at units leads span) (filter (begins leads span) (words_before span k))
-  pub stretches : b.stretches.items ≡ map (stretch_at units leads span) (filter (begins leads span) (words_before span k))
+  pub pieces : b.pieces.items
+      ≡ map (piece_at units leads span) (filter (begins leads span) (words_before span k))
+  pub stretches : b.stretches.items
+      ≡ map (stretch_at units leads span) (filter (begins leads span) (words_before span k))

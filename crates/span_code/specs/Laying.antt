@@ -22,17 +22,20 @@ base span = size (opening (address span span.first)) + 13 + 4 * (span.end - span
 
 -- the warm code of the pieces that begin before a word, and the code of the other words before it
 abbrev pub warm_before : List Unit → (ℕ → Bool) → SpanWords → ℕ → List Step
-warm_before units leads span k = flat_map (warm_part units leads span) (filter (begins leads span) (words_before span k))
+warm_before units leads span k =
+    flat_map (warm_part units leads span) (filter (begins leads span) (words_before span k))
 
 abbrev pub cold_before : List Unit → (ℕ → Bool) → SpanWords → ℕ → List Step
-cold_before units leads span k = flat_map (cold_part units leads span) (filter (is_inner leads span) (words_before span k))
+cold_before units leads span k =
+    flat_map (cold_part units leads span) (filter (is_inner leads span) (words_before span k))
 
 -- the offset behind the warm code, and that of the return
 abbrev pub cold_base : List Unit → (ℕ → Bool) → SpanWords → ℕ
 cold_base units leads span = base span + size (warm_before units leads span span.end)
 
 abbrev pub return_offset : List Unit → (ℕ → Bool) → SpanWords → ℕ
-return_offset units leads span = cold_base units leads span + size (cold_before units leads span span.end)
+return_offset units leads span =
+    cold_base units leads span + size (cold_before units leads span span.end)
 
 -- the offset of the code of a word of the span
 abbrev pub entry_at : List Unit → (ℕ → Bool) → SpanWords → ℕ → ℕ
@@ -63,7 +66,8 @@ switch targets otherwise = Selects (record { default = otherwise; low = pos 0; t
 -- parts behind the switch, with steps that leave to addresses, and the return
 abbrev pub laid_out : Extent → List ℕ → ℕ → List Step → List Step
 laid_out span targets otherwise parts =
-    opening span.first ++ switch targets otherwise ∷ (map (laid_step span targets otherwise) parts ++ returns ∷ [])
+    opening span.first ++ switch targets otherwise
+    ∷ (map (laid_step span targets otherwise) parts ++ returns ∷ [])
 
 abbrev pub span_code : List Unit → (ℕ → Bool) → SpanWords → List Step
 span_code units leads span =
@@ -80,4 +84,5 @@ stretch_at units leads span k = record {
 }
 
 abbrev pub stretches_of : List Unit → (ℕ → Bool) → SpanWords → List Stretch
-stretches_of units leads span = map (stretch_at units leads span) (filter (begins leads span) (all_words span))
+stretches_of units leads span =
+    map (stretch_at units leads span) (filter (begins leads span) (all_words span))

@@ -14,4 +14,5 @@ is_inner leads span k = not (begins leads span k)
 
 -- the address of the next word of the span that passes a test: the code of such words is laid down in a row
 abbrev pub next_such : (ℕ → Bool) → SpanWords → ℕ → Option ℕ
-next_such test span k = option_map (address span) (find test (range_with_len (k + 1) (span.end - (k + 1))))
+next_such test span k =
+    option_map (address span) (find test (range_with_len (k + 1) (span.end - (k + 1))))

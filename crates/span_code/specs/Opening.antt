@@ -1,20 +1,21 @@
 -- The beginning of the method: which word the guest stands at.
 use Rattle.std.specs.Prelude.{ℕ, ◌+◌, ◌*◌, ◌%◌, List, [], ◌∷◌, ◌++◌, replicate}
-use Rattle.jvm_code.specs.declared.names.int_arithmetic.IntArithmetic.TheVariants.{Isub, Ior}
-use Rattle.jvm_code.specs.declared.names.int_shift.IntShift.TheVariants.{Ishl, Iushr}
-use Rattle.jvm_code.specs.declared.names.stack_name.StackName.TheVariants.{Dup, Swap}
+use Rattle.jvm_names.specs.declared.int_arithmetic.IntArithmetic.TheVariants.{Isub, Ior}
+use Rattle.jvm_names.specs.declared.int_shift.IntShift.TheVariants.{Ishl, Iushr}
+use Rattle.jvm_names.specs.declared.stack_name.StackName.TheVariants.{Dup, Swap}
 use Rattle.jvm_program.specs.declared.instruction.Instruction.TheVariants as instructions
 use Rattle.code_steps.specs.declared.step.Step.{Step}
 use Rattle.code_steps.specs.declared.step.Step.TheVariants.{Does}
 use Rattle.code_steps.specs.Widths.{size}
-use Rattle.guest_match.specs.Match.{pc_field}
+use Rattle.guest_layout.specs.FieldNumbers.{pc_field}
 use Rattle.guest_code.specs.Access.{push_word, get_field, arithmetic}
 
 -- A word x is on the stack, and (x >>> 2) | (x << 30) is put there: x / 4 where x is a multiple of 4, and else at least 2^30.
 abbrev pub turned_code : List Step
 turned_code =
     Does (instructions.Stack Dup) ∷ push_word 2 ∷ Does (instructions.IntShift Iushr)
-    ∷ Does (instructions.Stack Swap) ∷ push_word 30 ∷ Does (instructions.IntShift Ishl) ∷ arithmetic Ior ∷ []
+    ∷ Does (instructions.Stack Swap) ∷ push_word 30 ∷ Does (instructions.IntShift Ishl)
+    ∷ arithmetic Ior ∷ []
 
 -- x is how far field pc is behind the address of the span's first word
 abbrev pub index_code : ℕ → List Step

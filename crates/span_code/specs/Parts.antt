@@ -22,9 +22,11 @@ exit_of units span behind k = exit_code (extent span) behind (unit_at units k) (
 abbrev pub warm_part : List Unit → (ℕ → Bool) → SpanWords → ℕ → List Step
 warm_part units leads span k =
     let own = piece_units units (piece_at units leads span k) in
-    warm_code own (address span k) ++ exit_of units span (next_such (begins leads span) span k) (k + length own - 1)
+    warm_code own (address span k)
+    ++ exit_of units span (next_such (begins leads span) span k) (k + length own - 1)
 
 -- the code of a word alone, over the fields of the registers
 abbrev pub cold_part : List Unit → (ℕ → Bool) → SpanWords → ℕ → List Step
 cold_part units leads span k =
-    unit_code 0 (unit_at units k) (address span k) ++ exit_of units span (next_such (is_inner leads span) span k) k
+    unit_code 0 (unit_at units k) (address span k)
+    ++ exit_of units span (next_such (is_inner leads span) span k) k

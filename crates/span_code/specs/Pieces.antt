@@ -36,4 +36,5 @@ abbrev pub piece_at : List Unit → (ℕ → Bool) → SpanWords → ℕ → Blo
 piece_at units leads span k = part_of units k (piece_words units leads span k)
 
 abbrev pub pieces_of : List Unit → (ℕ → Bool) → SpanWords → List Block
-pieces_of units leads span = map (piece_at units leads span) (filter (begins leads span) (all_words span))
+pieces_of units leads span =
+    map (piece_at units leads span) (filter (begins leads span) (all_words span))

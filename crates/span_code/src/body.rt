@@ -44,7 +44,8 @@ pub fn append_words(
     requires within { (span.first ≤ span.end) × (span.end ≤ length units.now) }
     requires body { IsBody units.now (flagged leads.now) span span.first body.old }
     ensures body { OnOk result (IsBody units.now (flagged leads.now) span span.end body.new) }
-    ensures too_long { result ≡ Err TooLong → 65535 < return_offset units.now (flagged leads.now) span }
+    ensures too_long { result ≡ Err TooLong
+        → 65535 < return_offset units.now (flagged leads.now) span }
 {
     for k in span.first..span.end {
         append_word(alloc, units, leads, span, k, body)?;
@@ -66,7 +67,8 @@ fn append_word(
     requires ends_within { span.end ≤ length units.now }
     requires body { IsBody units.now (flagged leads.now) span k body.old }
     ensures body { OnOk result (IsBody units.now (flagged leads.now) span (k + 1) body.new) }
-    ensures too_long { result ≡ Err TooLong → 65535 < return_offset units.now (flagged leads.now) span }
+    ensures too_long { result ≡ Err TooLong
+        → 65535 < return_offset units.now (flagged leads.now) span }
 {
     if begins(leads, span, k) {
         append_piece(alloc, units, leads, span, k, body)
@@ -90,7 +92,8 @@ fn append_piece(
     requires begins { pieces.begins (flagged leads.now) span k ≡ true }
     requires body { IsBody units.now (flagged leads.now) span k body.old }
     ensures body { OnOk result (IsBody units.now (flagged leads.now) span (k + 1) body.new) }
-    ensures too_long { result ≡ Err TooLong → 65535 < return_offset units.now (flagged leads.now) span }
+    ensures too_long { result ≡ Err TooLong
+        → 65535 < return_offset units.now (flagged leads.now) span }
 {
     let piece = piece_at(units, leads, span, k);
     let from = body.warm.end;
@@ -118,7 +121,8 @@ fn append_inner(
     requires inner { is_inner (flagged leads.now) span k ≡ true }
     requires body { IsBody units.now (flagged leads.now) span k body.old }
     ensures body { OnOk result (IsBody units.now (flagged leads.now) span (k + 1) body.new) }
-    ensures too_long { result ≡ Err TooLong → 65535 < return_offset units.now (flagged leads.now) span }
+    ensures too_long { result ≡ Err TooLong
+        → 65535 < return_offset units.now (flagged leads.now) span }
 {
     let from = body.cold.end;
     let part = cold_part(alloc, units, leads, span, k)?;

@@ -4,8 +4,7 @@ ghost use Rattle.code_steps.specs.Widths.{size};
 ghost use Rattle.span_code.specs.declared.span_error.SpanError.TheVariants.{TooLong};
 
 use crate::span_error::SpanError;
-use code_assembly::code_size;
-use code_steps::Step;
+use code_steps::{Step, code_size};
 use std::alloc::Global;
 
 /// The most bytes that the code of a method has.

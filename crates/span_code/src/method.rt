@@ -59,10 +59,12 @@ pub fn span_method(
     requires some_words { 0 < words }
     requires within { first + words ≤ length units.now }
 
-    ensures code { IfOk result (λ m. m.code.items ≡ laying.span_code units.now (flagged leads.now) (span_of start first words)) }
-    ensures pieces { IfOk result (λ m. m.pieces.items ≡ pieces.pieces_of units.now (flagged leads.now) (span_of start first words)) }
-    ensures stretches { IfOk result (λ m.
-        m.stretches.items ≡ laying.stretches_of units.now (flagged leads.now) (span_of start first words)) }
+    ensures code { IfOk result (λ m. m.code.items
+        ≡ laying.span_code units.now (flagged leads.now) (span_of start first words)) }
+    ensures pieces { IfOk result (λ m. m.pieces.items
+        ≡ pieces.pieces_of units.now (flagged leads.now) (span_of start first words)) }
+    ensures stretches { IfOk result (λ m. m.stretches.items
+        ≡ laying.stretches_of units.now (flagged leads.now) (span_of start first words)) }
     ensures locals { IfOk result (λ m. m.locals ≡ locals.locals_of m.code.items) }
 
     ensures small { IfOk result (λ m. size m.code.items ≤ 65535) }
@@ -86,12 +88,16 @@ fn method_of(
     requires same_len { length leads.now ≡ length units.now }
     requires below_end { span.start + 4 * length units.now < 2 ^ 32 }
     requires within { (span.first ≤ span.end) × (span.end ≤ length units.now) }
-    ensures code { IfOk result (λ m. m.code.items ≡ laying.span_code units.now (flagged leads.now) span) }
-    ensures pieces { IfOk result (λ m. m.pieces.items ≡ pieces.pieces_of units.now (flagged leads.now) span) }
-    ensures stretches { IfOk result (λ m. m.stretches.items ≡ laying.stretches_of units.now (flagged leads.now) span) }
+    ensures code { IfOk result (λ m. m.code.items
+        ≡ laying.span_code units.now (flagged leads.now) span) }
+    ensures pieces { IfOk result (λ m. m.pieces.items
+        ≡ pieces.pieces_of units.now (flagged leads.now) span) }
+    ensures stretches { IfOk result (λ m. m.stretches.items
+        ≡ laying.stretches_of units.now (flagged leads.now) span) }
     ensures locals { IfOk result (λ m. m.locals ≡ locals.locals_of m.code.items) }
     ensures small { IfOk result (λ m. size m.code.items ≤ 65535) }
-    ensures too_long { result ≡ Err TooLong → 65535 < size (laying.span_code units.now (flagged leads.now) span) }
+    ensures too_long { result ≡ Err TooLong
+        → 65535 < size (laying.span_code units.now (flagged leads.now) span) }
 {
     let mut body = begun(alloc, span)?;
     append_words(alloc, units, leads, span, &mut body)?;
@@ -102,7 +108,8 @@ fn method_of(
 fn begun(alloc: Global, span: SpanWords) -> Result<Body, SpanError>
     requires ordered { span.first ≤ span.end }
     requires below_end { span.start + 4 * span.end < 2 ^ 32 }
-    ensures body { IfOk result (λ body. (units : List Unit) (leads : ℕ → Bool) → IsBody units leads span span.first body) }
+    ensures body { IfOk result (λ body. (units : List Unit) (leads : ℕ → Bool)
+        → IsBody units leads span span.first body) }
     ensures too_long { result ≡ Err TooLong → 65535 < laying.base span }
 {
     if span.end - span.first > MOST_WORDS {
@@ -133,12 +140,16 @@ fn finished(
     requires below_end { span.start + 4 * length units.now < 2 ^ 32 }
     requires within { (span.first ≤ span.end) × (span.end ≤ length units.now) }
     requires body { IsBody units.now (flagged leads.now) span span.end body }
-    ensures code { IfOk result (λ m. m.code.items ≡ laying.span_code units.now (flagged leads.now) span) }
-    ensures pieces { IfOk result (λ m. m.pieces.items ≡ pieces.pieces_of units.now (flagged leads.now) span) }
-    ensures stretches { IfOk result (λ m. m.stretches.items ≡ laying.stretches_of units.now (flagged leads.now) span) }
+    ensures code { IfOk result (λ m. m.code.items
+        ≡ laying.span_code units.now (flagged leads.now) span) }
+    ensures pieces { IfOk result (λ m. m.pieces.items
+        ≡ pieces.pieces_of units.now (flagged leads.now) span) }
+    ensures stretches { IfOk result (λ m. m.stretches.items
+        ≡ laying.stretches_of units.now (flagged leads.now) span) }
     ensures locals { IfOk result (λ m. m.locals ≡ locals.locals_of m.code.items) }
     ensures small { IfOk result (λ m. size m.code.items ≤ 65535) }
-    ensures too_long { result ≡ Err TooLong → 65535 < size (laying.span_code units.now (flagged leads.now) span) }
+    ensures too_long { result ≡ Err TooLong
+        → 65535 < size (laying.span_code units.now (flagged leads.now) span) }
 {
     let cold_base = body.warm.end;
     let end = cold_base + body.cold.end;

@@ -4,10 +4,9 @@ ghost use Rattle.code_steps.specs.Widths.{size};
 ghost use Rattle.span_code.specs.Opening as emitted;
 
 use crate::NoMemory;
-use code_assembly::width;
-use code_steps::Step;
+use code_steps::{Step, width};
 use guest_code::{arithmetic, fields, get_field, push_word};
-use jvm_code::{IntArithmetic, IntShift, StackName};
+use jvm_names::{IntArithmetic, IntShift, StackName};
 use jvm_program::Instruction;
 
 /// Appends the code that pushes the number of the word at which the guest stands, counted from the span's first word, whose address is

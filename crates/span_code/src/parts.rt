@@ -32,7 +32,8 @@ pub fn warm_part(
     requires begins_within { (span.first ≤ k) × (k < span.end) }
     requires ends_within { span.end ≤ length units.now }
     requires piece { piece.now ≡ pieces.piece_at units.now (flagged leads.now) span k }
-    ensures { IfOk result (λ code. code.items ≡ parts.warm_part units.now (flagged leads.now) span k) }
+    ensures { IfOk result (λ code. code.items
+        ≡ parts.warm_part units.now (flagged leads.now) span k) }
 {
     let own = own_units(units, piece);
     let last = k + (own.len() - 1) as u32;
@@ -57,7 +58,8 @@ pub fn cold_part(
     requires below_end { span.start + 4 * length units.now < 2 ^ 32 }
     requires begins_within { (span.first ≤ k) × (k < span.end) }
     requires ends_within { span.end ≤ length units.now }
-    ensures { IfOk result (λ code. code.items ≡ parts.cold_part units.now (flagged leads.now) span k) }
+    ensures { IfOk result (λ code. code.items
+        ≡ parts.cold_part units.now (flagged leads.now) span k) }
 {
     let mut code = Vec::new(alloc);
     append_unit(
@@ -93,7 +95,8 @@ fn append_exit_of(
     requires ordered { (span.first ≤ span.end) × (span.end ≤ length units.now) }
     requires below_end { span.start + 4 * length units.now < 2 ^ 32 }
     requires within { k < length units.now }
-    ensures { OnOk result (code.new.items ≡ code.old.items ++ parts.exit_of units.now span behind k) }
+    ensures { OnOk result (code.new.items ≡ code.old.items
+        ++ parts.exit_of units.now span behind k) }
 {
     append_exit(
         extent(span),
@@ -120,7 +123,8 @@ fn own_units<'a>(units: &'a [Unit], piece: &Block) -> &'a [Unit]
 fn own_words(units: &[Unit], piece: &Block) -> u32
     requires some { 0 < piece.now.words }
     requires within { piece.now.first + piece.now.words ≤ length units.now }
-    ensures value { result ≡ (if ends_with_slot units.now piece.now then piece.now.words - 1 else piece.now.words) }
+    ensures value { result ≡ (if ends_with_slot units.now piece.now then piece.now.words - 1
+        else piece.now.words) }
     ensures some { 0 < result }
     ensures few { result ≤ piece.now.words }
 {

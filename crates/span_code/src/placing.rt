@@ -5,9 +5,8 @@ ghost use Rattle.span_code.specs.Laying as laying;
 
 use crate::NoMemory;
 use crate::opening::append_opening;
-use class_format::Sequence;
 use code_steps::Step;
-use jvm_code::{ReturnName, TableSwitch};
+use jvm_names::{ReturnName, Sequence, TableSwitch};
 use jvm_program::Instruction;
 use std::alloc::Global;
 use word_emitter::Extent;
@@ -24,7 +23,8 @@ pub fn code_of(
     warm: Vec<Step>,
     cold: Vec<Step>,
 ) -> Result<Vec<Step>, NoMemory>
-    ensures { IfOk result (λ code. code.items ≡ laying.laid_out span targets.now otherwise (warm.items ++ cold.items)) }
+    ensures { IfOk result (λ code. code.items
+        ≡ laying.laid_out span targets.now otherwise (warm.items ++ cold.items)) }
 {
     let mut code = Vec::new(alloc);
     append_opening(span.first, &mut code)?;
@@ -39,7 +39,8 @@ fn append_switch(
     otherwise: u32,
     code: &mut Vec<Step>,
 ) -> Result<(), NoMemory>
-    ensures { OnOk result (code.new.items ≡ code.old.items ++ laying.switch targets.now otherwise ∷ []) }
+    ensures { OnOk result (code.new.items ≡ code.old.items
+        ++ laying.switch targets.now otherwise ∷ []) }
 {
     let targets = Sequence::new(Vec::from_slice(alloc, targets)?);
     let switch = TableSwitch {
@@ -60,7 +61,8 @@ fn append_parts(
     code: &mut Vec<Step>,
 ) -> Result<(), NoMemory>
     ensures { OnOk result (code.new.items ≡ code.old.items
-        ++ (map (laying.laid_step span targets.now otherwise) (warm.items ++ cold.items) ++ returns ∷ [])) }
+        ++ (map (laying.laid_step span targets.now otherwise) (warm.items ++ cold.items)
+        ++ returns ∷ [])) }
 {
     append_laid(span, targets, otherwise, warm, code)?;
     append_laid(span, targets, otherwise, cold, code)?;
@@ -75,7 +77,8 @@ fn append_laid(
     steps: Vec<Step>,
     code: &mut Vec<Step>,
 ) -> Result<(), NoMemory>
-    ensures { OnOk result (code.new.items ≡ code.old.items ++ map (laying.laid_step span targets.now otherwise) steps.items) }
+    ensures { OnOk result (code.new.items ≡ code.old.items
+        ++ map (laying.laid_step span targets.now otherwise) steps.items) }
 {
     for step in steps {
         code.push(laid_step(span, targets, otherwise, step))?;

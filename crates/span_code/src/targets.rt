@@ -25,10 +25,12 @@ pub fn targets_of(
 ) -> Result<Vec<u32>, NoMemory>
     requires same_len { length leads.now ≡ length units.now }
     requires within { (span.first ≤ span.end) × (span.end ≤ length units.now) }
-    requires offsets { offsets.now ≡ map (part_offset units.now (flagged leads.now) span) (all_words span) }
+    requires offsets { offsets.now
+        ≡ map (part_offset units.now (flagged leads.now) span) (all_words span) }
     requires cold_base { cold_base ≡ laying.cold_base units.now (flagged leads.now) span }
     requires small { laying.return_offset units.now (flagged leads.now) span < 2 ^ 32 }
-    ensures { IfOk result (λ targets. targets.items ≡ laying.targets_of units.now (flagged leads.now) span) }
+    ensures { IfOk result (λ targets. targets.items
+        ≡ laying.targets_of units.now (flagged leads.now) span) }
 {
     let mut targets = Vec::new(alloc);
     for k in span.first..span.end {
@@ -49,7 +51,8 @@ fn target_of(
     requires same_len { length leads.now ≡ length units.now }
     requires begins_within { (span.first ≤ k) × (k < span.end) }
     requires ends_within { span.end ≤ length units.now }
-    requires offsets { offsets.now ≡ map (part_offset units.now (flagged leads.now) span) (all_words span) }
+    requires offsets { offsets.now
+        ≡ map (part_offset units.now (flagged leads.now) span) (all_words span) }
     requires cold_base { cold_base ≡ laying.cold_base units.now (flagged leads.now) span }
     requires small { laying.return_offset units.now (flagged leads.now) span < 2 ^ 32 }
     ensures { result ≡ laying.entry_at units.now (flagged leads.now) span k }

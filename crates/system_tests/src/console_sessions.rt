@@ -22,7 +22,11 @@ impl View for Cells {
 
     ghost content = { λ s. s.bytes };
 
-    ghost memory = { λ c. record { byte = λ a. if nat_lt a 8192 then Some (slice_index c a) else None; writable = λ a. nat_lt a 8192 } };
+    ghost memory = { λ c. record {
+      byte = λ a. if nat_lt a 8192 then Some (slice_index c a)
+          else None;
+      writable = λ a. nat_lt a 8192;
+    } };
 
     ghost put_at = { λ c a b. slice_set c a b };
 

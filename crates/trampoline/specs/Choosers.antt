@@ -1,16 +1,16 @@
 -- The methods that choose by the address at which the guest stands, which is in field pc. Each is the code of a whole method of no
 -- arguments. Addresses are compared as signed ints, so code stands below address 80000000 (hexadecimal).
 use Rattle.std.specs.Prelude.{ℕ, List, [], ◌∷◌, ◌++◌}
-use Rattle.jvm_code.specs.declared.names.branch_name.BranchName.TheVariants.{Ifne, IfIcmplt, Goto}
-use Rattle.jvm_code.specs.declared.names.int_arithmetic.IntArithmetic.TheVariants.{Iand}
-use Rattle.jvm_code.specs.declared.names.return_name.ReturnName.TheVariants as return_names
+use Rattle.mips_decode.specs.Effect.{fetch_fault, pc_align_fault}
+use Rattle.jvm_names.specs.declared.branch_name.BranchName.TheVariants.{Ifne, IfIcmplt, Goto}
+use Rattle.jvm_names.specs.declared.int_arithmetic.IntArithmetic.TheVariants.{Iand}
+use Rattle.jvm_names.specs.declared.return_name.ReturnName.TheVariants as return_names
 use Rattle.jvm_program.specs.declared.local_kind.LocalKind.TheVariants as local_kinds
 use Rattle.jvm_program.specs.declared.instruction.Instruction.TheVariants as instructions
 use Rattle.jvm_program.specs.declared.instruction.Instruction.TheVariants.{Load, Store, Call, FaultHost}
-use Rattle.mips_decode.specs.Effect.{fetch_fault, pc_align_fault}
 use Rattle.code_steps.specs.declared.step.Step.{Step}
 use Rattle.code_steps.specs.declared.step.Step.TheVariants.{Does, Skips, Leaves}
-use Rattle.guest_match.specs.Match.{pc_field}
+use Rattle.guest_layout.specs.FieldNumbers.{pc_field}
 use Rattle.guest_code.specs.Access.{push_word, get_field, arithmetic}
 use Rattle.trampoline.specs.declared.start.Start.{Start}
 use Rattle.trampoline.specs.Trees.{reached_code, first_of, tree}
@@ -51,16 +51,19 @@ class_chooser starts first end = address_code ++ within_code first end ++ chosen
 
 -- where the address is unaligned or below all starts, a method is called, and the method that chooses is begun anew
 abbrev pub strayed_code : ℕ → ℕ → List Step
-strayed_code first missing = unaligned_code 3 ++ reached_code first 2 ++ Does (Call missing) ∷ Leaves 0 ∷ []
+strayed_code first missing = unaligned_code 3 ++ reached_code first 2
+    ++ Does (Call missing) ∷ Leaves 0 ∷ []
 
 -- The chooser of the whole program, which never returns: a method for addresses outside all code is called where the address is
 -- unaligned or below all starts; else the tree is followed.
 abbrev pub main_chooser : List Start → ℕ → List Step
-main_chooser starts missing = address_code ++ strayed_code (first_of starts) missing ++ chosen_code starts
+main_chooser starts missing = address_code ++ strayed_code (first_of starts) missing
+    ++ chosen_code starts
 
 -- The method for addresses outside all code. The run ends as the guest's does there: in the fault of an unaligned pc where one of the
 -- two low bits is set, and else in that of a fetch. The fault's value is the address too.
 abbrev pub missing_code : List Step
 missing_code =
-    address_code ++ unaligned_code 2 ++ push_word fetch_fault ∷ Skips Goto 1 ∷ push_word pc_align_fault
+    address_code ++ unaligned_code 2 ++ push_word fetch_fault ∷ Skips Goto 1
+    ∷ push_word pc_align_fault
     ∷ load_address ∷ load_address ∷ Does FaultHost ∷ returns ∷ []

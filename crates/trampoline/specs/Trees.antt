@@ -1,6 +1,6 @@
 -- Code that calls the method to which an address belongs: a tree of comparisons over the addresses at which the methods' parts begin.
 use Rattle.std.specs.Prelude.{ℕ, zero, suc, ◌+◌, ◌/◌, List, [], ◌∷◌, ◌++◌, length, take, drop}
-use Rattle.jvm_code.specs.declared.names.branch_name.BranchName.TheVariants.{IfIcmpge, Goto}
+use Rattle.jvm_names.specs.declared.branch_name.BranchName.TheVariants.{IfIcmpge, Goto}
 use Rattle.jvm_program.specs.declared.local_kind.LocalKind.TheVariants as local_kinds
 use Rattle.jvm_program.specs.declared.instruction.Instruction.TheVariants.{Load, Store, Call}
 use Rattle.code_steps.specs.declared.step.Step.{Step}
@@ -14,7 +14,8 @@ reached_code first over = Does (Load local_kinds.Int 0) ∷ push_word first ∷ 
 
 -- the code for the starts of both halves, of which the second one begins at an address
 abbrev pub halves_code : ℕ → List Step → List Step → List Step
-halves_code first below from = reached_code first (length below + 1) ++ below ++ Skips Goto (length from) ∷ from
+halves_code first below from = reached_code first (length below + 1) ++ below
+    ++ Skips Goto (length from) ∷ from
 
 -- where the second half begins
 abbrev pub first_of : List Start → ℕ
@@ -28,13 +29,8 @@ tree_of (suc levels) [] = []
 tree_of (suc levels) (s ∷ []) = Does (Call s.method) ∷ []
 tree_of (suc levels) starts =
     let half = length starts / 2 in
-    halves_code (first_of (drop half starts)) (tree_of levels (take half starts)) (tree_of levels (drop half starts))
+    halves_code (first_of (drop half starts)) (tree_of levels (take half starts))
+    (tree_of levels (drop half starts))
 
 abbrev pub tree : List Start → List Step
 tree starts = tree_of (length starts) starts
-
--- The address is on the stack. Where it is below all starts nothing is called, and 0 is left, and else 1.
-abbrev pub choice_code : List Start → List Step
-choice_code starts =
-    Does (Store local_kinds.Int 0) ∷ (reached_code (first_of starts) 2 ++ push_word 0 ∷ Skips Goto (length (tree starts) + 1)
-    ∷ (tree starts ++ push_word 1 ∷ []))

@@ -7,7 +7,7 @@ use crate::start::Start;
 use crate::trees::{NoMemory, append_reached, append_tree, first_of};
 use code_steps::Step;
 use guest_code::{arithmetic, fields, get_field, push_word};
-use jvm_code::{BranchName, IntArithmetic, ReturnName};
+use jvm_names::{BranchName, IntArithmetic, ReturnName};
 use jvm_program::{Instruction, LocalKind};
 use mips_decode::fault_kinds::{FETCH, PC_ALIGN};
 
@@ -28,7 +28,8 @@ pub fn append_class_chooser(
 ) -> Result<(), NoMemory>
     requires some { 1 ≤ length starts.now }
     requires few { length starts.now ≤ 2048 }
-    ensures { OnOk result (code.new.items ≡ code.old.items ++ emitted.class_chooser starts.now first end) }
+    ensures { OnOk result (code.new.items ≡ code.old.items
+        ++ emitted.class_chooser starts.now first end) }
 {
     append_address(code)?;
     append_within(first, end, code)?;
@@ -51,7 +52,8 @@ pub fn append_main_chooser(
 ) -> Result<(), NoMemory>
     requires some { 1 ≤ length starts.now }
     requires few { length starts.now ≤ 2048 }
-    ensures { OnOk result (code.new.items ≡ code.old.items ++ emitted.main_chooser starts.now missing) }
+    ensures { OnOk result (code.new.items ≡ code.old.items
+        ++ emitted.main_chooser starts.now missing) }
 {
     append_address(code)?;
     append_strayed(starts, missing, code)?;
@@ -133,7 +135,8 @@ fn append_within(first: u32, end: u32, code: &mut Vec<Step>) -> Result<(), NoMem
 
 // The method `missing` is called where the address is no multiple of 4 or is below all starts.
 fn append_strayed(starts: &[Start], missing: u32, code: &mut Vec<Step>) -> Result<(), NoMemory>
-    ensures { OnOk result (code.new.items ≡ code.old.items ++ emitted.strayed_code (first_of starts.now) missing) }
+    ensures { OnOk result (code.new.items ≡ code.old.items
+        ++ emitted.strayed_code (first_of starts.now) missing) }
 {
     append_unaligned(3, code)?;
     append_reached(first_of(starts), 2, code)?;

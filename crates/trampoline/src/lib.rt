@@ -8,4 +8,4 @@ mod trees;
 
 pub use choosers::{append_class_chooser, append_main_chooser, append_missing};
 pub use start::Start;
-pub use trees::{NoMemory, append_choice};
+pub use trees::NoMemory;

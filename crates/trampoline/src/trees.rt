@@ -5,33 +5,12 @@ ghost use Rattle.trampoline.specs.Trees as emitted;
 use crate::start::Start;
 use code_steps::Step;
 use guest_code::push_word;
-use jvm_code::BranchName;
+use jvm_names::BranchName;
 use jvm_program::{Instruction, LocalKind};
 use std::alloc::AllocError;
 
-/// Want of memory, the one error of `append_choice`.
+/// Want of memory, the one error of this crate.
 pub type NoMemory = AllocError;
-
-/// Appends code that takes an address from the stack and calls the method of the last start that is not above it. It leaves 1, or 0
-/// where the address is below all starts and nothing is called. Addresses are compared as signed ints.
-///
-/// There are 1 to 2,048 starts, and they rise.
-///
-/// # Errors
-/// Want of memory for the code.
-pub fn append_choice(starts: &[Start], code: &mut Vec<Step>) -> Result<(), NoMemory>
-    requires some { 1 ≤ length starts.now }
-    requires few { length starts.now ≤ 2048 }
-    ensures { OnOk result (code.new.items ≡ code.old.items ++ emitted.choice_code starts.now) }
-{
-    code.push(Step::Does(Instruction::Store(LocalKind::Int, 0)))?;
-    append_reached(first_of(starts), 2, code)?;
-    code.push(push_word(0))?;
-    code.push(Step::Skips(BranchName::Goto, tree_steps(starts) + 1))?;
-    append_tree(starts, code)?;
-    code.push(push_word(1))?;
-    Ok(())
-}
 
 /// The address in local variable 0 is not below a start: that many of the following steps are passed over.
 pub fn append_reached(first: u32, over: u32, code: &mut Vec<Step>) -> Result<(), NoMemory>

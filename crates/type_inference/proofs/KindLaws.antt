@@ -1,40 +1,20 @@
 -- Laws of types, by trying all of them.
-use Rattle.std.proofs.Common.{◌≡◌, ◌<◌, ◌≤◌, Bool, true, false, ◌&&◌, not, refl, ltb, leb}
-use Rattle.std.proofs.lemmas.Bool.{and_parts, false≢true, true≢false, ltb-true, leb-true}
+use Rattle.std.proofs.Common.{◌≡◌, ◌<◌, ◌≤◌, Bool, true, false, not, refl, ltb, leb}
+use Rattle.std.proofs.lemmas.Bool.{false≢true, true≢false, ltb-true, leb-true}
 use Rattle.std.specs.Bool.{beq}
 use Rattle.jvm_program.specs.declared.kind.Kind.{Kind}
 use Rattle.jvm_program.specs.declared.kind.Kind.TheVariants.{Top, Int, Long, Null, Ints, Pages, Text}
 use Rattle.jvm_program.specs.declared.local_kind.LocalKind.{LocalKind}
 use Rattle.jvm_program.specs.declared.local_kind.LocalKind.TheVariants as local_kinds
 use Rattle.jvm_program.specs.Typing.{below, is_long_kind, is_reference_kind, is_array_kind, moves_kind, same_kind}
+use Rattle.jvm_program.proofs.KindTrials.{each, each-at, when, when-at}
 use Rattle.type_inference.specs.Joins.{joined, is_top, rank}
-
-abbrev each : (Kind → Bool) → Bool
-each p = ((((((p Top && p Int) && p Long) && p Null) && p Ints) && p Pages) && p Text)
-
-each-at : (p : Kind → Bool) → each p ≡ true → (kind : Kind) → p kind ≡ true
-each-at p h kind =
-    let a = and_parts (((((p Top && p Int) && p Long) && p Null) && p Ints) && p Pages) (p Text) h in
-    let b = and_parts ((((p Top && p Int) && p Long) && p Null) && p Ints) (p Pages) a.0 in
-    let c = and_parts (((p Top && p Int) && p Long) && p Null) (p Ints) b.0 in
-    let d = and_parts ((p Top && p Int) && p Long) (p Null) c.0 in
-    let e = and_parts (p Top && p Int) (p Long) d.0 in
-    let f = and_parts (p Top) (p Int) e.0 in
-    elim kind as (λ k. p k ≡ true) [ Top ↦ f.0 | Int ↦ f.1 | Long ↦ e.1 | Null ↦ d.1 | Ints ↦ c.1 | Pages ↦ b.1 | Text ↦ a.1 ]
 
 each-at2 : (p : Kind → Kind → Bool) → each (λ a. each (λ b. p a b)) ≡ true → (a b : Kind) → p a b ≡ true
 each-at2 p h a b = each-at (λ b. p a b) (each-at (λ a. each (λ b. p a b)) h a) b
 
 each-at3 : (p : Kind → Kind → Kind → Bool) → each (λ a. each (λ b. each (λ c. p a b c))) ≡ true → (a b c : Kind) → p a b c ≡ true
 each-at3 p h a b c = each-at (λ c. p a b c) (each-at2 (λ a b. each (λ c. p a b c)) h a b) c
-
-abbrev when : Bool → Bool → Bool
-when true b = b
-when false b = true
-
-when-at : (a b : Bool) → when a b ≡ true → a ≡ true → b ≡ true
-when-at true b h e = h
-when-at false b h e = absurd (false≢true e)
 
 when-not : (a b : Bool) → when (not a) b ≡ true → a ≡ false → b ≡ true
 when-not true b h e = absurd (true≢false e)

@@ -12,7 +12,7 @@ use Rattle.type_inference.specs.declared.frame.Frame.{Frame}
 use Rattle.type_inference.specs.Actions.{Enters}
 use Rattle.type_inference.specs.Verdict.{AreBelow, FailsAt, LeastTyping}
 use Rattle.type_inference.specs.Frames.{type_frame, frame_at, entry_of, IsFormed}
-use Rattle.type_inference.specs.Flow.{has, energy, Rises, Waits, FlowsToAll, HaveOperands, AllStayBelow, RuleHolds, Visits, KeepsBelow, Keeps, Settles, Rests, IsTable}
+use Rattle.type_inference.specs.Flow.{has, Rises, Waits, FlowsToAll, HaveOperands, AllStayBelow, RuleHolds, Visits, KeepsBelow, Keeps, Settles, Rests, IsTable}
 use Rattle.type_inference.proofs.JoinLaws.{Below-refl}
 use Rattle.type_inference.proofs.FlowLaws.{Slots, Rises-refl, Rises-trans, Moves-refl, has-push, frame_at-some, frame_at-is, received-rises}
 use Rattle.type_inference.proofs.TableLaws.{none-of}

@@ -6,7 +6,7 @@ use Rattle.std.proofs.lemmas.List.{get_or-set_same, get_or-set_other, length-set
 use Rattle.std.proofs.lemmas.Option.{none-some}
 use Rattle.jvm_program.specs.declared.linked_line.LinkedLine.{LinkedLine}
 use Rattle.jvm_program.specs.Program.{line_in}
-use Rattle.type_inference.specs.Flow.{IsTable, line_by}
+use Rattle.type_inference.specs.Flow.{line_by}
 
 -- the table of the lines behind some
 pub record IsTableFrom (lines rest : List LinkedLine) (starts : List (Option ℕ)) (size : ℕ) : Type 0 where

@@ -10,7 +10,13 @@ use Rattle.type_inference.specs.declared.action.Action.TheVariants.{Exchanges, T
 
 -- the program of which only the methods are known
 abbrev pub program_over : List LinkedMethod → Program
-program_over methods = record { field = λ f. None; method = slice_get methods; characters = λ c s. []; first = 0 }
+program_over methods = record {
+  field = λ f. None;
+  method = slice_get methods;
+  characters = λ c s.
+      [];
+  first = 0;
+}
 
 abbrev pub effect_of : Program → Action → TypeEffect
 effect_of program (Exchanges kinds given) = exchanges kinds.now (option_to_list given)
@@ -25,7 +31,8 @@ effect_of program (Shuffles name) = shuffles (forms_of name)
 effect_of program Never = never
 
 -- an instruction that is entered with a frame has another behind it
-pub record Enters (program : Program) (method : LinkedMethod) (instruction : Instruction) (f behind : TypeFrame) : Type 0 where
+pub record Enters (program : Program) (method : LinkedMethod) (instruction : Instruction)
+    (f behind : TypeFrame) : Type 0 where
   pub local : local_within (type_effect program instruction) method.locals
   pub fits : applied (type_effect program instruction) f ≡ Some behind
   pub within : slots_of behind.stack ≤ method.stack

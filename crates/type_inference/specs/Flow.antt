@@ -37,28 +37,35 @@ energy locals stack frames work = 2 * heights locals stack frames + length work
 -- frames have risen
 pub record Rises (frames after : List (Option Frame)) : Type 0 where
   pub size : length after ≡ length frames
-  pub above : (at : ℕ) (f : TypeFrame) → frame_at frames at ≡ Some f → (g : TypeFrame) × (frame_at after at ≡ Some g) × Below f g
+  pub above : (at : ℕ) (f : TypeFrame) → frame_at frames at ≡ Some f → (g : TypeFrame)
+      × (frame_at after at ≡ Some g) × Below f g
 
 -- the offsets at which work waits are admitted
 pub record Waits (limit : ℕ) (work : List ℕ) : Type 0 where
   pub each : (x : ℕ) → has work x ≡ true → x < limit
 
 -- Frames have risen, and work waits where an admitted instruction has a new frame.
-pub record Moves (locals stack limit : ℕ) (frames : List (Option Frame)) (work : List ℕ) (after : List (Option Frame)) (later : List ℕ) : Type 0 where
+pub record Moves (locals stack limit : ℕ) (frames : List (Option Frame)) (work : List ℕ)
+    (after : List (Option Frame)) (later : List ℕ) : Type 0 where
   pub rises : Rises frames after
   pub same_work : (x : ℕ) → has later x ≡ false → has work x ≡ false
-  pub same_frame : (x : ℕ) → x < limit → has later x ≡ false → slice_index_or after x None ≡ slice_index_or frames x None
+  pub same_frame : (x : ℕ) → x < limit → has later x ≡ false
+      → slice_index_or after x None ≡ slice_index_or frames x None
   pub formed : AreFormed locals stack frames → AreFormed locals stack after
   pub waits : Waits limit work → Waits limit later
   pub falls : energy locals stack after later ≤ energy locals stack frames work
 
 -- ---- a frame flows to the instruction at an offset, or to several
 
-pub record Flows (method : LinkedMethod) (limit : ℕ) (f : TypeFrame) (to : ℕ) (frames : List (Option Frame)) (work : List ℕ) (after : List (Option Frame)) (later : List ℕ) : Type 0 where
+pub record Flows (method : LinkedMethod) (limit : ℕ) (f : TypeFrame) (to : ℕ)
+    (frames : List (Option Frame)) (work : List ℕ) (after : List (Option Frame))
+    (later : List ℕ) : Type 0 where
   pub moves : Moves method.locals method.stack limit frames work after later
   pub received : Receives method (frame_at after) f to
 
-pub record FlowsToAll (method : LinkedMethod) (limit : ℕ) (f : TypeFrame) (targets : List ℕ) (frames : List (Option Frame)) (work : List ℕ) (after : List (Option Frame)) (later : List ℕ) : Type 0 where
+pub record FlowsToAll (method : LinkedMethod) (limit : ℕ) (f : TypeFrame) (targets : List ℕ)
+    (frames : List (Option Frame)) (work : List ℕ) (after : List (Option Frame))
+    (later : List ℕ) : Type 0 where
   pub moves : Moves method.locals method.stack limit frames work after later
   pub received : All (Receives method (frame_at after) f) targets
 
@@ -67,43 +74,57 @@ pub record HaveOperands (others : Frames) : Type 0 where
   pub each : (at : ℕ) (f : TypeFrame) → others at ≡ Some f → no_top f.stack ≡ true
 
 -- frames that are above those before, and receive what flows, are above those after; and so it goes well
-pub record StaysBelow (method : LinkedMethod) (f : TypeFrame) (to : ℕ) (frames : List (Option Frame)) (good : Bool) (after : List (Option Frame)) : Type 0 where
-  pub each : (others : Frames) → HaveOperands others → AreBelow (frame_at frames) others → Receives method others f to → (good ≡ true) × AreBelow (frame_at after) others
+pub record StaysBelow (method : LinkedMethod) (f : TypeFrame) (to : ℕ)
+    (frames : List (Option Frame)) (good : Bool) (after : List (Option Frame)) : Type 0 where
+  pub each : (others : Frames) → HaveOperands others → AreBelow (frame_at frames) others
+      → Receives method others f to → (good ≡ true) × AreBelow (frame_at after) others
 
-pub record AllStayBelow (method : LinkedMethod) (f : TypeFrame) (targets : List ℕ) (frames : List (Option Frame)) (good : Bool) (after : List (Option Frame)) : Type 0 where
-  pub each : (others : Frames) → HaveOperands others → AreBelow (frame_at frames) others → All (Receives method others f) targets → (good ≡ true) × AreBelow (frame_at after) others
+pub record AllStayBelow (method : LinkedMethod) (f : TypeFrame) (targets : List ℕ)
+    (frames : List (Option Frame)) (good : Bool) (after : List (Option Frame)) : Type 0 where
+  pub each : (others : Frames) → HaveOperands others → AreBelow (frame_at frames) others
+      → All (Receives method others f) targets → (good ≡ true) × AreBelow (frame_at after) others
 
 -- ---- an instruction is looked at
 
-abbrev pub RuleHolds : Program → LinkedMethod → List (Option Frame) → List (Option Frame) → ℕ → Type 0
+abbrev pub RuleHolds : Program → LinkedMethod → List (Option Frame) → List (Option Frame) → ℕ
+    → Type 0
 RuleHolds program method frames after at =
-    (line : LinkedLine) (f : TypeFrame) → line_in method.lines at ≡ Some line → frame_at frames at ≡ Some f → Follows program method (frame_at after) line f
+    (line : LinkedLine) (f : TypeFrame) → line_in method.lines at ≡ Some line
+    → frame_at frames at ≡ Some f → Follows program method (frame_at after) line f
 
 -- its rule holds of the frame with which it was entered
-pub record Visits (program : Program) (method : LinkedMethod) (limit at : ℕ) (frames : List (Option Frame)) (work : List ℕ) (after : List (Option Frame)) (later : List ℕ) : Type 0 where
+pub record Visits (program : Program) (method : LinkedMethod) (limit at : ℕ)
+    (frames : List (Option Frame)) (work : List ℕ) (after : List (Option Frame))
+    (later : List ℕ) : Type 0 where
   pub moves : Moves method.locals method.stack limit frames work after later
   pub rule : RuleHolds program method frames after at
 
 -- typings up to an offset that are above the frames before are above those after; and where there is one, it goes well
-pub record KeepsBelow (program : Program) (method : LinkedMethod) (limit : ℕ) (frames : List (Option Frame)) (good : Bool) (after : List (Option Frame)) : Type 0 where
-  pub each : (others : Frames) (last : ℕ) → limit ≤ suc last → IsTypingTo program method others last → AreBelow (frame_at frames) others → (good ≡ true) × AreBelow (frame_at after) others
+pub record KeepsBelow (program : Program) (method : LinkedMethod) (limit : ℕ)
+    (frames : List (Option Frame)) (good : Bool) (after : List (Option Frame)) : Type 0 where
+  pub each : (others : Frames) (last : ℕ) → limit ≤ suc last → IsTypingTo program method others last
+      → AreBelow (frame_at frames) others → (good ≡ true) × AreBelow (frame_at after) others
 
 -- ---- the admitted instructions
 
 -- the rule of each one holds, but where work waits
-pub record Keeps (program : Program) (method : LinkedMethod) (limit : ℕ) (frames : List (Option Frame)) (work : List ℕ) : Type 0 where
+pub record Keeps (program : Program) (method : LinkedMethod) (limit : ℕ)
+    (frames : List (Option Frame)) (work : List ℕ) : Type 0 where
   pub formed : AreFormed method.locals method.stack frames
   pub waits : Waits limit work
   pub rules : (x : ℕ) → x < limit → has work x ≡ false → RuleHolds program method frames frames x
 
 -- the frames have come to rest
-pub record Settles (program : Program) (method : LinkedMethod) (limit : ℕ) (frames after : List (Option Frame)) : Type 0 where
+pub record Settles (program : Program) (method : LinkedMethod) (limit : ℕ)
+    (frames after : List (Option Frame)) : Type 0 where
   pub rises : Rises frames after
   pub keeps : Keeps program method limit after []
 
 -- frames at rest that are below each typing up to an offset behind the admitted ones
-pub record Rests (program : Program) (method : LinkedMethod) (limit : ℕ) (frames : List (Option Frame)) : Type 0 where
+pub record Rests (program : Program) (method : LinkedMethod) (limit : ℕ)
+    (frames : List (Option Frame)) : Type 0 where
   pub parameters : length method.parameters ≤ method.locals
   pub entry : Receives method (frame_at frames) (entry_frame method) 0
   pub keeps : Keeps program method limit frames []
-  pub least : (others : Frames) (last : ℕ) → limit ≤ suc last → IsTypingTo program method others last → AreBelow (frame_at frames) others
+  pub least : (others : Frames) (last : ℕ) → limit ≤ suc last
+      → IsTypingTo program method others last → AreBelow (frame_at frames) others

@@ -51,8 +51,10 @@ pub record IsJoin (old : Option Frame) (f h : Frame) : Type 0 where
   pub above_old : (g : Frame) → old ≡ Some g → Below (type_frame g) (type_frame h)
   pub above_new : Below (type_frame f) (type_frame h)
   pub least : (u : TypeFrame) → IsAbove old f u → Below (type_frame h) u
-  pub formed : (locals stack : ℕ) → ((g : Frame) → old ≡ Some g → IsFormed locals stack g) → IsSized locals stack f → IsFormed locals stack h
-  pub falls : (locals stack : ℕ) → IsSized locals stack f → weight locals stack (Some h) < weight locals stack old
+  pub formed : (locals stack : ℕ) → ((g : Frame) → old ≡ Some g → IsFormed locals stack g)
+      → IsSized locals stack f → IsFormed locals stack h
+  pub falls : (locals stack : ℕ) → IsSized locals stack f
+      → weight locals stack (Some h) < weight locals stack old
 
 -- the frame there is above the new one; or the least one above both is another; or there is none
 abbrev pub IsMeeting : Option Frame → Frame → Meeting → Type 0

@@ -34,7 +34,8 @@ other_locals (k ∷ kinds) = kinds
 
 abbrev pub locals_below : List Kind → List Kind → Bool
 locals_below kinds [] = true
-locals_below kinds (o ∷ others) = below (first_local kinds) o && locals_below (other_locals kinds) others
+locals_below kinds (o ∷ others) = below (first_local kinds) o
+    && locals_below (other_locals kinds) others
 
 abbrev pub joined_locals : List Kind → List Kind → List Kind
 joined_locals [] others = []
@@ -55,9 +56,11 @@ ranks (k ∷ kinds) = rank k + ranks kinds
 -- ---- frames
 
 abbrev pub frame_below : List Kind → List Kind → List Kind → List Kind → Bool
-frame_below locals stack other_locals other_stack = stack_below stack other_stack && locals_below locals other_locals
+frame_below locals stack other_locals other_stack =
+    stack_below stack other_stack && locals_below locals other_locals
 
 -- ---- the operands below those that a form takes
 
 abbrev pub behind_form : List Bool → List Kind → Option (List Kind)
-behind_form longs kinds = if fits_longs is_long_kind longs kinds then Some (drop (length longs) kinds) else None
+behind_form longs kinds = if fits_longs is_long_kind longs kinds
+    then Some (drop (length longs) kinds) else None

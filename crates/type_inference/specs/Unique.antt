@@ -41,64 +41,91 @@ local-prop (stores kind i) count = hlevel props
 local-prop (increments i) count = hlevel props
 local-prop _ count = Unit-prop
 
-above-prop : (f : TypeFrame) (o : Option TypeFrame) → IsProp ((g : TypeFrame) × (o ≡ Some g) × Below f g)
+above-prop : (f : TypeFrame) (o : Option TypeFrame)
+    → IsProp ((g : TypeFrame) × (o ≡ Some g) × Below f g)
 above-prop f o x y =
     let g : x.0 ≡ y.0 = same_Some x.0 y.0 (sym x.1 ∙ y.1) in
-    λ i. (g i, is_prop→PathP (λ i. o ≡ Some (g i)) (λ i. frames-set o (Some (g i))) x.1 y.1 i, is_prop→PathP (λ i. Below f (g i)) (λ i. Below-prop f (g i)) x.2 y.2 i)
+    λ i. (
+      g i,
+      is_prop→PathP (λ i. o ≡ Some (g i)) (λ i. frames-set o (Some (g i))) x.1 y.1 i,
+      is_prop→PathP (λ i. Below f (g i)) (λ i. Below-prop f (g i)) x.2 y.2 i,
+    )
 
 AreBelow-prop : (frames others : Frames) → IsProp (AreBelow frames others)
 AreBelow-prop frames others =
     Π_prop (λ at. Π_prop (λ f. Π_prop (λ _. above-prop f (others at))))
 
-Receives-prop : (method : LinkedMethod) (frames : Frames) (f : TypeFrame) (at : ℕ) → IsProp (Receives method frames f at)
+Receives-prop : (method : LinkedMethod) (frames : Frames) (f : TypeFrame) (at : ℕ)
+    → IsProp (Receives method frames f at)
 Receives-prop method frames f at x y =
     let l : x.0 ≡ y.0 = same_Some x.0 y.0 (sym x.2 ∙ y.2) in
     let g : x.1 ≡ y.1 = same_Some x.1 y.1 (sym x.3 ∙ y.3) in
-    λ i. (l i, g i, is_prop→PathP (λ i. line_in method.lines at ≡ Some (l i)) (λ i. lines-set (line_in method.lines at) (Some (l i))) x.2 y.2 i, is_prop→PathP (λ i. frames at ≡ Some (g i)) (λ i. frames-set (frames at) (Some (g i))) x.3 y.3 i, is_prop→PathP (λ i. Below f (g i)) (λ i. Below-prop f (g i)) x.4 y.4 i)
+    λ i. (
+      l i,
+      g i,
+      is_prop→PathP (λ i. line_in method.lines at
+          ≡ Some (l i)) (λ i. lines-set (line_in method.lines at) (Some (l i))) x.2 y.2 i,
+      is_prop→PathP (λ i. frames at ≡ Some (g i)) (λ i. frames-set (frames at) (Some (g i)))
+          x.3 y.3 i,
+      is_prop→PathP (λ i. Below f (g i)) (λ i. Below-prop f (g i)) x.4 y.4 i,
+    )
 
 abbrev AllReceive : LinkedMethod → Frames → List ℕ → TypeFrame → Type 0
-AllReceive method frames targets f = (k d : ℕ) → k < length targets → Receives method frames f (slice_index_or targets k d)
+AllReceive method frames targets f = (k d : ℕ) → k < length targets
+    → Receives method frames f (slice_index_or targets k d)
 
-AllReceive-prop : (method : LinkedMethod) (frames : Frames) (targets : List ℕ) (f : TypeFrame) → IsProp (AllReceive method frames targets f)
+AllReceive-prop : (method : LinkedMethod) (frames : Frames) (targets : List ℕ) (f : TypeFrame)
+    → IsProp (AllReceive method frames targets f)
 AllReceive-prop method frames targets f =
-    Π_prop (λ k. Π_prop (λ d. Π_prop (λ _. Receives-prop method frames f (slice_index_or targets k d))))
+    Π_prop (λ k. Π_prop (λ d.
+    Π_prop (λ _. Receives-prop method frames f (slice_index_or targets k d))))
 
 room-prop : (f : TypeFrame) (most : ℕ) → IsProp (slots_of f.stack ≤ most)
 room-prop f most = hlevel props
 
-Follows-prop : (program : Program) (method : LinkedMethod) (frames : Frames) (line : LinkedLine) (f : TypeFrame) → IsProp (Follows program method frames line f)
+Follows-prop : (program : Program) (method : LinkedMethod) (frames : Frames) (line : LinkedLine)
+    (f : TypeFrame) → IsProp (Follows program method frames line f)
 Follows-prop program method frames line f x y =
     let e = type_effect program line.instruction in
     let b : x.behind ≡ y.behind = same_Some x.behind y.behind (sym x.fits ∙ y.fits) in
     λ i. record {
       local = local-prop e method.locals x.local y.local i;
       behind = b i;
-      fits = is_prop→PathP (λ i. applied e f ≡ Some (b i)) (λ i. frames-set (applied e f) (Some (b i))) x.fits y.fits i;
-      within = is_prop→PathP (λ i. slots_of (b i).stack ≤ method.stack) (λ i. room-prop (b i) method.stack) x.within y.within i;
-      goes_on = is_prop→PathP (λ i. AllReceive method frames (successors line) (b i)) (λ i. AllReceive-prop method frames (successors line) (b i)) x.goes_on y.goes_on i;
+      fits = is_prop→PathP (λ i. applied e f ≡ Some (b i))
+          (λ i. frames-set (applied e f) (Some (b i))) x.fits y.fits i;
+      within = is_prop→PathP (λ i. slots_of (b i).stack ≤ method.stack)
+          (λ i. room-prop (b i) method.stack) x.within y.within i;
+      goes_on = is_prop→PathP (λ i. AllReceive method frames (successors line) (b i))
+          (λ i. AllReceive-prop method frames (successors line) (b i)) x.goes_on y.goes_on i;
     }
 
-operands-prop : (frames : Frames) → IsProp ((at : ℕ) (f : TypeFrame) → frames at ≡ Some f → no_top f.stack ≡ true)
+operands-prop : (frames : Frames)
+    → IsProp ((at : ℕ) (f : TypeFrame) → frames at ≡ Some f → no_top f.stack ≡ true)
 operands-prop frames = hlevel props
 
 parameters-prop : (method : LinkedMethod) → IsProp (length method.parameters ≤ method.locals)
 parameters-prop method = hlevel props
 
-IsTypingTo-prop : (program : Program) (method : LinkedMethod) (frames : Frames) (last : ℕ) → IsProp (IsTypingTo program method frames last)
+IsTypingTo-prop : (program : Program) (method : LinkedMethod) (frames : Frames) (last : ℕ)
+    → IsProp (IsTypingTo program method frames last)
 IsTypingTo-prop program method frames last x y = λ i. record {
   operands = operands-prop frames x.operands y.operands i;
   parameters = parameters-prop method x.parameters y.parameters i;
   entry = Receives-prop method frames (entry_frame method) 0 x.entry y.entry i;
-  rules = λ at line f to l e. Follows-prop program method frames line f (x.rules at line f to l e) (y.rules at line f to l e) i;
+  rules = λ at line f to l e. Follows-prop program method frames line f (x.rules at line f to l e)
+      (y.rules at line f to l e) i;
 }
 
-IsTyping-prop : (program : Program) (method : LinkedMethod) (frames : Frames) → IsProp (IsTyping program method frames)
+IsTyping-prop : (program : Program) (method : LinkedMethod) (frames : Frames)
+    → IsProp (IsTyping program method frames)
 IsTyping-prop program method frames = Π_prop (λ last. IsTypingTo-prop program method frames last)
 
 abbrev IsLeast : Program → LinkedMethod → Frames → Type 0
-IsLeast program method frames = (others : Frames) → IsTyping program method others → AreBelow frames others
+IsLeast program method frames = (others : Frames) → IsTyping program method others
+    → AreBelow frames others
 
-IsLeast-prop : (program : Program) (method : LinkedMethod) (frames : Frames) → IsProp (IsLeast program method frames)
+IsLeast-prop : (program : Program) (method : LinkedMethod) (frames : Frames)
+    → IsProp (IsLeast program method frames)
 IsLeast-prop program method frames = Π_prop (λ others. Π_prop (λ _. AreBelow-prop frames others))
 
 -- ---- frames below each other are the same
@@ -130,9 +157,14 @@ stacks-same (k ∷ ks) (o ∷ os) h e =
 type_frames-same : (f g : TypeFrame) → Below f g → Below g f → f ≡ g
 type_frames-same f g h k =
     let stack : f.stack ≡ g.stack = stacks-same f.stack g.stack h.stack k.stack in
-    λ i. record { locals = λ j. kinds-same (f.locals j) (g.locals j) (h.locals j) (k.locals j) i; stack = stack i }
+    λ i. record {
+      locals = λ j. kinds-same (f.locals j) (g.locals j) (h.locals j) (k.locals j) i;
+      stack = stack i;
+    }
 
-frames-same : (o p : Option TypeFrame) → ((f : TypeFrame) → o ≡ Some f → (g : TypeFrame) × (p ≡ Some g) × Below f g) → ((g : TypeFrame) → p ≡ Some g → (f : TypeFrame) × (o ≡ Some f) × Below g f) → o ≡ p
+frames-same : (o p : Option TypeFrame)
+    → ((f : TypeFrame) → o ≡ Some f → (g : TypeFrame) × (p ≡ Some g) × Below f g)
+    → ((g : TypeFrame) → p ≡ Some g → (f : TypeFrame) × (o ≡ Some f) × Below g f) → o ≡ p
 frames-same None None h k = refl
 frames-same None (Some g) h k = absurd (none-some (k g refl).0 (k g refl).1)
 frames-same (Some f) None h k = absurd (none-some (h f refl).0 (h f refl).1)
@@ -145,15 +177,20 @@ frames-same (Some f) (Some g) h k =
 
 LeastTyping-prop : (program : Program) (method : LinkedMethod) → IsProp (LeastTyping program method)
 LeastTyping-prop program method x y =
-    let e : x.frames ≡ y.frames = λ i at. frames-same (x.frames at) (y.frames at) (x.least y.frames y.typing at) (y.least x.frames x.typing at) i in
+    let e : x.frames ≡ y.frames =
+    λ i at. frames-same (x.frames at) (y.frames at) (x.least y.frames y.typing at)
+    (y.least x.frames x.typing at) i in
     λ i. record {
       frames = e i;
-      typing = is_prop→PathP (λ i. IsTyping program method (e i)) (λ i. IsTyping-prop program method (e i)) x.typing y.typing i;
-      least = is_prop→PathP (λ i. IsLeast program method (e i)) (λ i. IsLeast-prop program method (e i)) x.least y.least i;
+      typing = is_prop→PathP (λ i. IsTyping program method (e i))
+          (λ i. IsTyping-prop program method (e i)) x.typing y.typing i;
+      least = is_prop→PathP (λ i. IsLeast program method (e i))
+          (λ i. IsLeast-prop program method (e i)) x.least y.least i;
     }
 
 pub AllLeastTyped-prop : (program : Program) → IsProp (AllLeastTyped program)
-AllLeastTyped-prop program = Π_prop (λ m. Π_prop (λ method. Π_prop (λ _. LeastTyping-prop program method)))
+AllLeastTyped-prop program =
+    Π_prop (λ m. Π_prop (λ method. Π_prop (λ _. LeastTyping-prop program method)))
 
 -- each method is typed, by its least typing
 pub AllTyped-from_least : (program : Program) → AllLeastTyped program → AllTyped program

@@ -7,14 +7,16 @@ use Rattle.jvm_program.specs.Typing.{TypeFrame, Below, Frames, IsTypingTo, IsTyp
 -- no frames keep the rules of the method's start and of its instructions up to an offset, but some do so up to each earlier one
 pub record FailsAt (program : Program) (method : LinkedMethod) (at : ℕ) : Type 0 where
   pub fails : (frames : Frames) → IsTypingTo program method frames at → ⊥
-  pub before : (earlier : ℕ) → earlier < at → (frames : Frames) × IsTypingTo program method frames earlier
+  pub before : (earlier : ℕ) → earlier < at → (frames : Frames)
+      × IsTypingTo program method frames earlier
 
 -- ---- the least typing
 
 -- what has a frame in one typing has one above it in the other
 abbrev pub AreBelow : Frames → Frames → Type 0
 AreBelow frames others =
-    (at : ℕ) (f : TypeFrame) → frames at ≡ Some f → (g : TypeFrame) × (others at ≡ Some g) × Below f g
+    (at : ℕ) (f : TypeFrame) → frames at ≡ Some f → (g : TypeFrame) × (others at ≡ Some g)
+    × Below f g
 
 -- a typing below each other one
 pub record LeastTyping (program : Program) (method : LinkedMethod) : Type 0 where

@@ -1,4 +1,4 @@
-use jvm_code::StackName;
+use jvm_names::StackName;
 use jvm_program::{Kind, LocalKind};
 
 /// What an instruction takes from a frame and gives.

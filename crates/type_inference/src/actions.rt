@@ -6,7 +6,7 @@ ghost use Rattle.jvm_program.specs.declared.instruction.Instruction.TheVariants 
 ghost use Rattle.type_inference.specs.Actions.{effect_of};
 
 use crate::action::Action;
-use jvm_code::{ArrayName, BranchName, Conversion, ReturnName};
+use jvm_names::{ArrayName, BranchName, Conversion, ReturnName};
 use jvm_program::{ArrayKind, Constant, Instruction, Kind};
 
 const INT: Option<Kind> = Some(Kind::Int);
@@ -15,7 +15,8 @@ const LONG: Option<Kind> = Some(Kind::Long);
 
 /// The action of an instruction.
 pub fn action_of(instruction: &Instruction) -> Action
-    ensures { (program : Program) → effect_of program result ≡ typing.type_effect program instruction.now }
+    ensures { (program : Program) → effect_of program result
+        ≡ typing.type_effect program instruction.now }
 {
     match instruction {
         Instruction::Nop => Action::Exchanges(&[], None),
@@ -118,7 +119,8 @@ fn branch_action(name: BranchName) -> Action
 
 // `Host.call` takes two arrays of arrays and, above them, five ints.
 fn host_call_action() -> Action
-    ensures { (program : Program) → effect_of program result ≡ typing.type_effect program instructions.CallHost }
+    ensures { (program : Program) → effect_of program result
+        ≡ typing.type_effect program instructions.CallHost }
 {
     let kinds = &[
         Kind::Int,
@@ -143,7 +145,8 @@ fn return_action(name: ReturnName) -> Action
 
 /// Whether the local variable that an action names is one of so many.
 pub fn is_local_within(action: &Action, count: u16) -> bool
-    ensures { (program : Program) → (IsTrue result ↔ typing.local_within (effect_of program action.now) count) }
+    ensures { (program : Program)
+        → (IsTrue result ↔ typing.local_within (effect_of program action.now) count) }
 {
     match action {
         Action::Loads(_, index) => u16::from(*index) < count,

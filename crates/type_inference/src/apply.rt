@@ -10,7 +10,7 @@ use crate::action::Action;
 use crate::frame::Frame;
 use crate::kinds::{is_array, is_below, is_moved, is_reference};
 use crate::shuffle::shuffled;
-use class_format::Sequence;
+use jvm_names::Sequence;
 use jvm_program::{Kind, LinkedMethod, LocalKind};
 use std::alloc::{AllocError, Global};
 
@@ -21,8 +21,12 @@ pub fn applied(
     action: &Action,
     frame: &Frame,
 ) -> Result<Option<Frame>, AllocError>
-    ensures fits { IfOk result (λ o. option_map type_frame o ≡ typing.applied (effect_of (program_over methods.now) action.now) (type_frame frame.now)) }
-    ensures sized { IfOk result (λ o. IfSome o (λ f. (n : ℕ) → length frame.now.locals ≤ n → typing.local_within (effect_of (program_over methods.now) action.now) n → length f.locals ≤ n)) }
+    ensures fits { IfOk result (λ o. option_map type_frame o
+        ≡ typing.applied (effect_of (program_over methods.now) action.now)
+        (type_frame frame.now)) }
+    ensures sized { IfOk result (λ o. IfSome o (λ f. (n : ℕ) → length frame.now.locals ≤ n
+        → typing.local_within (effect_of (program_over methods.now) action.now) n
+        → length f.locals ≤ n)) }
 {
     match action {
         Action::Exchanges(kinds, given) => {
@@ -54,7 +58,8 @@ pub fn applied(
 }
 
 fn called(alloc: Global, method: &LinkedMethod, frame: &Frame) -> Result<Option<Frame>, AllocError>
-    ensures fits { IfOk result (λ o. option_map type_frame o ≡ typing.applied (typing.call_type (Some method.now)) (type_frame frame.now)) }
+    ensures fits { IfOk result (λ o. option_map type_frame o
+        ≡ typing.applied (typing.call_type (Some method.now)) (type_frame frame.now)) }
     ensures sized { IfOk result (λ o. IfSome o (λ f. f.locals ≡ frame.now.locals)) }
 {
     let given = if method.gives_int {
@@ -85,7 +90,8 @@ fn taken<'a>(kinds: &[Kind], stack: &'a [Kind]) -> Option<&'a [Kind]>
 
 // The operands below arguments, the last of which is uppermost.
 fn taken_arguments<'a>(parameters: &[Kind], stack: &'a [Kind]) -> Option<&'a [Kind]>
-    ensures { option_map (λ s. s.now) result ≡ typing.taken (last_first parameters.now []) stack.now }
+    ensures { option_map (λ s. s.now) result
+        ≡ typing.taken (last_first parameters.now []) stack.now }
 {
     let mut wanted = parameters;
     let mut rest = stack;
@@ -125,7 +131,9 @@ fn pushed(
     given: Option<Kind>,
     below: Option<&[Kind]>,
 ) -> Result<Option<Frame>, AllocError>
-    ensures fits { IfOk result (λ o. option_map type_frame o ≡ option_map (λ s. typing.with_stack (type_frame frame.now) (option_to_list given ++ s.now)) below.entry) }
+    ensures fits { IfOk result (λ o. option_map type_frame o
+        ≡ option_map (λ s. typing.with_stack (type_frame frame.now) (option_to_list given
+        ++ s.now)) below.entry) }
     ensures sized { IfOk result (λ o. IfSome o (λ f. f.locals ≡ frame.now.locals)) }
 {
     let Some(below) = below else {
@@ -152,7 +160,8 @@ fn with_stack(
     frame: &Frame,
     stack: Option<Vec<Kind>>,
 ) -> Result<Option<Frame>, AllocError>
-    ensures fits { IfOk result (λ o. option_map type_frame o ≡ option_map (λ v. typing.with_stack (type_frame frame.now) v.items) stack) }
+    ensures fits { IfOk result (λ o. option_map type_frame o
+        ≡ option_map (λ v. typing.with_stack (type_frame frame.now) v.items) stack) }
     ensures sized { IfOk result (λ o. IfSome o (λ f. f.locals ≡ frame.now.locals)) }
 {
     let Some(stack) = stack else {
@@ -181,7 +190,8 @@ fn loaded(
     index: usize,
     frame: &Frame,
 ) -> Result<Option<Frame>, AllocError>
-    ensures fits { IfOk result (λ o. option_map type_frame o ≡ typing.applied (typing.loads moved index) (type_frame frame.now)) }
+    ensures fits { IfOk result (λ o. option_map type_frame o
+        ≡ typing.applied (typing.loads moved index) (type_frame frame.now)) }
     ensures sized { IfOk result (λ o. IfSome o (λ f. f.locals ≡ frame.now.locals)) }
 {
     let kind = local_at(frame.locals.as_slice(), index);
@@ -193,7 +203,8 @@ fn loaded(
 }
 
 fn incremented(alloc: Global, index: usize, frame: &Frame) -> Result<Option<Frame>, AllocError>
-    ensures fits { IfOk result (λ o. option_map type_frame o ≡ typing.applied (typing.increments index) (type_frame frame.now)) }
+    ensures fits { IfOk result (λ o. option_map type_frame o
+        ≡ typing.applied (typing.increments index) (type_frame frame.now)) }
     ensures sized { IfOk result (λ o. IfSome o (λ f. f.locals ≡ frame.now.locals)) }
 {
     if matches!(local_at(frame.locals.as_slice(), index), Kind::Int) {
@@ -210,8 +221,10 @@ fn stored(
     frame: &Frame,
 ) -> Result<Option<Frame>, AllocError>
     requires { index < 2 ^ 8 }
-    ensures fits { IfOk result (λ o. option_map type_frame o ≡ typing.applied (typing.stores moved index) (type_frame frame.now)) }
-    ensures sized { IfOk result (λ o. IfSome o (λ f. (n : ℕ) → length frame.now.locals ≤ n → index < n → length f.locals ≤ n)) }
+    ensures fits { IfOk result (λ o. option_map type_frame o
+        ≡ typing.applied (typing.stores moved index) (type_frame frame.now)) }
+    ensures sized { IfOk result (λ o. IfSome o (λ f. (n : ℕ) → length frame.now.locals ≤ n
+        → index < n → length f.locals ≤ n)) }
 {
     match frame.stack.as_slice().split_first() {
         Some((kind, below)) if is_moved(moved, *kind) => {
@@ -234,8 +247,10 @@ fn with_local(
     kind: Kind,
 ) -> Result<Vec<Kind>, AllocError>
     requires { index < 2 ^ 8 }
-    ensures kinds { IfOk result (λ v. (i : ℕ) → slice_index_or v.items i kinds.Top ≡ (if i == index then kind else slice_index_or locals.now i kinds.Top)) }
-    ensures sized { IfOk result (λ v. (n : ℕ) → length locals.now ≤ n → index < n → length v.items ≤ n) }
+    ensures kinds { IfOk result (λ v. (i : ℕ) → slice_index_or v.items i kinds.Top
+        ≡ (if i == index then kind else slice_index_or locals.now i kinds.Top)) }
+    ensures sized { IfOk result (λ v. (n : ℕ) → length locals.now ≤ n → index < n
+        → length v.items ≤ n) }
 {
     let mut kinds = Vec::from_slice(alloc, locals)?;
     while kinds.len() <= index {

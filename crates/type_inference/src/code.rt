@@ -49,8 +49,15 @@ impl Code<'_> {
         instruction: &Instruction,
         frame: &Frame,
     ) -> Result<Option<Frame>, AllocError>
-        ensures enters { IfOk result (λ o. MatchOption o ((b : TypeFrame) → Enters (program_over self.now.methods.now) self.now.method.now instruction.now (type_frame frame.now) b → ⊥) (λ b. Enters (program_over self.now.methods.now) self.now.method.now instruction.now (type_frame frame.now) (type_frame b))) }
-        ensures sized { IfOk result (λ o. IfSome o (λ b. IsSized self.now.method.now.locals self.now.method.now.stack frame.now → IsSized self.now.method.now.locals self.now.method.now.stack b)) }
+        ensures enters { IfOk result (λ o. MatchOption o ((b : TypeFrame)
+            → Enters (program_over self.now.methods.now) self.now.method.now instruction.now
+            (type_frame frame.now) b
+            → ⊥) (λ b. Enters (program_over self.now.methods.now)
+            self.now.method.now instruction.now (type_frame frame.now) (type_frame b))) }
+        ensures sized { IfOk result (λ o.
+            IfSome o (λ b.
+            IsSized self.now.method.now.locals self.now.method.now.stack frame.now
+            → IsSized self.now.method.now.locals self.now.method.now.stack b)) }
     {
         let action = action_of(instruction);
         if !is_local_within(&action, self.method.locals) {

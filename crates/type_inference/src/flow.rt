@@ -12,7 +12,7 @@ use crate::frame::Frame;
 use crate::meet::meet;
 use crate::meeting::Meeting;
 use crate::successors::successors_of;
-use class_format::Sequence;
+use jvm_names::Sequence;
 use jvm_program::LinkedMethod;
 use std::alloc::{AllocError, Global};
 
@@ -28,8 +28,10 @@ impl Flow {
     /// Sets a frame, which an instruction below a limit has to see.
     fn put(&mut self, limit: usize, at: usize, frame: Frame) -> Result<(), AllocError>
         requires { at < length self.old.frames.items }
-        ensures frames { OnOk result (self.new.frames.items ≡ slice_set self.old.frames.items at (Some frame)) }
-        ensures work { OnOk result (self.new.work.items ≡ (if nat_lt at limit then self.old.work.items ++ at ∷ [] else self.old.work.items)) }
+        ensures frames { OnOk result (self.new.frames.items
+            ≡ slice_set self.old.frames.items at (Some frame)) }
+        ensures work { OnOk result (self.new.work.items
+            ≡ (if nat_lt at limit then self.old.work.items ++ at ∷ [] else self.old.work.items)) }
     {
         if at < limit {
             self.work.push(at)?;
@@ -49,10 +51,16 @@ impl Flow {
     ) -> Result<bool, AllocError>
         requires table { flow.IsTable code.now.method.now.lines code.now.starts.items }
         requires size { length self.old.frames.items ≡ length code.now.starts.items }
-        requires formed { flow.AreFormed code.now.method.now.locals code.now.method.now.stack self.old.frames.items }
+        requires formed { flow.AreFormed code.now.method.now.locals code.now.method.now.stack
+            self.old.frames.items }
         requires frame { IsSized code.now.method.now.locals code.now.method.now.stack frame.now }
-        ensures flows { IfOk result (λ good. good ≡ true → flow.Flows code.now.method.now limit (type_frame frame.now) to self.old.frames.items self.old.work.items self.new.frames.items self.new.work.items) }
-        ensures below { IfOk result (λ good. flow.StaysBelow code.now.method.now (type_frame frame.now) to self.old.frames.items good self.new.frames.items) }
+        ensures flows { IfOk result (λ good. good ≡ true
+            → flow.Flows code.now.method.now limit (type_frame frame.now)
+            to self.old.frames.items self.old.work.items self.new.frames.items
+            self.new.work.items) }
+        ensures below { IfOk result (λ good.
+            flow.StaysBelow code.now.method.now (type_frame frame.now)
+            to self.old.frames.items good self.new.frames.items) }
     {
         if !code.has_line(to) {
             return Ok(false);
@@ -77,10 +85,16 @@ impl Flow {
     ) -> Result<bool, AllocError>
         requires table { flow.IsTable code.now.method.now.lines code.now.starts.items }
         requires size { length self.old.frames.items ≡ length code.now.starts.items }
-        requires formed { flow.AreFormed code.now.method.now.locals code.now.method.now.stack self.old.frames.items }
+        requires formed { flow.AreFormed code.now.method.now.locals code.now.method.now.stack
+            self.old.frames.items }
         requires frame { IsSized code.now.method.now.locals code.now.method.now.stack frame.now }
-        ensures flows { IfOk result (λ good. good ≡ true → flow.FlowsToAll code.now.method.now limit (type_frame frame.now) targets.now self.old.frames.items self.old.work.items self.new.frames.items self.new.work.items) }
-        ensures below { IfOk result (λ good. flow.AllStayBelow code.now.method.now (type_frame frame.now) targets.now self.old.frames.items good self.new.frames.items) }
+        ensures flows { IfOk result (λ good. good ≡ true
+            → flow.FlowsToAll code.now.method.now limit (type_frame frame.now)
+            targets.now self.old.frames.items self.old.work.items self.new.frames.items
+            self.new.work.items) }
+        ensures below { IfOk result (λ good.
+            flow.AllStayBelow code.now.method.now (type_frame frame.now)
+            targets.now self.old.frames.items good self.new.frames.items) }
     {
         for target in targets {
             if !self.flow(alloc, code, limit, frame, *target as usize)? {
@@ -100,10 +114,16 @@ impl Flow {
     ) -> Result<bool, AllocError>
         requires table { flow.IsTable code.now.method.now.lines code.now.starts.items }
         requires size { length self.old.frames.items ≡ length code.now.starts.items }
-        requires formed { flow.AreFormed code.now.method.now.locals code.now.method.now.stack self.old.frames.items }
+        requires formed { flow.AreFormed code.now.method.now.locals code.now.method.now.stack
+            self.old.frames.items }
         requires admitted { at < limit }
-        ensures visits { IfOk result (λ good. good ≡ true → flow.Visits (program_over code.now.methods.now) code.now.method.now limit at self.old.frames.items self.old.work.items self.new.frames.items self.new.work.items) }
-        ensures below { IfOk result (λ good. flow.KeepsBelow (program_over code.now.methods.now) code.now.method.now limit self.old.frames.items good self.new.frames.items) }
+        ensures visits { IfOk result (λ good. good ≡ true
+            → flow.Visits (program_over code.now.methods.now)
+            code.now.method.now limit at self.old.frames.items self.old.work.items
+            self.new.frames.items self.new.work.items) }
+        ensures below { IfOk result (λ good.
+            flow.KeepsBelow (program_over code.now.methods.now)
+            code.now.method.now limit self.old.frames.items good self.new.frames.items) }
     {
         let Some(line) = code.line_at(at) else {
             return Ok(true);
@@ -122,9 +142,14 @@ impl Flow {
     fn settle(&mut self, alloc: Global, code: &Code<'_>, limit: usize) -> Result<bool, AllocError>
         requires table { flow.IsTable code.now.method.now.lines code.now.starts.items }
         requires size { length self.old.frames.items ≡ length code.now.starts.items }
-        requires keeps { flow.Keeps (program_over code.now.methods.now) code.now.method.now limit self.old.frames.items self.old.work.items }
-        ensures settles { IfOk result (λ good. good ≡ true → flow.Settles (program_over code.now.methods.now) code.now.method.now limit self.old.frames.items self.new.frames.items) }
-        ensures below { IfOk result (λ good. flow.KeepsBelow (program_over code.now.methods.now) code.now.method.now limit self.old.frames.items good self.new.frames.items) }
+        requires keeps { flow.Keeps (program_over code.now.methods.now)
+            code.now.method.now limit self.old.frames.items self.old.work.items }
+        ensures settles { IfOk result (λ good. good ≡ true
+            → flow.Settles (program_over code.now.methods.now)
+            code.now.method.now limit self.old.frames.items self.new.frames.items) }
+        ensures below { IfOk result (λ good.
+            flow.KeepsBelow (program_over code.now.methods.now)
+            code.now.method.now limit self.old.frames.items good self.new.frames.items) }
         ensures done { IfOk result (λ good. good ≡ true → self.new.work.items ≡ []) }
     {
         while let Some(at) = self.work.pop() {
@@ -139,11 +164,16 @@ impl Flow {
     fn admit(&mut self, alloc: Global, code: &Code<'_>, at: usize) -> Result<bool, AllocError>
         requires table { flow.IsTable code.now.method.now.lines code.now.starts.items }
         requires size { length self.old.frames.items ≡ length code.now.starts.items }
-        requires keeps { flow.Keeps (program_over code.now.methods.now) code.now.method.now at self.old.frames.items [] }
+        requires keeps { flow.Keeps (program_over code.now.methods.now)
+            code.now.method.now at self.old.frames.items [] }
         requires done { self.old.work.items ≡ [] }
         requires within { at < length code.now.starts.items }
-        ensures settles { IfOk result (λ good. good ≡ true → flow.Settles (program_over code.now.methods.now) code.now.method.now (suc at) self.old.frames.items self.new.frames.items) }
-        ensures below { IfOk result (λ good. flow.KeepsBelow (program_over code.now.methods.now) code.now.method.now (suc at) self.old.frames.items good self.new.frames.items) }
+        ensures settles { IfOk result (λ good. good ≡ true
+            → flow.Settles (program_over code.now.methods.now) code.now.method.now (suc at)
+            self.old.frames.items self.new.frames.items) }
+        ensures below { IfOk result (λ good.
+            flow.KeepsBelow (program_over code.now.methods.now) code.now.method.now (suc at)
+            self.old.frames.items good self.new.frames.items) }
         ensures done { IfOk result (λ good. good ≡ true → self.new.work.items ≡ []) }
     {
         self.work.push(at)?;
@@ -155,7 +185,8 @@ impl Flow {
         requires table { flow.IsTable code.now.method.now.lines code.now.starts.items }
         requires size { length self.old.frames.items ≡ length code.now.starts.items }
         requires fits { length code.now.starts.items ≤ 2 ^ 32 }
-        requires rests { flow.Rests (program_over code.now.methods.now) code.now.method.now 0 self.old.frames.items }
+        requires rests { flow.Rests (program_over code.now.methods.now)
+            code.now.method.now 0 self.old.frames.items }
         requires done { self.old.work.items ≡ [] }
         ensures { IfOk result (IsVerdict (program_over code.now.methods.now) code.now.method.now) }
     {

@@ -1,4 +1,4 @@
-use class_format::Sequence;
+use jvm_names::Sequence;
 use jvm_program::Kind;
 
 /// The types of the local variables and of the operands at an instruction (JVM Specification, 4.10.1.2). A frame is not changed

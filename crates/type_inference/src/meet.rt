@@ -8,7 +8,7 @@ ghost use Rattle.type_inference.specs.declared.meeting.Meeting.{Meeting};
 use crate::frame::Frame;
 use crate::kinds::{are_locals_below, has_no_top, is_stack_below, is_top, join};
 use crate::meeting::Meeting;
-use class_format::Sequence;
+use jvm_names::Sequence;
 use jvm_program::Kind;
 use std::alloc::{AllocError, Global};
 
@@ -40,14 +40,16 @@ fn first_frame(alloc: Global, frame: &Frame) -> Result<Meeting, AllocError>
 }
 
 fn is_frame_below(frame: &Frame, other: &Frame) -> bool
-    ensures { result ≡ joins.frame_below frame.now.locals frame.now.stack other.now.locals other.now.stack }
+    ensures { result
+        ≡ joins.frame_below frame.now.locals frame.now.stack other.now.locals other.now.stack }
 {
     is_stack_below(frame.stack.as_slice(), other.stack.as_slice())
         && are_locals_below(frame.locals.as_slice(), other.locals.as_slice())
 }
 
 fn joined_frame(alloc: Global, old: &Frame, frame: &Frame) -> Result<Meeting, AllocError>
-    requires { joins.frame_below frame.now.locals frame.now.stack old.now.locals old.now.stack ≡ false }
+    requires { joins.frame_below frame.now.locals frame.now.stack old.now.locals old.now.stack
+        ≡ false }
     ensures { IfOk result (IsMeeting (Some old.now) frame.now) }
 {
     let Some(stack) = joined_stack(alloc, old.stack.as_slice(), frame.stack.as_slice())? else {
@@ -65,7 +67,8 @@ fn joined_stack(
     stack: &[Kind],
     others: &[Kind],
 ) -> Result<Option<Vec<Kind>>, AllocError>
-    ensures { IfOk result (λ o. option_map (λ v. v.items) o ≡ joins.joined_stacks stack.now others.now) }
+    ensures { IfOk result (λ o. option_map (λ v. v.items) o
+        ≡ joins.joined_stacks stack.now others.now) }
 {
     let mut kinds = Vec::new(alloc);
     let mut rest = stack;

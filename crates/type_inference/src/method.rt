@@ -7,7 +7,7 @@ ghost use Rattle.type_inference.specs.Verdict.{IsVerdictOf};
 use crate::code::{Code, starts_of};
 use crate::flow::Flow;
 use crate::frame::Frame;
-use class_format::Sequence;
+use jvm_names::Sequence;
 use jvm_program::LinkedMethod;
 use std::alloc::{AllocError, Global};
 
@@ -40,7 +40,9 @@ pub fn check_method(
 // The frame of the method's start, and no other yet.
 fn entered(alloc: Global, code: &Code<'_>) -> Result<Flow, AllocError>
     requires { 0 < length code.now.starts.items }
-    ensures frames { IfOk result (λ f. f.frames.items ≡ slice_set (replicate (length code.now.starts.items) None) 0 (Some (entry_of code.now.method.now))) }
+    ensures frames { IfOk result (λ f. f.frames.items
+        ≡ slice_set (replicate (length code.now.starts.items) None) 0
+        (Some (entry_of code.now.method.now))) }
     ensures done { IfOk result (λ f. f.work.items ≡ []) }
 {
     let mut frames = no_frames(alloc, code.starts.len())?;

@@ -5,7 +5,7 @@ ghost use Rattle.jvm_program.specs.Typing.{is_long_kind};
 ghost use Rattle.type_inference.specs.Joins as joins;
 
 use crate::kinds::is_long;
-use jvm_code::StackName;
+use jvm_names::StackName;
 use jvm_program::Kind;
 use std::alloc::{AllocError, Global};
 
@@ -15,7 +15,8 @@ pub fn shuffled(
     name: StackName,
     stack: &[Kind],
 ) -> Result<Option<Vec<Kind>>, AllocError>
-    ensures { IfOk result (λ o. option_map (λ v. v.items) o ≡ forms.shuffled is_long_kind (forms.forms_of name) stack.now) }
+    ensures { IfOk result (λ o. option_map (λ v. v.items) o
+        ≡ forms.shuffled is_long_kind (forms.forms_of name) stack.now) }
 {
     match name {
         StackName::Pop => by_form(alloc, stack, &[false], &[]),
@@ -49,7 +50,9 @@ fn by_form(
     longs: &[bool],
     given: &[usize],
 ) -> Result<Option<Vec<Kind>>, AllocError>
-    ensures { IfOk result (λ o. option_map (λ v. v.items) o ≡ forms.shuffled is_long_kind (record { longs = longs.now; given = given.now } ∷ []) stack.now) }
+    ensures { IfOk result (λ o. option_map (λ v. v.items) o
+        ≡ forms.shuffled is_long_kind (record { longs = longs.now; given = given.now } ∷ [])
+        stack.now) }
 {
     match behind(longs, stack) {
         Some(below) => Ok(Some(above(alloc, given, stack, below)?)),
@@ -66,7 +69,9 @@ fn by_forms(
     other_longs: &[bool],
     other_given: &[usize],
 ) -> Result<Option<Vec<Kind>>, AllocError>
-    ensures { IfOk result (λ o. option_map (λ v. v.items) o ≡ forms.shuffled is_long_kind (record { longs = longs.now; given = given.now } ∷ record { longs = other_longs.now; given = other_given.now } ∷ []) stack.now) }
+    ensures { IfOk result (λ o. option_map (λ v. v.items) o
+        ≡ forms.shuffled is_long_kind (record { longs = longs.now; given = given.now }
+        ∷ record { longs = other_longs.now; given = other_given.now } ∷ []) stack.now) }
 {
     match behind(longs, stack) {
         Some(below) => Ok(Some(above(alloc, given, stack, below)?)),

@@ -2,7 +2,7 @@
 ghost use Rattle.std.specs.Prelude.{◌≡◌, ◌++◌, ◌∷◌, IfOk, OnOk, map};
 ghost use Rattle.jvm_program.specs.Program as program;
 
-use jvm_code::{BranchName, Pair};
+use jvm_names::{BranchName, Pair};
 use jvm_program::{Instruction, LinkedLine};
 use std::alloc::{AllocError, Global};
 
@@ -31,7 +31,8 @@ fn falls_through(instruction: &Instruction) -> bool
 }
 
 fn append_targets(targets: &mut Vec<u32>, instruction: &Instruction) -> Result<(), AllocError>
-    ensures { OnOk result (targets.new.items ≡ targets.old.items ++ program.targets_of instruction.now) }
+    ensures { OnOk result (targets.new.items ≡ targets.old.items
+        ++ program.targets_of instruction.now) }
 {
     match instruction {
         Instruction::Branch(_, target) => append(targets, *target, &[]),

@@ -22,9 +22,12 @@ pub record IsAtFault (classes : List Class) (fault : VerifyFault) : Type 0 where
   pub class_is : slice_get classes fault.class ≡ Some class
   pub within : fault.method < length class.methods
   pub method : LinkedMethod
-  pub method_is : (program_of classes).method (methods_before classes fault.class + fault.method) ≡ Some method
+  pub method_is : (program_of classes).method (methods_before classes fault.class + fault.method)
+      ≡ Some method
   pub fails : FailsAt (program_of classes) method fault.at
-  pub earlier : (m : ℕ) (other : LinkedMethod) → m < methods_before classes fault.class + fault.method → (program_of classes).method m ≡ Some other → Typed (program_of classes) other
+  pub earlier : (m : ℕ) (other : LinkedMethod)
+      → m < methods_before classes fault.class + fault.method
+      → (program_of classes).method m ≡ Some other → Typed (program_of classes) other
 
 -- a refusal names the first method that is not typed; want of memory may come anywhere
 abbrev pub IsRefusal : List Class → VerifyError → Type 0
@@ -34,21 +37,26 @@ IsRefusal classes NoMemory = Unit {0}
 -- all of so many methods are typed, or there is a first one that is not
 abbrev pub IsFirstFault : Program → ℕ → Option (ℕ × ℕ) → Type 0
 IsFirstFault program count None =
-    (m : ℕ) (method : LinkedMethod) → m < count → program.method m ≡ Some method → LeastTyping program method
+    (m : ℕ) (method : LinkedMethod) → m < count → program.method m ≡ Some method
+    → LeastTyping program method
 IsFirstFault program count (Some fault) =
     (fault.0 < count)
-    × ((m : ℕ) (method : LinkedMethod) → m < fault.0 → program.method m ≡ Some method → LeastTyping program method)
-    × ((method : LinkedMethod) → program.method fault.0 ≡ Some method → FailsAt program method fault.1)
+    × ((m : ℕ) (method : LinkedMethod) → m < fault.0 → program.method m ≡ Some method
+    → LeastTyping program method)
+    × ((method : LinkedMethod) → program.method fault.0 ≡ Some method
+    → FailsAt program method fault.1)
 
 -- a fault names this class, method and offset
 abbrev pub IsFault : ℕ → ℕ → ℕ → VerifyError → Type 0
-IsFault class method at (Refused fault) = (fault.class ≡ class) × (fault.method ≡ method) × (fault.at ≡ at)
+IsFault class method at (Refused fault) = (fault.class ≡ class) × (fault.method ≡ method)
+    × (fault.at ≡ at)
 IsFault class method at NoMemory = Unit {0}
 
 -- a fault names the method with a number among those of all classes
 abbrev pub IsPlace : List Class → ℕ → ℕ → VerifyError → Type 0
 IsPlace classes number at (Refused fault) =
-    ((class : Class) × (slice_get classes fault.class ≡ Some class) × (fault.method < length class.methods))
+    ((class : Class) × (slice_get classes fault.class ≡ Some class)
+    × (fault.method < length class.methods))
     × (methods_before classes fault.class + fault.method ≡ number)
     × (fault.at ≡ at)
 IsPlace classes number at NoMemory = Unit {0}

@@ -9,4 +9,5 @@ use Rattle.jvm_program.specs.Step.{start, turn}
 -- no run of a program comes to a step that no rule gives, in any number of words for arrays and over all answers of the system
 abbrev pub NeverStuck : Program → Type 0
 NeverStuck program =
-    (words n : ℕ) (answers : List Answer) → (run_of (turn program words) next_answer n (start program) answers).outcome ≢ Trapped 0
+    (words n : ℕ) (answers : List Answer)
+    → (run_of (turn program words) next_answer n (start program) answers).outcome ≢ Trapped 0

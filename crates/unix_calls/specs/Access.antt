@@ -24,11 +24,14 @@ write_of m call s = write s call.a0 call.a2 (text_at m (Counted call.a1 call.a2)
 
 -- the call is answered at once, by a number of 32 bits, and changes nothing
 pub record IsAnswer (does : System → Answer × System) (opened : Opened) (value : ℤ) : Type 0 where
-  pub is : (s : System) (files : Files) → does (with_tables s files opened) ≡ (value_only value, with_tables s files opened)
+  pub is : (s : System) (files : Files) → does (with_tables s files opened)
+      ≡ (value_only value, with_tables s files opened)
   pub small : mag value < 0x80000000
 
-pub record MayReadAt (opened : Opened) (m : Memory) (call : Call) (d : ℕ) (description : Description) : Type 0 where
-  pub is : (s : System) (files : Files) → read_of m call (with_tables s files opened) ≡ read_target (with_tables s files opened) d description call.a2 description.target
+pub record MayReadAt (opened : Opened) (m : Memory) (call : Call) (d : ℕ)
+    (description : Description) : Type 0 where
+  pub is : (s : System) (files : Files) → read_of m call (with_tables s files opened)
+      ≡ read_target (with_tables s files opened) d description call.a2 description.target
   pub within : d < 64
   pub few : call.a2 < 0x80000000
   pub room : IsTrue (can_write m call.a1 call.a2)
@@ -37,8 +40,11 @@ abbrev pub MayRead : Opened → Memory → Call → Access → Type 0
 MayRead opened m call (Answered value) = IsAnswer (read_of m call) opened value
 MayRead opened m call (Granted d description) = MayReadAt opened m call d description
 
-pub record MayWriteAt (opened : Opened) (m : Memory) (call : Call) (d : ℕ) (description : Description) : Type 0 where
-  pub is : (s : System) (files : Files) → write_of m call (with_tables s files opened) ≡ write_target (with_tables s files opened) d description (bytes_of_text (text_at m (Counted call.a1 call.a2))) description.target
+pub record MayWriteAt (opened : Opened) (m : Memory) (call : Call) (d : ℕ)
+    (description : Description) : Type 0 where
+  pub is : (s : System) (files : Files) → write_of m call (with_tables s files opened)
+      ≡ write_target (with_tables s files opened) d description
+      (bytes_of_text (text_at m (Counted call.a1 call.a2))) description.target
   pub within : d < 64
   pub few : call.a2 < 0x80000000
   pub readable : IsSome (bytes_from m call.a1 call.a2)

@@ -16,7 +16,8 @@ abbrev pub known : Option (List ℕ) → List ℕ
 known rest = unwrap_or rest []
 
 -- One byte is drawn, or none at the end of input.
-abbrev pub DrawsByte : {E : Type 0} → List ℕ → List ℕ → Option (List ℕ) → Option (List ℕ) → Result (Option ℕ) E → Type 0
+abbrev pub DrawsByte : {E : Type 0} → List ℕ → List ℕ → Option (List ℕ) → Option (List ℕ)
+    → Result (Option ℕ) E → Type 0
 DrawsByte old new rest left (Ok (Some b)) = Draws old new rest left (b ∷ [])
 DrawsByte old new rest left (Ok None) = Draws old new rest left [] × (new ≡ []) × IsAtEnd left
 DrawsByte old new rest left (Err e) = Draws old new rest left []
@@ -26,20 +27,23 @@ abbrev pub IsPlain : List ℕ → Type 0
 IsPlain bytes = (behind : List ℕ) → first_line (bytes ++ behind) ≡ bytes ++ first_line behind
 
 -- Bytes were drawn and put into a memory from a place on.
-pub record Copies {C : Type 0} (put_at : C → ℕ → ℕ → C) (c d : C) (place most : ℕ) (bytes : List ℕ) : Type 0 where
+pub record Copies {C : Type 0} (put_at : C → ℕ → ℕ → C) (c d : C) (place most : ℕ) (bytes : List ℕ)
+    : Type 0 where
   pub after : d ≡ patched put_at c place bytes
   pub small : IsTrue (list_all (λ x. nat_lt x 256) bytes)
   pub short : length bytes ≤ most
 
 -- What a read of at most so many bytes of the first line gave: they were drawn and copied. After a failure so were some bytes.
-pub record ReadsLine {C : Type 0} (put_at : C → ℕ → ℕ → C) (c d : C) (place most : ℕ) (old new : List ℕ) (rest left : Option (List ℕ)) (count : ℕ) : Type 0 where
+pub record ReadsLine {C : Type 0} (put_at : C → ℕ → ℕ → C) (c d : C) (place most : ℕ)
+    (old new : List ℕ) (rest left : Option (List ℕ)) (count : ℕ) : Type 0 where
   pub bytes : List ℕ
   pub drawn : Draws old new rest left bytes
   pub copied : Copies put_at c d place most bytes
   pub line : take most (first_line (bytes ++ new ++ known left)) ≡ bytes
   pub all : length bytes ≡ count
 
-pub record ReadsSome {C : Type 0} (put_at : C → ℕ → ℕ → C) (c d : C) (place most : ℕ) (old new : List ℕ) (rest left : Option (List ℕ)) : Type 0 where
+pub record ReadsSome {C : Type 0} (put_at : C → ℕ → ℕ → C) (c d : C) (place most : ℕ)
+    (old new : List ℕ) (rest left : Option (List ℕ)) : Type 0 where
   pub bytes : List ℕ
   pub drawn : Draws old new rest left bytes
   pub copied : Copies put_at c d place most bytes

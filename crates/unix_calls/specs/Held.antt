@@ -43,7 +43,15 @@ with_ahead held ahead = record {
 
 -- a system with these files, descriptors and heap, at this moment
 abbrev pub with_parts : System → Files → Opened → Heap → ℕ → System
-with_parts s files opened heap moment = record { files = files; opened = opened; console = s.console; heap = heap; args = s.args; moment = moment; order = s.order }
+with_parts s files opened heap moment = record {
+  files = files;
+  opened = opened;
+  console = s.console;
+  heap = heap;
+  args = s.args;
+  moment = moment;
+  order = s.order;
+}
 
 abbrev pub with_tables_held : Held → Files → Opened → Heap → Held
 with_tables_held held files opened heap = record {

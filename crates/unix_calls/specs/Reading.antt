@@ -16,7 +16,11 @@ abbrev pub with_input : System → Files → Opened → List ℕ → System
 with_input s files opened rest = record {
   files = files;
   opened = opened;
-  console = record { rest = rest; output = s.console.output; error_output = s.console.error_output };
+  console = record {
+    rest = rest;
+    output = s.console.output;
+    error_output = s.console.error_output;
+  };
   heap = s.heap;
   args = s.args;
   moment = s.moment;
@@ -31,17 +35,29 @@ pub record Inputs : Type 0 where
   pub rest : Option (List ℕ)
 
 abbrev pub inputs : Files → Opened → List ℕ → Option (List ℕ) → Inputs
-inputs files opened ahead rest = record { files = files; opened = opened; ahead = ahead; rest = rest }
+inputs files opened ahead rest = record {
+  files = files;
+  opened = opened;
+  ahead = ahead;
+  rest = rest;
+}
 
-pub record Reads {C : Type 0} (put_at : C → ℕ → ℕ → C) (does : System → Answer × System) (room : Room) (c d : C) (old new : Inputs) (value : ℤ) : Type 0 where
+pub record Reads {C : Type 0} (put_at : C → ℕ → ℕ → C) (does : System → Answer × System)
+    (room : Room) (c d : C) (old new : Inputs) (value : ℤ) : Type 0 where
   pub got : List ℕ
   pub patch : List ℕ
   pub consumed : Consumes old.rest new.rest got
   pub fits : IsTrue (fits_room patch room)
   pub after : d ≡ patched put_at c (room_place room) patch
-  pub is : (s : System) → does (with_input s old.files old.opened (old.ahead ++ (got ++ known new.rest))) ≡ (record { value = value; patch = patch }, with_input s new.files new.opened (new.ahead ++ known new.rest))
+  pub is : (s : System)
+      → does (with_input s old.files old.opened (old.ahead ++ (got ++ known new.rest)))
+      ≡ (
+        record { value = value; patch = patch },
+        with_input s new.files new.opened (new.ahead ++ known new.rest),
+      )
 
-pub record ReadsPart {C : Type 0} (put_at : C → ℕ → ℕ → C) (room : Room) (c d : C) (old new : Inputs) : Type 0 where
+pub record ReadsPart {C : Type 0} (put_at : C → ℕ → ℕ → C) (room : Room) (c d : C)
+    (old new : Inputs) : Type 0 where
   pub got : List ℕ
   pub patch : List ℕ
   pub consumed : Consumes old.rest new.rest got
@@ -50,7 +66,8 @@ pub record ReadsPart {C : Type 0} (put_at : C → ℕ → ℕ → C) (room : Roo
   pub files : new.files ≡ old.files
   pub opened : new.opened ≡ old.opened
 
-abbrev pub ReadGives : {C E : Type 0} → (C → ℕ → ℕ → C) → (System → Answer × System) → Room → C → C → Inputs → Inputs → Result ℤ E → Type 0
+abbrev pub ReadGives : {C E : Type 0} → (C → ℕ → ℕ → C) → (System → Answer × System) → Room → C → C
+    → Inputs → Inputs → Result ℤ E → Type 0
 ReadGives put_at does room c d old new (Ok value) = Reads put_at does room c d old new value
 ReadGives put_at does room c d old new (Err e) = ReadsPart put_at room c d old new
 
@@ -59,7 +76,12 @@ abbrev pub with_written : System → List ℕ → List ℕ → System
 with_written s output error_output = record {
   files = s.files;
   opened = s.opened;
-  console = record { rest = s.console.rest; output = s.console.output ++ output; error_output = s.console.error_output ++ error_output };
+  console = record {
+    rest = s.console.rest;
+    output = s.console.output
+        ++ output;
+    error_output = s.console.error_output ++ error_output;
+  };
   heap = s.heap;
   args = s.args;
   moment = s.moment;
@@ -81,17 +103,21 @@ pub record Writes (does : System → Answer × System) (old new : Outputs) (valu
   pub error_output : List ℕ
   pub wrote : Takes old.out new.out output
   pub wrote_error : Takes old.err new.err error_output
-  pub is : (s : System) → does (with_tables s old.files old.opened) ≡ (value_only value, with_written (with_tables s new.files new.opened) output error_output)
+  pub is : (s : System) → does (with_tables s old.files old.opened)
+      ≡ (value_only value, with_written (with_tables s new.files new.opened) output error_output)
 
 -- one sink failed before it had taken all that was to be written to it, and the other was not written to
 pub record WritesPart (does : System → Answer × System) (old new : Outputs) : Type 0 where
   pub output : List ℕ
   pub error_output : List ℕ
-  pub sinks : (FailsIn old.out new.out output × (new.err ≡ old.err)) ⊎ ((new.out ≡ old.out) × FailsIn old.err new.err error_output)
+  pub sinks : (FailsIn old.out new.out output × (new.err ≡ old.err))
+      ⊎ ((new.out ≡ old.out) × FailsIn old.err new.err error_output)
   pub files : new.files ≡ old.files
   pub opened : new.opened ≡ old.opened
-  pub is : (s : System) → (does (with_tables s old.files old.opened)).1.console ≡ (with_written s output error_output).console
+  pub is : (s : System) → (does (with_tables s old.files old.opened)).1.console
+      ≡ (with_written s output error_output).console
 
-abbrev pub WriteGives : {E : Type 0} → (System → Answer × System) → Outputs → Outputs → Result ℤ E → Type 0
+abbrev pub WriteGives : {E : Type 0} → (System → Answer × System) → Outputs → Outputs → Result ℤ E
+    → Type 0
 WriteGives does old new (Ok value) = Writes does old new value
 WriteGives does old new (Err e) = WritesPart does old new

@@ -30,7 +30,8 @@ abbrev pub told_by : Held → Option (List ℕ) → Option (List ℕ) → Option
 told_by held None output error_output = None
 told_by held (Some rest) None error_output = None
 told_by held (Some rest) (Some output) None = None
-told_by held (Some rest) (Some output) (Some error_output) = Some (system_of held rest output error_output)
+told_by held (Some rest) (Some output) (Some error_output) =
+    Some (system_of held rest output error_output)
 
 abbrev pub told : Parts → Option System
 told p = told_by p.unix p.input.told p.out.told p.err.told
@@ -38,7 +39,8 @@ told p = told_by p.unix p.input.told p.out.told p.err.told
 -- A call was answered and no part failed: the source lost `got`, the sinks gained what the definition writes, and the answer and what is
 -- held then are the definition's, whatever was written before. The rest of input is what was read ahead, `got`, and what the source then
 -- tells.
-pub record Goes (does : System → Answer × System) (room : Room) (p : Parts) (a : Answer) (r : Parts) : Type 0 where
+pub record Goes (does : System → Answer × System) (room : Room) (p : Parts) (a : Answer) (r : Parts)
+    : Type 0 where
   pub got : List ℕ
   pub output : List ℕ
   pub error_output : List ℕ
@@ -47,7 +49,9 @@ pub record Goes (does : System → Answer × System) (room : Room) (p : Parts) (
   pub sound : r.input.faults ≡ p.input.faults
   pub wrote : Takes p.out r.out output
   pub wrote_error : Takes p.err r.err error_output
-  pub is : (before error_before : List ℕ) → does (system_of p.unix (got ++ known r.input.told) before error_before) ≡ (a, system_of r.unix (known r.input.told) (before ++ output) (error_before ++ error_output))
+  pub is : (before error_before : List ℕ)
+      → does (system_of p.unix (got ++ known r.input.told) before error_before)
+      ≡ (a, system_of r.unix (known r.input.told) (before ++ output) (error_before ++ error_output))
 
 -- what the definition writes in a call
 abbrev pub written_by : (System → Answer × System) → Held → List ℕ → Console
@@ -55,7 +59,8 @@ written_by does held rest = (does (system_of held rest [] [])).1.console
 
 -- One sink failed before it had taken all that the definition writes to it, and the other was not written to.
 abbrev pub OneFails : Console → Parts → Parts → Type 0
-OneFails written p r = (FailsIn p.out r.out written.output × (r.err ≡ p.err)) ⊎ ((r.out ≡ p.out) × FailsIn p.err r.err written.error_output)
+OneFails written p r = (FailsIn p.out r.out written.output × (r.err ≡ p.err))
+    ⊎ ((r.out ≡ p.out) × FailsIn p.err r.err written.error_output)
 
 -- The source failed a call, which is call 4, a read: it lost a front part of its rest, and nothing was written. Of what is held, only what
 -- was read ahead may have changed.
@@ -81,20 +86,29 @@ Fell ReadFault does number p r = FellReading number p r
 Fell WriteFault does number p r = FellWriting does number p r
 
 -- What a call gave: an answer, whose bytes the memory then has, or a fault, after which some bytes may stand in the room.
-abbrev pub Serves : {C : Type 0} → (C → ℕ → ℕ → C) → (System → Answer × System) → ℕ → Room → Parts → Parts → C → C → Result ℤ IoFault → Type 0
-Serves put_at does number room p r c d (Ok value) = (patch : List ℕ) × Goes does room p (record { value = value; patch = patch }) r × (d ≡ patched put_at c (room_place room) patch)
-Serves put_at does number room p r c d (Err fault) = Fell fault does number p r × ((patch : List ℕ) × IsTrue (fits_room patch room) × (d ≡ patched put_at c (room_place room) patch))
+abbrev pub Serves : {C : Type 0} → (C → ℕ → ℕ → C) → (System → Answer × System) → ℕ → Room → Parts
+    → Parts → C → C → Result ℤ IoFault → Type 0
+Serves put_at does number room p r c d (Ok value) = (patch : List ℕ)
+    × Goes does room p (record { value = value; patch = patch }) r
+    × (d ≡ patched put_at c (room_place room) patch)
+Serves put_at does number room p r c d (Err fault) = Fell fault does number p r
+    × ((patch : List ℕ) × IsTrue (fits_room patch room)
+    × (d ≡ patched put_at c (room_place room) patch))
 
 -- A call that reads no input, writes nothing and puts no bytes into memory.
 abbrev pub IsQuiet : (System → Answer × System) → Held → Held → ℤ → Type 0
-IsQuiet does old new value = (rest output error_output : List ℕ) → does (system_of old rest output error_output) ≡ (value_only value, system_of new rest output error_output)
+IsQuiet does old new value = (rest output error_output : List ℕ)
+    → does (system_of old rest output error_output)
+    ≡ (value_only value, system_of new rest output error_output)
 
 -- A call that reads no input and writes nothing.
-pub record Puts {C : Type 0} (put_at : C → ℕ → ℕ → C) (does : System → Answer × System) (room : Room) (old new : Held) (c d : C) (value : ℤ) : Type 0 where
+pub record Puts {C : Type 0} (put_at : C → ℕ → ℕ → C) (does : System → Answer × System)
+    (room : Room) (old new : Held) (c d : C) (value : ℤ) : Type 0 where
   pub patch : List ℕ
   pub fits : IsTrue (fits_room patch room)
   pub after : d ≡ patched put_at c (room_place room) patch
-  pub is : (rest output error_output : List ℕ) → does (system_of old rest output error_output) ≡ (record { value = value; patch = patch }, system_of new rest output error_output)
+  pub is : (rest output error_output : List ℕ) → does (system_of old rest output error_output)
+      ≡ (record { value = value; patch = patch }, system_of new rest output error_output)
 
 -- an answer as it was, and a failure as this fault
 abbrev pub AsFault : IoFault → Result ℤ Failed → Result ℤ IoFault → Type 0

@@ -65,7 +65,8 @@ pub record ComesTo (stage : Stage) (u v : Streams) : Type 0 where
 pub record LosesPart (old new : Seen (List ℕ)) (left : List ℕ) : Type 0 where
   pub got : List ℕ
   pub lost : Consumes old.told new.told got
-  pub is : (rest : List ℕ) → old.told ≡ Some rest → (more : List ℕ) × (left ≡ more ++ unwrap_or new.told [])
+  pub is : (rest : List ℕ) → old.told ≡ Some rest → (more : List ℕ)
+      × (left ≡ more ++ unwrap_or new.told [])
   pub rises : Rises old.faults new.faults
 
 -- A sink took all of one text, and of a further one, with which all is written, a front part, but not all of it.
@@ -80,15 +81,18 @@ pub record FailsBehind (old new : Seen (List ℕ)) (first all : List ℕ) : Type
 abbrev pub OneFailsBehind : Stage → Stage → Streams → Streams → Type 0
 OneFailsBehind before behind u v =
     (FailsBehind u.out v.out before.output behind.output × Takes u.err v.err before.error_output)
-    ⊎ (Takes u.out v.out before.output × FailsBehind u.err v.err before.error_output behind.error_output)
+    ⊎ (Takes u.out v.out before.output
+    × FailsBehind u.err v.err before.error_output behind.error_output)
 
 -- Between two stages there is a call that the outside failed: input one that reads, and a sink one that writes. Nothing further was read or
 -- written.
 abbrev pub FailsCall : IoFault → Stage → Stage → Streams → Streams → Type 0
 FailsCall ReadFault before behind u v =
-    (before.next ≡ reads) × LosesPart u.input v.input before.left × Takes u.out v.out before.output × Takes u.err v.err before.error_output
+    (before.next ≡ reads) × LosesPart u.input v.input before.left × Takes u.out v.out before.output
+    × Takes u.err v.err before.error_output
 FailsCall WriteFault before behind u v =
-    (before.next ≡ writes) × LosesRead u.input v.input before.left × OneFailsBehind before behind u v
+    (before.next ≡ writes) × LosesRead u.input v.input before.left
+    × OneFailsBehind before behind u v
 
 -- A run, which stands so after each number of turns, was stopped in a call of one of its turns.
 pub record StopsRun (turns : ℕ) (stage : ℕ → Stage) (fault : IoFault) (u v : Streams) : Type 0 where

@@ -7,10 +7,20 @@ use Rattle.unix_calls.specs.Held.{Held}
 abbrev pub held_at_start : ℕ → ℕ → List (List ℕ × List ℕ) → List (List ℕ) → Held
 held_at_start blocks moment files args =
     let s = start blocks moment files args [] in
-    record { files = s.files; blocks = blocks; opened = s.opened; heap = s.heap; args = args; moment = moment; order = s.order; ahead = [] }
+    record {
+      files = s.files;
+      blocks = blocks;
+      opened = s.opened;
+      heap = s.heap;
+      args = args;
+      moment = moment;
+      order = s.order;
+      ahead = [];
+    }
 
 -- No call was served, and the files so far fit the blocks.
-pub record Begins (held : Held) (blocks moment : ℕ) (files : List (List ℕ × List ℕ)) (args : List (List ℕ)) : Type 0 where
+pub record Begins (held : Held) (blocks moment : ℕ) (files : List (List ℕ × List ℕ))
+    (args : List (List ℕ)) : Type 0 where
   pub is : held ≡ held_at_start blocks moment files args
   pub fits : blocks_needed files ≤ blocks
 

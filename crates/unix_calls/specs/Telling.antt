@@ -16,10 +16,13 @@ abbrev seen : Option (List ℕ) → ℕ → Seen (List ℕ)
 seen told faults = record { told = told; faults = faults }
 
 abbrev seen_parts : Held → Option (List ℕ) → Option (List ℕ) → Option (List ℕ) → ℕ → ℕ → ℕ → Parts
-seen_parts u rest output error_output i o e = parts u (seen rest i) (seen output o) (seen error_output e)
+seen_parts u rest output error_output i o e =
+    parts u (seen rest i) (seen output o) (seen error_output e)
 
-all-told : (q : Question) (u w : Held) (a : Answer) (k : System) (r0 r1 o0 o1 e0 e1 : List ℕ) (i o e j f h : ℕ) → Some (system_of u r0 o0 e0) ≡ Some k
-    → Goes (λ s. unix s q) q.room (seen_parts u (Some r0) (Some o0) (Some e0) i o e) a (seen_parts w (Some r1) (Some o1) (Some e1) j f h)
+all-told : (q : Question) (u w : Held) (a : Answer) (k : System) (r0 r1 o0 o1 e0 e1 : List ℕ)
+    (i o e j f h : ℕ) → Some (system_of u r0 o0 e0) ≡ Some k
+    → Goes (λ s. unix s q) q.room (seen_parts u (Some r0) (Some o0) (Some e0) i o e) a
+    (seen_parts w (Some r1) (Some o1) (Some e1) j f h)
     → IsReply k q a (told_by w (Some r1) (Some o1) (Some e1))
 all-told q u w a k r0 r1 o0 o1 e0 e1 i o e j f h is g =
     let start : system_of u r0 o0 e0 ≡ k = cc in
@@ -27,15 +30,21 @@ all-told q u w a k r0 r1 o0 o1 e0 e1 i o e j f h is g =
     let given : unix k q ≡ (a, l) =
     ap (λ s. unix s q) (sym start)
     ∙ (ap (λ r. unix (system_of u r o0 e0) q) g.consumed
-    ∙ (g.is o0 e0 ∙ (ap (λ x. (a, system_of w r1 x (e0 ++ g.error_output))) (sym g.wrote.0) ∙ ap (λ x. (a, system_of w r1 o1 x)) (sym g.wrote_error.0)))) in
+    ∙ (g.is o0 e0 ∙ (ap (λ x. (a, system_of w r1 x (e0 ++ g.error_output))) (sym g.wrote.0) ∙ ap
+    (λ x. (a, system_of w r1 o1 x)) (sym g.wrote_error.0)))) in
     (l, ap (fitting q) given ∙ ap (λ t. if t then Some (a, l) else None) g.fits, refl)
 
-pub goes_as_told : (q : Question) (u w : Held) (a : Answer) (k : System) (r0 o0 e0 r1 o1 e1 : Option (List ℕ)) (i o e j f h : ℕ) → told_by u r0 o0 e0 ≡ Some k
-    → Goes (λ s. unix s q) q.room (seen_parts u r0 o0 e0 i o e) a (seen_parts w r1 o1 e1 j f h) → IsReply k q a (told_by w r1 o1 e1)
+pub goes_as_told : (q : Question) (u w : Held) (a : Answer) (k : System)
+    (r0 o0 e0 r1 o1 e1 : Option (List ℕ)) (i o e j f h : ℕ) → told_by u r0 o0 e0 ≡ Some k
+    → Goes (λ s. unix s q) q.room (seen_parts u r0 o0 e0 i o e) a (seen_parts w r1 o1 e1 j f h)
+    → IsReply k q a (told_by w r1 o1 e1)
 goes_as_told q u w a k None o0 e0 r1 o1 e1 i o e j f h is g = cc
 goes_as_told q u w a k (Some r0) None e0 r1 o1 e1 i o e j f h is g = cc
 goes_as_told q u w a k (Some r0) (Some o0) None r1 o1 e1 i o e j f h is g = cc
 goes_as_told q u w a k (Some r0) (Some o0) (Some e0) None o1 e1 i o e j f h is g = absurd g.consumed
-goes_as_told q u w a k (Some r0) (Some o0) (Some e0) (Some r1) None e1 i o e j f h is g = absurd g.wrote.0
-goes_as_told q u w a k (Some r0) (Some o0) (Some e0) (Some r1) (Some o1) None i o e j f h is g = absurd g.wrote_error.0
-goes_as_told q u w a k (Some r0) (Some o0) (Some e0) (Some r1) (Some o1) (Some e1) i o e j f h is g = all-told q u w a k r0 r1 o0 o1 e0 e1 i o e j f h is g
+goes_as_told q u w a k (Some r0) (Some o0) (Some e0) (Some r1) None e1 i o e j f h is g =
+    absurd g.wrote.0
+goes_as_told q u w a k (Some r0) (Some o0) (Some e0) (Some r1) (Some o1) None i o e j f h is g =
+    absurd g.wrote_error.0
+goes_as_told q u w a k (Some r0) (Some o0) (Some e0) (Some r1) (Some o1) (Some e1)
+    i o e j f h is g = all-told q u w a k r0 r1 o0 o1 e0 e1 i o e j f h is g

@@ -74,7 +74,9 @@ impl Args {
     /// The argument block for an address.
     pub fn block(&self, order: Order, place: u32) -> Piece
         requires { place + 4096 ≤ 2 ^ 32 }
-        ensures block { result ≡ words_in_order order (addresses (place + 4 * (length self.now + 1)) self.now ++ 0 ∷ []) ++ texts_with_zeros self.now }
+        ensures block { result
+            ≡ words_in_order order (addresses (place + 4 * (length self.now + 1)) self.now
+            ++ 0 ∷ []) ++ texts_with_zeros self.now }
         ensures small { length result ≤ 4096 }
     {
         let mut block = Piece::new();
@@ -89,7 +91,9 @@ fn push_addresses(block: &mut Piece, order: Order, place: u32, texts: &Vec<Text>
     requires empty { block.old ≡ [] }
     requires place { place + 4096 ≤ 2 ^ 32 }
     requires small { block_length texts.now.items ≤ 4096 }
-    ensures block { block.new ≡ words_in_order order (addresses (place + 4 * (length texts.now.items + 1)) texts.now.items ++ 0 ∷ []) }
+    ensures block { block.new
+        ≡ words_in_order order (addresses (place + 4 * (length texts.now.items + 1)) texts.now.items
+        ++ 0 ∷ []) }
     ensures len { length block.new ≡ 4 * (length texts.now.items + 1) }
 {
     let mut at = u64::from(place) + 4 * (texts.len() as u64 + 1);

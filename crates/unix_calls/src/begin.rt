@@ -31,7 +31,13 @@ pub fn begin<M: View>(
 ) -> i32
     requires within { (heap.old.program_break ≤ heap.old.end) × (heap.old.end ≤ 0x7FFFFFFF) }
     requires size { 4096 ≤ size }
-    ensures call { (s : System) → Gives M.put_at (M.content view.old) (M.content view.new) (room_at (M.memory (M.content view.old)) (Some (call.now.a0, size))) result (with_args s order.new args.now heap.new) (begin (with_args s order.old args.now heap.old) call.now.a0 call.now.a1 call.now.a2 call.now.a3 (room_at (M.memory (M.content view.old)) (Some (call.now.a0, size)))) }
+    ensures call { (s : System)
+        → Gives M.put_at (M.content view.old) (M.content view.new)
+        (room_at (M.memory (M.content view.old)) (Some (call.now.a0, size))) result
+        (with_args s order.new args.now heap.new)
+        (begin (with_args s order.old args.now heap.old)
+        call.now.a0 call.now.a1 call.now.a2 call.now.a3
+        (room_at (M.memory (M.content view.old)) (Some (call.now.a0, size)))) }
     ensures within { (heap.new.program_break ≤ heap.new.end) × (heap.new.end ≤ 0x7FFFFFFF) }
 {
     if heap.begun {
@@ -73,7 +79,8 @@ fn heap_at(start: u32, end: u32) -> Heap
 fn put_block<M: View>(args: &Args, order: Order, place: u32, size: u32, view: &mut M)
     requires room { IsTrue (can_write (M.memory (M.content view.old)) place size) }
     requires size { 4096 ≤ size }
-    ensures { PutsBlock M.put_at (M.content view.old) (M.content view.new) place (block_of order args.now place) }
+    ensures { PutsBlock M.put_at (M.content view.old) (M.content view.new) place
+        (block_of order args.now place) }
 {
     let block = args.block(order, place);
     put_bytes(view, place, block.as_slice());

@@ -31,8 +31,10 @@ pub fn write_out<M: View, K: Sink>(
     view: &M,
 ) -> Result<(), Failed>
     requires { IsSome (bytes_from (M.memory (M.content view.now)) at count) }
-    ensures ok { OnOk result (Takes (output_seen K.Sink sink.old) (output_seen K.Sink sink.new) (bytes_of_text (text_at (M.memory (M.content view.now)) (Counted at count)))) }
-    ensures err { OnErr result (FailsIn (output_seen K.Sink sink.old) (output_seen K.Sink sink.new) (bytes_of_text (text_at (M.memory (M.content view.now)) (Counted at count)))) }
+    ensures ok { OnOk result (Takes (output_seen K.Sink sink.old) (output_seen K.Sink sink.new)
+        (bytes_of_text (text_at (M.memory (M.content view.now)) (Counted at count)))) }
+    ensures err { OnErr result (FailsIn (output_seen K.Sink sink.old) (output_seen K.Sink sink.new)
+        (bytes_of_text (text_at (M.memory (M.content view.now)) (Counted at count)))) }
 {
     let mut done = 0;
     while done < count {
@@ -48,9 +50,16 @@ pub fn write_out<M: View, K: Sink>(
 fn write_console<M: View, K: Sink>(sink: &mut K, call: &Call, view: &M) -> Result<i32, Failed>
     requires few { call.now.a2 < 0x80000000 }
     requires readable { IsSome (bytes_from (M.memory (M.content view.now)) call.now.a1 call.now.a2) }
-    ensures value { IfOk result (λ v. v ≡ pos (length (bytes_of_text (text_at (M.memory (M.content view.now)) (Counted call.now.a1 call.now.a2))))) }
-    ensures ok { OnOk result (Takes (output_seen K.Sink sink.old) (output_seen K.Sink sink.new) (bytes_of_text (text_at (M.memory (M.content view.now)) (Counted call.now.a1 call.now.a2)))) }
-    ensures err { OnErr result (FailsIn (output_seen K.Sink sink.old) (output_seen K.Sink sink.new) (bytes_of_text (text_at (M.memory (M.content view.now)) (Counted call.now.a1 call.now.a2)))) }
+    ensures value { IfOk result (λ v. v
+        ≡ pos (length
+        (bytes_of_text (text_at (M.memory (M.content view.now))
+        (Counted call.now.a1 call.now.a2))))) }
+    ensures ok { OnOk result (Takes (output_seen K.Sink sink.old) (output_seen K.Sink sink.new)
+        (bytes_of_text (text_at (M.memory (M.content view.now))
+        (Counted call.now.a1 call.now.a2)))) }
+    ensures err { OnErr result (FailsIn (output_seen K.Sink sink.old) (output_seen K.Sink sink.new)
+        (bytes_of_text (text_at (M.memory (M.content view.now))
+        (Counted call.now.a1 call.now.a2)))) }
 {
     write_out(sink, call.a1, call.a2, view)?;
     Ok(call.a2 as i32)
@@ -69,7 +78,12 @@ fn write_to<M: View, O: Sink, E: Sink>(
     requires within { found.0 < 64 }
     requires few { call.now.a2 < 0x80000000 }
     requires readable { IsSome (bytes_from (M.memory (M.content view.now)) call.now.a1 call.now.a2) }
-    ensures served { WriteGives (λ s. write_target s found.0 found.1 (bytes_of_text (text_at (M.memory (M.content view.now)) (Counted call.now.a1 call.now.a2))) found.1.target) (outputs disk.old opened.old (output_seen O.Sink out.old) (output_seen E.Sink err.old)) (outputs disk.new opened.new (output_seen O.Sink out.new) (output_seen E.Sink err.new)) result }
+    ensures served { WriteGives (λ s. write_target s found.0 found.1
+        (bytes_of_text (text_at (M.memory (M.content view.now))
+        (Counted call.now.a1 call.now.a2))) found.1.target)
+        (outputs disk.old opened.old (output_seen O.Sink out.old) (output_seen E.Sink err.old))
+        (outputs disk.new opened.new (output_seen O.Sink out.new) (output_seen E.Sink err.new))
+        result }
 {
     match found.1.target {
         Target::File(n) => Ok(write_file(disk, opened, found, n, call.a1, call.a2, view)),
@@ -88,7 +102,10 @@ pub fn write<M: View, O: Sink, E: Sink>(
     out: &mut O,
     err: &mut E,
 ) -> Result<i32, Failed>
-    ensures served { WriteGives (write_of (M.memory (M.content view.now)) call.now) (outputs disk.old opened.old (output_seen O.Sink out.old) (output_seen E.Sink err.old)) (outputs disk.new opened.new (output_seen O.Sink out.new) (output_seen E.Sink err.new)) result }
+    ensures served { WriteGives (write_of (M.memory (M.content view.now)) call.now)
+        (outputs disk.old opened.old (output_seen O.Sink out.old) (output_seen E.Sink err.old))
+        (outputs disk.new opened.new (output_seen O.Sink out.new) (output_seen E.Sink err.new))
+        result }
 {
     match may_write(opened, call, view) {
         Access::Answered(value) => Ok(value),

@@ -31,8 +31,10 @@ pub fn read_line<M: View, S: Source>(
     view: &mut M,
 ) -> Result<u32, Failed>
     requires { IsTrue (can_write (M.memory (M.content view.old)) place count) }
-    ensures ok { IfOk result (λ n. ReadsLine M.put_at (M.content view.old) (M.content view.new) place count ahead.old ahead.new (S.rest source.old) (S.rest source.new) n) }
-    ensures err { OnErr result (ReadsSome M.put_at (M.content view.old) (M.content view.new) place count ahead.old ahead.new (S.rest source.old) (S.rest source.new)) }
+    ensures ok { IfOk result (λ n. ReadsLine M.put_at (M.content view.old) (M.content view.new)
+        place count ahead.old ahead.new (S.rest source.old) (S.rest source.new) n) }
+    ensures err { OnErr result (ReadsSome M.put_at (M.content view.old) (M.content view.new)
+        place count ahead.old ahead.new (S.rest source.old) (S.rest source.new)) }
     ensures count { CountsFailure (is_err result) (S.faults source.old) (S.faults source.new) }
 {
     for i in 0..count {
@@ -54,7 +56,8 @@ fn put_byte<M: View>(view: &mut M, at: u32, b: u8)
     requires { IsTrue ((M.memory (M.content view.old)).writable at) }
     ensures after { M.content view.new ≡ M.put_at (M.content view.old) at b }
     ensures small { b < 256 }
-    ensures same_room { (x : ℕ) → (M.memory (M.content view.new)).writable x ≡ (M.memory (M.content view.old)).writable x }
+    ensures same_room { (x : ℕ) → (M.memory (M.content view.new)).writable x
+        ≡ (M.memory (M.content view.old)).writable x }
 {
     view.put(at, b);
 }
@@ -68,8 +71,12 @@ fn read_console<M: View, S: Source>(
 ) -> Result<i32, Failed>
     requires few { call.now.a2 < 0x80000000 }
     requires room { IsTrue (can_write (M.memory (M.content view.old)) call.now.a1 call.now.a2) }
-    ensures ok { IfOk result (λ v. (n : ℕ) × ReadsLine M.put_at (M.content view.old) (M.content view.new) call.now.a1 call.now.a2 ahead.old ahead.new (S.rest source.old) (S.rest source.new) n × (v ≡ pos n)) }
-    ensures err { OnErr result (ReadsSome M.put_at (M.content view.old) (M.content view.new) call.now.a1 call.now.a2 ahead.old ahead.new (S.rest source.old) (S.rest source.new)) }
+    ensures ok { IfOk result (λ v. (n : ℕ)
+        × ReadsLine M.put_at (M.content view.old) (M.content view.new)
+        call.now.a1 call.now.a2 ahead.old ahead.new (S.rest source.old) (S.rest source.new) n
+        × (v ≡ pos n)) }
+    ensures err { OnErr result (ReadsSome M.put_at (M.content view.old) (M.content view.new)
+        call.now.a1 call.now.a2 ahead.old ahead.new (S.rest source.old) (S.rest source.new)) }
     ensures count { CountsFailure (is_err result) (S.faults source.old) (S.faults source.new) }
 {
     let n = read_line(ahead, source, call.a1, call.a2, view)?;
@@ -89,7 +96,11 @@ fn read_from<M: View, S: Source>(
     requires within { found.0 < 64 }
     requires few { call.now.a2 < 0x80000000 }
     requires room { IsTrue (can_write (M.memory (M.content view.old)) call.now.a1 call.now.a2) }
-    ensures served { ReadGives M.put_at (λ s. read_target s found.0 found.1 call.now.a2 found.1.target) (there call.now.a1 call.now.a2) (M.content view.old) (M.content view.new) (inputs disk.old opened.old ahead.old (S.rest source.old)) (inputs disk.new opened.new ahead.new (S.rest source.new)) result }
+    ensures served { ReadGives M.put_at (λ s.
+        read_target s found.0 found.1 call.now.a2 found.1.target)
+        (there call.now.a1 call.now.a2) (M.content view.old) (M.content view.new)
+        (inputs disk.old opened.old ahead.old (S.rest source.old))
+        (inputs disk.new opened.new ahead.new (S.rest source.new)) result }
     ensures count { CountsFailure (is_err result) (S.faults source.old) (S.faults source.new) }
 {
     match found.1.target {
@@ -108,7 +119,11 @@ pub fn read<M: View, S: Source>(
     view: &mut M,
     source: &mut S,
 ) -> Result<i32, Failed>
-    ensures served { ReadGives M.put_at (read_of (M.memory (M.content view.old)) call.now) (room_at (M.memory (M.content view.old)) (Some (call.now.a1, call.now.a2))) (M.content view.old) (M.content view.new) (inputs disk.old opened.old ahead.old (S.rest source.old)) (inputs disk.new opened.new ahead.new (S.rest source.new)) result }
+    ensures served { ReadGives M.put_at (read_of (M.memory (M.content view.old)) call.now)
+        (room_at (M.memory (M.content view.old)) (Some (call.now.a1, call.now.a2)))
+        (M.content view.old) (M.content view.new)
+        (inputs disk.old opened.old ahead.old (S.rest source.old))
+        (inputs disk.new opened.new ahead.new (S.rest source.new)) result }
     ensures count { CountsFailure (is_err result) (S.faults source.old) (S.faults source.new) }
 {
     match may_read(opened, call, view) {

@@ -31,13 +31,23 @@ impl<'a, S: Source, O: Sink, E: Sink> Server for Joined<'a, S, O, E> {
 
     ghost reply = { reply };
 
-    ghost told = { λ j. told_by j.unix.now (S.rest j.source.now) (O.taken j.out.now) (E.taken j.err.now) };
+    ghost told = { λ j. told_by j.unix.now (S.rest j.source.now) (O.taken j.out.now)
+        (E.taken j.err.now) };
 
-    ghost goes = { λ j q a k. Goes (λ s. unix s q) q.room (parts j.unix.now (input_seen S.Source j.source.now) (output_seen O.Sink j.out.now) (output_seen E.Sink j.err.now)) a (parts k.unix.now (input_seen S.Source k.source.now) (output_seen O.Sink k.out.now) (output_seen E.Sink k.err.now)) };
+    ghost goes = { λ j q a k. Goes (λ s. unix s q) q.room
+        (parts j.unix.now (input_seen S.Source j.source.now) (output_seen O.Sink j.out.now)
+        (output_seen E.Sink j.err.now)) a
+        (parts k.unix.now (input_seen S.Source k.source.now) (output_seen O.Sink k.out.now)
+        (output_seen E.Sink k.err.now)) };
 
     ghost held = { λ j q k. ⊥ };
 
-    ghost fell = { λ j q k. (fault : IoFault) × (k.failed ≡ Some fault) × Fell fault (λ s. unix s q) q.number (parts j.unix.now (input_seen S.Source j.source.now) (output_seen O.Sink j.out.now) (output_seen E.Sink j.err.now)) (parts k.unix.now (input_seen S.Source k.source.now) (output_seen O.Sink k.out.now) (output_seen E.Sink k.err.now)) };
+    ghost fell = { λ j q k. (fault : IoFault) × (k.failed ≡ Some fault)
+        × Fell fault (λ s. unix s q) q.number
+        (parts j.unix.now (input_seen S.Source j.source.now) (output_seen O.Sink j.out.now)
+        (output_seen E.Sink j.err.now))
+        (parts k.unix.now (input_seen S.Source k.source.now) (output_seen O.Sink k.out.now)
+        (output_seen E.Sink k.err.now)) };
 
     ghost ready = { λ j. true };
 
@@ -45,7 +55,10 @@ impl<'a, S: Source, O: Sink, E: Sink> Server for Joined<'a, S, O, E> {
 
     ghost faults = { λ j. failed_calls j.failed };
 
-    ghost keeps = { λ j k. (k.unix.ghost_name ≡ j.unix.ghost_name) × (k.source.ghost_name ≡ j.source.ghost_name) × (k.out.ghost_name ≡ j.out.ghost_name) × (k.err.ghost_name ≡ j.err.ghost_name) × (length j.unix.now.ahead ≤ 4096 → length k.unix.now.ahead ≤ 4096) };
+    ghost keeps = { λ j k. (k.unix.ghost_name ≡ j.unix.ghost_name)
+        × (k.source.ghost_name ≡ j.source.ghost_name) × (k.out.ghost_name ≡ j.out.ghost_name)
+        × (k.err.ghost_name ≡ j.err.ghost_name)
+        × (length j.unix.now.ahead ≤ 4096 → length k.unix.now.ahead ≤ 4096) };
 
     fn serve<M: View>(&mut self, call: &Call, view: &mut M) -> Result<Option<i32>, IoFault> {
         let answer = self.unix.serve(call, view, self.source, self.out, self.err);
@@ -53,7 +66,11 @@ impl<'a, S: Source, O: Sink, E: Sink> Server for Joined<'a, S, O, E> {
         as_some(answer)
     }
 
-    ghost goes_as_told = { λ j k q a s w g. goes_as_told q j.unix.now k.unix.now a s (S.rest j.source.now) (O.taken j.out.now) (E.taken j.err.now) (S.rest k.source.now) (O.taken k.out.now) (E.taken k.err.now) (S.faults j.source.now) (O.faults j.out.now) (E.faults j.err.now) (S.faults k.source.now) (O.faults k.out.now) (E.faults k.err.now) w g };
+    ghost goes_as_told = { λ j k q a s w g.
+        goes_as_told q j.unix.now k.unix.now a s (S.rest j.source.now) (O.taken j.out.now)
+        (E.taken j.err.now) (S.rest k.source.now) (O.taken k.out.now) (E.taken k.err.now)
+        (S.faults j.source.now) (O.faults j.out.now) (E.faults j.err.now)
+        (S.faults k.source.now) (O.faults k.out.now) (E.faults k.err.now) w g };
 
     ghost held_as_told = { λ j k q s w h. absurd h };
 

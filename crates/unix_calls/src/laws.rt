@@ -12,11 +12,15 @@ use nv_events::Machine;
 
 /// Before the first call the system is the definition's `start`, with what the source has left as its input.
 pub fn begins_at_start()
-    ensures { (held : Held) (blocks moment : ℕ) (files : List (List ℕ × List ℕ)) (args : List (List ℕ)) (rest : List ℕ) → Begins held blocks moment files args → system_of held rest [] [] ≡ start blocks moment files args rest }
+    ensures { (held : Held) (blocks moment : ℕ) (files : List (List ℕ × List ℕ))
+        (args : List (List ℕ)) (rest : List ℕ) → Begins held blocks moment files args
+        → system_of held rest [] [] ≡ start blocks moment files args rest }
 {}
 
 /// What was written before a run does not matter to it, and stays in front of what it writes. So a run that is played in parts is
 /// one run, whose output is that of its parts.
 pub fn runs_behind<M: Machine>()
-    ensures { (n : ℕ) (s : M.State) (k : System) (output error_output : List ℕ) → run_of M.turn reply n s (behind output error_output k) ≡ run_behind output error_output (run_of M.turn reply n s k) }
+    ensures { (n : ℕ) (s : M.State) (k : System) (output error_output : List ℕ)
+        → run_of M.turn reply n s (behind output error_output k)
+        ≡ run_behind output error_output (run_of M.turn reply n s k) }
 {}

@@ -26,8 +26,18 @@ pub fn play<M: Machine, S: Source, O: Sink, E: Sink>(
     err: &mut E,
 ) -> Result<Outcome, IoFault>
     requires going { M.has_ended machine.old ≡ false }
-    ensures plays { IfOk result (λ outcome. Plays M.turn steps (M.state machine.old) (M.state machine.new) (parts unix.old (input_seen S.Source input.old) (output_seen O.Sink out.old) (output_seen E.Sink err.old)) (parts unix.new (input_seen S.Source input.new) (output_seen O.Sink out.new) (output_seen E.Sink err.new)) outcome) }
-    ensures breaks { IfErr result (λ fault. Breaks M.turn steps (M.state machine.old) (parts unix.old (input_seen S.Source input.old) (output_seen O.Sink out.old) (output_seen E.Sink err.old)) (parts unix.new (input_seen S.Source input.new) (output_seen O.Sink out.new) (output_seen E.Sink err.new)) fault) }
+    ensures plays { IfOk result (λ outcome.
+        Plays M.turn steps (M.state machine.old) (M.state machine.new)
+        (parts unix.old (input_seen S.Source input.old) (output_seen O.Sink out.old)
+        (output_seen E.Sink err.old))
+        (parts unix.new (input_seen S.Source input.new) (output_seen O.Sink out.new)
+        (output_seen E.Sink err.new)) outcome) }
+    ensures breaks { IfErr result (λ fault.
+        Breaks M.turn steps (M.state machine.old)
+        (parts unix.old (input_seen S.Source input.old) (output_seen O.Sink out.old)
+        (output_seen E.Sink err.old))
+        (parts unix.new (input_seen S.Source input.new) (output_seen O.Sink out.new)
+        (output_seen E.Sink err.new)) fault) }
     ensures goes_on { result ≡ Ok Outcome.Going → M.has_ended machine.new ≡ false }
     ensures ended { result ≢ Ok Outcome.Going → M.has_ended machine.new ≡ true }
     ensures never_waits { result ≢ Ok Outcome.Waiting }
@@ -53,8 +63,19 @@ fn run_joined<'a, M: Machine, S: Source, O: Sink, E: Sink>(
 ) -> Result<Outcome, IoFault>
     requires going { M.has_ended machine.old ≡ false }
     requires sound { joined.old.failed ≡ None }
-    ensures plays { IfOk result (λ outcome. Plays M.turn steps (M.state machine.old) (M.state machine.new) (parts joined.old.unix.now (input_seen S.Source joined.old.source.now) (output_seen O.Sink joined.old.out.now) (output_seen E.Sink joined.old.err.now)) (parts joined.new.unix.now (input_seen S.Source joined.new.source.now) (output_seen O.Sink joined.new.out.now) (output_seen E.Sink joined.new.err.now)) outcome) }
-    ensures breaks { IfErr result (λ fault. Breaks M.turn steps (M.state machine.old) (parts joined.old.unix.now (input_seen S.Source joined.old.source.now) (output_seen O.Sink joined.old.out.now) (output_seen E.Sink joined.old.err.now)) (parts joined.new.unix.now (input_seen S.Source joined.new.source.now) (output_seen O.Sink joined.new.out.now) (output_seen E.Sink joined.new.err.now)) fault) }
+    ensures plays { IfOk result (λ outcome.
+        Plays M.turn steps (M.state machine.old) (M.state machine.new)
+        (parts joined.old.unix.now (input_seen S.Source joined.old.source.now)
+        (output_seen O.Sink joined.old.out.now) (output_seen E.Sink joined.old.err.now))
+        (parts joined.new.unix.now (input_seen S.Source joined.new.source.now)
+        (output_seen O.Sink joined.new.out.now) (output_seen E.Sink joined.new.err.now))
+        outcome) }
+    ensures breaks { IfErr result (λ fault.
+        Breaks M.turn steps (M.state machine.old)
+        (parts joined.old.unix.now (input_seen S.Source joined.old.source.now)
+        (output_seen O.Sink joined.old.out.now) (output_seen E.Sink joined.old.err.now))
+        (parts joined.new.unix.now (input_seen S.Source joined.new.source.now)
+        (output_seen O.Sink joined.new.out.now) (output_seen E.Sink joined.new.err.now)) fault) }
     ensures goes_on { result ≡ Ok Outcome.Going → M.has_ended machine.new ≡ false }
     ensures ended { result ≢ Ok Outcome.Going → M.has_ended machine.new ≡ true }
     ensures never_waits { result ≢ Ok Outcome.Waiting }
@@ -76,10 +97,14 @@ fn join<'a, S: Source, O: Sink, E: Sink>(
     out: &'a mut O,
     err: &'a mut E,
 ) -> Joined<'a, S, O, E>
-    ensures same_unix { (result.unix.ghost_name ≡ unix.entry.ghost_name) × (result.unix.now ≡ unix.entry.now) }
-    ensures same_source { (result.source.ghost_name ≡ source.entry.ghost_name) × (result.source.now ≡ source.entry.now) }
-    ensures same_out { (result.out.ghost_name ≡ out.entry.ghost_name) × (result.out.now ≡ out.entry.now) }
-    ensures same_err { (result.err.ghost_name ≡ err.entry.ghost_name) × (result.err.now ≡ err.entry.now) }
+    ensures same_unix { (result.unix.ghost_name ≡ unix.entry.ghost_name)
+        × (result.unix.now ≡ unix.entry.now) }
+    ensures same_source { (result.source.ghost_name ≡ source.entry.ghost_name)
+        × (result.source.now ≡ source.entry.now) }
+    ensures same_out { (result.out.ghost_name ≡ out.entry.ghost_name)
+        × (result.out.now ≡ out.entry.now) }
+    ensures same_err { (result.err.ghost_name ≡ err.entry.ghost_name)
+        × (result.err.now ≡ err.entry.now) }
     ensures sound { result.failed ≡ None }
 {
     Joined {

@@ -19,7 +19,9 @@ use unix_system::{Heap, Opened, name_calls, read_path};
 
 fn open<M: View>(disk: &mut Disk, opened: &mut Opened, call: &Call, view: &M) -> i32
     requires { call.now.number ≡ 2 }
-    ensures { (s : System) → unix (with_tables s disk.old opened.old) (asked call.now (M.memory (M.content view.now))) ≡ (value_only result, with_tables s disk.new opened.new) }
+    ensures { (s : System)
+        → unix (with_tables s disk.old opened.old) (asked call.now (M.memory (M.content view.now)))
+        ≡ (value_only result, with_tables s disk.new opened.new) }
 {
     let path = read_path(view, call.a0);
     name_calls::open(disk, opened, &path, call.a1)
@@ -27,7 +29,9 @@ fn open<M: View>(disk: &mut Disk, opened: &mut Opened, call: &Call, view: &M) ->
 
 fn unlink<M: View>(disk: &mut Disk, opened: &Opened, call: &Call, view: &M) -> i32
     requires { call.now.number ≡ 9 }
-    ensures { (s : System) → unix (with_tables s disk.old opened.now) (asked call.now (M.memory (M.content view.now))) ≡ (value_only result, with_tables s disk.new opened.now) }
+    ensures { (s : System)
+        → unix (with_tables s disk.old opened.now) (asked call.now (M.memory (M.content view.now)))
+        ≡ (value_only result, with_tables s disk.new opened.now) }
 {
     let path = read_path(view, call.a0);
     name_calls::unlink(disk, opened, &path)
@@ -35,7 +39,9 @@ fn unlink<M: View>(disk: &mut Disk, opened: &Opened, call: &Call, view: &M) -> i
 
 fn rename<M: View>(disk: &mut Disk, opened: &Opened, call: &Call, view: &M) -> i32
     requires { call.now.number ≡ 14 }
-    ensures { (s : System) → unix (with_tables s disk.old opened.now) (asked call.now (M.memory (M.content view.now))) ≡ (value_only result, with_tables s disk.new opened.now) }
+    ensures { (s : System)
+        → unix (with_tables s disk.old opened.now) (asked call.now (M.memory (M.content view.now)))
+        ≡ (value_only result, with_tables s disk.new opened.now) }
 {
     let old = read_path(view, call.a0);
     let new = read_path(view, call.a1);
@@ -59,8 +65,12 @@ pub fn answer<M: View>(
     view: &M,
 ) -> i32
     requires within { (heap.old.program_break ≤ heap.old.end) × (heap.old.end ≤ 0x7FFFFFFF) }
-    requires number { (call.now.number ≢ 0) × (call.now.number ≢ 4) × (call.now.number ≢ 5) × (call.now.number ≢ 8) }
-    ensures call { (s : System) → unix (with_parts s disk.old opened.old heap.old moment) (asked call.now (M.memory (M.content view.now))) ≡ (value_only result, with_parts s disk.new opened.new heap.new moment) }
+    requires number { (call.now.number ≢ 0) × (call.now.number ≢ 4) × (call.now.number ≢ 5)
+        × (call.now.number ≢ 8) }
+    ensures call { (s : System)
+        → unix (with_parts s disk.old opened.old heap.old moment)
+        (asked call.now (M.memory (M.content view.now)))
+        ≡ (value_only result, with_parts s disk.new opened.new heap.new moment) }
     ensures within { (heap.new.program_break ≤ heap.new.end) × (heap.new.end ≤ 0x7FFFFFFF) }
 {
     match call.number {

@@ -61,7 +61,8 @@ impl ReadAhead {
 
     /// Takes the first byte off.
     fn first(&mut self) -> Option<u8>
-        ensures { MatchOption result ((self.old ≡ []) × (self.new ≡ [])) (λ b. self.old ≡ b ∷ self.new) }
+        ensures { MatchOption result ((self.old ≡ [])
+            × (self.new ≡ [])) (λ b. self.old ≡ b ∷ self.new) }
     {
         if self.from == self.to {
             return None;
@@ -76,7 +77,8 @@ impl ReadAhead {
         requires { self.old ≡ [] }
         ensures bytes { OnOk result (Consumes (S.rest source.old) (S.rest source.new) self.new) }
         ensures end { OnOk result (self.new ≡ [] → IsAtEnd (S.rest source.new)) }
-        ensures failed { OnErr result (Keeps (S.rest source.old) (S.rest source.new) × (self.new ≡ [])) }
+        ensures failed { OnErr result (Keeps (S.rest source.old) (S.rest source.new)
+            × (self.new ≡ [])) }
         ensures count { CountsFailure (is_err result) (S.faults source.old) (S.faults source.new) }
     {
         self.from = 0;

@@ -36,7 +36,11 @@ fn as_fault(answer: Result<i32, Failed>, fault: IoFault) -> Result<i32, IoFault>
 impl Unix {
     fn serve_begin<M: View>(&mut self, call: &Call, view: &mut M) -> Result<i32, IoFault>
         requires { call.now.number ≡ 0 }
-        ensures served { (input out err : Seen (List ℕ)) → Serves M.put_at (λ s. unix s (asked call.now (M.memory (M.content view.old)))) call.now.number (asked call.now (M.memory (M.content view.old))).room (parts self.old input out err) (parts self.new input out err) (M.content view.old) (M.content view.new) result }
+        ensures served { (input out err : Seen (List ℕ))
+            → Serves M.put_at (λ s. unix s (asked call.now (M.memory (M.content view.old))))
+            call.now.number (asked call.now (M.memory (M.content view.old))).room
+            (parts self.old input out err) (parts self.new input out err) (M.content view.old)
+            (M.content view.new) result }
     {
         let size = room_size();
         Ok(begin(
@@ -51,14 +55,23 @@ impl Unix {
 
     fn serve_status<M: View>(&mut self, call: &Call, view: &mut M) -> Result<i32, IoFault>
         requires { call.now.number ≡ 8 }
-        ensures served { (input out err : Seen (List ℕ)) → Serves M.put_at (λ s. unix s (asked call.now (M.memory (M.content view.old)))) call.now.number (asked call.now (M.memory (M.content view.old))).room (parts self.old input out err) (parts self.new input out err) (M.content view.old) (M.content view.new) result }
+        ensures served { (input out err : Seen (List ℕ))
+            → Serves M.put_at (λ s. unix s (asked call.now (M.memory (M.content view.old))))
+            call.now.number (asked call.now (M.memory (M.content view.old))).room
+            (parts self.old input out err) (parts self.new input out err) (M.content view.old)
+            (M.content view.new) result }
     {
         Ok(fstat(&self.disk, &self.opened, self.order, call.a0, call.a1, view))
     }
 
     fn serve_quiet<M: View>(&mut self, call: &Call, view: &M) -> Result<i32, IoFault>
-        requires { (call.now.number ≢ 0) × (call.now.number ≢ 4) × (call.now.number ≢ 5) × (call.now.number ≢ 8) }
-        ensures served { (input out err : Seen (List ℕ)) → Serves M.put_at (λ s. unix s (asked call.now (M.memory (M.content view.now)))) call.now.number (asked call.now (M.memory (M.content view.now))).room (parts self.old input out err) (parts self.new input out err) (M.content view.now) (M.content view.now) result }
+        requires { (call.now.number ≢ 0) × (call.now.number ≢ 4) × (call.now.number ≢ 5)
+            × (call.now.number ≢ 8) }
+        ensures served { (input out err : Seen (List ℕ))
+            → Serves M.put_at (λ s. unix s (asked call.now (M.memory (M.content view.now))))
+            call.now.number (asked call.now (M.memory (M.content view.now))).room
+            (parts self.old input out err) (parts self.new input out err) (M.content view.now)
+            (M.content view.now) result }
     {
         Ok(answer(
             &mut self.disk,
@@ -77,7 +90,12 @@ impl Unix {
         source: &mut S,
     ) -> Result<i32, IoFault>
         requires { call.now.number ≡ 4 }
-        ensures served { (out err : Seen (List ℕ)) → Serves M.put_at (λ s. unix s (asked call.now (M.memory (M.content view.old)))) call.now.number (asked call.now (M.memory (M.content view.old))).room (parts self.old (input_seen S.Source source.old) out err) (parts self.new (input_seen S.Source source.new) out err) (M.content view.old) (M.content view.new) result }
+        ensures served { (out err : Seen (List ℕ))
+            → Serves M.put_at (λ s. unix s (asked call.now (M.memory (M.content view.old))))
+            call.now.number (asked call.now (M.memory (M.content view.old))).room
+            (parts self.old (input_seen S.Source source.old) out err)
+            (parts self.new (input_seen S.Source source.new) out err) (M.content view.old)
+            (M.content view.new) result }
     {
         let answer = read(
             &mut self.disk,
@@ -98,7 +116,12 @@ impl Unix {
         err: &mut E,
     ) -> Result<i32, IoFault>
         requires { call.now.number ≡ 5 }
-        ensures served { (input : Seen (List ℕ)) → Serves M.put_at (λ s. unix s (asked call.now (M.memory (M.content view.now)))) call.now.number (asked call.now (M.memory (M.content view.now))).room (parts self.old input (output_seen O.Sink out.old) (output_seen E.Sink err.old)) (parts self.new input (output_seen O.Sink out.new) (output_seen E.Sink err.new)) (M.content view.now) (M.content view.now) result }
+        ensures served { (input : Seen (List ℕ))
+            → Serves M.put_at (λ s. unix s (asked call.now (M.memory (M.content view.now))))
+            call.now.number (asked call.now (M.memory (M.content view.now))).room
+            (parts self.old input (output_seen O.Sink out.old) (output_seen E.Sink err.old))
+            (parts self.new input (output_seen O.Sink out.new) (output_seen E.Sink err.new))
+            (M.content view.now) (M.content view.now) result }
     {
         let answer = write(&mut self.disk, &mut self.opened, call, view, out, err);
         as_fault(answer, IoFault::WriteFault)
@@ -113,7 +136,13 @@ impl Unix {
         out: &mut O,
         err: &mut E,
     ) -> Result<i32, IoFault>
-        ensures served { Serves M.put_at (λ s. unix s (asked call.now (M.memory (M.content view.old)))) call.now.number (asked call.now (M.memory (M.content view.old))).room (parts self.old (input_seen S.Source source.old) (output_seen O.Sink out.old) (output_seen E.Sink err.old)) (parts self.new (input_seen S.Source source.new) (output_seen O.Sink out.new) (output_seen E.Sink err.new)) (M.content view.old) (M.content view.new) result }
+        ensures served { Serves M.put_at (λ s.
+            unix s (asked call.now (M.memory (M.content view.old)))) call.now.number
+            (asked call.now (M.memory (M.content view.old))).room
+            (parts self.old (input_seen S.Source source.old) (output_seen O.Sink out.old)
+            (output_seen E.Sink err.old))
+            (parts self.new (input_seen S.Source source.new) (output_seen O.Sink out.new)
+            (output_seen E.Sink err.new)) (M.content view.old) (M.content view.new) result }
     {
         match call.number {
             BEGIN => self.serve_begin(call, view),
@@ -141,7 +170,13 @@ impl Unix {
         out: &mut O,
         err: &mut E,
     ) -> Result<i32, IoFault>
-        ensures served { Serves M.put_at (λ s. unix s (asked call.now (M.memory (M.content view.old)))) call.now.number (asked call.now (M.memory (M.content view.old))).room (parts self.old (input_seen S.Source source.old) (output_seen O.Sink out.old) (output_seen E.Sink err.old)) (parts self.new (input_seen S.Source source.new) (output_seen O.Sink out.new) (output_seen E.Sink err.new)) (M.content view.old) (M.content view.new) result }
+        ensures served { Serves M.put_at (λ s.
+            unix s (asked call.now (M.memory (M.content view.old)))) call.now.number
+            (asked call.now (M.memory (M.content view.old))).room
+            (parts self.old (input_seen S.Source source.old) (output_seen O.Sink out.old)
+            (output_seen E.Sink err.old))
+            (parts self.new (input_seen S.Source source.new) (output_seen O.Sink out.new)
+            (output_seen E.Sink err.new)) (M.content view.old) (M.content view.new) result }
         ensures ahead { length self.new.ahead ≤ 4096 }
     {
         let answer = self.serve_call(call, view, source, out, err);

@@ -36,9 +36,19 @@ impl Model for Unix {
 
     ghost Value = { Held };
 
-    ghost view = { λ u. record { files = u.disk; blocks = u.blocks; opened = u.opened; heap = u.heap; args = u.args; moment = u.moment; order = u.order; ahead = u.ahead } };
+    ghost view = { λ u. record {
+      files = u.disk;
+      blocks = u.blocks;
+      opened = u.opened;
+      heap = u.heap;
+      args = u.args;
+      moment = u.moment;
+      order = u.order;
+      ahead = u.ahead;
+    } };
 
-    ghost invariant = { λ u. (u.heap.program_break ≤ u.heap.end) × (u.heap.end ≤ 0x7FFFFFFF) × (u.blocks ≤ 65536) };
+    ghost invariant = { λ u. (u.heap.program_break ≤ u.heap.end) × (u.heap.end ≤ 0x7FFFFFFF)
+        × (u.blocks ≤ 65536) };
 }
 
 impl Unix {
@@ -68,9 +78,16 @@ impl Unix {
     pub fn add_file(&mut self, name: &[u8], bytes: &[u8]) -> Result<(), UnixError>
         requires begins { IsOpenToFiles self.old }
         requires short { length name.now ≤ 255 }
-        ensures added { (blocks moment : ℕ) (files : List (List ℕ × List ℕ)) (args : List (List ℕ)) → Begins self.old blocks moment files args → OnOk result (Begins self.new blocks moment (files ++ (name.now, bytes.now) ∷ []) args) }
+        ensures added { (blocks moment : ℕ) (files : List (List ℕ × List ℕ)) (args : List (List ℕ))
+            → Begins self.old blocks moment files args
+            → OnOk result (Begins self.new blocks moment (files ++ (name.now, bytes.now) ∷ []) args) }
         ensures unchanged { OnErr result (self.new ≡ self.old) }
-        ensures too_large { (blocks moment : ℕ) (files : List (List ℕ × List ℕ)) (args : List (List ℕ)) → Begins self.old blocks moment files args → OnErr result ((result ≡ Err (UnixError.FilesTooLarge (blocks_needed (files ++ (name.now, bytes.now) ∷ [])))) × (blocks < blocks_needed (files ++ (name.now, bytes.now) ∷ []))) }
+        ensures too_large { (blocks moment : ℕ) (files : List (List ℕ × List ℕ))
+            (args : List (List ℕ)) → Begins self.old blocks moment files args
+            → OnErr result
+            ((result ≡ Err (UnixError.FilesTooLarge
+            (blocks_needed (files ++ (name.now, bytes.now) ∷ []))))
+            × (blocks < blocks_needed (files ++ (name.now, bytes.now) ∷ []))) }
     {
         let needed = self.used_blocks() + blocks_of(bytes);
         if needed > u64::from(self.blocks) {
@@ -86,7 +103,8 @@ impl Unix {
 
     /// The bytes of the file of this name, in memory of their own. `None` exactly where there is no such file.
     pub fn file(&self, alloc: Global, name: &[u8]) -> Result<Option<Vec<u8>>, NoMemory>
-        ensures { IfOk result (λ found. option_map (λ bytes. bytes.items) found ≡ option_map (bytes_at self.now.files) (node_named self.now.files name.now)) }
+        ensures { IfOk result (λ found. option_map (λ bytes. bytes.items) found
+            ≡ option_map (bytes_at self.now.files) (node_named self.now.files name.now)) }
     {
         match self.disk.named(name) {
             Some(n) => Ok(Some(self.disk.bytes(alloc, n)?)),
@@ -115,10 +133,13 @@ impl Unix {
     ///
     /// `ArgsTooLong` where the argument block would have more than 4,096 bytes, and `NoMemory`.
     pub fn add_arg(&mut self, text: &str) -> Result<(), UnixError>
-        ensures added { (blocks moment : ℕ) (files : List (List ℕ × List ℕ)) (args : List (List ℕ)) → Begins self.old blocks moment files args → OnOk result (Begins self.new blocks moment files (args ++ text.now ∷ [])) }
+        ensures added { (blocks moment : ℕ) (files : List (List ℕ × List ℕ)) (args : List (List ℕ))
+            → Begins self.old blocks moment files args
+            → OnOk result (Begins self.new blocks moment files (args ++ text.now ∷ [])) }
         ensures unchanged { OnErr result (self.new ≡ self.old) }
         ensures fits { OnOk result (block_length (self.old.args ++ text.now ∷ []) ≤ 4096) }
-        ensures too_long { (n : ℕ) → result ≡ Err (UnixError.ArgsTooLong n) → (n ≡ block_length (self.old.args ++ text.now ∷ [])) × (4096 < n) }
+        ensures too_long { (n : ℕ) → result ≡ Err (UnixError.ArgsTooLong n)
+            → (n ≡ block_length (self.old.args ++ text.now ∷ [])) × (4096 < n) }
         ensures no_file_error { (n : ℕ) → result ≢ Err (UnixError.FilesTooLarge n) }
     {
         let bytes = text.as_bytes();

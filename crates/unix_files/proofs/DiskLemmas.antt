@@ -6,7 +6,7 @@ use Rattle.std.proofs.lemmas.Bool.{cases_lt, cases_eq, false≢true}
 use Rattle.std.proofs.lemmas.List.{get_or_past, set_past, set-get_or, length-set, get_or-set_other, drop_all, take_all}
 use Rattle.unix_files.specs.Files.{Node, Files, blocks_for, node_at, bytes_of, bytes_at, name_of, has_name, with_node, with_bytes, resized, written}
 use Rattle.unix_files.specs.Stored.{Contents, file_at, with_file, overwritten}
-use Rattle.unix_files.specs.Kept.{node_of, nodes_of, files_of, entry_at, entry_name, entry_has_name, IsKept}
+use Rattle.unix_files.specs.Kept.{node_of, nodes_of, files_of, entry_at, entry_name, entry_has_name, IsKeptDisk}
 use Rattle.unix_files.specs.declared.disk.Entry.{Entry}
 use Rattle.unix_files.proofs.FileLemmas.{length-zeros_behind}
 
@@ -82,26 +82,26 @@ module _ (es : List (Option Entry)) (store : Contents) (v : Files) (is : files_o
   pub name-is : (n : ℕ) → name_of (node_at v n) ≡ entry_name (entry_at es n)
   name-is n = ap name_of (node-is n) ∙ name_of-node_of (entry_at es n) (file_at store n)
 
-  pub bytes-is : IsKept es store → (n : ℕ) → bytes_at v n ≡ file_at store n
+  pub bytes-is : IsKeptDisk es store → (n : ℕ) → bytes_at v n ≡ file_at store n
   bytes-is h n = ap bytes_of (node-is n) ∙ bytes_of-node_of (entry_at es n) (file_at store n) (h.unused n)
 
   pub entry-there : (n : ℕ) → IsSome (node_at v n) → IsSome (entry_at es n)
   entry-there n h = node-some (entry_at es n) (file_at store n) (subst (λ o. IsSome o) (node-is n) h)
 
-  pub within : IsKept es store → (n : ℕ) → IsSome (node_at v n) → n < 256
+  pub within : IsKeptDisk es store → (n : ℕ) → IsSome (node_at v n) → n < 256
   within h n some = let w = entry-within es n (entry-there n some) in let all = h.entries_all in omega arith
 
   pub there-is : (n : ℕ) → is_some (node_at v n) ≡ is_some (entry_at es n)
   there-is n = ap is_some (node-is n) ∙ is_some-node_of (entry_at es n) (file_at store n)
 
   -- past the end there is no file
-  pub none-past : IsKept es store → (n : ℕ) → 256 ≤ n → node_at v n ≡ None
+  pub none-past : IsKeptDisk es store → (n : ℕ) → 256 ≤ n → node_at v n ≡ None
   none-past h n past =
       let all = h.entries_all in
       let none : Option Entry = None in
       node-is n ∙ ap (λ e. node_of e (file_at store n)) (get_or_past es n none (omega arith))
 
-  pub same-past : IsKept es store → (n : ℕ) → 256 ≤ n → v ≡ with_node v n None
+  pub same-past : IsKeptDisk es store → (n : ℕ) → 256 ≤ n → v ≡ with_node v n None
   same-past h n past =
       let count : length v.nodes ≡ 256 = ap (λ f. length f.nodes) (sym is) ∙ (length-nodes_of es store.files ∙ h.entries_all) in
       let node : Option Node = None in
@@ -113,14 +113,14 @@ module _ (es : List (Option Entry)) (store : Contents) (v : Files) (is : files_o
   pub free-is : store.free ≡ v.free
   free-is = ap (λ f. f.free) is
 
-  pub within-files : IsKept es store → (n : ℕ) → IsSome (node_at v n) → n < length store.files
+  pub within-files : IsKeptDisk es store → (n : ℕ) → IsSome (node_at v n) → n < length store.files
   within-files h n some = let w = within h n some in let all = h.files_all in omega arith
 
-  pub room-is : IsKept es store → (n size : ℕ) → blocks_for size ≤ blocks_for (length (bytes_at v n)) + v.free → blocks_for size ≤ blocks_for (length (file_at store n)) + store.free
+  pub room-is : IsKeptDisk es store → (n size : ℕ) → blocks_for size ≤ blocks_for (length (bytes_at v n)) + v.free → blocks_for size ≤ blocks_for (length (file_at store n)) + store.free
   room-is h n size room = rw (← bytes-is h n, free-is) room
 
   -- an entry is set
-  pub entry-set : IsKept es store → (n : ℕ) (e : Entry) → n < 256 → files_of (set es n (Some e)) store ≡ with_node v n (Some (record { name = e.name; bytes = bytes_at v n }))
+  pub entry-set : IsKeptDisk es store → (n : ℕ) (e : Entry) → n < 256 → files_of (set es n (Some e)) store ≡ with_node v n (Some (record { name = e.name; bytes = bytes_at v n }))
   entry-set h n e less =
       let inside : n < length store.files = let all = h.files_all in omega arith in
       let none : List ℕ = [] in
@@ -133,7 +133,7 @@ module _ (es : List (Option Entry)) (store : Contents) (v : Files) (is : files_o
       rw (nodes, free) refl
 
   -- a file is dropped
-  pub entry-unset : IsKept es store → (n : ℕ) → n < 256 → files_of (set es n None) (with_file store n []) ≡ with_node v n None
+  pub entry-unset : IsKeptDisk es store → (n : ℕ) → n < 256 → files_of (set es n None) (with_file store n []) ≡ with_node v n None
   entry-unset h n less =
       let inside : n < length store.files = let all = h.files_all in omega arith in
       let nodes : nodes_of (set es n None) (set store.files n []) ≡ set v.nodes n None = nodes_of-set es store.files n None [] inside ∙ ap (λ l. set l n None) (ap (λ f. f.nodes) is) in
@@ -142,7 +142,7 @@ module _ (es : List (Option Entry)) (store : Contents) (v : Files) (is : files_o
       rw (nodes, free) refl
 
   -- the bytes of a file are set
-  pub bytes-set : IsKept es store → (n : ℕ) (b : List ℕ) → IsSome (node_at v n) → files_of es (with_file store n b) ≡ with_bytes v n b
+  pub bytes-set : IsKeptDisk es store → (n : ℕ) (b : List ℕ) → IsSome (node_at v n) → files_of es (with_file store n b) ≡ with_bytes v n b
   bytes-set h n b some =
       let inside : n < length store.files = let all = h.files_all in let w = within h n some in omega arith in
       let node : node_of (entry_at es n) b ≡ Some (record { name = name_of (node_at v n); bytes = b }) =
@@ -156,7 +156,7 @@ module _ (es : List (Option Entry)) (store : Contents) (v : Files) (is : files_o
       let all : files_of es (with_file store n b) ≡ with_node v n (Some (record { name = name_of (node_at v n); bytes = b })) = rw (nodes, free) refl in
       all ∙ with_bytes-some v n b (node_at v n) some
 
-  pub IsKept-bytes : IsKept es store → (n : ℕ) (b : List ℕ) → IsSome (node_at v n) → IsKept es (with_file store n b)
+  pub IsKept-bytes : IsKeptDisk es store → (n : ℕ) (b : List ℕ) → IsSome (node_at v n) → IsKeptDisk es (with_file store n b)
   IsKept-bytes h n b some = record {
     entries_all = h.entries_all;
     files_all = length-set store.files n b ∙ h.files_all;

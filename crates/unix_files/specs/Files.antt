@@ -51,7 +51,12 @@ with_node f n node = record {
 
 -- a file that is there has these bytes
 abbrev pub with_bytes : Files → ℕ → List ℕ → Files
-with_bytes f n bytes = elim (node_at f n) [ None ↦ f | Some node ↦ with_node f n (Some (record { name = node.name; bytes = bytes })) ]
+with_bytes f n bytes =
+    elim (node_at f n) [
+      | None ↦ f
+      | Some node ↦ with_node f n
+          (Some (record { name = node.name; bytes = bytes }))
+    ]
 
 -- a file has this name, or none; one that was not there is made, without bytes
 abbrev pub with_name : Files → ℕ → Option (List ℕ) → Files

@@ -27,7 +27,7 @@ abbrev pub entry_has_name : List ℕ → Option Entry → Bool
 entry_has_name name entry = unwrap_or (option_map (bytes_eq name) (entry_name entry)) false
 
 -- There are 256 of each, and where no file is there are no bytes.
-pub record IsKept (entries : List (Option Entry)) (store : Contents) : Type 0 where
+pub record IsKeptDisk (entries : List (Option Entry)) (store : Contents) : Type 0 where
   pub entries_all : length entries ≡ 256
   pub files_all : length store.files ≡ 256
   pub unused : (n : ℕ) → entry_at entries n ≡ None → file_at store n ≡ []

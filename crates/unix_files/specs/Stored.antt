@@ -57,7 +57,13 @@ begun b = record { first = b; last = b; near = b; near_index = 0; size = 1 }
 
 -- the chain whose block of this number was looked up last
 abbrev pub looked_up : Pool → Chain → ℕ → Chain
-looked_up p c index = record { first = c.first; last = c.last; near = block_in p c index; near_index = index; size = c.size }
+looked_up p c index = record {
+  first = c.first;
+  last = c.last;
+  near = block_in p c index;
+  near_index = index;
+  size = c.size;
+}
 
 -- A chain whose blocks are in use and differ, and whose short cuts are right.
 pub record IsChain (p : Pool) (c : Chain) : Type 0 where
@@ -71,12 +77,16 @@ pub record IsChain (p : Pool) (c : Chain) : Type 0 where
 pub record IsLaid (p : Pool) (chains : List Chain) : Type 0 where
   pub sound : IsSound p
   pub whole : (n : ℕ) → IsChain p (chain_at chains n)
-  pub apart : (n m k j : ℕ) → n ≢ m → k < blocks_in (chain_at chains n) → j < blocks_in (chain_at chains m) → block_in p (chain_at chains n) k ≢ block_in p (chain_at chains m) j
+  pub apart : (n m k j : ℕ) → n ≢ m → k < blocks_in (chain_at chains n)
+      → j < blocks_in (chain_at chains m)
+      → block_in p (chain_at chains n) k ≢ block_in p (chain_at chains m) j
 
 -- One chain of a pool becomes another: its blocks are from the old one or were free, and no other block in use is changed.
 pub record Changes (p q : Pool) (c d : Chain) : Type 0 where
   pub sound : IsSound q
   pub whole : IsChain q d
-  pub source : (k : ℕ) → k < blocks_in d → ((k < blocks_in c) × (block_in q d k ≡ block_in p c k)) ⊎ (IsUsed p (block_in q d k) → ⊥)
-  pub others : (b : ℕ) → IsUsed p b → ((k : ℕ) → k < blocks_in c → block_in p c k ≢ b) → block_at q b ≡ block_at p b
+  pub source : (k : ℕ) → k < blocks_in d → ((k < blocks_in c) × (block_in q d k ≡ block_in p c k))
+      ⊎ (IsUsed p (block_in q d k) → ⊥)
+  pub others : (b : ℕ) → IsUsed p b → ((k : ℕ) → k < blocks_in c → block_in p c k ≢ b)
+      → block_at q b ≡ block_at p b
   pub free : free_count q + blocks_in d ≡ free_count p + blocks_in c

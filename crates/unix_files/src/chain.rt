@@ -212,9 +212,11 @@ pub(crate) fn shortened(pool: &mut Blocks, chain: Chain, size: u32) -> Chain
 fn release(pool: &mut Blocks, first: u32, count: u32)
     requires sound { IsSound pool.old }
     requires used { (k : ℕ) → k < count → IsUsed pool.old (block_after pool.old first k) }
-    requires once { (k j : ℕ) → k < count → j < count → block_after pool.old first k ≡ block_after pool.old first j → k ≡ j }
+    requires once { (k j : ℕ) → k < count → j < count
+        → block_after pool.old first k ≡ block_after pool.old first j → k ≡ j }
     ensures sound { IsSound pool.new }
-    ensures others { (b : ℕ) → ((k : ℕ) → k < count → block_after pool.old first k ≢ b) → block_at pool.new b ≡ block_at pool.old b }
+    ensures others { (b : ℕ) → ((k : ℕ) → k < count → block_after pool.old first k ≢ b)
+        → block_at pool.new b ≡ block_at pool.old b }
     ensures free { free_count pool.new ≡ free_count pool.old + count }
 {
     let mut block = first;

@@ -26,11 +26,11 @@ impl Model for Disk {
 
     ghost Value = { Files };
 
-    ghost use Rattle.unix_files.specs.Kept.{files_of, IsKept};
+    ghost use Rattle.unix_files.specs.Kept.{files_of, IsKeptDisk};
 
     ghost view = { λ d. files_of d.entries.items d.store };
 
-    ghost invariant = { λ d. IsKept d.entries.items d.store };
+    ghost invariant = { λ d. IsKeptDisk d.entries.items d.store };
 }
 
 impl Disk {
@@ -156,7 +156,8 @@ impl Disk {
     /// Writes bytes into a file at a place. Zeros fill a gap before it.
     pub fn write(&mut self, n: usize, place: u32, bytes: &[u8])
         requires small { place + length bytes.now ≤ 0x7FFFFFFF }
-        requires room { blocks_for (place + length bytes.now) ≤ blocks_for (length (bytes_at self.old n)) + self.old.free }
+        requires room { blocks_for (place + length bytes.now)
+            ≤ blocks_for (length (bytes_at self.old n)) + self.old.free }
         ensures { self.new ≡ with_bytes self.old n (written (bytes_at self.old n) place bytes.now) }
     {
         if self.has(n) {
@@ -167,7 +168,8 @@ impl Disk {
     fn write_there(&mut self, n: usize, place: u32, bytes: &[u8])
         requires file { IsSome (node_at self.old n) }
         requires small { place + length bytes.now ≤ 0x7FFFFFFF }
-        requires room { blocks_for (place + length bytes.now) ≤ blocks_for (length (bytes_at self.old n)) + self.old.free }
+        requires room { blocks_for (place + length bytes.now)
+            ≤ blocks_for (length (bytes_at self.old n)) + self.old.free }
         ensures { self.new ≡ with_bytes self.old n (written (bytes_at self.old n) place bytes.now) }
     {
         self.store.extend(n, place);

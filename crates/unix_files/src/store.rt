@@ -91,7 +91,8 @@ impl Store {
     pub fn push(&mut self, n: usize, v: u8)
         requires file { n < length self.old.files }
         requires small { length (file_at self.old n) < 0x7FFFFFFF }
-        requires room { blocks_for (length (file_at self.old n) + 1) ≤ blocks_for (length (file_at self.old n)) + self.old.free }
+        requires room { blocks_for (length (file_at self.old n) + 1)
+            ≤ blocks_for (length (file_at self.old n)) + self.old.free }
         ensures { self.new ≡ with_file self.old n (file_at self.old n ++ v ∷ []) }
     {
         let chain = chain_of(&self.chains, n);
@@ -113,7 +114,8 @@ impl Store {
         requires file { n < length self.old.files }
         requires small { size ≤ 0x7FFFFFFF }
         requires room { blocks_for size ≤ blocks_for (length (file_at self.old n)) + self.old.free }
-        ensures { self.new ≡ with_file self.old n (file_at self.old n ++ replicate (size - length (file_at self.old n)) 0) }
+        ensures { self.new ≡ with_file self.old n (file_at self.old n
+            ++ replicate (size - length (file_at self.old n)) 0) }
     {
         for _ in self.size(n)..size {
             self.push(n, 0);
@@ -125,7 +127,8 @@ impl Store {
         requires file { n < length self.old.files }
         requires within { at ≤ length (file_at self.old n) }
         requires small { at < 0x7FFFFFFF }
-        requires room { blocks_for (at + 1) ≤ blocks_for (length (file_at self.old n)) + self.old.free }
+        requires room { blocks_for (at + 1) ≤ blocks_for (length (file_at self.old n))
+            + self.old.free }
         ensures { self.new ≡ with_file self.old n (overwritten (file_at self.old n) at (v ∷ [])) }
     {
         if at < self.size(n) {
@@ -140,7 +143,8 @@ impl Store {
         requires file { n < length self.old.files }
         requires within { place ≤ length (file_at self.old n) }
         requires small { place + length bytes.now ≤ 0x7FFFFFFF }
-        requires room { blocks_for (place + length bytes.now) ≤ blocks_for (length (file_at self.old n)) + self.old.free }
+        requires room { blocks_for (place + length bytes.now)
+            ≤ blocks_for (length (file_at self.old n)) + self.old.free }
         ensures { self.new ≡ with_file self.old n (overwritten (file_at self.old n) place bytes.now) }
     {
         for (i, b) in bytes.iter().enumerate() {

@@ -32,7 +32,8 @@ bytes_of_text (bytes bs) = bs
 
 -- A call goes on with a path, where that is not refused.
 abbrev pub with_path : System → Text → (List ℕ → Answer × System) → Answer × System
-with_path s text go = elim (path_error text) [ Some e ↦ refused s e | None ↦ go (bytes_of_text text) ]
+with_path s text go =
+    elim (path_error text) [ Some e ↦ refused s e | None ↦ go (bytes_of_text text) ]
 
 -- Bytes to be written: they can be read, or the call is refused.
 abbrev pub with_bytes_of : System → Text → (List ℕ → Answer × System) → Answer × System

@@ -17,7 +17,8 @@ use Rattle.unix_system.specs.declared.target.Target.TheVariants.{File, Input, Ou
 -- texts and then 0, and then the texts, each followed by 00.
 abbrev pub argument_block : System → ℕ → List ℕ
 argument_block s place =
-    words_in_order s.order (addresses (place + 4 * (length s.args + 1)) s.args ++ 0 ∷ []) ++ texts_with_zeros s.args
+    words_in_order s.order (addresses (place + 4 * (length s.args + 1)) s.args ++ 0 ∷ [])
+    ++ texts_with_zeros s.args
 
 abbrev pub block_length : List (List ℕ) → ℕ
 block_length args = 4 * (length args + 1) + length (texts_with_zeros args)
@@ -38,15 +39,26 @@ begin s place start size order room =
 
 -- open: a descriptor for a file, at its start
 abbrev pub description_for : ℕ → ℕ → Description
-description_for n flags = record { target = File n; place = 0; may_read = reads flags; may_write = writes flags; appends = appends flags }
+description_for n flags = record {
+  target = File n;
+  place = 0;
+  may_read = reads flags;
+  may_write = writes flags;
+  appends = appends flags;
+}
 
 abbrev pub opened_as : System → Files → ℕ → ℕ → ℕ → ℕ → Answer × System
-opened_as s files n flags fd d =
-    (value_only (pos fd), with_tables s files (with_descriptor (with_description s.opened d (Some (description_for n flags))) fd (Some d)))
+opened_as s files n flags fd d = (
+  value_only (pos fd),
+  with_tables s files
+      (with_descriptor (with_description s.opened d (Some (description_for n flags))) fd
+      (Some d)),
+)
 
 -- the lowest free descriptor, with a description of its own
 abbrev pub with_free_descriptor : System → (ℕ → ℕ → Answer × System) → Answer × System
-with_free_descriptor s go = elim (free_places s.opened) [ None ↦ refused s too_many_open | Some free ↦ go free.0 free.1 ]
+with_free_descriptor s go =
+    elim (free_places s.opened) [ None ↦ refused s too_many_open | Some free ↦ go free.0 free.1 ]
 
 abbrev pub create_file : System → List ℕ → ℕ → Answer × System
 create_file s name flags =
@@ -59,12 +71,14 @@ create_file s name flags =
 abbrev pub open_present : System → ℕ → ℕ → Answer × System
 open_present s n flags =
     if creates flags && is_exclusive flags then refused s present
-    else with_free_descriptor s (λ fd d. opened_as s (if truncates flags && writes flags then with_bytes s.files n [] else s.files) n flags fd d)
+    else with_free_descriptor s (λ fd d. opened_as s (if truncates flags && writes flags
+    then with_bytes s.files n [] else s.files) n flags fd d)
 
 abbrev pub open_named : System → List ℕ → ℕ → Answer × System
 open_named s name flags =
     if access flags == 3 then refused s invalid
-    else elim (node_named s.files name) [ None ↦ create_file s name flags | Some n ↦ open_present s n flags ]
+    else elim (node_named s.files name)
+    [ None ↦ create_file s name flags | Some n ↦ open_present s n flags ]
 
 abbrev pub open_file : System → Text → ℕ → Answer × System
 open_file s path flags = with_path s path (λ name. open_named s name flags)
@@ -72,19 +86,26 @@ open_file s path flags = with_path s path (λ name. open_named s name flags)
 -- what is left where a descriptor no longer stands for a description
 abbrev pub files_without : Files → Opened → Option Description → Files
 files_without files opened None = files
-files_without files opened (Some description) = elim (node_of description.target) [ None ↦ files | Some n ↦ without_unused files opened n ]
+files_without files opened (Some description) =
+    elim (node_of description.target) [ None ↦ files | Some n ↦ without_unused files opened n ]
 
 -- close
 abbrev pub closed : System → Opened → ℕ → Answer × System
-closed s opened d =
-    (value_only (pos 0), with_tables s (files_without s.files (without_unreferred opened d) (description_of opened d)) (without_unreferred opened d))
+closed s opened d = (
+  value_only (pos 0),
+  with_tables s (files_without s.files (without_unreferred opened d)
+      (description_of opened d)) (without_unreferred opened d),
+)
 
 abbrev pub close : System → ℕ → Answer × System
-close s fd = elim (number_at s.opened fd) [ None ↦ refused s bad_descriptor | Some d ↦ closed s (with_descriptor s.opened fd None) d ]
+close s fd = elim (number_at s.opened fd)
+    [ None ↦ refused s bad_descriptor | Some d ↦ closed s (with_descriptor s.opened fd None) d ]
 
 -- A call on a descriptor: it is refused, or goes on with the number of the description and the description.
 abbrev pub with_open : System → ℕ → (ℕ → Description → Answer × System) → Answer × System
-with_open s fd go = elim (numbered_at s.opened fd) [ None ↦ refused s bad_descriptor | Some found ↦ go found.0 found.1 ]
+with_open s fd go =
+    elim (numbered_at s.opened fd)
+    [ None ↦ refused s bad_descriptor | Some found ↦ go found.0 found.1 ]
 
 -- a description has this place
 abbrev pub placed : Opened → ℕ → Description → ℕ → Opened
@@ -96,16 +117,24 @@ first_line [] = []
 first_line (b ∷ bs) = if b == 0x0A then b ∷ [] else b ∷ first_line bs
 
 abbrev pub file_read : System → ℕ → Description → List ℕ → Answer × System
-file_read s d description bs = (record { value = pos (length bs); patch = bs }, with_tables s s.files (placed s.opened d description (description.place + length bs)))
+file_read s d description bs = (
+  record { value = pos (length bs); patch = bs },
+  with_tables s s.files (placed s.opened d description (description.place + length bs)),
+)
 
 abbrev pub input_read : System → List ℕ → Answer × System
 input_read s bs = (
   record { value = pos (length bs); patch = bs },
-  with_console s (record { rest = drop (length bs) s.console.rest; output = s.console.output; error_output = s.console.error_output }),
+  with_console s (record {
+    rest = drop (length bs) s.console.rest;
+    output = s.console.output;
+    error_output = s.console.error_output;
+  }),
 )
 
 abbrev pub read_target : System → ℕ → Description → ℕ → Target → Answer × System
-read_target s d description n (File k) = file_read s d description (take n (drop description.place (bytes_at s.files k)))
+read_target s d description n (File k) =
+    file_read s d description (take n (drop description.place (bytes_at s.files k)))
 read_target s d description n Input = input_read s (take n (first_line s.console.rest))
 read_target s d description n Output = refused s bad_descriptor
 read_target s d description n ErrorOutput = refused s bad_descriptor
@@ -120,22 +149,32 @@ read s fd n room = with_open s fd (λ d description.
 
 -- write: to the file's place or its end, or to a side of the console
 abbrev pub write_place : Files → ℕ → Description → ℕ
-write_place files k description = if description.appends then length (bytes_at files k) else description.place
+write_place files k description = if description.appends then length (bytes_at files k)
+    else description.place
 
 abbrev pub file_written : System → ℕ → Description → ℕ → List ℕ → ℕ → Answer × System
 file_written s d description k bs place =
     if nat_lt 0x7FFFFFFF (place + length bs) then refused s too_large
-    else if not (has_blocks s.files k (length (written (bytes_at s.files k) place bs))) then refused s no_space
-    else (value_only (pos (length bs)), with_tables s (with_bytes s.files k (written (bytes_at s.files k) place bs)) (placed s.opened d description (place + length bs)))
+    else if not (has_blocks s.files k (length (written (bytes_at s.files k) place bs)))
+    then refused s no_space
+    else (
+      value_only (pos (length bs)),
+      with_tables s (with_bytes s.files k (written (bytes_at s.files k) place bs))
+          (placed s.opened d description (place + length bs)),
+    )
 
 abbrev pub with_output : System → List ℕ → List ℕ → System
-with_output s output error_output = with_console s (record { rest = s.console.rest; output = output; error_output = error_output })
+with_output s output error_output =
+    with_console s (record { rest = s.console.rest; output = output; error_output = error_output })
 
 abbrev pub write_target : System → ℕ → Description → List ℕ → Target → Answer × System
-write_target s d description bs (File k) = file_written s d description k bs (write_place s.files k description)
+write_target s d description bs (File k) =
+    file_written s d description k bs (write_place s.files k description)
 write_target s d description bs Input = refused s bad_descriptor
-write_target s d description bs Output = (value_only (pos (length bs)), with_output s (s.console.output ++ bs) s.console.error_output)
-write_target s d description bs ErrorOutput = (value_only (pos (length bs)), with_output s s.console.output (s.console.error_output ++ bs))
+write_target s d description bs Output =
+    (value_only (pos (length bs)), with_output s (s.console.output ++ bs) s.console.error_output)
+write_target s d description bs ErrorOutput =
+    (value_only (pos (length bs)), with_output s s.console.output (s.console.error_output ++ bs))
 
 abbrev pub write : System → ℕ → ℕ → Text → Answer × System
 write s fd n text = with_open s fd (λ d description.
@@ -146,7 +185,8 @@ write s fd n text = with_open s fd (λ d description.
 
 -- lseek: from the start, from the place or from the end
 abbrev pub seek_base : Files → ℕ → Description → ℕ → ℕ
-seek_base files k description whence = if whence == 0 then 0 else if whence == 1 then description.place else length (bytes_at files k)
+seek_base files k description whence = if whence == 0 then 0
+    else if whence == 1 then description.place else length (bytes_at files k)
 
 -- a place that a file may have
 abbrev pub place_of : ℤ → Option ℕ
@@ -155,20 +195,33 @@ place_of (negsuc n) = None
 
 abbrev pub seek_to : System → ℕ → Description → Option ℕ → Answer × System
 seek_to s d description None = refused s invalid
-seek_to s d description (Some place) = (value_only (pos place), with_tables s s.files (placed s.opened d description place))
+seek_to s d description (Some place) =
+    (value_only (pos place), with_tables s s.files (placed s.opened d description place))
 
 abbrev pub file_sought : System → ℕ → Description → ℕ → ℕ → ℕ → Answer × System
 file_sought s d description k offset whence =
-    if nat_lt 2 whence then refused s invalid else seek_to s d description (place_of (pos (seek_base s.files k description whence) +ℤ signed_of offset))
+    if nat_lt 2 whence then refused s invalid
+    else seek_to s d description
+    (place_of (pos (seek_base s.files k description whence) +ℤ signed_of offset))
 
 abbrev pub lseek : System → ℕ → ℕ → ℕ → Answer × System
-lseek s fd offset whence = with_open s fd (λ d description. elim (node_of description.target) [ None ↦ refused s no_seek | Some k ↦ file_sought s d description k offset whence ])
+lseek s fd offset whence = with_open s fd (λ d description.
+    elim (node_of description.target)
+    [ None ↦ refused s no_seek | Some k ↦ file_sought s d description k offset whence ])
 
 -- sbrk: the old break
 abbrev pub break_at : System → ℤ → Answer × System
 break_at s (pos place) =
     if nat_lt place s.heap.start || nat_lt s.heap.end place then refused s no_memory
-    else (value_only (pos s.heap.program_break), with_heap s (record { begun = s.heap.begun; start = s.heap.start; end = s.heap.end; program_break = place }))
+    else (
+      value_only (pos s.heap.program_break),
+      with_heap s (record {
+        begun = s.heap.begun;
+        start = s.heap.start;
+        end = s.heap.end;
+        program_break = place;
+      }),
+    )
 break_at s (negsuc n) = refused s no_memory
 
 abbrev pub sbrk : System → ℕ → Answer × System
@@ -177,12 +230,20 @@ sbrk s delta = break_at s (pos s.heap.program_break +ℤ signed_of delta)
 -- fstat: the kind, 1 for a file and 2 for the console, the length, the blocks, and the size of a block
 abbrev pub file_words : Files → Option ℕ → List ℕ
 file_words files None = 2 ∷ 0 ∷ 0 ∷ 4096 ∷ []
-file_words files (Some k) = 1 ∷ length (bytes_at files k) ∷ blocks_for (length (bytes_at files k)) ∷ 4096 ∷ []
+file_words files (Some k) =
+    1 ∷ length (bytes_at files k) ∷ blocks_for (length (bytes_at files k)) ∷ 4096 ∷ []
 
 abbrev pub fstat : System → ℕ → Room → Answer × System
 fstat s fd room = with_open s fd (λ d description.
     if not (has_room room 16) then refused s bad_address
-    else (record { value = pos 0; patch = words_in_order s.order (file_words s.files (node_of description.target)) }, s))
+    else (
+      record {
+        value = pos 0;
+        patch = words_in_order s.order
+            (file_words s.files (node_of description.target));
+      },
+      s,
+    ))
 
 -- A file's name is taken away, and the file is dropped where it is not open.
 abbrev pub without_name : Files → Opened → ℕ → Files
@@ -204,7 +265,10 @@ dup s fd = elim (number_at s.opened fd) [
   | None ↦ refused s bad_descriptor
   | Some d ↦ elim (free_descriptor s.opened) [
     | None ↦ refused s too_many_open
-    | Some lowest ↦ (value_only (pos lowest), with_tables s s.files (with_descriptor s.opened lowest (Some d)))
+    | Some lowest ↦ (
+      value_only (pos lowest),
+      with_tables s s.files (with_descriptor s.opened lowest (Some d)),
+    )
   ]
 ]
 
@@ -213,12 +277,16 @@ abbrev pub file_resized : System → ℕ → ℕ → Answer × System
 file_resized s k size =
     if nat_le 0x80000000 size then refused s invalid
     else if not (has_blocks s.files k size) then refused s no_space
-    else (value_only (pos 0), with_tables s (with_bytes s.files k (resized (bytes_at s.files k) size)) s.opened)
+    else (
+      value_only (pos 0),
+      with_tables s (with_bytes s.files k (resized (bytes_at s.files k) size)) s.opened,
+    )
 
 abbrev pub ftruncate : System → ℕ → ℕ → Answer × System
 ftruncate s fd size = with_open s fd (λ d description.
     if not description.may_write then refused s bad_descriptor
-    else elim (node_of description.target) [ None ↦ refused s invalid | Some k ↦ file_resized s k size ])
+    else elim (node_of description.target)
+    [ None ↦ refused s invalid | Some k ↦ file_resized s k size ])
 
 -- rename: the file that had the new name loses it
 abbrev pub without_named : Files → Opened → Option ℕ → Files
@@ -226,7 +294,8 @@ without_named files opened None = files
 without_named files opened (Some n) = without_name files opened n
 
 abbrev pub renamed : Files → Opened → ℕ → List ℕ → List ℕ → Files
-renamed files opened n from to = if bytes_eq from to then files else with_name (without_named files opened (node_named files to)) n (Some to)
+renamed files opened n from to = if bytes_eq from to then files
+    else with_name (without_named files opened (node_named files to)) n (Some to)
 
 abbrev pub rename_named : System → List ℕ → List ℕ → Answer × System
 rename_named s from to = elim (node_named s.files from) [
@@ -239,4 +308,9 @@ rename s old new = with_path s old (λ from. with_path s new (λ to. rename_name
 
 -- isatty
 abbrev pub isatty : System → ℕ → Answer × System
-isatty s fd = with_open s fd (λ d description. (value_only (pos (if is_some (node_of description.target) then 0 else 1)), s))
+isatty s fd =
+    with_open s fd
+    (λ d description. (
+      value_only (pos (if is_some (node_of description.target) then 0 else 1)),
+      s,
+    ))

@@ -16,7 +16,9 @@ description_of o d = slice_index_or o.descriptions d None
 
 -- the description that a descriptor stands for, with its number
 abbrev pub numbered_at : Opened → ℕ → Option (ℕ × Description)
-numbered_at o fd = option_and_then (λ d. option_map (λ description. (d, description)) (description_of o d)) (number_at o fd)
+numbered_at o fd =
+    option_and_then (λ d. option_map (λ description. (d, description)) (description_of o d))
+    (number_at o fd)
 
 -- the lowest descriptor that is not in use
 abbrev pub free_descriptor : Opened → Option ℕ
@@ -28,14 +30,21 @@ free_description o = position is_none o.descriptions
 
 -- the lowest descriptor that is not in use, and the lowest number for a description of its own
 abbrev pub free_places : Opened → Option (ℕ × ℕ)
-free_places o = option_and_then (λ fd. option_map (λ d. (fd, d)) (free_description o)) (free_descriptor o)
+free_places o =
+    option_and_then (λ fd. option_map (λ d. (fd, d)) (free_description o)) (free_descriptor o)
 
 -- a descriptor stands for a description, or for none
 abbrev pub with_descriptor : Opened → ℕ → Option ℕ → Opened
-with_descriptor o fd d = record { descriptors = slice_set o.descriptors fd d; descriptions = o.descriptions }
+with_descriptor o fd d = record {
+  descriptors = slice_set o.descriptors fd d;
+  descriptions = o.descriptions;
+}
 
 abbrev pub with_description : Opened → ℕ → Option Description → Opened
-with_description o d description = record { descriptors = o.descriptors; descriptions = slice_set o.descriptions d description }
+with_description o d description = record {
+  descriptors = o.descriptors;
+  descriptions = slice_set o.descriptions d description;
+}
 
 abbrev pub is_number : ℕ → Option ℕ → Bool
 is_number n None = false
@@ -65,4 +74,5 @@ without_unreferred o d = if is_referred o d then o else with_description o d Non
 
 -- A file without a name and a description is dropped.
 abbrev pub without_unused : Files → Opened → ℕ → Files
-without_unused f o n = if is_some (name_of (node_at f n)) || is_open o n then f else with_node f n None
+without_unused f o n = if is_some (name_of (node_at f n)) || is_open o n then f
+    else with_node f n None

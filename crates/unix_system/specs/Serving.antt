@@ -6,7 +6,8 @@ use Rattle.nv_events.specs.Answer.{Answer, fits_room, room_place}
 use Rattle.unix_system.specs.System.{System}
 
 -- The value, the memory with the bytes put into a room that they fit, and the state afterwards are those of an answer.
-pub record Gives {C : Type 0} (put_at : C → ℕ → ℕ → C) (old new : C) (room : Room) (answer : ℤ) (last : System) (given : Answer × System) : Type 0 where
+pub record Gives {C : Type 0} (put_at : C → ℕ → ℕ → C) (old new : C) (room : Room) (answer : ℤ)
+    (last : System) (given : Answer × System) : Type 0 where
   pub value : given.0.value ≡ answer
   pub fits : IsTrue (fits_room given.0.patch room)
   pub patch : new ≡ patched put_at old (room_place room) given.0.patch

@@ -24,13 +24,45 @@ pub record System : Type 0 where
 
 -- A system with other files and descriptors, and one with another heap.
 abbrev pub with_tables : System → Files → Opened → System
-with_tables s files opened = record { files = files; opened = opened; console = s.console; heap = s.heap; args = s.args; moment = s.moment; order = s.order }
+with_tables s files opened = record {
+  files = files;
+  opened = opened;
+  console = s.console;
+  heap = s.heap;
+  args = s.args;
+  moment = s.moment;
+  order = s.order;
+}
 
 abbrev pub with_heap : System → Heap → System
-with_heap s heap = record { files = s.files; opened = s.opened; console = s.console; heap = heap; args = s.args; moment = s.moment; order = s.order }
+with_heap s heap = record {
+  files = s.files;
+  opened = s.opened;
+  console = s.console;
+  heap = heap;
+  args = s.args;
+  moment = s.moment;
+  order = s.order;
+}
 
 abbrev pub with_console : System → Console → System
-with_console s console = record { files = s.files; opened = s.opened; console = console; heap = s.heap; args = s.args; moment = s.moment; order = s.order }
+with_console s console = record {
+  files = s.files;
+  opened = s.opened;
+  console = console;
+  heap = s.heap;
+  args = s.args;
+  moment = s.moment;
+  order = s.order;
+}
 
 abbrev pub with_order : System → Order → System
-with_order s order = record { files = s.files; opened = s.opened; console = s.console; heap = s.heap; args = s.args; moment = s.moment; order = order }
+with_order s order = record {
+  files = s.files;
+  opened = s.opened;
+  console = s.console;
+  heap = s.heap;
+  args = s.args;
+  moment = s.moment;
+  order = order;
+}

@@ -42,8 +42,20 @@ reply s q = fitting q (unix s q)
 
 -- a side of the console as a run finds it open
 abbrev pub console_side : Target → Description
-console_side Input = record { target = Input; place = 0; may_read = true; may_write = false; appends = false }
-console_side target = record { target = target; place = 0; may_read = false; may_write = true; appends = false }
+console_side Input = record {
+  target = Input;
+  place = 0;
+  may_read = true;
+  may_write = false;
+  appends = false;
+}
+console_side target = record {
+  target = target;
+  place = 0;
+  may_read = false;
+  may_write = true;
+  appends = false;
+}
 
 -- a table of so many places, of which the first ones are used
 abbrev pub table : {A : Type 0} → ℕ → List A → List (Option A)
@@ -53,7 +65,8 @@ table {A} n used = map (λ x. Some x) used ++ replicate {A = Option A} (n - leng
 abbrev pub opened_first : Opened
 opened_first = record {
   descriptors = table 64 (0 ∷ 1 ∷ 2 ∷ []);
-  descriptions = table 64 (console_side Input ∷ console_side Output ∷ console_side ErrorOutput ∷ []);
+  descriptions =
+      table 64 (console_side Input ∷ console_side Output ∷ console_side ErrorOutput ∷ []);
 }
 
 -- a file that a run finds

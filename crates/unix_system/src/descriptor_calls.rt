@@ -17,7 +17,8 @@ use unix_files::Disk;
 
 /// A further descriptor for what a descriptor stands for.
 pub fn dup(disk: &Disk, opened: &mut Opened, fd: u32) -> i32
-    ensures { (s : System) → dup (with_tables s disk.now opened.old) fd ≡ (value_only result, with_tables s disk.now opened.new) }
+    ensures { (s : System) → dup (with_tables s disk.now opened.old) fd
+        ≡ (value_only result, with_tables s disk.now opened.new) }
 {
     let Some(d) = opened.number(fd) else {
         return BAD_DESCRIPTOR;
@@ -31,7 +32,8 @@ pub fn dup(disk: &Disk, opened: &mut Opened, fd: u32) -> i32
 
 /// Whether a descriptor stands for the console.
 pub fn isatty(disk: &Disk, opened: &Opened, fd: u32) -> i32
-    ensures { (s : System) → isatty (with_tables s disk.now opened.now) fd ≡ (value_only result, with_tables s disk.now opened.now) }
+    ensures { (s : System) → isatty (with_tables s disk.now opened.now) fd
+        ≡ (value_only result, with_tables s disk.now opened.now) }
 {
     let Some((_, description)) = opened.at(fd) else {
         return BAD_DESCRIPTOR;
@@ -44,7 +46,8 @@ pub fn isatty(disk: &Disk, opened: &Opened, fd: u32) -> i32
 
 /// Takes a descriptor away, and what is used no longer.
 pub fn close(disk: &mut Disk, opened: &mut Opened, fd: u32) -> i32
-    ensures { (s : System) → close (with_tables s disk.old opened.old) fd ≡ (value_only result, with_tables s disk.new opened.new) }
+    ensures { (s : System) → close (with_tables s disk.old opened.old) fd
+        ≡ (value_only result, with_tables s disk.new opened.new) }
 {
     let Some(d) = opened.number(fd) else {
         return BAD_DESCRIPTOR;
@@ -78,7 +81,8 @@ pub fn drop_unused(disk: &mut Disk, opened: &Opened, n: usize)
 
 /// Moves the place of an open file, and answers it.
 pub fn lseek(disk: &Disk, opened: &mut Opened, fd: u32, offset: u32, whence: u32) -> i32
-    ensures { (s : System) → lseek (with_tables s disk.now opened.old) fd offset whence ≡ (value_only result, with_tables s disk.now opened.new) }
+    ensures { (s : System) → lseek (with_tables s disk.now opened.old) fd offset whence
+        ≡ (value_only result, with_tables s disk.now opened.new) }
 {
     let Some((d, description)) = opened.at(fd) else {
         return BAD_DESCRIPTOR;
@@ -98,7 +102,9 @@ fn seek_file(
     whence: u32,
 ) -> i32
     requires { found.0 < 64 }
-    ensures { (s : System) → file_sought (with_tables s disk.now opened.old) found.0 found.1 n offset whence ≡ (value_only result, with_tables s disk.now opened.new) }
+    ensures { (s : System)
+        → file_sought (with_tables s disk.now opened.old) found.0 found.1 n offset whence
+        ≡ (value_only result, with_tables s disk.now opened.new) }
 {
     if whence > 2 {
         return INVALID;

@@ -21,7 +21,8 @@ use unix_files::Disk;
 
 /// Cuts an open file, or puts zeros behind its bytes.
 pub fn ftruncate(disk: &mut Disk, opened: &Opened, fd: u32, size: u32) -> i32
-    ensures { (s : System) → ftruncate (with_tables s disk.old opened.now) fd size ≡ (value_only result, with_tables s disk.new opened.now) }
+    ensures { (s : System) → ftruncate (with_tables s disk.old opened.now) fd size
+        ≡ (value_only result, with_tables s disk.new opened.now) }
 {
     let Some((_, description)) = opened.at(fd) else {
         return BAD_DESCRIPTOR;
@@ -36,7 +37,8 @@ pub fn ftruncate(disk: &mut Disk, opened: &Opened, fd: u32, size: u32) -> i32
 }
 
 fn resize_file(disk: &mut Disk, opened: &Opened, n: usize, size: u32) -> i32
-    ensures { (s : System) → file_resized (with_tables s disk.old opened.now) n size ≡ (value_only result, with_tables s disk.new opened.now) }
+    ensures { (s : System) → file_resized (with_tables s disk.old opened.now) n size
+        ≡ (value_only result, with_tables s disk.new opened.now) }
 {
     if size >= 0x8000_0000 {
         return INVALID;
@@ -61,7 +63,11 @@ pub fn read_file<M: View>(
     requires within { found.0 < 64 }
     requires small { count < 0x80000000 }
     requires room { IsTrue (can_write (M.memory (M.content view.old)) place count) }
-    ensures call { (s : System) → Gives M.put_at (M.content view.old) (M.content view.new) (there place count) result (with_tables s disk.new opened.new) (file_read (with_tables s disk.old opened.old) found.0 found.1 (take count (drop found.1.place (bytes_at disk.old n)))) }
+    ensures call { (s : System)
+        → Gives M.put_at (M.content view.old) (M.content view.new) (there place count) result
+        (with_tables s disk.new opened.new)
+        (file_read (with_tables s disk.old opened.old) found.0 found.1
+        (take count (drop found.1.place (bytes_at disk.old n)))) }
 {
     let (d, description) = found;
     let from = description.place;
@@ -84,7 +90,11 @@ pub fn write_file<M: View>(
     requires within { found.0 < 64 }
     requires small { count < 0x80000000 }
     requires readable { IsSome (bytes_from (M.memory (M.content view.now)) at count) }
-    ensures { (s : System) → file_written (with_tables s disk.old opened.old) found.0 found.1 n (bytes_of_text (text_at (M.memory (M.content view.now)) (Counted at count))) (write_place disk.old n found.1) ≡ (value_only result, with_tables s disk.new opened.new) }
+    ensures { (s : System)
+        → file_written (with_tables s disk.old opened.old) found.0 found.1 n
+        (bytes_of_text (text_at (M.memory (M.content view.now)) (Counted at count)))
+        (write_place disk.old n found.1)
+        ≡ (value_only result, with_tables s disk.new opened.new) }
 {
     let (d, description) = found;
     let start = write_place(disk, n, &description);
@@ -125,7 +135,8 @@ pub fn copy_out<M: View>(disk: &mut Disk, n: usize, from: u32, count: u32, place
     requires there { 0 < count → from + count ≤ length (bytes_at disk.old n) }
     requires fits { from + count < 2 ^ 32 }
     requires room { IsTrue (can_write (M.memory (M.content view.old)) place count) }
-    ensures bytes { M.content view.new ≡ patched M.put_at (M.content view.old) place (take count (drop from (bytes_at disk.old n))) }
+    ensures bytes { M.content view.new
+        ≡ patched M.put_at (M.content view.old) place (take count (drop from (bytes_at disk.old n))) }
     ensures small { IsTrue (list_all (λ x. nat_lt x 256) (take count (drop from (bytes_at disk.old n)))) }
     ensures same { disk.new ≡ disk.old }
 {
@@ -143,8 +154,11 @@ pub fn copy_in<M: View>(disk: &mut Disk, n: usize, place: u32, at: u32, count: u
     requires file { IsSome (node_at disk.old n) }
     requires readable { IsSome (bytes_from (M.memory (M.content view.now)) at count) }
     requires small { place + count ≤ 0x7FFFFFFF }
-    requires room { blocks_for (place + count) ≤ blocks_for (length (bytes_at disk.old n)) + disk.old.free }
-    ensures { disk.new ≡ with_bytes disk.old n (written (bytes_at disk.old n) place (bytes_of_text (text_at (M.memory (M.content view.now)) (Counted at count)))) }
+    requires room { blocks_for (place + count) ≤ blocks_for (length (bytes_at disk.old n))
+        + disk.old.free }
+    ensures { disk.new
+        ≡ with_bytes disk.old n (written (bytes_at disk.old n) place
+        (bytes_of_text (text_at (M.memory (M.content view.now)) (Counted at count)))) }
 {
     disk.write(n, place, &[]);
     let mut done = 0;

@@ -22,7 +22,8 @@ impl Heap {
     pub fn sbrk(&mut self, delta: u32) -> i32
         requires within { self.old.program_break ≤ self.old.end }
         requires small { self.old.end ≤ 0x7FFFFFFF }
-        ensures call { (s : System) → sbrk (with_heap s self.old) delta ≡ (value_only result, with_heap s self.new) }
+        ensures call { (s : System) → sbrk (with_heap s self.old) delta
+            ≡ (value_only result, with_heap s self.new) }
         ensures within { self.new.program_break ≤ self.new.end }
         ensures end { self.new.end ≡ self.old.end }
     {

@@ -19,7 +19,8 @@ use unix_files::Disk;
 /// Takes the name of a file away. The file stays while it is open.
 pub fn unlink(disk: &mut Disk, opened: &Opened, path: &Path) -> i32
     requires { IsShort path.now }
-    ensures { (s : System) → unlink (with_tables s disk.old opened.now) (text_of path.now) ≡ (value_only result, with_tables s disk.new opened.now) }
+    ensures { (s : System) → unlink (with_tables s disk.old opened.now) (text_of path.now)
+        ≡ (value_only result, with_tables s disk.new opened.now) }
 {
     match path.refusal() {
         Some(refusal) => refusal,
@@ -28,7 +29,8 @@ pub fn unlink(disk: &mut Disk, opened: &Opened, path: &Path) -> i32
 }
 
 fn unlink_named(disk: &mut Disk, opened: &Opened, name: &[u8]) -> i32
-    ensures { (s : System) → unlink_named (with_tables s disk.old opened.now) name.now ≡ (value_only result, with_tables s disk.new opened.now) }
+    ensures { (s : System) → unlink_named (with_tables s disk.old opened.now) name.now
+        ≡ (value_only result, with_tables s disk.new opened.now) }
 {
     match disk.named(name) {
         None => NO_ENTRY,
@@ -51,7 +53,9 @@ fn take_name(disk: &mut Disk, opened: &Opened, n: usize)
 pub fn rename(disk: &mut Disk, opened: &Opened, old: &Path, new: &Path) -> i32
     requires old_short { IsShort old.now }
     requires new_short { IsShort new.now }
-    ensures { (s : System) → rename (with_tables s disk.old opened.now) (text_of old.now) (text_of new.now) ≡ (value_only result, with_tables s disk.new opened.now) }
+    ensures { (s : System)
+        → rename (with_tables s disk.old opened.now) (text_of old.now) (text_of new.now)
+        ≡ (value_only result, with_tables s disk.new opened.now) }
 {
     if let Some(refusal) = old.refusal() {
         return refusal;
@@ -64,7 +68,8 @@ pub fn rename(disk: &mut Disk, opened: &Opened, old: &Path, new: &Path) -> i32
 
 fn rename_named(disk: &mut Disk, opened: &Opened, from: &[u8], to: &[u8]) -> i32
     requires { length to.now ≤ 255 }
-    ensures { (s : System) → rename_named (with_tables s disk.old opened.now) from.now to.now ≡ (value_only result, with_tables s disk.new opened.now) }
+    ensures { (s : System) → rename_named (with_tables s disk.old opened.now) from.now to.now
+        ≡ (value_only result, with_tables s disk.new opened.now) }
 {
     match disk.named(from) {
         None => NO_ENTRY,
@@ -92,7 +97,8 @@ fn rename_file(disk: &mut Disk, opened: &Opened, n: usize, from: &[u8], to: &[u8
 /// Opens a file, which is made where it is not there and that is wanted.
 pub fn open(disk: &mut Disk, opened: &mut Opened, path: &Path, flags: u32) -> i32
     requires { IsShort path.now }
-    ensures { (s : System) → open_file (with_tables s disk.old opened.old) (text_of path.now) flags ≡ (value_only result, with_tables s disk.new opened.new) }
+    ensures { (s : System) → open_file (with_tables s disk.old opened.old) (text_of path.now) flags
+        ≡ (value_only result, with_tables s disk.new opened.new) }
 {
     match path.refusal() {
         Some(refusal) => refusal,
@@ -102,7 +108,8 @@ pub fn open(disk: &mut Disk, opened: &mut Opened, path: &Path, flags: u32) -> i3
 
 fn open_named(disk: &mut Disk, opened: &mut Opened, name: &[u8], flags: u32) -> i32
     requires { length name.now ≤ 255 }
-    ensures { (s : System) → open_named (with_tables s disk.old opened.old) name.now flags ≡ (value_only result, with_tables s disk.new opened.new) }
+    ensures { (s : System) → open_named (with_tables s disk.old opened.old) name.now flags
+        ≡ (value_only result, with_tables s disk.new opened.new) }
 {
     if flags % 4 == 3 {
         return INVALID;
@@ -115,7 +122,8 @@ fn open_named(disk: &mut Disk, opened: &mut Opened, name: &[u8], flags: u32) -> 
 
 fn create(disk: &mut Disk, opened: &mut Opened, name: &[u8], flags: u32) -> i32
     requires { length name.now ≤ 255 }
-    ensures { (s : System) → create_file (with_tables s disk.old opened.old) name.now flags ≡ (value_only result, with_tables s disk.new opened.new) }
+    ensures { (s : System) → create_file (with_tables s disk.old opened.old) name.now flags
+        ≡ (value_only result, with_tables s disk.new opened.new) }
 {
     if !has_flag(flags, CREATE) {
         return NO_ENTRY;
@@ -133,7 +141,8 @@ fn create(disk: &mut Disk, opened: &mut Opened, name: &[u8], flags: u32) -> i32
 }
 
 fn open_present(disk: &mut Disk, opened: &mut Opened, n: usize, flags: u32) -> i32
-    ensures { (s : System) → open_present (with_tables s disk.old opened.old) n flags ≡ (value_only result, with_tables s disk.new opened.new) }
+    ensures { (s : System) → open_present (with_tables s disk.old opened.old) n flags
+        ≡ (value_only result, with_tables s disk.new opened.new) }
 {
     if has_flag(flags, CREATE) && has_flag(flags, EXCLUSIVE) {
         return PRESENT;
@@ -150,7 +159,9 @@ fn open_present(disk: &mut Disk, opened: &mut Opened, n: usize, flags: u32) -> i
 /// A free descriptor stands for a description.
 fn open_as(opened: &mut Opened, free: (usize, usize), description: Description) -> i32
     requires { (free.0 < 64) × (free.1 < 64) }
-    ensures opened { opened.new ≡ with_descriptor (with_description opened.old free.1 (Some description)) free.0 (Some free.1) }
+    ensures opened { opened.new
+        ≡ with_descriptor (with_description opened.old free.1 (Some description)) free.0
+        (Some free.1) }
     ensures fd { result ≡ pos free.0 }
 {
     let (fd, d) = free;

@@ -26,7 +26,12 @@ pub fn fstat<M: View>(
     place: u32,
     view: &mut M,
 ) -> i32
-    ensures { (s : System) → Gives M.put_at (M.content view.old) (M.content view.new) (room_at (M.memory (M.content view.old)) (Some (place, 16))) result (with_order (with_tables s disk.now opened.now) order) (fstat (with_order (with_tables s disk.now opened.now) order) fd (room_at (M.memory (M.content view.old)) (Some (place, 16)))) }
+    ensures { (s : System)
+        → Gives M.put_at (M.content view.old) (M.content view.new)
+        (room_at (M.memory (M.content view.old)) (Some (place, 16))) result
+        (with_order (with_tables s disk.now opened.now) order)
+        (fstat (with_order (with_tables s disk.now opened.now) order) fd
+        (room_at (M.memory (M.content view.old)) (Some (place, 16)))) }
 {
     let Some((_, description)) = opened.at(fd) else {
         return BAD_DESCRIPTOR;

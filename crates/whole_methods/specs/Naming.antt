@@ -1,8 +1,8 @@
 -- What the code of a method may name: fields of the main class with their types, some methods, texts of its own class, and its own return.
 use Rattle.std.specs.Prelude.{ℕ, Bool, true, false, ◌&&◌, ◌||◌, ◌==◌, nat_lt, List}
 use Rattle.std.specs.List.{list_all}
-use Rattle.jvm_code.specs.declared.names.return_name.ReturnName.{ReturnName}
-use Rattle.jvm_code.specs.declared.names.return_name.ReturnName.TheVariants as returns
+use Rattle.jvm_names.specs.declared.return_name.ReturnName.{ReturnName}
+use Rattle.jvm_names.specs.declared.return_name.ReturnName.TheVariants as returns
 use Rattle.jvm_program.specs.declared.constant.Constant.TheVariants.{Text}
 use Rattle.jvm_program.specs.declared.kind.Kind.{Kind}
 use Rattle.jvm_program.specs.declared.instruction.Instruction.{Instruction}
@@ -11,8 +11,8 @@ use Rattle.jvm_program.specs.Typing.{same_kind}
 use Rattle.jvm_link.specs.Linking.{kind_of}
 use Rattle.code_steps.specs.declared.step.Step.{Step}
 use Rattle.code_steps.specs.declared.step.Step.TheVariants.{Does}
+use Rattle.guest_layout.specs.Fields.{field_descriptor}
 use Rattle.code_assembly.specs.Assembling.{is_signed_byte}
-use Rattle.class_members.specs.Fields.{field_descriptor}
 
 -- one of the 38 fields of the main class, with its type
 abbrev pub is_field : ℕ → Kind → Bool

@@ -1,18 +1,18 @@
 -- Where code goes behind a unit, inside the method of a span. A step that leaves names the address of a word of the span, whose code is
 -- found once all code is laid down.
 use Rattle.std.specs.Prelude.{ℕ, ◌%◌, Bool, ◌&&◌, ◌||◌, false, ◌==◌, nat_le, nat_lt, if◌then◌else◌, List, [], ◌∷◌, Option, Some, None}
-use Rattle.jvm_code.specs.declared.names.branch_name.BranchName.TheVariants.{IfIcmpne}
-use Rattle.jvm_code.specs.declared.names.return_name.ReturnName.TheVariants as return_names
-use Rattle.jvm_program.specs.declared.local_kind.LocalKind.TheVariants as local_kinds
-use Rattle.jvm_program.specs.declared.instruction.Instruction.TheVariants as instructions
 use Rattle.mips_decode.specs.declared.inst.Inst.{Inst}
 use Rattle.mips_decode.specs.declared.inst.Inst.TheVariants as inst
 use Rattle.mips_decode.specs.Targets.{branch_target, jump_target}
 use Rattle.delay_slots.specs.declared.unit.Unit.{Unit}
 use Rattle.delay_slots.specs.declared.unit.Unit.TheVariants.{Plain, Branch, SlotMissing, SlotIsBranch, Call, Trap}
+use Rattle.jvm_names.specs.declared.branch_name.BranchName.TheVariants.{IfIcmpne}
+use Rattle.jvm_names.specs.declared.return_name.ReturnName.TheVariants as return_names
+use Rattle.jvm_program.specs.declared.local_kind.LocalKind.TheVariants as local_kinds
+use Rattle.jvm_program.specs.declared.instruction.Instruction.TheVariants as instructions
 use Rattle.code_steps.specs.declared.step.Step.{Step}
 use Rattle.code_steps.specs.declared.step.Step.TheVariants.{Does, Skips, Leaves}
-use Rattle.guest_match.specs.Match.{pc_field}
+use Rattle.guest_layout.specs.FieldNumbers.{pc_field}
 use Rattle.guest_code.specs.Access.{push_word, put_field}
 use Rattle.guest_code.specs.Branching.{behind_slot}
 use Rattle.guest_code.specs.Units.{next_address}
@@ -21,7 +21,8 @@ use Rattle.word_emitter.specs.Pieces.{is_likely}
 
 -- a word of the span stands at an address
 abbrev pub has : Extent → ℕ → Bool
-has span address = nat_le span.first address && nat_lt address span.end && address % 4 == span.first % 4
+has span address = nat_le span.first address && nat_lt address span.end
+    && address % 4 == span.first % 4
 
 -- the code of an address is directly behind, where there is one
 abbrev pub follows : Option ℕ → ℕ → Bool
@@ -44,26 +45,32 @@ last_way span behind goal = if follows behind goal then [] else arrive span goal
 abbrev pub two_ways : Extent → Option ℕ → ℕ → ℕ → List Step
 two_ways span behind first second =
     if has span first || has span second
-    then Does (instructions.Load local_kinds.Int 0) ∷ push_word first ∷ Skips IfIcmpne 1 ∷ arrive span first ∷ last_way span behind second
+    then Does (instructions.Load local_kinds.Int 0) ∷ push_word first ∷ Skips IfIcmpne 1
+    ∷ arrive span first ∷ last_way span behind second
     else returns ∷ []
 
 abbrev pub branch_exit : Extent → Option ℕ → Inst → ℕ → List Step
-branch_exit span behind (inst.BranchSign name rs imm) at = two_ways span behind (branch_target at imm) (behind_slot at)
-branch_exit span behind (inst.BranchEqual name rs rt imm) at = two_ways span behind (branch_target at imm) (behind_slot at)
-branch_exit span behind (inst.BranchZero name rs imm) at = two_ways span behind (branch_target at imm) (behind_slot at)
+branch_exit span behind (inst.BranchSign name rs imm) at =
+    two_ways span behind (branch_target at imm) (behind_slot at)
+branch_exit span behind (inst.BranchEqual name rs rt imm) at =
+    two_ways span behind (branch_target at imm) (behind_slot at)
+branch_exit span behind (inst.BranchZero name rs imm) at =
+    two_ways span behind (branch_target at imm) (behind_slot at)
 branch_exit span behind (inst.Jump name index) at = last_way span behind (jump_target at index)
 branch_exit span behind other at = returns ∷ []
 
 -- behind a branch that faults in its slot only a likely one goes on, where it is not taken
 abbrev pub passing_exit : Extent → Option ℕ → Inst → ℕ → List Step
-passing_exit span behind i at = if is_likely i then last_way span behind (behind_slot at) else returns ∷ []
+passing_exit span behind i at = if is_likely i then last_way span behind (behind_slot at)
+    else returns ∷ []
 
 -- ---- to the next word: field pc is set where that is outside
 
 abbrev pub next_exit : Extent → Option ℕ → ℕ → List Step
 next_exit span behind next =
     if follows behind next then []
-    else if has span next then Leaves next ∷ [] else push_word next ∷ put_field pc_field ∷ returns ∷ []
+    else if has span next then Leaves next ∷ []
+    else push_word next ∷ put_field pc_field ∷ returns ∷ []
 
 -- behind the code of a unit at an address
 abbrev pub exit_code : Extent → Option ℕ → Unit → ℕ → List Step

@@ -7,15 +7,15 @@ use Rattle.mips_decode.specs.declared.inst.Inst.{Inst}
 use Rattle.mips_decode.specs.declared.inst.Inst.TheVariants.{BranchSign, BranchEqual, BranchZero}
 use Rattle.delay_slots.specs.declared.unit.Unit.{Unit}
 use Rattle.delay_slots.specs.declared.unit.Unit.TheVariants.{Branch}
-use Rattle.jvm_program.specs.declared.local_kind.LocalKind.TheVariants as local_kinds
-use Rattle.jvm_program.specs.declared.instruction.Instruction.TheVariants.{Load, Store}
-use Rattle.code_steps.specs.declared.step.Step.{Step}
-use Rattle.code_steps.specs.declared.step.Step.TheVariants.{Does}
 use Rattle.block_builder.specs.declared.block.Block.{Block}
 use Rattle.block_builder.specs.Registers.{Register, register_set, read_by, written_by, unit_reads, unit_writes}
 use Rattle.block_builder.specs.Leaders.{words_of}
 use Rattle.block_builder.specs.Blocks.{unit_at}
-use Rattle.guest_match.specs.Match.{register_field}
+use Rattle.jvm_program.specs.declared.local_kind.LocalKind.TheVariants as local_kinds
+use Rattle.jvm_program.specs.declared.instruction.Instruction.TheVariants.{Load, Store}
+use Rattle.code_steps.specs.declared.step.Step.{Step}
+use Rattle.code_steps.specs.declared.step.Step.TheVariants.{Does}
+use Rattle.guest_layout.specs.FieldNumbers.{register_field}
 use Rattle.guest_code.specs.Access.{get_field, put_field}
 use Rattle.guest_code.specs.Units.{unit_code}
 
@@ -34,7 +34,8 @@ is_likely _ = false
 -- branch passes its slot over.
 abbrev pub needs : Unit → ℕ → Bool
 needs (Branch i slot) r =
-    is_in r (read_by i) || (not (is_in r (written_by i)) && is_in r (read_by slot)) || (is_likely i && is_in r (written_by slot))
+    is_in r (read_by i) || (not (is_in r (written_by i)) && is_in r (read_by slot))
+    || (is_likely i && is_in r (written_by slot))
 needs unit r = is_in r (unit_reads unit)
 
 -- one of the units needs what a register holds before all of them
@@ -47,7 +48,8 @@ is_written units r = list_any (λ unit. is_in r (unit_writes unit)) units
 
 -- the registers that a piece keeps in local variables: all that it reads or writes
 abbrev pub bank_of : List Unit → ℕ
-bank_of units = bit_or (register_set (flat_map unit_reads units)) (register_set (flat_map unit_writes units))
+bank_of units =
+    bit_or (register_set (flat_map unit_reads units)) (register_set (flat_map unit_writes units))
 
 -- ---- code
 
@@ -69,11 +71,13 @@ for_registers test code = flat_map (λ r. if test r then code r else []) (range_
 -- are put back.
 abbrev pub warm_code : List Unit → ℕ → List Step
 warm_code units at =
-    for_registers (is_needed units) fetched ++ units_code (bank_of units) units at ++ for_registers (is_written units) put_back
+    for_registers (is_needed units) fetched ++ units_code (bank_of units) units at
+    ++ for_registers (is_written units) put_back
 
 -- the units of a piece: those of its words but for the word of the delay slot of its branch, which is in the branch's unit
 abbrev pub ends_with_slot : List Unit → Block → Bool
 ends_with_slot units b = nat_le 2 b.words && words_of (unit_at units (b.first + b.words - 2)) == 2
 
 abbrev pub piece_units : List Unit → Block → List Unit
-piece_units units b = take (if ends_with_slot units b then b.words - 1 else b.words) (drop b.first units)
+piece_units units b = take (if ends_with_slot units b then b.words - 1
+    else b.words) (drop b.first units)

@@ -8,7 +8,7 @@ use crate::registers::is_likely;
 use code_steps::Step;
 use delay_slots::Unit;
 use guest_code::{fields, push_word, put_field};
-use jvm_code::{BranchName, ReturnName};
+use jvm_names::{BranchName, ReturnName};
 use jvm_program::{Instruction, LocalKind};
 use mips_decode::{Inst, branch_target, jump_target};
 
@@ -24,7 +24,8 @@ pub fn append_exit(
     at: u32,
     code: &mut Vec<Step>,
 ) -> Result<(), NoMemory>
-    ensures { OnOk result (code.new.items ≡ code.old.items ++ emitted.exit_code span behind unit.now at) }
+    ensures { OnOk result (code.new.items ≡ code.old.items
+        ++ emitted.exit_code span behind unit.now at) }
 {
     match *unit {
         Unit::Plain(_) | Unit::Call => append_next(span, behind, at.wrapping_add(4), code),
@@ -45,7 +46,8 @@ fn append_branch(
     at: u32,
     code: &mut Vec<Step>,
 ) -> Result<(), NoMemory>
-    ensures { OnOk result (code.new.items ≡ code.old.items ++ emitted.branch_exit span behind inst.now at) }
+    ensures { OnOk result (code.new.items ≡ code.old.items
+        ++ emitted.branch_exit span behind inst.now at) }
 {
     match *inst {
         Inst::BranchSign { imm, .. }
@@ -72,7 +74,8 @@ fn append_two(
     second: u32,
     code: &mut Vec<Step>,
 ) -> Result<(), NoMemory>
-    ensures { OnOk result (code.new.items ≡ code.old.items ++ emitted.two_ways span behind first second) }
+    ensures { OnOk result (code.new.items ≡ code.old.items
+        ++ emitted.two_ways span behind first second) }
 {
     if span.has(first) || span.has(second) {
         code.push(Step::Does(Instruction::Load(LocalKind::Int, 0)))?;

@@ -33,7 +33,8 @@ pub fn append_warm(
 // The units over the local variables of the registers that they read or write.
 fn append_body(alloc: Global, units: &[Unit], at: u32, code: &mut Vec<Step>) -> Result<(), NoMemory>
     requires { at + 4 * length units.now < 2 ^ 32 }
-    ensures { OnOk result (code.new.items ≡ code.old.items ++ emitted.units_code (emitted.bank_of units.now) units.now at) }
+    ensures { OnOk result (code.new.items ≡ code.old.items
+        ++ emitted.units_code (emitted.bank_of units.now) units.now at) }
 {
     let bank = bank_of(units);
     append_units(alloc, &bank, units, at, code)
@@ -41,7 +42,8 @@ fn append_body(alloc: Global, units: &[Unit], at: u32, code: &mut Vec<Step>) -> 
 
 // Registers whose words are needed are put into their local variables.
 fn append_fetches(units: &[Unit], code: &mut Vec<Step>) -> Result<(), NoMemory>
-    ensures { OnOk result (code.new.items ≡ code.old.items ++ emitted.for_registers (emitted.is_needed units.now) emitted.fetched) }
+    ensures { OnOk result (code.new.items ≡ code.old.items
+        ++ emitted.for_registers (emitted.is_needed units.now) emitted.fetched) }
 {
     for r in 1..32 {
         append_fetched(is_needed(units, r), r, code)?;
@@ -51,7 +53,8 @@ fn append_fetches(units: &[Unit], code: &mut Vec<Step>) -> Result<(), NoMemory>
 
 // Registers that were written are put back.
 fn append_put_backs(units: &[Unit], code: &mut Vec<Step>) -> Result<(), NoMemory>
-    ensures { OnOk result (code.new.items ≡ code.old.items ++ emitted.for_registers (emitted.is_written units.now) emitted.put_back) }
+    ensures { OnOk result (code.new.items ≡ code.old.items
+        ++ emitted.for_registers (emitted.is_written units.now) emitted.put_back) }
 {
     for r in 1..32 {
         append_put_back(is_written(units, r), r, code)?;
@@ -80,7 +83,8 @@ fn append_units(
     code: &mut Vec<Step>,
 ) -> Result<(), NoMemory>
     requires { at + 4 * length units.now < 2 ^ 32 }
-    ensures { OnOk result (code.new.items ≡ code.old.items ++ emitted.units_code bank.now units.now at) }
+    ensures { OnOk result (code.new.items ≡ code.old.items
+        ++ emitted.units_code bank.now units.now at) }
 {
     let mut rest = units;
     let mut here = at;
@@ -94,7 +98,8 @@ fn append_units(
 
 fn append_fetched(needed: bool, r: u8, code: &mut Vec<Step>) -> Result<(), NoMemory>
     requires { 0 < r }
-    ensures { OnOk result (code.new.items ≡ code.old.items ++ (if needed then emitted.fetched r else [])) }
+    ensures { OnOk result (code.new.items ≡ code.old.items
+        ++ (if needed then emitted.fetched r else [])) }
 {
     if needed {
         code.push(get_field(fields::register_field(r)))?;
@@ -105,7 +110,8 @@ fn append_fetched(needed: bool, r: u8, code: &mut Vec<Step>) -> Result<(), NoMem
 
 fn append_put_back(written: bool, r: u8, code: &mut Vec<Step>) -> Result<(), NoMemory>
     requires { 0 < r }
-    ensures { OnOk result (code.new.items ≡ code.old.items ++ (if written then emitted.put_back r else [])) }
+    ensures { OnOk result (code.new.items ≡ code.old.items
+        ++ (if written then emitted.put_back r else [])) }
 {
     if written {
         code.push(Step::Does(Instruction::Load(LocalKind::Int, r)))?;

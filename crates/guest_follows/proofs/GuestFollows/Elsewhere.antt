@@ -6,7 +6,7 @@ use Rattle.run_laws.specs.Places.{Rises, visit}
 use Rattle.jvm_program.specs.declared.value.Value.{Value}
 use Rattle.jvm_program.specs.Effect.{Workspace, frames_trap}
 use Rattle.jvm_program.specs.Step.{State, Frame, placed, called, entered}
-use Rattle.machine_counts.specs.Classes.{place_in}
+use Rattle.code_paths.specs.Classes.{place_in}
 
 pub none-there : (m own at place : ℕ) (w : Workspace) (others : List Frame) → own ≢ m → Rises place (visit (place_in m (placed own at w others)) []) (place + 1)
 none-there m own at place w others differ =

@@ -3,14 +3,15 @@ use Rattle.std.proofs.Common.{◌≡◌, ◌≢◌, ℕ, ◌==◌, ◌<◌, Bool
 use Rattle.std.proofs.lemmas.Bool.{ne_eqb}
 use Rattle.nv_words.specs.Words.{IsWord}
 use Rattle.nv_events.specs.Memory.{Memory}
+use Rattle.mips_decode.specs.State.{State}
 use Rattle.jvm_program.specs.declared.value.Value.{Value}
 use Rattle.jvm_program.specs.declared.value.Value.TheVariants.{Int as int}
 use Rattle.jvm_program.specs.Values.{Heap}
 use Rattle.jvm_program.specs.Effect.{Workspace}
-use Rattle.mips_decode.specs.State.{State}
-use Rattle.guest_match.specs.Match.{HoldsMemory, register_field, hi_field, lo_field, pc_field, readable_field, writable_field}
+use Rattle.guest_layout.specs.FieldNumbers.{register_field, hi_field, lo_field, pc_field, readable_field, writable_field}
 use Rattle.guest_code.specs.Access.{keeps}
 use Rattle.guest_code.specs.Fields.{link_field, linked_field}
+use Rattle.guest_follows.specs.Match.{HoldsMemory}
 use Rattle.guest_follows.specs.Holding.{HoldsOn, Keeps, KeepsGoal, IsLink}
 
 -- the workspace with other fields and arrays

@@ -2,18 +2,19 @@
 use Rattle.std.proofs.Common.{◌≡◌, ℕ, ◌==◌, ◌<◌, Bool, true, false, if◌then◌else◌, inl, inr, List, ◌∷◌, refl, ap, subst, sym, arith, lit<}
 use Rattle.std.proofs.lemmas.Bool.{eqb-false}
 use Rattle.nv_words.specs.Words.{IsWord}
+use Rattle.mips_decode.specs.State.{State, register}
 use Rattle.jvm_program.specs.declared.value.Value.TheVariants.{Int as int}
 use Rattle.jvm_program.specs.declared.local_kind.LocalKind.TheVariants as local_kinds
 use Rattle.jvm_program.specs.declared.instruction.Instruction.TheVariants as instructions
 use Rattle.jvm_program.specs.Program.{Program}
 use Rattle.jvm_program.specs.Effect.{Workspace, with_operands, pushes, moves, wrong}
-use Rattle.mips_decode.specs.State.{State, register}
-use Rattle.guest_match.specs.Match.{register_field}
 use Rattle.code_steps.specs.declared.step.Step.{Step}
 use Rattle.code_steps.specs.declared.step.Step.TheVariants.{Does}
 use Rattle.code_steps.specs.Outcomes.{later, outcome, outcome_from, after_instruction}
+use Rattle.guest_layout.specs.FieldNumbers.{register_field}
 use Rattle.guest_code.specs.Access.{get_register, keeps, get_field, push_word}
-use Rattle.guest_follows.specs.Holding.{HoldsOn, IsKnown, reached}
+use Rattle.lawful_units.specs.Knowing.{IsKnown}
+use Rattle.guest_follows.specs.Holding.{HoldsOn, reached}
 
 -- what is left to do with a word pushed
 abbrev pub Pushes : Program → ℕ → Step → List Step → Workspace → ℕ → Type 0

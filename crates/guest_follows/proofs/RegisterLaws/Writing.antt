@@ -2,20 +2,21 @@
 use Rattle.std.proofs.Common.{◌≡◌, ℕ, ◌==◌, ◌<◌, Bool, true, false, if◌then◌else◌, List, ◌∷◌, refl, arith}
 use Rattle.std.proofs.lemmas.Grind.{common_steps}
 use Rattle.nv_words.specs.Words.{IsWord}
+use Rattle.mips_decode.specs.State.{State, with_register}
+use Rattle.jvm_names.specs.declared.stack_name.StackName.TheVariants.{Pop}
 use Rattle.jvm_program.specs.declared.value.Value.{Value}
 use Rattle.jvm_program.specs.declared.value.Value.TheVariants.{Int as int}
 use Rattle.jvm_program.specs.declared.local_kind.LocalKind.TheVariants as local_kinds
 use Rattle.jvm_program.specs.declared.instruction.Instruction.TheVariants as instructions
-use Rattle.jvm_code.specs.declared.names.stack_name.StackName.TheVariants.{Pop}
 use Rattle.jvm_program.specs.Program.{Program}
 use Rattle.jvm_program.specs.Effect.{Workspace, with_operands, with_local, with_field}
-use Rattle.mips_decode.specs.State.{State, with_register}
-use Rattle.guest_match.specs.Match.{register_field}
 use Rattle.code_steps.specs.declared.step.Step.{Step}
 use Rattle.code_steps.specs.declared.step.Step.TheVariants.{Does}
 use Rattle.code_steps.specs.Outcomes.{later, outcome}
+use Rattle.guest_layout.specs.FieldNumbers.{register_field}
 use Rattle.guest_code.specs.Access.{put_register, keeps, put_field}
-use Rattle.guest_follows.specs.Holding.{HoldsOn, Keeps, KeepsGoal, gaining, with_value}
+use Rattle.lawful_units.specs.Knowing.{gaining}
+use Rattle.guest_follows.specs.Holding.{HoldsOn, Keeps, KeepsGoal, with_value}
 
 -- what is left to do with a word taken
 abbrev pub Puts : Program → ℕ → Step → List Step → Workspace → Workspace → Type 0

@@ -1,14 +1,7 @@
 ghost use Rattle.std.specs.Prelude.{◌≡◌};
 ghost use Rattle.jvm_code.specs.Opcodes.{array_name_opcode};
 
-/// Instructions on an element of an array.
-#[derive(Clone, Copy)]
-pub enum ArrayName {
-    Iaload,
-    Aaload,
-    Iastore,
-    Aastore,
-}
+use jvm_names::ArrayName;
 
 /// The opcode (JVM Specification, 6.5).
 pub fn opcode_of_array_name(name: ArrayName) -> u8

@@ -1,25 +1,7 @@
 ghost use Rattle.std.specs.Prelude.{◌≡◌};
 ghost use Rattle.jvm_code.specs.Opcodes.{branch_name_opcode};
 
-/// Branches with an offset of two bytes.
-#[derive(Clone, Copy)]
-pub enum BranchName {
-    Ifeq,
-    Ifne,
-    Iflt,
-    Ifge,
-    Ifgt,
-    Ifle,
-    IfIcmpeq,
-    IfIcmpne,
-    IfIcmplt,
-    IfIcmpge,
-    IfIcmpgt,
-    IfIcmple,
-    Goto,
-    Ifnull,
-    Ifnonnull,
-}
+use jvm_names::BranchName;
 
 /// The opcode (JVM Specification, 6.5).
 pub fn opcode_of_branch_name(name: BranchName) -> u8

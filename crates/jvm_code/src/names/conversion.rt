@@ -1,15 +1,7 @@
 ghost use Rattle.std.specs.Prelude.{◌≡◌};
 ghost use Rattle.jvm_code.specs.Opcodes.{conversion_opcode};
 
-/// Conversions of numbers.
-#[derive(Clone, Copy)]
-pub enum Conversion {
-    I2l,
-    L2i,
-    I2b,
-    I2c,
-    I2s,
-}
+use jvm_names::Conversion;
 
 /// The opcode (JVM Specification, 6.5).
 pub fn opcode_of_conversion(name: Conversion) -> u8

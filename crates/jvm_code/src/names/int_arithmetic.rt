@@ -1,16 +1,7 @@
 ghost use Rattle.std.specs.Prelude.{◌≡◌};
 ghost use Rattle.jvm_code.specs.Opcodes.{int_arithmetic_opcode};
 
-/// Operations on two ints that always give one.
-#[derive(Clone, Copy)]
-pub enum IntArithmetic {
-    Iadd,
-    Isub,
-    Imul,
-    Iand,
-    Ior,
-    Ixor,
-}
+use jvm_names::IntArithmetic;
 
 /// The opcode (JVM Specification, 6.5).
 pub fn opcode_of_int_arithmetic(name: IntArithmetic) -> u8

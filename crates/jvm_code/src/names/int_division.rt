@@ -1,12 +1,7 @@
 ghost use Rattle.std.specs.Prelude.{◌≡◌};
 ghost use Rattle.jvm_code.specs.Opcodes.{int_division_opcode};
 
-/// Divisions of ints.
-#[derive(Clone, Copy)]
-pub enum IntDivision {
-    Idiv,
-    Irem,
-}
+use jvm_names::IntDivision;
 
 /// The opcode (JVM Specification, 6.5).
 pub fn opcode_of_int_division(name: IntDivision) -> u8

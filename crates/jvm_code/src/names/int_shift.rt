@@ -1,13 +1,7 @@
 ghost use Rattle.std.specs.Prelude.{◌≡◌};
 ghost use Rattle.jvm_code.specs.Opcodes.{int_shift_opcode};
 
-/// Shifts of an int by an int.
-#[derive(Clone, Copy)]
-pub enum IntShift {
-    Ishl,
-    Ishr,
-    Iushr,
-}
+use jvm_names::IntShift;
 
 /// The opcode (JVM Specification, 6.5).
 pub fn opcode_of_int_shift(name: IntShift) -> u8

@@ -1,13 +1,7 @@
 ghost use Rattle.std.specs.Prelude.{◌≡◌};
 ghost use Rattle.jvm_code.specs.Opcodes.{long_arithmetic_opcode};
 
-/// Operations on two longs that always give one.
-#[derive(Clone, Copy)]
-pub enum LongArithmetic {
-    Ladd,
-    Lmul,
-    Land,
-}
+use jvm_names::LongArithmetic;
 
 /// The opcode (JVM Specification, 6.5).
 pub fn opcode_of_long_arithmetic(name: LongArithmetic) -> u8

@@ -1,12 +1,7 @@
 ghost use Rattle.std.specs.Prelude.{◌≡◌};
 ghost use Rattle.jvm_code.specs.Opcodes.{long_division_opcode};
 
-/// Divisions of longs.
-#[derive(Clone, Copy)]
-pub enum LongDivision {
-    Ldiv,
-    Lrem,
-}
+use jvm_names::LongDivision;
 
 /// The opcode (JVM Specification, 6.5).
 pub fn opcode_of_long_division(name: LongDivision) -> u8

@@ -1,13 +1,7 @@
 ghost use Rattle.std.specs.Prelude.{◌≡◌};
 ghost use Rattle.jvm_code.specs.Opcodes.{long_shift_opcode};
 
-/// Shifts of a long by an int.
-#[derive(Clone, Copy)]
-pub enum LongShift {
-    Lshl,
-    Lshr,
-    Lushr,
-}
+use jvm_names::LongShift;
 
 /// The opcode (JVM Specification, 6.5).
 pub fn opcode_of_long_shift(name: LongShift) -> u8

@@ -1,12 +1,7 @@
 ghost use Rattle.std.specs.Prelude.{◌≡◌};
 ghost use Rattle.jvm_code.specs.Opcodes.{return_name_opcode};
 
-/// Returns from a method.
-#[derive(Clone, Copy)]
-pub enum ReturnName {
-    Ireturn,
-    Return,
-}
+use jvm_names::ReturnName;
 
 /// The opcode (JVM Specification, 6.5).
 pub fn opcode_of_return_name(name: ReturnName) -> u8

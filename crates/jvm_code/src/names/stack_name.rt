@@ -1,17 +1,7 @@
 ghost use Rattle.std.specs.Prelude.{◌≡◌};
 ghost use Rattle.jvm_code.specs.Opcodes.{stack_name_opcode};
 
-/// Instructions that move operands.
-#[derive(Clone, Copy)]
-pub enum StackName {
-    Pop,
-    Pop2,
-    Dup,
-    DupX1,
-    DupX2,
-    Dup2,
-    Swap,
-}
+use jvm_names::StackName;
 
 /// The opcode (JVM Specification, 6.5).
 pub fn opcode_of_stack_name(name: StackName) -> u8

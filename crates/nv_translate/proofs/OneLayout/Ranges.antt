@@ -1,11 +1,11 @@
 -- A range of a program's code has one list of units, and one of leaders.
 use Rattle.std.proofs.Common.{◌≡◌, ℕ, Bool, false, List, Option, Some, sym, ap, ◌∙◌, subst, arith}
 use Rattle.std.proofs.lemmas.List.{ext_get_or}
-use Rattle.elf_reader.specs.declared.range.Range.{Range}
 use Rattle.delay_slots.specs.declared.unit.Unit.{Unit}
 use Rattle.delay_slots.specs.Units.{units_of}
 use Rattle.block_builder.specs.Leaders.{AreLeaders}
-use Rattle.code_ranges.specs.Ranges.{AreWords, IsRangeCode}
+use Rattle.elf_reader.specs.declared.range.Range.{Range}
+use Rattle.image_parts.specs.Ranges.{AreWords, IsRangeCode}
 
 some_one : (x y : ℕ) → Some x ≡ Some y → x ≡ y
 some_one x y e = cc

@@ -3,16 +3,17 @@ use Rattle.std.proofs.Common.{ℕ, ◌+◌, ◌<◌, List, [], ◌∷◌, ◌++�
 use Rattle.std.proofs.lemmas.List.{map_more}
 use Rattle.std.proofs.lemmas.Slice.Zip.{all_zipped_more}
 use Rattle.std.specs.List.{AllZip}
+use Rattle.image_parts.specs.Pages.{Page}
 use Rattle.constant_pool.specs.declared.entry.Entry.{Entry}
 use Rattle.constant_pool.specs.declared.entry.Entry.TheVariants.{MethodRef}
+use Rattle.loading_code.specs.declared.page_slot.PageSlot.{PageSlot}
 use Rattle.code_assembly.specs.Assembling.{Extends}
 use Rattle.class_builder.proofs.Made.{text-later, class-later}
 use Rattle.program_classes.proofs.ClassMaking.ZipLemmas.{zip-through}
-use Rattle.loading_code.specs.declared.page_slot.PageSlot.{PageSlot}
 use Rattle.program_classes.proofs.ProgramNames.NamedLemmas.{member-later, names-later}
 use Rattle.program_classes.specs.declared.names.Names.{Names}
 use Rattle.program_classes.specs.declared.page_data.PageData.{PageData}
-use Rattle.program_classes.specs.Pages.{Page, page_of, IsPageSlot}
+use Rattle.program_classes.specs.Pages.{page_of, IsPageSlot}
 use Rattle.program_classes.specs.DataNaming.{AreDataNames}
 
 slot-later : (old new : List Entry) → Extends old new → (slot : PageSlot) (page : Page) → IsPageSlot old slot page → IsPageSlot new slot page

@@ -7,15 +7,14 @@ use Rattle.std.proofs.lemmas.Bool.{and_from, and_parts, or_left, not_from_false,
 use Rattle.std.proofs.lemmas.Fmt.{decimal_is_IsNumeral, length-decimal-le_succ}
 use Rattle.std.proofs.lemmas.Str.Parse.{digit_from_value}
 use Rattle.std.proofs.lemmas.List.Folds.{list_all-append}
-use Rattle.command_words.specs.Values.{is_letter, is_letter_or_digit}
-use Rattle.command_words.specs.Limits.{IsClassName}
+use Rattle.command_values.specs.Names.{is_letter, is_letter_or_digit, IsClassName}
 use Rattle.constant_pool.specs.Names.{is_part_character, is_name_from, is_class_name, is_array_name, is_member_name}
 use Rattle.constant_pool.specs.Text.{character_bytes, text_bytes}
 use Rattle.class_file.specs.Named.{is_own_descriptor}
+use Rattle.guest_layout.specs.ClassNames.{code_class_name, data_class_name, span_name}
 use Rattle.class_builder.specs.declared.member_kind.MemberKind.TheVariants.{Method}
 use Rattle.class_builder.specs.Lawful.{is_descriptor, names_class, names_member}
 use Rattle.class_builder.specs.Built.{is_long_text}
-use Rattle.class_members.specs.ClassNames.{code_class_name, data_class_name, span_name}
 use Rattle.program_classes.specs.Making.{nothing}
 use Rattle.program_classes.specs.Room.{is_short, is_own_name, is_own_method, can_name_class, can_name_method}
 use Rattle.program_classes.proofs.LawfulNames.MemberLemmas.{nothing-named, nothing-own}

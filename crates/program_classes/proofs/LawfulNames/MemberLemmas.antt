@@ -6,10 +6,10 @@ use Rattle.std.proofs.lemmas.Bool.{and_parts, cases_eq}
 use Rattle.std.specs.Fmt.{digits}
 use Rattle.constant_pool.specs.Names.{after_field, after_parameters}
 use Rattle.class_file.specs.Named.{is_own_descriptor}
+use Rattle.guest_layout.specs.Fields.{field_name, field_descriptor}
+use Rattle.guest_layout.specs.Helpers.{helper_name, helper_descriptor}
 use Rattle.class_builder.specs.declared.member_kind.MemberKind.TheVariants.{Method}
 use Rattle.class_builder.specs.Lawful.{is_descriptor}
-use Rattle.class_members.specs.Fields.{field_name, field_descriptor}
-use Rattle.class_members.specs.Helpers.{helper_name, helper_descriptor}
 use Rattle.program_classes.specs.Making.{nothing}
 use Rattle.program_classes.specs.Called.{pages_descriptor}
 use Rattle.program_classes.specs.DataNaming.{words_descriptor}

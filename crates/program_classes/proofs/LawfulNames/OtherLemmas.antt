@@ -1,7 +1,7 @@
 -- The names of the other classes, and of what the main class calls of them.
 use Rattle.std.proofs.Common.{◌≡◌, ℕ, ◌<◌, true, List, arith}
-use Rattle.command_words.specs.Limits.{IsClassName}
-use Rattle.class_members.specs.ClassNames.{code_class_name, data_class_name}
+use Rattle.command_values.specs.Names.{IsClassName}
+use Rattle.guest_layout.specs.ClassNames.{code_class_name, data_class_name}
 use Rattle.program_classes.specs.Making.{nothing}
 use Rattle.program_classes.specs.declared.other_class.OtherClass.{OtherClass}
 use Rattle.program_classes.specs.declared.other_class.OtherClass.TheVariants.{Code, Data}

@@ -3,10 +3,10 @@ use Rattle.std.proofs.Common.{◌≡◌, ℕ, ◌+◌, ◌-◌, ◌*◌, ◌/◌
 use Rattle.std.specs.Prelude.{nat_le, nat_lt, min, if◌then◌else◌, ◌&&◌}
 use Rattle.std.proofs.lemmas.List.Elements.{All-head, All-tail, All-take, All-drop}
 use Rattle.std.proofs.lemmas.List.{length-take}
+use Rattle.image_parts.specs.declared.page_run.PageRun.{PageRun}
+use Rattle.image_parts.specs.Runs.{IsRun, text_of}
 use Rattle.constant_pool.specs.Text.{character_bytes, text_bytes}
-use Rattle.equal_shares.specs.Shares.{shared, share_at, share_count}
-use Rattle.page_runs.specs.declared.page_run.PageRun.{PageRun}
-use Rattle.page_runs.specs.Runs.{IsRun, text_of}
+use Rattle.method_splitter.specs.Shares.{shared, share_at, share_count}
 use Rattle.data_strings.specs.Texts.{word_text, page_text}
 
 character-size : (c : ℕ) → length (character_bytes c) ≤ 3

@@ -4,13 +4,13 @@ use Rattle.std.proofs.lemmas.Bool.{cases_lt}
 use Rattle.std.proofs.lemmas.List.{append-nil, get_or_append_left, get_or-append-add, length-append}
 use Rattle.constant_pool.specs.declared.entry.Entry.{Entry}
 use Rattle.constant_pool.specs.declared.entry.Entry.TheVariants.{MethodRef}
+use Rattle.guest_layout.specs.Helpers.{helper_name, helper_descriptor}
 use Rattle.code_assembly.specs.Assembling.{Extends}
 use Rattle.class_builder.specs.Named.{IsMethodAt}
 use Rattle.class_builder.proofs.Made.{class-later}
 use Rattle.program_classes.specs.Named.{AreHelpers}
 use Rattle.program_classes.proofs.ProgramNames.NamedLemmas.{member-later}
 use Rattle.program_classes.specs.Making.{nothing}
-use Rattle.class_members.specs.Helpers.{helper_name, helper_descriptor}
 use Rattle.program_classes.specs.declared.content.MainClass.{MainClass}
 use Rattle.program_classes.specs.declared.other_class.OtherClass.{OtherClass}
 use Rattle.program_classes.specs.declared.other_class.OtherClass.TheVariants.{Code, Data}

@@ -3,11 +3,11 @@ use Rattle.std.proofs.Common.{◌≡◌, ℕ, List, [], ◌∷◌, ◌++◌, map
 use Rattle.std.specs.List.{flat_map, range_with_len}
 use Rattle.std.proofs.lemmas.Grind.{flat_map-append}
 use Rattle.name_resolution.specs.Names.{object_name, string_name, host_name}
+use Rattle.guest_layout.specs.Fields.{field_name, field_descriptor}
+use Rattle.guest_layout.specs.Helpers.{helper_name, helper_descriptor}
 use Rattle.class_builder.specs.declared.member_kind.MemberKind.{MemberKind}
 use Rattle.class_builder.specs.declared.member_kind.MemberKind.TheVariants.{Field, Method}
 use Rattle.class_builder.specs.Mentioned.{Mention, OfClass, member_mention, method_mention, class_mention, classes_among}
-use Rattle.class_members.specs.Fields.{field_name, field_descriptor}
-use Rattle.class_members.specs.Helpers.{helper_name, helper_descriptor}
 use Rattle.program_classes.specs.Making.{nothing}
 use Rattle.program_classes.specs.Mentioned.{field_mentions, helper_mentions, host_mentions, string_mentions, names_mentions}
 use Rattle.program_classes.specs.declared.content.MainClass.{MainClass}

@@ -6,6 +6,7 @@ use Rattle.std.proofs.lemmas.Slice.Zip.{all_zipped_more}
 use Rattle.constant_pool.specs.declared.entry.Entry.{Entry}
 use Rattle.jvm_code.specs.declared.class.Class.{Class}
 use Rattle.jvm_code.specs.declared.member.Member.{Member}
+use Rattle.guest_layout.specs.Fields.{field_name, field_descriptor}
 use Rattle.code_assembly.specs.Assembling.{Extends}
 use Rattle.code_assembly.proofs.Pools.{extends-itself, extends-further}
 use Rattle.class_builder.specs.Built.{AddsField}
@@ -13,7 +14,6 @@ use Rattle.class_builder.specs.Named.{IsClassAt}
 use Rattle.class_builder.specs.Mentioned.{mentioned}
 use Rattle.class_builder.proofs.Made.{text-later, class-later}
 use Rattle.class_builder.proofs.Mentions.{mentions-itself, mentions-still}
-use Rattle.class_members.specs.Fields.{field_name, field_descriptor}
 use Rattle.program_classes.proofs.ClassMaking.ZipLemmas.{zip-through, range-more}
 use Rattle.program_classes.specs.Fields.{IsField, AreFields, AddsFields}
 

@@ -1,20 +1,20 @@
 -- What is named stays named while the pool grows.
 use Rattle.std.proofs.Common.{◌≡◌, ℕ, ◌+◌, ◌<◌, List, slice_index_or, refl, ap, sym, ◌∙◌, arith, subst, ◌++◌, ◌∷◌, [], inl, inr}
-use Rattle.constant_pool.specs.declared.entry.Entry.{Entry}
-use Rattle.jvm_code.specs.declared.class.Class.{Class}
-use Rattle.code_assembly.specs.Assembling.{Extends}
-use Rattle.class_builder.specs.Built.{GrowsPool}
-use Rattle.class_builder.specs.Named.{IsClassAt, IsMemberAt}
-use Rattle.code_assembly.proofs.Pools.{extends-itself, extends-further}
-use Rattle.class_builder.proofs.Growing.{stays-behind}
-use Rattle.class_builder.proofs.Stays.{class-stays, member-stays}
-use Rattle.name_resolution.specs.Names.{host_name, string_name}
 use Rattle.std.proofs.lemmas.Bool.{cases_lt}
 use Rattle.std.proofs.lemmas.List.{get_or_push, get_or_append_left, length_push}
+use Rattle.constant_pool.specs.declared.entry.Entry.{Entry}
 use Rattle.constant_pool.specs.declared.entry.Entry.TheVariants.{FieldRef, MethodRef}
+use Rattle.jvm_code.specs.declared.class.Class.{Class}
+use Rattle.name_resolution.specs.Names.{host_name, string_name}
+use Rattle.guest_layout.specs.Fields.{field_name, field_descriptor}
+use Rattle.code_assembly.specs.Assembling.{Extends}
+use Rattle.code_assembly.proofs.Pools.{extends-itself, extends-further}
+use Rattle.class_builder.specs.Built.{GrowsPool}
+use Rattle.class_builder.specs.Named.{IsClassAt, IsMemberAt}
+use Rattle.class_builder.proofs.Growing.{stays-behind}
+use Rattle.class_builder.proofs.Stays.{class-stays, member-stays}
 use Rattle.program_classes.specs.Named.{AreMembers, IsHost, AreStrings, AreNames}
 use Rattle.program_classes.specs.declared.names.Names.{Names}
-use Rattle.class_members.specs.Fields.{field_name, field_descriptor}
 use Rattle.program_classes.specs.declared.host.HostSlots.{HostSlots}
 use Rattle.program_classes.specs.declared.strings.StringSlots.{StringSlots}
 

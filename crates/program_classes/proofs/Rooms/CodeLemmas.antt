@@ -4,19 +4,19 @@ use Rattle.std.specs.Prelude.{◌&&◌, ◌==◌}
 use Rattle.std.proofs.lemmas.Bool.{and_parts, and_from}
 use Rattle.std.proofs.lemmas.List.Elements.{All-head, All-tail}
 use Rattle.std.proofs.lemmas.List.Folds.{list_all-append}
-use Rattle.constant_pool.specs.declared.entry.Entry.{Entry}
 use Rattle.jvm_program.specs.declared.constant.Constant.TheVariants as constants
 use Rattle.jvm_program.specs.declared.instruction.Instruction.TheVariants as instructions
+use Rattle.constant_pool.specs.declared.entry.Entry.{Entry}
 use Rattle.code_steps.specs.declared.step.Step.{Step}
 use Rattle.code_steps.specs.declared.step.Step.TheVariants.{Does}
-use Rattle.code_assembly.specs.declared.references.References.{References}
-use Rattle.code_assembly.specs.Assembling.{can_be_assembled, is_method}
+use Rattle.guest_layout.specs.FieldNumbers.{readable_field, writable_field}
 use Rattle.loading_code.specs.declared.page_slot.PageSlot.{PageSlot}
 use Rattle.loading_code.specs.declared.beginning.Beginning.{Beginning}
 use Rattle.loading_code.specs.Parts.{call, returns}
 use Rattle.loading_code.specs.Filling.{page_code, filled_code, fill_code}
 use Rattle.loading_code.specs.Starting.{page_text_code, page_texts_code, table_code, memory_code, begun_code, run_code}
-use Rattle.guest_match.specs.Match.{readable_field, writable_field}
+use Rattle.code_assembly.specs.declared.references.References.{References}
+use Rattle.code_assembly.specs.Assembling.{can_be_assembled, is_method}
 use Rattle.class_builder.specs.Lawful.{has_text}
 use Rattle.class_builder.specs.Code.{has_its_text, has_texts, is_code}
 use Rattle.whole_methods.specs.Naming.{step_names_well, all_well}

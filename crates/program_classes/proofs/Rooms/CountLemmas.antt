@@ -6,24 +6,25 @@ use Rattle.std.proofs.lemmas.Bool.{and_from}
 use Rattle.std.specs.Option.{option_and_then}
 use Rattle.std.proofs.lemmas.List.FromFn.{length-range_with_len, length-map-range_with_len}
 use Rattle.std.proofs.lemmas.List.Elements.{All-nil, All-cons, All-map, All-weaker}
+use Rattle.image_parts.specs.Pages.{Page}
 use Rattle.constant_pool.specs.declared.entry.Entry.{Entry}
 use Rattle.constant_pool.specs.declared.entry.Entry.TheVariants as entries
 use Rattle.constant_pool.specs.Checks.{entry_at, text_at}
 use Rattle.constant_pool.specs.Entries.{utf8_of, class_of}
 use Rattle.jvm_code.specs.declared.class.Class.{Class}
+use Rattle.guest_layout.specs.Numbers.{main_methods}
+use Rattle.method_splitter.specs.declared.span.Span.{Span}
+use Rattle.trampoline.specs.declared.start.Start.{Start}
+use Rattle.loading_code.specs.declared.page_slot.PageSlot.{PageSlot}
 use Rattle.code_assembly.specs.declared.references.References.{References}
 use Rattle.code_assembly.specs.Assembling.{has_method}
 use Rattle.class_builder.specs.Lawful.{is_text, is_class, has_text, has_class}
 use Rattle.class_builder.specs.Named.{IsTextAt, IsClassAt}
-use Rattle.loading_code.specs.declared.page_slot.PageSlot.{PageSlot}
-use Rattle.method_splitter.specs.declared.span.Span.{Span}
-use Rattle.trampoline.specs.declared.start.Start.{Start}
 use Rattle.program_classes.specs.declared.part.Part.{Part}
 use Rattle.program_classes.specs.Making.{Plan, IsMade, AddsMethods}
 use Rattle.program_classes.specs.Fields.{IsField, AddsFields}
-use Rattle.program_classes.specs.Pages.{Page, IsPageSlot}
+use Rattle.program_classes.specs.Pages.{IsPageSlot}
 use Rattle.program_classes.specs.Code.{start_at, starts_of}
-use Rattle.class_members.specs.Numbers.{main_methods}
 use Rattle.program_classes.specs.declared.content.MainClass.{MainClass}
 use Rattle.program_classes.specs.Content.{IsMain, RiseFrom, behind}
 use Rattle.program_classes.proofs.MainClasses.RiseLemmas.{rise-front, rise-back}

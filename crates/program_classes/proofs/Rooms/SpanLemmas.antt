@@ -3,15 +3,15 @@ use Rattle.std.proofs.Common.{◌≡◌, ℕ, suc, ◌+◌, ◌-◌, ◌*◌, �
 use Rattle.nv_words.specs.Words.{IsWord}
 use Rattle.delay_slots.specs.declared.unit.Unit.{Unit}
 use Rattle.delay_slots.specs.Units.{units_of, HasNoFloat}
-use Rattle.guest_follows.specs.Lawful.{IsLawful}
 use Rattle.constant_pool.specs.declared.entry.Entry.{Entry}
 use Rattle.code_steps.specs.Widths.{size}
-use Rattle.code_assembly.specs.declared.references.References.{References}
-use Rattle.code_assembly.specs.Assembling.{slots_of}
+use Rattle.lawful_units.specs.Lawful.{IsLawful}
+use Rattle.method_splitter.specs.declared.span.Span.{Span}
 use Rattle.span_code.specs.declared.span_words.SpanWords.{SpanWords}
 use Rattle.span_code.specs.Pieces.{flagged, span_of}
 use Rattle.span_code.specs.Laying.{span_code}
-use Rattle.method_splitter.specs.declared.span.Span.{Span}
+use Rattle.code_assembly.specs.declared.references.References.{References}
+use Rattle.code_assembly.specs.Assembling.{slots_of}
 use Rattle.class_builder.specs.Code.{is_code}
 use Rattle.whole_methods.specs.Naming.{all_well, is_helper}
 use Rattle.whole_methods.specs.Whole.{CanBeMethod, HasHelpers}

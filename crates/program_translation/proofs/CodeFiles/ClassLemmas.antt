@@ -3,8 +3,8 @@ use Rattle.std.proofs.Common.{◌≡◌, ℕ, ◌+◌, List, [], ◌∷◌, ◌+
 use Rattle.std.specs.List.{AllZip}
 use Rattle.std.proofs.lemmas.List.{map_push, flat_map_more}
 use Rattle.std.proofs.lemmas.Slice.Zip.{all_zipped_more, AllZip-long}
-use Rattle.command_words.specs.Word.{Text}
-use Rattle.class_members.specs.Numbers.{main_methods}
+use Rattle.command_values.specs.Names.{Text}
+use Rattle.guest_layout.specs.Numbers.{main_methods}
 use Rattle.program_classes.specs.declared.part.Part.{Part}
 use Rattle.program_translation.specs.declared.code_files.Code.{Code}
 use Rattle.program_translation.specs.Places.{Place, IsPartAt}

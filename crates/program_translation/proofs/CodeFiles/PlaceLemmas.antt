@@ -5,8 +5,8 @@ use Rattle.std.proofs.lemmas.List.Concat.{flat_map-append}
 use Rattle.std.proofs.lemmas.List.FromFn.{map-range_with_len_more}
 use Rattle.elf_reader.specs.declared.range.Range.{Range}
 use Rattle.elf_image.specs.Whole.{IsWholeRange}
-use Rattle.code_ranges.specs.declared.code.RangeCode.{RangeCode}
-use Rattle.code_ranges.specs.Ranges.{IsRangeCode}
+use Rattle.image_parts.specs.declared.code.RangeCode.{RangeCode}
+use Rattle.image_parts.specs.Ranges.{IsRangeCode}
 use Rattle.program_classes.specs.declared.part.Part.{Part}
 use Rattle.program_translation.specs.Places.{Place, place_at, first_places, places_in, places_of, IsPartAt}
 use Rattle.program_translation.specs.Parts.{IsLow, IsPartOf}

@@ -4,12 +4,12 @@ use Rattle.std.specs.List.{list_all}
 use Rattle.std.proofs.lemmas.Bool.{and_from}
 use Rattle.std.proofs.lemmas.List.Elements.{All-head, All-tail, All-from_get_or}
 use Rattle.nv_words.specs.Words.{IsWord}
-use Rattle.elf_reader.specs.declared.range.Range.{Range}
-use Rattle.elf_image.specs.Whole.{IsPlainWord, IsWholeRange}
 use Rattle.mips_decode.specs.Table.{is_float}
 use Rattle.delay_slots.specs.Units.{HasNoFloat}
 use Rattle.delay_slots.specs.declared.unit.Unit.{Unit}
-use Rattle.code_ranges.specs.Ranges.{IsRangeCode}
+use Rattle.elf_reader.specs.declared.range.Range.{Range}
+use Rattle.elf_image.specs.Whole.{IsPlainWord, IsWholeRange}
+use Rattle.image_parts.specs.Ranges.{IsRangeCode}
 use Rattle.program_classes.specs.Parts.{IsCode}
 
 none-float : (words : List ℕ) → All (λ (word : ℕ). is_float word ≡ false) words → HasNoFloat words

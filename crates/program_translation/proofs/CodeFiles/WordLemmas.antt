@@ -7,8 +7,8 @@ use Rattle.std.proofs.lemmas.List.{map-append}
 use Rattle.std.proofs.lemmas.List.Concat.{flat_map-append}
 use Rattle.std.proofs.lemmas.List.FromFn.{length-range_with_len}
 use Rattle.elf_reader.specs.declared.range.Range.{Range}
-use Rattle.equal_shares.specs.Shares.{share_at, share_count, shared}
-use Rattle.equal_shares.proofs.ShareLemmas.{all_shares}
+use Rattle.method_splitter.specs.Shares.{share_at, share_count, shared}
+use Rattle.method_splitter.proofs.ShareLemmas.{all_shares}
 use Rattle.program_translation.specs.Places.{class_words, place_at, places_in, places_of, word_at, words_in, words_at}
 
 take-range : (k a n : ℕ) → k ≤ n → take k (range_with_len a n) ≡ range_with_len a k

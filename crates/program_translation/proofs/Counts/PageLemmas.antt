@@ -6,13 +6,13 @@ use Rattle.elf_reader.specs.Segments.{live}
 use Rattle.elf_image.specs.Content.{is_filled_page}
 use Rattle.elf_image.specs.Pages.{pages_below}
 use Rattle.elf_image.specs.Start.{Source}
-use Rattle.equal_shares.specs.Shares.{share_count}
-use Rattle.page_runs.specs.declared.page_run.PageRun.{PageRun}
-use Rattle.page_runs.specs.Runs.{IsRun, pages_from, pages_of, run_pages}
+use Rattle.image_parts.specs.declared.page_run.PageRun.{PageRun}
+use Rattle.image_parts.specs.Runs.{IsRun, pages_from, pages_of, run_pages}
+use Rattle.image_parts.specs.Pages.{page_at, filled_below}
+use Rattle.method_splitter.specs.Shares.{share_count}
 use Rattle.program_classes.specs.declared.page_data.PageData.{PageData}
 use Rattle.program_classes.specs.Pages.{page_of}
 use Rattle.program_translation.specs.DataFiles.{class_pages, class_count, filled_pages}
-use Rattle.program_translation.specs.Pages.{page_at, filled_below}
 
 one-few : {A : Type 0} (test : Bool) (x : A) → length (if test then x ∷ [] else []) ≤ 1
 one-few true x = omega arith

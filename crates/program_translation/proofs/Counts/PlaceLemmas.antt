@@ -4,11 +4,11 @@ use Rattle.std.proofs.lemmas.List.Elements.{All-head}
 use Rattle.std.proofs.lemmas.List.FromFn.{length-map-range_with_len}
 use Rattle.std.proofs.lemmas.List.Sums.{sum_by-cons}
 use Rattle.std.proofs.lemmas.Slice.Zip.{AllZip-long}
-use Rattle.command_words.specs.Word.{Text}
+use Rattle.command_values.specs.Names.{Text}
 use Rattle.elf_reader.specs.declared.range.Range.{Range}
 use Rattle.elf_image.specs.Refusals.{code_words}
 use Rattle.elf_image.specs.Whole.{IsWholeRange}
-use Rattle.equal_shares.specs.Shares.{share_count}
+use Rattle.method_splitter.specs.Shares.{share_count}
 use Rattle.program_translation.specs.declared.code_files.Code.{Code}
 use Rattle.program_translation.specs.Places.{Place, class_words, place_at, places_in, places_of}
 use Rattle.program_translation.specs.Classes.{IsPlaced, IsCodeFile}

@@ -1,7 +1,7 @@
 -- The places at which classes begin, or a range ends, are few, and the methods there have low numbers.
 use Rattle.std.proofs.Common.{ℕ, ◌+◌, ◌*◌, ◌<◌, ◌≤◌, Bool, true, false, if◌then◌else◌, List, [], ◌∷◌, map, length, All, arith, length-append}
 use Rattle.std.proofs.lemmas.List.Elements.{All-nil, All-cons, All-append}
-use Rattle.class_members.specs.Numbers.{missing_number}
+use Rattle.guest_layout.specs.Numbers.{missing_number}
 use Rattle.trampoline.specs.declared.start.Start.{Start}
 use Rattle.program_classes.specs.Content.{RiseFrom, behind}
 use Rattle.program_classes.specs.Code.{address}

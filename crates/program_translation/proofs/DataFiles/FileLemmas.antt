@@ -3,9 +3,9 @@ use Rattle.std.proofs.Common.{◌≡◌, ℕ, ◌+◌, List, [], ◌∷◌, ◌+
 use Rattle.std.specs.List.{AllZip, range_with_len}
 use Rattle.std.proofs.lemmas.List.FromFn.{map-range_with_len_more}
 use Rattle.std.proofs.lemmas.Slice.Zip.{all_zipped_more}
-use Rattle.command_words.specs.Word.{Text}
+use Rattle.command_values.specs.Names.{Text}
+use Rattle.image_parts.specs.Pages.{Page}
 use Rattle.program_classes.proofs.ClassMaking.ZipLemmas.{range-more}
-use Rattle.program_classes.specs.Pages.{Page}
 use Rattle.program_translation.specs.declared.data_files.Data.{Data}
 use Rattle.program_translation.specs.DataFiles.{class_number, first_method, pages_of_class, fill_of, IsFileOfPages, IsDataFile, AddsFile, HasFiles}
 

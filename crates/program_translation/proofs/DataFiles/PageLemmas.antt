@@ -6,10 +6,10 @@ use Rattle.std.proofs.lemmas.List.FromFn.{fill_by_all}
 use Rattle.elf_reader.specs.Segments.{live}
 use Rattle.elf_image.specs.Start.{Source}
 use Rattle.elf_image.specs.Content.{is_filled_page, stored_word}
-use Rattle.equal_shares.specs.Shares.{share_at, shared}
+use Rattle.image_parts.specs.Pages.{Page, page_words, filled_below}
+use Rattle.method_splitter.specs.Shares.{share_at, shared}
 use Rattle.program_classes.specs.declared.page_data.PageData.{PageData}
-use Rattle.program_classes.specs.Pages.{Page, page_of}
-use Rattle.program_translation.specs.Pages.{page_words, filled_below}
+use Rattle.program_classes.specs.Pages.{page_of}
 use Rattle.program_translation.specs.DataFiles.{class_pages, pages_of_class}
 
 words-are : (s : Source) (page : ℕ) (words : List ℕ) → length words ≡ 1024

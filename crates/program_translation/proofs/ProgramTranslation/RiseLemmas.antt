@@ -1,7 +1,7 @@
 -- The methods that the main class calls of other classes have rising numbers.
 use Rattle.std.proofs.Common.{◌≡◌, ℕ, zero, suc, ◌+◌, ◌*◌, ◌≤◌, List, [], ◌∷◌, ◌++◌, map, refl, sym, arith, subst}
 use Rattle.std.specs.List.{range_with_len}
-use Rattle.class_members.specs.Numbers.{main_methods}
+use Rattle.guest_layout.specs.Numbers.{main_methods}
 use Rattle.program_classes.specs.Content.{RiseFrom, behind}
 use Rattle.program_classes.proofs.MainClasses.RiseLemmas.{rise-joined}
 use Rattle.program_translation.specs.Classes.{Placed, Follow, run_of, methods_behind}

@@ -5,7 +5,7 @@ use Rattle.std.proofs.lemmas.Bool.{and_parts, cases_eq}
 use Rattle.nv_words.specs.declared.order.Order.{Order}
 use Rattle.nv_words.specs.declared.order.Order.TheVariants.{Big, Little}
 use Rattle.jvm_link.specs.Linking.{gives_int}
-use Rattle.class_members.specs.Helpers.{helper_descriptor}
+use Rattle.guest_layout.specs.Helpers.{helper_descriptor}
 use Rattle.mem_helpers.specs.Methods.{helper_code}
 use Rattle.whole_methods.specs.Naming.{all_well, is_fault}
 

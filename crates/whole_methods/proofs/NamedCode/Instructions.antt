@@ -1,10 +1,5 @@
 -- The code of each instruction that is no branch and no jump.
 use Rattle.std.proofs.Common.{◌≡◌, ℕ, ◌*◌, ◌<◌, ◌^◌, ◌==◌, Bool, true, if◌then◌else◌, List, [], ◌∷◌, ◌++◌, refl, arith}
-use Rattle.jvm_code.specs.declared.names.branch_name.BranchName.{BranchName}
-use Rattle.jvm_code.specs.declared.names.branch_name.BranchName.TheVariants.{Ifeq, Ifne, IfIcmplt}
-use Rattle.jvm_code.specs.declared.names.int_arithmetic.IntArithmetic.{IntArithmetic}
-use Rattle.jvm_code.specs.declared.names.int_arithmetic.IntArithmetic.TheVariants.{Iadd, Isub, Iand, Ior, Ixor}
-use Rattle.jvm_program.specs.declared.instruction.Instruction.TheVariants as instructions
 use Rattle.mips_decode.specs.Encoding.{word_of}
 use Rattle.mips_decode.specs.Targets.{extended_imm}
 use Rattle.mips_decode.specs.declared.inst.Inst.{Inst}
@@ -29,6 +24,11 @@ use Rattle.mips_decode.specs.declared.names.trap_name.TrapName.TheVariants as tr
 use Rattle.mips_decode.specs.declared.names.trap_immediate_name.TrapImmediateName.{TrapImmediateName}
 use Rattle.mips_decode.specs.declared.names.trap_immediate_name.TrapImmediateName.TheVariants as immediate_traps
 use Rattle.block_builder.specs.Registers.{read_by, written_by}
+use Rattle.jvm_names.specs.declared.branch_name.BranchName.{BranchName}
+use Rattle.jvm_names.specs.declared.branch_name.BranchName.TheVariants.{Ifeq, Ifne, IfIcmplt}
+use Rattle.jvm_names.specs.declared.int_arithmetic.IntArithmetic.{IntArithmetic}
+use Rattle.jvm_names.specs.declared.int_arithmetic.IntArithmetic.TheVariants.{Iadd, Isub, Iand, Ior, Ixor}
+use Rattle.jvm_program.specs.declared.instruction.Instruction.TheVariants as instructions
 use Rattle.code_steps.specs.declared.step.Step.{Step}
 use Rattle.code_steps.specs.declared.step.Step.TheVariants.{Does}
 use Rattle.guest_code.specs.Access.{get_register, put_register, get_turned, turned, push_word, arithmetic}
@@ -37,8 +37,8 @@ use Rattle.guest_code.specs.Computing as computing
 use Rattle.guest_code.specs.Faulting.{compared, compared_with, unless_code, passing, passing_immediate, trap_code, trap_with_code}
 use Rattle.guest_code.specs.Helpers.{load_helper, store_helper, load_linked_helper, store_conditional_helper}
 use Rattle.guest_code.specs.Units.{instruction_code}
+use Rattle.lawful_units.specs.Knowing.{AreNumbers}
 use Rattle.whole_methods.specs.Naming.{is_helper}
-use Rattle.guest_follows.specs.Knowing.{AreNumbers}
 use Rattle.whole_methods.proofs.NamedCode.Steps.{Well, StepWell, well-append, well-either, get-well, put-well}
 
 module _ (class : ℕ) (gives : Bool) (bank : ℕ) where

@@ -2,9 +2,9 @@
 use Rattle.std.proofs.Common.{◌≡◌, ℕ, zero, suc, ◌+◌, ◌-◌, ◌*◌, ◌%◌, false, Bool, if◌then◌else◌, List, [], ◌∷◌, ◌++◌, All, length, map, replicate, drop, refl}
 use Rattle.std.proofs.lemmas.Bool.{and_parts}
 use Rattle.std.proofs.lemmas.List.Elements.{All-head, All-tail, All-take, All-drop}
-use Rattle.jvm_program.specs.declared.instruction.Instruction.TheVariants.{Nop}
 use Rattle.delay_slots.specs.declared.unit.Unit.{Unit}
 use Rattle.block_builder.specs.Blocks.{unit_at}
+use Rattle.jvm_program.specs.declared.instruction.Instruction.TheVariants.{Nop}
 use Rattle.code_steps.specs.declared.step.Step.{Step}
 use Rattle.code_steps.specs.declared.step.Step.TheVariants.{Does, Skips, Leaves, Selects}
 use Rattle.code_steps.specs.Widths.{size}
@@ -12,6 +12,7 @@ use Rattle.guest_code.specs.Units.{unit_code}
 use Rattle.word_emitter.specs.declared.extent.Extent.{Extent}
 use Rattle.word_emitter.specs.Pieces.{ends_with_slot, piece_units, warm_code}
 use Rattle.word_emitter.specs.Exits.{returns}
+use Rattle.lawful_units.specs.Lawful.{IsLawful}
 use Rattle.span_code.specs.declared.span_words.SpanWords.{SpanWords}
 use Rattle.span_code.specs.Pieces.{begins, piece_at}
 use Rattle.span_code.specs.Neighbours.{address, is_inner, next_such}
@@ -19,7 +20,6 @@ use Rattle.span_code.specs.Parts.{extent, exit_of, warm_part, cold_part}
 use Rattle.span_code.specs.Opening.{index_code, padding, opening}
 use Rattle.span_code.specs.Laying.{warm_before, cold_before, return_offset, targets_of, laid_step, switch, span_code}
 use Rattle.whole_methods.specs.Naming.{is_helper, step_names_well, all_well}
-use Rattle.guest_follows.specs.Lawful.{IsLawful}
 use Rattle.whole_methods.proofs.NamedCode.Steps.{Well, well-append, well-each}
 use Rattle.whole_methods.proofs.NamedCode.Units.{unit-well, warm-well}
 use Rattle.whole_methods.proofs.NamedCode.Exits.{exit-well}

@@ -2,14 +2,14 @@
 use Rattle.std.proofs.Common.{◌≡◌, ℕ, ◌-◌, ◌<◌, ◌==◌, Bool, true, false, if◌then◌else◌, List, [], ◌∷◌, ◌++◌, refl, arith}
 use Rattle.std.specs.List.{flat_map}
 use Rattle.std.proofs.lemmas.Bool.{and_from, and_parts, lt-ltb, ne_eqb}
-use Rattle.jvm_code.specs.declared.names.stack_name.StackName.TheVariants.{Pop}
+use Rattle.jvm_names.specs.declared.stack_name.StackName.TheVariants.{Pop}
 use Rattle.jvm_program.specs.declared.kind.Kind.TheVariants.{Int}
 use Rattle.jvm_program.specs.declared.local_kind.LocalKind.TheVariants as local_kinds
 use Rattle.jvm_program.specs.declared.instruction.Instruction.{Instruction}
 use Rattle.jvm_program.specs.declared.instruction.Instruction.TheVariants as instructions
 use Rattle.code_steps.specs.declared.step.Step.{Step}
 use Rattle.code_steps.specs.declared.step.Step.TheVariants.{Does, Skips, Leaves, Selects}
-use Rattle.guest_match.specs.Match.{register_field}
+use Rattle.guest_layout.specs.FieldNumbers.{register_field}
 use Rattle.guest_code.specs.Access.{keeps, get_register, put_register, push_word, get_field, put_field}
 use Rattle.whole_methods.specs.Naming.{is_field, names_well, step_names_well, all_well}
 

@@ -1,7 +1,5 @@
 -- The code of branches and jumps, where that of the delay slot names well.
 use Rattle.std.proofs.Common.{ℕ, ◌+◌, ◌<◌, Bool, true, false, List, [], ◌∷◌, ◌++◌, length, Some, refl, arith}
-use Rattle.jvm_code.specs.declared.names.branch_name.BranchName.{BranchName}
-use Rattle.jvm_code.specs.declared.names.branch_name.BranchName.TheVariants.{Goto}
 use Rattle.mips_decode.specs.Branches.{equal_likely, zero_likely, sign_likely}
 use Rattle.mips_decode.specs.Targets.{branch_target, jump_target}
 use Rattle.mips_decode.specs.declared.names.branch_sign_name.BranchSignName.{BranchSignName}
@@ -11,12 +9,14 @@ use Rattle.mips_decode.specs.declared.names.jump_name.JumpName.TheVariants.{J, J
 use Rattle.mips_decode.specs.declared.inst.Inst.{Inst}
 use Rattle.mips_decode.specs.declared.inst.Inst.TheVariants as inst
 use Rattle.block_builder.specs.Registers.{read_by, written_by}
+use Rattle.jvm_names.specs.declared.branch_name.BranchName.{BranchName}
+use Rattle.jvm_names.specs.declared.branch_name.BranchName.TheVariants.{Goto}
 use Rattle.code_steps.specs.declared.step.Step.{Step}
 use Rattle.code_steps.specs.declared.step.Step.TheVariants.{Skips}
 use Rattle.guest_code.specs.Access.{get_register}
 use Rattle.guest_code.specs.Branching.{settle_code, goes_to_code, behind_slot, link_code, equal_test, zero_test, sign_test, sign_link, jump_link, conditional_code, transfer_code}
+use Rattle.lawful_units.specs.Knowing.{AreNumbers}
 use Rattle.whole_methods.specs.Naming.{is_helper}
-use Rattle.guest_follows.specs.Knowing.{AreNumbers}
 use Rattle.whole_methods.proofs.NamedCode.Steps.{Well, StepWell, well-append, get-well, put-well}
 
 module _ (class : ℕ) (gives : Bool) (bank at : ℕ) (slot : List Step) (slot_is : Well is_helper class gives slot) where

@@ -10,9 +10,9 @@ use Rattle.code_steps.specs.declared.step.Step.{Step}
 use Rattle.guest_code.specs.Faulting.{fault_code}
 use Rattle.guest_code.specs.Units.{instruction_code, unit_code, next_address}
 use Rattle.word_emitter.specs.Pieces.{is_needed, is_written, bank_of, units_code, fetched, put_back, for_registers, warm_code}
+use Rattle.lawful_units.specs.Knowing.{HasFields}
+use Rattle.lawful_units.specs.Lawful.{IsLawful}
 use Rattle.whole_methods.specs.Naming.{is_helper}
-use Rattle.guest_follows.specs.Knowing.{HasFields}
-use Rattle.guest_follows.specs.Lawful.{IsLawful}
 use Rattle.whole_methods.proofs.NamedCode.Steps.{Well, field-is, well-append}
 use Rattle.whole_methods.proofs.NamedCode.Instructions.{call, instruction-well}
 use Rattle.whole_methods.proofs.NamedCode.Transfers.{transfer-well}

@@ -11,10 +11,11 @@ use Rattle.code_steps.specs.declared.step.Step.{Step}
 use Rattle.code_steps.specs.declared.step.Step.TheVariants.{Does, Skips, Leaves, Selects}
 use Rattle.code_steps.specs.Widths.{width, size}
 use Rattle.code_steps.specs.Placing.{laid, placed_instruction}
+use Rattle.code_steps.specs.Switches.{switches_are_placed}
 use Rattle.code_assembly.specs.declared.references.References.{References}
-use Rattle.code_assembly.specs.Assembling.{step_has_operation, have_operations, switches_are_placed, can_be_assembled, targets_are_lines, is_method}
-use Rattle.typed_code.specs.Judging.{Rules, is_no_switch}
-use Rattle.typed_code.specs.Methods.{IsBody, taking}
+use Rattle.code_assembly.specs.Assembling.{step_has_operation, have_operations, can_be_assembled, targets_are_lines, is_method}
+use Rattle.code_types.specs.Judging.{Rules, is_no_switch}
+use Rattle.code_types.specs.Methods.{IsBody, taking}
 use Rattle.whole_methods.specs.Naming.{step_names_well, all_well}
 use Rattle.whole_methods.specs.Whole.{CanBeMethod}
 use Rattle.whole_methods.proofs.WholeCode.Targets.{targets-are-lines}

@@ -2,18 +2,18 @@
 use Rattle.std.proofs.Common.{◌≡◌, ℕ, zero, suc, ◌+◌, ◌*◌, ◌/◌, ◌<◌, ◌≤◌, true, false, List, [], ◌∷◌, ◌++◌, All, length, take, drop, refl, arith}
 use Rattle.std.specs.List.{list_all}
 use Rattle.std.proofs.lemmas.List.{length-take, length-drop}
-use Rattle.jvm_code.specs.declared.names.branch_name.BranchName.TheVariants.{Goto}
+use Rattle.jvm_names.specs.declared.branch_name.BranchName.TheVariants.{Goto}
 use Rattle.code_steps.specs.declared.step.Step.TheVariants.{Skips, Leaves}
 use Rattle.code_steps.specs.Widths.{size}
-use Rattle.code_assembly.specs.declared.references.References.{References}
-use Rattle.code_assembly.specs.Assembling.{has_method}
+use Rattle.span_code.proofs.BodyLemmas.{size-append}
 use Rattle.trampoline.specs.declared.start.Start.{Start}
 use Rattle.trampoline.specs.Trees.{first_of, tree_of, tree}
 use Rattle.trampoline.specs.Choosers.{address_code, within_code, strayed_code, chosen_code, class_chooser, main_chooser, missing_code}
-use Rattle.word_weights.proofs.StepSizes.{word-bytes}
-use Rattle.span_code.proofs.BodyLemmas.{size-append}
-use Rattle.typed_code.specs.Judging.{is_no_switch}
-use Rattle.typed_code.specs.Methods.{IsBody, ClassChooserTyped, MainChooserTyped, owes_beginning, owes_nothing}
+use Rattle.code_assembly.specs.declared.references.References.{References}
+use Rattle.code_assembly.specs.Assembling.{has_method}
+use Rattle.code_types.specs.Judging.{is_no_switch}
+use Rattle.code_types.specs.Methods.{IsBody, ClassChooserTyped, MainChooserTyped, owes_beginning, owes_nothing}
+use Rattle.code_limits.proofs.StepSizes.{word-bytes}
 use Rattle.whole_methods.specs.Whole.{CanBeMethod}
 use Rattle.whole_methods.proofs.NamedCode.Choosing.{class-well, main-well, missing-well}
 use Rattle.whole_methods.proofs.WholeCode.Operations.{no-switch-append}

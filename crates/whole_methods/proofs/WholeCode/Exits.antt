@@ -1,26 +1,26 @@
 -- The exits behind units have operations.
 use Rattle.std.proofs.Common.{◌≡◌, ℕ, ◌≤◌, Bool, true, false, ◌||◌, if◌then◌else◌, List, [], ◌∷◌, Option, length, refl, arith}
 use Rattle.std.proofs.lemmas.Bool.{and_from}
-use Rattle.jvm_code.specs.declared.names.branch_name.BranchName.TheVariants.{IfIcmpne}
-use Rattle.jvm_program.specs.declared.local_kind.LocalKind.TheVariants as local_kinds
-use Rattle.jvm_program.specs.declared.instruction.Instruction.TheVariants as instructions
 use Rattle.mips_decode.specs.Targets.{branch_target, jump_target}
 use Rattle.mips_decode.specs.declared.inst.Inst.{Inst}
 use Rattle.mips_decode.specs.declared.inst.Inst.TheVariants as inst
 use Rattle.delay_slots.specs.declared.unit.Unit.{Unit}
 use Rattle.delay_slots.specs.declared.unit.Unit.TheVariants.{Plain, Branch, SlotMissing, SlotIsBranch, Call, Trap}
+use Rattle.jvm_names.specs.declared.branch_name.BranchName.TheVariants.{IfIcmpne}
+use Rattle.jvm_program.specs.declared.local_kind.LocalKind.TheVariants as local_kinds
+use Rattle.jvm_program.specs.declared.instruction.Instruction.TheVariants as instructions
 use Rattle.code_steps.specs.declared.step.Step.{Step}
 use Rattle.code_steps.specs.declared.step.Step.TheVariants.{Does, Skips, Leaves}
 use Rattle.code_steps.specs.Widths.{width}
-use Rattle.code_assembly.specs.declared.references.References.{References}
-use Rattle.code_assembly.specs.Assembling.{reaches, step_has_operation, have_operations}
-use Rattle.guest_match.specs.Match.{pc_field}
+use Rattle.guest_layout.specs.FieldNumbers.{pc_field}
 use Rattle.guest_code.specs.Access.{push_word, put_field}
 use Rattle.guest_code.specs.Branching.{behind_slot}
 use Rattle.guest_code.specs.Units.{next_address}
 use Rattle.word_emitter.specs.declared.extent.Extent.{Extent}
 use Rattle.word_emitter.specs.Pieces.{is_likely}
 use Rattle.word_emitter.specs.Exits.{has, follows, returns, arrive, last_way, two_ways, branch_exit, passing_exit, next_exit, exit_code}
+use Rattle.code_assembly.specs.declared.references.References.{References}
+use Rattle.code_assembly.specs.Assembling.{reaches, step_has_operation, have_operations}
 use Rattle.whole_methods.proofs.WholeCode.Operations.{Operates, operates-either, reaches-from}
 
 module _ (r : References) (fields : length r.fields ≡ 38) (span : Extent) (behind : Option ℕ) where

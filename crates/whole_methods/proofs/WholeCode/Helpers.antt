@@ -6,14 +6,14 @@ use Rattle.std.proofs.lemmas.Bool.{and_from, and_parts, or_cases, eqb-true, le-l
 use Rattle.nv_words.specs.declared.order.Order.{Order}
 use Rattle.nv_words.specs.declared.order.Order.TheVariants.{Big, Little}
 use Rattle.jvm_link.specs.Linking.{gives_int}
-use Rattle.class_members.specs.Helpers.{helper_descriptor}
 use Rattle.code_steps.specs.Widths.{size}
+use Rattle.guest_layout.specs.Helpers.{helper_descriptor}
+use Rattle.mem_helpers.specs.Methods.{helper_code}
 use Rattle.code_assembly.specs.declared.references.References.{References}
 use Rattle.code_assembly.specs.Assembling.{has_method}
-use Rattle.mem_helpers.specs.Methods.{helper_code}
 use Rattle.guest_follows.specs.Helpers.{helper_parameters}
-use Rattle.typed_code.specs.Judging.{is_no_switch}
-use Rattle.typed_code.specs.Methods.{HelpersTyped, owes_nothing}
+use Rattle.code_types.specs.Judging.{is_no_switch}
+use Rattle.code_types.specs.Methods.{HelpersTyped, owes_nothing}
 use Rattle.whole_methods.specs.Naming.{is_fault, is_helper}
 use Rattle.whole_methods.specs.Whole.{CanBeMethod, HasHelpers}
 use Rattle.whole_methods.proofs.NamedCode.Helpers.{helper-well, one-of}

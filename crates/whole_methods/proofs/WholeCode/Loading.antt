@@ -4,9 +4,8 @@ use Rattle.std.specs.List.{list_all, flat_map}
 use Rattle.jvm_program.specs.declared.kind.Kind.TheVariants.{Ints, Text}
 use Rattle.code_steps.specs.declared.step.Step.{Step}
 use Rattle.code_steps.specs.Widths.{size}
-use Rattle.code_assembly.specs.declared.references.References.{References}
-use Rattle.code_assembly.specs.Assembling.{has_method}
-use Rattle.guest_match.specs.Match.{readable_field, writable_field}
+use Rattle.guest_layout.specs.FieldNumbers.{readable_field, writable_field}
+use Rattle.span_code.proofs.BodyLemmas.{size-append}
 use Rattle.loading_code.specs.declared.beginning.Beginning.{Beginning}
 use Rattle.loading_code.specs.declared.page_slot.PageSlot.{PageSlot}
 use Rattle.loading_code.specs.Parts.{call, returns}
@@ -14,9 +13,10 @@ use Rattle.loading_code.specs.Pages.{pages_code}
 use Rattle.loading_code.specs.Words.{words_code}
 use Rattle.loading_code.specs.Filling.{page_code, filled_code, fill_code}
 use Rattle.loading_code.specs.Starting.{table_code, page_text_code, page_texts_code, memory_code, begun_code, beginning_call, run_code}
-use Rattle.word_weights.proofs.StepSizes.{word-bytes}
-use Rattle.span_code.proofs.BodyLemmas.{size-append}
-use Rattle.typed_code.specs.Methods.{IsBody, owes_pages, owes_words}
+use Rattle.code_assembly.specs.declared.references.References.{References}
+use Rattle.code_assembly.specs.Assembling.{has_method}
+use Rattle.code_types.specs.Methods.{IsBody, owes_pages, owes_words}
+use Rattle.code_limits.proofs.StepSizes.{word-bytes}
 use Rattle.whole_methods.specs.Whole.{CanBeMethod}
 use Rattle.whole_methods.proofs.NamedCode.Loading.{pages-well, words-well, fill-well, run-well}
 use Rattle.whole_methods.proofs.WholeCode.Bodies.{body-can-be, straight-can-be, goes_on, goes-on-append, goes-on-each}

@@ -10,16 +10,17 @@ use Rattle.jvm_program.specs.declared.instruction.Instruction.TheVariants as ins
 use Rattle.jvm_program.specs.Program.{Program, targets_of}
 use Rattle.jvm_program.specs.Typing.{TypeFrame, same_kind}
 use Rattle.jvm_link.specs.Linking.{kind_of}
-use Rattle.class_members.specs.Fields.{field_descriptor}
 use Rattle.code_steps.specs.declared.step.Step.{Step}
 use Rattle.code_steps.specs.declared.step.Step.TheVariants.{Does, Skips, Leaves, Selects}
 use Rattle.code_steps.specs.Widths.{width, bytes_before, size}
-use Rattle.code_assembly.specs.declared.references.References.{References}
-use Rattle.code_assembly.specs.Assembling.{has_method, has_operation, reaches, step_has_operation, have_operations, needs_no_padding, switches_are_placed}
+use Rattle.code_steps.specs.Switches.{needs_no_padding, switches_are_placed}
+use Rattle.guest_layout.specs.Fields.{field_descriptor}
 use Rattle.word_emitter.specs.declared.extent.Extent.{Extent}
 use Rattle.span_code.specs.Laying.{laid_step}
-use Rattle.typed_code.specs.Judging.{Rules, Fits, Types, goes_straight, is_no_switch, Meets}
-use Rattle.typed_code.specs.Methods.{owes_nothing}
+use Rattle.code_assembly.specs.declared.references.References.{References}
+use Rattle.code_assembly.specs.Assembling.{has_method, has_operation, reaches, step_has_operation, have_operations}
+use Rattle.code_types.specs.Judging.{Rules, Fits, Types, goes_straight, is_no_switch, Meets}
+use Rattle.code_types.specs.Methods.{owes_nothing}
 use Rattle.whole_methods.specs.Naming.{names_well, step_names_well, all_well}
 use Rattle.whole_methods.proofs.WholeCode.Targets.{within}
 

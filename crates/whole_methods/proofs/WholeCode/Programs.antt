@@ -6,9 +6,9 @@ use Rattle.jvm_program.specs.declared.linked_method.LinkedMethod.{LinkedMethod}
 use Rattle.jvm_program.specs.Program.{Program}
 use Rattle.trampoline.specs.declared.start.Start.{Start}
 use Rattle.guest_follows.specs.Helpers.{helper_parameters}
-use Rattle.typed_code.specs.Judging.{TakesGives}
-use Rattle.typed_code.specs.Knowing.{HelperTypes, helper_gives}
-use Rattle.typed_code.specs.Methods.{IsStart}
+use Rattle.code_types.specs.Judging.{TakesGives}
+use Rattle.code_types.specs.Knowing.{HelperTypes, helper_gives}
+use Rattle.code_types.specs.Methods.{IsStart}
 
 abbrev method_of : List Kind → Bool → LinkedMethod
 method_of parameters gives = record { parameters = parameters; gives_int = gives; stack = 0; locals = 0; lines = [] }

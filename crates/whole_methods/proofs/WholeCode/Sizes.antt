@@ -2,8 +2,8 @@
 use Rattle.std.proofs.Common.{◌≤◌, arith}
 use Rattle.delay_slots.specs.declared.unit.Unit.{Unit}
 use Rattle.delay_slots.specs.declared.unit.Unit.TheVariants.{Plain, Branch, SlotMissing, SlotIsBranch, Call, Trap}
-use Rattle.word_weights.specs.Weights.{unit_bytes}
-use Rattle.word_weights.proofs.SmallInstructions.{instruction-small}
+use Rattle.code_limits.specs.Weights.{unit_bytes}
+use Rattle.code_limits.proofs.SmallInstructions.{instruction-small}
 
 pub unit-small : (unit : Unit) → unit_bytes unit ≤ 76
 unit-small (Plain i) = let here = instruction-small i in omega (arith, here)

@@ -6,20 +6,20 @@ use Rattle.std.specs.List.{list_all, range_with_len}
 use Rattle.std.proofs.lemmas.Bool.{and_from, lt-ltb}
 use Rattle.std.proofs.lemmas.Int.{ints}
 use Rattle.std.proofs.lemmas.List.Elements.{All-take, All-drop}
-use Rattle.class_format.specs.Format.{fits_signed}
-use Rattle.jvm_code.specs.declared.table_switch.TableSwitch.{TableSwitch}
-use Rattle.jvm_code.specs.Switches.{last_key}
-use Rattle.jvm_program.specs.declared.instruction.Instruction.TheVariants.{Nop}
 use Rattle.delay_slots.specs.declared.unit.Unit.{Unit}
 use Rattle.block_builder.specs.Blocks.{unit_at}
+use Rattle.jvm_names.specs.declared.table_switch.TableSwitch.{TableSwitch}
+use Rattle.jvm_program.specs.declared.instruction.Instruction.TheVariants.{Nop}
+use Rattle.class_format.specs.Format.{fits_signed}
+use Rattle.jvm_code.specs.Switches.{last_key}
 use Rattle.code_steps.specs.declared.step.Step.{Step}
 use Rattle.code_steps.specs.declared.step.Step.TheVariants.{Does}
 use Rattle.code_steps.specs.Widths.{size}
-use Rattle.code_assembly.specs.declared.references.References.{References}
-use Rattle.code_assembly.specs.Assembling.{switch_has_operation, have_operations, switches_are_placed}
+use Rattle.code_steps.specs.Switches.{switches_are_placed}
 use Rattle.guest_code.specs.Units.{unit_code}
 use Rattle.word_emitter.specs.Pieces.{ends_with_slot, piece_units, warm_code}
 use Rattle.word_emitter.specs.Exits.{returns}
+use Rattle.lawful_units.specs.Lawful.{IsLawful}
 use Rattle.span_code.specs.declared.span_words.SpanWords.{SpanWords}
 use Rattle.span_code.specs.Pieces.{begins, piece_at}
 use Rattle.span_code.specs.Neighbours.{address, is_inner, next_such}
@@ -29,10 +29,11 @@ use Rattle.span_code.specs.Laying.{base, warm_before, cold_before, cold_base, re
 use Rattle.span_code.proofs.BodyLemmas.{size-rises}
 use Rattle.span_code.proofs.SizeLemmas.{span-size}
 use Rattle.span_code.proofs.TargetLemmas.{told-length}
-use Rattle.guest_follows.specs.Lawful.{IsLawful}
-use Rattle.typed_code.specs.Judging.{Rules}
-use Rattle.typed_code.specs.Methods.{taking}
-use Rattle.typed_code.specs.Spans.{SpanTyped, goals_of, owes_unknown}
+use Rattle.code_assembly.specs.declared.references.References.{References}
+use Rattle.code_assembly.specs.Assembling.{switch_has_operation, have_operations}
+use Rattle.code_types.specs.Judging.{Rules}
+use Rattle.code_types.specs.Methods.{taking}
+use Rattle.code_types.specs.Spans.{SpanTyped, goals_of, owes_unknown}
 use Rattle.whole_methods.specs.Whole.{CanBeMethod, HasHelpers}
 use Rattle.whole_methods.proofs.NamedCode.Spans.{lawful-at}
 use Rattle.whole_methods.proofs.WholeCode.Targets.{targets-are-lines}

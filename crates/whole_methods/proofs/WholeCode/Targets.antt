@@ -12,8 +12,8 @@ use Rattle.code_steps.specs.declared.step.Step.TheVariants.{Does, Skips, Leaves,
 use Rattle.code_steps.specs.Widths.{width, bytes_before}
 use Rattle.code_steps.specs.Placing.{laid, placed_line, placed_instruction}
 use Rattle.code_assembly.specs.Assembling.{targets_are_lines}
-use Rattle.typed_code.specs.Judging.{Rules, Meets, Fits, Types}
-use Rattle.typed_code.specs.Bodies.{BodyTypes, frame_in}
+use Rattle.code_types.specs.Judging.{Rules, Meets, Fits, Types}
+use Rattle.code_types.specs.Bodies.{BodyTypes, frame_in}
 
 -- ---- lines
 

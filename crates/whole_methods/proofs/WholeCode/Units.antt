@@ -3,21 +3,21 @@ use Rattle.std.proofs.Common.{◌≡◌, ℕ, zero, suc, ◌+◌, ◌<◌, ◌�
 use Rattle.std.specs.List.{flat_map, range_with_len}
 use Rattle.std.proofs.lemmas.Bool.{and_from}
 use Rattle.std.proofs.lemmas.List.Elements.{All-head, All-tail}
+use Rattle.delay_slots.specs.declared.unit.Unit.{Unit}
 use Rattle.jvm_program.specs.declared.kind.Kind.TheVariants.{Int, Top}
 use Rattle.jvm_program.specs.declared.instruction.Instruction.TheVariants as instructions
-use Rattle.delay_slots.specs.declared.unit.Unit.{Unit}
 use Rattle.code_steps.specs.declared.step.Step.{Step}
 use Rattle.code_steps.specs.Widths.{size}
-use Rattle.code_assembly.specs.declared.references.References.{References}
-use Rattle.code_assembly.specs.Assembling.{has_operation}
-use Rattle.guest_match.specs.Match.{register_field}
+use Rattle.guest_layout.specs.FieldNumbers.{register_field}
 use Rattle.guest_code.specs.Units.{unit_code}
 use Rattle.word_emitter.specs.Pieces.{is_needed, is_written, bank_of, units_code, fetched, put_back, for_registers, warm_code}
-use Rattle.word_weights.specs.Weights.{unit_bytes}
-use Rattle.guest_follows.specs.Lawful.{IsLawful, KnownByUnit}
-use Rattle.typed_code.specs.Judging.{Rules}
-use Rattle.typed_code.specs.Knowing.{UnitTyped}
-use Rattle.typed_code.specs.Methods.{owes_nothing}
+use Rattle.lawful_units.specs.Lawful.{IsLawful, KnownByUnit}
+use Rattle.code_assembly.specs.declared.references.References.{References}
+use Rattle.code_assembly.specs.Assembling.{has_operation}
+use Rattle.code_types.specs.Judging.{Rules}
+use Rattle.code_types.specs.Knowing.{UnitTyped}
+use Rattle.code_types.specs.Methods.{owes_nothing}
+use Rattle.code_limits.specs.Weights.{unit_bytes}
 use Rattle.whole_methods.specs.Naming.{is_helper, all_well}
 use Rattle.whole_methods.specs.Whole.{HasHelpers}
 use Rattle.whole_methods.proofs.NamedCode.Steps.{field-is}

@@ -1,7 +1,6 @@
-use Rattle.std.proofs.Common.{◌≡◌, ◌+◌, ◌∙◌, ap, arith, drop, take, length}
+use Rattle.std.proofs.Common.{◌≡◌, ◌+◌, ◌∙◌, ap, arith, drop, take}
 use Rattle.std.specs.Prelude.{bit_or}
 use Rattle.std.specs.List.{flat_map}
-use Rattle.delay_slots.specs.declared.unit.Unit.{Unit}
 use Rattle.block_builder.specs.Registers.{register_set, unit_reads, unit_writes}
 use Rattle.block_builder.proofs.SetLemmas.{union_more, union_all}
 use Rattle.block_builder.proofs.builder.words_from.Goals as goal

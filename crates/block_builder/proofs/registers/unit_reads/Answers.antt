@@ -1,4 +1,4 @@
-use Rattle.std.proofs.Common.{◌≡◌, sym, ap, ◌∙◌}
+use Rattle.std.proofs.Common.{sym, ap, ◌∙◌}
 use Rattle.std.specs.Prelude.{bit_or}
 use Rattle.delay_slots.specs.declared.unit.Unit.{Unit}
 use Rattle.block_builder.specs.Registers.{register_set, read_by, unit_reads}

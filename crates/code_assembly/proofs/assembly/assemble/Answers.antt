@@ -1,15 +1,16 @@
 use Rattle.std.proofs.Common.{◌≡◌, ◌<◌, ◌^◌, ◌&&◌, ◌++◌, nat_lt, length, get_or, Err, ap, ◌∙◌, ltb-true}
 use Rattle.std.proofs.lemmas.Bool.{and_parts}
 use Rattle.std.proofs.lemmas.Result.{err_from_is_err_and}
-use Rattle.constant_pool.specs.declared.error.PoolError.TheVariants.{Full}
 use Rattle.std.proofs.lemmas.List.Elements.{All-append}
+use Rattle.constant_pool.specs.declared.error.PoolError.TheVariants.{Full}
 use Rattle.code_steps.specs.Widths.{size}
-use Rattle.code_assembly.specs.Assembling.{have_operations, switches_are_placed, pushed_by}
+use Rattle.code_steps.specs.Switches.{switches_are_placed}
+use Rattle.code_steps.proofs.Offsets.{AreEnds}
+use Rattle.code_assembly.specs.Assembling.{have_operations, pushed_by}
 use Rattle.code_assembly.specs.Operations.{Has}
 use Rattle.code_assembly.proofs.Pools.{extends-further, adds-further, adds-among}
 use Rattle.code_assembly.proofs.Counts.{all-kept}
 use Rattle.code_assembly.proofs.Taking.{few-by, full-by, next-few}
-use Rattle.code_assembly.proofs.Offsets.{AreEnds}
 use Rattle.code_assembly.proofs.Placed.{next-has-operation, next-placed, made-goes-on, are-linked, widths-same, size-is, are-code}
 use Rattle.code_assembly.proofs.assembly.assemble.Goals as goal
 

@@ -1,6 +1,6 @@
 use Rattle.std.proofs.Common.{◌≡◌, ◌+◌, ◌≤◌, suc, sym, ap, ◌∙◌, arith, add-one}
 use Rattle.code_steps.specs.Widths.{width, bytes_before, size}
-use Rattle.code_assembly.proofs.Offsets.{bytes-suc, next-within, ends-more}
+use Rattle.code_steps.proofs.Offsets.{bytes-suc, next-within, ends-more}
 use Rattle.code_assembly.proofs.ends.ends_of.Goals as goal
 
 pub width-end-requires : goal.width-end-requires

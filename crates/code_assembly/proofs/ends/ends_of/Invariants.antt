@@ -1,6 +1,6 @@
 use Rattle.std.proofs.Common.{◌≡◌, length}
 use Rattle.code_steps.specs.Widths.{bytes_before}
-use Rattle.code_assembly.proofs.Offsets.{AreEnds}
+use Rattle.code_steps.proofs.Offsets.{AreEnds}
 use Rattle.code_assembly.proofs.ends.ends_of.Given as goal
 
 abbrev pub invariant-loop-step : goal.invariant-loop-step

@@ -1,7 +1,7 @@
 use Rattle.std.proofs.Common.{◌≡◌, ◌+◌, ◌^◌, ◌&&◌, nat_le, nat_lt, suc, length, drop, sym, ap, ◌∙◌, arith}
 use Rattle.code_steps.specs.Widths.{width, bytes_before}
+use Rattle.code_steps.proofs.Offsets.{target-is}
 use Rattle.code_assembly.specs.Operations.{is_start, step_fits}
-use Rattle.code_assembly.proofs.Offsets.{target-is}
 use Rattle.code_assembly.proofs.FitLemmas.{first-is}
 use Rattle.code_assembly.proofs.fitting.step_fits.Goals as goal
 

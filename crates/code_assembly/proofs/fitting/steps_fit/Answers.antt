@@ -1,7 +1,7 @@
 use Rattle.std.proofs.Common.{◌≡◌, ◌+◌, true, drop, get_or, sym, ap, ◌∙◌, add-one, arith}
 use Rattle.code_steps.specs.Widths.{width, bytes_before}
+use Rattle.code_steps.proofs.Offsets.{bytes-suc}
 use Rattle.code_assembly.specs.Operations.{first_fits, steps_fit}
-use Rattle.code_assembly.proofs.Offsets.{bytes-suc}
 use Rattle.code_assembly.proofs.FitLemmas.{next-left}
 use Rattle.code_assembly.proofs.fitting.steps_fit.Goals as goal
 

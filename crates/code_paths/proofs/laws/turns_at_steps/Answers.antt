@@ -3,7 +3,8 @@ use Rattle.jvm_program.specs.Step.{placed}
 use Rattle.code_steps.specs.Widths.{bytes_before, width}
 use Rattle.code_paths.specs.Paths.{step_weight}
 use Rattle.code_paths.proofs.Joining.{turn-path, seen-within, seen-elsewhere}
-use Rattle.code_paths.proofs.Weighing.{bytes-more, width-some, step-weighs}
+use Rattle.code_steps.proofs.WidthLemmas.{width-some}
+use Rattle.code_paths.proofs.Weighing.{bytes-more, step-weighs}
 use Rattle.code_paths.proofs.laws.turns_at_steps.Goals as goal
 
 pub returns-clause-within : goal.returns-clause-within

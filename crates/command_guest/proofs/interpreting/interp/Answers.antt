@@ -4,7 +4,7 @@ use Rattle.mips_decode.specs.Step.{turn}
 use Rattle.command_deeds.proofs.DeedLemmas.{gives_ends, gives_then}
 use Rattle.command_deeds.specs.Ends.{ByFiles, Comes, end_of, ended}
 use Rattle.command_deeds.specs.World.{seen, shelf_seen, world}
-use Rattle.command_launch.specs.Runs.{IsDueOfPlay, plan_of}
+use Rattle.command_deeds.specs.Runs.{IsDueOfPlay, plan_of}
 use Rattle.command_guest.proofs.ImagingLemmas.{due_of_imaged, refused_image}
 use Rattle.command_guest.specs.Imaging.{IsImaged, IsRefusedImage}
 use Rattle.command_guest.specs.Interp.{IsDueOfImage, IsDueOfInterp}

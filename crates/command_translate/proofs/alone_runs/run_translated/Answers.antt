@@ -1,12 +1,12 @@
 use Rattle.std.proofs.Common.{◌≡◌, ◌∙◌, Some, ap, sym}
 use Rattle.std.proofs.lemmas.Result.{IfOk-weaker}
-use Rattle.command_deeds.specs.declared.done.Done.{Done}
 use Rattle.elf_image.specs.Start.{image_of}
-use Rattle.jvm_machine.specs.Machine.{state_of}
-use Rattle.jvm_link.specs.Linking.{program_of}
 use Rattle.jvm_program.specs.Step.{loaded, loaded_turn}
+use Rattle.jvm_link.specs.Linking.{program_of}
+use Rattle.jvm_machine.specs.Machine.{state_of}
 use Rattle.program_translation.specs.Bounds.{allow, need}
-use Rattle.command_launch.specs.Runs.{answer_of, run_alone}
+use Rattle.command_deeds.specs.declared.done.Done.{Done}
+use Rattle.command_deeds.specs.Runs.{answer_of, run_alone}
 use Rattle.command_translate.proofs.TranslationLemmas.{spell_classes}
 use Rattle.command_translate.specs.Make.{IsEndOfTranslation, made_name}
 use Rattle.command_translate.proofs.alone_runs.run_translated.Goals as goal

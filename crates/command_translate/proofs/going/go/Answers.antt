@@ -1,19 +1,19 @@
 use Rattle.std.proofs.Common.{◌∙◌, Err, ap, refl, subst}
 use Rattle.std.proofs.lemmas.Result.{err_from_is_err_and}
 use Rattle.elf_image.specs.Start.{image_of}
-use Rattle.jvm_link.specs.Linking.{program_of}
 use Rattle.jvm_program.specs.Step.{loaded, loaded_turn}
+use Rattle.jvm_link.specs.Linking.{program_of}
 use Rattle.program_translation.specs.Bounds.{allow, need}
 use Rattle.command_deeds.proofs.DeedLemmas.{gives_ends, gives_then, no_memory}
 use Rattle.command_deeds.specs.Deeds.{DoesAll, StopsIn}
 use Rattle.command_deeds.specs.Ends.{Comes, end_of, ended}
 use Rattle.command_deeds.specs.World.{seen, shelf_seen, world}
 use Rattle.command_deeds.specs.declared.stop.Stop.TheVariants.{NoMemory}
+use Rattle.command_deeds.proofs.PlayLemmas.{some_run, unready_due}
+use Rattle.command_deeds.specs.Readying.{IsUnready}
+use Rattle.command_deeds.specs.Runs.{IsDueOfHeld, arguments_of, plan_of}
 use Rattle.command_guest.proofs.ImagingLemmas.{due_of_imaged, refused_image}
 use Rattle.command_guest.specs.Imaging.{IsImaged, IsRefusedImage}
-use Rattle.command_launch.proofs.PlayLemmas.{some_run, unready_due}
-use Rattle.command_launch.specs.Readying.{IsUnready}
-use Rattle.command_launch.specs.Runs.{IsDueOfHeld, arguments_of, plan_of}
 use Rattle.command_translate.proofs.GoLemmas.{IsDueOfHeldGo, IsDueOfHeldRun, built_comes, go_comes}
 use Rattle.command_translate.proofs.StoreLemmas.{comes_behind, comes_stopped}
 use Rattle.command_translate.proofs.TranslationLemmas.{spell_classes}

@@ -2,7 +2,7 @@ use Rattle.std.proofs.Common.{length, get_or, Some, sym, ap, subst, arith, rules
 use Rattle.std.proofs.lemmas.Option.{slice_get_within}
 use Rattle.nv_events.specs.Turn.{trap}
 use Rattle.nv_events.specs.declared.outcome.Outcome.TheVariants.{Trapped}
-use Rattle.machine_code.specs.declared.machine_method.MachineMethod.{MachineMethod}
+use Rattle.jvm_machine.specs.declared.machine_method.MachineMethod.{MachineMethod}
 use Rattle.jvm_machine.specs.Standing.{turn_in, state_in}
 use Rattle.jvm_machine.specs.Settling.{Settles}
 use Rattle.jvm_machine.proofs.Taking.{still_roomy, room_of, settles_taken, settles_ends, Taken}

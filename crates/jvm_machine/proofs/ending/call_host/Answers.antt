@@ -1,11 +1,11 @@
 use Rattle.std.proofs.Common.{◌≡◌, Some, None, Ok, Err, sym, ap, subst, ◌∙◌, arith, rules, to_z, of_z}
-use Rattle.nv_words.specs.Words.{unsigned_of}
 use Rattle.std.specs.Prelude.{FitsSigned}
 use Rattle.std.specs.Int.{w32}
 use Rattle.std.proofs.lemmas.Int.{to_z-of_z}
+use Rattle.nv_words.specs.Words.{unsigned_of}
 use Rattle.jvm_heap.specs.Heaps.{Held}
 use Rattle.jvm_heap.specs.Regions.{heap_of}
-use Rattle.jvm_steps.specs.declared.working.Working.{Working}
+use Rattle.jvm_machine.specs.declared.working.Working.{Working}
 use Rattle.jvm_machine.specs.Hosting.{host_tests}
 use Rattle.jvm_machine.proofs.Taking.{still_roomy}
 use Rattle.jvm_machine.proofs.Hosts.{words_found, host_found, host_tables, host_asks, host_exits, host_answers, host_waits, host_falls, served_of, served_size, held_size, held_roomy, tests_within, wrapped_is, answered_working, Answered}

@@ -1,6 +1,6 @@
 use Rattle.std.proofs.Common.{IfOk, Result, Ok, Err}
 use Rattle.program_translation.specs.Translation.{IsTranslation}
-use Rattle.translation_laws.specs.Translated.{Translated}
+use Rattle.nv_translate.specs.Translated.{Translated}
 use Rattle.nv_translate.proofs.translation.translate.Goals as goal
 
 -- what holds of a value that was made

@@ -1,21 +1,20 @@
 use Rattle.std.proofs.Common.{◌≡◌, ◌∷◌, [], ◌++◌, ◌<◌, All, length, ap, sym, ◌∙◌, subst, true, refl, arith}
 use Rattle.constant_pool.specs.declared.entry.Entry.TheVariants.{MethodRef}
+use Rattle.guest_layout.specs.ClassNames.{span_name}
+use Rattle.guest_layout.specs.Helpers.{helper_name, helper_descriptor}
 use Rattle.code_assembly.specs.declared.references.References.{References}
 use Rattle.class_builder.specs.Named.{IsClassAt}
 use Rattle.class_builder.specs.Mentioned.{Mentions}
 use Rattle.class_builder.proofs.Mentions.{mentions-still}
-use Rattle.class_members.specs.ClassNames.{span_name}
-use Rattle.class_members.specs.Helpers.{helper_name, helper_descriptor}
+use Rattle.whole_methods.specs.Whole.{HasHelpers}
 use Rattle.program_classes.specs.Tables.{references_of}
 use Rattle.program_classes.proofs.ProgramNames.NamedLemmas.{class-later, members-later, names-later}
 use Rattle.program_classes.specs.Making.{AddsMethods, nothing}
 use Rattle.program_classes.specs.CodeNaming.{code_mentions}
-use Rattle.program_classes.specs.Code.{span_plans, run_plan}
+use Rattle.program_classes.specs.Code.{span_plans, run_plan, span_plan}
 use Rattle.program_classes.proofs.ClassMaking.MakingLemmas.{adds-more, made-all, adds-fields, adds-name}
 use Rattle.program_classes.proofs.CodeBlocks.RisingLemmas.{pieces-numbered}
-use Rattle.whole_methods.specs.Whole.{HasHelpers}
 use Rattle.program_classes.specs.Room.{is_own_name}
-use Rattle.program_classes.specs.Code.{span_plan}
 use Rattle.program_classes.proofs.LawfulNames.CharacterLemmas.{code-own, main-named}
 use Rattle.program_classes.proofs.Rooms.CountLemmas.{adds-count, plans-count}
 use Rattle.program_classes.proofs.class_of_code.code_class.Goals as goal

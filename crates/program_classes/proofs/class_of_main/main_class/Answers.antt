@@ -1,21 +1,19 @@
 use Rattle.std.proofs.Common.{◌≡◌, ◌++◌, sym, subst, true, length, refl, ap, ◌∙◌, All, arith}
+use Rattle.std.proofs.lemmas.List.FromFn.{length-map-range_with_len}
+use Rattle.method_splitter.specs.Shares.{share_count}
+use Rattle.code_assembly.specs.declared.references.References.{References}
 use Rattle.class_builder.proofs.Mentions.{mentions-still}
+use Rattle.class_builder.specs.Lawful.{has_text}
+use Rattle.class_builder.specs.Named.{IsTextAt}
+use Rattle.whole_methods.specs.Whole.{HasHelpers}
 use Rattle.program_classes.specs.Making.{AddsMethods}
 use Rattle.program_classes.proofs.ClassMaking.MakingLemmas.{adds-more, made-all, adds-fields, adds-name}
 use Rattle.program_classes.specs.Tables.{references_of}
 use Rattle.program_classes.specs.Fields.{AreFields}
-use Rattle.program_classes.specs.Main.{helper_plans, other_plans, main_plans}
+use Rattle.program_classes.specs.Main.{helper_plans, other_plans, main_plans, helper_plan}
 use Rattle.program_classes.proofs.MainClasses.FieldLemmas.{fields-later}
-use Rattle.program_classes.proofs.MainClasses.NameLemmas.{main-names-later}
-use Rattle.std.proofs.lemmas.List.FromFn.{length-map-range_with_len}
-use Rattle.equal_shares.specs.Shares.{share_count}
-use Rattle.code_assembly.specs.declared.references.References.{References}
-use Rattle.class_builder.specs.Lawful.{has_text}
-use Rattle.class_builder.specs.Named.{IsTextAt}
-use Rattle.whole_methods.specs.Whole.{HasHelpers}
+use Rattle.program_classes.proofs.MainClasses.NameLemmas.{main-names-later, texts-later}
 use Rattle.program_classes.specs.Content.{share_text, share_texts, text_runs}
-use Rattle.program_classes.specs.Main.{helper_plan}
-use Rattle.program_classes.proofs.MainClasses.NameLemmas.{texts-later}
 use Rattle.program_classes.proofs.LawfulNames.TextLemmas.{few-shares}
 use Rattle.program_classes.proofs.Rooms.CountLemmas.{adds-count, plans-count, rise-low, texts-there, zip-length}
 use Rattle.program_classes.proofs.class_of_main.main_class.Goals as goal

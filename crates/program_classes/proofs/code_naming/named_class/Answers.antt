@@ -1,8 +1,8 @@
 use Rattle.std.proofs.Common.{◌+◌, ◌*◌, [], ◌∷◌, ◌++◌, ◌∙◌, arith}
 use Rattle.constant_pool.specs.declared.entry.Entry.TheVariants.{MethodRef}
+use Rattle.guest_layout.specs.Helpers.{helper_name, helper_descriptor}
 use Rattle.class_builder.specs.Mentioned.{OfClass}
 use Rattle.class_builder.proofs.Mentions.{mentions-further, mentions-after}
-use Rattle.class_members.specs.Helpers.{helper_name, helper_descriptor}
 use Rattle.program_classes.specs.Mentioned.{names_mentions, helper_mentions}
 use Rattle.program_classes.proofs.ProgramNames.NamedLemmas.{class-later, members-later, names-later, grown-further}
 use Rattle.program_classes.proofs.ClassMaking.GrowingLemmas.{grown-name, grown-methods, grown-fields}

@@ -1,13 +1,13 @@
 use Rattle.std.proofs.Common.{◌≡◌, ◌+◌, ◌*◌, sym, subst, arith}
 use Rattle.constant_pool.specs.declared.entry.Entry.TheVariants.{MethodRef}
+use Rattle.guest_layout.specs.ClassNames.{span_name}
 use Rattle.class_builder.specs.Built.{GrowsPool}
-use Rattle.class_members.specs.ClassNames.{span_name}
-use Rattle.program_classes.specs.Named.{AreMembers}
 use Rattle.class_builder.specs.declared.member_kind.MemberKind.TheVariants.{Method}
+use Rattle.class_builder.proofs.Made.{has_class-later}
+use Rattle.program_classes.specs.Named.{AreMembers}
 use Rattle.program_classes.proofs.ProgramNames.NamedLemmas.{no-members, members-more, grown-not, grown-further}
 use Rattle.program_classes.proofs.ProgramNames.MentionLemmas.{mentions-none, mentions-next}
 use Rattle.program_classes.specs.Making.{nothing}
-use Rattle.class_builder.proofs.Made.{has_class-later}
 use Rattle.program_classes.proofs.code_naming.span_references.Goals as goal
 
 pub loop-k-init : goal.loop-k-init

@@ -1,14 +1,14 @@
 use Rattle.std.proofs.Common.{◌≡◌, ◌+◌, ◌*◌, sym, subst, arith}
 use Rattle.constant_pool.specs.declared.entry.Entry.TheVariants.{FieldRef}
+use Rattle.guest_layout.specs.Fields.{field_name, field_descriptor}
 use Rattle.class_builder.specs.Built.{GrowsPool}
 use Rattle.class_builder.specs.Mentioned.{MentionsOf}
-use Rattle.class_members.specs.Fields.{field_name, field_descriptor}
+use Rattle.class_builder.specs.declared.member_kind.MemberKind.TheVariants.{Field}
+use Rattle.class_builder.proofs.Made.{has_class-later}
 use Rattle.program_classes.specs.Named.{AreMembers}
 use Rattle.program_classes.specs.Mentioned.{field_mentions}
-use Rattle.class_builder.specs.declared.member_kind.MemberKind.TheVariants.{Field}
 use Rattle.program_classes.proofs.ProgramNames.NamedLemmas.{no-members, members-more, grown-not, grown-further}
 use Rattle.program_classes.proofs.ProgramNames.MentionLemmas.{mentions-none, mentions-next}
-use Rattle.class_builder.proofs.Made.{has_class-later}
 use Rattle.program_classes.proofs.known_fields.field_references.Goals as goal
 
 pub loop-field-init : goal.loop-field-init

@@ -1,5 +1,5 @@
 use Rattle.std.proofs.Common.{◌≡◌, true, sym, subst}
-use Rattle.class_members.specs.Helpers.{helper_descriptor}
+use Rattle.guest_layout.specs.Helpers.{helper_descriptor}
 use Rattle.program_classes.specs.Room.{can_name_method}
 use Rattle.program_classes.proofs.LawfulNames.MemberLemmas.{helper-named}
 use Rattle.program_classes.proofs.known_helpers.helper_reference.Goals as goal

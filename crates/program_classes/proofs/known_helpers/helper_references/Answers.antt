@@ -1,14 +1,14 @@
 use Rattle.std.proofs.Common.{◌≡◌, ◌+◌, ◌*◌, sym, subst, arith}
 use Rattle.constant_pool.specs.declared.entry.Entry.TheVariants.{MethodRef}
+use Rattle.guest_layout.specs.Helpers.{helper_name, helper_descriptor}
 use Rattle.class_builder.specs.Built.{GrowsPool}
 use Rattle.class_builder.specs.Mentioned.{MentionsOf}
-use Rattle.class_members.specs.Helpers.{helper_name, helper_descriptor}
+use Rattle.class_builder.specs.declared.member_kind.MemberKind.TheVariants.{Method}
+use Rattle.class_builder.proofs.Made.{has_class-later}
 use Rattle.program_classes.specs.Named.{AreMembers}
 use Rattle.program_classes.specs.Mentioned.{helper_mentions}
-use Rattle.class_builder.specs.declared.member_kind.MemberKind.TheVariants.{Method}
 use Rattle.program_classes.proofs.ProgramNames.NamedLemmas.{no-members, members-more, grown-not, grown-further}
 use Rattle.program_classes.proofs.ProgramNames.MentionLemmas.{mentions-none, mentions-next}
-use Rattle.class_builder.proofs.Made.{has_class-later}
 use Rattle.program_classes.proofs.known_helpers.helper_references.Goals as goal
 
 pub loop-number-init : goal.loop-number-init

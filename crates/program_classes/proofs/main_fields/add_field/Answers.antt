@@ -1,5 +1,5 @@
 use Rattle.std.proofs.Common.{◌≡◌, true, sym, ◌∙◌, subst}
-use Rattle.class_members.specs.Fields.{field_descriptor}
+use Rattle.guest_layout.specs.Fields.{field_descriptor}
 use Rattle.program_classes.specs.Room.{can_name_field}
 use Rattle.program_classes.proofs.LawfulNames.MemberLemmas.{field-named}
 use Rattle.program_classes.proofs.main_fields.add_field.Goals as goal

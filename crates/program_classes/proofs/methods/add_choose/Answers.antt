@@ -1,7 +1,7 @@
 use Rattle.std.proofs.Common.{false, ap, ◌∙◌, arith}
-use Rattle.code_assembly.specs.Assembling.{slots_of, has_method}
+use Rattle.guest_layout.specs.Numbers.{missing_number}
 use Rattle.trampoline.specs.Choosers.{main_chooser}
-use Rattle.class_members.specs.Numbers.{missing_number}
+use Rattle.code_assembly.specs.Assembling.{slots_of, has_method}
 use Rattle.program_classes.proofs.LawfulNames.MemberLemmas.{choose-own}
 use Rattle.program_classes.proofs.Rooms.CountLemmas.{has-main, has-places}
 use Rattle.program_classes.proofs.Rooms.CodeLemmas.{code-is, plain-code}

@@ -1,8 +1,8 @@
 use Rattle.std.proofs.Common.{◌≡◌, true, ap, sym, ◌∙◌, subst, arith}
-use Rattle.code_assembly.specs.Assembling.{slots_of}
 use Rattle.jvm_link.specs.Linking.{gives_int}
-use Rattle.class_members.specs.Helpers.{helper_descriptor}
+use Rattle.guest_layout.specs.Helpers.{helper_descriptor}
 use Rattle.mem_helpers.specs.Methods.{helper_code}
+use Rattle.code_assembly.specs.Assembling.{slots_of}
 use Rattle.whole_methods.specs.Naming.{is_fault}
 use Rattle.program_classes.specs.Room.{is_own_method}
 use Rattle.program_classes.proofs.LawfulNames.MemberLemmas.{helper-own}

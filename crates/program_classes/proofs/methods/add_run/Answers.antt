@@ -1,7 +1,7 @@
 use Rattle.std.proofs.Common.{ap, ◌∙◌, arith}
-use Rattle.code_assembly.specs.Assembling.{slots_of}
+use Rattle.guest_layout.specs.Numbers.{pages_number, choose_number}
 use Rattle.loading_code.specs.Starting.{run_code}
-use Rattle.class_members.specs.Numbers.{pages_number, choose_number}
+use Rattle.code_assembly.specs.Assembling.{slots_of}
 use Rattle.program_classes.proofs.LawfulNames.MemberLemmas.{run-own}
 use Rattle.program_classes.proofs.Rooms.CountLemmas.{has-main, has-fills}
 use Rattle.program_classes.proofs.Rooms.CodeLemmas.{code-is, same-code, whole-code, run-texts}

@@ -1,16 +1,15 @@
 use Rattle.std.proofs.Common.{◌≡◌, ◌∷◌, [], ◌++◌, ap, sym, ◌∙◌, subst, codes, arith}
 use Rattle.constant_pool.specs.declared.entry.Entry.TheVariants.{MethodRef}
-use Rattle.class_members.specs.Helpers.{helper_name, helper_descriptor}
+use Rattle.guest_layout.specs.Helpers.{helper_name, helper_descriptor}
 use Rattle.code_assembly.proofs.Pools.{extends-further}
 use Rattle.class_builder.specs.Mentioned.{method_mention}
-use Rattle.class_builder.proofs.Made.{class-later}
+use Rattle.class_builder.proofs.Made.{class-later, has_class-later}
 use Rattle.program_classes.specs.Making.{nothing}
 use Rattle.program_classes.proofs.ClassMaking.NamingLemmas.{names-slots, names-more}
 use Rattle.program_classes.specs.Mentioned.{helper_mentions}
 use Rattle.program_classes.proofs.ProgramNames.NamedLemmas.{member-later, members-later}
 use Rattle.program_classes.specs.Called.{AreOwnMethods, pages_descriptor}
 use Rattle.program_classes.proofs.MainClasses.CalledLemmas.{four-pushed, own-made}
-use Rattle.class_builder.proofs.Made.{has_class-later}
 use Rattle.program_classes.proofs.LawfulNames.MemberLemmas.{choose-named, pages-named, missing-named}
 use Rattle.program_classes.proofs.references.own_references.Goals as goal
 

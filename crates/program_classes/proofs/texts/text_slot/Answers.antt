@@ -1,6 +1,6 @@
 use Rattle.std.proofs.Common.{◌≡◌, false, ap, sym, ◌∙◌, subst}
-use Rattle.equal_shares.specs.Shares.{shared}
-use Rattle.page_runs.specs.Runs.{text_of}
+use Rattle.image_parts.specs.Runs.{text_of}
+use Rattle.method_splitter.specs.Shares.{shared}
 use Rattle.class_builder.specs.Built.{is_long_text}
 use Rattle.program_classes.specs.Content.{share_text}
 use Rattle.program_classes.proofs.LawfulNames.CharacterLemmas.{short-text}

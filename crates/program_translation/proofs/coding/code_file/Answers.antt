@@ -1,7 +1,7 @@
 use Rattle.std.proofs.Common.{◌<◌, ◌≤◌, length, refl, ap, ◌∙◌, arith, subst}
 use Rattle.std.proofs.lemmas.List.Elements.{All-weaker}
 use Rattle.std.proofs.lemmas.List.FromFn.{length-map-range_with_len}
-use Rattle.class_members.specs.ClassNames.{file_name}
+use Rattle.guest_layout.specs.ClassNames.{file_name}
 use Rattle.program_classes.specs.Code.{IsCodeClass}
 use Rattle.program_classes.specs.declared.piece.Piece.{Piece}
 use Rattle.program_classes.specs.Blocks.{pieces_of_class}

@@ -1,7 +1,7 @@
 use Rattle.std.proofs.Common.{◌≡◌, ◌≤◌, All, length, map, drop, ap, sym, ◌∙◌, arith, subst}
 use Rattle.std.proofs.lemmas.List.{length-map, length-take}
 use Rattle.std.proofs.lemmas.List.Elements.{All-take, All-drop}
-use Rattle.equal_shares.specs.Shares.{share_at, share_count, shared}
+use Rattle.method_splitter.specs.Shares.{share_at, share_count, shared}
 use Rattle.program_classes.specs.declared.page_data.PageData.{PageData}
 use Rattle.program_classes.specs.Pages.{page_of}
 use Rattle.program_translation.specs.DataFiles.{class_pages, class_count, filled_pages, pages_of_class, HasFiles}

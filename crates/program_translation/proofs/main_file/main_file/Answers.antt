@@ -1,8 +1,8 @@
 use Rattle.std.proofs.Common.{◌≡◌, ◌<◌, ◌++◌, All, length, flat_map, ap, sym, subst, arith}
 use Rattle.elf_image.specs.Start.{readable, writable}
-use Rattle.page_runs.specs.Runs.{IsRun, pages_of, pages_below, run_pages}
+use Rattle.image_parts.specs.Runs.{IsRun, pages_of, pages_below, run_pages}
+use Rattle.guest_layout.specs.Numbers.{main_methods}
 use Rattle.trampoline.specs.declared.start.Start.{Start}
-use Rattle.class_members.specs.Numbers.{main_methods}
 use Rattle.program_classes.specs.declared.content.MainClass.{MainClass}
 use Rattle.program_classes.specs.Content.{RiseFrom, behind}
 use Rattle.program_translation.proofs.Counts.PageLemmas.{runs-few}

@@ -1,8 +1,9 @@
 use Rattle.std.proofs.Common.{◌≤◌, ◌++◌, ◌∷◌, [], All, length, map, ap, sym, ◌∙◌, subst, arith}
 use Rattle.std.proofs.lemmas.List.{map_push}
 use Rattle.std.proofs.lemmas.List.Elements.{All-push}
+use Rattle.image_parts.specs.Pages.{Page}
 use Rattle.program_classes.specs.declared.page_data.PageData.{PageData}
-use Rattle.program_classes.specs.Pages.{Page, page_of}
+use Rattle.program_classes.specs.Pages.{page_of}
 use Rattle.program_translation.proofs.DataFiles.PageLemmas.{page-more, page-passed}
 use Rattle.program_translation.proofs.pages.add_page.Goals as goal
 

@@ -1,8 +1,8 @@
 use Rattle.std.proofs.Common.{◌≤◌, All, length, map, ap, sym, subst}
 use Rattle.std.proofs.lemmas.List.Elements.{All-nil}
+use Rattle.image_parts.specs.Pages.{filled_below}
 use Rattle.program_classes.specs.declared.page_data.PageData.{PageData}
 use Rattle.program_classes.specs.Pages.{page_of}
-use Rattle.program_translation.specs.Pages.{filled_below}
 use Rattle.program_translation.proofs.pages.filled_pages.Goals as goal
 
 pub loop-page-init : goal.loop-page-init

@@ -1,7 +1,7 @@
 use Rattle.std.proofs.Common.{◌≡◌, ◌≤◌, All, length, map}
+use Rattle.image_parts.specs.Pages.{filled_below}
 use Rattle.program_classes.specs.declared.page_data.PageData.{PageData}
 use Rattle.program_classes.specs.Pages.{page_of}
-use Rattle.program_translation.specs.Pages.{filled_below}
 use Rattle.program_translation.proofs.pages.filled_pages.Given as goal
 
 abbrev pub invariant-loop-page : goal.invariant-loop-page

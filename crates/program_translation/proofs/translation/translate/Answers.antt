@@ -2,7 +2,7 @@ use Rattle.std.proofs.Common.{◌≡◌, ◌<◌, ◌++◌, length, map, sym, ap
 use Rattle.std.proofs.lemmas.List.{length-map}
 use Rattle.std.proofs.lemmas.List.FromFn.{length-map-range_with_len}
 use Rattle.std.proofs.lemmas.Slice.Zip.{AllZip-long}
-use Rattle.class_members.specs.Numbers.{main_methods}
+use Rattle.guest_layout.specs.Numbers.{main_methods}
 use Rattle.trampoline.specs.declared.start.Start.{Start}
 use Rattle.program_classes.specs.Content.{RiseFrom, behind}
 use Rattle.program_translation.specs.Classes.{IsCodeFile, run_of}

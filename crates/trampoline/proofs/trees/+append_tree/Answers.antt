@@ -1,5 +1,5 @@
 use Rattle.std.proofs.Common.{◌≡◌, ◌++◌, ◌+◌, OnOk, List, [], ◌∷◌, ap, subst, ◌∙◌}
-use Rattle.jvm_code.specs.declared.names.branch_name.BranchName.TheVariants.{Goto}
+use Rattle.jvm_names.specs.declared.branch_name.BranchName.TheVariants.{Goto}
 use Rattle.code_steps.specs.declared.step.Step.{Step}
 use Rattle.code_steps.specs.declared.step.Step.TheVariants.{Skips}
 use Rattle.trampoline.specs.Trees.{reached_code, tree}

@@ -1,5 +1,4 @@
-use Rattle.std.proofs.Common.{◌≡◌, [], List, None, refl, ap, ◌∙◌}
-use Rattle.int_region.specs.Arrays.{Block}
+use Rattle.std.proofs.Common.{◌≡◌, [], None, refl, ap, ◌∙◌}
 use Rattle.jvm_heap.specs.Heaps.{Held}
 use Rattle.jvm_heap.proofs.SafetyLaws.{safe_none}
 use Rattle.jvm_heap.proofs.heap.Heap.clear.Goals as goal

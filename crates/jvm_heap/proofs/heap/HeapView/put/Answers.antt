@@ -1,10 +1,10 @@
-use Rattle.std.proofs.Common.{◌≡◌, ◌≢◌, ℕ, ◌<◌, ◌%◌, ◌-◌, List, length, subst, ap, sym, ◌∙◌, Option, Some, None, arith}
+use Rattle.std.proofs.Common.{◌≡◌, ℕ, ◌<◌, ◌%◌, List, length, subst, ap, ◌∙◌, Option, Some, arith}
 use Rattle.nv_words.specs.Words.{word_with_lane}
-use Rattle.int_region.specs.Arrays.{Block, Contents, array_at, values_at, values_in, with_value, IsSound}
-use Rattle.jvm_program.specs.Values.{Heap, with_int}
-use Rattle.jvm_program.specs.HostMemory.{HostMemory, Cell, cell_of, with_cell, with_byte}
+use Rattle.int_region.specs.Arrays.{Block, Contents, values_at, values_in, with_value, IsSound}
+use Rattle.jvm_program.specs.Values.{with_int}
+use Rattle.jvm_program.specs.HostMemory.{cell_of, with_cell, with_byte}
 use Rattle.jvm_heap.specs.Regions.{heap_of}
-use Rattle.jvm_heap.specs.Heaps.{StandsAt, IsSafe, Held, Seen, host_memory, seen, with_seen_byte}
+use Rattle.jvm_heap.specs.Heaps.{StandsAt, IsSafe, Held, host_memory, seen, with_seen_byte}
 use Rattle.jvm_heap.proofs.HeapLaws.{heap_put_int}
 use Rattle.jvm_heap.proofs.SafetyLaws.{safe_put}
 use Rattle.jvm_heap.proofs.heap.HeapView.put.Goals as goal

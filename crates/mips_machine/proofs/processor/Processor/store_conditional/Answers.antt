@@ -1,6 +1,6 @@
-use Rattle.std.proofs.Common.{◌≡◌, true, ap, sym, ◌∙◌}
+use Rattle.std.proofs.Common.{true, ap, sym, ◌∙◌}
 use Rattle.mips_decode.specs.Effect.{goes_on}
-use Rattle.mips_decode.specs.Loads.{store_aligned, store_allowed, store_conditional_to}
+use Rattle.mips_decode.specs.Loads.{store_allowed, store_conditional_to}
 use Rattle.mips_decode.specs.State.{State}
 use Rattle.mips_decode.specs.declared.names.store_name.StoreName.TheVariants.{Sw}
 use Rattle.mips_machine.specs.Processor.{processor_state}

@@ -1,7 +1,7 @@
 use Rattle.std.proofs.Common.{arith}
 use Rattle.constant_pool.specs.declared.entry.Entry.TheVariants.{FieldRef}
+use Rattle.guest_layout.specs.Fields.{field_name, field_descriptor}
 use Rattle.code_assembly.proofs.Pools.{extends-further}
-use Rattle.class_members.specs.Fields.{field_name, field_descriptor}
 use Rattle.program_classes.proofs.ProgramNames.NamedLemmas.{class-later, members-later, host-later, strings-later, grown-further}
 use Rattle.program_classes.specs.Mentioned.{field_mentions, host_mentions, string_mentions}
 use Rattle.program_classes.proofs.ProgramNames.MentionLemmas.{mentions-all}

@@ -1,4 +1,0 @@
-pub mod ClassNames
-pub mod Fields
-pub mod Helpers
-pub mod Numbers

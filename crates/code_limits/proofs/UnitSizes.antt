@@ -1,0 +1,78 @@
+-- The code of each unit and the way from it keep to their bytes.
+use Rattle.std.proofs.Common.{ℕ, ◌≤◌, ◌||◌, if◌then◌else◌, [], ◌∷◌, Option, arith}
+use Rattle.mips_decode.specs.Effect.{fetch_fault, branch_in_slot_fault}
+use Rattle.mips_decode.specs.Targets.{branch_target, jump_target}
+use Rattle.mips_decode.specs.declared.inst.Inst.{Inst}
+use Rattle.mips_decode.specs.declared.inst.Inst.TheVariants as inst
+use Rattle.delay_slots.specs.declared.unit.Unit.{Unit}
+use Rattle.delay_slots.specs.declared.unit.Unit.TheVariants.{Plain, Branch, SlotMissing, SlotIsBranch, Call, Trap}
+use Rattle.jvm_names.specs.declared.branch_name.BranchName.TheVariants.{IfIcmpne}
+use Rattle.jvm_program.specs.declared.local_kind.LocalKind.TheVariants as local_kinds
+use Rattle.jvm_program.specs.declared.instruction.Instruction.TheVariants.{Load}
+use Rattle.code_steps.specs.declared.step.Step.TheVariants.{Does, Skips, Leaves}
+use Rattle.code_steps.specs.Widths.{width, size}
+use Rattle.guest_layout.specs.FieldNumbers.{pc_field}
+use Rattle.guest_code.specs.Access.{push_word, put_field}
+use Rattle.guest_code.specs.Branching.{behind_slot}
+use Rattle.guest_code.specs.Faulting.{fault_code}
+use Rattle.guest_code.specs.Units.{instruction_code, unit_code, next_address}
+use Rattle.word_emitter.specs.declared.extent.Extent.{Extent}
+use Rattle.word_emitter.specs.Pieces.{is_likely}
+use Rattle.word_emitter.specs.Exits.{has, follows, returns, arrive, last_way, two_ways, branch_exit, passing_exit, next_exit, exit_code}
+use Rattle.code_limits.specs.Weights.{unit_bytes, exit_bytes, branch_exit_bytes}
+use Rattle.code_limits.proofs.StepSizes.{code-either, step-either, word-bytes}
+use Rattle.code_limits.proofs.InstructionSizes.{fault-size, call-size, instruction-size}
+use Rattle.code_limits.proofs.TransferSizes.{transfer-size}
+
+pub unit-size : (bank : ℕ) (unit : Unit) (at : ℕ) → size (unit_code bank unit at) ≤ unit_bytes unit
+unit-size bank (Plain i) at = instruction-size bank i at
+unit-size bank (Branch i slot) at =
+    omega (arith, transfer-size bank i at (instruction_code bank slot (next_address at)), instruction-size bank slot (next_address at))
+unit-size bank (SlotMissing i) at =
+    let fault = fault_code fetch_fault (next_address at) (next_address at) in
+    omega (arith, transfer-size bank i at fault, fault-size fetch_fault (next_address at) (next_address at))
+unit-size bank (SlotIsBranch i word) at =
+    let fault = fault_code branch_in_slot_fault (next_address at) word in
+    omega (arith, transfer-size bank i at fault, fault-size branch_in_slot_fault (next_address at) word)
+unit-size bank Call at = call-size bank
+unit-size bank (Trap kind value) at = fault-size kind at value
+
+-- ---- ways
+
+arrive-bytes : (span : Extent) (goal : ℕ) → width (arrive span goal) ≤ 5
+arrive-bytes span goal = step-either (has span goal) (Leaves goal) returns 5 (omega arith) (omega arith)
+
+last-size : (span : Extent) (behind : Option ℕ) (goal : ℕ) → size (last_way span behind goal) ≤ 5
+last-size span behind goal =
+    code-either (follows behind goal) [] (arrive span goal ∷ []) 5 (omega arith) (omega (arith, arrive-bytes span goal))
+
+two-size : (span : Extent) (behind : Option ℕ) (first second : ℕ) → size (two_ways span behind first second) ≤ 17
+two-size span behind first second =
+    let looks = Does (Load local_kinds.Int 0) ∷ push_word first ∷ Skips IfIcmpne 1 ∷ arrive span first ∷ last_way span behind second in
+    let a : size looks ≤ 17 = omega (arith, word-bytes first, arrive-bytes span first, last-size span behind second) in
+    code-either (has span first || has span second) looks (returns ∷ []) 17 a (omega arith)
+
+branch-exit-size : (span : Extent) (behind : Option ℕ) (i : Inst) (at : ℕ) → size (branch_exit span behind i at) ≤ branch_exit_bytes i
+branch-exit-size span behind (inst.BranchSign name rs imm) at = two-size span behind (branch_target at imm) (behind_slot at)
+branch-exit-size span behind (inst.BranchEqual name rs rt imm) at = two-size span behind (branch_target at imm) (behind_slot at)
+branch-exit-size span behind (inst.BranchZero name rs imm) at = two-size span behind (branch_target at imm) (behind_slot at)
+branch-exit-size span behind (inst.Jump name index) at = last-size span behind (jump_target at index)
+branch-exit-size span behind other at = omega arith
+
+passing-size : (span : Extent) (behind : Option ℕ) (i : Inst) (at : ℕ) → size (passing_exit span behind i at) ≤ 5
+passing-size span behind i at =
+    code-either (is_likely i) (last_way span behind (behind_slot at)) (returns ∷ []) 5 (last-size span behind (behind_slot at)) (omega arith)
+
+next-size : (span : Extent) (behind : Option ℕ) (next : ℕ) → size (next_exit span behind next) ≤ 7
+next-size span behind next =
+    let out = push_word next ∷ put_field pc_field ∷ returns ∷ [] in
+    code-either (follows behind next) [] (if has span next then Leaves next ∷ [] else out) 7 (omega arith)
+    (code-either (has span next) (Leaves next ∷ []) out 7 (omega arith) (omega (arith, word-bytes next)))
+
+pub exit-size : (span : Extent) (behind : Option ℕ) (unit : Unit) (at : ℕ) → size (exit_code span behind unit at) ≤ exit_bytes unit
+exit-size span behind (Plain i) at = next-size span behind (next_address at)
+exit-size span behind (Branch i slot) at = branch-exit-size span behind i at
+exit-size span behind (SlotMissing i) at = passing-size span behind i at
+exit-size span behind (SlotIsBranch i word) at = passing-size span behind i at
+exit-size span behind Call at = next-size span behind (next_address at)
+exit-size span behind (Trap kind value) at = omega arith

@@ -1,0 +1,14 @@
+use Rattle.std.proofs.Common.{◌≤◌, subst, sym}
+use Rattle.delay_slots.specs.Units.{units_of}
+use Rattle.code_types.proofs.TypedSpans.Whole.{PartLaws, span-typed, units-length}
+use Rattle.code_types.proofs.typed_spans.spans_are_typed.Goals as goal
+
+pub returns : goal.returns
+returns c program words leads span helpers are_words no_float within =
+    let laws : PartLaws = record {
+      warm = c.parts_of_spans_are_typed.ensures.warm;
+      cold = c.parts_of_spans_are_typed.ensures.cold;
+      keep = c.words_keep_to_their_span.ensures;
+    } in
+    span-typed laws program helpers (units_of words) (c.units_are_lawful.ensures.all words are_words no_float) leads span
+    (subst (λ n. span.end ≤ n) (sym (units-length words)) within)

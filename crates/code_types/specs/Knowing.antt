@@ -1,0 +1,117 @@
+-- The types of code over a bank of registers, by which of them are known.
+use Rattle.std.specs.Prelude.{◌≡◌, ℕ, ◌==◌, ◌<◌, Bool, true, ◌&&◌, ◌||◌, nat_lt, if◌then◌else◌, List, [], ◌∷◌, ◌++◌, Option, All}
+use Rattle.mips_decode.specs.declared.inst.Inst.{Inst}
+use Rattle.delay_slots.specs.declared.unit.Unit.{Unit}
+use Rattle.delay_slots.specs.declared.unit.Unit.TheVariants as units
+use Rattle.block_builder.specs.Registers.{read_by, written_by, unit_writes}
+use Rattle.jvm_program.specs.declared.kind.Kind.{Kind}
+use Rattle.jvm_program.specs.declared.kind.Kind.TheVariants.{Top, Int}
+use Rattle.jvm_program.specs.Program.{Program}
+use Rattle.jvm_program.specs.Typing.{TypeFrame}
+use Rattle.guest_code.specs.Access.{keeps}
+use Rattle.guest_code.specs.Units.{instruction_code, unit_code}
+use Rattle.word_emitter.specs.declared.extent.Extent.{Extent}
+use Rattle.word_emitter.specs.Pieces.{warm_code}
+use Rattle.word_emitter.specs.Exits.{has, exit_code}
+use Rattle.lawful_units.specs.Knowing.{AreKnown, gained}
+use Rattle.lawful_units.specs.Lawful.{IsLawful, KnownByUnit}
+use Rattle.guest_follows.specs.Helpers.{helper_parameters, helper_count}
+use Rattle.code_types.specs.Judging.{Rules, TakesGives, Leads, Meets}
+
+-- Registers that are known and kept in local variables are ints there. Local variable 0, where the goal of a branch is put, has a type of
+-- its own.
+abbrev pub knowing : ℕ → (ℕ → Bool) → Kind → TypeFrame
+knowing bank known goal =
+    record {
+      locals = λ k. if k == 0 then goal else if keeps bank k && known k then Int
+          else Top;
+      stack = [];
+    }
+
+-- the helpers that load or store conditionally give an int, and so does the method that ends the run for them
+abbrev pub helper_gives : ℕ → Bool
+helper_gives number = nat_lt number 7 || number == 16 || number == 17 || number == 18
+
+-- the first methods of a program take and give what helpers do
+abbrev pub HelperTypes : Program → Type 0
+HelperTypes program = (number : ℕ) → number < helper_count
+    → TakesGives program number (helper_parameters number) (helper_gives number)
+
+-- The code of an instruction is typed: what it reads is known before, and what it writes behind it. The goal of a branch is left alone.
+abbrev pub InstructionTyped : Inst → Type 0
+InstructionTyped i =
+    (rules : Rules) (bank : ℕ) (known : ℕ → Bool) (goal : Kind) (at : ℕ)
+    → HelperTypes rules.program
+    → AreKnown known (read_by i)
+    → Leads rules (instruction_code bank i at) (knowing bank known goal)
+    (knowing bank (gained (written_by i) known) goal)
+
+-- ---- units
+
+-- behind a branch or jump the goal is in local variable 0
+abbrev pub goal_behind : Unit → Kind → Kind
+goal_behind (units.Branch i slot) goal = Int
+goal_behind (units.SlotMissing i) goal = Int
+goal_behind (units.SlotIsBranch i word) goal = Int
+goal_behind unit goal = goal
+
+-- The code of a unit is typed in the same way.
+abbrev pub UnitTyped : Unit → Type 0
+UnitTyped unit =
+    (rules : Rules) (bank : ℕ) (known : ℕ → Bool) (goal : Kind) (at : ℕ)
+    → HelperTypes rules.program
+    → IsLawful unit
+    → KnownByUnit known unit
+    → Leads rules (unit_code bank unit at) (knowing bank known goal)
+    (knowing bank (gained (unit_writes unit) known) (goal_behind unit goal))
+
+-- the same behind units that are done one after the other
+abbrev pub goal_after : List Unit → Kind → Kind
+goal_after [] goal = goal
+goal_after (unit ∷ units) goal = goal_after units (goal_behind unit goal)
+
+-- ---- pieces and exits
+
+-- nothing is known of local variables
+abbrev pub unknown : TypeFrame
+unknown = record { locals = λ k. Top; stack = [] }
+
+-- nothing but the goal
+abbrev pub with_goal : Kind → TypeFrame
+with_goal goal = record { locals = λ k. if k == 0 then goal else Top; stack = [] }
+
+-- the code of each word of a span may be gone to where nothing is known
+abbrev pub Opens : Rules → Extent → Type 0
+Opens rules span = (at : ℕ) → has span at ≡ true → Meets unknown (rules.owes at)
+
+-- The code of a piece over local variables is typed, and so is that of a unit over fields alone.
+abbrev pub PieceTyped : List Unit → Type 0
+PieceTyped units =
+    (rules : Rules) (at : ℕ) → HelperTypes rules.program → All IsLawful units
+    → Leads rules (warm_code units at) unknown (with_goal (goal_after units Top))
+
+abbrev pub WordTyped : Unit → Type 0
+WordTyped unit =
+    (rules : Rules) (at : ℕ) → HelperTypes rules.program → IsLawful unit
+    → Leads rules (unit_code 0 unit at) unknown (with_goal (goal_behind unit Top))
+
+-- The exit behind a unit is typed.
+abbrev pub ExitTyped : Unit → Type 0
+ExitTyped unit =
+    (rules : Rules) (span : Extent) (behind : Option ℕ) (at : ℕ) (goal : Kind) → Opens rules span
+    → Leads rules (exit_code span behind unit at) (with_goal (goal_behind unit goal)) unknown
+
+-- A piece with the exit behind its last unit is typed, and so is a unit over fields alone with its exit: nothing is known before and behind.
+abbrev pub WarmPartTyped : List Unit → Unit → Type 0
+WarmPartTyped units last =
+    (rules : Rules) (at : ℕ) (span : Extent) (behind : Option ℕ) (place : ℕ)
+    → HelperTypes rules.program → All IsLawful (units ++ last ∷ [])
+    → Opens rules span
+    → Leads rules (warm_code (units ++ last ∷ []) at
+    ++ exit_code span behind last place) unknown unknown
+
+abbrev pub ColdPartTyped : Unit → Type 0
+ColdPartTyped unit =
+    (rules : Rules) (at : ℕ) (span : Extent) (behind : Option ℕ) → HelperTypes rules.program
+    → IsLawful unit → Opens rules span
+    → Leads rules (unit_code 0 unit at ++ exit_code span behind unit at) unknown unknown

@@ -1,0 +1,96 @@
+-- The bodies of methods that are typed, by what they take.
+use Rattle.std.specs.Prelude.{◌≡◌, ℕ, ◌==◌, ◌<◌, true, false, if◌then◌else◌, List, [], ◌∷◌, Option, Some, None, All, slice_index_or}
+use Rattle.nv_words.specs.declared.order.Order.{Order}
+use Rattle.jvm_program.specs.declared.kind.Kind.{Kind}
+use Rattle.jvm_program.specs.declared.kind.Kind.TheVariants.{Top, Int, Ints, Text}
+use Rattle.jvm_program.specs.Program.{Program}
+use Rattle.jvm_program.specs.Typing.{TypeFrame, with_local_kind}
+use Rattle.code_steps.specs.declared.step.Step.{Step}
+use Rattle.mem_helpers.specs.Methods.{helper_code}
+use Rattle.trampoline.specs.declared.start.Start.{Start}
+use Rattle.trampoline.specs.Choosers.{class_chooser, main_chooser}
+use Rattle.loading_code.specs.declared.beginning.Beginning.{Beginning}
+use Rattle.loading_code.specs.declared.page_slot.PageSlot.{PageSlot}
+use Rattle.loading_code.specs.Words.{words_offset}
+use Rattle.loading_code.specs.Pages.{runs_offset, pages_offset}
+use Rattle.loading_code.specs.Filling.{fill_code}
+use Rattle.loading_code.specs.Starting.{run_code}
+use Rattle.guest_follows.specs.Helpers.{helper_parameters, helper_count}
+use Rattle.code_types.specs.Judging.{TakesGives}
+use Rattle.code_types.specs.Bodies.{BodyTypes, all_names_below}
+use Rattle.code_types.specs.Knowing.{HelperTypes}
+
+-- the frame with which a method of such parameters is entered
+abbrev pub taking : List Kind → TypeFrame
+taking parameters = record { locals = λ i. slice_index_or parameters i Top; stack = [] }
+
+-- A body with such parameters and so many local variables is typed, and leaves to offsets as is owed there.
+pub record IsBody (program : Program) (owes : ℕ → Option TypeFrame) (parameters : List Kind)
+    (locals : ℕ) (code : List Step) : Type 0 where
+  pub names : all_names_below locals code ≡ true
+  pub types : BodyTypes (record { program = program; owes = owes }) code (taking parameters)
+
+-- a body that leaves to no offset
+abbrev pub owes_nothing : ℕ → Option TypeFrame
+owes_nothing at = None
+
+-- a body that is begun anew
+abbrev pub owes_beginning : ℕ → Option TypeFrame
+owes_beginning at = if at == 0 then Some (taking []) else None
+
+-- ---- helpers
+
+abbrev pub HelpersTyped : Order → Type 0
+HelpersTyped order =
+    (program : Program) → HelperTypes program → (number : ℕ) → number < helper_count
+    → IsBody program owes_nothing (helper_parameters number) 4 (helper_code order number)
+
+-- ---- methods that choose
+
+-- the method of a part of the code takes and gives nothing
+abbrev pub IsStart : Program → Start → Type 0
+IsStart program start = TakesGives program start.method [] false
+
+abbrev pub MainChooserTyped : Program → Type 0
+MainChooserTyped program =
+    (starts : List Start) (missing : ℕ) → TakesGives program missing [] false
+    → All (IsStart program) starts
+    → IsBody program owes_beginning [] 1 (main_chooser starts missing)
+
+abbrev pub ClassChooserTyped : Program → Type 0
+ClassChooserTyped program =
+    (starts : List Start) (first end : ℕ) → All (IsStart program) starts
+    → IsBody program owes_beginning [] 1 (class_chooser starts first end)
+
+-- ---- methods that make the memory
+
+-- the loop over the words of a text: the word's number and the place are in local variables
+abbrev pub in_words : TypeFrame
+in_words = with_local_kind (with_local_kind (taking (Ints ∷ Text ∷ [])) 2 Int []) 3 Int []
+
+abbrev pub owes_words : ℕ → Option TypeFrame
+owes_words at = if at == words_offset then Some in_words else None
+
+-- the loops over the runs of pages and over a run's pages
+abbrev pub in_runs : TypeFrame
+in_runs = with_local_kind (taking (Text ∷ [])) 1 Int []
+
+abbrev pub in_pages : TypeFrame
+in_pages = with_local_kind (with_local_kind (with_local_kind in_runs 2 Int []) 3 Int []) 4 Int []
+
+abbrev pub owes_pages : ℕ → Option TypeFrame
+owes_pages at = if at == runs_offset then Some in_runs else if at == pages_offset then Some in_pages
+    else None
+
+abbrev pub FillTyped : Program → Type 0
+FillTyped program =
+    (slots : List PageSlot) (class words : ℕ) → TakesGives program words (Ints ∷ Text ∷ []) false
+    → IsBody program owes_nothing [] 0 (fill_code slots class words)
+
+abbrev pub RunTyped : Program → Type 0
+RunTyped program =
+    (b : Beginning) (page_texts : List ℕ) (class pages : ℕ) (fills : List ℕ) (choose : ℕ)
+    → TakesGives program pages (Text ∷ []) false
+    → All (λ m. TakesGives program m [] false) fills
+    → TakesGives program choose [] false
+    → IsBody program owes_nothing [] 0 (run_code b page_texts class pages fills choose)

@@ -1,0 +1,25 @@
+-- The method of a span as a body that is typed.
+use Rattle.std.specs.Prelude.{ℕ, ◌==◌, Bool, if◌then◌else◌, List, [], ◌∷◌, Option, Some, None}
+use Rattle.std.specs.List.{list_any}
+use Rattle.delay_slots.specs.declared.unit.Unit.{Unit}
+use Rattle.jvm_program.specs.Program.{Program}
+use Rattle.jvm_program.specs.Typing.{TypeFrame}
+use Rattle.span_code.specs.declared.span_words.SpanWords.{SpanWords}
+use Rattle.span_code.specs.Laying.{targets_of, return_offset, span_code}
+use Rattle.span_code.specs.Locals.{locals_of}
+use Rattle.code_types.specs.Knowing.{unknown}
+use Rattle.code_types.specs.Methods.{IsBody}
+
+-- the offsets to which the switch of a span goes, and all code behind it: those of the codes of the words, and that of the return
+abbrev pub goals_of : List Unit → (ℕ → Bool) → SpanWords → List ℕ
+goals_of units leads span = return_offset units leads span ∷ targets_of units leads span
+
+-- at such offsets there are no operands, and nothing is known of local variables
+abbrev pub owes_unknown : List ℕ → ℕ → Option TypeFrame
+owes_unknown goals at = if list_any (λ goal. goal == at) goals then Some unknown else None
+
+-- The method of a span, of no parameters and with as many local variables as its code names, is typed.
+abbrev pub SpanTyped : Program → List Unit → (ℕ → Bool) → SpanWords → Type 0
+SpanTyped program units leads span =
+    IsBody program (owes_unknown (goals_of units leads span)) []
+    (locals_of (span_code units leads span)) (span_code units leads span)

@@ -1,0 +1,48 @@
+//! What holds of code that is typed. Each call here does nothing: its contract is the law.
+
+ghost use Rattle.std.specs.Prelude.{◌≡◌, List, false};
+ghost use Rattle.mips_decode.specs.declared.inst.Inst.{Inst};
+ghost use Rattle.delay_slots.specs.declared.unit.Unit.{Unit};
+ghost use Rattle.delay_slots.specs.Units.{is_branch};
+ghost use Rattle.code_types.specs.Knowing.{ColdPartTyped, ExitTyped, InstructionTyped, PieceTyped, UnitTyped, WarmPartTyped, WordTyped};
+
+use lawful_units::laws::{
+    gained_is_membership, is_in_is_membership, needed_is_known, units_are_lawful,
+};
+
+/// The code of an instruction that is no branch and no jump is typed.
+pub fn instructions_are_typed()
+    ensures { (i : Inst) → is_branch i ≡ false → InstructionTyped i }
+{}
+
+/// The code of a unit is typed, a branch with the code of its delay slot too.
+pub fn units_are_typed()
+    ensures { (unit : Unit) → UnitTyped unit }
+{}
+
+/// The code of a piece is typed, from where nothing is known of local variables to where no more than the goal is.
+pub fn pieces_are_typed()
+    ensures pieces { (units : List Unit) → PieceTyped units }
+    ensures words { (unit : Unit) → WordTyped unit }
+{
+    units_are_lawful();
+    is_in_is_membership();
+    gained_is_membership();
+    needed_is_known();
+}
+
+/// The exit behind a unit is typed.
+pub fn exits_are_typed()
+    ensures { (unit : Unit) → ExitTyped unit }
+{}
+
+/// The parts of a span are typed: pieces with their exits, and words over fields with theirs.
+pub fn parts_of_spans_are_typed()
+    ensures warm { (units : List Unit) (last : Unit) → WarmPartTyped units last }
+    ensures cold { (unit : Unit) → ColdPartTyped unit }
+{
+    units_are_lawful();
+    is_in_is_membership();
+    gained_is_membership();
+    needed_is_known();
+}

@@ -1,0 +1,33 @@
+ghost use Rattle.std.specs.Prelude.{◌≤◌};
+ghost use Rattle.command_words.specs.Limits.{AreFileNames};
+ghost use Rattle.command_deeds.specs.Ends.{ByFiles, Ends};
+ghost use Rattle.command_deeds.specs.Runs.{plan_of};
+ghost use Rattle.command_guest.specs.Classes.{IsDueOfRun};
+
+use crate::accepting::accept;
+use command_deeds::{Done, Ending, Launch, Outside, play_session};
+use command_words::Named;
+use jvm_machine::Jvm;
+use nv_outside::{Shelf, Sink, Source};
+use std::alloc::Global;
+
+/// Loads the set of a class, links it and verifies it, runs it in a region of so many words, and keeps files.
+pub fn run<H: Shelf, S: Source, O: Sink, E: Sink>(
+    alloc: Global,
+    name: &Named,
+    words: u32,
+    launch: &Launch<'_>,
+    outside: &mut Outside<'_, H, S, O, E>,
+) -> Result<Done, Ending>
+    requires some { 1 ≤ words }
+    requires few { words ≤ 68288580 }
+    requires disk { launch.now.session.now.disk ≤ 65536 }
+    requires names { AreFileNames launch.now.session.now.with.names }
+    ensures ends { Ends H.Shelf S.Source O.Sink E.Sink
+        (ByFiles (IsDueOfRun name.now words (plan_of launch.now)))
+        outside.old outside.new result }
+{
+    let verified = accept(alloc, name, outside.shelf)?;
+    let jvm = Jvm::load(alloc, verified, u64::from(words))?;
+    play_session(alloc, launch, jvm, outside)
+}

@@ -1,0 +1,42 @@
+-- When the code of an instruction follows it.
+use Rattle.std.specs.Prelude.{◌≡◌, ℕ, ◌+◌, ◌<◌, ◌≤◌, Bool, length}
+use Rattle.nv_words.specs.declared.order.Order.{Order}
+use Rattle.mips_decode.specs.State.{State}
+use Rattle.mips_decode.specs.declared.inst.Inst.{Inst}
+use Rattle.delay_slots.specs.Turns.{done}
+use Rattle.block_builder.specs.Registers.{read_by, written_by}
+use Rattle.jvm_program.specs.Effect.{Workspace}
+use Rattle.code_steps.specs.Widths.{size}
+use Rattle.code_steps.specs.Placing.{LiesAt}
+use Rattle.guest_code.specs.Units.{instruction_code}
+use Rattle.lawful_units.specs.Knowing.{AreKnown, HasFields}
+use Rattle.guest_follows.specs.Helpers.{HasHelpers, helper_count}
+use Rattle.guest_follows.specs.Holding.{HoldsOn}
+use Rattle.guest_follows.specs.Sites.{Site, stands, whole_weight}
+use Rattle.guest_follows.specs.Following.{Follows}
+use Rattle.guest_follows.specs.Behind.{IsDone}
+
+-- A site in a program that has the helper methods for an order of bytes: its method is none of them, and they find room for their frames.
+pub record IsReady (site : Site) (order : Order) : Type 0 where
+  pub helpers : HasHelpers site.program order
+  pub no_helper : helper_count ≤ site.method
+  pub few : length site.others < 62
+
+-- at most so many turns for an instruction alone or in a delay slot, those of the methods that it calls included
+abbrev pub most_turns : ℕ
+most_turns = 132
+
+-- The code of an instruction that is no branch follows it, wherever the code lies, alone or in a delay slot, from each workspace that holds the
+-- state and knows what the instruction reads.
+abbrev pub InstructionFollows : Inst → Type 0
+InstructionFollows i =
+    (site : Site) (order : Order) (bank : ℕ) (known : ℕ → Bool) (at : ℕ) (w : Workspace) (s : State)
+    → IsReady site order
+    → s.order ≡ order
+    → LiesAt site.program site.method at (instruction_code bank i s.pc)
+    → HasFields i
+    → AreKnown known (read_by i)
+    → HoldsOn bank known w s
+    → Follows site at (at + size (instruction_code bank i s.pc)) 1 most_turns
+    (whole_weight order (instruction_code bank i s.pc)) (IsDone bank known (written_by i) w)
+    (stands site at w) (done i s)

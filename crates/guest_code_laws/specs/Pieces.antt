@@ -1,0 +1,81 @@
+-- When the code of a piece follows the turns of the piece's units.
+use Rattle.std.specs.Prelude.{◌≡◌, ℕ, ◌+◌, ◌*◌, ◌^◌, ◌<◌, Bool, true, not, ◌||◌, List, [], ◌∷◌, length, None, ⊤}
+use Rattle.nv_words.specs.declared.order.Order.{Order}
+use Rattle.nv_events.specs.Turn.{Turn, moves}
+use Rattle.mips_decode.specs.State.{State}
+use Rattle.delay_slots.specs.declared.unit.Unit.{Unit}
+use Rattle.delay_slots.specs.declared.unit.Unit.TheVariants as units
+use Rattle.delay_slots.specs.Turns.{unit_turns, turn_count, last_turn}
+use Rattle.block_builder.specs.Leaders.{is_plain}
+use Rattle.jvm_program.specs.declared.value.Value.TheVariants.{Int as int}
+use Rattle.jvm_program.specs.Effect.{Workspace}
+use Rattle.code_steps.specs.Widths.{size}
+use Rattle.code_steps.specs.Placing.{LiesAt}
+use Rattle.guest_layout.specs.FieldNumbers.{pc_field}
+use Rattle.guest_code.specs.Access.{keeps}
+use Rattle.word_emitter.specs.Pieces.{bank_of, is_needed, warm_code}
+use Rattle.guest_follows.specs.Holding.{HoldsOn, KeepsGoal}
+use Rattle.guest_follows.specs.Sites.{Site, stands, whole_weight}
+use Rattle.guest_follows.specs.Following.{Follows}
+use Rattle.guest_code_laws.specs.Instructions.{IsReady}
+
+-- ---- the turns of units that are done one after the other
+
+-- so many turns of which this is the last, and where it moves, those that follow
+abbrev pub then_turns : ℕ → Turn State → (State → ℕ × Turn State) → ℕ × Turn State
+then_turns n (moves t) rest = (n + (rest t).0, (rest t).1)
+then_turns n last rest = (n, last)
+
+-- how many turns the units have from a state, and the last of them
+abbrev pub piece_turns : List Unit → State → ℕ × Turn State
+piece_turns [] x = (0, moves x)
+piece_turns (unit ∷ units) x =
+    then_turns (turn_count (unit_turns unit x)) (last_turn (unit_turns unit x)) (piece_turns units)
+
+-- each unit but the last is Plain
+abbrev pub AreStraight : List Unit → Type 0
+AreStraight [] = ⊤
+AreStraight (unit ∷ []) = ⊤
+AreStraight (unit ∷ units) = (is_plain unit ≡ true) × AreStraight units
+
+-- the registers that are known once those are fetched that a piece needs: all but those that are in its bank alone
+abbrev pub known_first : List Unit → ℕ → Bool
+known_first piece r = not (keeps (bank_of piece) r) || is_needed piece r
+
+-- ---- the law
+
+-- no register is in a local variable, and each is known
+abbrev pub HoldsAll : Workspace → State → Type 0
+HoldsAll w s = HoldsOn 0 (λ r. true) w s
+
+-- behind a branch or jump field pc and local variable 0 say where the guest is; another unit leaves them alone
+abbrev pub UnitGoal : Unit → Workspace → Workspace → State → Type 0
+UnitGoal (units.Plain i) before after t = KeepsGoal before after
+UnitGoal units.Call before after t = KeepsGoal before after
+UnitGoal unit before after t = (after.fields pc_field ≡ int t.pc) × (after.locals 0 ≡ int t.pc)
+
+abbrev pub PieceGoal : List Unit → Workspace → Workspace → State → Type 0
+PieceGoal [] before after t = KeepsGoal before after
+PieceGoal (unit ∷ []) before after t = UnitGoal unit before after t
+PieceGoal (unit ∷ units) before after t = PieceGoal units before after t
+
+-- Where the code of a piece has come to its end.
+pub record PieceArrives (piece : List Unit) (before after : Workspace) (t : State) : Type 0 where
+  pub held : HoldsAll after t
+  pub operands_kept : after.operands ≡ before.operands
+  pub goal : PieceGoal piece before after t
+
+-- The code of a piece of units follows all their turns, wherever it lies, from each workspace that holds the state: with at least as many turns as
+-- the guest, and at most 256 for each of them.
+abbrev pub PieceFollows : List Unit → Type 0
+PieceFollows piece =
+    (site : Site) (order : Order) (at : ℕ) (w : Workspace) (x : State)
+    → IsReady site order
+    → x.order ≡ order
+    → x.pending ≡ None
+    → x.pc + 4 * length piece < 2 ^ 32
+    → LiesAt site.program site.method at (warm_code piece x.pc)
+    → HoldsAll w x
+    → Follows site at (at + size (warm_code piece x.pc)) (piece_turns piece x).0
+    (256 * (piece_turns piece x).0) (whole_weight order (warm_code piece x.pc))
+    (PieceArrives piece w) (stands site at w) (piece_turns piece x).1

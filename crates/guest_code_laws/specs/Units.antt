@@ -1,0 +1,49 @@
+-- When the code of a unit follows the unit's turns.
+use Rattle.std.specs.Prelude.{◌≡◌, ℕ, ◌+◌, ◌*◌, Bool}
+use Rattle.nv_words.specs.declared.order.Order.{Order}
+use Rattle.mips_decode.specs.State.{State}
+use Rattle.mips_decode.specs.declared.inst.Inst.{Inst}
+use Rattle.delay_slots.specs.declared.unit.Unit.{Unit}
+use Rattle.delay_slots.specs.declared.unit.Unit.TheVariants.{Branch, SlotMissing, SlotIsBranch}
+use Rattle.delay_slots.specs.Turns.{unit_turns, turn_count, last_turn}
+use Rattle.block_builder.specs.Registers.{unit_writes}
+use Rattle.jvm_program.specs.Effect.{Workspace}
+use Rattle.code_steps.specs.Widths.{size}
+use Rattle.code_steps.specs.Placing.{LiesAt}
+use Rattle.guest_code.specs.Units.{unit_code}
+use Rattle.lawful_units.specs.Lawful.{IsInstruction, KnownByUnit}
+use Rattle.guest_follows.specs.Holding.{HoldsOn}
+use Rattle.guest_follows.specs.Sites.{Site, stands, whole_weight}
+use Rattle.guest_follows.specs.Following.{Follows}
+use Rattle.guest_follows.specs.Behind.{IsDone, HasGone}
+use Rattle.guest_code_laws.specs.Instructions.{IsReady, InstructionFollows}
+
+-- ---- the law
+
+-- where the code of a unit has come to its end
+abbrev pub UnitArrives : ℕ → (ℕ → Bool) → Unit → Workspace → Workspace → State → Type 0
+UnitArrives bank known (Branch i slot) before after t =
+    HasGone bank known (unit_writes (Branch i slot)) before after t
+UnitArrives bank known (SlotMissing i) before after t =
+    HasGone bank known (unit_writes (SlotMissing i)) before after t
+UnitArrives bank known (SlotIsBranch i word) before after t =
+    HasGone bank known (unit_writes (SlotIsBranch i word)) before after t
+UnitArrives bank known unit before after t = IsDone bank known (unit_writes unit) before after t
+
+-- every instruction that can stand alone or in a delay slot is followed by its code
+abbrev pub AllFollow : Type 0
+AllFollow = (i : Inst) → IsInstruction i → InstructionFollows i
+
+-- The code of a unit follows the unit's turns, wherever the code lies, from each workspace that holds the state: with at least as many turns as
+-- the guest, and at most 132 for each of them.
+abbrev pub UnitFollows : Unit → Type 0
+UnitFollows unit =
+    (site : Site) (order : Order) (bank : ℕ) (known : ℕ → Bool) (at : ℕ) (w : Workspace) (x : State)
+    → IsReady site order
+    → x.order ≡ order
+    → LiesAt site.program site.method at (unit_code bank unit x.pc)
+    → KnownByUnit known unit
+    → HoldsOn bank known w x
+    → Follows site at (at + size (unit_code bank unit x.pc)) (turn_count (unit_turns unit x))
+    (132 * turn_count (unit_turns unit x)) (whole_weight order (unit_code bank unit x.pc))
+    (UnitArrives bank known unit w) (stands site at w) (last_turn (unit_turns unit x))

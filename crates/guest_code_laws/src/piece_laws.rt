@@ -1,0 +1,28 @@
+//! What the code of pieces follows. Each call here does nothing: its contract is the law.
+
+ghost use Rattle.std.specs.Prelude.{◌≡◌, ◌≢◌, All, List, []};
+ghost use Rattle.delay_slots.specs.declared.unit.Unit.{Unit};
+ghost use Rattle.lawful_units.specs.Lawful.{IsLawful};
+ghost use Rattle.guest_code_laws.specs.Units.{AllFollow};
+ghost use Rattle.guest_code_laws.specs.Pieces.{AreStraight, PieceFollows};
+
+use crate::unit_laws::units_are_followed;
+use block_builder::instructions_keep_to_their_registers;
+use guest_follows::laws::code_is_paths;
+use lawful_units::laws::{
+    gained_is_membership, is_in_is_membership, needed_is_known, units_are_lawful,
+};
+
+/// The code of a piece, over local variables, follows the turns of its units, all but the last of which are Plain.
+pub fn pieces_are_followed()
+    ensures { AllFollow → (piece : List Unit) → piece ≢ [] → All IsLawful piece → AreStraight piece
+        → PieceFollows piece }
+{
+    code_is_paths();
+    instructions_keep_to_their_registers();
+    gained_is_membership();
+    is_in_is_membership();
+    needed_is_known();
+    units_are_lawful();
+    units_are_followed();
+}

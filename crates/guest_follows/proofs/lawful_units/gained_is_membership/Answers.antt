@@ -1,8 +1,0 @@
-use Rattle.guest_follows.proofs.LawfulUnits.Sets.{gained-append, gained-has}
-use Rattle.guest_follows.proofs.lawful_units.gained_is_membership.Goals as goal
-
-pub returns-clause-either : goal.returns-clause-either
-returns-clause-either c = gained-has
-
-pub returns-clause-joined : goal.returns-clause-joined
-returns-clause-joined c = gained-append

@@ -1,2 +1,0 @@
-pub mod Match
-pub mod Memory

@@ -1,4 +1,0 @@
-//! When arrays of the class machine hold the memory of the guest.
-#![tactic(auto)]
-
-pub mod laws;

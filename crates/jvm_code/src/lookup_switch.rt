@@ -1,9 +1,0 @@
-use crate::pair::Pair;
-use class_format::Sequence;
-
-/// `lookupswitch`: targets by their keys, which rise, and that of any other key.
-#[derive(Drop)]
-pub struct LookupSwitch {
-    pub default: u32,
-    pub pairs: Sequence<Pair>,
-}

@@ -1,0 +1,6 @@
+/// Divisions of ints.
+#[derive(Clone, Copy)]
+pub enum IntDivision {
+    Idiv,
+    Irem,
+}

@@ -1,0 +1,6 @@
+/// Divisions of longs.
+#[derive(Clone, Copy)]
+pub enum LongDivision {
+    Ldiv,
+    Lrem,
+}

@@ -1,0 +1,7 @@
+/// Shifts of a long by an int.
+#[derive(Clone, Copy)]
+pub enum LongShift {
+    Lshl,
+    Lshr,
+    Lushr,
+}

@@ -1,0 +1,6 @@
+/// Returns from a method.
+#[derive(Clone, Copy)]
+pub enum ReturnName {
+    Ireturn,
+    Return,
+}

@@ -1,3 +1,0 @@
-pub mod Workings
-pub mod Ready
-pub mod Executes

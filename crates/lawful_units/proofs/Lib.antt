@@ -1,0 +1,2 @@
+pub mod LawfulUnits
+pub mod PieceSets

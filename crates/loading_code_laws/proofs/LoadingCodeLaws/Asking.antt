@@ -1,0 +1,287 @@
+-- The loader's call, and what follows an answer.
+use Rattle.std.proofs.Common.{◌≡◌, ◌≢◌, ℕ, ◌+◌, ◌<◌, ◌==◌, nat_lt, ◌&&◌, pos, negsuc, ℤ, Bool, true, false, if◌then◌else◌, IsTrue, ◌⊎◌, inl, inr, List, [], ◌∷◌, take, drop, Option, Some, refl, ap, sym, subst, ◌∙◌, arith}
+use Rattle.std.proofs.lemmas.Bool.{ne_eqb, cases_eq}
+use Rattle.std.proofs.lemmas.Nat.Bits.{bit_at-zero}
+use Rattle.nv_words.specs.Words.{IsWord}
+use Rattle.nv_events.specs.Memory.{Memory}
+use Rattle.nv_events.specs.Question.{asked, places_of}
+use Rattle.nv_events.specs.Answer.{Answer, fits, answered}
+use Rattle.nv_events.specs.Turn.{asks}
+use Rattle.nv_events.specs.declared.call.Call.{Call}
+use Rattle.mips_decode.specs.Arithmetic.{wrapped}
+use Rattle.mips_decode.specs.Memory.{with_byte}
+use Rattle.mips_decode.specs.State as guest
+use Rattle.mips_decode.specs.State.{argument_page, stack_start}
+use Rattle.mips_decode.specs.Step.{loader_question, after_loader}
+use Rattle.jvm_program.specs.declared.instruction.Instruction.{Instruction}
+use Rattle.jvm_program.specs.declared.instruction.Instruction.TheVariants as instructions
+use Rattle.jvm_program.specs.declared.value.Value.{Value}
+use Rattle.jvm_program.specs.declared.value.Value.TheVariants.{Int as int, Array as array}
+use Rattle.jvm_program.specs.Program.{Program}
+use Rattle.jvm_program.specs.Values.{Heap}
+use Rattle.jvm_program.specs.Words as machine_words
+use Rattle.jvm_program.specs.HostMemory as host
+use Rattle.jvm_program.specs.HostMemory.{HostMemory, memory_of}
+use Rattle.jvm_program.specs.Effect.{Workspace, asks_host, enters, effect}
+use Rattle.jvm_program.specs.Step.{State, Frame, placed, turn, entered, after_host, host_question}
+use Rattle.code_steps.specs.declared.step.Step.{Step}
+use Rattle.code_steps.specs.Widths.{bytes_before}
+use Rattle.code_steps.specs.Outcomes.{beyond, stopped, outcome, outcome_from, after_instruction}
+use Rattle.code_steps.specs.Placing.{LiesAt}
+use Rattle.guest_layout.specs.FieldNumbers.{register_field, hi_field, lo_field, pc_field, readable_field, writable_field}
+use Rattle.guest_code.specs.Access.{keeps}
+use Rattle.guest_code.specs.Fields.{linked_field}
+use Rattle.loading_code.specs.declared.beginning.Beginning.{Beginning}
+use Rattle.loading_code.specs.Parts.{call}
+use Rattle.loading_code.specs.Starting.{beginning_call, begun_code}
+use Rattle.code_paths.specs.Classes.{entries}
+use Rattle.code_paths.specs.Paths.{weigh, Path, PathElsewhere}
+use Rattle.code_paths.proofs.Joining.{paths-join, turn-path, seen-elsewhere}
+use Rattle.code_paths.proofs.Weighing.{step-weighs}
+use Rattle.guest_follows.specs.Match.{HoldsMemory, host_memory}
+use Rattle.guest_follows.proofs.Patches.{HoldsMemory-answered}
+use Rattle.guest_follows.specs.Holding.{HoldsOn}
+use Rattle.loading_code_laws.specs.Leading.{Reaches, IsMethod}
+use Rattle.loading_code_laws.proofs.FillingLaws.Reading.{laters}
+use Rattle.loading_code_laws.proofs.FillingLaws.Returning.{Paths}
+use Rattle.loading_code_laws.specs.Quiet.{Quietly}
+use Rattle.loading_code_laws.specs.Made.{readable_place, writable_place, with_tables, over, start_of, CountNothing, Begins}
+use Rattle.loading_code_laws.proofs.LoadingCodeLaws.Texts.{plus-none}
+use Rattle.loading_code_laws.proofs.LoadingCodeLaws.Fills.{called}
+
+wrapped-same : (z : ℤ) → machine_words.wrapped z ≡ wrapped z
+wrapped-same (pos n) = refl
+wrapped-same (negsuc n) = refl
+
+wrapped-word : (z : ℤ) → IsWord (machine_words.wrapped z)
+wrapped-word (pos n) = omega arith
+wrapped-word (negsuc n) = omega arith
+
+-- the fields when an answer was given and the guest stands at the entry
+abbrev answered_fields : (ℕ → Value) → ℕ → ℕ → ℕ → Value
+answered_fields fields value entry = λ g.
+    if g == pc_field then int entry
+    else if g == register_field 29 then int stack_start
+    else if g == register_field 5 then int argument_page
+    else if g == register_field 4 then int value
+    else fields g
+
+-- no register is in a local variable
+none-kept : (r : ℕ) → keeps 0 r ≡ false
+none-kept r = ap (λ n. nat_lt r 32 && (n == 1)) (bit_at-zero r) ∙ both (nat_lt r 32)
+  where
+    both : (t : Bool) → (t && false) ≡ false
+    both true = refl
+    both false = refl
+
+-- the registers then
+abbrev answered_registers : ℕ → ℕ → ℕ
+answered_registers value = λ r. if r == 5 then argument_page else if r == 4 then value else if r == 29 then stack_start else 0
+
+register-is : (fields : ℕ → Value) (value entry r : ℕ) → ((f : ℕ) → f < 31 → fields f ≡ int 0) → 0 < r → r < 32 → answered_fields fields value entry (register_field r) ≡ int (answered_registers value r)
+register-is fields value entry r zeros above below = by_five (cases_eq r 5) (cases_eq r 4) (cases_eq r 29)
+  where
+    no_pc : (register_field r == pc_field) ≡ false
+    no_pc = ne_eqb (register_field r) pc_field (λ e. absurd (omega (arith, e, below)))
+
+    test : (k : ℕ) → 0 < k → (r ≡ k → ⊥) → (register_field r == register_field k) ≡ false
+    test k some ne = ne_eqb (register_field r) (register_field k) (λ e. ne (omega (arith, e, above, some)))
+
+    by_five : (r ≡ 5) ⊎ (r ≡ 5 → ⊥) → (r ≡ 4) ⊎ (r ≡ 4 → ⊥) → (r ≡ 29) ⊎ (r ≡ 29 → ⊥) → answered_fields fields value entry (register_field r) ≡ int (answered_registers value r)
+    by_five (inl e) b c =
+        subst (λ k. answered_fields fields value entry (register_field k) ≡ int (answered_registers value k)) (sym e) refl
+    by_five a (inl e) c =
+        subst (λ k. answered_fields fields value entry (register_field k) ≡ int (answered_registers value k)) (sym e) refl
+    by_five a b (inl e) =
+        subst (λ k. answered_fields fields value entry (register_field k) ≡ int (answered_registers value k)) (sym e) refl
+    by_five (inr a) (inr b) (inr c) =
+        let low : register_field r < 31 = omega (arith, below, above) in
+        simp (no_pc, test 29 (omega arith) c, test 5 (omega arith) a, test 4 (omega arith) b, ne_eqb r 5 a, ne_eqb r 4 b, ne_eqb r 29 c, zeros (register_field r) low) refl
+
+register-word : (value r : ℕ) → IsWord value → IsWord (answered_registers value r)
+register-word value r word = three (r == 5) (r == 4) (r == 29)
+  where
+    three : (a b c : Bool) → IsWord (if a then argument_page else if b then value else if c then stack_start else 0)
+    three true b c = omega arith
+    three false true c = word
+    three false false true = omega arith
+    three false false false = omega arith
+
+if-none : (b : Bool) → b ≡ false → ◌≡◌ {A = ℕ} (if b then 1 else 0) 0
+if-none false e = refl
+if-none true e = cc
+
+module _ (paths : Paths) (program : Program) (words own m choose : ℕ) (differ : own ≢ m) (choose_is : IsMethod program choose []) (b : Beginning) (memory : Memory) (code : ℕ → Option ℕ) (locals fields : ℕ → Value) (zeros : (f : ℕ) → f < 34 → fields f ≡ int 0) (unlinked : fields linked_field ≡ int 0) (heap : Heap) (held : HoldsMemory heap readable_place writable_place memory) (at : ℕ) (lies : LiesAt program own at (begun_code b choose)) where
+  abbrev steps : List Step
+  steps = begun_code b choose
+
+  abbrev given_fields : ℕ → Value
+  given_fields = with_tables fields
+
+  abbrev begin : Workspace
+  begin = over locals [] given_fields heap
+
+  abbrev c : Call
+  c = beginning_call b
+
+  abbrev s : guest.State
+  s = start_of b memory code
+
+  abbrev asking : Workspace
+  asking = over locals (int c.a3 ∷ int c.a2 ∷ int c.a1 ∷ int c.a0 ∷ int 0 ∷ array writable_place ∷ array readable_place ∷ []) given_fields heap
+
+  abbrev seen : HostMemory
+  seen = host_memory heap readable_place writable_place
+
+  host-effect : effect program words instructions.CallHost asking ≡ asks_host c (Some readable_place) (Some writable_place) begin
+  host-effect = simp (held.readable_there, held.writable_there) refl
+
+  asked-runs : outcome program words steps begin ≡ stopped 7 7 asking (asks_host c (Some readable_place) (Some writable_place) begin)
+  asked-runs =
+      ap (λ e. laters 7 (after_instruction asking e (outcome_from program words (drop 8 steps) 0))) host-effect
+
+  same-question : host_question c seen ≡ loader_question s
+  same-question = ap (asked c) held.reads
+
+  abbrev place : ℕ
+  place = at + bytes_before steps 7
+
+  stop : (low : ℕ) → PathElsewhere program words own m low at 0 steps [] (placed own (at + 0) begin []) (stopped 7 7 asking (asks_host c (Some readable_place) (Some writable_place) begin))
+  stop low =
+      subst (λ o. PathElsewhere program words own m low at 0 steps [] (placed own (at + 0) begin []) o) asked-runs (paths program words own m low at 0 steps begin [] differ lies)
+
+  pub asking-reached : Quietly program words m 7 (placed own at begin []) (placed own place asking [])
+  asking-reached = record {
+    total = λ weight. weigh weight (drop 0 (take 7 steps));
+    reaches = record {
+      turns = 7;
+      in_time = omega arith;
+      path = λ low. subst (λ a. Path program words m low low 7 (λ weight. weigh weight (drop 0 (take 7 steps))) (placed own a begin []) (placed own place asking [])) (let start : at + 0 ≡ at = omega arith in start) (stop low).0;
+    };
+    quiet = (refl, refl);
+  }
+
+  -- ---- by an answer
+
+  abbrev behind : ℕ
+  behind = at + bytes_before steps 8
+
+  pub next : Answer → State
+  next a = placed own behind (after_host c seen begin a) []
+
+  pub asks-it : turn program words (placed own place asking []) ≡ asks (loader_question s) next
+  unfolding next
+  asks-it =
+      let stops = (stop 0).1 in
+      stops.turns
+      ∙ ap (λ n. asks (host_question c seen) (λ a. placed own n (after_host c seen begin a) [])) stops.next_is
+      ∙ ap (λ q. asks q (λ a. placed own behind (after_host c seen begin a) [])) same-question
+
+  module _ (a : Answer) (fit : IsTrue (fits a (loader_question s))) where
+    abbrev value : ℕ
+    value = machine_words.wrapped a.value
+
+    abbrev heap_after : Heap
+    heap_after = (answered host.with_byte seen (host_question c seen) a.patch).heap
+
+    abbrev memory_after : Memory
+    memory_after = answered with_byte memory (loader_question s) a.patch
+
+    held-after : HoldsMemory heap_after readable_place writable_place memory_after
+    held-after =
+        subst (λ (x : Heap). HoldsMemory x readable_place writable_place memory_after)
+        (ap (λ q. (answered host.with_byte seen q a.patch).heap) (sym same-question))
+        (HoldsMemory-answered (places_of c).room a.patch heap readable_place writable_place memory held fit)
+
+    abbrev last_fields : ℕ → Value
+    last_fields = answered_fields given_fields value b.entry
+
+    abbrev last : Workspace
+    last = over locals [] last_fields heap_after
+
+    behind-runs : outcome_from program words steps 8 (after_host c seen begin a) ≡ stopped 7 15 last (enters choose [] last)
+    behind-runs =
+        ap (λ e. beyond (beyond (beyond (beyond (beyond (beyond (beyond (beyond (laters 7 (after_instruction last e (outcome_from program words (drop 16 steps) 0)))))))))))
+        (called program words choose last choose_is)
+
+    abbrev there : ℕ
+    there = at + bytes_before steps 15
+
+    stops : (low : ℕ) → PathElsewhere program words own m low at 8 steps [] (placed own behind (after_host c seen begin a) []) (stopped 7 15 last (enters choose [] last))
+    stops low =
+        subst (λ o. PathElsewhere program words own m low at 8 steps [] (placed own behind (after_host c seen begin a) []) o) behind-runs (paths program words own m low at 8 steps (after_host c seen begin a) [] differ lies)
+
+    abbrev inside : Workspace
+    inside = over (entered choose []).locals [] last_fields heap_after
+
+    abbrev below : Frame
+    below = record { method = own; at = (stops 0).1.line.next; locals = locals; operands = [] }
+
+    abbrev inner : State
+    inner = placed choose 0 inside (below ∷ [])
+
+    total : (Instruction → ℕ) → ℕ
+    total weight = weigh weight (drop 8 (take 15 steps)) + weight (instructions.Call choose)
+
+    enters-it : (low : ℕ) → Path program words m low low 1 (λ weight. weight (instructions.Call choose)) (placed own there last []) inner
+    enters-it low =
+        turn-path program words m low low (λ weight. weight (instructions.Call choose)) (placed own there last []) inner (stops 0).1.turns
+        (step-weighs program own 15 steps at (call choose) lies refl last [] inner)
+        (seen-elsewhere program words m own low there last [] differ)
+
+    reached : Reaches program words m 8 total (next a) inner
+    unfolding next total
+    reached = record {
+      turns = 7 + 1;
+      in_time = omega arith;
+      path = λ low. paths-join program words m low low low 7 1 (λ weight. weigh weight (drop 8 (take 15 steps))) (λ weight. weight (instructions.Call choose)) (next a) (placed own there last []) inner (stops low).0 (enters-it low);
+    }
+
+    counts-none : CountNothing choose total
+    unfolding total
+    counts-none = record {
+      no_reads = refl;
+      no_chars = refl;
+      no_switches = refl;
+      no_entries = λ is_span no. plus-none (weigh (entries is_span) (drop 8 (take 15 steps))) (entries is_span (instructions.Call choose)) refl (if-none (is_span choose) no);
+    }
+
+    zeros-with : (f : ℕ) → f < 34 → given_fields f ≡ int 0
+    zeros-with f low =
+        ap (λ t. if t then array writable_place else if f == readable_field then array readable_place else fields f) (ne_eqb f writable_field (λ e. absurd (omega (arith, e, low))))
+        ∙ ap (λ t. if t then array readable_place else fields f) (ne_eqb f readable_field (λ e. absurd (omega (arith, e, low))))
+        ∙ zeros f low
+
+    abbrev middle : guest.State
+    middle = after_loader s a
+
+    holds-it : HoldsOn 0 (λ r. true) inside (after_loader s a)
+    holds-it = subst (λ v. HoldsOn 0 (λ r. true) inside (record s { begun = true; registers = answered_registers v; memory = memory_after })) (wrapped-same a.value) (record {
+      register_is = λ r above under is. ap (λ t. if t then inside.locals r else inside.fields (register_field r)) (none-kept r) ∙ register-is given_fields value b.entry r (λ f low. zeros-with f (omega (arith, low))) above under;
+      register_word = λ r above under. register-word value r (wrapped-word a.value);
+      hi_is = zeros-with hi_field (omega arith);
+      hi_word = omega arith;
+      lo_is = zeros-with lo_field (omega arith);
+      lo_word = omega arith;
+      pc = b.entry;
+      pc_is = refl;
+      link_is = unlinked;
+      readable = readable_place;
+      readable_is = refl;
+      writable = writable_place;
+      writable_is = refl;
+      memory_held = held-after;
+    })
+
+    pub begins : Begins program words own m choose 8 (next a) (after_loader s a)
+    begins = record {
+      total = total;
+      counts = counts-none;
+      workspace = inside;
+      below = below;
+      reaches = reached;
+      held = holds-it;
+      pc_is = refl;
+      no_operands = refl;
+      waits_in = refl;
+    }

@@ -1,0 +1,6 @@
+use Rattle.loading_code_laws.proofs.FillingLaws.Filling.{fills-pages}
+use Rattle.loading_code_laws.proofs.filling_laws.pages_are_filled.Goals as goal
+
+pub returns : goal.returns
+returns c =
+    fills-pages c.code_is_a_path.ensures.elsewhere c.parts_lie_behind_each_other.ensures

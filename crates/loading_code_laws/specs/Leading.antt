@@ -1,0 +1,31 @@
+-- Methods that are called and come back.
+use Rattle.std.specs.Prelude.{◌≡◌, ℕ, ◌≤◌, List, ◌∷◌, Some}
+use Rattle.jvm_program.specs.declared.instruction.Instruction.{Instruction}
+use Rattle.jvm_program.specs.declared.kind.Kind.{Kind}
+use Rattle.jvm_program.specs.declared.linked_method.LinkedMethod.{LinkedMethod}
+use Rattle.jvm_program.specs.Program.{Program}
+use Rattle.jvm_program.specs.Values.{Heap}
+use Rattle.jvm_program.specs.Effect.{Workspace}
+use Rattle.jvm_program.specs.Step.{State, Frame, placed}
+use Rattle.code_paths.specs.Paths.{Path}
+
+-- One state leads to another in so many turns at most, which only move. What they execute weighs no more than this total, and none of it
+-- stands in method m.
+pub record Reaches (program : Program) (words m most : ℕ) (total : (Instruction → ℕ) → ℕ)
+    (x y : State) : Type 0 where
+  pub turns : ℕ
+  pub in_time : turns ≤ most
+  pub path : (low : ℕ) → Path program words m low low turns total x y
+
+-- A method that begins above a caller's frame leads back to that frame, with the fields as they were and with these arrays.
+abbrev pub LeadsBack : Program → (words own m most : ℕ) → ((Instruction → ℕ) → ℕ) → Workspace
+    → Frame → List Frame → Heap → Type 0
+LeadsBack program words own m most total w caller others heap =
+    Reaches program words m most total (placed own 0 w (caller ∷ others))
+    (record { fields = w.fields; heap = heap; frames = caller ∷ others })
+
+-- The method of this number has these parameters.
+pub record IsMethod (program : Program) (number : ℕ) (parameters : List Kind) : Type 0 where
+  pub method : LinkedMethod
+  pub there : program.method number ≡ Some method
+  pub parameters_are : method.parameters ≡ parameters

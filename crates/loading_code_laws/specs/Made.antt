@@ -1,0 +1,120 @@
+-- The memory that a translated program makes, and how it begins.
+use Rattle.std.specs.Prelude.{◌≡◌, ◌≢◌, ℕ, ◌<◌, ◌==◌, Bool, true, false, IsTrue, if◌then◌else◌, List, [], ◌∷◌, Option, Some}
+use Rattle.nv_events.specs.Answer.{Answer, fits}
+use Rattle.nv_events.specs.Turn.{asks}
+use Rattle.nv_events.specs.Memory.{Memory}
+use Rattle.mips_decode.specs.State as guest
+use Rattle.mips_decode.specs.Step as guest_step
+use Rattle.jvm_program.specs.declared.instruction.Instruction.{Instruction}
+use Rattle.jvm_program.specs.declared.kind.Kind.TheVariants as kinds
+use Rattle.jvm_program.specs.declared.value.Value.{Value}
+use Rattle.jvm_program.specs.declared.value.Value.TheVariants.{Int as int, Array as array}
+use Rattle.jvm_program.specs.Program.{Program}
+use Rattle.jvm_program.specs.Values.{Heap, no_arrays}
+use Rattle.jvm_program.specs.Effect.{Workspace}
+use Rattle.jvm_program.specs.Step.{State, Frame, placed, turn, start}
+use Rattle.code_steps.specs.declared.step.Step.{Step}
+use Rattle.code_steps.specs.Placing.{LiesAt}
+use Rattle.guest_layout.specs.FieldNumbers.{pc_field, readable_field, writable_field}
+use Rattle.guest_code.specs.Fields.{linked_field}
+use Rattle.loading_code.specs.declared.beginning.Beginning.{Beginning}
+use Rattle.loading_code.specs.Starting.{run_code}
+use Rattle.code_paths.specs.Classes.{reads, chars, switches, entries}
+use Rattle.guest_follows.specs.Match.{HoldsMemory}
+use Rattle.guest_follows.specs.Holding.{HoldsOn}
+use Rattle.loading_code_laws.specs.Leading.{Reaches, IsMethod}
+use Rattle.loading_code_laws.specs.Quiet.{Quietly, ComesTo}
+use Rattle.loading_code_laws.specs.Loaded.{Filler, numbers_of}
+
+-- ---- memory
+
+-- the places of the two tables
+abbrev pub readable_place : ℕ
+readable_place = 0
+
+abbrev pub writable_place : ℕ
+writable_place = 524290
+
+-- the fields with the tables
+abbrev pub with_tables : (ℕ → Value) → ℕ → Value
+with_tables fields = λ g. if g == writable_field then array writable_place
+    else if g == readable_field then array readable_place else fields g
+
+-- what code stands over
+abbrev pub over : (ℕ → Value) → List Value → (ℕ → Value) → Heap → Workspace
+over locals operands fields heap = record {
+  locals = locals;
+  operands = operands;
+  fields = fields;
+  heap = heap;
+}
+
+-- The code that makes memory has come to what stands behind it, and the tables hold the memory.
+pub record HasMade (program : Program) (words own m most : ℕ) (rest : List Step)
+    (locals : ℕ → Value) (operands : List Value) (fields : ℕ → Value) (others : List Frame)
+    (memory : Memory) : Type 0 where
+  pub heap : Heap
+  pub comes : ComesTo program words own m most rest
+      (placed own 0 (over locals operands fields no_arrays) others)
+      (over locals operands (with_tables fields) heap) others
+  pub held : HoldsMemory heap readable_place writable_place memory
+
+-- ---- the start
+
+-- the guest's state at the start
+abbrev pub start_of : Beginning → Memory → (ℕ → Option ℕ) → guest.State
+start_of b memory code = guest.start b.order b.entry memory code b.heap_start b.heap_bytes
+
+-- The method with which a program begins, the method that it then calls, and its fields.
+pub record IsProgram (program : Program) (own m choose pages : ℕ) (b : Beginning) (texts : List ℕ)
+    (fillers : List Filler) : Type 0 where
+  pub first : program.first ≡ own
+  pub apart : own ≢ m
+  pub run_lies : LiesAt program own 0 (run_code b texts 0 pages (numbers_of fillers) choose)
+  pub choose_is : IsMethod program choose []
+  pub ints : (f : ℕ) → f < 34 → program.field f ≡ Some kinds.Int
+  pub linked : program.field linked_field ≡ Some kinds.Int
+
+-- Turns count nothing: no word and no character is read, no switch is made, and no span is entered.
+pub record CountNothing (choose : ℕ) (total : (Instruction → ℕ) → ℕ) : Type 0 where
+  pub no_reads : total reads ≡ 0
+  pub no_chars : total chars ≡ 0
+  pub no_switches : total switches ≡ 0
+  pub no_entries : (is_span : ℕ → Bool) → is_span choose ≡ false → total (entries is_span) ≡ 0
+
+-- So many turns at most, which count nothing, lead into the method that chooses, where the fields and arrays hold a state of the guest.
+pub record Begins (program : Program) (words own m choose most : ℕ) (x : State) (t : guest.State)
+    : Type 0 where
+  pub total : (Instruction → ℕ) → ℕ
+  pub counts : CountNothing choose total
+  pub workspace : Workspace
+  pub below : Frame
+  pub reaches : Reaches program words m most total x (placed choose 0 workspace (below ∷ []))
+  pub held : HoldsOn 0 (λ r. true) workspace t
+  pub pc_is : workspace.fields pc_field ≡ int t.pc
+  pub no_operands : workspace.operands ≡ []
+  pub waits_in : below.method ≡ own
+
+-- The program comes to a call of the system, by which it asks what the guest asks at its start, and by each answer that fits it begins.
+pub record Loads (program : Program) (words own m choose most : ℕ) (s : guest.State) : Type 0 where
+  pub asking : State
+  pub reaches : Quietly program words m most (start program) asking
+  pub next : Answer → State
+  pub asks_it : turn program words asking ≡ asks (guest_step.loader_question s) next
+  pub begins : (a : Answer) → IsTrue (fits a (guest_step.loader_question s))
+      → Begins program words own m choose 8 (next a) (guest_step.after_loader s a)
+
+-- where it has begun
+abbrev pub begun_at : (program : Program) (words own m choose most : ℕ) (x : State)
+    (t : guest.State) → Begins program words own m choose most x t → State
+begun_at program words own m choose most x t b = placed choose 0 b.workspace (b.below ∷ [])
+
+-- The classes have begun: they stand at the start of the method that chooses, where they hold a state of the guest.
+pub record HasBegun (own choose : ℕ) (t : guest.State) (x : State) : Type 0 where
+  pub workspace : Workspace
+  pub below : Frame
+  pub stands : x ≡ placed choose 0 workspace (below ∷ [])
+  pub held : HoldsOn 0 (λ r. true) workspace t
+  pub pc_is : workspace.fields pc_field ≡ int t.pc
+  pub no_operands : workspace.operands ≡ []
+  pub waits_in : below.method ≡ own

@@ -1,0 +1,74 @@
+-- Tables of pages for which pages are made.
+use Rattle.std.specs.Prelude.{◌≡◌, ◌≢◌, ℕ, suc, ◌+◌, ◌<◌, ◌≤◌, ◌==◌, ◌&&◌, Bool, true, false, if◌then◌else◌, List, [], ◌∷◌, Option, Some, is_some}
+use Rattle.std.specs.List.{list_any}
+use Rattle.jvm_program.specs.Values.{ints, pages, Heap, with_new, with_page}
+use Rattle.guest_layout.specs.FieldNumbers.{page_count}
+use Rattle.loading_code_laws.specs.Filled.{AreApart}
+
+-- Two arrays are the tables of the pages that can be read and of those that can be written.
+pub record HasTables (heap : Heap) (readable writable : ℕ)
+    (readable_pages writable_pages : ℕ → Option ℕ) : Type 0 where
+  pub readable_there : heap.array_at readable ≡ Some (pages page_count readable_pages)
+  pub writable_there : heap.array_at writable ≡ Some (pages page_count writable_pages)
+  pub readable_made : readable < heap.used
+  pub writable_made : writable < heap.used
+  pub apart : readable ≢ writable
+
+-- the heap with a new array of 1,024 zeros as a page of the table at a place
+abbrev pub with_new_page : Heap → ℕ → ℕ → Heap
+with_new_page heap table page =
+    with_page (with_new heap (ints 1024 (λ _. 0))) table page (Some heap.used)
+
+-- the same with that array as a page of both tables where it can be written
+abbrev pub with_made : (readable writable : ℕ) → Heap → ℕ → Bool → Heap
+with_made readable writable heap page false = with_new_page heap readable page
+with_made readable writable heap page true =
+    with_page (with_new_page heap readable page) writable page (Some heap.used)
+
+-- the heap when these pages were made, each with whether it can be written
+abbrev pub made : (readable writable : ℕ) → Heap → List (ℕ × Bool) → Heap
+made readable writable heap [] = heap
+made readable writable heap (x ∷ more) =
+    made readable writable (with_made readable writable heap x.0 x.1) more
+
+-- ---- which pages are there then
+
+-- the places of a table's pages, of which one is another
+abbrev pub with_place : (ℕ → Option ℕ) → ℕ → ℕ → ℕ → Option ℕ
+with_place places page p = λ k. if k == page then Some p else places k
+
+abbrev pub with_place_if : Bool → (ℕ → Option ℕ) → ℕ → ℕ → ℕ → Option ℕ
+with_place_if true places page p = with_place places page p
+with_place_if false places page p = places
+
+-- the places of the pages that can be read, and of those that can be written, when these were made from a place on
+abbrev pub readable_after : (ℕ → Option ℕ) → ℕ → List (ℕ × Bool) → ℕ → Option ℕ
+readable_after places used [] = places
+readable_after places used (x ∷ more) =
+    readable_after (with_place places x.0 used) (used + 1026) more
+
+abbrev pub writable_after : (ℕ → Option ℕ) → ℕ → List (ℕ × Bool) → ℕ → Option ℕ
+writable_after places used [] = places
+writable_after places used (x ∷ more) =
+    writable_after (with_place_if x.1 places x.0 used) (used + 1026) more
+
+-- the pages rise
+abbrev pub PagesRise : ℕ → List (ℕ × Bool) → Type 0
+PagesRise low [] = Unit {0}
+PagesRise low (x ∷ more) = (low ≤ x.0) × PagesRise (suc x.0) more
+
+-- a page is one of these, and one of those that can be written
+abbrev pub is_among : List (ℕ × Bool) → ℕ → Bool
+is_among xs n = list_any (λ (x : ℕ × Bool). n == x.0) xs
+
+abbrev pub is_written_among : List (ℕ × Bool) → ℕ → Bool
+is_written_among xs n = list_any (λ (x : ℕ × Bool). x.1 && (n == x.0)) xs
+
+-- Tables have exactly these pages: each is an array of zeros of its own, and where it can be written the same in both tables.
+pub record ArePages (heap : Heap) (readable_pages writable_pages : ℕ → Option ℕ)
+    (xs : List (ℕ × Bool)) : Type 0 where
+  pub zeros : (n p : ℕ) → readable_pages n ≡ Some p → heap.array_at p ≡ Some (ints 1024 (λ _. 0))
+  pub pages_apart : AreApart readable_pages
+  pub shared : (n p : ℕ) → writable_pages n ≡ Some p → readable_pages n ≡ Some p
+  pub read : (n : ℕ) → is_some (readable_pages n) ≡ is_among xs n
+  pub written : (n : ℕ) → is_some (writable_pages n) ≡ is_written_among xs n

@@ -1,2 +1,0 @@
-pub mod FillingLaws
-pub mod LoadingLaws

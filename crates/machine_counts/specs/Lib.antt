@@ -1,3 +1,0 @@
-pub mod Guest
-pub mod Classes
-pub mod Code

@@ -1,9 +1,0 @@
-pub mod PlainWords
-pub mod TextBytes
-pub mod TextPages
-pub mod TextImage
-pub mod BlockPlaces
-pub mod BlockTurns
-pub mod WholeRun
-pub mod ProgramStart
-pub mod ProgramEnd

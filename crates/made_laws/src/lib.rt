@@ -1,4 +1,0 @@
-//! What holds of a made program.
-#![tactic(auto)]
-
-pub mod laws;

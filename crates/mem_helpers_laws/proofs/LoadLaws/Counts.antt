@@ -1,0 +1,27 @@
+-- What the methods that load count, by computation.
+use Rattle.std.proofs.Common.{refl}
+use Rattle.nv_words.specs.declared.order.Order.{Order}
+use Rattle.nv_words.specs.declared.order.Order.TheVariants.{Big, Little}
+use Rattle.mips_decode.specs.declared.names.load_name.LoadName.{LoadName}
+use Rattle.mips_decode.specs.declared.names.load_name.LoadName.TheVariants.{Lb, Lh, Lwl, Lw, Lbu, Lhu, Lwr}
+use Rattle.guest_code.specs.Helpers.{load_helper, load_linked_helper}
+use Rattle.mem_helpers.specs.Methods.{helper_code}
+use Rattle.mem_helpers_laws.specs.LoadCounting.{Reads}
+
+pub loads-read : (order : Order) (name : LoadName) → Reads 1 (helper_code order (load_helper name))
+loads-read order Lb = (refl, refl, refl)
+loads-read order Lbu = (refl, refl, refl)
+loads-read Big Lh = (refl, refl, refl)
+loads-read Little Lh = (refl, refl, refl)
+loads-read Big Lhu = (refl, refl, refl)
+loads-read Little Lhu = (refl, refl, refl)
+loads-read Big Lw = (refl, refl, refl)
+loads-read Little Lw = (refl, refl, refl)
+loads-read Big Lwl = (refl, refl, refl)
+loads-read Little Lwl = (refl, refl, refl)
+loads-read Big Lwr = (refl, refl, refl)
+loads-read Little Lwr = (refl, refl, refl)
+
+pub linked-reads : (order : Order) → Reads 1 (helper_code order load_linked_helper)
+linked-reads Big = (refl, refl, refl)
+linked-reads Little = (refl, refl, refl)

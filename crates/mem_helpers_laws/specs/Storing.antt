@@ -1,0 +1,44 @@
+-- What the helper methods that store come to.
+use Rattle.std.specs.Prelude.{◌≡◌, ℕ, List, [], ◌∷◌}
+use Rattle.nv_words.specs.declared.order.Order.{Order}
+use Rattle.nv_events.specs.Memory.{Memory}
+use Rattle.jvm_program.specs.declared.value.Value.{Value}
+use Rattle.jvm_program.specs.declared.value.Value.TheVariants.{Int as int, Array as array}
+use Rattle.jvm_program.specs.Program.{Program}
+use Rattle.jvm_program.specs.Values.{Heap}
+use Rattle.jvm_program.specs.Effect.{Workspace}
+use Rattle.guest_layout.specs.FieldNumbers.{readable_field, writable_field}
+use Rattle.mem_helpers.specs.Stores.{write_fault_number}
+use Rattle.mem_helpers.specs.Methods.{helper_code}
+use Rattle.guest_follows.specs.Match.{HoldsMemory}
+use Rattle.guest_follows.specs.Outcomes.{CallsFault}
+
+-- The tables of pages are in their fields, and what is read through them is the guest's memory.
+pub record HoldsTables (w : Workspace) (readable writable : ℕ) (memory : Memory) : Type 0 where
+  pub readable_is : w.fields readable_field ≡ array readable
+  pub writable_is : w.fields writable_field ≡ array writable
+  pub held : HoldsMemory w.heap readable writable memory
+
+-- a word, an address and the instruction's own address
+abbrev pub given_to_store : ℕ → ℕ → ℕ → List Value
+given_to_store value a pc = int value ∷ int a ∷ int pc ∷ []
+
+-- at most so many instructions before a method that stores returns
+abbrev pub store_turns : ℕ
+store_turns = 80
+
+-- at most so many before it calls the method that ends the run, and as many before that ends it
+abbrev pub store_fault_turns : ℕ
+store_fault_turns = 15
+
+-- the method of this number calls the one that ends the run, with a fault of this kind
+abbrev pub EndsStore : Program → ℕ → Order → ℕ → List Value → Workspace → ℕ → ℕ → ℕ → Type 0
+EndsStore program words order number given w kind pc a =
+    CallsFault program words store_fault_turns (helper_code order) (helper_code order number)
+    given w write_fault_number
+    (record { kind = kind; pc = pc; value = a })
+
+-- nothing but the memory is changed
+abbrev pub LeavesMemory : Workspace → ℕ → ℕ → Memory → (ℕ → Value) → Heap → Type 0
+LeavesMemory w readable writable memory fields heap =
+    (fields ≡ w.fields) × HoldsMemory heap readable writable memory

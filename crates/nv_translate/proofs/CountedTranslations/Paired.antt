@@ -1,0 +1,114 @@
+-- A linked translation beside its guest, and what is counted of both in terms of the layout.
+use Rattle.std.proofs.Common.{◌≡◌, ℕ, ◌+◌, ◌≤◌, Bool, List, refl, ap, subst}
+use Rattle.std.specs.List.{sum_by}
+use Rattle.nv_events.specs.Answer.{Answer, next_answer}
+use Rattle.nv_events.specs.Memory.{Memory}
+use Rattle.command_values.specs.Names.{Text}
+use Rattle.run_laws.specs.Trail.{trail_of, after_call}
+use Rattle.mips_decode.specs.State as guest
+use Rattle.mips_decode.specs.Step as guest_step
+use Rattle.elf_image.specs.Start.{Source, image_of, readable, writable}
+use Rattle.image_parts.specs.Pages.{page_words}
+use Rattle.jvm_program.specs.declared.instruction.Instruction.{Instruction}
+use Rattle.jvm_program.specs.Program.{Program}
+use Rattle.jvm_link.specs.Linking.{program_of}
+use Rattle.guest_layout.specs.Numbers.{run_number, choose_number, pages_number, missing_number}
+use Rattle.code_paths.specs.Classes.{reads, switches, entries, executed}
+use Rattle.code_paths.specs.Guest.{crossings, partial}
+use Rattle.running_laws.specs.LoadingCodeLaws.Loaded.{run_shares, paged}
+use Rattle.running_laws.specs.TrampolineLaws.Classes.{is_span, counted_spans}
+use Rattle.running_laws.specs.Translated as runs
+use Rattle.running_laws.specs.Translated.{TranslatedProgram, IsTranslatedProgram}
+use Rattle.program_classes.specs.Content.{text_runs}
+use Rattle.program_translation.specs.Classes.{Placed}
+use Rattle.program_translation.specs.DataFiles.{class_count, filled_pages, first_method}
+use Rattle.program_translation.specs.MainFile.{beginning_of}
+use Rattle.program_translation.specs.Translation.{code_methods}
+use Rattle.program_translation.specs.declared.built.Built.{Built}
+use Rattle.nv_translate.specs.Linked.{IsLinked}
+use Rattle.nv_translate.specs.Images.{IsImage}
+use Rattle.nv_translate.specs.Loading.{LoadsSource}
+use Rattle.nv_translate.specs.Standing.{Stands}
+use Rattle.nv_translate.specs.Counts.{layout_spans, is_span_method, guest_trail, class_trail}
+use Rattle.nv_translate.proofs.CountedTranslations.Spans.{spans-counted, spans-tested}
+
+-- the number behind those of all methods
+abbrev pub behind_all : Source → List Placed → ℕ
+behind_all source code = first_method (code_methods code) (class_count (filled_pages source))
+
+module _ (source : Source) (name : Text) (method_bytes : ℕ) (built : Built) (image : IsImage source) (l : IsLinked source name method_bytes built)
+    (stands : Stands source l.code (program_of l.classes)) (words : ℕ)
+    (loads : LoadsSource source (program_of l.classes) words (behind_all source l.code) l.texts l.main.runs.now) where
+  abbrev program : Program
+  program = program_of l.classes
+
+  -- ---- the program of classes, which is to run as the guest
+
+  abbrev pub paired : TranslatedProgram
+  paired = record {
+    program = program;
+    words = words;
+    beginning = beginning_of source;
+    order = (image_of source).order;
+    code = (image_of source).code;
+    readable = readable source;
+    writable = writable source;
+    page_words = page_words source;
+    own = run_number;
+    choose = choose_number;
+    missing = missing_number;
+    pages = pages_number;
+    apart = behind_all source l.code;
+    classes = stands.classes;
+    texts = l.texts;
+    shares = run_shares text_runs l.main.runs.now;
+    fillers = loads.fillers;
+  }
+
+  pub are-paired : IsTranslatedProgram paired
+  are-paired = record {
+    code_is = stands.translated;
+    begins = loads.begins;
+    memory_is = loads.makes;
+    order_is = refl;
+    entry_word = image.entry;
+  }
+
+  -- ---- what is counted of both
+
+  module _ (same : paged (readable source) (writable source) (page_words source) ≡ (image_of source).memory) (m : ℕ) (answers : List Answer) where
+    abbrev guest_starts : Memory → guest.State
+    guest_starts memory =
+        guest.start (image_of source).order (image_of source).entry memory (image_of source).code (image_of source).heap_start (image_of source).heap_bytes
+
+    trails : runs.guest_trail paired m answers ≡ guest_trail source m answers
+    trails = ap (λ memory. after_call guest_step.turn (trail_of guest_step.turn next_answer m (guest_starts memory) answers)) same
+
+    spans : counted_spans stands.classes ≡ layout_spans built.layout
+    spans = spans-counted built.layout l.code stands.classes stands.classes_are l.spans_are
+
+    tests : is_span stands.classes ≡ is_span_method built.layout
+    tests = spans-tested built.layout l.code stands.classes stands.classes_are l.spans_are l.code_is.placed.follow
+
+    abbrev crossed : ℕ
+    crossed = crossings (layout_spans built.layout) (guest_trail source m answers)
+
+    crossed-is : crossings (counted_spans stands.classes) (runs.guest_trail paired m answers) ≡ crossed
+    crossed-is = λ i. crossings (spans i) (trails i)
+
+    -- what is counted of the classes
+    abbrev sum_of : (Instruction → ℕ) → ℕ
+    sum_of weight = sum_by (executed program weight) (class_trail program words m answers)
+
+    pub counted-reads : sum_of reads ≤ partial (runs.guest_trail paired m answers) → sum_of reads ≤ partial (guest_trail source m answers)
+    counted-reads few = subst (λ trail. sum_of reads ≤ partial trail) trails few
+
+    pub counted-switches : sum_of switches ≤ crossings (counted_spans stands.classes) (runs.guest_trail paired m answers) + 1
+        → sum_of switches ≤ crossed + 1
+    counted-switches few = subst (λ n. sum_of switches ≤ n + 1) crossed-is few
+
+    pub counted-entries : sum_of (entries (is_span stands.classes)) ≤ crossings (counted_spans stands.classes) (runs.guest_trail paired m answers) + 1
+        → sum_of (entries (is_span_method built.layout)) ≤ crossed + 1
+    counted-entries few =
+        subst (λ (test : ℕ → Bool). sum_of (entries test) ≤ crossed + 1) tests
+        (subst (λ n. sum_of (entries (is_span stands.classes)) ≤ n + 1) crossed-is few)

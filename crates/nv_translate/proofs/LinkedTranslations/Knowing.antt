@@ -1,0 +1,62 @@
+-- What the classes of a translation know of each other.
+use Rattle.std.proofs.Common.{◌≡◌, ℕ, ◌+◌, ◌<◌, ◌||◌, false, List, [], Some, None, ap, subst, ◌∙◌, slice_get}
+use Rattle.std.specs.Prelude.{unwrap_or}
+use Rattle.std.proofs.lemmas.Bool.{or_parts}
+use Rattle.constant_pool.specs.declared.entry.Entry.{Entry}
+use Rattle.constant_pool.specs.Names.{same_text}
+use Rattle.jvm_code.specs.declared.class.Class.{Class}
+use Rattle.name_resolution.specs.Names.{Signature, signature, reference, own_name, is_known, object_name, string_name, host_name, methods_of, method_number}
+use Rattle.name_resolution.specs.Faults.{twice_fault}
+use Rattle.guest_layout.specs.Helpers.{helper_name, helper_descriptor}
+use Rattle.code_assembly.specs.Assembling.{Extends}
+use Rattle.class_builder.specs.Named.{IsClassAt}
+use Rattle.class_builder.proofs.Meant.{call-meant}
+use Rattle.program_classes.specs.declared.names.Names.{Names}
+use Rattle.program_classes.specs.Named.{AreNames}
+use Rattle.program_classes.specs.Tables.{references_of}
+use Rattle.program_classes_laws.specs.Before.{methods_before}
+use Rattle.program_classes_laws.proofs.LinkedNumbers.Numbers.{method-number, own-unknown}
+use Rattle.program_classes_laws.specs.Meaning.{AreMeant, HaveFieldNumbers, HaveMethodNumbers}
+use Rattle.program_classes_laws.proofs.NamedCode.Meant.{SlotLaw}
+
+-- the law of what every class names
+abbrev pub NamesLaw : Type 0
+NamesLaw =
+    (classes : List Class) (number : ℕ) (c : Class) (pool : List Entry) (main : List ℕ) (names : Names) (first : ℕ) (methods : List ℕ)
+    → Extends pool c.pool → AreNames pool main names → HaveFieldNumbers classes main → AreMeant (references_of names first methods) classes number c
+
+pub slot-law : SlotLaw
+slot-law classes number c pool slot class n owner name descriptor goes_on of is other numbered =
+    call-meant c pool goes_on classes slot class n owner name descriptor of is other numbered
+
+-- what the other classes use of the main one
+pub record HasMain (classes : List Class) (main : List ℕ) : Type 0 where
+  pub no_host : same_text main host_name ≡ false
+  pub fields : HaveFieldNumbers classes main
+  pub helpers : HaveMethodNumbers classes main helper_name helper_descriptor 0 20
+
+pub unknown-is-no-host : (name : List ℕ) → is_known name ≡ false → same_text name host_name ≡ false
+unknown-is-no-host name unknown =
+    (or_parts (same_text name object_name || same_text name string_name) (same_text name host_name) unknown).1
+
+pub own-is : (c : Class) (name : List ℕ) → IsClassAt c.pool c.this_class name → own_name c ≡ name
+own-is c name is = ap (λ o. unwrap_or o []) is
+
+-- the methods of a class that has this name
+module _ (classes : List Class) (once : twice_fault [] 0 classes ≡ None) (n : ℕ) (c : Class) (there : slice_get classes n ≡ Some c)
+    (owner : List ℕ) (named : IsClassAt c.pool c.this_class owner) where
+  pub owner-no-host : same_text owner host_name ≡ false
+  owner-no-host =
+      unknown-is-no-host owner (subst (λ x. is_known x ≡ false) (own-is c owner named) (own-unknown [] 0 classes n c once there))
+
+  pub method-at : (k : ℕ) (s : Signature) → slice_get (methods_of c) k ≡ Some s
+      → method_number classes (reference owner s) ≡ Some (methods_before classes n + k)
+  method-at k s is =
+      subst (λ x. method_number classes (reference x s) ≡ Some (methods_before classes n + k)) (own-is c owner named)
+      (method-number classes n k c s once there is)
+
+  pub methods-numbered : (name descriptor : ℕ → List ℕ) (first count : ℕ) → methods_before classes n ≡ first
+      → ((k : ℕ) → k < count → slice_get (methods_of c) k ≡ Some (signature (name k) (descriptor k)))
+      → HaveMethodNumbers classes owner name descriptor first count
+  methods-numbered name descriptor first count before each k below =
+      method-at k (signature (name k) (descriptor k)) (each k below) ∙ ap (λ b. Some (b + k)) before

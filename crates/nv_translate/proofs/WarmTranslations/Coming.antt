@@ -1,0 +1,85 @@
+-- Where the guest comes to a block, the classes come to its code.
+use Rattle.std.proofs.Common.{◌≡◌, ℕ, ◌+◌, ◌-◌, ◌&&◌, ◌==◌, Bool, true, List, Option, Some, None, All, refl, sym, ap, ◌∙◌, arith}
+use Rattle.std.specs.Option.{is_none}
+use Rattle.std.proofs.lemmas.Bool.{and_from, and_parts, true≢false, eqb-true, eq-eqb}
+use Rattle.nv_words.specs.declared.order.Order.{Order}
+use Rattle.mips_decode.specs.State as guest
+use Rattle.delay_slots.specs.Units.{units_of}
+use Rattle.jvm_program.specs.Program.{Program}
+use Rattle.jvm_program.specs.Step.{State, Frame, placed}
+use Rattle.span_code.specs.Pieces.{begins}
+use Rattle.span_code.specs.Laying.{entry_at}
+use Rattle.running_laws.specs.TrampolineLaws.Classes.{CodeClass, IsClass, AreOrdered, span_words}
+use Rattle.running_laws.specs.TrampolineLaws.Programs.{IsInClass}
+use Rattle.running_laws.specs.Marks.{AtPiece, MarksPieces}
+use Rattle.program_translation.specs.declared.block_info.BlockInfo.{BlockInfo}
+use Rattle.program_translation.specs.declared.layout.Layout.{Layout}
+use Rattle.nv_translate.specs.Warm.{IsPieceOf, AtBlock}
+use Rattle.nv_translate.proofs.WarmTranslations.Spans.{IsWordOf, words-same, word-from, word-to}
+
+none-is : (o : Option ℕ) → is_none o ≡ true → o ≡ None
+none-is None is = refl
+none-is (Some x) is = absurd (true≢false (sym is))
+
+-- the guest stands at a block, between units
+abbrev pub marks_block : BlockInfo → guest.State → Bool
+marks_block b t = is_none t.pending && t.pc == b.first
+
+pub is-marked : (b : BlockInfo) (t : guest.State) → t.pending ≡ None → t.pc ≡ b.first → marks_block b t ≡ true
+is-marked b t between at = and_from (is_none t.pending) (t.pc == b.first) (ap is_none between) (eq-eqb t.pc b.first at)
+
+module _ (classes : List CodeClass) (are : All IsClass classes) (ordered : AreOrdered classes) (layout : Layout) (b : BlockInfo)
+    (p : IsPieceOf classes layout b) where
+  own-word : IsWordOf classes p.number p.class p.span p.word
+  own-word = record { there = p.there; span_below = p.span_below; above = p.above; below = p.below }
+
+  in-class : (t : guest.State) → t.pc ≡ b.first → IsInClass classes t.pc
+  in-class t at =
+      let from = word-from classes are ordered p.number p.class p.span p.word own-word in
+      let to = word-to classes are ordered p.number p.class p.span p.word own-word in
+      record {
+        number = p.number;
+        class = p.class;
+        there = p.there;
+        word = p.word - p.class.first;
+        below = omega (arith, from, to);
+        is_there = omega (arith, at, p.first_is, from);
+      }
+
+  pub marks-piece : MarksPieces classes (marks_block b)
+  marks-piece = record {
+    between = λ t is. none-is t.pending (and_parts (is_none t.pending) (t.pc == b.first) is).0;
+    in_class = λ t is. in-class t (eqb-true t.pc b.first (and_parts (is_none t.pending) (t.pc == b.first) is).1);
+    begin = λ t n c j k is there below above under at.
+        let pc = eqb-true t.pc b.first (and_parts (is_none t.pending) (t.pc == b.first) is).1 in
+        let word : IsWordOf classes n c j k = record { there = there; span_below = below; above = above; below = under } in
+        let same = words-same classes are ordered p.number p.class p.span p.word n c j k own-word word (sym p.first_is ∙ sym pc ∙ at) in
+        (λ i. begins (sym same.classes_are i).leads (span_words (sym same.classes_are i) (sym same.spans i)) (sym same.words_are i)) ∙ p.begin;
+  }
+
+  -- the piece at which the classes stand is the block's
+  module _ (from : b.from ≡ entry_at (units_of p.class.words) p.class.leads (span_words p.class p.span) p.word) (program : Program) (words : ℕ)
+      (order : Order)
+      (choose : ℕ) (t : guest.State) (y : State) where
+    pub at-block : AtPiece program words order classes choose t y → t.pc ≡ b.first → (others : List Frame) × AtBlock program words p others t y
+    at-block at pc =
+        let s = at.at_word in
+        let word : IsWordOf classes s.number s.class s.span s.word =
+        record { there = s.there; span_below = s.span_below; above = s.stands.above; below = s.stands.below } in
+        let same =
+        words-same classes are ordered s.number s.class s.span s.word p.number p.class p.span p.word word own-word
+        (sym s.stands.pc ∙ pc ∙ p.first_is) in (
+          s.others,
+          record {
+            workspace = s.workspace;
+            rests = s.stands.rests;
+            pc = pc;
+            is_there =
+                s.is_there
+                ∙ (λ i. placed ((same.classes_are i).first_method + same.spans i)
+                (entry_at (units_of (same.classes_are i).words) (same.classes_are i).leads (span_words (same.classes_are i) (same.spans i))
+                (same.words_are i))
+                s.workspace s.others)
+                ∙ ap (λ at_offset. placed (p.class.first_method + p.span) at_offset s.workspace s.others) (sym from);
+          },
+        )

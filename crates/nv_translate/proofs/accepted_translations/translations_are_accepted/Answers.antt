@@ -1,0 +1,28 @@
+use Rattle.std.specs.Prelude.{ℕ}
+use Rattle.command_values.specs.Names.{Text}
+use Rattle.elf_image.specs.Start.{Source}
+use Rattle.jvm_program.specs.Typing.{AllTyped}
+use Rattle.jvm_link.specs.Linking.{Accepted, program_of}
+use Rattle.program_translation.specs.declared.built.Built.{Built}
+use Rattle.program_translation.specs.Translation.{IsTranslation}
+use Rattle.nv_translate.specs.Linked.{IsLinked}
+use Rattle.nv_translate.specs.AcceptedCode.{HasAcceptedCode}
+use Rattle.nv_translate.proofs.AcceptedTranslations.Linking.{classes-link}
+use Rattle.nv_translate.proofs.accepted_translations.translations_are_accepted.Goals as goal
+
+accepted : (source : Source) (name : Text) (method_bytes : ℕ) (built : Built) → HasAcceptedCode source → IsTranslation source name method_bytes built
+    → (l : IsLinked source name method_bytes built) → AllTyped (program_of l.classes) → Accepted l.classes
+accepted source name method_bytes built has t l typed =
+    record { links = classes-link source name method_bytes built t l.classes l.spelled l.distinct has; typed = typed }
+
+pub returns-clause-all : goal.returns-clause-all
+returns-clause-all c source name method_bytes built has class_name t l =
+    accepted source name method_bytes built has t l (c.translations_are_typed.ensures source name method_bytes built has.whole l)
+
+pub returns-clause-some : goal.returns-clause-some
+returns-clause-some c source name method_bytes built has class_name t =
+    let l = c.translations_link.ensures source name method_bytes built has.whole class_name t in
+    record {
+      linked = l;
+      accepted = accepted source name method_bytes built has t l (c.translations_are_typed.ensures source name method_bytes built has.whole l);
+    }

@@ -1,0 +1,31 @@
+use Rattle.std.proofs.Common.{ℕ, ◌+◌, ◌*◌, subst, arith}
+use Rattle.nv_events.specs.Answer.{next_answer}
+use Rattle.nv_events.specs.Memory.{Memory}
+use Rattle.run_laws.specs.Runs.{SameRuns}
+use Rattle.mips_decode.specs.State as guest_state
+use Rattle.mips_decode.specs.Step as guest
+use Rattle.elf_image.specs.Start.{image_of}
+use Rattle.jvm_program.specs.Program.{Program}
+use Rattle.jvm_program.specs.Step.{start, turn}
+use Rattle.jvm_link.specs.Linking.{program_of}
+use Rattle.running_laws.specs.Translated.{TranslatedProgram, LoadsWithin}
+use Rattle.program_translation.specs.Bounds.{allow}
+use Rattle.nv_translate.proofs.CountedTranslations.Paired.{behind_all, paired, are-paired}
+use Rattle.nv_translate.proofs.laws.translations_run_alike.Goals as goal
+
+pub returns : goal.returns
+returns c source name method_bytes built image large l = record {
+  same = λ words answers room.
+      let program : Program = program_of l.classes in
+      let mapped : ℕ = (image_of source).mapped in
+      let behind : ℕ = behind_all source l.code in
+      let stands = c.translations_stand.ensures source name method_bytes built image.code large l in
+      let apart = c.others_do_not_load.ensures.behind source method_bytes l.code behind l.code_is (omega arith) in
+      let loads = c.translations_load.ensures source name method_bytes built image.pages l words behind room apart in
+      let translated : TranslatedProgram = paired source name method_bytes built image l stands words loads in
+      let time = loads.in_time in
+      let within : LoadsWithin translated (131072 * (mapped + 4)) = omega (arith, time) in
+      subst (λ (memory : Memory). SameRuns guest.turn (turn program words) next_answer (allow mapped) (guest_state.start (image_of source).order (image_of source).entry memory (image_of source).code (image_of source).heap_start (image_of source).heap_bytes) (start program) answers)
+      (c.images_are_pages.ensures.memory source image.pages.whole)
+      (c.translated_programs_run_alike.ensures translated (131072 * (mapped + 4)) (are-paired source name method_bytes built image l stands words loads) within answers);
+}

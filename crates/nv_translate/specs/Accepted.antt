@@ -1,0 +1,13 @@
+-- The classes of a translation are accepted.
+use Rattle.std.specs.Prelude.{ℕ}
+use Rattle.command_values.specs.Names.{Text}
+use Rattle.elf_image.specs.Start.{Source}
+use Rattle.jvm_link.specs.Linking.{Accepted}
+use Rattle.program_translation.specs.declared.built.Built.{Built}
+use Rattle.nv_translate.specs.Linked.{IsLinked}
+
+-- They are the program that they were planned to be, they link, and its methods are typed.
+pub record IsAccepted (source : Source) (name : Text) (method_bytes : ℕ) (built : Built)
+    : Type 0 where
+  pub linked : IsLinked source name method_bytes built
+  pub accepted : Accepted linked.classes

@@ -1,0 +1,102 @@
+-- The program that the classes of a translation are, method by method.
+use Rattle.std.specs.Prelude.{◌≡◌, ℕ, ◌+◌, ◌<◌, ◌≤◌, List, [], ◌∷◌, ◌++◌, map, length, slice_get, Some, None}
+use Rattle.std.specs.List.{AllZip}
+use Rattle.command_values.specs.Names.{Text}
+use Rattle.elf_image.specs.Start.{Source}
+use Rattle.image_parts.specs.Pages.{Page}
+use Rattle.jvm_program.specs.declared.linked_method.LinkedMethod.{LinkedMethod}
+use Rattle.jvm_program.specs.Program.{Program}
+use Rattle.jvm_code.specs.declared.class.Class.{Class}
+use Rattle.class_file.specs.ClassFile.{Spells}
+use Rattle.name_resolution.specs.Faults.{twice_fault}
+use Rattle.jvm_link.specs.Linking.{program_of, parameters_of, gives_int, kind_of}
+use Rattle.code_steps.specs.Placing.{laid}
+use Rattle.guest_layout.specs.Fields.{field_descriptor}
+use Rattle.guest_layout.specs.Numbers.{run_number}
+use Rattle.loading_code.specs.declared.page_slot.PageSlot.{PageSlot}
+use Rattle.data_strings.specs.Texts.{page_text}
+use Rattle.code_assembly.specs.declared.references.References.{References}
+use Rattle.program_classes.specs.Making.{Plan}
+use Rattle.program_classes.specs.declared.content.MainClass.{MainClass}
+use Rattle.program_classes.specs.Content.{share_texts}
+use Rattle.program_classes.specs.Main.{main_plans}
+use Rattle.program_classes.specs.Code as codes
+use Rattle.program_classes.specs.Data.{words_plan, fill_plan}
+use Rattle.program_translation.specs.declared.named_file.NamedFile.{NamedFile}
+use Rattle.program_translation.specs.Classes.{Placed, AreCodeClasses, run_of, starts_of, spans_of}
+use Rattle.program_translation.specs.Blocks.{blocks_of}
+use Rattle.program_translation.specs.DataFiles.{class_count, filled_pages, pages_of_class, class_number, first_method}
+use Rattle.program_translation.specs.declared.built.Built.{Built}
+use Rattle.program_translation.specs.MainFile.{IsContent}
+use Rattle.program_translation.specs.Translation.{code_methods, fills_behind}
+
+-- A method of a program is made by a plan.
+pub record IsPlanned (program : Program) (number : ℕ) (p : Plan) : Type 0 where
+  pub method : LinkedMethod
+  pub there : program.method number ≡ Some method
+  pub lines_are : method.lines ≡ laid 0 p.code
+  pub parameters_are : method.parameters ≡ parameters_of p.descriptor
+  pub gives_is : method.gives_int ≡ gives_int p.descriptor
+  pub stack_is : method.stack ≡ 16
+  pub locals_are : method.locals ≡ p.locals
+
+-- The methods of a program from a number on are made by these plans.
+abbrev pub ArePlanned : Program → ℕ → List Plan → Type 0
+ArePlanned program first plans = (k : ℕ) (p : Plan) → slice_get plans k ≡ Some p
+    → IsPlanned program (first + k) p
+
+-- A text of a class of a program spells the words of a page.
+pub record SpellsPage (program : Program) (class : ℕ) (slot : PageSlot) (page : Page) : Type 0 where
+  pub page_is : slot.page ≡ page.number
+  pub text_is : program.characters class slot.slot ≡ page_text page.words
+
+-- The methods of a class of code.
+pub record HasCodeClass (program : Program) (c : Placed) : Type 0 where
+  pub spans_by : References
+  pub run_by : References
+  pub planned : ArePlanned program c.first_method
+      (codes.span_plans c.part c.spans spans_by (length c.spans)
+      ++ codes.run_plan c.part c.spans c.first_method run_by ∷ [])
+
+-- The methods of a class of data, by its number among these, and its texts.
+pub record HasDataClass (program : Program) (code_classes methods : ℕ) (pages : List Page) (k : ℕ)
+    : Type 0 where
+  pub by : References
+  pub texts : List PageSlot
+  pub texts_are : AllZip (SpellsPage program (class_number code_classes k)) texts
+      (pages_of_class pages k)
+  pub planned : ArePlanned program (first_method methods k)
+      (words_plan by ∷ fill_plan texts (class_number code_classes k) (first_method methods k) by
+      ∷ [])
+
+-- The files of a translation spell classes, in which no name stands twice. In the program that these are, each field and each method is what it
+-- was planned to be, and has its number, and there are no others. The layout has the spans of the classes of code, and their blocks.
+pub record IsLinked (source : Source) (name : Text) (method_bytes : ℕ) (built : Built)
+    : Type 0 where
+  pub code : List Placed
+  pub some : 1 ≤ length code
+  pub code_is : AreCodeClasses source method_bytes code
+  pub spans_are : built.layout.spans.items ≡ spans_of code
+  pub blocks_are : built.layout.blocks.items ≡ blocks_of 0 code
+  pub main : MainClass
+  pub content : IsContent source (starts_of code) (map run_of code) (fills_behind source code) main
+  pub classes : List Class
+  pub spelled : AllZip (λ (f : NamedFile) (c : Class). Spells f.bytes.items c)
+      built.files.items classes
+  pub distinct : twice_fault [] 0 classes ≡ None
+  pub fields_are : (f : ℕ) → f < 38 → (program_of classes).field f
+      ≡ Some (kind_of (field_descriptor f))
+  pub no_more_fields : (f : ℕ) → 38 ≤ f → (program_of classes).field f ≡ None
+  pub first_is : (program_of classes).first ≡ run_number
+  pub texts : List ℕ
+  pub texts_are : AllZip (λ (slot : ℕ) (characters : List ℕ). (program_of classes).characters 0 slot
+      ≡ characters) texts (share_texts main.runs.now)
+  pub main_by : References
+  pub main_planned : ArePlanned (program_of classes) 0 (main_plans main texts main_by)
+  pub code_has : (i : ℕ) (c : Placed) → slice_get code i ≡ Some c
+      → HasCodeClass (program_of classes) c
+  pub data_has : (k : ℕ) → k < class_count (filled_pages source)
+      → HasDataClass (program_of classes) (length code) (code_methods code) (filled_pages source) k
+  pub no_more_methods : (m : ℕ)
+      → first_method (code_methods code) (class_count (filled_pages source)) ≤ m
+      → (program_of classes).method m ≡ None

@@ -1,0 +1,34 @@
+-- How the program of a translation makes its memory and begins.
+use Rattle.std.specs.Prelude.{◌≢◌, ℕ, ◌+◌, ◌*◌, ◌<◌, ◌≤◌, List}
+use Rattle.elf_image.specs.Start.{Source, image_of, readable, writable}
+use Rattle.image_parts.specs.declared.page_run.PageRun.{PageRun}
+use Rattle.image_parts.specs.Pages.{page_words}
+use Rattle.jvm_program.specs.Program.{Program}
+use Rattle.guest_layout.specs.Numbers.{run_number, choose_number, pages_number}
+use Rattle.running_laws.specs.LoadingCodeLaws.Loaded.{Filler, MakesMemory, run_shares, memory_turns}
+use Rattle.running_laws.specs.LoadingCodeLaws.Made.{IsProgram}
+use Rattle.program_classes.specs.Content.{text_runs}
+use Rattle.program_translation.specs.Classes.{Placed}
+use Rattle.program_translation.specs.DataFiles.{class_count, filled_pages, first_method, fill_of}
+use Rattle.program_translation.specs.MainFile.{beginning_of}
+use Rattle.program_translation.specs.Translation.{code_methods}
+
+-- A method takes no part in loading: it is not the program's first one, nor the one that makes pages, nor one of a class of data.
+pub record TakesNoPart (source : Source) (code : List Placed) (m : ℕ) : Type 0 where
+  pub first : run_number ≢ m
+  pub pages : pages_number ≢ m
+  pub words : (k : ℕ) → k < class_count (filled_pages source)
+      → first_method (code_methods code) k ≢ m
+  pub fills : (k : ℕ) → k < class_count (filled_pages source) → fill_of (code_methods code) k ≢ m
+
+-- A program begins as a source does and makes its memory, in a region of so many words, from texts that tell these runs of pages. A method m
+-- takes no part in it. It takes some 42,057 instructions a page.
+pub record LoadsSource (source : Source) (program : Program) (words m : ℕ) (texts : List ℕ)
+    (runs : List PageRun) : Type 0 where
+  pub fillers : List Filler
+  pub begins : IsProgram program run_number m choose_number pages_number (beginning_of source)
+      texts fillers
+  pub makes : MakesMemory program words m pages_number texts (run_shares text_runs runs) fillers
+      (readable source) (writable source) (page_words source)
+  pub in_time : memory_turns (run_shares text_runs runs) fillers
+      ≤ 6 + 42057 * (image_of source).mapped

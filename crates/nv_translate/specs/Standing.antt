@@ -1,0 +1,35 @@
+-- The methods of a translation as those of a program that translates a guest's code.
+use Rattle.std.specs.Prelude.{◌≡◌, ℕ, List}
+use Rattle.std.specs.List.{AllZip}
+use Rattle.delay_slots.specs.Units.{units_of}
+use Rattle.elf_image.specs.Start.{Source, image_of}
+use Rattle.jvm_program.specs.Program.{Program}
+use Rattle.guest_layout.specs.Numbers.{choose_number, missing_number}
+use Rattle.span_code.specs.Pieces.{flagged}
+use Rattle.running_laws.specs.TrampolineLaws.Classes.{CodeClass}
+use Rattle.running_laws.specs.TrampolineLaws.Programs.{IsTranslated}
+use Rattle.program_translation.specs.Classes.{Placed}
+
+-- a class of a translation, whose range has these words
+abbrev pub class_of : Placed → List ℕ → CodeClass
+class_of p words = record {
+  start = p.part.start;
+  words = words;
+  leads = flagged p.part.leads.now;
+  first = p.part.first;
+  count = p.part.words;
+  spans = p.spans;
+  first_method = p.first_method;
+}
+
+-- It is that class: its range has words of which these are the units.
+pub record IsClassOf (p : Placed) (c : CodeClass) : Type 0 where
+  pub is : c ≡ class_of p c.words
+  pub units_are : p.part.units.now ≡ units_of c.words
+
+-- The classes of code of a translation are the classes of a program, which is a translation of the source's code.
+pub record Stands (source : Source) (placed : List Placed) (program : Program) : Type 0 where
+  pub classes : List CodeClass
+  pub classes_are : AllZip IsClassOf placed classes
+  pub translated : IsTranslated program (image_of source).order choose_number missing_number classes
+      (image_of source).code

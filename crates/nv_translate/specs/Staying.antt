@@ -1,0 +1,45 @@
+-- Where only the method of a site and helper methods run.
+use Rattle.std.specs.Prelude.{◌≡◌, ℕ, ◌+◌, ◌<◌, ◌≤◌, ◌⊎◌, IsTrue, List, [], ◌∷◌, Some, ⊤}
+use Rattle.nv_events.specs.Question.{Question}
+use Rattle.nv_events.specs.Answer.{Answer, fits}
+use Rattle.nv_events.specs.Turn.{Turn, moves, ends, leaves, asks}
+use Rattle.run_laws.specs.Trail.{advanced}
+use Rattle.mips_decode.specs.State as guest
+use Rattle.jvm_program.specs.declared.instruction.Instruction.{Instruction}
+use Rattle.jvm_program.specs.Step.{State, Frame}
+use Rattle.running_laws.specs.SpanCodeLaws.Helpers.{helper_count}
+use Rattle.running_laws.specs.SpanCodeLaws.Sites.{Site, turn_in}
+use Rattle.running_laws.specs.SpanCodeLaws.Resuming.{FollowsInSpan, LastInSpan}
+
+-- the first frame is one of the site's method, or of a helper method
+abbrev pub RunsInside : Site → List Frame → Type 0
+RunsInside site [] = ⊥
+RunsInside site (f ∷ others) = (f.method ≡ site.method) ⊎ (f.method < helper_count)
+
+-- so it is in each state to which so many turns that only move lead
+abbrev pub StaysInside : Site → ℕ → State → Type 0
+StaysInside site n x = (i : ℕ) (z : State) → i ≤ n → advanced (turn_in site) i x ≡ Some z
+    → RunsInside site z.frames
+
+-- behind a question too, by each answer
+abbrev pub StaysAnswered : (site : Site) (high most : ℕ) (total : (Instruction → ℕ) → ℕ)
+    (Arrives : State → guest.State → Type 0) (q : Question)
+    (next : Answer → guest.State) (used place : ℕ) (own : Turn State)
+    → LastInSpan site high most total Arrives (asks q next) used place own → Type 0
+StaysAnswered site high most total Arrives q next used place (asks r then) like =
+    (a : Answer) (fit : IsTrue (fits a q)) → StaysInside site (like.1.comes a fit).turns (then a)
+StaysAnswered site high most total Arrives q next used place (moves t) like = ⊤
+StaysAnswered site high most total Arrives q next used place (ends e) like = ⊤
+StaysAnswered site high most total Arrives q next used place (leaves r e) like = ⊤
+
+-- While the classes follow turns of the guest, it is so.
+abbrev pub Stays : (site : Site) (low high least most : ℕ) (total : (Instruction → ℕ) → ℕ)
+    (Arrives : State → guest.State → Type 0) (x : State)
+    (last : Turn guest.State) → FollowsInSpan site low high least most total Arrives x last → Type 0
+Stays site low high least most total Arrives x (moves t) f = StaysInside site f.turns x
+Stays site low high least most total Arrives x (ends e) f = StaysInside site f.turns x
+Stays site low high least most total Arrives x (leaves q e) f = StaysInside site f.turns x
+Stays site low high least most total Arrives x (asks q next) f =
+    StaysInside site f.turns x
+    × StaysAnswered site high most total Arrives q next (f.turns + 1) f.place
+    (turn_in site f.before) f.last

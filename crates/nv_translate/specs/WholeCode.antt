@@ -1,0 +1,15 @@
+-- The code of a program that was accepted.
+use Rattle.std.specs.Prelude.{◌≤◌, List, All}
+use Rattle.elf_reader.specs.declared.range.Range.{Range}
+use Rattle.elf_reader.specs.Area.{area}
+use Rattle.elf_reader.specs.Fault.{IsRunsOf}
+use Rattle.elf_image.specs.Refusals.{code_words}
+use Rattle.elf_image.specs.Start.{Source, image_of}
+use Rattle.elf_image.specs.Whole.{IsWholeRange}
+
+-- It has not too many words, and each of its runs is whole.
+pub record HasWholeCode (source : Source) : Type 0 where
+  pub words : (ranges : List Range) → IsRunsOf (area source.file) ranges
+      → code_words ranges ≤ 1_048_576
+  pub whole : (ranges : List Range) → IsRunsOf (area source.file) ranges
+      → All (IsWholeRange (image_of source).code) ranges

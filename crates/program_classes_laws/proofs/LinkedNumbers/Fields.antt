@@ -1,0 +1,64 @@
+-- The fields of the main class differ.
+use Rattle.std.proofs.Common.{◌≡◌, ℕ, ◌+◌, ◌<◌, false, cond, List, [], ◌∷◌, ◌++◌, map, drop, refl, sym, ap, subst, ◌∙◌, arith}
+use Rattle.std.specs.Prelude.{codes, decimal}
+use Rattle.std.specs.List.{AllByRecursion, IsDistinct, range_with_len}
+use Rattle.std.proofs.lemmas.Bool.{lt-ltb}
+use Rattle.std.proofs.lemmas.Fmt.{decimal_injective}
+use Rattle.name_resolution.specs.Names.{Signature, same_signature}
+use Rattle.name_resolution.specs.Faults.{has_equal}
+use Rattle.guest_layout.specs.Fields.{special_name, field_name, field_descriptor}
+use Rattle.program_classes_laws.specs.Planned.{numbered}
+use Rattle.program_classes_laws.specs.Translated.{fields_of_main}
+use Rattle.program_classes_laws.proofs.LinkedNumbers.Numbers.{text-other}
+use Rattle.program_classes_laws.proofs.LinkedNumbers.Signatures.{none-equal, distinct-from}
+use Rattle.program_classes_laws.proofs.LinkedNumbers.Names.{distinct-range, no-digit, other-first}
+
+abbrev field : ℕ → Signature
+field = numbered field_name field_descriptor
+
+register-name : (i : ℕ) → i < 31 → field_name i ≡ 114 ∷ decimal (i + 1)
+register-name i low = ap (λ b. cond b (codes "r" ++ decimal (i + 1)) (special_name i)) (lt-ltb i 31 low)
+
+registers-differ : (i j : ℕ) → i < j → j < 31 → same_signature (field i) (field j) ≡ false
+registers-differ i j less high = other-first (field i) (field j) (text-other (field_name i) (field_name j) (λ e.
+    let both : 114 ∷ decimal (i + 1) ≡ 114 ∷ decimal (j + 1) = sym (register-name i (omega arith)) ∙ e ∙ register-name j high in
+    let same : i + 1 ≡ j + 1 = decimal_injective (i + 1) (j + 1) (omega arith) (omega arith) (ap (drop 1) both) in
+    omega arith))
+
+-- the second character of the other names is no digit
+not-special : (i : ℕ) → i < 31 → (s : Signature) (a c : ℕ) (cs : List ℕ) → 57 < c → s.name ≡ a ∷ c ∷ cs → same_signature (field i) s ≡ false
+not-special i low s a c cs above is = other-first (field i) s (text-other (field_name i) s.name (λ e.
+    let both : 114 ∷ decimal (i + 1) ≡ a ∷ c ∷ cs = sym (register-name i low) ∙ e ∙ is in
+    no-digit (i + 1) c cs (omega arith) above (ap (drop 1) both)))
+
+abbrev specials : List Signature
+specials = map field (range_with_len 31 7)
+
+none-special : (i : ℕ) → i < 31 → AllByRecursion (λ s. same_signature (field i) s ≡ false) specials
+none-special i low =
+    let other = not-special i low in (
+      other (field 31) 104 105 [] (omega arith) refl,
+      (
+        other (field 32) 108 111 [] (omega arith) refl,
+        (
+          other (field 33) 112 99 [] (omega arith) refl,
+          (
+            other (field 34) 114 100 [] (omega arith) refl,
+            (
+              other (field 35) 119 114 [] (omega arith) refl,
+              (
+                other (field 36) 108 108 [] (omega arith) refl,
+                (other (field 37) 108 102 [] (omega arith) refl, tt),
+              ),
+            ),
+          ),
+        ),
+      ),
+    )
+
+in-parts : fields_of_main ≡ map field (range_with_len 0 31) ++ specials
+in-parts = refl
+
+pub fields-differ : has_equal fields_of_main ≡ false
+fields-differ = none-equal fields_of_main (subst (IsDistinct same_signature) (sym in-parts)
+    (distinct-range same_signature field 31 0 31 specials (omega arith) registers-differ none-special (distinct-from specials refl)))

@@ -1,0 +1,4 @@
+mod ChoicePasses
+mod TurnLaws
+pub mod TranslationRuns
+pub mod TrampolineLaws

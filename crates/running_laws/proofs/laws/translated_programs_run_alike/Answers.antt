@@ -1,0 +1,16 @@
+use Rattle.running_laws.proofs.TranslationRuns.Given.{LoadingLaws}
+use Rattle.running_laws.proofs.TranslationRuns.Running.{runs-alike}
+use Rattle.running_laws.proofs.laws.translated_programs_run_alike.Goals as goal
+
+pub returns : goal.returns
+returns c t extra is within answers =
+    let laws : LoadingLaws = record {
+      loads = c.programs_load.ensures;
+      chooses = c.begun_programs_choose.ensures;
+      lower = c.spans_are_numbered.ensures.lower;
+      look_reads = c.weights.ensures.reads;
+      look_chars = c.weights.ensures.chars;
+      look_switches = c.weights.ensures.switches;
+      look_entries = c.weights.ensures.entries;
+    } in
+    runs-alike laws c.turns_are_followed.ensures t is extra within answers

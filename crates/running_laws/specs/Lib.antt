@@ -1,0 +1,9 @@
+pub mod Going
+pub mod Standing
+pub mod Counted
+pub mod Rests
+pub mod Marks
+pub mod Translated
+pub mod LoadingCodeLaws
+pub mod SpanCodeLaws
+pub mod TrampolineLaws

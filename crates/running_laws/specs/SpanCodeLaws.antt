@@ -1,0 +1,12 @@
+-- What crates above this one name of `span_code_laws`.
+pub use Rattle.span_code_laws.specs.Entering as Entering
+pub use Rattle.span_code_laws.specs.GuestFollows.Following as Following
+pub use Rattle.span_code_laws.specs.GuestFollows.Helpers as Helpers
+pub use Rattle.span_code_laws.specs.GuestCodeLaws.Instructions as Instructions
+pub use Rattle.span_code_laws.specs.GuestFollows.Lawful as Lawful
+pub use Rattle.span_code_laws.specs.Made as Made
+pub use Rattle.span_code_laws.specs.GuestCodeLaws.Pieces as Pieces
+pub use Rattle.span_code_laws.specs.Registers as Registers
+pub use Rattle.span_code_laws.specs.Resuming as Resuming
+pub use Rattle.span_code_laws.specs.GuestFollows.Sites as Sites
+pub use Rattle.span_code_laws.specs.Spans as Spans

@@ -1,0 +1,15 @@
+//! A translated program runs as its guest: from each turn to the next, from the first to any number, and what is counted on the way. Each
+//! law is the contract of a call that does nothing.
+#![tactic(auto)]
+
+pub mod choice_passes;
+pub mod laws;
+pub mod turn_laws;
+
+pub use loading_code_laws::laws::{images_are_pages, loading_takes, shares_tell_runs};
+pub use span_code_laws::laws::{
+    pieces_are_made, pieces_follow, spans_are_entered, stretches_are_of_pieces,
+};
+pub use span_code_laws::piece_registers::lines_of_pieces_read_and_write_registers_once;
+pub use span_code_laws::units_are_lawful;
+pub use trampoline_laws::laws::spans_are_numbered;

@@ -1,0 +1,72 @@
+//! How the classes of a translated program follow the guest. Each call here does nothing: its contract is the law.
+
+ghost use Rattle.std.specs.Prelude.{ℕ, Bool, List, Option};
+ghost use Rattle.nv_words.specs.declared.order.Order.{Order};
+ghost use Rattle.run_laws.specs.Turns.{LawOfTurn, LawOfMarks};
+ghost use Rattle.mips_decode.specs.State as guest;
+ghost use Rattle.jvm_program.specs.Program.{Program};
+ghost use Rattle.trampoline_laws.specs.Classes.{CodeClass};
+ghost use Rattle.trampoline_laws.specs.Programs.{IsTranslated};
+ghost use Rattle.running_laws.specs.Counted.{pair};
+ghost use Rattle.running_laws.specs.Rests.{Rests};
+ghost use Rattle.running_laws.specs.Marks.{AtPiece, MarksPieces};
+
+use crate::choice_passes::{choosers_lead_to_words, guests_fault_outside_code, spans_come_back};
+use delay_slots::{unit_is_its_steps, unit_leads_on};
+use span_code_laws::span_steps::{
+    last_units_in_pieces_are_followed, pieces_are_entered, units_in_pieces_are_followed,
+    units_stand_in_pieces, words_alone_are_followed,
+};
+use span_code_laws::{pcs_are_words, units_are_counted, units_make_steps};
+use trampoline_laws::laws::{
+    classes_stand, spans_are_apart, spans_are_numbered, spans_lie_in_classes,
+};
+
+/// From each state of rest the classes follow the guest's next turn, or its next two where the first leads into a delay slot, within 512 turns for
+/// one of the guest's, and come to rest again. They read a word of an array only where the guest's instruction reads one, read no character, and
+/// enter a span, by one call and one switch, only where the guest has crossed from one span to another.
+pub fn turns_are_followed()
+    ensures { (program : Program) (words : ℕ) (order : Order) (choose missing : ℕ)
+        (classes : List CodeClass) (code : ℕ → Option ℕ) (marked : guest.State → Bool)
+        → IsTranslated program order choose missing classes code → MarksPieces classes marked
+        → LawOfTurn (pair program words classes marked)
+        (Rests program words order choose classes code) 512 }
+{
+    unit_is_its_steps();
+    unit_leads_on();
+    units_are_counted();
+    units_make_steps();
+    pcs_are_words();
+    words_alone_are_followed();
+    pieces_are_entered();
+    units_stand_in_pieces();
+    units_in_pieces_are_followed();
+    last_units_in_pieces_are_followed();
+    classes_stand();
+    spans_lie_in_classes();
+    spans_are_numbered();
+    spans_are_apart();
+    choosers_lead_to_words();
+    guests_fault_outside_code();
+    spans_come_back();
+}
+
+/// From rest at a marked state of the guest the classes come within 150 turns that only move to the code of the word at which the guest stands, with
+/// which a piece begins.
+pub fn marks_are_reached()
+    ensures { (program : Program) (words : ℕ) (order : Order) (choose missing : ℕ)
+        (classes : List CodeClass) (code : ℕ → Option ℕ) (marked : guest.State → Bool)
+        → IsTranslated program order choose missing classes code → MarksPieces classes marked
+        → LawOfMarks (pair program words classes marked)
+        (Rests program words order choose classes code)
+        (AtPiece program words order classes choose) 150 }
+{
+    units_stand_in_pieces();
+    classes_stand();
+    spans_lie_in_classes();
+    spans_are_numbered();
+    spans_are_apart();
+    choosers_lead_to_words();
+    guests_fault_outside_code();
+    spans_come_back();
+}

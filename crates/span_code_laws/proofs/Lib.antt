@@ -1,0 +1,3 @@
+pub mod SpanCodeLaws
+mod SpanSteps
+mod PieceRegisters

@@ -1,0 +1,95 @@
+-- The pieces of a span as turns of the guest; where the classes hold its state; and what a return does.
+use Rattle.std.proofs.Common.{◌≡◌, ℕ, ◌<◌, ◌==◌, ◌&&◌, nat_lt, Bool, true, false, if◌then◌else◌, List, [], ◌∷◌, All, drop, slice_get, None, Some, refl, ap, subst, sym, ◌∙◌, arith}
+use Rattle.std.proofs.lemmas.List.Elements.{All-take, All-drop}
+use Rattle.std.proofs.lemmas.Nat.Bits.{bit_at-zero}
+use Rattle.std.specs.Int.{bit_at}
+use Rattle.mips_decode.specs.State.{State}
+use Rattle.delay_slots.specs.declared.unit.Unit.{Unit as Word}
+use Rattle.delay_slots.specs.Units.{units_of}
+use Rattle.delay_slots.specs.Turns.{AreMade, LeadsOn, StandsAt, last_turn, unit_turns}
+use Rattle.block_builder.specs.declared.block.Block.{Block}
+use Rattle.block_builder.specs.Blocks.{IsPiece}
+use Rattle.jvm_program.specs.Effect.{Workspace}
+use Rattle.jvm_program.specs.Step as machine
+use Rattle.jvm_program.specs.declared.value.Value.{Value}
+use Rattle.code_steps.specs.Placing.{LiesAt}
+use Rattle.guest_layout.specs.FieldNumbers.{register_field}
+use Rattle.guest_code.specs.Access.{keeps}
+use Rattle.word_emitter.specs.Pieces.{piece_units}
+use Rattle.word_emitter.specs.Exits.{returns}
+use Rattle.lawful_units.specs.Lawful.{IsLawful}
+use Rattle.span_code.specs.declared.span_words.SpanWords.{SpanWords}
+use Rattle.span_code.specs.Pieces.{piece_at}
+use Rattle.guest_follows.specs.Holding.{Holds, reached}
+use Rattle.guest_follows.specs.Sites.{Site, stands, turn_in}
+use Rattle.guest_code_laws.proofs.PieceLaws.Turns.{ChangeWritten}
+use Rattle.guest_code_laws.specs.Pieces.{HoldsAll, piece_turns}
+use Rattle.span_code_laws.proofs.SpanCodeLaws.Made.{IsMade, are-at, list-made}
+use Rattle.span_code_laws.proofs.SpanCodeLaws.Straight.{are-lawful, are-straight, count, count-few, piece-some}
+
+-- ---- the state is held in fields and arrays alone
+
+none-kept : (r : ℕ) → keeps 0 r ≡ false
+none-kept r = by_width (nat_lt r 32)
+  where
+    by_width : (b : Bool) → (b && bit_at 0 r == 1) ≡ false
+    by_width true = ap (λ n. n == 1) (bit_at-zero r)
+    by_width false = refl
+
+pub held-again : (w v : Workspace) (t : State) → v.fields ≡ w.fields → v.heap ≡ w.heap → HoldsAll w t → HoldsAll v t
+held-again w v t fields heap h =
+    let g = subst (λ heap. Holds (λ r. true) (reached 0 w) v.fields heap t.registers t.hi t.lo t.load_link t.memory) (sym heap)
+    (subst (λ fields. Holds (λ r. true) (reached 0 w) fields w.heap t.registers t.hi t.lo t.load_link t.memory) (sym fields) h) in
+    record {
+      register_is = λ r above below known.
+          ap (λ b. if b then v.locals r else v.fields (register_field r)) (none-kept r)
+          ∙ ap (λ (fields : ℕ → Value). fields (register_field r)) fields
+          ∙ sym (ap (λ b. if b then w.locals r else w.fields (register_field r)) (none-kept r))
+          ∙ h.register_is r above below known;
+      register_word = g.register_word;
+      hi_is = g.hi_is;
+      hi_word = g.hi_word;
+      lo_is = g.lo_is;
+      lo_word = g.lo_word;
+      pc = g.pc;
+      pc_is = g.pc_is;
+      link_is = g.link_is;
+      readable = g.readable;
+      readable_is = g.readable_is;
+      writable = g.writable;
+      writable_is = g.writable_is;
+      memory_held = g.memory_held;
+    }
+
+-- ---- a return
+
+pub return-turn : (site : Site) (at : ℕ) (w : Workspace) → LiesAt site.program site.method at (returns ∷ [])
+    → turn_in site (stands site at w) ≡ machine.returned_to site.others None w
+return-turn site at w lies =
+    ap (machine.executed site.program site.words (stands site at w)
+    (record { method = site.method; at = at; locals = w.locals; operands = w.operands }) site.others) lies.0
+
+-- ---- pieces
+
+module _ (words : List ℕ) (leads : ℕ → Bool) (span : SpanWords) (k : ℕ) (below : k < span.end)
+    (piece : IsPiece (units_of words) (piece_at (units_of words) leads span k)) where
+  abbrev block : Block
+  block = piece_at (units_of words) leads span k
+
+  abbrev own : List Word
+  own = piece_units (units_of words) block
+
+  pub own-made : (change : ChangeWritten)
+      (turns_made : (x : State) (i : ℕ) (unit : Word) → StandsAt x span.start words i → slice_get (units_of words) i ≡ Some unit
+      → AreMade x (unit_turns unit x))
+      (leads_on : (x : State) (i : ℕ) (unit : Word) → x.begun ≡ true → slice_get (units_of words) i ≡ Some unit
+      → LeadsOn x (last_turn (unit_turns unit x)))
+      (x : State) → All IsLawful (units_of words) → StandsAt x span.start words k → IsMade x (piece_turns own x)
+  own-made change turns_made leads_on x lawful s =
+      let few = count-few (units_of words) block piece in
+      let within = piece.within in
+      list-made change span.start words turns_made leads_on own k x (piece-some (units_of words) leads span k below piece) s
+      (are-at (units_of words) (count (units_of words) block piece) k (omega (arith, few, within)))
+      (are-lawful own (All-take IsLawful (count (units_of words) block piece) (drop k (units_of words))
+      (All-drop IsLawful k (units_of words) lawful)))
+      (are-straight (units_of words) block piece)

@@ -1,0 +1,252 @@
+-- The last unit of a piece: behind it what was written is put back, and the classes go on as the unit leads.
+use Rattle.std.proofs.Common.{◌≡◌, ℕ, ◌+◌, ◌-◌, ◌*◌, Bool, true, List, [], ◌∷◌, ◌++◌, length, length-append, map, Option, refl, ap, subst, sym, ◌∙◌, arith}
+use Rattle.std.specs.List.{range_with_len}
+use Rattle.nv_words.specs.declared.order.Order.{Order}
+use Rattle.nv_events.specs.Turn.{Turn, moves, ends, leaves, asks}
+use Rattle.mips_decode.specs.State.{State}
+use Rattle.delay_slots.specs.declared.unit.Unit.{Unit as Word}
+use Rattle.delay_slots.specs.declared.unit.Unit.TheVariants as units
+use Rattle.delay_slots.specs.Units.{units_of}
+use Rattle.delay_slots.specs.Turns.{unit_turns, turn_count, last_turn}
+use Rattle.block_builder.specs.Blocks.{unit_at}
+use Rattle.block_builder.specs.Registers.{unit_writes}
+use Rattle.jvm_program.specs.declared.instruction.Instruction.{Instruction}
+use Rattle.jvm_program.specs.declared.value.Value.{Value}
+use Rattle.jvm_program.specs.Effect.{Workspace}
+use Rattle.code_steps.specs.declared.step.Step.{Step}
+use Rattle.code_steps.specs.Widths.{size}
+use Rattle.code_steps.specs.Placing.{LiesAt}
+use Rattle.guest_layout.specs.FieldNumbers.{pc_field}
+use Rattle.guest_code.specs.Units.{unit_code}
+use Rattle.word_emitter.specs.Exits.{exit_code, follows}
+use Rattle.word_emitter.specs.Pieces.{bank_of, for_registers, is_written, put_back, units_code}
+use Rattle.lawful_units.specs.Lawful.{has_register}
+use Rattle.span_code.specs.declared.span_words.SpanWords.{SpanWords}
+use Rattle.span_code.specs.Pieces.{begins}
+use Rattle.span_code.specs.Neighbours.{address, next_such}
+use Rattle.span_code.specs.Parts.{extent, exit_of}
+use Rattle.span_code.specs.Laying.{entry_at, laid_step, return_offset, targets_of}
+use Rattle.span_code.proofs.StandingLemmas.{word-stands}
+use Rattle.guest_follows.specs.Sites.{Site, stands, whole_weight}
+use Rattle.guest_follows.specs.Following.{ComesToEnd, Follows}
+use Rattle.guest_follows.specs.Behind.{IsHeld}
+use Rattle.guest_follows.proofs.GuestFollows.CodeLaws.{code-laws}
+use Rattle.guest_follows.proofs.GuestFollows.Weights.{size-both}
+use Rattle.guest_code_laws.proofs.PieceLaws.Arriving.{put-field, put-held}
+use Rattle.guest_code_laws.proofs.PieceLaws.Fetching.{PutsBack, each_code, puts-back}
+use Rattle.guest_code_laws.proofs.PieceLaws.Turns as reached
+use Rattle.guest_code_laws.proofs.PieceLaws.Turns.{LeavesOthers, unit-leaves}
+use Rattle.guest_code_laws.specs.Units.{UnitArrives}
+use Rattle.span_code_laws.specs.Resuming.{ComesTo, IsAtRest, IsEntryOf, Resumes}
+use Rattle.span_code_laws.specs.Spans.{HasSpan}
+use Rattle.span_code_laws.proofs.SpanCodeLaws.Counting.{putting-weighs}
+use Rattle.span_code_laws.proofs.SpanCodeLaws.Exits.{SaysGoal, exit-stays}
+use Rattle.span_code_laws.proofs.SpanCodeLaws.Going.{exit-comes, reaches-map}
+use Rattle.span_code_laws.proofs.SpanCodeLaws.Joining.{Reaches, end-before, follows-on}
+use Rattle.span_code_laws.proofs.SpanCodeLaws.Leading.{LeadsTo, unit-leads}
+use Rattle.span_code_laws.proofs.SpanCodeLaws.Warm.{each-stays, next-is}
+use Rattle.span_code_laws.specs.InPieces.{IsInPiece, StandsInPiece, fetching, known_behind, offset_in, own_units}
+use Rattle.span_code_laws.specs.Following.{UnitFollowsBy, UnitGoesOn}
+use Rattle.span_code_laws.proofs.SpanSteps.Alone.{laid-exit-weighs}
+use Rattle.span_code_laws.proofs.SpanSteps.Lists.{code-both}
+use Rattle.span_code_laws.proofs.SpanSteps.Middle.{all-done, one-done}
+use Rattle.span_code_laws.proofs.SpanSteps.Parts.{StepLaws, here-is, lawful-there, unit-lawful, unit-parts, unit-there}
+
+-- ---- where a unit leads, and what it leaves
+
+both-reached : (P Q : State → Type 0) → (turn : Turn State) → Reaches P turn → reached.Reaches Q turn → Reaches (λ t. P t × Q t) turn
+both-reached P Q (moves t) first second = (first, second)
+both-reached P Q (ends e) first second = tt
+both-reached P Q (leaves q e) first second = tt
+both-reached P Q (asks q next) first second = λ a. (first a, second a)
+
+-- ---- where its code has come to its end
+
+unit-held : (bank : ℕ) (known : ℕ → Bool) (unit : Word) (w u : Workspace) (t : State) → UnitArrives bank known unit w u t
+    → IsHeld bank known (unit_writes unit) w u t
+unit-held bank known (units.Plain i) w u t is = is.state
+unit-held bank known (units.Branch i slot) w u t is = is.state
+unit-held bank known (units.SlotMissing i) w u t is = is.state
+unit-held bank known (units.SlotIsBranch i word) w u t is = is.state
+unit-held bank known units.Call w u t is = is.state
+unit-held bank known (units.Trap kind value) w u t is = is.state
+
+unit-says : (bank : ℕ) (known : ℕ → Bool) (unit : Word) (a : ℕ) (w u : Workspace) (t : State) → LeadsTo unit a t.pc
+    → UnitArrives bank known unit w u t → SaysGoal unit u t
+unit-says bank known (units.Plain i) a w u t goes is = tt
+unit-says bank known (units.Branch i slot) a w u t goes is = (is.field_is, is.local_is)
+unit-says bank known (units.SlotMissing i) a w u t goes is = (is.field_is, is.local_is)
+unit-says bank known (units.SlotIsBranch i word) a w u t goes is = (is.field_is, is.local_is)
+unit-says bank known units.Call a w u t goes is = tt
+unit-says bank known (units.Trap kind value) a w u t goes is = absurd goes
+
+-- what is said of the goal stays
+says-still : (unit : Word) (u v : Workspace) (t : State) → v.fields pc_field ≡ u.fields pc_field → v.locals ≡ u.locals → SaysGoal unit u t
+    → SaysGoal unit v t
+says-still (units.Plain i) u v t fields locals says = tt
+says-still (units.Branch i slot) u v t fields locals says = (fields ∙ says.0, ap (λ (l : ℕ → Value). l 0) locals ∙ says.1)
+says-still (units.SlotMissing i) u v t fields locals says = (fields ∙ says.0, ap (λ (l : ℕ → Value). l 0) locals ∙ says.1)
+says-still (units.SlotIsBranch i word) u v t fields locals says = (fields ∙ says.0, ap (λ (l : ℕ → Value). l 0) locals ∙ says.1)
+says-still units.Call u v t fields locals says = tt
+says-still (units.Trap kind value) u v t fields locals says = (fields ∙ says.0, ap (λ (l : ℕ → Value). l 0) locals ∙ says.1)
+
+module _ (laws : StepLaws) (site : Site) (order : Order) (words : List ℕ) (leads : ℕ → Bool) (span : SpanWords) (has : HasSpan site words leads span)
+    (k : ℕ) (front : List Word) (unit : Word) (w : Workspace) (x : State)
+    (s : StandsInPiece order (units_of words) leads span k front unit [] w x) where
+  abbrev unit_list : List Word
+  unit_list = units_of words
+
+  abbrev own : List Word
+  own = own_units unit_list leads span k
+
+  abbrev bank : ℕ
+  bank = bank_of own
+
+  abbrev at : ℕ
+  at = offset_in unit_list leads span k front
+
+  abbrev here : ℕ
+  here = address span k + 4 * length front
+
+  abbrev own_code : List Step
+  own_code = units_code bank own (address span k)
+
+  abbrev back : List Step
+  back = for_registers (is_written own) put_back
+
+  abbrev behind : Option ℕ
+  behind = next_such (begins leads span) span k
+
+  abbrev laid : List Step → List Step
+  laid code = map (laid_step (extent span) (targets_of unit_list leads span) (return_offset unit_list leads span)) code
+
+  abbrev exit : List Step
+  exit = laid (exit_of unit_list span behind (k + length own - 1))
+
+  -- the offsets behind the unit and behind what is put back
+  abbrev second : ℕ
+  second = at + size (unit_code bank unit here)
+
+  abbrev third : ℕ
+  third = second + size back
+
+  last-word : k + length own - 1 ≡ k + length front
+  last-word = let total : length own ≡ length (front ++ unit ∷ []) = ap length s.parts in let sum = length-append front (unit ∷ []) in
+      omega (arith, total, sum)
+
+  -- the exit is that of the unit
+  exit-is : exit ≡ laid (exit_code (extent span) behind unit here)
+  exit-is =
+      let there : address span (k + length front) ≡ here = omega arith in
+      ap (λ j. laid (exit_of unit_list span behind j)) last-word
+      ∙ ap (λ a. laid (exit_code (extent span) behind (unit_at unit_list (k + length front)) a)) there
+      ∙ ap (λ u. laid (exit_code (extent span) behind u here)) (sym (unit-there laws site order words leads span has k front unit [] w x s))
+
+  back-lies : LiesAt site.program site.method second back
+      × LiesAt site.program site.method third (exit ++ (word-stands unit_list leads span k s.above s.below).behind)
+  back-lies =
+      laws.pieces.units.paths.parts site.program site.method second back (exit ++ (word-stands unit_list leads span k s.above s.below).behind)
+      (each-stays (is_written own) put_back (λ r. refl) (range_with_len 1 31))
+      (unit-parts laws site order words leads span has k front unit [] w x s).1
+
+  -- ---- behind the unit
+
+  abbrev Leads : State → Type 0
+  Leads t = LeadsTo unit here t.pc × LeavesOthers (has_register (unit_writes unit)) x t
+
+  leads-there : Reaches Leads (last_turn (unit_turns unit x))
+  leads-there =
+      both-reached (λ (t : State). LeadsTo unit here t.pc) (LeavesOthers (has_register (unit_writes unit)) x) (last_turn (unit_turns unit x))
+      (subst (λ pc. Reaches (λ (t : State). LeadsTo unit pc t.pc) (last_turn (unit_turns unit x)))
+      (here-is laws site order words leads span has k front unit [] w x s)
+      (unit-leads unit x (unit-lawful laws site order words leads span has k front unit [] w x s) s.pending))
+      (unit-leaves laws.pieces.change unit x)
+
+  abbrev Rests : State → Workspace → Type 0
+  Rests t z = IsAtRest z t × SaysGoal unit z t
+
+  module _ (t : State) (goes : Leads t) (u : Workspace) (arrives : UnitArrives bank (known_behind own front) unit w u t) where
+    all-inside : IsInPiece own own u t
+    all-inside =
+        subst (λ units. IsInPiece own units u t) (sym s.parts)
+        (one-done laws.sets own front unit (unit-lawful laws site order words leads span has k front unit [] w x s) w u x t s.inside goes.1
+        (unit-held bank (known_behind own front) unit w u t arrives))
+
+    put : PutsBack site.program site.words (is_written own) t.registers 1 31 (each_code (is_written own) put_back 1 31) u
+    put = puts-back site.program site.words (is_written own) t.registers 31 1 u (omega arith) (omega arith)
+        (all-done laws.sets own u t (lawful-there laws site order words leads span has k front unit [] w x s) all-inside)
+
+    put-rests : Rests t put.after
+    put-rests = (
+      record {
+        held = put-held site.program site.words own u t put all-inside.unwritten (known_behind own own) all-inside.held;
+        no_operands = put.operands_kept ∙ all-inside.no_operands;
+      },
+      says-still unit u put.after t (put-field site.program site.words own u t put pc_field (omega arith)) put.locals_kept
+          (unit-says bank (known_behind own front) unit here w u t goes.0 arrives),
+    )
+
+    back-comes : ComesToEnd site second third 0 62 (whole_weight order back) (Rests t) (stands site second u)
+    back-comes =
+        (code-laws laws.pieces.units.paths).end_follows site order second 0 62 put.turns back u put.after (Rests t) back-lies.0 put.comes (omega arith)
+        put.few put-rests
+
+  -- ---- and behind what is put back
+
+  abbrev OwnExit : List Step → Type 0
+  OwnExit code = (t : State) → LeadsTo unit here t.pc → (z : Workspace) → Rests t z
+      → ComesTo site third (third + size code) 0 4 (whole_weight order code) (λ y. Resumes site unit_list leads span unit y t) (stands site third z)
+
+  own-next : (b : ℕ) → follows behind b ≡ true → IsEntryOf unit_list leads span (third + size (laid (exit_code (extent span) behind unit here))) b
+  own-next b is =
+      let parts : size own_code ≡ size (units_code bank front (address span k) ++ (unit_code bank unit here ++ [])) =
+      ap size (ap (λ piece. units_code bank piece (address span k)) s.parts ∙ code-both bank front (unit ∷ []) (address span k)) in
+      let a = size-both (fetching own ++ own_code) back in
+      let b_sum = size-both (fetching own) own_code in
+      let c = size-both (fetching own) (units_code bank front (address span k)) in
+      let d = size-both (units_code bank front (address span k)) (unit_code bank unit here ++ []) in
+      let e = size-both (unit_code bank unit here) [] in
+      let f : size exit ≡ size (laid (exit_code (extent span) behind unit here)) = ap size exit-is in
+      let end : entry_at unit_list leads span k + size ((fetching own ++ own_code) ++ back) + size exit
+      ≡ third + size (laid (exit_code (extent span) behind unit here)) = omega (arith, parts, a, b_sum, c, d, e, f) in
+      subst (λ high. IsEntryOf unit_list leads span high b) end (next-is laws.pieces site words leads span has k s.above s.below s.begin b is)
+
+  exit-goes : OwnExit (laid (exit_code (extent span) behind unit here))
+  exit-goes t leads_there z rests =
+      let lies : LiesAt site.program site.method third exit =
+      (laws.pieces.units.paths.parts site.program site.method third exit (word-stands unit_list leads span k s.above s.below).behind
+      (exit-stays unit_list leads span behind (unit_at unit_list (k + length own - 1)) (address span (k + length own - 1))) back-lies.1).0 in
+      exit-comes laws.pieces.units.paths site order unit_list leads span behind unit here (omega arith) third own-next
+      (subst (LiesAt site.program site.method third) exit-is lies) t leads_there z rests.0 rests.1
+
+  pub last-goes : (total : (Instruction → ℕ) → ℕ) → UnitFollowsBy site bank (known_behind own front) at total unit w x
+      → UnitGoesOn site unit_list leads span at (turn_count (unit_turns unit x)) (132 * turn_count (unit_turns unit x) + 70) total unit w
+      (last_turn (unit_turns unit x))
+  last-goes total given =
+      let n : ℕ = turn_count (unit_turns unit x) in
+      let end : at + size (unit_code bank unit x.pc) ≡ second =
+      ap (λ pc. at + size (unit_code bank unit pc)) (here-is laws site order words leads span has k front unit [] w x s) in
+      let more : (Instruction → ℕ) → ℕ = λ weight. whole_weight order back weight + whole_weight order exit weight in
+      let exits : OwnExit exit = subst OwnExit (sym exit-is) exit-goes in
+      record {
+        high = third + size exit;
+        sum = λ weight. total weight + more weight;
+        spared = λ weight spares.
+            let first_none = putting-weighs order weight spares (is_written own) in
+            let second_none = laid-exit-weighs order unit_list leads span behind (k + length own - 1) weight spares in
+            omega (arith, first_none, second_none);
+        follows =
+            follows-on site second (third + size exit) (132 * n) 66 (132 * n + 70) total more (λ weight. total weight + more weight) (omega arith)
+            (λ weight. omega arith) (UnitArrives bank (known_behind own front) unit w) (Resumes site unit_list leads span unit) at n
+            (last_turn (unit_turns unit x)) (stands site at w)
+            (reaches-map Leads
+            (λ t. (u : Workspace) → UnitArrives bank (known_behind own front) unit w u t
+            → ComesTo site second (third + size exit) 0 66 more (λ y. Resumes site unit_list leads span unit y t) (stands site second u))
+            (λ t goes u arrives.
+            end-before site third (third + size exit) 0 4 4 (whole_weight order back) (whole_weight order exit) more (omega arith)
+            (λ weight. omega arith) (λ z v. Rests v z) (Resumes site unit_list leads span unit) second 0 62 t (stands site second u)
+            (exits t goes.0) (back-comes t goes u arrives))
+            (last_turn (unit_turns unit x)) leads-there)
+            (subst (λ high. Follows site at high n (132 * n) total (UnitArrives bank (known_behind own front) unit w) (stands site at w)
+            (last_turn (unit_turns unit x))) end given);
+      }

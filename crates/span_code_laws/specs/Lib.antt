@@ -1,0 +1,10 @@
+pub mod Entering
+pub mod Resuming
+pub mod Spans
+pub mod Counting
+pub mod Made
+pub mod InPieces
+pub mod Following
+pub mod Registers
+pub mod GuestCodeLaws
+pub mod GuestFollows

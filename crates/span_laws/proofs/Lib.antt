@@ -1,3 +1,0 @@
-pub mod SpanLaws
-mod SpanSteps
-mod PieceRegisters

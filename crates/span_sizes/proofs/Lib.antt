@@ -1,4 +1,0 @@
-pub mod Totals
-pub mod OwnWords
-pub mod SpanSizes
-pub mod CutSizes

@@ -1,5 +1,0 @@
-use Rattle.span_sizes.proofs.CutSizes.{cut-within}
-use Rattle.span_sizes.proofs.laws.divided_words_keep_to_the_limit.Goals as goal
-
-pub returns : goal.returns
-returns c units leads start first count limit spans cuts = cut-within units leads start first limit spans 0 count cuts

@@ -1,5 +1,0 @@
-use Rattle.span_sizes.proofs.SpanSizes.{span-fits}
-use Rattle.span_sizes.proofs.laws.spans_keep_to_their_bytes.Goals as goal
-
-pub returns : goal.returns
-returns c units leads span = span-fits units leads span

@@ -1,4 +1,0 @@
-//! How many bytes the method of a span has.
-#![tactic(auto)]
-
-pub mod laws;

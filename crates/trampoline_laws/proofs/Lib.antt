@@ -1,0 +1,2 @@
+mod ChoiceLaws
+pub mod TrampolineLaws

@@ -1,2 +1,0 @@
-mod ChoiceLaws
-pub mod TranslatedPrograms

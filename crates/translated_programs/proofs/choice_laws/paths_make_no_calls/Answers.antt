@@ -1,5 +1,0 @@
-use Rattle.translated_programs.proofs.ChoiceLaws.Calls.{path-beside}
-use Rattle.translated_programs.proofs.choice_laws.paths_make_no_calls.Goals as goal
-
-pub returns : goal.returns
-returns c = path-beside

@@ -1,5 +1,0 @@
-use Rattle.translated_programs.proofs.ChoiceLaws.Choosers.{stray-faults}
-use Rattle.translated_programs.proofs.choice_laws.strays_fault.Goals as goal
-
-pub returns : goal.returns
-returns c program words x w is = stray-faults program words x w is

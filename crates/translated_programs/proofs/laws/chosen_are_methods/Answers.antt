@@ -1,9 +1,0 @@
-use Rattle.translated_programs.proofs.TranslatedPrograms.Programs.{methods, span-methods}
-use Rattle.translated_programs.proofs.laws.chosen_are_methods.Goals as goal
-
-pub returns-clause-classes : goal.returns-clause-classes
-returns-clause-classes c = methods
-
-pub returns-clause-spans : goal.returns-clause-spans
-returns-clause-spans c program order choose missing classes code n a t at =
-    span-methods program order choose missing classes code t n a at

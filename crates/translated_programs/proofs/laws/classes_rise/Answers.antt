@@ -1,8 +1,0 @@
-use Rattle.translated_programs.proofs.TranslatedPrograms.Programs.{rise, some}
-use Rattle.translated_programs.proofs.laws.classes_rise.Goals as goal
-
-pub returns-clause-rise : goal.returns-clause-rise
-returns-clause-rise c = rise
-
-pub returns-clause-some : goal.returns-clause-some
-returns-clause-some c = some

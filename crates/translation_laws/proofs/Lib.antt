@@ -1,8 +1,0 @@
-mod LinkedTranslations
-mod TranslatedMethods
-mod TranslatedLoading
-mod TranslatedTypes
-mod AcceptedTranslations
-mod CountedTranslations
-mod WarmTranslations
-pub mod EndedRuns

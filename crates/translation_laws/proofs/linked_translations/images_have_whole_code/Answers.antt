@@ -1,4 +1,0 @@
-use Rattle.translation_laws.proofs.linked_translations.images_have_whole_code.Goals as goal
-
-pub returns : goal.returns
-returns c = record { words = c.laws.ensures.words; whole = c.laws.ensures.whole }

@@ -1,8 +1,0 @@
-use Rattle.translation_laws.proofs.TranslatedLoading.Others.{code-takes-no-part, behind-takes-no-part}
-use Rattle.translation_laws.proofs.translated_loading.others_do_not_load.Goals as goal
-
-pub returns-clause-code : goal.returns-clause-code
-returns-clause-code c = code-takes-no-part
-
-pub returns-clause-behind : goal.returns-clause-behind
-returns-clause-behind c = behind-takes-no-part

@@ -1,5 +1,0 @@
-use Rattle.translation_laws.proofs.TranslatedMethods.Standing.{stands}
-use Rattle.translation_laws.proofs.translated_methods.translations_stand.Goals as goal
-
-pub returns : goal.returns
-returns c source name method_bytes built guest large l = stands source name method_bytes built guest large l

@@ -1,4 +1,0 @@
-mod ChoicePasses
-mod TurnLaws
-pub mod TranslationRuns
-pub mod TranslatedPrograms

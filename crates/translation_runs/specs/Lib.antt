@@ -1,9 +1,0 @@
-pub mod Going
-pub mod Standing
-pub mod Counted
-pub mod Rests
-pub mod Marks
-pub mod Translated
-pub mod LoadingLaws
-pub mod SpanLaws
-pub mod TranslatedPrograms

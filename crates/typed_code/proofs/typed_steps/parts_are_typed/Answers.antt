@@ -1,5 +1,0 @@
-use Rattle.typed_code.proofs.TypedSteps.Joining.{parts-typed}
-use Rattle.typed_code.proofs.typed_steps.parts_are_typed.Goals as goal
-
-pub returns : goal.returns
-returns c rules part parts f behind m all = parts-typed rules part parts f behind m all
