@@ -1,0 +1,36 @@
+/* mmap and its kin: no file can be mapped, so each fails with ENOSYS. */
+#ifndef NESTED_SYS_MMAN_H
+#define NESTED_SYS_MMAN_H
+
+#include <sys/types.h>
+
+#ifdef __cplusplus
+extern "C" {
+#endif
+
+#define PROT_NONE 0
+#define PROT_READ 1
+#define PROT_WRITE 2
+#define PROT_EXEC 4
+
+#define MAP_SHARED 1
+#define MAP_PRIVATE 2
+#define MAP_FIXED 0x10
+#define MAP_ANONYMOUS 0x20
+#define MAP_ANON MAP_ANONYMOUS
+#define MAP_FAILED ((void *)-1)
+
+#define MS_ASYNC 1
+#define MS_INVALIDATE 2
+#define MS_SYNC 4
+
+void *mmap(void *at, size_t bytes, int protection, int flags, int fd, off_t offset);
+int munmap(void *at, size_t bytes);
+int msync(void *at, size_t bytes, int flags);
+int mprotect(void *at, size_t bytes, int protection);
+
+#ifdef __cplusplus
+}
+#endif
+
+#endif

@@ -1,0 +1,173 @@
+/* Tries what only a guest has: one working folder, errors by their numbers, and calls that are not there. It prints a line a trial that fails. */
+#include <errno.h>
+#include <fcntl.h>
+#include <stdio.h>
+#include <stdlib.h>
+#include <string.h>
+#include <sys/mman.h>
+#include <sys/stat.h>
+#include <sys/wait.h>
+#include <time.h>
+#include <unistd.h>
+
+static int tried, failed;
+
+static void expect(const char *what, long got, long wanted)
+{
+    tried++;
+    if (got != wanted) {
+        failed++;
+        printf("%s: %ld, and not %ld\n", what, got, wanted);
+    }
+}
+
+/* errno, where the answer is a failure */
+static long error(long answer)
+{
+    return answer == -1 ? errno : 0;
+}
+
+static void write_file(const char *path, const char *text)
+{
+    int fd = open(path, O_WRONLY | O_CREAT | O_TRUNC, 0666);
+    expect(path, write(fd, text, strlen(text)), (long)strlen(text));
+    close(fd);
+}
+
+static long length_of(const char *path)
+{
+    struct stat found;
+    return stat(path, &found) == 0 ? (long)found.st_size : -errno;
+}
+
+static long number_of(const char *path)
+{
+    struct stat found;
+    return stat(path, &found) == 0 ? (long)found.st_ino : -errno;
+}
+
+static void try_paths(void)
+{
+    char folder[32];
+    write_file("x", "abc");
+    expect("./x", length_of("./x"), 3);
+    expect("/x", length_of("/x"), 3);
+    expect("//./x", length_of("//./x"), 3);
+    expect("y/../x", length_of("y/../x"), 3);
+    expect("/../x", length_of("/../x"), 3);
+    expect("../x", length_of("../x"), -ENOENT);
+    expect("getcwd", strcmp(getcwd(folder, sizeof folder), "/"), 0);
+    expect("chdir to a file", error(chdir("x")), ENOTDIR);
+    expect("chdir", chdir("a/b"), 0);
+    expect("getcwd", strcmp(getcwd(folder, sizeof folder), "/a/b"), 0);
+    write_file("z", "12345");
+    expect("/a/b/z", length_of("/a/b/z"), 5);
+    expect("../b/z", length_of("../b/z"), 5);
+    expect("../../x", length_of("../../x"), 3);
+    expect("x", length_of("x"), 3);             /* the name of a file as it stands */
+    expect("chdir", chdir("/"), 0);
+    expect("a/b/z", length_of("a/b/z"), 5);
+    expect("an empty path", error(open("", O_RDONLY)), ENOENT);
+    expect("the folder as a file", error(open("/", O_RDONLY)), EISDIR);
+    expect("getcwd of one byte", getcwd(folder, 1) == 0 ? errno : 0, ERANGE);
+}
+
+static void try_long_paths(void)
+{
+    char path[300];
+    memset(path, 'p', sizeof path);
+    path[255] = 0;
+    write_file(path, "1");
+    expect("a path of 255 bytes", length_of(path), 1);
+    unlink(path);
+    path[255] = 'p';
+    path[256] = 0;
+    expect("a path of 256 bytes", error(open(path, O_RDONLY)), EINVAL);
+}
+
+static void try_numbers(void)
+{
+    long x = number_of("x"), z = number_of("a/b/z");
+    expect("two files have two numbers", x != z && x > 0 && z > 0, 1);
+    expect("rename", rename("a/b/z", "w"), 0);
+    expect("a number goes with its file", number_of("w"), z);
+    expect("rename onto a file", rename("w", "x"), 0);
+    expect("a number goes with its file", number_of("x"), z);
+    expect("rename to its own name", rename("x", "./x"), 0);
+    expect("a number stays", number_of("/x"), z);
+    expect("unlink", unlink("x"), 0);
+    expect("unlink again", error(unlink("x")), ENOENT);
+    expect("rename of none", error(rename("x", "w")), ENOENT);
+}
+
+static void try_descriptors(void)
+{
+    int fd, all[64], count = 0;
+    expect("read of none", error(read(40, &fd, 1)), EBADF);
+    expect("dup2 of none", error(dup2(40, 5)), EBADF);
+    expect("dup2 to none", error(dup2(1, 64)), EBADF);
+    expect("lseek of the console", error(lseek(0, 0, SEEK_CUR)), ESPIPE);
+    fd = open("/dev/null", O_WRONLY);
+    expect("dup2", dup2(fd, 63), 63);
+    expect("the copy is /dev/null too", write(63, (void *)1, 1000), 1000);
+    expect("F_DUPFD", fcntl(fd, F_DUPFD, 30), 30);
+    close(30);
+    close(63);
+    close(fd);
+    while ((fd = open("f", O_RDWR | O_CREAT, 0666)) >= 0)
+        all[count++] = fd;
+    expect("all descriptors in use", errno, EMFILE);
+    expect("descriptors", count, 61);
+    while (count > 0)
+        close(all[--count]);
+    fd = open("f", O_RDWR);
+    expect("a place below 0", error(lseek(fd, -1, SEEK_SET)), EINVAL);
+    expect("a far place", lseek(fd, 0x7fffffff, SEEK_SET), 0x7fffffff);
+    expect("too long a file", error(write(fd, "ab", 2)), EFBIG);
+    lseek(fd, 0, SEEK_SET);
+    expect("unreadable bytes", error(write(fd, (void *)1, 2)), EFAULT);
+    lseek(fd, 0x10000000, SEEK_SET);
+    expect("too few blocks", error(write(fd, "ab", 2)), ENOSPC);
+    close(fd);
+    unlink("f");
+}
+
+static void try_memory_and_time(void)
+{
+    struct timespec now;
+    time_t began = time(0);
+    void *before = sbrk(0);
+    expect("sbrk past the heap", error((long)sbrk(0x7000000)), ENOMEM);
+    expect("the break stays", sbrk(0) == before, 1);
+    expect("time goes", began > 1600000000, 1);
+    sleep(2);
+    expect("time stands still", time(0) == began, 1);
+    expect("clock_gettime", clock_gettime(CLOCK_REALTIME, &now) == 0 && now.tv_sec == began, 1);
+    expect("clock", clock(), 0);
+}
+
+static void try_missing(void)
+{
+    int ends[2];
+    expect("mkdir", error(mkdir("d", 0777)), ENOSYS);
+    expect("link", error(link("x", "l")), ENOSYS);
+    expect("symlink", error(symlink("x", "l")), ENOSYS);
+    expect("pipe", error(pipe(ends)), ENOSYS);
+    expect("fork", error(fork()), ENOSYS);
+    expect("mmap", error((long)mmap(0, 4096, PROT_READ, MAP_PRIVATE, -1, 0)), ENOSYS);
+    expect("wait", error(wait(0)), ECHILD);
+    expect("system", system("true"), -1);
+    expect("popen", popen("true", "r") == 0, 1);
+}
+
+int main(void)
+{
+    try_paths();
+    try_long_paths();
+    try_numbers();
+    try_descriptors();
+    try_memory_and_time();
+    try_missing();
+    printf("%d tried, %d failed\n", tried, failed);
+    return failed != 0;
+}
