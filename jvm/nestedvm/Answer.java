@@ -1,80 +1,142 @@
 package nestedvm;
 
-/** What the launcher answers: the status with which it ends, and the line that it writes to error output, empty for none. */
+/**
+ * How a run ended, or why none was made: the status with which the launcher ends, and the line that it writes to error output, empty
+ * for none.
+ */
 final class Answer {
-    private final int status;
-    private final String line;
+    private static final int FAULTED = 79;
+    private static final int TRAPPED = 80;
+    private static final int INTERRUPTED = 130;
 
-    private Answer(int status, String line) {
+    /** How the run ended, or null where none was made. */
+    private final Ending ending;
+
+    private final int status;
+
+    /** What the line tells, empty for no line. */
+    private final String text;
+
+    private final Fault fault;
+    private final int trap;
+    private final Throwable cause;
+
+    private Answer(Ending ending, int status, String text, Fault fault, int trap, Throwable cause) {
+        this.ending = ending;
         this.status = status;
-        this.line = line;
+        this.text = text;
+        this.fault = fault;
+        this.trap = trap;
+        this.cause = cause;
     }
 
-    private static Answer withLine(int status, String text) {
-        return new Answer(status, "nested: " + text + "\n");
+    private static Answer withoutRun(int status, String text) {
+        return new Answer(null, status, text, null, 0, null);
+    }
+
+    private static Answer failed(Ending ending, int status, String text, Throwable cause) {
+        return new Answer(ending, status, text, null, 0, cause);
     }
 
     static Answer exited(int value) {
-        return new Answer(value & 0xFF, "");
+        return new Answer(Ending.EXITED, value & 0xFF, "", null, 0, null);
     }
 
-    static Answer faulted(int kind, int pc, int value) {
-        return withLine(79, String.format("fault %s pc %08X value %08X", Integer.toUnsignedString(kind), pc, value));
+    static Answer faulted(Fault fault) {
+        return new Answer(Ending.FAULTED, FAULTED, fault.toString(), fault, 0, null);
     }
 
-    static Answer trapped(int trap) {
-        return withLine(80, "trap " + trap);
+    static Answer trapped(int trap, Throwable cause) {
+        return new Answer(Ending.TRAPPED, TRAPPED, "trap " + trap, null, trap, cause);
+    }
+
+    static Answer interrupted() {
+        return failed(Ending.INTERRUPTED, INTERRUPTED, "interrupted", null);
+    }
+
+    static Answer readFault(Throwable cause) {
+        return failed(Ending.INPUT_FAILED, 74, "read fault", cause);
+    }
+
+    static Answer writeFault(Throwable cause) {
+        return failed(Ending.OUTPUT_FAILED, 75, "", cause);
+    }
+
+    static Answer shelfFault(Throwable cause) {
+        return failed(Ending.FOLDER_FAILED, 76, "shelf fault", cause);
     }
 
     static Answer usage() {
-        return withLine(64, "usage 2");
+        return withoutRun(64, "usage 2");
     }
 
     static Answer noFile(String word) {
-        return withLine(66, "no file " + word);
+        return withoutRun(66, "no file " + word);
     }
 
     static Answer argumentsTooLong(long bytes) {
-        return withLine(68, "arguments " + bytes);
+        return withoutRun(68, "arguments " + bytes);
     }
 
     static Answer filesTooLarge(long blocks) {
-        return withLine(69, "files " + blocks);
+        return withoutRun(69, "files " + blocks);
     }
 
-    static Answer classRefused(String reason) {
-        return withLine(70, "class " + reason);
+    private static Answer classRefused(String reason) {
+        return withoutRun(70, "class " + reason);
     }
 
     static Answer linkRefused(String reason) {
-        return withLine(71, "link " + reason);
+        return withoutRun(71, "link " + reason);
     }
 
-    static Answer verifyRefused(String reason) {
-        return withLine(72, "verify " + reason);
+    private static Answer verifyRefused(String reason) {
+        return withoutRun(72, "verify " + reason);
     }
 
-    static Answer readFault() {
-        return withLine(74, "read fault");
-    }
-
-    static Answer writeFault() {
-        return new Answer(75, "");
-    }
-
-    static Answer shelfFault() {
-        return withLine(76, "shelf fault");
+    /** What a class is refused with that the virtual machine does not take. */
+    static Answer refused(LinkageError error) {
+        if (error instanceof ClassFormatError) {
+            return classRefused(error.toString());
+        }
+        return error instanceof VerifyError ? verifyRefused(error.toString()) : linkRefused(error.toString());
     }
 
     static Answer noMemory() {
-        return withLine(77, "no memory");
+        return withoutRun(77, "no memory");
+    }
+
+    /** How the run ended, or null where none was made. */
+    Ending ending() {
+        return ending;
     }
 
     int status() {
         return status;
     }
 
+    /** What the line tells, empty for no line. */
+    String text() {
+        return text;
+    }
+
+    /** The line with its end, empty for no line. */
     String line() {
-        return line;
+        return text.isEmpty() ? "" : "nested: " + text + "\n";
+    }
+
+    /** The fault, or null. */
+    Fault fault() {
+        return fault;
+    }
+
+    /** The number of the trap, or 0. */
+    int trap() {
+        return trap;
+    }
+
+    /** What was thrown, or null. */
+    Throwable cause() {
+        return cause;
     }
 }

@@ -16,8 +16,20 @@ final class Arguments {
     private final List<byte[]> texts = new ArrayList<>();
     private int blockBytes = WORD_BYTES;
 
-    /** Adds an argument, or stops where the block would be too long. */
-    void add(String argument) {
+    private Arguments() {
+    }
+
+    /** Argument 0 and the others, or stops where the block would be too long. */
+    static Arguments of(String name, List<String> others) {
+        Arguments arguments = new Arguments();
+        arguments.add(name);
+        for (String argument : others) {
+            arguments.add(argument);
+        }
+        return arguments;
+    }
+
+    private void add(String argument) {
         byte[] text = argument.getBytes(StandardCharsets.UTF_8);
         long needed = (long) blockBytes + WORD_BYTES + text.length + 1;
         if (needed > LONGEST_BLOCK) {

@@ -10,7 +10,7 @@ import java.io.OutputStream;
 import java.nio.charset.StandardCharsets;
 
 /**
- * The input and the two outputs of the process.
+ * The input and the two outputs of a guest, over streams, which it never closes. What a stream throws ends the run.
  *
  * <p>Written bytes are gathered. They go out before input is waited for, before bytes go to the other output, and when
  * {@link #flush} is called, so outside they stand in the order in which they were written.
@@ -19,17 +19,32 @@ final class Console {
     /** The most bytes of input that are read ahead. */
     private static final int AHEAD_BYTES = 4096;
 
-    private final InputStream input = new FileInputStream(FileDescriptor.in);
-    private final OutputStream output = new BufferedOutputStream(new FileOutputStream(FileDescriptor.out));
-    private final OutputStream errorOutput = new BufferedOutputStream(new FileOutputStream(FileDescriptor.err));
+    private final InputStream input;
+    private final OutputStream output;
+    private final OutputStream errorOutput;
 
     private final byte[] ahead = new byte[AHEAD_BYTES];
     private int aheadPlace;
     private int aheadEnd;
 
     /** The output that has bytes which are gathered, if one has. */
-    private OutputStream gathering = output;
-    private boolean hasFailed;
+    private OutputStream gathering;
+
+    /** What an output has thrown. */
+    private Exception failure;
+
+    Console(InputStream input, OutputStream output, OutputStream errorOutput) {
+        this.input = input;
+        this.output = new BufferedOutputStream(output);
+        this.errorOutput = new BufferedOutputStream(errorOutput);
+        this.gathering = this.output;
+    }
+
+    /** The console of the process. */
+    static Console ofProcess() {
+        return new Console(
+            new FileInputStream(FileDescriptor.in), new FileOutputStream(FileDescriptor.out), new FileOutputStream(FileDescriptor.err));
+    }
 
     /** The next byte of input, or -1 at its end. Input is read only where nothing was read ahead, so a line needs no further one. */
     int read() {
@@ -43,9 +58,10 @@ final class Console {
         flush();
         try {
             aheadPlace = 0;
+            aheadEnd = 0;
             aheadEnd = Math.max(input.read(ahead), 0);
-        } catch (IOException failure) {
-            throw new Stopped(Answer.readFault());
+        } catch (IOException | RuntimeException thrown) {
+            throw new Stopped(Answer.readFault(thrown));
         }
     }
 
@@ -59,7 +75,8 @@ final class Console {
         needSound();
         try {
             stream.write(bytes);
-        } catch (IOException failure) {
+        } catch (IOException | RuntimeException thrown) {
+            failure = thrown;
             throw failed();
         }
     }
@@ -69,21 +86,21 @@ final class Console {
         needSound();
         try {
             gathering.flush();
-        } catch (IOException failure) {
+        } catch (IOException | RuntimeException thrown) {
+            failure = thrown;
             throw failed();
         }
     }
 
     /** Once an output has failed nothing more is written, since a front part of what was gathered may have gone out. */
     private void needSound() {
-        if (hasFailed) {
+        if (failure != null) {
             throw failed();
         }
     }
 
     private Stopped failed() {
-        hasFailed = true;
-        return new Stopped(Answer.writeFault());
+        return new Stopped(Answer.writeFault(failure));
     }
 
     /** Writes the line of an answer to error output, last of all; the answer that comes of it. */

@@ -1,68 +1,103 @@
 package nestedvm;
 
+import java.nio.charset.StandardCharsets;
 import java.util.HashMap;
 import java.util.Map;
+import java.util.TreeMap;
 
-/** The files of a guest, by their names, and the blocks of its disk. */
+/**
+ * The files of a guest, by their names, and the blocks of its disk. They are in memory. There may be a folder beside, whose files are
+ * found where none in memory has the name; they use no blocks, and do not count.
+ */
 final class GuestFiles {
-    private static final int MOST_FILES = 256;
+    /** The most blocks of a disk. */
+    static final int MOST_BLOCKS = 65_536;
+
+    /** The most files in memory, those without a name included. */
+    static final int MOST_FILES = 256;
+
     private static final long LONGEST_FILE = 0x7FFFFFFFL;
 
-    private final Map<String, GuestFile> named = new HashMap<>();
+    private final Map<String, MemoryFile> named = new HashMap<>();
     private final int blocks;
+    private final LiveFolder folder;
     private int freeBlocks;
 
-    /** How many files there are, those without a name included. */
+    /** How many files there are in memory, those without a name included. */
     private int count;
 
     /** No files, and so many free blocks. */
     GuestFiles(int blocks) {
-        this.blocks = blocks;
-        this.freeBlocks = blocks;
+        this(blocks, null);
     }
 
-    /** Adds a file that the guest finds, or stops where there are too few blocks for it. */
-    void add(String name, byte[] content) {
+    /** The files of a folder, or none where it is null, and so many free blocks. */
+    GuestFiles(int blocks, LiveFolder folder) {
+        this.blocks = blocks;
+        this.freeBlocks = blocks;
+        this.folder = folder;
+    }
+
+    /** A name as a guest's path, with a character for each byte of its UTF-8. */
+    static String pathOf(String name) {
+        return new String(name.getBytes(StandardCharsets.UTF_8), StandardCharsets.ISO_8859_1);
+    }
+
+    /** Adds a file that the guest finds, which has these bytes for its own, or stops where there are too few blocks for it. */
+    void add(String path, byte[] content) {
         int needed = GuestFile.blocksFor(content.length);
         if (needed > freeBlocks) {
             throw new Stopped(Answer.filesTooLarge((long) blocks - freeBlocks + needed));
         }
         freeBlocks -= needed;
-        insert(name).fill(content);
+        insert(path, content);
     }
 
-    private GuestFile insert(String name) {
-        GuestFile file = new GuestFile(name);
-        named.put(name, file);
+    private MemoryFile insert(String path, byte[] content) {
+        MemoryFile file = new MemoryFile(path, content);
+        named.put(path, file);
         count++;
         return file;
     }
 
-    /** The file of a name, or null. */
-    GuestFile find(String name) {
-        return named.get(name);
+    /** The file of a path, or null. */
+    GuestFile find(String path) {
+        GuestFile file = named.get(path);
+        return file == null && folder != null ? folder.find(path) : file;
     }
 
-    /** The file of a name, or the call is refused. */
-    GuestFile need(String name) throws Refusal {
-        GuestFile file = find(name);
+    /** The file of a path, or the call is refused. */
+    GuestFile need(String path) throws Refusal {
+        GuestFile file = find(path);
         if (file == null) {
             throw new Refusal(Refusal.NO_ENTRY);
         }
         return file;
     }
 
-    /** Makes an empty file of a new name, unless there are as many files as there may be. */
-    GuestFile create(String name) throws Refusal {
+    /** Makes an empty file of a new path: in the folder where it may be changed, and else in memory. */
+    GuestFile create(String path) throws Refusal {
+        if (folder != null && folder.mayChange()) {
+            return folder.create(path);
+        }
         if (count == MOST_FILES) {
             throw new Refusal(Refusal.NO_SPACE);
         }
-        return insert(name);
+        return insert(path, new byte[0]);
+    }
+
+    /** One more description stands for a file, by which it may be written or not; or the call is refused. */
+    void open(GuestFile file, boolean toWrite) throws Refusal {
+        if (file instanceof FolderFile) {
+            folder.open((FolderFile) file, toWrite);
+        } else {
+            file.open(toWrite);
+        }
     }
 
     /** Cuts a file or puts zeros behind its bytes, unless there are too few blocks. */
     void resize(GuestFile file, int size) throws Refusal {
-        int free = freeBlocks + file.blocks() - GuestFile.blocksFor(size);
+        int free = freeBlocks + file.diskBlocks() - file.diskBlocksFor(size);
         if (free < 0) {
             throw new Refusal(Refusal.NO_SPACE);
         }
@@ -76,42 +111,87 @@ final class GuestFiles {
         if (end > LONGEST_FILE) {
             throw new Refusal(Refusal.TOO_LARGE);
         }
-        resize(file, Math.max(file.length(), (int) end));
+        if (end > file.length()) {
+            resize(file, (int) end);
+        }
         file.write(place, memory, address, count);
         return (int) end;
     }
 
-    /** Takes the name of a file away. */
-    void unlink(GuestFile file) {
+    /** Takes the name of a file away, or the call is refused. */
+    void unlink(GuestFile file) throws Refusal {
+        if (file instanceof FolderFile) {
+            folder.delete((FolderFile) file);
+            return;
+        }
         named.remove(file.name());
         file.setName(null);
         dropUnused(file);
     }
 
-    /** Gives a file a name, which a present file of that name loses. */
-    void rename(GuestFile file, String name) {
-        if (name.equals(file.name())) {
+    /** Gives a file a path, which a present file of that path loses; or the call is refused. */
+    void rename(GuestFile file, String path) throws Refusal {
+        if (path.equals(file.name())) {
             return;
         }
-        GuestFile other = find(name);
+        if (file instanceof FolderFile) {
+            folder.move((FolderFile) file, path);
+            unlinkInMemory(path);
+            return;
+        }
+        GuestFile other = find(path);
         if (other != null) {
             unlink(other);
         }
         named.remove(file.name());
-        file.setName(name);
-        named.put(name, file);
+        file.setName(path);
+        named.put(path, (MemoryFile) file);
+    }
+
+    private void unlinkInMemory(String path) throws Refusal {
+        MemoryFile file = named.get(path);
+        if (file != null) {
+            unlink(file);
+        }
     }
 
     /** One description less stands for a file. */
     void close(GuestFile file) {
-        file.close();
-        dropUnused(file);
+        if (file instanceof FolderFile) {
+            folder.close((FolderFile) file);
+        } else {
+            file.close();
+            dropUnused(file);
+        }
     }
 
     private void dropUnused(GuestFile file) {
         if (file.isUnused()) {
-            freeBlocks += file.blocks();
+            freeBlocks += file.diskBlocks();
             count--;
+        }
+    }
+
+    /** A copy of the bytes of the file of a path in memory, or null. */
+    byte[] contentOf(String path) {
+        MemoryFile file = named.get(path);
+        return file == null ? null : file.content();
+    }
+
+    /** The files in memory that have a name, by their names, with copies of their bytes. */
+    Map<String, byte[]> contents() {
+        Map<String, byte[]> contents = new TreeMap<>();
+        for (MemoryFile file : named.values()) {
+            String name = new String(file.name().getBytes(StandardCharsets.ISO_8859_1), StandardCharsets.UTF_8);
+            contents.put(name, file.content());
+        }
+        return contents;
+    }
+
+    /** Closes the files of the folder. */
+    void closeAll() {
+        if (folder != null) {
+            folder.closeAll();
         }
     }
 }

@@ -1,5 +1,6 @@
 package nestedvm;
 
+import java.io.ByteArrayOutputStream;
 import java.nio.charset.StandardCharsets;
 
 /**
@@ -91,6 +92,33 @@ final class GuestMemory {
         for (int i = 0; i < count; i++) {
             into[place + i] = (byte) byteAt(address + i);
         }
+    }
+
+    /** So many bytes from an address on, or the call is refused. */
+    byte[] bytes(int address, int count) throws Refusal {
+        if (count < 0) {
+            throw new Refusal(Refusal.INVALID);
+        }
+        needBytes(address, count);
+        byte[] bytes = new byte[count];
+        copy(address, bytes, 0, count);
+        return bytes;
+    }
+
+    /** The bytes from an address up to the first zero, or the call is refused. */
+    byte[] bytesToZero(int address) throws Refusal {
+        ByteArrayOutputStream bytes = new ByteArrayOutputStream();
+        for (long i = 0; i < bytesFrom(address); i++) {
+            int value = byteAt(address + (int) i);
+            if (value == 0) {
+                return bytes.toByteArray();
+            }
+            if (value < 0) {
+                break;
+            }
+            bytes.write(value);
+        }
+        throw new Refusal(Refusal.BAD_ADDRESS);
     }
 
     /** Puts a byte where it may be written. */

@@ -24,20 +24,35 @@ final class GuestSystem {
     private final GuestFiles files;
     private final Arguments arguments;
     private final int moment;
+    private final HostCalls hostCalls;
     private final Descriptors descriptors = new Descriptors();
     private final Heap heap = new Heap();
     private ByteOrder order = ByteOrder.BIG_ENDIAN;
 
     /** A system over a console, files and arguments, at a moment in seconds since 1970. */
     GuestSystem(Console console, GuestFiles files, Arguments arguments, long moment) {
+        this(console, files, arguments, moment, HostCalls.NONE);
+    }
+
+    /** The same with calls of the host's own. */
+    GuestSystem(Console console, GuestFiles files, Arguments arguments, long moment, HostCalls hostCalls) {
         this.console = console;
         this.files = files;
         this.arguments = arguments;
         this.moment = (int) (moment & 0x7FFFFFFF);
+        this.hostCalls = hostCalls;
     }
 
-    /** The answer to a call with a number and four words. */
+    /** The order of the bytes of words, which the guest names as it begins. */
+    ByteOrder order() {
+        return order;
+    }
+
+    /** The answer to a call with a number and four words. Where the thread is interrupted the run ends instead. */
     int answer(GuestMemory memory, int number, int a0, int a1, int a2, int a3) {
+        if (Thread.interrupted()) {
+            throw new Stopped(Answer.interrupted());
+        }
         try {
             return serve(memory, number, a0, a1, a2, a3);
         } catch (Refusal refusal) {
@@ -80,8 +95,15 @@ final class GuestSystem {
             case 15:
                 return descriptors.need(a0).isConsole() ? 1 : 0;
             default:
-                throw new Refusal(Refusal.NO_CALL);
+                return serveHostCall(number, a0, a1, a2, a3);
         }
+    }
+
+    private int serveHostCall(int number, int a0, int a1, int a2, int a3) throws Refusal {
+        if (number < HostCalls.FIRST) {
+            throw new Refusal(Refusal.NO_CALL);
+        }
+        return hostCalls.answer(number, a0, a1, a2, a3);
     }
 
     private int begin(GuestMemory memory, int place, int heapStart, int heapBytes, int orderNumber) throws Refusal {
@@ -111,10 +133,11 @@ final class GuestSystem {
         int descriptor = descriptors.needFree();
         if (file == null) {
             file = files.create(path);
-        } else if (flags.empties()) {
+        }
+        files.open(file, flags.writes());
+        if (flags.empties()) {
             files.resize(file, 0);
         }
-        file.open();
         descriptors.set(descriptor, Description.ofFile(file, flags));
         return descriptor;
     }

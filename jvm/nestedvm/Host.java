@@ -3,18 +3,25 @@ package nestedvm;
 /**
  * The host of generated classes: their calls of the system, and their faults.
  *
- * <p>The classes call it by its name. It answers with the system that the launcher {@link Run} has made, so it is of use only in a
- * program that the launcher has started. The contract stands in docs/HOST.md, and the calls in docs/CALLS.md.
+ * <p>The classes call it by its name. It answers with the system of the run that the thread makes, so it is of use only where
+ * {@link Program}, {@link Library} or {@link Run} runs them. The contract stands in docs/HOST.md, and the calls in docs/CALLS.md.
  */
 public final class Host {
-    private static GuestSystem system;
+    /** The system of the run that each thread makes, none where it makes none. */
+    private static final ThreadLocal<GuestSystem> SYSTEMS = new ThreadLocal<>();
 
     private Host() {
     }
 
-    /** From now on calls are answered by this system. */
-    static void answerBy(GuestSystem system) {
-        Host.system = system;
+    /** From now on this system answers the calls of this thread, or none; the one that did before. */
+    static GuestSystem answerBy(GuestSystem system) {
+        GuestSystem before = SYSTEMS.get();
+        if (system == null) {
+            SYSTEMS.remove();
+        } else {
+            SYSTEMS.set(system);
+        }
+        return before;
     }
 
     /**
@@ -28,10 +35,12 @@ public final class Host {
      * @param a2 its third word
      * @param a3 its fourth word
      * @return the answer; a negative one is an error. Call 1 never returns
+     * @throws IllegalStateException where this thread makes no run
      */
     public static int call(int[][] readable, int[][] writable, int number, int a0, int a1, int a2, int a3) {
+        GuestSystem system = SYSTEMS.get();
         if (system == null) {
-            throw new IllegalStateException("classes are started by nestedvm.Run");
+            throw new IllegalStateException("classes are run by nestedvm.Program, nestedvm.Library or nestedvm.Run");
         }
         return system.answer(new GuestMemory(readable, writable), number, a0, a1, a2, a3);
     }
@@ -44,6 +53,6 @@ public final class Host {
      * @param value the fault's value
      */
     public static void fault(int kind, int pc, int value) {
-        throw new Ended(Answer.faulted(kind, pc, value));
+        throw new Ended(Answer.faulted(new Fault(kind, pc, value)));
     }
 }

@@ -5,6 +5,10 @@ final class Refusal extends Exception {
     static final int NO_ENTRY = -2;
     static final int BAD_DESCRIPTOR = -9;
     static final int NO_MEMORY = -12;
+
+    /** Of files of a folder alone: its access, or its owner, forbids it. */
+    static final int DENIED = -13;
+
     static final int BAD_ADDRESS = -14;
     static final int PRESENT = -17;
     static final int INVALID = -22;

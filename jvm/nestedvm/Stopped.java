@@ -1,6 +1,6 @@
 package nestedvm;
 
-/** The launcher stops with this answer, without doing what is left of its work. */
+/** The run, or the launcher's work, ends with this answer. It is thrown through the classes of the program. */
 class Stopped extends Error {
     private static final long serialVersionUID = 1;
 

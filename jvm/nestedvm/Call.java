@@ -1,0 +1,233 @@
+package nestedvm;
+
+import java.io.ByteArrayInputStream;
+import java.io.ByteArrayOutputStream;
+import java.io.InputStream;
+import java.io.OutputStream;
+import java.nio.charset.StandardCharsets;
+import java.nio.file.Path;
+import java.util.Arrays;
+import java.util.LinkedHashMap;
+import java.util.Map;
+import java.util.Objects;
+
+/**
+ * A call of a program that is to be made: its arguments, its streams, its files and its moment.
+ *
+ * <p>It begins with no input, outputs that the {@link Result} gathers, no files, no folder, a disk of 65,536 blocks and the present moment. Each
+ * method but {@link #run} and {@link #library} changes that and gives this object back. A call may be run several times, one after the other;
+ * it is for one thread at a time.
+ */
+public final class Call {
+    private static final int LONGEST_NAME = 255;
+
+    private final Program program;
+    private final String[] arguments;
+    private final Map<String, byte[]> files = new LinkedHashMap<>();
+    private String name;
+    private byte[] inputBytes = new byte[0];
+    private InputStream input;
+    private OutputStream output;
+    private OutputStream errorOutput;
+    private Path folder;
+    private FolderAccess access;
+    private int blocks = GuestFiles.MOST_BLOCKS;
+    private Long moment;
+
+    Call(Program program, String[] arguments) {
+        this.program = program;
+        this.arguments = arguments.clone();
+        this.name = program.name();
+        for (String argument : arguments) {
+            requireText(argument);
+        }
+    }
+
+    private static void requireText(String text) {
+        if (text.indexOf(0) >= 0) {
+            throw new IllegalArgumentException("a text for a program has no character 0");
+        }
+    }
+
+    /**
+     * Argument 0, which is the name by which the program is called.
+     *
+     * @param argument the name; at first it is that of the program
+     * @return this
+     * @throws IllegalArgumentException where it has a character 0
+     */
+    public Call name(String argument) {
+        requireText(argument);
+        name = argument;
+        return this;
+    }
+
+    /**
+     * Input as bytes.
+     *
+     * @param bytes all of input. They are not copied, so they have to stay as they are while the call runs
+     * @return this
+     */
+    public Call input(byte[] bytes) {
+        inputBytes = Objects.requireNonNull(bytes);
+        input = null;
+        return this;
+    }
+
+    /**
+     * Input as a stream. Up to 4,096 bytes are read ahead. It is not closed.
+     *
+     * @param stream where input is read
+     * @return this
+     */
+    public Call input(InputStream stream) {
+        input = Objects.requireNonNull(stream);
+        return this;
+    }
+
+    /**
+     * Where output goes, in place of the result. What is written is gathered, and goes out before input is waited for, before bytes go to
+     * the other output, when there are 8,192 bytes, and at the end. The stream is flushed then, and not closed.
+     *
+     * @param stream where output goes
+     * @return this
+     */
+    public Call output(OutputStream stream) {
+        output = Objects.requireNonNull(stream);
+        return this;
+    }
+
+    /**
+     * Where error output goes, in place of the result, as {@link #output}. Both may be one stream.
+     *
+     * @param stream where error output goes
+     * @return this
+     */
+    public Call errorOutput(OutputStream stream) {
+        errorOutput = Objects.requireNonNull(stream);
+        return this;
+    }
+
+    /**
+     * A file that the program finds. It is in memory, and what the program does to it is seen in {@link Result#files} alone.
+     *
+     * @param path its name, by which the program opens it: 1 to 255 bytes in UTF-8
+     * @param content its bytes, which are copied
+     * @return this
+     * @throws IllegalArgumentException where the name is empty, too long or has a character 0, or where there are 256 files already
+     */
+    public Call file(String path, byte[] content) {
+        requireText(path);
+        int length = path.getBytes(StandardCharsets.UTF_8).length;
+        if (length == 0 || length > LONGEST_NAME) {
+            throw new IllegalArgumentException("the name of a file has 1 to 255 bytes, and not " + length);
+        }
+        files.put(path, content.clone());
+        if (files.size() > GuestFiles.MOST_FILES) {
+            throw new IllegalArgumentException("a program finds at most 256 files");
+        }
+        return this;
+    }
+
+    /**
+     * A folder whose files the program finds, by their names in it, where no file in memory has the name. They are opened where they are when the
+     * program opens them, and closed at the end of the call at the latest. Names that lead out of the folder, as links and {@code ..} may, name
+     * nothing. The files use no blocks of the disk.
+     *
+     * @param path the folder
+     * @param allowed what the program may do there
+     * @return this
+     */
+    public Call folder(Path path, FolderAccess allowed) {
+        folder = Objects.requireNonNull(path);
+        access = Objects.requireNonNull(allowed);
+        return this;
+    }
+
+    /**
+     * The size of the disk for the files in memory.
+     *
+     * @param most the blocks of 4,096 bytes that all files together may use: 0 to 65,536, which it is at first
+     * @return this
+     * @throws IllegalArgumentException where the number is out of this range
+     */
+    public Call blocks(int most) {
+        if (most < 0 || most > GuestFiles.MOST_BLOCKS) {
+            throw new IllegalArgumentException("a disk has 0 to 65,536 blocks, and not " + most);
+        }
+        blocks = most;
+        return this;
+    }
+
+    /**
+     * The moment that the program takes for the present. At first it is the moment at which the call is run.
+     *
+     * @param seconds seconds since 1970, of which the program sees the lowest 31 bits
+     * @return this
+     */
+    public Call moment(long seconds) {
+        moment = seconds;
+        return this;
+    }
+
+    /**
+     * Runs the program in this thread, until it has ended. Calls of one program may run in several threads at once.
+     *
+     * <p>A thread that is interrupted ends its call when the program makes its next call of the system: reads, writes, opens and the
+     * like. A program that only computes goes on.
+     *
+     * @return how it ended, and what it left
+     * @throws IllegalArgumentException where the arguments need more than 4,096 bytes, or the files more blocks than there are
+     * @throws LinkageError where a class of the program cannot be loaded
+     */
+    public Result run() {
+        try (Session session = session(HostCalls.NONE)) {
+            return session.result(name, program.play(session.system()));
+        }
+    }
+
+    /**
+     * Starts a resident program in this thread, and gives its functions once it is ready for their calls (docs/HOST.md).
+     *
+     * @return the functions of the program
+     * @throws CallFailed where the program ended and was not ready before
+     * @throws IllegalArgumentException as {@link #run}
+     * @throws LinkageError where a class of the program cannot be loaded
+     */
+    public Library library() {
+        Session session = session(new ResidentCalls());
+        Copy copy = program.takeCopy();
+        try {
+            return new Library(name, program, copy, session);
+        } catch (RuntimeException | Error thrown) {
+            session.close();
+            copy.forget();
+            program.putBack(copy);
+            throw thrown;
+        }
+    }
+
+    private Session session(HostCalls hostCalls) {
+        try {
+            return newSession(hostCalls);
+        } catch (Stopped stopped) {
+            throw new IllegalArgumentException(name + ": " + stopped.answer().text(), stopped.answer().cause());
+        }
+    }
+
+    private Session newSession(HostCalls hostCalls) {
+        Arguments words = Arguments.of(name, Arrays.asList(arguments));
+        GuestFiles guestFiles = new GuestFiles(blocks, folder == null ? null : LiveFolder.of(folder, access));
+        for (Map.Entry<String, byte[]> file : files.entrySet()) {
+            guestFiles.add(GuestFiles.pathOf(file.getKey()), file.getValue().clone());
+        }
+        ByteArrayOutputStream gathered = new ByteArrayOutputStream();
+        ByteArrayOutputStream errorsGathered = new ByteArrayOutputStream();
+        Console console = new Console(
+            input == null ? new ByteArrayInputStream(inputBytes) : input,
+            output == null ? gathered : output,
+            errorOutput == null ? errorsGathered : errorOutput);
+        long now = moment == null ? System.currentTimeMillis() / 1000 : moment;
+        return new Session(console, guestFiles, new GuestSystem(console, guestFiles, words, now, hostCalls), gathered, errorsGathered);
+    }
+}

@@ -1,0 +1,15 @@
+package nestedvm;
+
+/** The calls from 64 on, which are the host's own. */
+interface HostCalls {
+    /** The number of the first one. */
+    int FIRST = 64;
+
+    /** No such calls: each is refused. */
+    HostCalls NONE = (number, a0, a1, a2, a3) -> {
+        throw new Refusal(Refusal.NO_CALL);
+    };
+
+    /** The answer to a call with a number and four words. */
+    int answer(int number, int a0, int a1, int a2, int a3) throws Refusal;
+}

@@ -1,0 +1,182 @@
+package nestedvm;
+
+import java.io.IOException;
+import java.nio.charset.StandardCharsets;
+import java.nio.file.AccessDeniedException;
+import java.nio.file.FileAlreadyExistsException;
+import java.nio.file.Files;
+import java.nio.file.InvalidPathException;
+import java.nio.file.NoSuchFileException;
+import java.nio.file.Path;
+import java.nio.file.Paths;
+import java.nio.file.StandardCopyOption;
+import java.util.ArrayList;
+import java.util.List;
+
+/**
+ * A folder whose files a guest finds by their names, in folders of the folder as well. A failure ends the run.
+ *
+ * <p>Unless it is the folder of the process, where an absolute name stands for itself, names that lead out of it name nothing: absolute
+ * ones, those with too many {@code ..}, and links.
+ */
+final class LiveFolder {
+    private final Path root;
+    private final boolean mayChange;
+    private final boolean isConfined;
+
+    /** The files that descriptions stand for. */
+    private final List<FolderFile> open = new ArrayList<>();
+
+    private LiveFolder(Path root, boolean mayChange, boolean isConfined) {
+        this.root = root;
+        this.mayChange = mayChange;
+        this.isConfined = isConfined;
+    }
+
+    /** A folder that names do not lead out of. */
+    static LiveFolder of(Path root, FolderAccess access) {
+        try {
+            return new LiveFolder(root.toRealPath(), access == FolderAccess.READ_AND_WRITE, true);
+        } catch (IOException failure) {
+            throw new Stopped(Answer.shelfFault(failure));
+        }
+    }
+
+    /** The folder in which the process was started, and all others by absolute names or {@code ..}. */
+    static LiveFolder ofProcess() {
+        return new LiveFolder(Paths.get(""), true, false);
+    }
+
+    /** Whether files of the folder may be written, made, renamed and removed. */
+    boolean mayChange() {
+        return mayChange;
+    }
+
+    /** The present file of a name, or null. */
+    FolderFile find(String name) {
+        for (FolderFile file : open) {
+            if (name.equals(file.name())) {
+                return file;
+            }
+        }
+        Path path = pathOf(name);
+        return path != null && Files.isRegularFile(path) ? new FolderFile(name, path, mayChange) : null;
+    }
+
+    /** The place of a name, or null where it leads out of the folder, to no folder, or is no UTF-8. */
+    private Path pathOf(String name) {
+        try {
+            String text = new String(name.getBytes(StandardCharsets.ISO_8859_1), StandardCharsets.UTF_8);
+            if (!GuestFiles.pathOf(text).equals(name)) {
+                return null;
+            }
+            Path path = root.resolve(text);
+            return isConfined ? within(path.normalize()) : path;
+        } catch (InvalidPathException none) {
+            return null;
+        }
+    }
+
+    private Path within(Path path) {
+        try {
+            boolean isInside = path.startsWith(root) && !path.equals(root)
+                && (Files.exists(path) ? path.toRealPath() : path.getParent().toRealPath()).startsWith(root)
+                && (Files.exists(path) || !Files.isSymbolicLink(path));
+            return isInside ? path : null;
+        } catch (NoSuchFileException missing) {
+            return null;
+        } catch (IOException failure) {
+            throw new Stopped(Answer.shelfFault(failure));
+        }
+    }
+
+    /** Where a file of this name is or may be, or the call is refused. */
+    private Path needPath(String name) throws Refusal {
+        Path path = pathOf(name);
+        if (path == null || !Files.isDirectory(path.toAbsolutePath().getParent())) {
+            throw new Refusal(Refusal.NO_ENTRY);
+        }
+        return path;
+    }
+
+    /** Makes an empty file of a new name, or the call is refused. */
+    FolderFile create(String name) throws Refusal {
+        Path path = needPath(name);
+        change(() -> Files.createFile(path));
+        return new FolderFile(name, path, true);
+    }
+
+    /** Opens a file, or the call is refused. */
+    void open(FolderFile file, boolean toWrite) throws Refusal {
+        boolean wasOpen = file.isOpen();
+        file.open(toWrite);
+        if (!wasOpen) {
+            open.add(file);
+        }
+    }
+
+    /** One description less stands for a file. */
+    void close(FolderFile file) {
+        file.close();
+        if (!file.isOpen()) {
+            open.remove(file);
+        }
+    }
+
+    /** Removes a file, or the call is refused. Whoever has it open keeps it. */
+    void delete(FolderFile file) throws Refusal {
+        file.needChange();
+        Path path = needPath(file.name());
+        change(() -> Files.delete(path));
+        file.setName(null);
+    }
+
+    /** Gives a file another name, which a present file of that name loses; or the call is refused. */
+    void move(FolderFile file, String name) throws Refusal {
+        file.needChange();
+        Path from = needPath(file.name());
+        Path to = needPath(name);
+        if (Files.isDirectory(to)) {
+            throw new Refusal(Refusal.DENIED);
+        }
+        change(() -> Files.move(from, to, StandardCopyOption.REPLACE_EXISTING));
+        for (FolderFile other : open) {
+            if (name.equals(other.name())) {
+                other.setName(null);
+            }
+        }
+        file.setName(name);
+    }
+
+    private interface Change {
+        void make() throws IOException;
+    }
+
+    private static void change(Change change) throws Refusal {
+        try {
+            change.make();
+        } catch (NoSuchFileException missing) {
+            throw new Refusal(Refusal.NO_ENTRY);
+        } catch (AccessDeniedException | FileAlreadyExistsException denied) {
+            throw new Refusal(Refusal.DENIED);
+        } catch (IOException failure) {
+            throw new Stopped(Answer.shelfFault(failure));
+        }
+    }
+
+    /** Closes all files, also where one of them fails. */
+    void closeAll() {
+        Stopped failure = null;
+        for (FolderFile file : open) {
+            try {
+                file.closeChannel();
+            } catch (Stopped stopped) {
+                failure = stopped;
+            }
+        }
+        open.clear();
+        if (failure != null) {
+            throw failure;
+        }
+    }
+}

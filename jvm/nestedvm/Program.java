@@ -1,0 +1,125 @@
+package nestedvm;
+
+import java.io.IOException;
+import java.nio.file.Path;
+import java.util.zip.ZipFile;
+
+/**
+ * A translated program, which Java calls as it calls any object. It is made once, and called any number of times, by several threads at
+ * once.
+ *
+ * <p>Each call has memory, files and streams of its own, and runs in the thread that makes it. Behind a program stand copies of its classes, one
+ * for each call that runs at the same time. A copy is used again, so its code is compiled once: the first calls of a program are slow and later
+ * ones fast. At most as many idle copies are kept as there are processors. A call leaves no thread, no open file and nothing
+ * in the copy.
+ */
+public final class Program {
+    private final ClassSource source;
+    private final String className;
+    private final String name;
+    private final CopyPool pool = new CopyPool();
+
+    private Program(ClassSource source, String className, String name) {
+        this.source = source;
+        this.className = className;
+        this.name = name;
+        pool.put(newCopy());
+    }
+
+    /**
+     * The program whose class files are resources of a class loader, as in a jar on the class path. They are read as they are first used.
+     *
+     * @param resources the class loader
+     * @param main the resource of the main class without {@code .class}, as {@code bzip2/Bzip2}; the other classes stand beside it
+     * @return the program
+     * @throws IllegalArgumentException where there is no such class, or it is no main class of a program
+     */
+    public static Program of(ClassLoader resources, String main) {
+        int start = main.lastIndexOf('/') + 1;
+        String className = main.substring(start);
+        return new Program(new ResourceSource(resources, main.substring(0, start)), className, className);
+    }
+
+    /**
+     * The program whose class files are in a folder, as {@code nested translate} leaves them. All of them are read now.
+     *
+     * @param folder the folder
+     * @param className the name of the main class
+     * @return the program
+     * @throws IOException where the folder or a file cannot be read
+     * @throws IllegalArgumentException where there is no such class, or it is no main class of a program
+     */
+    public static Program inFolder(Path folder, String className) throws IOException {
+        return new Program(StoredSource.ofFolder(folder, className), className, className);
+    }
+
+    /**
+     * The program of a jar that {@code jvm/package} has made. Its class files are read now, and the jar is closed.
+     *
+     * @param jar the jar
+     * @return the program
+     * @throws IOException where the jar cannot be read
+     * @throws IllegalArgumentException where its manifest names no program, or there is no such class
+     */
+    public static Program inJar(Path jar) throws IOException {
+        try (ZipFile file = new ZipFile(jar.toFile())) {
+            ProgramEntry entry = ProgramEntry.of(file);
+            if (entry == null) {
+                throw new IllegalArgumentException(jar + " names no program");
+            }
+            return new Program(StoredSource.ofJar(file, entry.folder(), entry.className()), entry.className(), entry.name());
+        }
+    }
+
+    /**
+     * The name of the program, which is argument 0 of its calls.
+     *
+     * @return the name of the main class, or the one that the jar names
+     */
+    public String name() {
+        return name;
+    }
+
+    /**
+     * A call of the program that is to be made.
+     *
+     * @param arguments the arguments behind argument 0, which go to the program in UTF-8. With argument 0 they may need at most 4,096 bytes: the
+     *     bytes of each and five more, and four beside
+     * @return the call, which {@link Call#run} makes
+     * @throws IllegalArgumentException where an argument has a character 0
+     */
+    public Call call(String... arguments) {
+        return new Call(this, arguments);
+    }
+
+    /** A copy that makes no run, which {@link #putBack} takes back. */
+    Copy takeCopy() {
+        Copy copy = pool.take();
+        return copy == null ? newCopy() : copy;
+    }
+
+    private Copy newCopy() {
+        try {
+            return new Copy(source, className);
+        } catch (ReflectiveOperationException | LinkageError refused) {
+            throw new IllegalArgumentException(className + " is no main class of a program", refused);
+        }
+    }
+
+    /** Runs a copy of the program in this thread, over a system. */
+    Answer play(GuestSystem system) {
+        Copy copy = takeCopy();
+        try {
+            return copy.runAndForget(system);
+        } catch (Stopped stopped) {
+            return stopped.answer();
+        } finally {
+            putBack(copy);
+        }
+    }
+
+    /** Takes a copy back that makes no run any longer, and whose fields are as new. */
+    void putBack(Copy copy) {
+        pool.put(copy);
+    }
+}

@@ -1,0 +1,32 @@
+package nestedvm;
+
+import java.io.IOException;
+import java.io.InputStream;
+import java.util.concurrent.ConcurrentHashMap;
+import java.util.concurrent.ConcurrentMap;
+
+/** The class files of a program that are resources of a class loader. Each is read once. */
+final class ResourceSource implements ClassSource {
+    private final ClassLoader resources;
+    private final String folder;
+    private final ConcurrentMap<String, byte[]> files = new ConcurrentHashMap<>();
+
+    /** The resources of a folder, whose name is empty or ends with a slash. */
+    ResourceSource(ClassLoader resources, String folder) {
+        this.resources = resources;
+        this.folder = folder;
+    }
+
+    @Override
+    public byte[] find(String className) {
+        return files.computeIfAbsent(className, this::load);
+    }
+
+    private byte[] load(String className) {
+        try (InputStream file = resources.getResourceAsStream(folder + className + ".class")) {
+            return file == null ? null : WholeStream.of(file);
+        } catch (IOException failure) {
+            throw new IllegalStateException("cannot read class " + className, failure);
+        }
+    }
+}

@@ -1,0 +1,42 @@
+package nestedvm;
+
+/** The traps of the class machine, as a virtual machine throws them. */
+final class Traps {
+    private Traps() {
+    }
+
+    /** The trap in which the class machine ends where a virtual machine throws this; what is no trap is thrown on. */
+    static Answer answerTo(Throwable thrown) {
+        int trap = numberOf(thrown);
+        if (trap != 0) {
+            return Answer.trapped(trap, thrown);
+        }
+        if (thrown instanceof Error) {
+            throw (Error) thrown;
+        }
+        if (thrown instanceof RuntimeException) {
+            throw (RuntimeException) thrown;
+        }
+        throw new IllegalStateException(thrown);
+    }
+
+    /** The number of the trap, or 0 where this is none. */
+    private static int numberOf(Throwable thrown) {
+        if (thrown instanceof NullPointerException) {
+            return 1;
+        }
+        if (thrown instanceof IndexOutOfBoundsException) {
+            return 2;
+        }
+        if (thrown instanceof NegativeArraySizeException) {
+            return 3;
+        }
+        if (thrown instanceof ArithmeticException) {
+            return 4;
+        }
+        if (thrown instanceof StackOverflowError) {
+            return 5;
+        }
+        return thrown instanceof OutOfMemoryError ? 6 : 0;
+    }
+}

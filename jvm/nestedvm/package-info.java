@@ -1,0 +1,10 @@
+/**
+ * Runs translated programs on a Java virtual machine.
+ *
+ * <p>{@link nestedvm.Program} is a program that Java calls: a {@link nestedvm.Call} has the arguments, streams and files, a
+ * {@link nestedvm.Result} what came of it. {@link nestedvm.Library} has the functions of a program that stays. {@link nestedvm.Tool} and
+ * {@link nestedvm.Run} run a program as a process. {@link nestedvm.Host} is what the classes of programs call.
+ *
+ * <p>docs/JAVA.md shows how to use them, and docs/HOST.md says what stands between a host and the classes.
+ */
+package nestedvm;
