@@ -70,8 +70,8 @@ final class Answer {
         return withoutRun(64, "usage 2");
     }
 
-    static Answer noFile(String word) {
-        return withoutRun(66, "no file " + word);
+    static Answer noFile(String name) {
+        return withoutRun(66, "no file " + name);
     }
 
     static Answer argumentsTooLong(long bytes) {

@@ -51,7 +51,7 @@ public final class Run {
         try {
             return new Copy(Folder.CLASSES, name);
         } catch (ClassNotFoundException missing) {
-            throw new Stopped(Answer.noFile(name));
+            throw new Stopped(Answer.noFile(name + ".class"));
         } catch (ReflectiveOperationException missing) {
             throw new Stopped(Answer.linkRefused(missing.toString()));
         }
@@ -61,7 +61,7 @@ public final class Run {
         for (String name : words.with()) {
             byte[] content = Folder.load(name);
             if (content == null) {
-                throw new Stopped(Answer.noFile(words.withWord()));
+                throw new Stopped(Answer.noFile(name));
             }
             files.add(GuestFiles.pathOf(name), content);
         }

@@ -26,9 +26,6 @@ final class Words {
     /** The value of each option that was given, and of the plain word. */
     private final Map<String, String> values = new HashMap<>();
 
-    /** The word that holds each of these values. */
-    private final Map<String, String> holders = new HashMap<>();
-
     private final int disk;
     private final List<String> with;
     private final List<String> keep;
@@ -62,11 +59,6 @@ final class Words {
         return with;
     }
 
-    /** The word that names the files that the guest finds. */
-    String withWord() {
-        return holders.get(WITH);
-    }
-
     /** The files that are stored when the guest has ended. */
     List<String> keep() {
         return keep;
@@ -88,7 +80,7 @@ final class Words {
         String waiting = null;
         for (String word : words) {
             if (!word.startsWith("-")) {
-                give(waiting == null ? NAME : waiting, word, word);
+                give(waiting == null ? NAME : waiting, word);
                 waiting = null;
             } else {
                 require(waiting == null);
@@ -107,14 +99,13 @@ final class Words {
         if (equals < 0) {
             return option;
         }
-        give(option, word.substring(equals + 1), word);
+        give(option, word.substring(equals + 1));
         return null;
     }
 
-    private void give(String name, String value, String holder) {
+    private void give(String name, String value) {
         require(!value.isEmpty() && !values.containsKey(name));
         values.put(name, value);
-        holders.put(name, holder);
     }
 
     /** A letter, then letters and digits, at most 64 in all. */
