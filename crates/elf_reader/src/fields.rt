@@ -2,6 +2,7 @@
 ghost use Rattle.std.specs.Prelude.{◌≡◌, ◌+◌, ◌≤◌, length};
 ghost use Rattle.elf_reader.specs.Header.{order_of, half, word};
 
+use crate::abi::ELFDATA2LSB;
 use nv_words::{Order, half_in, word_in};
 
 /// The order of the numbers of a file, which `e_ident[EI_DATA]` names.
@@ -10,7 +11,7 @@ pub fn order_of(b: &[u8]) -> Order
     ensures { result ≡ order_of b.now }
 {
     match b.get(5) {
-        Some(1) => Order::Little,
+        Some(&ELFDATA2LSB) => Order::Little,
         _ => Order::Big,
     }
 }

@@ -2,20 +2,11 @@
 ghost use Rattle.std.specs.Prelude.{◌≡◌, ◌≤◌, ◌+◌, ◌*◌, IfNone, length};
 ghost use Rattle.elf_reader.specs.Header.{has_magic, header_of, identity_fault, program_table_fault};
 
+use crate::abi::{ELFCLASS32, ELFDATA2LSB, ELFDATA2MSB, EM_MIPS, ET_EXEC, EV_CURRENT};
 use crate::elf_header::ElfHeader;
 use crate::fault::fault_when;
+use crate::program_header::ProgramHeader;
 use nv_faults::ElfFault;
-
-/// A file of 32 bits (`e_ident[EI_CLASS]`).
-const ELFCLASS32: u8 = 1;
-/// Little-endian (`e_ident[EI_DATA]`).
-const ELFDATA2LSB: u8 = 1;
-/// Big-endian (`e_ident[EI_DATA]`).
-const ELFDATA2MSB: u8 = 2;
-/// A program that can be run (`e_type`).
-const ET_EXEC: u16 = 2;
-/// MIPS (`e_machine`).
-const EM_MIPS: u16 = 8;
 
 /// The first of the checks of what kind of file it is: a 32-bit executable for MIPS, in one of the two orders of bytes.
 #[tactic(auto, unfolding(crate::specs::Header::identity_fault))]
@@ -36,7 +27,7 @@ pub fn check_identity(b: &[u8]) -> Option<ElfFault>
     if header.ei_data != ELFDATA2LSB && header.ei_data != ELFDATA2MSB {
         return fault_when(ElfFault::NOT_KNOWN_ORDER, true);
     }
-    if header.ei_version != 1 || header.e_version != 1 {
+    if header.ei_version != EV_CURRENT || header.e_version != u32::from(EV_CURRENT) {
         return fault_when(ElfFault::BAD_VERSION, true);
     }
     if header.e_type != ET_EXEC {
@@ -46,7 +37,7 @@ pub fn check_identity(b: &[u8]) -> Option<ElfFault>
 }
 
 /// Whether the file begins with the four bytes of every ELF file.
-fn has_magic(b: &[u8]) -> bool
+pub fn has_magic(b: &[u8]) -> bool
     requires { 52 ≤ length b.now }
     ensures { result ≡ has_magic b.now }
 {
@@ -63,7 +54,7 @@ pub fn check_program_table(b: &[u8], header: ElfHeader) -> Option<ElfFault>
     if header.e_phnum == 0 {
         return fault_when(ElfFault::NO_SEGMENTS, true);
     }
-    if header.e_phentsize != 32 {
+    if usize::from(header.e_phentsize) != ProgramHeader::SIZE {
         return fault_when(ElfFault::BAD_PROGRAM_HEADER_SIZE, true);
     }
     let is_outside = header.is_program_table_outside(b);

@@ -1,6 +1,7 @@
-//! Reads ELF32 files of MIPS I programs (System V ABI, "Object Files").
+//! Reads ELF32 files of MIPS programs (System V ABI, "Object Files").
 #![tactic(auto)]
 
+pub mod abi;
 mod area_checks;
 mod code_area;
 mod elf;
@@ -21,7 +22,9 @@ mod span;
 
 pub use elf::{Elf, read_elf};
 pub use elf_error::ElfError;
-pub use fields::order_of;
+pub use elf_header::ElfHeader;
+pub use fields::{half, order_of, word};
+pub use header_checks::has_magic;
 pub use nv_faults::ElfFault;
 pub use range::Range;
 pub use segment::Segment;

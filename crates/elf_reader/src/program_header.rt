@@ -1,13 +1,7 @@
+use crate::abi::{PT_DYNAMIC, PT_INTERP, PT_LOAD};
 use crate::elf_header::ElfHeader;
 use crate::fields::word;
 use crate::segment::Segment;
-
-/// A segment (`p_type`).
-const PT_LOAD: u32 = 1;
-/// What a dynamic linker needs.
-const PT_DYNAMIC: u32 = 2;
-/// The name of a dynamic linker.
-const PT_INTERP: u32 = 3;
 
 /// The fields of an entry of the program header table that are looked at (System V ABI, "Program Header").
 #[derive(Clone, Copy)]

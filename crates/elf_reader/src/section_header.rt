@@ -1,12 +1,6 @@
+use crate::abi::{SHF_ALLOC, SHF_EXECINSTR, SHT_PROGBITS};
 use crate::elf_header::ElfHeader;
 use crate::fields::word;
-
-/// Bytes that stand in the file (`sh_type`).
-const SHT_PROGBITS: u32 = 1;
-/// The section has memory (`sh_flags`).
-const SHF_ALLOC: u32 = 2;
-/// The section is code (`sh_flags`).
-const SHF_EXECINSTR: u32 = 4;
 
 /// The fields of an entry of the section header table that are looked at (System V ABI, "Sections").
 #[derive(Clone, Copy)]

@@ -1,7 +1,4 @@
-/// The segment may be executed (`p_flags`).
-const PF_X: u32 = 1;
-/// The segment may be written (`p_flags`).
-const PF_W: u32 = 2;
+use crate::abi::{PF_W, PF_X};
 
 /// A loadable segment that has bytes in memory (System V ABI, "Program Header", `PT_LOAD`).
 #[derive(Clone, Copy, Debug, PartialEq, Eq)]

@@ -1,4 +1,4 @@
-//! Writes ELF32 files of big-endian MIPS I programs (System V ABI, "Object Files").
+//! Writes ELF32 files of big-endian MIPS programs (System V ABI, "Object Files").
 #![tactic(auto)]
 
 mod fields;

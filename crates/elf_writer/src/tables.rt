@@ -8,9 +8,27 @@ use crate::part::Part;
 use crate::place::{file_offset_of, next_aligned, part_end_of};
 use crate::sec::Sec;
 use crate::writer::NoMemory;
+use elf_reader::abi::{ELFCLASS32, ELFDATA2MSB, EM_MIPS, ET_EXEC, EV_CURRENT, PT_LOAD};
 
 /// `e_ident` of a 32-bit big-endian file of the current version.
-const IDENTIFICATION: [u8; 16] = [0x7F, 0x45, 0x4C, 0x46, 1, 2, 1, 0, 0, 0, 0, 0, 0, 0, 0, 0];
+const IDENTIFICATION: [u8; 16] = [
+    0x7F,
+    b'E',
+    b'L',
+    b'F',
+    ELFCLASS32,
+    ELFDATA2MSB,
+    EV_CURRENT,
+    0,
+    0,
+    0,
+    0,
+    0,
+    0,
+    0,
+    0,
+    0,
+];
 
 /// Appends the ELF header of an executable for MIPS.
 pub fn append_elf_header(
@@ -24,8 +42,8 @@ pub fn append_elf_header(
         ++ elf_header entry table segments headers) }
 {
     file.extend_from_slice(&IDENTIFICATION)?;
-    append_halves(file, &[2, 8])?;
-    append_words(file, &[1, entry, 52, table, 0])?;
+    append_halves(file, &[ET_EXEC, EM_MIPS])?;
+    append_words(file, &[EV_CURRENT as u32, entry, 52, table, 0])?;
     append_halves(file, &[52, 32, segments, 40, headers, 0])
 }
 
@@ -57,7 +75,7 @@ fn append_program_header(file: &mut Vec<u8>, offset: u32, part: &Part) -> Result
     append_words(
         file,
         &[
-            1, offset, part.vaddr, part.vaddr, length, part.mem, part.flags, 4,
+            PT_LOAD, offset, part.vaddr, part.vaddr, length, part.mem, part.flags, 4,
         ],
     )
 }
