@@ -3,7 +3,7 @@ use Rattle.std.proofs.Common.{◌≡◌, ℕ, ◌+◌, List, [], ◌++◌, take,
 use Rattle.std.proofs.Math.Seq.{take-add}
 use Rattle.std.proofs.lemmas.List.{take-append-drop}
 use Rattle.std.specs.Io.KnownBytes.{Appends, Keeps}
-use Rattle.nv_outside.specs.Gains.{AppendsPart, AppendsProperPart}
+use Rattle.nv_outside.specs.Gains.{AppendsProperPart}
 
 pub record Wrote (old new : Option (List ℕ)) (bytes rest : List ℕ) : Type 0 where
   pub written : ℕ
@@ -47,6 +47,3 @@ Wrote-part old mid new bytes (next ∷ rest) some w kept = record {
   splits = sym (take-append-drop w.written bytes) ∙ ap (λ z. take w.written bytes ++ z) (sym w.left);
   gained = both-kept old mid new _ w.took kept;
 }
-
-pub part-of-proper : (old new : Option (List ℕ)) (bytes : List ℕ) → AppendsProperPart old new bytes → AppendsPart old new bytes
-part-of-proper old new bytes part = record { front = part.front; rest = part.next ∷ part.rest; splits = part.splits; gained = part.gained }

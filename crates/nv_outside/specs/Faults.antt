@@ -7,19 +7,16 @@ use Rattle.nv_outside.specs.declared.shelf_error.ShelfError.TheVariants.{Failed,
 abbrev pub one_more : ℕ → ℕ
 one_more n = min (n + 1) (2 ^ 64 - 1)
 
--- A count rose: it is greater than before, or stands at its greatest value.
-abbrev pub Rose : ℕ → ℕ → Type 0
-Rose before now = one_more before ≤ now
-
--- A count did not fall, and rose.
+-- A count rose by one, or stands at its greatest value.
 pub record Rises (before now : ℕ) : Type 0 where
   pub never_falls : before ≤ now
-  pub rose : Rose before now
+  pub rose : now ≡ one_more before
 
--- What a call does to the count of its object: it rises where the call failed, and is as before where it did not.
+-- What a call does to the count of its object: it rises by one where the call failed, and is as
+-- before where it did not.
 pub record CountsFailure (failed : Bool) (before now : ℕ) : Type 0 where
   pub never_falls : before ≤ now
-  pub rises : IsTrue failed → Rose before now
+  pub rises : IsTrue failed → now ≡ one_more before
   pub stays : failed ≡ false → now ≡ before
 
 -- a call of a shelf failed: want of memory is no failure

@@ -7,6 +7,11 @@ use Rattle.nv_outside.specs.declared.shelf_error.ShelfError.TheVariants.{Failed,
 abbrev pub Files : Type 0
 Files = List ℕ → Option (List ℕ)
 
+-- some files are those that are told, where any are
+abbrev pub AgreeWith : Option Files → Files → Type 0
+AgreeWith None files = ⊤
+AgreeWith (Some told) files = files ≡ told
+
 -- told files are still told, and are as before
 abbrev pub SameFiles : Option Files → Option Files → Type 0
 SameFiles None new = ⊤
@@ -31,7 +36,8 @@ abbrev pub Finds : Option Files → List ℕ → Option (Vec ℕ Global) → Typ
 Finds None name found = ⊤
 Finds (Some files) name found = option_map (λ v. v.items) found ≡ files name
 
--- What `store` leaves: the file is set; after a failure it may hold anything; after want of memory nothing has changed.
+-- What `store` leaves: the file is set; after a failure it may hold anything; after want of memory
+-- nothing has changed.
 abbrev pub Stores : Option Files → Option Files → List ℕ → List ℕ → Result (Unit {0}) ShelfError
     → Type 0
 Stores old new name bytes (Ok done) = SetsFile old new name bytes

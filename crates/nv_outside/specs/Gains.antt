@@ -2,13 +2,6 @@
 use Rattle.std.specs.Prelude.{◌≡◌, ℕ, List, ◌∷◌, ◌++◌, Option}
 use Rattle.std.specs.Io.KnownBytes.{Appends}
 
--- known bytes grow by a front part of these
-pub record AppendsPart (old new : Option (List ℕ)) (bytes : List ℕ) : Type 0 where
-  pub front : List ℕ
-  pub rest : List ℕ
-  pub splits : bytes ≡ front ++ rest
-  pub gained : Appends old new front
-
 -- known bytes grow by a front part of these, but not by all of them
 pub record AppendsProperPart (old new : Option (List ℕ)) (bytes : List ℕ) : Type 0 where
   pub front : List ℕ

@@ -16,8 +16,9 @@ const PIECE: usize = 65_536;
 
 /// The files of a folder. It tells nothing of their content.
 ///
-/// A name is taken from the folder on, and an absolute name stands for itself. Only a file that is not found is no file: a folder,
-/// a name that is too long, a path through a file, or a file of more than 268,435,457 bytes is a failure. What was stored of a file before a failure stays.
+/// A name is taken from the folder on, and an absolute name stands for itself. Only a file that is not found is no
+/// file: a folder, a name that is too long, a path through a file, or a file of more than 268,435,457 bytes is a
+/// failure. What was stored of a file before a failure stays.
 #[derive(Drop)]
 pub struct FileShelf<R> {
     system: R,

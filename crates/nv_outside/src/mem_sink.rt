@@ -31,7 +31,8 @@ impl Model for MemSink {
 }
 
 impl MemSink {
-    /// A sink with room for `room` bytes, whose memory is taken here. Its calls with the numbers in `fails`, counted from 1, fail.
+    /// A sink with room for `room` bytes, whose memory is taken here. Its calls with the numbers in `fails`, counted
+    /// from 1, fail.
     pub fn new(alloc: Global, room: usize, fails: Vec<u64>) -> Result<MemSink, NoMemory>
         ensures { IfOk result (λ s. s
             ≡ record { taken = []; room = room; calls = new_script fails.items }) }
