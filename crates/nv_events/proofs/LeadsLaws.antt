@@ -3,9 +3,10 @@ use Rattle.std.proofs.Common.{◌≡◌, ℕ, zero, suc, List, [], ◌∷◌, �
 use Rattle.nv_events.specs.Question.{Question}
 use Rattle.nv_events.specs.Answer.{Answer}
 use Rattle.nv_events.specs.Serving.{Leads}
+use Rattle.nv_events.specs.Laws.{LeadsOverBoth}
 
 module _ {V : Type 0} (goes : V → Question → Answer → V → Type 0) where
-  pub leads_join : (u v w : V) (qs rs : List Question) (given more : List Answer) → length qs ≡ length given → Leads goes u qs given v → Leads goes v rs more w → Leads goes u (qs ++ rs) (given ++ more) w
+  pub leads_join : LeadsOverBoth goes
   leads_join u v w [] rs [] more h first next =
       subst (λ (x : V). Leads goes x rs more w) first next
   leads_join u v w (q ∷ qs) rs [] more h first next = absurd (omega arith)

@@ -5,6 +5,7 @@ use Rattle.nv_events.specs.Question.{Question}
 use Rattle.nv_events.specs.Answer.{Answer, fits, next_answer}
 use Rattle.nv_events.specs.Turn.{Turn, moves, ends, leaves, asks, End, exit, «fault», trap, outcome_of}
 use Rattle.nv_events.specs.Run.{Run, stops, asking, after, is_going, then_run, left_over, IsRunOver, run_of}
+use Rattle.nv_events.specs.Laws.{LongerRuns, LeavesFurtherAnswers, GivesFitting, RunsByAnswers}
 use Rattle.nv_events.specs.declared.outcome.Outcome.{Outcome}
 use Rattle.nv_events.specs.declared.outcome.Outcome.TheVariants.{Exited, Faulted, Trapped, Waiting, Going}
 
@@ -108,6 +109,14 @@ questions_grow turn reply n m s k h =
     let rest = questions_then (is_going r.outcome) r (run_of turn reply (m - n) r.last r.system) in
     (rest.0, ap (λ i. (run_of turn reply i s k).questions) e ∙ ap (λ x. x.questions) (run_of-add turn reply n (m - n) s k) ∙ rest.1)
 
+pub longer-runs : {S K : Type 0} (turn : S → Turn S) (reply : K → Question → Option (Answer × K))
+    → LongerRuns turn reply
+longer-runs turn reply = record {
+  add = run_of-add turn reply;
+  ended = run_of-ended turn reply;
+  questions = questions_grow turn reply;
+}
+
 -- A run over a list of answers that does not wait is the same over that list and more, which are then left over.
 
 given-fits : {S : Type 0} (b : Bool) (a : Answer) (answers more : List Answer) (q : Question) (next : Answer → S) (s : S) (go : S → List Answer → Run S (List Answer)) → ((t : S) (left : List Answer) → (go t left).outcome ≢ Waiting → go t (left ++ more) ≡ left_over (go t left) more) → (given (if b then Some (a, answers) else None) q next s (a ∷ answers) go).outcome ≢ Waiting → given (if b then Some (a, answers ++ more) else None) q next s (a ∷ (answers ++ more)) go ≡ left_over (given (if b then Some (a, answers) else None) q next s (a ∷ answers) go) more
@@ -126,7 +135,7 @@ turned-more (leaves q e) s answers more go h runs = refl
 turned-more (asks q next) s answers more go h runs =
     given-more answers more q next s go h runs
 
-pub run_of-more : {S : Type 0} (turn : S → Turn S) (n : ℕ) (s : S) (answers more : List Answer) → (run_of turn next_answer n s answers).outcome ≢ Waiting → run_of turn next_answer n s (answers ++ more) ≡ left_over (run_of turn next_answer n s answers) more
+pub run_of-more : {S : Type 0} (turn : S → Turn S) → LeavesFurtherAnswers turn
 run_of-more turn zero s answers more runs = refl
 run_of-more {S} turn (suc n) s answers more runs =
     let first = run_of-suc turn next_answer n s in
@@ -156,7 +165,8 @@ turned-list reply (leaves q e) s k go over fitting h =
 turned-list reply (asks q next) s k go over fitting h =
     given-list (reply k q) q next s k go over (λ a l. fitting k l q a) h
 
-pub run_of-list : {S K : Type 0} (turn : S → Turn S) (reply : K → Question → Option (Answer × K)) → ((k l : K) (q : Question) (a : Answer) → reply k q ≡ Some (a, l) → IsTrue (fits a q)) → (n : ℕ) (s : S) (k : K) → (answers : List Answer) × IsRunOver (run_of turn reply n s k) (run_of turn next_answer n s answers)
+pub run_of-list : {S K : Type 0} (turn : S → Turn S) (reply : K → Question → Option (Answer × K))
+    → GivesFitting reply → RunsByAnswers turn reply
 run_of-list turn reply fitting zero s k =
     ([], record { questions = refl; outcome = refl; last = refl; used = refl })
 run_of-list {S} {K} turn reply fitting (suc n) s k =

@@ -5,3 +5,4 @@ pub mod Turn
 pub mod Run
 pub mod Serving
 pub mod Replies
+pub mod Laws
