@@ -4,3 +4,4 @@ pub mod Runs
 pub mod Places
 pub mod Meter
 pub mod Example
+pub mod Laws

@@ -3,10 +3,12 @@ use Rattle.run_laws.proofs.Answering.{next_fits}
 use Rattle.run_laws.proofs.Loading.{counts, whole_counts}
 use Rattle.run_laws.proofs.laws.counts.Goals as goal
 
-pub returns-clause-after_call : goal.returns-clause-after_call
-returns-clause-after_call g c p most start allowed x j t i m answers =
-    counts p next_answer g.T.Translation.rests most start allowed x j t (λ k l q a. next_fits k l q a) i m answers
-
-pub returns-clause-all : goal.returns-clause-all
-returns-clause-all g c p most start allowed x j t weight before none m answers =
-    whole_counts p next_answer g.T.Translation.rests most start allowed x j t (λ k l q a. next_fits k l q a) weight before none m answers
+pub returns : goal.returns
+returns g c f = record {
+  behind_call = λ i m answers.
+      counts f.machines next_answer g.T.Translation.rests f.most f.start f.allowed f.guest_at f.classes_at
+      f.follows (λ k l q a. next_fits k l q a) i m answers;
+  all = λ weight before none m answers.
+      whole_counts f.machines next_answer g.T.Translation.rests f.most f.start f.allowed f.guest_at
+      f.classes_at f.follows (λ k l q a. next_fits k l q a) weight before none m answers;
+}

@@ -5,12 +5,18 @@ use Rattle.run_laws.proofs.Following.{round_of}
 use Rattle.run_laws.proofs.Starting.{started_runs, started_counts}
 use Rattle.run_laws.proofs.laws.runs_from_a_start.Goals as goal
 
-pub returns-clause-same : goal.returns-clause-same
-returns-clause-same g c p most start x j law follows answers =
+pub returns : goal.returns
+returns g c f =
     let rests = g.T.Translation.rests in
-    started_runs p p.tally next_answer rests most start law (λ k l q a. next_fits k l q a) x j answers (round_of p next_answer rests (λ n. start + 2 * most) (λ k l q a. next_fits k l q a) x j answers follows)
-
-pub returns-clause-counts : goal.returns-clause-counts
-returns-clause-counts g c p most start x j law follows i m answers =
-    let rests = g.T.Translation.rests in
-    started_counts p next_answer rests most start law (λ k l q a. next_fits k l q a) x j answers (round_of p next_answer rests (λ n. start + 2 * most) (λ k l q a. next_fits k l q a) x j answers follows) i m
+    record {
+      same = λ answers.
+          started_runs f.machines f.machines.tally next_answer rests f.most f.start f.turns
+          (λ k l q a. next_fits k l q a) f.guest_at f.classes_at answers
+          (round_of f.machines next_answer rests (λ n. f.start + 2 * f.most)
+          (λ k l q a. next_fits k l q a) f.guest_at f.classes_at answers f.begins);
+      counts = λ i m answers.
+          started_counts f.machines next_answer rests f.most f.start f.turns
+          (λ k l q a. next_fits k l q a) f.guest_at f.classes_at answers
+          (round_of f.machines next_answer rests (λ n. f.start + 2 * f.most)
+          (λ k l q a. next_fits k l q a) f.guest_at f.classes_at answers f.begins) i m;
+    }
