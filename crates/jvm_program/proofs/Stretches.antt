@@ -13,7 +13,8 @@ use Rattle.jvm_program.specs.Program.{Program, line_in, line_at, targets_of}
 use Rattle.jvm_program.specs.Values.{Value}
 use Rattle.jvm_program.specs.Effect.{Workspace, Effect, goes_on, jumps, enters, gives, frames_trap, effect}
 use Rattle.jvm_program.specs.Step.{State, Frame, placed, turn, turn_by, executed, jumped, entered, called, returned_to}
-use Rattle.jvm_program.specs.Stretch.{advanced, Point, arrived, led, passed, stretch, moved_line, StandsAt, body_workspace, caller_workspace, CallsAndReturns}
+use Rattle.jvm_program.specs.Stretch.{advanced, Point, arrived, led, passed, stretch, moved_line, StandsAt, body_workspace, caller_workspace}
+use Rattle.jvm_program.specs.Laws.{CallsComeBack}
 use Rattle.jvm_program.proofs.Moving.{effect-moved, target-moved}
 
 -- a point further on
@@ -168,7 +169,7 @@ last-turn program words callee at last w back result others stands is =
     ap (executed program words (placed callee at w others) (record { method = callee; at = at; locals = w.locals; operands = w.operands }) others) stands
     ∙ ap (λ f. turn_by f callee (moved_line 0 last) others) (effect-moved program words 0 last.instruction w ∙ is)
 
-pub calls-return : (program : Program) (words m n : ℕ) (line : LinkedLine) (w caller back : Workspace) (result : Option Value) (others : List Frame) → CallsAndReturns program words m line w n result caller back → length others < 63 → advanced (turn program words) (n + 2) (placed m line.at w others) ≡ Some (placed m line.next (caller_workspace result caller back) others)
+pub calls-return : CallsComeBack
 calls-return program words m n line w caller back result others c few =
     let step = turn program words in
     let waiting : Frame = record { method = m; at = line.next; locals = caller.locals; operands = caller.operands } in

@@ -7,3 +7,4 @@ pub mod Effect
 pub mod Step
 pub mod Typing
 pub mod Stretch
+pub mod Laws

@@ -2,4 +2,5 @@ use Rattle.jvm_program.proofs.Turning.{turn-at-line}
 use Rattle.jvm_program.proofs.laws.turns_where_code_stands.Goals as goal
 
 pub returns : goal.returns
-returns c = turn-at-line
+returns c program words m by at lines line w others it =
+    turn-at-line program words m by at lines line w others it.stands it.line_is
