@@ -4,13 +4,13 @@ use Rattle.std.proofs.lemmas.Bool.{lt-ltb}
 use Rattle.nv_events.specs.Turn.{moves, ends, trap}
 use Rattle.jvm_program.specs.declared.value.Value.{Value}
 use Rattle.jvm_program.specs.Program.{Program}
-use Rattle.jvm_program.specs.Effect.{Workspace, enters, frames_trap}
+use Rattle.jvm_program.specs.Effect.{Workspace, frames_trap}
 use Rattle.jvm_program.specs.Step.{State, Frame, placed, turn, entered, called, returned_to}
 use Rattle.jvm_program.specs.Stretch.{advanced, body_workspace, caller_workspace}
 use Rattle.jvm_program.proofs.Stretches.{advanced-add}
-use Rattle.code_steps.specs.declared.step.Step.{Step}
 use Rattle.code_steps.specs.Widths.{bytes_before}
-use Rattle.code_steps.specs.Leading.{StopsAt, LeadsTo, Returns}
+use Rattle.code_steps.specs.Leading.{LeadsTo, Returns}
+use Rattle.code_steps.specs.Laws.{CallsLeadBehind}
 use Rattle.code_steps.proofs.Lying.{one-more, code-leads}
 
 called-moves : (callee : ℕ) (given : List Value) (s : State) → length s.frames < 64 → called callee given s ≡ moves (record { fields = s.fields; heap = s.heap; frames = entered callee given ∷ s.frames })
@@ -27,7 +27,7 @@ body-returns program words callee n given caller back result frames r =
     let leads = subst (LeadsTo program words callee 0 r.body frames (placed callee 0 (body_workspace given caller) frames)) r.returns (code-leads program words callee frames r.body 0 0 (body_workspace given caller) r.lies) in
     (placed callee (0 + bytes_before r.body r.at) r.before frames, leads.0, leads.1.turns)
 
-pub calls-return : (program : Program) (words m at i callee n : ℕ) (code : List Step) (w caller back : Workspace) (given : List Value) (result : Option Value) (others : List Frame) → StopsAt program words m at code others i w (enters callee given caller) → Returns program words callee given caller n result back → length others < 63 → advanced (turn program words) (n + 2) (placed m (at + bytes_before code i) w others) ≡ Some (placed m (at + bytes_before code (suc i)) (caller_workspace result caller back) others)
+pub calls-return : CallsLeadBehind
 calls-return program words m at i callee n code w caller back given result others s r few =
     let step = turn program words in
     let waiting : Frame = record { method = m; at = s.line.next; locals = caller.locals; operands = caller.operands } in

@@ -3,3 +3,4 @@ pub mod Outcomes
 pub mod Placing
 pub mod Leading
 pub mod Switches
+pub mod Laws
