@@ -1,5 +1,5 @@
 -- Each call's answer, with its tests in their order, and the state after it. docs/CALLS.md has them in words.
-use Rattle.std.specs.Prelude.{ℕ, ◌+◌, ◌*◌, ◌==◌, true, ◌&&◌, ◌||◌, not, nat_lt, nat_le, ℤ, pos, negsuc, ◌+ℤ◌, List, [], ◌∷◌, ◌++◌, length, take, drop, Option, Some, None, is_some, if◌then◌else◌, bytes_eq}
+use Rattle.std.specs.Prelude.{ℕ, ◌+◌, ◌*◌, ◌==◌, min, true, ◌&&◌, ◌||◌, not, nat_lt, nat_le, ℤ, pos, negsuc, ◌+ℤ◌, List, [], ◌∷◌, ◌++◌, length, take, drop, Option, Some, None, is_some, if◌then◌else◌, bytes_eq}
 use Rattle.nv_words.specs.Words.{signed_of}
 use Rattle.nv_events.specs.Question.{Text, Room}
 use Rattle.nv_events.specs.Answer.{Answer}
@@ -111,7 +111,8 @@ with_open s fd go =
 abbrev pub placed : Opened → ℕ → Description → ℕ → Opened
 placed o d description place = with_description o d (Some (record description { place = place }))
 
--- read: what stands in the file from the place on, or the first line of the rest of input, in each case at most n bytes
+-- read: at most n bytes of what stands in the file from the place on, or of the first line of the rest of input. The system may limit
+-- further how many bytes a read of input gives.
 abbrev pub first_line : List ℕ → List ℕ
 first_line [] = []
 first_line (b ∷ bs) = if b == 0x0A then b ∷ [] else b ∷ first_line bs
@@ -135,7 +136,8 @@ input_read s bs = (
 abbrev pub read_target : System → ℕ → Description → ℕ → Target → Answer × System
 read_target s d description n (File k) =
     file_read s d description (take n (drop description.place (bytes_at s.files k)))
-read_target s d description n Input = input_read s (take n (first_line s.console.rest))
+read_target s d description n Input =
+    input_read s (take (min n s.most) (first_line s.console.rest))
 read_target s d description n Output = refused s bad_descriptor
 read_target s d description n ErrorOutput = refused s bad_descriptor
 

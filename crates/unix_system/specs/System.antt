@@ -11,8 +11,8 @@ pub record Console : Type 0 where
   pub output : List ℕ
   pub error_output : List ℕ
 
--- The files, what is open, the console, the heap, the arguments, the moment in seconds since 1970, and the order of the bytes of
--- words, which the program's first call names.
+-- The files, what is open, the console, the heap, the arguments, the moment in seconds since 1970, the order of the bytes of words,
+-- which the program's first call names, and how many bytes a read of input gives at most.
 pub record System : Type 0 where
   pub files : Files
   pub opened : Opened
@@ -21,48 +21,20 @@ pub record System : Type 0 where
   pub args : List (List ℕ)
   pub moment : ℕ
   pub order : Order
+  pub most : ℕ
 
 -- A system with other files and descriptors, and one with another heap.
 abbrev pub with_tables : System → Files → Opened → System
-with_tables s files opened = record {
-  files = files;
-  opened = opened;
-  console = s.console;
-  heap = s.heap;
-  args = s.args;
-  moment = s.moment;
-  order = s.order;
-}
+with_tables s files opened = record s { files = files; opened = opened }
 
 abbrev pub with_heap : System → Heap → System
-with_heap s heap = record {
-  files = s.files;
-  opened = s.opened;
-  console = s.console;
-  heap = heap;
-  args = s.args;
-  moment = s.moment;
-  order = s.order;
-}
+with_heap s heap = record s { heap = heap }
 
 abbrev pub with_console : System → Console → System
-with_console s console = record {
-  files = s.files;
-  opened = s.opened;
-  console = console;
-  heap = s.heap;
-  args = s.args;
-  moment = s.moment;
-  order = s.order;
-}
+with_console s console = record s { console = console }
 
 abbrev pub with_order : System → Order → System
-with_order s order = record {
-  files = s.files;
-  opened = s.opened;
-  console = s.console;
-  heap = s.heap;
-  args = s.args;
-  moment = s.moment;
-  order = order;
-}
+with_order s order = record s { order = order }
+
+abbrev pub with_most : System → ℕ → System
+with_most s most = record s { most = most }

@@ -87,4 +87,5 @@ start blocks moment files args rest = record {
   args = args;
   moment = moment;
   order = Big;
+  most = 2 ^ 32 - 1;
 }
