@@ -14,15 +14,16 @@ use Rattle.nv_events.proofs.RunLaws.{given, turned, run_of-suc}
 use Rattle.nv_events.proofs.Progress.{end_not_waiting}
 use Rattle.unix_system.specs.System.{System, with_console}
 use Rattle.unix_system.specs.Unix.{fitting, reply, unix}
-use Rattle.unix_calls.specs.Arriving.{Arriving, arriving, reply_arriving, without_pieces}
-use Rattle.unix_calls.specs.Drawing.{known}
+use Rattle.unix_calls.specs.Arriving.{Arriving, arrived, arriving, reply_arriving, without_pieces}
+use Rattle.unix_calls.specs.Drawing.{AreBytes, known}
+use Rattle.unix_calls.specs.Held.{system_of}
 use Rattle.unix_calls.specs.Playing.{behind, run_over, streams}
 use Rattle.unix_calls.specs.Serving.{FellReading, FellWriting, OneFails, Parts, written_by}
-use Rattle.unix_calls.specs.Stages.{FailsBehind, FailsCall, OneFailsBehind, Stage, StopsRun, goes_on, next_of, reads, stage_of, writes}
+use Rattle.unix_calls.specs.Stages.{FailsBehind, FailsCall, IsRear, OneFailsBehind, Stage, StopsRun, goes_on, next_of, reads, stage_of, writes}
 use Rattle.unix_calls.proofs.DrawLemmas.{consumes-both}
 use Rattle.unix_calls.proofs.FrameLemmas.{Same, unix-framed}
 use Rattle.unix_calls.proofs.LeadsLemmas.{Answers, FailsBy}
-use Rattle.unix_calls.proofs.PlayLemmas.{From, behind-call, no-more, run-is, sys, told-on}
+use Rattle.unix_calls.proofs.PlayLemmas.{From, HasPieces, behind-call, run-is, sys, told-on}
 use Rattle.nv_outside.proofs.SeenLemmas.{rises-from, takes-both, takes-nothing}
 
 -- ---- how far it came
@@ -31,6 +32,35 @@ use Rattle.nv_outside.proofs.SeenLemmas.{rises-from, takes-both, takes-nothing}
 abbrev next_state : Option (Answer × Arriving) → Arriving → Arriving
 next_state None k = k
 next_state (Some given) k = given.1
+
+-- a last piece, where pieces come
+abbrev lost_pieces : Option (List ℕ) → List ℕ → List (List ℕ)
+lost_pieces None lost = lost ∷ []
+lost_pieces (Some rest) lost = []
+
+-- The pieces that come with the call that failed: with one that reads what was lost, and what is left.
+abbrev last_pieces : (fault : IoFault) (p : Parts) (q : Question) (r : Parts) → FailsBy fault p q r → List (List ℕ)
+last_pieces ReadFault p q r fell = lost_pieces p.input.told (fell.got ++ known r.input.told)
+last_pieces WriteFault p q r fell = []
+
+has-lost : (told : Option (List ℕ)) (lost : List ℕ) → HasPieces told (lost_pieces told lost)
+has-lost None lost = tt
+has-lost (Some rest) lost = refl
+
+has-none : (told : Option (List ℕ)) → HasPieces told []
+has-none None = tt
+has-none (Some rest) = refl
+
+has-last : (fault : IoFault) (p : Parts) (q : Question) (r : Parts) (fell : FailsBy fault p q r) → HasPieces p.input.told (last_pieces fault p q r fell)
+has-last ReadFault p q r fell = has-lost p.input.told (fell.got ++ known r.input.told)
+has-last WriteFault p q r fell = has-none p.input.told
+
+-- the definition's state in the call, and after it
+abbrev in_call : Parts → List ℕ → List ℕ → List (List ℕ) → Arriving
+in_call p b e pieces = arriving (sys p b e) pieces
+
+abbrev after_call : Question → Arriving → Arriving
+after_call q k = next_state (reply_arriving k q) k
 
 -- The definition's runs x, one of each number of turns, came to a call that the outside failed.
 record Broken {S : Type 0} (turn : S → Turn S) (x : ℕ → Run S Arriving) (n : ℕ) (fault : IoFault) (p r : Parts) (b e : List ℕ) : Type 0 where
@@ -47,10 +77,9 @@ record Broken {S : Type 0} (turn : S → Turn S) (x : ℕ → Run S Arriving) (n
   pub q : Question
   pub next : Answer → S
   pub asked : turn (x made).last ≡ asks q next
-  pub before : (x made).system ≡ arriving (sys mid (b ++ output) (e ++ error_output)) []
-  pub after : (x (suc made)).system
-      ≡ next_state (reply_arriving (arriving (sys mid (b ++ output) (e ++ error_output)) []) q) (arriving (sys mid (b ++ output) (e ++ error_output)) [])
   pub fell : FailsBy fault mid q r
+  pub before : (x made).system ≡ in_call mid (b ++ output) (e ++ error_output) (last_pieces fault mid q r fell)
+  pub after : (x (suc made)).system ≡ after_call q (in_call mid (b ++ output) (e ++ error_output) (last_pieces fault mid q r fell))
 
 -- one turn more
 one-more : {S : Type 0} (turn : S → Turn S) (x y : ℕ → Run S Arriving) (n : ℕ) (fault : IoFault) (p r : Parts) (b e : List ℕ)
@@ -79,7 +108,7 @@ one-more turn x y n fault p r b e on w = record {
 one-call : {S : Type 0} (turn : S → Turn S) (x : ℕ → Run S Arriving) (n : ℕ) (fault : IoFault) (q : Question) (a : Answer) (p m r : Parts) (b e : List ℕ)
     → (g : Answers p q a m) → Broken turn x n fault m r (b ++ g.output) (e ++ g.error_output) → Broken turn x n fault p r b e
 one-call turn x n fault q a p m r b e g w =
-    let there = λ (c d : List ℕ). arriving (sys w.mid c d) [] in
+    let there = λ (c d : List ℕ). in_call w.mid c d (last_pieces fault w.mid w.q r w.fell) in
     let out = append_assoc b g.output w.output in
     let err = append_assoc e g.error_output w.error_output in
     record {
@@ -97,7 +126,7 @@ one-call turn x n fault q a p m r b e g w =
       next = w.next;
       asked = w.asked;
       before = w.before ∙ (λ i. there (out i) (err i));
-      after = w.after ∙ (λ i. next_state (reply_arriving (there (out i) (err i)) w.q) (there (out i) (err i)));
+      after = w.after ∙ (λ i. after_call w.q (there (out i) (err i)));
       fell = w.fell;
     }
 
@@ -115,31 +144,36 @@ first-turn turn x m s k is = run_of-suc turn reply_arriving m s k ∙ ap (λ y. 
 broken-here : {S : Type 0} (turn : S → Turn S) (n : ℕ) (s : S) (q : Question) (next : Answer → S) (fault : IoFault) (p r : Parts) (b e : List ℕ)
     → turn s ≡ asks q next → FailsBy fault p q r → From p b e (λ k. Broken turn (λ m. run_of turn reply_arriving m s k) (suc n) fault p r b e)
 broken-here turn n s q next fault p r b e is fell =
-    let k : Arriving = arriving (sys p b e) [] in
+    let pieces = last_pieces fault p q r fell in
+    let k : Arriving = in_call p b e pieces in
     let out = append-nil b in
     let err = append-nil e in
-    let same : k ≡ arriving (sys p (b ++ []) (e ++ [])) [] = λ i. arriving (sys p (sym out i) (sym err i)) [] in
-    no-more p b e (λ k. Broken turn (λ m. run_of turn reply_arriving m s k) (suc n) fault p r b e) (record {
-      made = 0;
-      within = omega arith;
-      mid = p;
-      got = [];
-      output = [];
-      error_output = [];
-      consumed = none p.input.told;
-      sound = refl;
-      wrote = takes-nothing p.out;
-      wrote_error = takes-nothing p.err;
-      q = q;
-      next = next;
-      asked = is;
-      before = same;
-      after =
-          ap (λ y. y.system) (first-turn turn (asks q next) 0 s k is)
-          ∙ next-given turn (reply_arriving k q) q next s k
-          ∙ ap (λ l. next_state (reply_arriving l q) l) same;
-      fell = fell;
-    })
+    let same : k ≡ in_call p (b ++ []) (e ++ []) pieces = λ i. in_call p (sym out i) (sym err i) pieces in
+    record {
+      pieces = pieces;
+      has = has-last fault p q r fell;
+      is = record {
+        made = 0;
+        within = omega arith;
+        mid = p;
+        got = [];
+        output = [];
+        error_output = [];
+        consumed = none p.input.told;
+        sound = refl;
+        wrote = takes-nothing p.out;
+        wrote_error = takes-nothing p.err;
+        q = q;
+        next = next;
+        asked = is;
+        before = same;
+        after =
+            ap (λ y. y.system) (first-turn turn (asks q next) 0 s k is)
+            ∙ next-given turn (reply_arriving k q) q next s k
+            ∙ ap (λ l. after_call q l) same;
+        fell = fell;
+      };
+    }
   where
     none : (told : Option (List ℕ)) → Consumes told told []
     none None = tt
@@ -214,6 +248,41 @@ broken {S} turn (suc n) s answers fault p r b e waits used stop =
     (subst (λ (y : Run S (List Answer)). y.system ≡ []) first used)
     (subst (λ (y : Run S (List Answer)). StopsAt Answers (FailsBy fault) p y.questions answers r) first stop)
 
+-- ---- what the definition reads in the call
+
+-- It reads what was lost, and leaves a rear part of what is left.
+module _ (p r : Parts) (q : Question) (b e : List ℕ) (fell : FellReading (λ s. unix s q) q.number q.room p r) (small : AreBytes (known r.input.told)) where
+  abbrev all_read : List ℕ
+  all_read = fell.got ++ known r.input.told
+
+  -- the call over all of this
+  whole-read : reply (system_of p.unix all_read b e) q ≡ Some (unix (system_of p.unix all_read b e) q)
+  whole-read = ap (λ t. if t then Some (unix (system_of p.unix all_read b e) q) else None) (fell.reads (known r.input.told) b e small).fits
+
+  abbrev LeavesRear : Arriving → Type 0
+  LeavesRear k = IsRear k.system.console.rest (known r.input.told)
+
+  rear-given : (k : Arriving) (pieces : List (List ℕ)) (y : Option (Answer × System)) → y ≡ reply (system_of p.unix all_read b e) q
+      → LeavesRear (next_state (option_map (λ given. (given.0, arriving given.1 pieces)) y) k)
+  rear-given k pieces y is =
+      subst (λ z. LeavesRear (next_state (option_map (λ given. (given.0, arriving given.1 pieces)) z) k)) (sym (is ∙ whole-read))
+      (fell.reads (known r.input.told) b e small).leaves
+
+  rear-told : (told : Option (List ℕ)) → p.input.told ≡ told → LeavesRear (after_call q (in_call p b e (lost_pieces told all_read)))
+  rear-told None is =
+      let here : (p.unix.ahead ++ known p.input.told) ++ all_read ≡ p.unix.ahead ++ all_read =
+      ap (λ t. (p.unix.ahead ++ known t) ++ all_read) is ∙ ap (λ l. l ++ all_read) (append-nil p.unix.ahead) in
+      let same : arrived (sys p b e) all_read ≡ system_of p.unix all_read b e =
+      ap (λ l. with_console (sys p b e) (record { rest = l; output = b; error_output = e })) here in
+      rear-given (in_call p b e (all_read ∷ [])) [] (reply (arrived (sys p b e) all_read) q) (ap (λ k. reply k q) same)
+  rear-told (Some rest) is =
+      let on = told-on p.input.told r.input.told rest fell.got is fell.consumed in
+      let same : known p.input.told ≡ all_read = ap known is ∙ on.1 in
+      rear-given (in_call p b e []) [] (reply (sys p b e) q) (ap (λ l. reply (system_of p.unix l b e) q) same)
+
+  rear-left : LeavesRear (after_call q (in_call p b e (lost_pieces p.input.told all_read)))
+  rear-left = rear-told p.input.told refl
+
 -- ---- what the definition writes in the call
 
 abbrev bare : System → System
@@ -282,16 +351,17 @@ module _ {S : Type 0} (turn : S → Turn S) (x : ℕ → Run S Arriving) (n : �
   next-is : (fault : IoFault) (w : Broken turn x n fault p r [] []) → (stage w.made).next ≡ (if w.q.number == 4 then reads else if w.q.number == 5 then writes else goes_on)
   next-is fault w = ap next_of w.asked
 
-  fails-reading : (w : Broken turn x n ReadFault p r [] []) → FellReading w.q.number w.mid r
+  fails-reading : (w : Broken turn x n ReadFault p r [] [])
       → FailsCall ReadFault (stage w.made) (stage (suc w.made)) (streams p) (streams r)
-  fails-reading w fell =
+  fails-reading w =
+      let fell = w.fell in
       let out = ap (λ a. a.system.console.output) w.before in
       let err = ap (λ a. a.system.console.error_output) w.before in (
         next-is ReadFault w ∙ reads-next w.q.number fell.call,
         record {
           got = w.got ++ fell.got;
           lost = consumes-both p.input.told w.mid.input.told r.input.told w.got fell.got w.consumed fell.consumed;
-          is = λ rest told.
+          has = λ rest told.
               let mid = (told-on p.input.told w.mid.input.told rest w.got told w.consumed).0 in
               let end = told-on w.mid.input.told r.input.told (known w.mid.input.told) fell.got mid fell.consumed in (
                 w.mid.unix.ahead ++ fell.got,
@@ -299,6 +369,9 @@ module _ {S : Type 0} (turn : S → Turn S) (x : ℕ → Run S Arriving) (n : �
                     ∙ ap (λ l. w.mid.unix.ahead ++ l) end.1
                     ∙ sym (append_assoc w.mid.unix.ahead fell.got (known r.input.told)),
               );
+          leaves = λ small.
+              subst (λ (k : Arriving). IsRear k.system.console.rest (known r.input.told)) (sym w.after)
+              (rear-left w.mid r w.q w.output w.error_output fell small);
           rises = rises-from p.input.faults w.mid.input.faults r.input.faults (sym w.sound) fell.rises;
         },
         subst (λ o. Takes p.out o (stage w.made).output) (sym fell.out) (subst (Takes p.out w.mid.out) (sym out) w.wrote),
@@ -306,12 +379,12 @@ module _ {S : Type 0} (turn : S → Turn S) (x : ℕ → Run S Arriving) (n : �
       )
 
   -- the texts before and behind the call
-  out-behind : (fault : IoFault) (w : Broken turn x n fault p r [] [])
+  out-behind : (w : Broken turn x n WriteFault p r [] [])
       → ((written_by (λ s. unix s w.q) w.mid.unix (known w.mid.input.told)).output ≡ []
       → (written_by (λ s. unix s w.q) w.mid.unix (known w.mid.input.told)).error_output ≡ [] → ⊥)
       → ((stage (suc w.made)).output ≡ w.output ++ (written_by (λ s. unix s w.q) w.mid.unix (known w.mid.input.told)).output)
       × ((stage (suc w.made)).error_output ≡ w.error_output ++ (written_by (λ s. unix s w.q) w.mid.unix (known w.mid.input.told)).error_output)
-  out-behind fault w some =
+  out-behind w some =
       let so = w.after ∙ after-written (sys w.mid w.output w.error_output) w.q some in
       (ap (λ a. a.system.console.output) so, ap (λ a. a.system.console.error_output) so)
 
@@ -321,7 +394,7 @@ module _ {S : Type 0} (turn : S → Turn S) (x : ℕ → Run S Arriving) (n : �
       let written = written_by (λ s. unix s w.q) w.mid.unix (known w.mid.input.told) in
       let out = ap (λ a. a.system.console.output) w.before in
       let err = ap (λ a. a.system.console.error_output) w.before in
-      let more = out-behind WriteFault w (λ none all. some-written w.mid.out r.out written.output h.0 none) in
+      let more = out-behind w (λ none all. some-written w.mid.out r.out written.output h.0 none) in
       inl (
         subst (λ t. FailsBehind p.out r.out t (stage (suc w.made)).output) (sym out)
             (behind-fails p.out w.mid.out r.out w.output written.output (stage (suc w.made)).output w.wrote h.0 more.0),
@@ -331,7 +404,7 @@ module _ {S : Type 0} (turn : S → Turn S) (x : ℕ → Run S Arriving) (n : �
       let written = written_by (λ s. unix s w.q) w.mid.unix (known w.mid.input.told) in
       let out = ap (λ a. a.system.console.output) w.before in
       let err = ap (λ a. a.system.console.error_output) w.before in
-      let more = out-behind WriteFault w (λ all none. some-written w.mid.err r.err written.error_output h.1 none) in
+      let more = out-behind w (λ all none. some-written w.mid.err r.err written.error_output h.1 none) in
       inr (
         subst (λ o. Takes p.out o (stage w.made).output) (sym h.0) (subst (Takes p.out w.mid.out) (sym out) w.wrote),
         subst (λ t. FailsBehind p.err r.err t (stage (suc w.made)).error_output) (sym err)
@@ -354,7 +427,7 @@ module _ {S : Type 0} (turn : S → Turn S) (x : ℕ → Run S Arriving) (n : �
   )
 
   fails-so : (fault : IoFault) (w : Broken turn x n fault p r [] []) → FailsCall fault (stage w.made) (stage (suc w.made)) (streams p) (streams r)
-  fails-so ReadFault w = fails-reading w w.fell
+  fails-so ReadFault w = fails-reading w
   fails-so WriteFault w = fails-writing w w.fell
 
 pub breaks : {S : Type 0} (turn : S → Turn S) (n : ℕ) (s : S) (fault : IoFault) (p r : Parts) (answers : List Answer)

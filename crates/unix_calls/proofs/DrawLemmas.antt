@@ -1,9 +1,9 @@
 -- Bytes drawn one after the other.
-use Rattle.std.proofs.Common.{◌≡◌, ℕ, ◌+◌, ◌<◌, ◌≤◌, ◌==◌, false, nat_lt, List, [], ◌∷◌, ◌++◌, length, take, Option, Some, None, refl, ap, sym, ◌∙◌, subst, arith, append_assoc, append-nil, length-append, if◌then◌else◌}
+use Rattle.std.proofs.Common.{◌≡◌, ℕ, ◌+◌, ◌-◌, ◌<◌, ◌≤◌, ◌==◌, false, nat_lt, List, [], ◌∷◌, ◌++◌, length, take, Option, Some, None, refl, ap, sym, ◌∙◌, subst, arith, append_assoc, append-nil, length-append, if◌then◌else◌}
 use Rattle.std.specs.Io.KnownBytes.{Consumes, IsAtEnd}
 use Rattle.std.proofs.lemmas.Bool.{and_from, lt-ltb}
 use Rattle.std.proofs.lemmas.List.{take_all}
-use Rattle.std.proofs.Math.Seq.{take-append_seam}
+use Rattle.std.proofs.Math.Seq.{take-append-add, take-append_seam}
 use Rattle.std.proofs.lemmas.List.Folds.{list_all-append}
 use Rattle.nv_events.specs.Memory.{patched}
 use Rattle.unix_system.specs.Calls.{first_line}
@@ -55,6 +55,15 @@ line-closed xs behind b most plain is short =
     ap (λ z. take most (first_line z)) (append_assoc xs (b ∷ []) behind)
     ∙ (ap (take most) (plain (b ∷ behind) ∙ ap (λ x. xs ++ first_line (x ∷ behind)) is ∙ ap (λ x. xs ++ x ∷ []) (sym is))
     ∙ take_all most (xs ++ b ∷ []) (omega (arith, length-append xs (b ∷ []))))
+
+-- the line goes on, and has so many bytes at most
+pub line-begins : (xs : List ℕ) (most : ℕ) → IsPlain xs → length xs ≤ most → (behind : List ℕ)
+    → (more : List ℕ) × (take most (first_line (xs ++ behind)) ≡ xs ++ more)
+line-begins xs most plain short behind =
+    let on : most ≡ length xs + (most - length xs) = omega (arith, short) in (
+      take (most - length xs) (first_line behind),
+      ap (take most) (plain behind) ∙ (ap (λ n. take n (xs ++ first_line behind)) on ∙ take-append-add xs (first_line behind) (most - length xs)),
+    )
 
 pub copies-nothing : {C : Type 0} (put_at : C → ℕ → ℕ → C) (c : C) (place most : ℕ) → Copies put_at c c place most []
 copies-nothing put_at c place most = record { after = refl; small = refl; short = omega arith }
@@ -121,5 +130,11 @@ module _ {C : Type 0} (put_at : C → ℕ → ℕ → C) (c : C) (place most : �
         all = long;
       }
 
-  pub reading-failed : (d : C) (mid new : List ℕ) (between left : Option (List ℕ)) (i : ℕ) → Reading put_at c d place most old mid rest between i → Draws mid new between left [] → ReadsSome put_at c d place most old new rest left
-  reading-failed d mid new between left i r drawn = record { bytes = r.bytes; drawn = draws-none old mid new rest between left r.bytes r.drawn drawn; copied = r.copied }
+  pub reading-failed : (d : C) (mid new : List ℕ) (between left : Option (List ℕ)) (i : ℕ) → Reading put_at c d place most old mid rest between i → Draws mid new between left [] × (new ≡ []) → ReadsSome put_at c d place most old new rest left
+  reading-failed d mid new between left i r drawn = record {
+    bytes = r.bytes;
+    drawn = draws-none old mid new rest between left r.bytes r.drawn drawn.0;
+    copied = r.copied;
+    none = drawn.1;
+    front = line-begins r.bytes most r.plain r.copied.short;
+  }

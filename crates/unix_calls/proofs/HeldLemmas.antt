@@ -62,7 +62,7 @@ module _ {C : Type 0} (put_at : C → ℕ → ℕ → C) (does : System → Answ
   abbrev pub read-parts : Inputs → ℕ → Parts
   read-parts new faults = parts (with_input_held v new.files new.opened new.ahead) (record { told = new.rest; faults = faults }) out err
 
-  serves-read : (c d : C) (new : Inputs) (faults : ℕ) (value : ℤ) → faults ≡ input.faults → Reads put_at does room c d (inputs v.files v.opened v.ahead input.told) new value
+  serves-read : (c d : C) (new : Inputs) (faults : ℕ) (value : ℤ) → faults ≡ input.faults → Reads put_at does room c d (inputs v.most v.files v.opened v.ahead input.told) new value
       → Serves put_at does number room (parts u input out err) (read-parts new faults) c d (Ok value)
   serves-read c d new faults value sound r =
       let w = with_input_held v new.files new.opened new.ahead in
@@ -82,7 +82,7 @@ module _ {C : Type 0} (put_at : C → ℕ → ℕ → C) (does : System → Answ
         r.after,
       )
 
-  fails-read : (c d : C) (new : Inputs) (faults : ℕ) → number ≡ 4 → Rises input.faults faults → ReadsPart put_at room c d (inputs v.files v.opened v.ahead input.told) new
+  fails-read : (c d : C) (new : Inputs) (faults : ℕ) → number ≡ 4 → Rises input.faults faults → ReadsPart put_at does room c d (inputs v.most v.files v.opened v.ahead input.told) new
       → Serves put_at does number room (parts u input out err) (read-parts new faults) c d (Err ReadFault)
   fails-read c d new faults call rises r =
       subst (λ (x : Held). Serves put_at does number room (parts x input out err) (read-parts new faults) c d (Err ReadFault)) same (
@@ -90,17 +90,18 @@ module _ {C : Type 0} (put_at : C → ℕ → ℕ → C) (does : System → Answ
           call = call;
           got = r.got;
           consumed = r.consumed;
+          reads = λ behind before error_before small. r.reads (system_of v [] before error_before) behind small;
           rises = rises;
           out = refl;
           err = refl;
-          same = λ i. with_input_held v (r.files i) (r.opened i) new.ahead;
+          same = λ i. with_input_held v (r.files i) (r.opened i) (r.none i);
         },
         (r.patch, r.fits, r.after),
       )
 
   -- a read, where its failure is a fault
   pub read-given : (c d : C) (new : Inputs) (faults : ℕ) (r : Result ℤ Failed) (q : Result ℤ IoFault) → number ≡ 4 → AsFault ReadFault r q
-      → CountsFailure (is_err r) input.faults faults → ReadGives put_at does room c d (inputs v.files v.opened v.ahead input.told) new r
+      → CountsFailure (is_err r) input.faults faults → ReadGives put_at does room c d (inputs v.most v.files v.opened v.ahead input.told) new r
       → Serves put_at does number room (parts u input out err) (read-parts new faults) c d q
   read-given c d new faults (Ok value) q call is count given =
       subst (λ (x : Result ℤ IoFault). Serves put_at does number room (parts u input out err) (read-parts new faults) c d x) (sym is)

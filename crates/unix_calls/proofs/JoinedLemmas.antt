@@ -1,11 +1,10 @@
 -- What a server of joined parts gives.
 use Rattle.std.proofs.Common.{◌≡◌, ◌≢◌, ℕ, ℤ, Option, Some, None, Result, Ok, Err, refl, sym, subst, inl, arith}
 use Rattle.std.specs.Prelude.{OnOk}
-use Rattle.nv_outside.specs.Faults.{Rose}
 use Rattle.nv_events.specs.Question.{Question}
 use Rattle.nv_events.specs.declared.io_fault.IoFault.{IoFault}
 use Rattle.nv_events.specs.declared.io_fault.IoFault.TheVariants.{ReadFault, WriteFault}
-use Rattle.nv_events.specs.Serving.{Causes, NoneFalls, none_counted}
+use Rattle.nv_events.specs.Serving.{Causes, NoneFalls, Rose, none_counted}
 use Rattle.nv_events.specs.Serving as events
 use Rattle.unix_calls.specs.Serving.{Parts, Serves, AsSome}
 use Rattle.unix_calls.specs.Failing.{failed_calls, fault_of}

@@ -15,7 +15,7 @@ abbrev pub Answers : Parts → Question → Answer → Parts → Type 0
 Answers p q a r = Goes (λ s. unix s q) q.room p a r
 
 abbrev pub FailsBy : IoFault → Parts → Question → Parts → Type 0
-FailsBy fault p q r = Fell fault (λ s. unix s q) q.number p r
+FailsBy fault p q r = Fell fault (λ s. unix s q) q.number q.room p r
 
 module _ {V : Type 0} (part : V → Parts) (failed : V → Option IoFault) where
   abbrev pub goes : V → Question → Answer → V → Type 0

@@ -9,15 +9,7 @@ use Rattle.unix_system.specs.Asked.{words_in_order, addresses, texts_with_zeros}
 
 -- a system with these arguments and this heap
 abbrev pub with_args : System → Order → List (List ℕ) → Heap → System
-with_args s order args heap = record {
-  files = s.files;
-  opened = s.opened;
-  console = s.console;
-  heap = heap;
-  args = args;
-  moment = s.moment;
-  order = order;
-}
+with_args s order args heap = record s { heap = heap; args = args; order = order }
 
 -- the argument block of these arguments
 abbrev pub block_of : Order → List (List ℕ) → ℕ → List ℕ

@@ -1,4 +1,5 @@
--- What the code holds of the system between calls: all but the console, and the input that was read ahead.
+-- What the code holds of the system between calls: all but the console, and the input that was read
+-- ahead.
 use Rattle.std.specs.Prelude.{ℕ, List, ◌++◌}
 use Rattle.nv_words.specs.declared.order.Order.{Order}
 use Rattle.unix_files.specs.Files.{Files}
@@ -14,9 +15,11 @@ pub record Held : Type 0 where
   pub args : List (List ℕ)
   pub moment : ℕ
   pub order : Order
+  pub most : ℕ
   pub ahead : List ℕ
 
--- The system, where the source of input has this left and these were written. What was read ahead comes first.
+-- The system, where the source of input has this left and these were written. What was read ahead
+-- comes first.
 abbrev pub system_of : Held → List ℕ → List ℕ → List ℕ → System
 system_of held rest output error_output = record {
   files = held.files;
@@ -26,66 +29,40 @@ system_of held rest output error_output = record {
   args = held.args;
   moment = held.moment;
   order = held.order;
+  most = held.most;
 }
 
 -- only what was read ahead differs
 abbrev pub with_ahead : Held → List ℕ → Held
-with_ahead held ahead = record {
-  files = held.files;
-  blocks = held.blocks;
-  opened = held.opened;
-  heap = held.heap;
-  args = held.args;
-  moment = held.moment;
-  order = held.order;
-  ahead = ahead;
-}
+with_ahead held ahead = record held { ahead = ahead }
 
 -- a system with these files, descriptors and heap, at this moment
 abbrev pub with_parts : System → Files → Opened → Heap → ℕ → System
-with_parts s files opened heap moment = record {
+with_parts s files opened heap moment = record s {
   files = files;
   opened = opened;
-  console = s.console;
   heap = heap;
-  args = s.args;
   moment = moment;
-  order = s.order;
 }
 
+-- a read of input gives at most so many bytes
+abbrev pub limited : Held → ℕ → Held
+limited held most = record held { most = most }
+
 abbrev pub with_tables_held : Held → Files → Opened → Heap → Held
-with_tables_held held files opened heap = record {
+with_tables_held held files opened heap = record held {
   files = files;
-  blocks = held.blocks;
   opened = opened;
   heap = heap;
-  args = held.args;
-  moment = held.moment;
-  order = held.order;
-  ahead = held.ahead;
 }
 
 -- the program has begun, with this heap and this order of bytes
 abbrev pub with_begun_held : Held → Order → Heap → Held
-with_begun_held held order heap = record {
-  files = held.files;
-  blocks = held.blocks;
-  opened = held.opened;
-  heap = heap;
-  args = held.args;
-  moment = held.moment;
-  order = order;
-  ahead = held.ahead;
-}
+with_begun_held held order heap = record held { heap = heap; order = order }
 
 abbrev pub with_input_held : Held → Files → Opened → List ℕ → Held
-with_input_held held files opened ahead = record {
+with_input_held held files opened ahead = record held {
   files = files;
-  blocks = held.blocks;
   opened = opened;
-  heap = held.heap;
-  args = held.args;
-  moment = held.moment;
-  order = held.order;
   ahead = ahead;
 }

@@ -1,4 +1,5 @@
 pub mod Held
+pub mod Sides
 pub mod Drawing
 pub mod Serving
 pub mod Arriving

@@ -12,8 +12,8 @@ use Rattle.unix_calls.specs.Arriving.{run_arriving}
 use Rattle.unix_calls.specs.Serving.{Parts}
 use Rattle.unix_calls.specs.Stages.{ComesTo, StopsRun, Streams, stage_of}
 
--- The run of at most n turns over a system as it is held: over all that input has left, where that is told, or else over pieces of it, one
--- before each call.
+-- The run of at most n turns over a system as it is held: over all that input has left, where that
+-- is told, or else over pieces of it, one before each call.
 abbrev pub run_over : {S : Type 0} → (S → Turn S) → ℕ → S → Held → Option (List ℕ) → List (List ℕ)
     → Run S System
 run_over turn n s unix (Some rest) pieces = run_of turn reply n s (system_of unix rest [] [])
@@ -22,8 +22,8 @@ run_over turn n s unix None pieces = run_arriving turn n s (system_of unix [] []
 abbrev pub streams : Parts → Streams
 streams p = record { input = p.input; out = p.out; err = p.err }
 
--- A run of the definition ended so, with the machine and the system as they are now; the source lost what the run read or what was read
--- ahead, and the sinks gained what it wrote.
+-- A run of the definition ended so, with the machine and the system as they are now; the source
+-- lost what the run read or what was read ahead, and the sinks gained what it wrote.
 pub record PlaysRun {S : Type 0} (turn : S → Turn S) (run : Run S System) (now : S) (p r : Parts)
     (outcome : Outcome) : Type 0 where
   pub comes : ComesTo (stage_of turn run) (streams p) (streams r)

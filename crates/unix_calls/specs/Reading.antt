@@ -1,5 +1,5 @@
 -- What a read and a write of the code did, call by call. `does` is the definition's call.
-use Rattle.std.specs.Prelude.{◌≡◌, ◌⊎◌, ℕ, ℤ, List, ◌++◌, Option, Result, Ok, Err, IsTrue}
+use Rattle.std.specs.Prelude.{◌≡◌, ◌⊎◌, ℕ, ℤ, List, [], ◌++◌, Option, Result, Ok, Err, IsTrue}
 use Rattle.std.specs.Io.KnownBytes.{Consumes}
 use Rattle.nv_outside.specs.Seen.{FailsIn, Seen, Takes}
 use Rattle.nv_events.specs.Memory.{patched}
@@ -9,33 +9,29 @@ use Rattle.unix_files.specs.Files.{Files}
 use Rattle.unix_system.specs.declared.opened.Opened.{Opened}
 use Rattle.unix_system.specs.System.{System, with_tables}
 use Rattle.unix_system.specs.Asked.{value_only}
-use Rattle.unix_calls.specs.Drawing.{known}
+use Rattle.unix_calls.specs.Drawing.{AreBytes, known}
+use Rattle.unix_calls.specs.Stages.{IsRear}
 
--- a system with these files, descriptors and rest of input
-abbrev pub with_input : System → Files → Opened → List ℕ → System
-with_input s files opened rest = record {
+-- a system with these files, descriptors and rest of input, of which a read gives at most so many bytes
+abbrev pub with_input : System → ℕ → Files → Opened → List ℕ → System
+with_input s most files opened rest = record s {
+  most = most;
   files = files;
   opened = opened;
-  console = record {
-    rest = rest;
-    output = s.console.output;
-    error_output = s.console.error_output;
-  };
-  heap = s.heap;
-  args = s.args;
-  moment = s.moment;
-  order = s.order;
+  console = record s.console { rest = rest };
 }
 
--- files, descriptors, what was read ahead, and what the source tells
+-- how many bytes a read of input gives at most, files, descriptors, what was read ahead, and what the source tells
 pub record Inputs : Type 0 where
+  pub most : ℕ
   pub files : Files
   pub opened : Opened
   pub ahead : List ℕ
   pub rest : Option (List ℕ)
 
-abbrev pub inputs : Files → Opened → List ℕ → Option (List ℕ) → Inputs
-inputs files opened ahead rest = record {
+abbrev pub inputs : ℕ → Files → Opened → List ℕ → Option (List ℕ) → Inputs
+inputs most files opened ahead rest = record {
+  most = most;
   files = files;
   opened = opened;
   ahead = ahead;
@@ -50,14 +46,22 @@ pub record Reads {C : Type 0} (put_at : C → ℕ → ℕ → C) (does : System 
   pub fits : IsTrue (fits_room patch room)
   pub after : d ≡ patched put_at c (room_place room) patch
   pub is : (s : System)
-      → does (with_input s old.files old.opened (old.ahead ++ (got ++ known new.rest)))
+      → does (with_input s old.most old.files old.opened (old.ahead ++ (got ++ known new.rest)))
       ≡ (
         record { value = value; patch = patch },
-        with_input s new.files new.opened (new.ahead ++ known new.rest),
+        with_input s old.most new.files new.opened (new.ahead ++ known new.rest),
       )
 
-pub record ReadsPart {C : Type 0} (put_at : C → ℕ → ℕ → C) (room : Room) (c d : C)
-    (old new : Inputs) : Type 0 where
+-- in this state the call is answered, and of these bytes, with which input ends, it leaves a rear
+-- part: it reads all that stands before them
+pub record ReadsUpTo (does : System → Answer × System) (room : Room) (s : System)
+    (behind : List ℕ) : Type 0 where
+  pub fits : IsTrue (fits_room (does s).0.patch room)
+  pub leaves : IsRear (does s).1.console.rest behind
+
+-- The source failed: what it lost, and all that was read ahead, the call reads, whatever follows.
+pub record ReadsPart {C : Type 0} (put_at : C → ℕ → ℕ → C) (does : System → Answer × System)
+    (room : Room) (c d : C) (old new : Inputs) : Type 0 where
   pub got : List ℕ
   pub patch : List ℕ
   pub consumed : Consumes old.rest new.rest got
@@ -65,27 +69,22 @@ pub record ReadsPart {C : Type 0} (put_at : C → ℕ → ℕ → C) (room : Roo
   pub after : d ≡ patched put_at c (room_place room) patch
   pub files : new.files ≡ old.files
   pub opened : new.opened ≡ old.opened
+  pub none : new.ahead ≡ []
+  pub reads : (s : System) (behind : List ℕ) → AreBytes behind → ReadsUpTo does room
+      (with_input s old.most old.files old.opened (old.ahead ++ (got ++ behind))) behind
 
 abbrev pub ReadGives : {C E : Type 0} → (C → ℕ → ℕ → C) → (System → Answer × System) → Room → C → C
     → Inputs → Inputs → Result ℤ E → Type 0
 ReadGives put_at does room c d old new (Ok value) = Reads put_at does room c d old new value
-ReadGives put_at does room c d old new (Err e) = ReadsPart put_at room c d old new
+ReadGives put_at does room c d old new (Err e) = ReadsPart put_at does room c d old new
 
 -- a system that has written more
 abbrev pub with_written : System → List ℕ → List ℕ → System
-with_written s output error_output = record {
-  files = s.files;
-  opened = s.opened;
-  console = record {
-    rest = s.console.rest;
-    output = s.console.output
-        ++ output;
+with_written s output error_output = record s {
+  console = record s.console {
+    output = s.console.output ++ output;
     error_output = s.console.error_output ++ error_output;
   };
-  heap = s.heap;
-  args = s.args;
-  moment = s.moment;
-  order = s.order;
 }
 
 -- files, descriptors, and what is seen of the sinks
@@ -106,7 +105,8 @@ pub record Writes (does : System → Answer × System) (old new : Outputs) (valu
   pub is : (s : System) → does (with_tables s old.files old.opened)
       ≡ (value_only value, with_written (with_tables s new.files new.opened) output error_output)
 
--- one sink failed before it had taken all that was to be written to it, and the other was not written to
+-- one sink failed before it had taken all that was to be written to it, and the other was not
+-- written to
 pub record WritesPart (does : System → Answer × System) (old new : Outputs) : Type 0 where
   pub output : List ℕ
   pub error_output : List ℕ

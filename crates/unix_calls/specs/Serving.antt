@@ -1,5 +1,5 @@
--- What a call did, between the system's definition and what is seen of the source and the sinks. `does` is the definition's call: the
--- answer and the state after it.
+-- What a call did, between the system's definition and what is seen of the source and the sinks.
+-- `does` is the definition's call: the answer and the state after it.
 use Rattle.std.specs.Prelude.{◌≡◌, ◌⊎◌, ℕ, ℤ, List, [], ◌++◌, Option, Some, None, Result, Ok, Err, IsTrue}
 use Rattle.std.specs.Io.KnownBytes.{Consumes}
 use Rattle.nv_outside.specs.declared.failed.Failed.{Failed}
@@ -13,7 +13,8 @@ use Rattle.nv_events.specs.Answer.{Answer, fits_room, room_place}
 use Rattle.unix_system.specs.System.{System, Console}
 use Rattle.unix_system.specs.Asked.{value_only}
 use Rattle.unix_calls.specs.Held.{Held, system_of, with_ahead}
-use Rattle.unix_calls.specs.Drawing.{known}
+use Rattle.unix_calls.specs.Drawing.{AreBytes, known}
+use Rattle.unix_calls.specs.Reading.{ReadsUpTo}
 
 -- What the code holds, and what is seen of the source and of the two sinks.
 pub record Parts : Type 0 where
@@ -36,9 +37,9 @@ told_by held (Some rest) (Some output) (Some error_output) =
 abbrev pub told : Parts → Option System
 told p = told_by p.unix p.input.told p.out.told p.err.told
 
--- A call was answered and no part failed: the source lost `got`, the sinks gained what the definition writes, and the answer and what is
--- held then are the definition's, whatever was written before. The rest of input is what was read ahead, `got`, and what the source then
--- tells.
+-- A call was answered and no part failed: the source lost `got`, the sinks gained what the
+-- definition writes, and the answer and what is held then are the definition's, whatever was
+-- written before. The rest of input is what was read ahead, `got`, and what the source then tells.
 pub record Goes (does : System → Answer × System) (room : Room) (p : Parts) (a : Answer) (r : Parts)
     : Type 0 where
   pub got : List ℕ
@@ -57,21 +58,26 @@ pub record Goes (does : System → Answer × System) (room : Room) (p : Parts) (
 abbrev pub written_by : (System → Answer × System) → Held → List ℕ → Console
 written_by does held rest = (does (system_of held rest [] [])).1.console
 
--- One sink failed before it had taken all that the definition writes to it, and the other was not written to.
+-- One sink failed before it had taken all that the definition writes to it, and the other was not
+-- written to.
 abbrev pub OneFails : Console → Parts → Parts → Type 0
 OneFails written p r = (FailsIn p.out r.out written.output × (r.err ≡ p.err))
     ⊎ ((r.out ≡ p.out) × FailsIn p.err r.err written.error_output)
 
--- The source failed a call, which is call 4, a read: it lost a front part of its rest, and nothing was written. Of what is held, only what
--- was read ahead may have changed.
-pub record FellReading (number : ℕ) (p r : Parts) : Type 0 where
+-- The source failed a call, which is call 4, a read: it lost a front part of what the call reads,
+-- whatever follows, and nothing was written. Of what is held, only what was read ahead has changed,
+-- of which nothing is left.
+pub record FellReading (does : System → Answer × System) (number : ℕ) (room : Room)
+    (p r : Parts) : Type 0 where
   pub call : number ≡ 4
   pub got : List ℕ
   pub consumed : Consumes p.input.told r.input.told got
+  pub reads : (behind before error_before : List ℕ) → AreBytes behind
+      → ReadsUpTo does room (system_of p.unix (got ++ behind) before error_before) behind
   pub rises : Rises p.input.faults r.input.faults
   pub out : r.out ≡ p.out
   pub err : r.err ≡ p.err
-  pub same : r.unix ≡ with_ahead p.unix r.unix.ahead
+  pub same : r.unix ≡ with_ahead p.unix []
 
 -- A sink failed a call, which is call 5, a write: nothing was read, and what is held is as before.
 pub record FellWriting (does : System → Answer × System) (number : ℕ) (p r : Parts) : Type 0 where
@@ -81,17 +87,18 @@ pub record FellWriting (does : System → Answer × System) (number : ℕ) (p r 
   pub same : r.unix ≡ p.unix
 
 -- the part that this fault is of failed a call, and no other
-abbrev pub Fell : IoFault → (System → Answer × System) → ℕ → Parts → Parts → Type 0
-Fell ReadFault does number p r = FellReading number p r
-Fell WriteFault does number p r = FellWriting does number p r
+abbrev pub Fell : IoFault → (System → Answer × System) → ℕ → Room → Parts → Parts → Type 0
+Fell ReadFault does number room p r = FellReading does number room p r
+Fell WriteFault does number room p r = FellWriting does number p r
 
--- What a call gave: an answer, whose bytes the memory then has, or a fault, after which some bytes may stand in the room.
+-- What a call gave: an answer, whose bytes the memory then has, or a fault, after which some bytes
+-- may stand in the room.
 abbrev pub Serves : {C : Type 0} → (C → ℕ → ℕ → C) → (System → Answer × System) → ℕ → Room → Parts
     → Parts → C → C → Result ℤ IoFault → Type 0
 Serves put_at does number room p r c d (Ok value) = (patch : List ℕ)
     × Goes does room p (record { value = value; patch = patch }) r
     × (d ≡ patched put_at c (room_place room) patch)
-Serves put_at does number room p r c d (Err fault) = Fell fault does number p r
+Serves put_at does number room p r c d (Err fault) = Fell fault does number room p r
     × ((patch : List ℕ) × IsTrue (fits_room patch room)
     × (d ≡ patched put_at c (room_place room) patch))
 

@@ -8,6 +8,7 @@ use Rattle.nv_events.specs.Turn.{Turn, moves, ends, leaves, asks}
 use Rattle.nv_events.specs.declared.io_fault.IoFault.{IoFault}
 use Rattle.nv_events.specs.declared.io_fault.IoFault.TheVariants.{ReadFault, WriteFault}
 use Rattle.unix_system.specs.System.{System}
+use Rattle.unix_calls.specs.Drawing.{AreBytes}
 
 -- what the next turn of a run does: it makes a call that reads, or one that writes, or something else
 pub data Next : Type 0 where
@@ -21,7 +22,8 @@ next_of (ends end) = goes_on
 next_of (leaves q end) = goes_on
 next_of (asks q next) = if q.number == 4 then reads else if q.number == 5 then writes else goes_on
 
--- where a run stands after some turns: what is left of its input, what it wrote to output and to error output, and what its next turn does
+-- where a run stands after some turns: what is left of its input, what it wrote to output and to
+-- error output, and what its next turn does
 pub record Stage : Type 0 where
   pub left : List ℕ
   pub output : List ℕ
@@ -44,7 +46,8 @@ pub record Streams : Type 0 where
 
 -- ---- a run that was not stopped
 
--- Input lost what a run read, and at most 4,096 bytes more that were read ahead: this is left of what it had.
+-- Input lost what a run read, and at most 4,096 bytes more that were read ahead: this is left of
+-- what it had.
 pub record LosesRead (old new : Seen (List ℕ)) (left : List ℕ) : Type 0 where
   pub got : List ℕ
   pub ahead : List ℕ
@@ -61,15 +64,22 @@ pub record ComesTo (stage : Stage) (u v : Streams) : Type 0 where
 
 -- ---- a run that was stopped
 
--- Input failed: it lost a front part of what it told. Of what was left for the run, it has a rear part.
-pub record LosesPart (old new : Seen (List ℕ)) (left : List ℕ) : Type 0 where
+-- one list is a rear part of another
+abbrev pub IsRear : List ℕ → List ℕ → Type 0
+IsRear rear all = (front : List ℕ) × (all ≡ front ++ rear)
+
+-- Input failed in a call that reads: it lost a front part of what that reads, and no more.
+pub record LosesPart (old new : Seen (List ℕ)) (before behind : List ℕ) : Type 0 where
   pub got : List ℕ
   pub lost : Consumes old.told new.told got
-  pub is : (rest : List ℕ) → old.told ≡ Some rest → (more : List ℕ)
-      × (left ≡ more ++ unwrap_or new.told [])
+  -- of what was left before the call, where it tells that, it has a rear part
+  pub has : (rest : List ℕ) → old.told ≡ Some rest → IsRear (unwrap_or new.told []) before
+  -- and of what it has, bytes as they are, a rear part is left behind the call
+  pub leaves : AreBytes (unwrap_or new.told []) → IsRear behind (unwrap_or new.told [])
   pub rises : Rises old.faults new.faults
 
--- A sink took all of one text, and of a further one, with which all is written, a front part, but not all of it.
+-- A sink took all of one text, and of a further one, with which all is written, a front part, but
+-- not all of it.
 pub record FailsBehind (old new : Seen (List ℕ)) (first all : List ℕ) : Type 0 where
   pub part : List ℕ
   pub next : ℕ
@@ -84,12 +94,12 @@ OneFailsBehind before behind u v =
     ⊎ (Takes u.out v.out before.output
     × FailsBehind u.err v.err before.error_output behind.error_output)
 
--- Between two stages there is a call that the outside failed: input one that reads, and a sink one that writes. Nothing further was read or
--- written.
+-- Between two stages there is a call that the outside failed: input one that reads, and a sink one
+-- that writes. Nothing further was read or written.
 abbrev pub FailsCall : IoFault → Stage → Stage → Streams → Streams → Type 0
 FailsCall ReadFault before behind u v =
-    (before.next ≡ reads) × LosesPart u.input v.input before.left × Takes u.out v.out before.output
-    × Takes u.err v.err before.error_output
+    (before.next ≡ reads) × LosesPart u.input v.input before.left behind.left
+    × Takes u.out v.out before.output × Takes u.err v.err before.error_output
 FailsCall WriteFault before behind u v =
     (before.next ≡ writes) × LosesRead u.input v.input before.left
     × OneFailsBehind before behind u v

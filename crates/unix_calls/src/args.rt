@@ -12,7 +12,8 @@ use unix_system::Piece;
 /// The most bytes of the argument block.
 pub const LONGEST_BLOCK: usize = 4096;
 
-/// The arguments of a program, whose argument block has at most 4,096 bytes. A contract sees them as the list of their texts.
+/// The arguments of a program, whose argument block has at most 4,096 bytes. A contract sees them as the list of their
+/// texts.
 #[derive(Drop)]
 pub struct Args {
     alloc: Global,

@@ -19,8 +19,8 @@ use unix_system::guest::{has_room, put_bytes};
 /// The highest address of a program, and the most bytes of its heap.
 const HIGHEST: u64 = 0x7FFF_FFFF;
 
-/// Puts the argument block into the program's memory, where the room for it has `size` bytes, in the order of bytes that the call
-/// names, and sets the heap up.
+/// Puts the argument block into the program's memory, where the room for it has `size` bytes, in the order of bytes
+/// that the call names, and sets the heap up.
 pub fn begin<M: View>(
     heap: &mut Heap,
     args: &Args,

@@ -22,8 +22,8 @@ use unix_system::{Description, Opened, Target};
 /// The most bytes that are written at once.
 const PIECE: u32 = 4096;
 
-/// Writes bytes of the program's memory, all of which can be read, to a sink, in pieces. After a failure it has a front part of them,
-/// but not all.
+/// Writes bytes of the program's memory, all of which can be read, to a sink, in pieces. After a failure it has a front
+/// part of them, but not all.
 pub fn write_out<M: View, K: Sink>(
     sink: &mut K,
     at: u32,
@@ -49,7 +49,8 @@ pub fn write_out<M: View, K: Sink>(
 /// Writes the bytes of a call to a sink, where they can be read.
 fn write_console<M: View, K: Sink>(sink: &mut K, call: &Call, view: &M) -> Result<i32, Failed>
     requires few { call.now.a2 < 0x80000000 }
-    requires readable { IsSome (bytes_from (M.memory (M.content view.now)) call.now.a1 call.now.a2) }
+    requires readable { IsSome
+        (bytes_from (M.memory (M.content view.now)) call.now.a1 call.now.a2) }
     ensures value { IfOk result (λ v. v
         ≡ pos (length
         (bytes_of_text (text_at (M.memory (M.content view.now))
@@ -77,7 +78,8 @@ fn write_to<M: View, O: Sink, E: Sink>(
 ) -> Result<i32, Failed>
     requires within { found.0 < 64 }
     requires few { call.now.a2 < 0x80000000 }
-    requires readable { IsSome (bytes_from (M.memory (M.content view.now)) call.now.a1 call.now.a2) }
+    requires readable { IsSome
+        (bytes_from (M.memory (M.content view.now)) call.now.a1 call.now.a2) }
     ensures served { WriteGives (λ s. write_target s found.0 found.1
         (bytes_of_text (text_at (M.memory (M.content view.now))
         (Counted call.now.a1 call.now.a2))) found.1.target)

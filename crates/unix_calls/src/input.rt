@@ -1,6 +1,6 @@
 //! What a program reads from the console.
 
-ghost use Rattle.std.specs.Prelude.{◌≡◌, ◌<◌, ℕ, Some, IfOk, OnErr, IsTrue, is_err, pos};
+ghost use Rattle.std.specs.Prelude.{◌≡◌, ◌<◌, ℕ, Some, IfOk, OnErr, IsTrue, is_err, min, pos};
 ghost use Rattle.nv_outside.specs.Faults.{CountsFailure};
 ghost use Rattle.nv_events.specs.Memory.{can_write};
 ghost use Rattle.nv_events.specs.Question.{room_at, there};
@@ -62,9 +62,10 @@ fn put_byte<M: View>(view: &mut M, at: u32, b: u8)
     view.put(at, b);
 }
 
-/// Reads the console, where the room is there.
+/// Reads the console, where the room is there: at most `most` bytes.
 fn read_console<M: View, S: Source>(
     ahead: &mut ReadAhead,
+    most: u32,
     call: &Call,
     view: &mut M,
     source: &mut S,
@@ -73,13 +74,14 @@ fn read_console<M: View, S: Source>(
     requires room { IsTrue (can_write (M.memory (M.content view.old)) call.now.a1 call.now.a2) }
     ensures ok { IfOk result (λ v. (n : ℕ)
         × ReadsLine M.put_at (M.content view.old) (M.content view.new)
-        call.now.a1 call.now.a2 ahead.old ahead.new (S.rest source.old) (S.rest source.new) n
-        × (v ≡ pos n)) }
+        call.now.a1 (min call.now.a2 most) ahead.old ahead.new (S.rest source.old)
+        (S.rest source.new) n × (v ≡ pos n)) }
     ensures err { OnErr result (ReadsSome M.put_at (M.content view.old) (M.content view.new)
-        call.now.a1 call.now.a2 ahead.old ahead.new (S.rest source.old) (S.rest source.new)) }
+        call.now.a1 (min call.now.a2 most) ahead.old ahead.new (S.rest source.old)
+        (S.rest source.new)) }
     ensures count { CountsFailure (is_err result) (S.faults source.old) (S.faults source.new) }
 {
-    let n = read_line(ahead, source, call.a1, call.a2, view)?;
+    let n = read_line(ahead, source, call.a1, call.a2.min(most), view)?;
     Ok(n as i32)
 }
 
@@ -88,6 +90,7 @@ fn read_from<M: View, S: Source>(
     disk: &mut Disk,
     opened: &mut Opened,
     ahead: &mut ReadAhead,
+    most: u32,
     found: (usize, Description),
     call: &Call,
     view: &mut M,
@@ -99,22 +102,23 @@ fn read_from<M: View, S: Source>(
     ensures served { ReadGives M.put_at (λ s.
         read_target s found.0 found.1 call.now.a2 found.1.target)
         (there call.now.a1 call.now.a2) (M.content view.old) (M.content view.new)
-        (inputs disk.old opened.old ahead.old (S.rest source.old))
-        (inputs disk.new opened.new ahead.new (S.rest source.new)) result }
+        (inputs most disk.old opened.old ahead.old (S.rest source.old))
+        (inputs most disk.new opened.new ahead.new (S.rest source.new)) result }
     ensures count { CountsFailure (is_err result) (S.faults source.old) (S.faults source.new) }
 {
     match found.1.target {
         Target::File(n) => Ok(read_file(disk, opened, found, n, call.a2, call.a1, view)),
-        Target::Input => read_console(ahead, call, view, source),
+        Target::Input => read_console(ahead, most, call, view, source),
         _ => Ok(BAD_DESCRIPTOR),
     }
 }
 
-/// Reads from a descriptor.
+/// Reads from a descriptor. Of input it reads at most `most` bytes.
 pub fn read<M: View, S: Source>(
     disk: &mut Disk,
     opened: &mut Opened,
     ahead: &mut ReadAhead,
+    most: u32,
     call: &Call,
     view: &mut M,
     source: &mut S,
@@ -122,14 +126,15 @@ pub fn read<M: View, S: Source>(
     ensures served { ReadGives M.put_at (read_of (M.memory (M.content view.old)) call.now)
         (room_at (M.memory (M.content view.old)) (Some (call.now.a1, call.now.a2)))
         (M.content view.old) (M.content view.new)
-        (inputs disk.old opened.old ahead.old (S.rest source.old))
-        (inputs disk.new opened.new ahead.new (S.rest source.new)) result }
+        (inputs most disk.old opened.old ahead.old (S.rest source.old))
+        (inputs most disk.new opened.new ahead.new (S.rest source.new)) result }
     ensures count { CountsFailure (is_err result) (S.faults source.old) (S.faults source.new) }
 {
     match may_read(opened, call, view) {
         Access::Answered(value) => Ok(value),
         Access::Granted(d, description) => {
-            read_from(disk, opened, ahead, (d, description), call, view, source)
+            let found = (d, description);
+            read_from(disk, opened, ahead, most, found, call, view, source)
         }
     }
 }

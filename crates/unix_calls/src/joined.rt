@@ -12,8 +12,8 @@ use nv_outside::{Sink, Source};
 
 /// A system with its source of input and its two sinks, as the server of a program.
 ///
-/// It always has an answer, up to a call that the outside fails, which is the last. Its state is told where the source and both
-/// sinks tell theirs.
+/// It always has an answer, up to a call that the outside fails, which is the last. Its state is told where the source
+/// and both sinks tell theirs.
 pub struct Joined<'a, S, O, E> {
     pub unix: &'a mut Unix,
     pub source: &'a mut S,
@@ -43,7 +43,7 @@ impl<'a, S: Source, O: Sink, E: Sink> Server for Joined<'a, S, O, E> {
     ghost held = { λ j q k. ⊥ };
 
     ghost fell = { λ j q k. (fault : IoFault) × (k.failed ≡ Some fault)
-        × Fell fault (λ s. unix s q) q.number
+        × Fell fault (λ s. unix s q) q.number q.room
         (parts j.unix.now (input_seen S.Source j.source.now) (output_seen O.Sink j.out.now)
         (output_seen E.Sink j.err.now))
         (parts k.unix.now (input_seen S.Source k.source.now) (output_seen O.Sink k.out.now)
@@ -76,7 +76,8 @@ impl<'a, S: Source, O: Sink, E: Sink> Server for Joined<'a, S, O, E> {
 
     ghost keeps_itself = { λ j. (refl, refl, refl, refl, λ h. h) };
 
-    ghost keeps_on = { λ i j k a b. (b.0 ∙ a.0, b.1 ∙ a.1, b.2 ∙ a.2, b.3 ∙ a.3, λ h. b.4 (a.4 h)) };
+    ghost keeps_on = { λ i j k a b.
+        (b.0 ∙ a.0, b.1 ∙ a.1, b.2 ∙ a.2, b.3 ∙ a.3, λ h. b.4 (a.4 h)) };
 }
 
 /// The fault of a call that failed.

@@ -2,10 +2,10 @@
 
 ghost use Rattle.std.specs.Prelude.{◌≡◌, ℕ, List, []};
 ghost use Rattle.nv_events.specs.Run.{run_of};
-ghost use Rattle.unix_system.specs.System.{System};
+ghost use Rattle.unix_system.specs.System.{System, with_most};
 ghost use Rattle.unix_system.specs.Unix.{start, reply};
 ghost use Rattle.unix_calls.specs.Held.{Held, system_of};
-ghost use Rattle.unix_calls.specs.Starting.{Begins};
+ghost use Rattle.unix_calls.specs.Starting.{Begins, BeginsLimited};
 ghost use Rattle.unix_calls.specs.Playing.{behind, run_behind};
 
 use nv_events::Machine;
@@ -15,6 +15,14 @@ pub fn begins_at_start()
     ensures { (held : Held) (blocks moment : ℕ) (files : List (List ℕ × List ℕ))
         (args : List (List ℕ)) (rest : List ℕ) → Begins held blocks moment files args
         → system_of held rest [] [] ≡ start blocks moment files args rest }
+{}
+
+/// The same where its reads of input are limited.
+pub fn begins_limited()
+    ensures { (most : ℕ) (held : Held) (blocks moment : ℕ) (files : List (List ℕ × List ℕ))
+        (args : List (List ℕ)) (rest : List ℕ)
+        → BeginsLimited most held blocks moment files args
+        → system_of held rest [] [] ≡ with_most (start blocks moment files args rest) most }
 {}
 
 /// What was written before a run does not matter to it, and stays in front of what it writes. So a run that is played in parts is

@@ -1,4 +1,5 @@
-//! The system as a program finds it: it answers all calls, over a source of input and two sinks; and the run of any machine over it.
+//! The system as a program finds it: it answers all calls, over a source of input and two sinks; and the run of any
+//! machine over it.
 #![tactic(auto)]
 
 mod access;
@@ -8,11 +9,12 @@ mod console;
 mod input;
 mod joined;
 pub mod laws;
-mod numbers;
+pub mod numbers;
 mod playing;
 mod quiet;
 mod read_ahead;
 mod serving;
+pub mod sides;
 mod text;
 mod unix;
 mod unix_error;

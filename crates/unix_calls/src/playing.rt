@@ -10,13 +10,15 @@ use nv_outside::{Sink, Source};
 
 /// Runs a machine for up to `steps` turns over a system, a source of input and two sinks.
 ///
-/// `Going` says that `steps` was reached before an end; then the machine may be run further, with the same system, source and
-/// sinks. Of input at most 4,096 bytes are read ahead. It takes no memory.
+/// `Going` says that `steps` was reached before an end; then the machine may be run further, with the same system,
+/// source and sinks. Of input at most 4,096 bytes are read ahead. It takes no memory.
 ///
 /// # Errors
 ///
-/// The fault of the call in which the source or a sink failed, which ends the run; no other part failed in it. Then the sinks have
-/// what the run of the definition writes up to that call, and one that failed a front part of what the call writes, but not all.
+/// The fault of the call in which the source or a sink failed, which ends the run; no other part failed in it. Then the
+/// sinks have what the run of the definition writes up to that call, and one that failed a front part of what the call
+/// writes, but not all. A source that failed lost what the run reads up to that call, and a front part of what the call
+/// reads.
 pub fn play<M: Machine, S: Source, O: Sink, E: Sink>(
     machine: &mut M,
     steps: u64,

@@ -53,6 +53,13 @@ impl ReadAhead {
         let _ = &self.from;
     }
 
+    /// The bytes in their order.
+    pub fn bytes(&self) -> &[u8]
+        ensures { result.now ≡ self.now }
+    {
+        &self.bytes[self.from..self.to]
+    }
+
     fn is_empty(&self) -> bool
         ensures { result ≡ (length self.now == 0) }
     {

@@ -101,6 +101,7 @@ impl Unix {
             &mut self.disk,
             &mut self.opened,
             &mut self.ahead,
+            self.most,
             call,
             view,
             source,
@@ -155,13 +156,14 @@ impl Unix {
 
     /// Answers a call of the program by the definition of the system.
     ///
-    /// `source` is the program's input, of which at most 4,096 bytes are read ahead; `out` and `err` are its output and error output. It
-    /// takes no memory.
+    /// `source` is the program's input, of which at most 4,096 bytes are read ahead; `out` and `err` are its output and
+    /// error output. It takes no memory.
     ///
     /// # Errors
     ///
-    /// `ReadFault` where the source failed in this call, which reads, and `WriteFault` where a sink did in one that writes; no other part
-    /// failed. That sink then has a front part of what the call writes, but not all.
+    /// `ReadFault` where the source failed in this call, which reads, and `WriteFault` where a sink did in one that
+    /// writes; no other part failed. The source then lost a front part of what the call reads and no more, and the sink
+    /// has a front part of what it writes, but not all.
     pub fn serve<M: View, S: Source, O: Sink, E: Sink>(
         &mut self,
         call: &Call,

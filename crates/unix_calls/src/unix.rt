@@ -1,13 +1,15 @@
-ghost use Rattle.std.specs.Prelude.{◌-◌, ◌≡◌, ◌≤◌, ◌<◌, ◌++◌, ◌∷◌, [], ℕ, List, Option, Some, IfOk, OnOk, OnErr, Ok, Err, length, ◌≢◌, false, option_map};
+ghost use Rattle.std.specs.Prelude.{◌-◌, ◌≡◌, ◌≤◌, ◌<◌, ◌++◌, ◌∷◌, [], ℕ, List, Option, Some, IfOk, OnOk, OnErr, IsSome, Ok, Err, length, ◌≢◌, false, option_map};
 ghost use Rattle.unix_files.specs.Files.{blocks_for, bytes_at, node_named};
 ghost use Rattle.unix_system.specs.Calls.{block_length};
 ghost use Rattle.unix_system.specs.Unix.{blocks_needed};
-ghost use Rattle.unix_calls.specs.Held.{Held};
-ghost use Rattle.unix_calls.specs.Starting.{held_at_start, Begins, IsOpenToFiles};
+ghost use Rattle.unix_calls.specs.Held.{Held, limited};
+ghost use Rattle.unix_calls.specs.Sides.{console_of};
+ghost use Rattle.unix_calls.specs.Starting.{held_at_start, Begins, BeginsLimited, IsFresh, IsOpenToFiles};
 
 use crate::NoMemory;
 use crate::args::{Args, LONGEST_BLOCK};
 use crate::read_ahead::ReadAhead;
+use crate::sides::{NONE, side_of};
 use crate::unix_error::UnixError;
 use nv_words::Order;
 use std::alloc::Global;
@@ -27,6 +29,8 @@ pub struct Unix {
     pub(crate) args: Args,
     pub(crate) moment: u64,
     pub(crate) order: Order,
+    /// How many bytes a read of input gives at most.
+    pub(crate) most: u32,
     pub(crate) ahead: ReadAhead,
 }
 
@@ -44,6 +48,7 @@ impl Model for Unix {
       args = u.args;
       moment = u.moment;
       order = u.order;
+      most = u.most;
       ahead = u.ahead;
     } };
 
@@ -52,7 +57,8 @@ impl Model for Unix {
 }
 
 impl Unix {
-    /// A system without files and arguments, with so many blocks of 4,096 bytes for files, at a moment in seconds since 1970.
+    /// A system without files and arguments, with so many blocks of 4,096 bytes for files, at a moment in seconds since
+    /// 1970.
     pub fn new(alloc: Global, blocks: u32, moment: u64) -> Result<Unix, NoMemory>
         requires { blocks ≤ 65536 }
         ensures { IfOk result (λ unix. Begins unix blocks moment [] []) }
@@ -66,6 +72,7 @@ impl Unix {
             args: Args::new(alloc),
             moment,
             order: Order::Big,
+            most: u32::MAX,
             ahead: ReadAhead::new(),
         })
     }
@@ -78,12 +85,13 @@ impl Unix {
     pub fn add_file(&mut self, name: &[u8], bytes: &[u8]) -> Result<(), UnixError>
         requires begins { IsOpenToFiles self.old }
         requires short { length name.now ≤ 255 }
-        ensures added { (blocks moment : ℕ) (files : List (List ℕ × List ℕ)) (args : List (List ℕ))
-            → Begins self.old blocks moment files args
-            → OnOk result (Begins self.new blocks moment (files ++ (name.now, bytes.now) ∷ []) args) }
+        ensures added { (most blocks moment : ℕ) (files : List (List ℕ × List ℕ))
+            (args : List (List ℕ)) → BeginsLimited most self.old blocks moment files args
+            → OnOk result (BeginsLimited most self.new blocks moment
+            (files ++ (name.now, bytes.now) ∷ []) args) }
         ensures unchanged { OnErr result (self.new ≡ self.old) }
-        ensures too_large { (blocks moment : ℕ) (files : List (List ℕ × List ℕ))
-            (args : List (List ℕ)) → Begins self.old blocks moment files args
+        ensures too_large { (most blocks moment : ℕ) (files : List (List ℕ × List ℕ))
+            (args : List (List ℕ)) → BeginsLimited most self.old blocks moment files args
             → OnErr result
             ((result ≡ Err (UnixError.FilesTooLarge
             (blocks_needed (files ++ (name.now, bytes.now) ∷ []))))
@@ -101,10 +109,38 @@ impl Unix {
         Ok(())
     }
 
-    /// The bytes of the file of this name, in memory of their own. `None` exactly where there is no such file.
+    /// From now on a read of input gives at most `most` bytes, and the tests of a read stay as they are.
+    pub fn limit_reads(&mut self, most: u32)
+        requires some { 1 ≤ most }
+        requires fresh { IsFresh self.old }
+        ensures { self.new ≡ limited self.old most }
+    {
+        self.most = most;
+    }
+
+    /// The side of the console that a descriptor stands for, as `sides` numbers them.
+    pub fn console(&self, fd: u32) -> u32
+        ensures { result ≡ console_of self.now.opened fd }
+    {
+        match self.opened.at(fd) {
+            Some((_, description)) => side_of(description.target),
+            None => NONE,
+        }
+    }
+
+    /// The bytes of input that were read ahead, and not yet given to the program.
+    pub fn ahead(&self) -> &[u8]
+        ensures { result.now ≡ self.now.ahead }
+    {
+        self.ahead.bytes()
+    }
+
+    /// The bytes of the file of this name, in memory of their own. `None` exactly where there is no such file, and then
+    /// no memory is taken.
     pub fn file(&self, alloc: Global, name: &[u8]) -> Result<Option<Vec<u8>>, NoMemory>
-        ensures { IfOk result (λ found. option_map (λ bytes. bytes.items) found
+        ensures found { IfOk result (λ found. option_map (λ bytes. bytes.items) found
             ≡ option_map (bytes_at self.now.files) (node_named self.now.files name.now)) }
+        ensures there { OnErr result (IsSome (node_named self.now.files name.now)) }
     {
         match self.disk.named(name) {
             Some(n) => Ok(Some(self.disk.bytes(alloc, n)?)),
@@ -133,9 +169,9 @@ impl Unix {
     ///
     /// `ArgsTooLong` where the argument block would have more than 4,096 bytes, and `NoMemory`.
     pub fn add_arg(&mut self, text: &str) -> Result<(), UnixError>
-        ensures added { (blocks moment : ℕ) (files : List (List ℕ × List ℕ)) (args : List (List ℕ))
-            → Begins self.old blocks moment files args
-            → OnOk result (Begins self.new blocks moment files (args ++ text.now ∷ [])) }
+        ensures added { (most blocks moment : ℕ) (files : List (List ℕ × List ℕ))
+            (args : List (List ℕ)) → BeginsLimited most self.old blocks moment files args
+            → OnOk result (BeginsLimited most self.new blocks moment files (args ++ text.now ∷ [])) }
         ensures unchanged { OnErr result (self.new ≡ self.old) }
         ensures fits { OnOk result (block_length (self.old.args ++ text.now ∷ []) ≤ 4096) }
         ensures too_long { (n : ℕ) → result ≡ Err (UnixError.ArgsTooLong n)

@@ -16,10 +16,10 @@ returns-in-Answered-clause-served g c =
     let call = c.args.call.now in
     let room = room_at m (Some (call.a1, call.a2)) in
     let rest = g.S.Source.rest c.args.source.now in
-    let i = inputs c.args.disk.now c.args.opened.now c.args.ahead.now rest in
+    let i = inputs c.args.most c.args.disk.now c.args.opened.now c.args.ahead.now rest in
     subst (λ (v : ℤ). Reads put_at (read_of m call) room old old i i v) (signed-back c.in-Answered.value c.in-Answered.ensures.small)
-    (reads-quiet put_at (read_of m call) c.args.disk.now c.args.opened.now c.args.ahead.now room old rest c.args.disk.now c.args.opened.now c.in-Answered.value
-    (λ s r. c.in-Answered.ensures.is (with_input s c.args.disk.now c.args.opened.now r) c.args.disk.now))
+    (reads-quiet put_at (read_of m call) c.args.most c.args.disk.now c.args.opened.now c.args.ahead.now room old rest c.args.disk.now c.args.opened.now c.in-Answered.value
+    (λ s r. c.in-Answered.ensures.is (with_input s c.args.most c.args.disk.now c.args.opened.now r) c.args.disk.now))
 
 pub returns-in-Granted-clause-served : goal.returns-in-Granted-clause-served
 returns-in-Granted-clause-served g c =
@@ -31,6 +31,6 @@ returns-in-Granted-clause-served g c =
     let d = c.in-Granted.d in
     let description = c.in-Granted.description in
     let rest = g.S.Source.rest c.args.source.now in
-    let after = inputs c.read_from.new.disk c.read_from.new.opened c.read_from.new.ahead (g.S.Source.rest c.read_from.new.source) in
-    subst (λ (room : Room). ReadGives put_at (read_of m call) room old new (inputs c.args.disk.now c.args.opened.now c.args.ahead.now rest) after c.read_from.result) (sym (room-there m call.a1 call.a2 c.in-Granted.ensures.room))
-    (reads-by put_at (read_of m call) (λ s. read_target s d description call.a2 description.target) (there call.a1 call.a2) old new c.args.disk.now c.args.opened.now c.args.ahead.now rest after c.read_from.result c.in-Granted.ensures.is c.read_from.ensures.served)
+    let after = inputs c.args.most c.read_from.new.disk c.read_from.new.opened c.read_from.new.ahead (g.S.Source.rest c.read_from.new.source) in
+    subst (λ (room : Room). ReadGives put_at (read_of m call) room old new (inputs c.args.most c.args.disk.now c.args.opened.now c.args.ahead.now rest) after c.read_from.result) (sym (room-there m call.a1 call.a2 c.in-Granted.ensures.room))
+    (reads-by put_at (read_of m call) (λ s. read_target s d description call.a2 description.target) (there call.a1 call.a2) old new c.args.most c.args.disk.now c.args.opened.now c.args.ahead.now rest after c.read_from.result c.in-Granted.ensures.is c.read_from.ensures.served)

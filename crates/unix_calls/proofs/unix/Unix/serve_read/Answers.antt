@@ -23,8 +23,8 @@ returns g c = record {
       let q = asked call m in
       let v : Held = the_view c.self.inside in
       let input = input_seen g.S.Source c.args.source.now in
-      let after = inputs c.read-answer.new.disk c.read-answer.new.opened c.read-answer.new.ahead (g.S.Source.rest c.read-answer.new.source) in
+      let after = inputs v.most c.read-answer.new.disk c.read-answer.new.opened c.read-answer.new.ahead (g.S.Source.rest c.read-answer.new.source) in
       read-given put_at (λ s. unix s q) call.number q.room v c.args.self.now c.self.view_is input out err old new after
       (g.S.Source.faults c.read-answer.new.source) c.read-answer.result c.as_fault.result c.requires c.as_fault.ensures c.read-answer.ensures.count
-      (reads-by-room put_at (λ s. unix s q) (read_of m call) q.room (room_at m (Some (call.a1, call.a2))) old new (inputs v.files v.opened v.ahead input.told) after c.read-answer.result (λ s. is-read-of m call s c.requires) (room-of-4 m call c.requires) c.read-answer.ensures.served);
+      (reads-by-room put_at (λ s. unix s q) (read_of m call) q.room (room_at m (Some (call.a1, call.a2))) old new (inputs v.most v.files v.opened v.ahead input.told) after c.read-answer.result (λ s. is-read-of m call s c.requires) (room-of-4 m call c.requires) c.read-answer.ensures.served);
 }
