@@ -1,0 +1,4 @@
+pub mod Stages
+pub mod Pipelines
+pub mod Turns
+pub mod Alone
