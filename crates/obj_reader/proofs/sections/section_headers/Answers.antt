@@ -1,0 +1,11 @@
+use Rattle.obj_reader.specs.Sections.{section}
+use Rattle.obj_reader.proofs.TableLemmas.{table_more, few_more}
+use Rattle.obj_reader.proofs.sections.section_headers.Goals as goal
+
+pub loop-i-preserved : goal.loop-i-preserved
+loop-i-preserved c = record {
+  read =
+      table_more (section c.args.start c.args.b.now) c.loop-i.sections.items _ c.read.result c.loop-i.i
+      c.loop-i.invariant.read c.read.ensures c.in_ok-push.ensures.items;
+  few = few_more c.loop-i.sections.items _ c.read.result c.loop-i.i c.loop-i.invariant.few c.in_ok-push.ensures.items;
+}

@@ -1,0 +1,6 @@
+pub mod Fault
+pub mod Files
+pub mod Sections
+pub mod Symbols
+pub mod Relocations
+pub mod Objects
