@@ -1,0 +1,10 @@
+pub mod Names
+pub mod Known
+pub mod Whole
+pub mod Pairs
+pub mod Layout
+pub mod Cursor
+pub mod Image
+pub mod Sites
+pub mod Program
+pub mod Link

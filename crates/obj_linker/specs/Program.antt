@@ -1,0 +1,61 @@
+-- The file of a program, whose image is the text and behind it the data.
+use Rattle.std.specs.Prelude.{◌≡◌, ℕ, ◌-◌, nat_lt, if◌then◌else◌, List, [], ◌∷◌, map, take, drop}
+use Rattle.elf_writer.specs.declared.part.Part.{Part}
+use Rattle.elf_writer.specs.declared.parts.Parts.{Parts}
+use Rattle.elf_writer.specs.declared.sec.Sec.{Sec}
+use Rattle.elf_writer.specs.File.{elf_file}
+use Rattle.obj_linker.specs.Layout.{data_start, text_start}
+
+-- a segment: its address, its flags, its length in memory, and its bytes
+pub record Segment : Type 0 where
+  pub address : ℕ
+  pub flags : ℕ
+  pub memory : ℕ
+  pub contents : List ℕ
+
+abbrev pub segment_of : Part → Segment
+segment_of part = record {
+  address = part.vaddr;
+  flags = part.flags;
+  memory = part.mem;
+  contents = part.bytes.items;
+}
+
+-- the text, up to its end: to be read and executed
+abbrev pub text_segment : List ℕ → ℕ → Segment
+text_segment image text_end = record {
+  address = text_start;
+  flags = 5;
+  memory = text_end - text_start;
+  contents = take (text_end - text_start) image;
+}
+
+-- the data, and zeros behind it up to their end: to be read and written, where there is any memory
+abbrev pub data_segments : List ℕ → ℕ → ℕ → List Segment
+data_segments image text_end zeros_end =
+    if nat_lt data_start zeros_end then record {
+      address = data_start;
+      flags = 6;
+      memory = zeros_end - data_start;
+      contents = drop (text_end - text_start) image;
+    } ∷ []
+    else []
+
+-- the code: SHT_PROGBITS with SHF_ALLOC and SHF_EXECINSTR
+abbrev pub code_section : ℕ → Sec
+code_section code_end =
+    record { kind = 1; flags = 6; addr = text_start; size = code_end - text_start }
+
+-- what the file is written of, where the program begins at an address, and the code, the text and the zeros have
+-- these ends
+pub record IsProgram (at : ℕ) (image : List ℕ) (code_end text_end zeros_end : ℕ) (parts : Parts)
+    : Type 0 where
+  pub entry : parts.entry ≡ at
+  pub segments :
+      map segment_of parts.segments.items
+      ≡ text_segment image text_end ∷ data_segments image text_end zeros_end
+  pub sections : parts.sections.items ≡ code_section code_end ∷ []
+
+abbrev pub IsFileOf : ℕ → List ℕ → ℕ → ℕ → ℕ → List ℕ → Type 0
+IsFileOf at image code_end text_end zeros_end file =
+    (parts : Parts) × IsProgram at image code_end text_end zeros_end parts × (file ≡ elf_file parts)
