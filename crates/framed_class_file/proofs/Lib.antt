@@ -1,0 +1,2 @@
+pub mod FramedClassLaws
+pub mod TabledLaws
