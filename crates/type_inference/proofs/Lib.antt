@@ -1,8 +1,9 @@
-mod KindLaws
-mod StackLaws
-mod JoinLaws
-mod FlowLaws
-mod TableLaws
-mod StepLaws
-mod SettleLaws
-mod CallLaws
+pub mod KindLaws
+pub mod StackLaws
+pub mod JoinLaws
+pub mod FlowLaws
+pub mod TableLaws
+pub mod StepLaws
+pub mod SettleLaws
+pub mod CallLaws
+pub mod LeastLaws

@@ -10,7 +10,7 @@ use Rattle.jvm_program.specs.Program.{Program, line_in, successors}
 use Rattle.jvm_program.specs.Typing.{TypeFrame, Below, Frames, Follows, Receives, IsTypingTo, entry_frame, no_top}
 use Rattle.type_inference.specs.declared.frame.Frame.{Frame}
 use Rattle.type_inference.specs.Actions.{Enters}
-use Rattle.type_inference.specs.Verdict.{AreBelow, FailsAt, LeastTyping}
+use Rattle.type_inference.specs.Verdict.{AreBelow, AreLeast, FailsAt}
 use Rattle.type_inference.specs.Frames.{type_frame, frame_at, entry_of, IsFormed}
 use Rattle.type_inference.specs.Flow.{has, Rises, Waits, FlowsToAll, HaveOperands, AllStayBelow, RuleHolds, Visits, KeepsBelow, Keeps, Settles, Rests, IsTable}
 use Rattle.type_inference.proofs.JoinLaws.{Below-refl}
@@ -187,9 +187,8 @@ fails-at program method at frames after r k = record {
   before = λ earlier less. (frame_at frames, typing-before program method at frames earlier less r);
 }
 
-pub typed-all : (program : Program) (method : LinkedMethod) (at : ℕ) (frames : Slots) → ((x : ℕ) → at ≤ x → line_in method.lines x ≡ None) → Rests program method at frames → LeastTyping program method
+pub typed-all : (program : Program) (method : LinkedMethod) (at : ℕ) (frames : Slots) → ((x : ℕ) → at ≤ x → line_in method.lines x ≡ None) → Rests program method at frames → AreLeast program method (frame_at frames)
 typed-all program method at frames ends r = record {
-  frames = frame_at frames;
   typing = λ last. record {
     operands = rest-operands program method at frames r;
     parameters = r.parameters;

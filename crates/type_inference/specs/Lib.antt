@@ -4,3 +4,5 @@ pub mod Frames
 pub mod Actions
 pub mod Flow
 pub mod Unique
+pub mod Reached
+pub mod Inferred

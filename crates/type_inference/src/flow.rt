@@ -1,11 +1,11 @@
 //! Types are inferred (JVM Specification, 4.10.2.2): frames flow from instruction to instruction until they come to rest.
-ghost use Rattle.std.specs.Prelude.{◌≡◌, ℕ, suc, ◌+◌, ◌<◌, ◌≤◌, ◌^◌, ◌++◌, [], ◌∷◌, true, IfOk, OnOk, MatchBool, IsTrue, length, slice_set, if◌then◌else◌, nat_lt};
+ghost use Rattle.std.specs.Prelude.{◌≡◌, ℕ, suc, ◌+◌, ◌<◌, ◌≤◌, ◌^◌, ◌++◌, [], ◌∷◌, true, None, IfOk, OnOk, MatchBool, IsTrue, length, slice_set, if◌then◌else◌, nat_lt};
 ghost use Rattle.jvm_program.specs.Typing.{entry_frame};
 ghost use Rattle.jvm_program.specs.Program.{line_in};
 ghost use Rattle.type_inference.specs.Actions.{program_over};
 ghost use Rattle.type_inference.specs.Flow as flow;
-ghost use Rattle.type_inference.specs.Frames.{type_frame, IsSized, IsFormed};
-ghost use Rattle.type_inference.specs.Verdict.{IsVerdict};
+ghost use Rattle.type_inference.specs.Frames.{type_frame, frame_at, IsSized, IsFormed};
+ghost use Rattle.type_inference.specs.Verdict.{AreVerdict};
 
 use crate::code::Code;
 use crate::frame::Frame;
@@ -188,7 +188,13 @@ impl Flow {
         requires rests { flow.Rests (program_over code.now.methods.now)
             code.now.method.now 0 self.old.frames.items }
         requires done { self.old.work.items ≡ [] }
-        ensures { IfOk result (IsVerdict (program_over code.now.methods.now) code.now.method.now) }
+        ensures verdict { IfOk result (AreVerdict (program_over code.now.methods.now)
+            code.now.method.now (frame_at self.new.frames.items)) }
+        ensures formed { IfOk result (λ verdict. verdict ≡ None
+            → flow.AreFormed code.now.method.now.locals code.now.method.now.stack
+            self.new.frames.items) }
+        ensures size { IfOk result (λ verdict. verdict ≡ None
+            → length self.new.frames.items ≡ length code.now.starts.items) }
     {
         for at in 0..code.starts.len() {
             if !self.admit(alloc, code, at)? {

@@ -39,7 +39,8 @@ fn first_frame(alloc: Global, frame: &Frame) -> Result<Meeting, AllocError>
     Ok(Meeting::Changed(Frame { locals, stack }))
 }
 
-fn is_frame_below(frame: &Frame, other: &Frame) -> bool
+/// Whether a frame is below another (JVM Specification, 4.10.1.2).
+pub fn is_frame_below(frame: &Frame, other: &Frame) -> bool
     ensures { result
         ≡ joins.frame_below frame.now.locals frame.now.stack other.now.locals other.now.stack }
 {

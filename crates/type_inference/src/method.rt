@@ -2,11 +2,13 @@
 ghost use Rattle.std.specs.Prelude.{◌≡◌, ◌<◌, [], IfOk, length, replicate, slice_set};
 ghost use Rattle.type_inference.specs.Actions.{program_over};
 ghost use Rattle.type_inference.specs.Frames.{entry_of};
+ghost use Rattle.type_inference.specs.Inferred.{IsInferredOf};
 ghost use Rattle.type_inference.specs.Verdict.{IsVerdictOf};
 
 use crate::code::{Code, starts_of};
 use crate::flow::Flow;
 use crate::frame::Frame;
+use crate::inferred::Inferred;
 use jvm_names::Sequence;
 use jvm_program::LinkedMethod;
 use std::alloc::{AllocError, Global};
@@ -20,9 +22,20 @@ pub fn check_method(
     requires { number < length methods.now }
     ensures { IfOk result (IsVerdictOf (program_over methods.now) number) }
 {
+    match infer(alloc, methods, number)? {
+        Inferred::Typed(_frames) => Ok(None),
+        Inferred::Fails(at) => Ok(Some(at)),
+    }
+}
+
+/// The frames of a method's least typing, or the least offset up to which it has none.
+pub fn infer(alloc: Global, methods: &[LinkedMethod], number: usize) -> Result<Inferred, AllocError>
+    requires { number < length methods.now }
+    ensures { IfOk result (IsInferredOf (program_over methods.now) number) }
+{
     let method = &methods[number];
     if method.parameters.as_slice().len() > usize::from(method.locals) {
-        return Ok(Some(0));
+        return Ok(Inferred::Fails(0));
     }
     let starts = starts_of(alloc, method.lines.as_slice())?;
     let code = Code {
@@ -31,10 +44,13 @@ pub fn check_method(
         starts,
     };
     if !code.has_line(0) {
-        return Ok(Some(0));
+        return Ok(Inferred::Fails(0));
     }
     let mut flow = entered(alloc, &code)?;
-    flow.admit_all(alloc, &code)
+    match flow.admit_all(alloc, &code)? {
+        None => Ok(Inferred::Typed(Sequence::new(flow.frames))),
+        Some(at) => Ok(Inferred::Fails(at)),
+    }
 }
 
 // The frame of the method's start, and no other yet.

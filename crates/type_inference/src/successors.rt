@@ -18,7 +18,8 @@ pub fn successors_of(alloc: Global, line: &LinkedLine) -> Result<Vec<u32>, Alloc
     Ok(targets)
 }
 
-fn falls_through(instruction: &Instruction) -> bool
+/// Whether an instruction may go on to the next one.
+pub fn falls_through(instruction: &Instruction) -> bool
     ensures { result ≡ program.falls_through instruction.now }
 {
     match instruction {
@@ -28,6 +29,15 @@ fn falls_through(instruction: &Instruction) -> bool
         }
         _ => true,
     }
+}
+
+/// The offsets to which an instruction may go but for the next one.
+pub fn targets_of(alloc: Global, instruction: &Instruction) -> Result<Vec<u32>, AllocError>
+    ensures { IfOk result (λ v. v.items ≡ program.targets_of instruction.now) }
+{
+    let mut targets = Vec::new(alloc);
+    append_targets(&mut targets, instruction)?;
+    Ok(targets)
 }
 
 fn append_targets(targets: &mut Vec<u32>, instruction: &Instruction) -> Result<(), AllocError>

@@ -4,8 +4,8 @@ use Rattle.type_inference.specs.Flow.{KeepsBelow}
 use Rattle.type_inference.proofs.SettleLaws.{IsAdmitting, next-admitted, fails-at, typed-all, table-ends}
 use Rattle.type_inference.proofs.flow.Flow.admit_all.Goals as goal
 
-pub returns-then-not-branch : goal.returns-then-not-branch
-returns-then-not-branch c =
+pub returns-then-not-branch-clause-verdict : goal.returns-then-not-branch-clause-verdict
+returns-then-not-branch-clause-verdict c =
     let p = program_over c.args.code.now.methods.now in
     let m = c.args.code.now.method.now in
     let l = c.loop-at in
@@ -26,8 +26,8 @@ loop-at-preserved c =
     (subst (λ good. KeepsBelow p m (suc l.at) l.self.frames.items good after.frames.items) passed c.in_ok-admit.ensures.below)
     (c.in_ok-admit.ensures.done passed))
 
-pub returns : goal.returns
-returns c =
+pub returns-clause-verdict : goal.returns-clause-verdict
+returns-clause-verdict c =
     let code = c.args.code.now in
     let m = code.method.now in
     let l = c.loop-at in
