@@ -1,1 +1,2 @@
-mod VerifyLaws
+pub mod VerifyLaws
+pub mod TypingLaws

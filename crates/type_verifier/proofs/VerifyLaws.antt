@@ -57,7 +57,7 @@ fails-same p q same method at f = record {
   before = λ earlier less. let r = f.before earlier less in (r.0, typing-same p q same method r.0 earlier r.1);
 }
 
-same-methods : (classes : List Class) (methods : List LinkedMethod) → methods ≡ linked_methods classes → (m : ℕ) → (program_over methods).method m ≡ (program_of classes).method m
+pub same-methods : (classes : List Class) (methods : List LinkedMethod) → methods ≡ linked_methods classes → (m : ℕ) → (program_over methods).method m ≡ (program_of classes).method m
 same-methods classes methods e m = ap (λ x. slice_get x m) e
 
 -- ---- all methods
@@ -74,7 +74,7 @@ abbrev pub methods_count : List Class → ℕ
 methods_count [] = 0
 methods_count (c ∷ classes) = length c.methods + methods_count classes
 
-count-is : (all : List Class) (n : ℕ) (classes : List Class) → length (methods_from all n classes) ≡ methods_count classes
+pub count-is : (all : List Class) (n : ℕ) (classes : List Class) → length (methods_from all n classes) ≡ methods_count classes
 count-is all n [] = refl
 count-is all n (c ∷ classes) =
     omega (arith, length-append (map (linked_method all n c) c.methods) (methods_from all (suc n) classes), length-map c.methods (linked_method all n c), count-is all (suc n) classes)
@@ -125,7 +125,7 @@ place-from classes rest others c number method at (Refused fault) e less l f =
       f.2,
     )
 
-method-there : (methods : List LinkedMethod) (number : ℕ) → number < length methods → (method : LinkedMethod) × (slice_get methods number ≡ Some method)
+pub method-there : (methods : List LinkedMethod) (number : ℕ) → number < length methods → (method : LinkedMethod) × (slice_get methods number ≡ Some method)
 method-there [] number h = absurd (omega arith)
 method-there (m ∷ methods) zero h = (m, refl)
 method-there (m ∷ methods) (suc number) h = method-there methods number (omega arith)

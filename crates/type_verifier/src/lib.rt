@@ -1,11 +1,15 @@
 //! The verifier of linked classes: each method has a typing, or the first that has none is named (JVM Specification, 4.10).
 #![tactic(auto)]
 
+mod typing;
 mod verification;
 mod verified;
 mod verify_error;
 
+pub use jvm_link::NoMemory;
+pub use jvm_program::Kind;
 pub use nv_faults::VerifyFault;
+pub use type_inference::Frame;
 pub use verification::verify;
 pub use verified::Verified;
 pub use verify_error::VerifyError;
