@@ -6,7 +6,5 @@ pub mod SizeLemmas
 pub mod ErrorLemmas
 pub mod StandingLemmas
 pub mod StepMarks
-pub mod InstructionMarks
-pub mod TransferMarks
 pub mod UnitMarks
 pub mod KeepLemmas

@@ -1,12 +1,8 @@
 -- How many steps of code go to an offset of the method: `goto_w` and switches.
-use Rattle.std.proofs.Common.{◌≡◌, ℕ, ◌+◌, ◌≤◌, ◌==◌, Bool, true, false, if◌then◌else◌, List, [], ◌∷◌, ◌++◌, arith}
-use Rattle.jvm_names.specs.declared.stack_name.StackName.TheVariants.{Pop}
-use Rattle.jvm_program.specs.declared.local_kind.LocalKind.TheVariants as local_kinds
-use Rattle.jvm_program.specs.declared.instruction.Instruction.TheVariants as instructions
+use Rattle.std.proofs.Common.{◌≡◌, ℕ, ◌+◌, ◌≤◌, List, [], ◌∷◌, ◌++◌, refl, arith}
 use Rattle.code_steps.specs.declared.step.Step.{Step}
 use Rattle.code_steps.specs.declared.step.Step.TheVariants.{Does, Skips, Leaves, Selects}
-use Rattle.guest_layout.specs.FieldNumbers.{register_field}
-use Rattle.guest_code.specs.Access.{push_word, get_field, put_field, keeps, get_register, put_register, get_turned}
+use Rattle.guest_code.proofs.Forms.{Part, Reads, Writes, step_of, read-most, write-most, Weights}
 
 abbrev pub mark : Step → ℕ
 mark (Does instruction) = 0
@@ -18,41 +14,22 @@ abbrev pub marks : List Step → ℕ
 marks [] = 0
 marks (s ∷ code) = mark s + marks code
 
-pub step-either : (b : Bool) (s t : Step) (most : ℕ) → mark s ≤ most → mark t ≤ most → mark (if b then s else t) ≤ most
-step-either true s t most h k = h
-step-either false s t most h k = k
-
-pub code-either : (b : Bool) (xs ys : List Step) (most : ℕ) → marks xs ≤ most → marks ys ≤ most → marks (if b then xs else ys) ≤ most
-code-either true xs ys most h k = h
-code-either false xs ys most h k = k
-
--- ---- codes one after the other
-
 pub marks-append : (xs ys : List Step) → marks (xs ++ ys) ≡ marks xs + marks ys
 marks-append [] ys = omega arith
 marks-append (s ∷ xs) ys = let e : marks (xs ++ ys) ≡ marks xs + marks ys = marks-append xs ys in omega arith
 
--- ---- words and registers
+-- ---- code over a bank goes to none
 
-pub word-mark : (w : ℕ) → mark (push_word w) ≤ 0
-word-mark w = omega arith
+pub part-mark : (bank : ℕ) (p : Part) → mark (step_of bank p) ≤ 0
+part-mark bank (Reads r) = read-most mark 0 bank r (omega arith) (omega arith) (omega arith)
+part-mark bank (Writes r) = write-most mark 0 bank r (omega arith) (omega arith) (omega arith)
+part-mark bank _ = omega arith
 
-pub get-mark : (bank r : ℕ) → mark (get_register bank r) ≤ 0
-get-mark bank r =
-    let field : mark (get_field (register_field r)) ≤ 0 = omega arith in
-    let local : mark (Does (instructions.Load local_kinds.Int r)) ≤ 0 = omega arith in
-    step-either (r == 0) (push_word 0) (if keeps bank r then Does (instructions.Load local_kinds.Int r) else get_field (register_field r))
-    0 (word-mark 0)
-    (step-either (keeps bank r) (Does (instructions.Load local_kinds.Int r)) (get_field (register_field r)) 0 local field)
-
-pub put-mark : (bank r : ℕ) → mark (put_register bank r) ≤ 0
-put-mark bank r =
-    let field : mark (put_field (register_field r)) ≤ 0 = omega arith in
-    let pop : mark (Does (instructions.Stack Pop)) ≤ 0 = omega arith in
-    let local : mark (Does (instructions.Store local_kinds.Int r)) ≤ 0 = omega arith in
-    step-either (r == 0) (Does (instructions.Stack Pop)) (if keeps bank r then Does (instructions.Store local_kinds.Int r) else put_field
-    (register_field r)) 0 pop
-    (step-either (keeps bank r) (Does (instructions.Store local_kinds.Int r)) (put_field (register_field r)) 0 local field)
-
-pub turned-marks : (bank r : ℕ) → marks (get_turned bank r) ≤ 0
-turned-marks bank r = omega (arith, get-mark bank r)
+abbrev pub goes_to_offsets : Weights
+goes_to_offsets = record {
+  total = marks;
+  part = λ p. 0;
+  nothing = refl;
+  next = λ bank p code. omega (arith, part-mark bank p);
+  behind = marks-append;
+}

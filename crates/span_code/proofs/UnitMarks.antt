@@ -1,29 +1,17 @@
 -- The code of units goes to no offset, and their exits go to words of the span.
 use Rattle.std.proofs.Common.{ℕ, ◌+◌, ◌≤◌, Bool, true, false, if◌then◌else◌, List, [], ◌∷◌, ◌++◌, arith}
 use Rattle.std.specs.List.{flat_map, range_with_len}
-use Rattle.mips_decode.specs.Effect.{fetch_fault, branch_in_slot_fault}
 use Rattle.delay_slots.specs.declared.unit.Unit.{Unit}
-use Rattle.delay_slots.specs.declared.unit.Unit.TheVariants.{Plain, Branch, SlotMissing, SlotIsBranch, Call, Trap}
 use Rattle.code_steps.specs.declared.step.Step.{Step}
-use Rattle.guest_code.specs.Faulting.{fault_code}
-use Rattle.guest_code.specs.Units.{instruction_code, unit_code, next_address}
+use Rattle.guest_code.specs.Units.{unit_code}
+use Rattle.guest_code.proofs.Forms.{form-free}
+use Rattle.guest_code.proofs.UnitForms.{unit_form, unit-weighs}
 use Rattle.word_emitter.specs.Pieces.{is_needed, is_written, bank_of, units_code, fetched, put_back, for_registers, warm_code}
-use Rattle.span_code.proofs.StepMarks.{marks, marks-append}
-use Rattle.span_code.proofs.InstructionMarks.{fault-marks, call-marks, instruction-marks}
-use Rattle.span_code.proofs.TransferMarks.{transfer-marks}
+use Rattle.span_code.proofs.StepMarks.{marks, marks-append, goes_to_offsets}
 
 pub unit-marks : (bank : ℕ) (unit : Unit) (at : ℕ) → marks (unit_code bank unit at) ≤ 0
-unit-marks bank (Plain i) at = instruction-marks bank i at
-unit-marks bank (Branch i slot) at =
-    omega (arith, transfer-marks bank i at (instruction_code bank slot (next_address at)), instruction-marks bank slot (next_address at))
-unit-marks bank (SlotMissing i) at =
-    let fault = fault_code fetch_fault (next_address at) (next_address at) in
-    omega (arith, transfer-marks bank i at fault, fault-marks fetch_fault (next_address at) (next_address at))
-unit-marks bank (SlotIsBranch i word) at =
-    let fault = fault_code branch_in_slot_fault (next_address at) word in
-    omega (arith, transfer-marks bank i at fault, fault-marks branch_in_slot_fault (next_address at) word)
-unit-marks bank Call at = call-marks bank
-unit-marks bank (Trap kind value) at = fault-marks kind at value
+unit-marks bank unit at =
+    omega (arith, unit-weighs goes_to_offsets bank unit at, form-free goes_to_offsets (λ p. omega arith) (unit_form unit at))
 
 -- ---- warm code
 
