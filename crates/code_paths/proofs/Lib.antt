@@ -9,3 +9,4 @@ pub mod Weighing
 pub mod Through
 pub mod Calling
 pub mod Stopping
+pub mod Leaving

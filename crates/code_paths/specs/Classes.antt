@@ -6,7 +6,7 @@ use Rattle.jvm_names.specs.declared.array_name.ArrayName.{ArrayName}
 use Rattle.jvm_names.specs.declared.array_name.ArrayName.TheVariants.{Iaload, Aaload, Iastore, Aastore}
 use Rattle.jvm_program.specs.declared.linked_line.LinkedLine.{LinkedLine}
 use Rattle.jvm_program.specs.declared.instruction.Instruction.{Instruction}
-use Rattle.jvm_program.specs.declared.instruction.Instruction.TheVariants.{Array, TableSwitch, LookupSwitch, CharAt, Call}
+use Rattle.jvm_program.specs.declared.instruction.Instruction.TheVariants.{Array, TableSwitch, LookupSwitch, CharAt, Call, Get, Put}
 use Rattle.jvm_program.specs.Program.{Program, line_at}
 use Rattle.jvm_program.specs.Step.{State, Frame, Loaded}
 
@@ -37,6 +37,16 @@ switches _ = 0
 abbrev pub entries : (ℕ → Bool) → Instruction → ℕ
 entries is_span (Call m) = if is_span m then 1 else 0
 entries is_span _ = 0
+
+-- a read of a field
+abbrev pub gets : ℕ → Instruction → ℕ
+gets field (Get f kind) = if f == field then 1 else 0
+gets field _ = 0
+
+-- a write of a field
+abbrev pub puts : ℕ → Instruction → ℕ
+puts field (Put f kind) = if f == field then 1 else 0
+puts field _ = 0
 
 -- ---- what a step counts
 

@@ -3,10 +3,9 @@ use Rattle.code_paths.specs.Guest.{crosses, is_partial}
 use Rattle.code_paths.proofs.Guests.{loader_apart, loader_crosses_nothing, loader_reads_nothing}
 use Rattle.code_paths.proofs.count_laws.the_loader_counts_nothing.Goals as goal
 
-pub returns-clause-crossings : goal.returns-clause-crossings
-returns-clause-crossings c spans n s answers not_begun =
-    loader_apart (crosses spans) s not_begun (loader_crosses_nothing spans s not_begun) next_answer n answers
-
-pub returns-clause-partial : goal.returns-clause-partial
-returns-clause-partial c n s answers not_begun =
-    loader_apart is_partial s not_begun (loader_reads_nothing s not_begun) next_answer n answers
+pub returns : goal.returns
+returns c n s answers not_begun = record {
+  crossings = λ spans.
+      loader_apart (crosses spans) s not_begun (loader_crosses_nothing spans s not_begun) next_answer n answers;
+  partial = loader_apart is_partial s not_begun (loader_reads_nothing s not_begun) next_answer n answers;
+}

@@ -7,13 +7,21 @@ use Rattle.code_paths.proofs.Calling.{call-returns}
 use Rattle.code_paths.proofs.laws.calls_are_paths.Goals as goal
 
 pub returns-clause-within : goal.returns-clause-within
-returns-clause-within c program words m at h callee n j body w caller v back given result others lies calls differ body_lies is few =
+returns-clause-within c program words m at h callee n j body w caller v back given result others it is =
     let frames = waiting_behind m at h caller ∷ others in
-    call-returns program words m m at (at + 3) at h callee body w caller given others lies calls few (seen-within program words m at (at + 3) w others (omega arith)) n j v back result differ body_lies
-    (subst (PathElsewhere program words callee m (at + 3) 0 0 body frames (placed callee 0 (body_workspace given caller) frames)) is (c.code_is_a_path.ensures.elsewhere program words callee m (at + 3) 0 0 body (body_workspace given caller) frames differ body_lies))
+    let inside = placed callee 0 (body_workspace given caller) frames in
+    call-returns program words m m at (at + 3) at h callee body w caller given others it.lies it.calls it.room
+    (seen-within program words m at (at + 3) w others (omega arith)) n j v back result it.apart it.body_lies
+    (subst (PathElsewhere program words callee m (at + 3) 0 0 body frames inside) is
+    (c.code_is_a_path.ensures.elsewhere program words callee m (at + 3) 0 0 body
+    (body_workspace given caller) frames it.apart it.body_lies))
 
 pub returns-clause-elsewhere : goal.returns-clause-elsewhere
-returns-clause-elsewhere c program words own m low at h callee n j body w caller v back given result others apart lies calls differ body_lies is few =
+returns-clause-elsewhere c program words own m low at h callee n j body w caller v back given result others apart it is =
     let frames = waiting_behind own at h caller ∷ others in
-    call-returns program words own m low low at h callee body w caller given others lies calls few (seen-elsewhere program words m own low at w others apart) n j v back result differ body_lies
-    (subst (PathElsewhere program words callee m low 0 0 body frames (placed callee 0 (body_workspace given caller) frames)) is (c.code_is_a_path.ensures.elsewhere program words callee m low 0 0 body (body_workspace given caller) frames differ body_lies))
+    let inside = placed callee 0 (body_workspace given caller) frames in
+    call-returns program words own m low low at h callee body w caller given others it.lies it.calls it.room
+    (seen-elsewhere program words m own low at w others apart) n j v back result it.apart it.body_lies
+    (subst (PathElsewhere program words callee m low 0 0 body frames inside) is
+    (c.code_is_a_path.ensures.elsewhere program words callee m low 0 0 body
+    (body_workspace given caller) frames it.apart it.body_lies))

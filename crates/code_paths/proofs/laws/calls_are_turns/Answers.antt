@@ -1,8 +1,9 @@
 use Rattle.code_paths.proofs.Calling.{call-enters, call-gives}
 use Rattle.code_paths.proofs.laws.calls_are_turns.Goals as goal
 
-pub returns-clause-enters : goal.returns-clause-enters
-returns-clause-enters c = call-enters
-
-pub returns-clause-returns : goal.returns-clause-returns
-returns-clause-returns c = call-gives
+pub returns : goal.returns
+returns c program words own at h callee caller others = record {
+  enters = λ w given lies calls few. call-enters program words own at h callee w caller given others lies calls few;
+  returns = λ start j code v back result stops.
+      call-gives program words own at h callee start j code v caller back result others stops;
+}

@@ -7,13 +7,25 @@ use Rattle.code_paths.proofs.Calling.{call-stops}
 use Rattle.code_paths.proofs.laws.calls_that_stop.Goals as goal
 
 pub returns-clause-within : goal.returns-clause-within
-returns-clause-within c program words m at h callee n j body w caller v given others e lies calls differ body_lies is few =
+returns-clause-within c program words m at h callee n j body w caller v given others e it is =
     let frames = waiting_behind m at h caller ∷ others in
-    let goes = subst (PathElsewhere program words callee m (at + 3) 0 0 body frames (placed callee 0 (body_workspace given caller) frames)) is (c.code_is_a_path.ensures.elsewhere program words callee m (at + 3) 0 0 body (body_workspace given caller) frames differ body_lies) in
-    (call-stops program words m m at (at + 3) at h callee body w caller given others lies calls few (seen-within program words m at (at + 3) w others (omega arith)) n j v e goes, goes.1)
+    let inside = placed callee 0 (body_workspace given caller) frames in
+    let goes = subst (PathElsewhere program words callee m (at + 1) 0 0 body frames inside) is
+    (c.code_is_a_path.ensures.elsewhere program words callee m (at + 1) 0 0 body
+    (body_workspace given caller) frames it.apart it.body_lies) in (
+      call-stops program words m m at (at + 1) at h callee body w caller given others it.lies it.calls it.room
+          (seen-within program words m at (at + 1) w others (omega arith)) n j v e goes,
+      goes.1,
+    )
 
 pub returns-clause-elsewhere : goal.returns-clause-elsewhere
-returns-clause-elsewhere c program words own m low at h callee n j body w caller v given others e apart lies calls differ body_lies is few =
+returns-clause-elsewhere c program words own m low at h callee n j body w caller v given others e apart it is =
     let frames = waiting_behind own at h caller ∷ others in
-    let goes = subst (PathElsewhere program words callee m low 0 0 body frames (placed callee 0 (body_workspace given caller) frames)) is (c.code_is_a_path.ensures.elsewhere program words callee m low 0 0 body (body_workspace given caller) frames differ body_lies) in
-    (call-stops program words own m low low at h callee body w caller given others lies calls few (seen-elsewhere program words m own low at w others apart) n j v e goes, goes.1)
+    let inside = placed callee 0 (body_workspace given caller) frames in
+    let goes = subst (PathElsewhere program words callee m low 0 0 body frames inside) is
+    (c.code_is_a_path.ensures.elsewhere program words callee m low 0 0 body
+    (body_workspace given caller) frames it.apart it.body_lies) in (
+      call-stops program words own m low low at h callee body w caller given others it.lies it.calls it.room
+          (seen-elsewhere program words m own low at w others apart) n j v e goes,
+      goes.1,
+    )

@@ -1,14 +1,12 @@
 use Rattle.code_paths.proofs.Joining.{paths-join, no-turns, path-wider, path-unseen}
 use Rattle.code_paths.proofs.laws.paths_join.Goals as goal
 
-pub returns-clause-joined : goal.returns-clause-joined
-returns-clause-joined c = paths-join
-
-pub returns-clause-no_turns : goal.returns-clause-no_turns
-returns-clause-no_turns c = no-turns
-
-pub returns-clause-wider : goal.returns-clause-wider
-returns-clause-wider c = path-wider
-
-pub returns-clause-unseen : goal.returns-clause-unseen
-returns-clause-unseen c = path-unseen
+pub returns : goal.returns
+returns c program words m = record {
+  joined = λ low middle high n k total more x y z first next.
+      paths-join program words m low middle high n k total more x y z first next;
+  no_turns = λ low high x less. no-turns program words m low high x less;
+  wider = λ low high lower higher n total more x y below above weighs path.
+      path-wider program words m low high lower higher n total more x y below above weighs path;
+  unseen = λ at low high n total x y less path. path-unseen program words m at low high n total x y less path;
+}
