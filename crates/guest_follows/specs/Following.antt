@@ -1,5 +1,5 @@
 -- How code of the class machine follows a turn of the guest.
-use Rattle.std.specs.Prelude.{◌≡◌, ℕ, ◌+◌, ◌≤◌, IsTrue, []}
+use Rattle.std.specs.Prelude.{◌≡◌, ℕ, ◌+◌, ◌<◌, ◌≤◌, IsTrue, []}
 use Rattle.nv_events.specs.Question.{Question}
 use Rattle.nv_events.specs.Answer.{Answer, fits}
 use Rattle.nv_events.specs.Turn.{Turn, moves, ends, leaves, asks}
@@ -22,7 +22,7 @@ pub record ComesToEnd (site : Site) (low high least most : ℕ) (total : (Instru
   pub arrives : Arrives after
 
 -- A path leads from a state to one whose turn is as said, by the number of turns up to it and by a place: where that turn is made in the
--- site's method, it is made at this offset, behind the places of the path.
+-- site's method, it is made at this offset, behind the places of the path. It is below the code's end, so nothing behind the code runs.
 pub record ComesToTurn (site : Site) (low high least most : ℕ) (total : (Instruction → ℕ) → ℕ)
     (Last : ℕ → ℕ → Turn State → Type 0) (x : State) : Type 0 where
   pub turns : ℕ
@@ -30,6 +30,7 @@ pub record ComesToTurn (site : Site) (low high least most : ℕ) (total : (Instr
   pub place : ℕ
   pub path : PathIn site low place turns total x before
   pub is_there : Rises place (visit (place_in site.method before) []) (place + 1)
+  pub below : place < high
   pub no_sooner : least ≤ turns + 1
   pub in_time : turns + 1 ≤ most
   pub last : Last (turns + 1) place (turn_in site before)

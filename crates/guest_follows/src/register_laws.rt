@@ -16,7 +16,9 @@ ghost use Rattle.guest_follows.specs.Holding.{HoldsOn, Keeps, KeepsGoal, with_va
 /// Code that reads a register pushes its word.
 pub fn registers_are_pushed()
     ensures { (program : Program) (words bank r : ℕ) (known : ℕ → Bool) (code : List Step)
-        (w : Workspace) (s : State) → HoldsOn bank known w s → IsKnown known r
+        (w : Workspace) (s : State)
+        → HoldsOn bank known w s
+        → IsKnown known r
         → outcome program words (get_register bank r ∷ code) w
         ≡ later (outcome program words code (with_operands w (int (register s r) ∷ w.operands))) }
 {}
@@ -24,12 +26,16 @@ pub fn registers_are_pushed()
 /// Code that writes a register takes the word on the stack. Then the state with this word in the register is held, and what was known
 /// of the others is.
 pub fn registers_are_put()
-    ensures goes_on { (program : Program) (words bank d : ℕ) (n : ℕ) (code : List Step)
-        (w : Workspace) (rest : List Value) → w.operands ≡ int n ∷ rest
+    ensures goes_on { (program : Program) (words bank d n : ℕ) (code : List Step) (w : Workspace)
+        (rest : List Value)
+        → w.operands ≡ int n ∷ rest
         → outcome program words (put_register bank d ∷ code) w
         ≡ later (outcome program words code (with_value bank d (int n) w rest)) }
     ensures held { (bank d n : ℕ) (known : ℕ → Bool) (w : Workspace) (s : State)
-        (operands : List Value) → d < 32 → IsWord n → HoldsOn bank known w s
+        (operands : List Value)
+        → d < 32
+        → IsWord n
+        → HoldsOn bank known w s
         → HoldsOn bank (gaining known d) (with_value bank d (int n) w operands)
         (with_register s d n) }
     ensures goal_kept { (bank d n : ℕ) (w : Workspace) (operands : List Value) → d < 32

@@ -1,23 +1,24 @@
 -- Code with a call of a helper method in it follows by what the method comes to.
 use Rattle.std.proofs.Common.{◌≡◌, ◌≢◌, ℕ, suc, ◌+◌, ◌<◌, ◌⊎◌, List, [], ◌∷◌, ◌++◌, length, slice_get, take, drop, Option, Some, IsTrue, refl, subst, sym, ◌∙◌, arith}
 use Rattle.nv_words.specs.declared.order.Order.{Order}
-use Rattle.nv_events.specs.Turn.{Turn, moves, ends, «fault»}
+use Rattle.nv_events.specs.Turn.{Turn, ends, «fault»}
 use Rattle.nv_events.specs.declared.fault.Fault.{Fault}
 use Rattle.jvm_program.specs.declared.value.Value.{Value}
 use Rattle.jvm_program.specs.declared.instruction.Instruction.{Instruction}
 use Rattle.jvm_program.specs.declared.instruction.Instruction.TheVariants.{Call}
-use Rattle.jvm_program.specs.Program.{Program}
 use Rattle.jvm_program.specs.Values.{Heap}
-use Rattle.jvm_program.specs.Effect.{Workspace, Effect, enters, gives, faults, effect}
-use Rattle.jvm_program.specs.Step.{State, Frame, placed, turn}
+use Rattle.jvm_program.specs.Effect.{Workspace, enters, faults, effect}
+use Rattle.jvm_program.specs.Step.{State, Frame, placed}
 use Rattle.jvm_program.specs.Stretch.{body_workspace, caller_workspace}
 use Rattle.code_steps.specs.declared.step.Step.{Step}
 use Rattle.code_steps.specs.declared.step.Step.TheVariants.{Does}
 use Rattle.code_steps.specs.Widths.{bytes_before, size}
-use Rattle.code_steps.specs.Outcomes.{outcome, outcome_from, ended, stopped, stays_within}
+use Rattle.code_steps.specs.Outcomes.{outcome, ended, stopped, stays_within}
 use Rattle.code_steps.specs.Placing.{LiesAt}
 use Rattle.code_steps.specs.Leading.{StopsAt}
+use Rattle.code_steps.specs.Laws.{PartsLie}
 use Rattle.code_paths.specs.Paths.{Path, PathElsewhere, step_weight, weigh, waiting_behind}
+use Rattle.code_paths.specs.Laws.{CodeIsPath, CodeIsPathElsewhere, TurnsAtStepsElsewhere, EntersCode, CallsArePaths, CallsThatStop}
 use Rattle.code_paths.proofs.Joining.{paths-join, path-wider}
 use Rattle.code_paths.proofs.Weighing.{weigh-front, weigh-more, line-step}
 use Rattle.mem_helpers.specs.Methods.{helper_code}
@@ -28,26 +29,9 @@ use Rattle.guest_follows.specs.Following.{ComesToEnd, ComesToTurn}
 use Rattle.guest_follows.proofs.GuestFollows.Ends.{Ends}
 use Rattle.guest_follows.proofs.GuestFollows.Weights.{weigh-whole, whole-both, size-both, fault-within}
 use Rattle.guest_follows.proofs.GuestFollows.Elsewhere.{none-there, entered-moves}
-use Rattle.guest_follows.proofs.GuestFollows.Outcomes.{IsPath, here, goes, code-ends}
+use Rattle.guest_follows.proofs.GuestFollows.Outcomes.{here, goes, code-ends}
 
--- ---- the laws of paths that these stand on
-
-abbrev pub IsPathElsewhere : Type 0
-IsPathElsewhere = (program : Program) (words own m low at k : ℕ) (code : List Step) (w : Workspace) (others : List Frame) → own ≢ m → LiesAt program own at code → PathElsewhere program words own m low at k code others (placed own (at + bytes_before code k) w others) (outcome_from program words code k w)
-
-abbrev pub CallsReturn : Type 0
-CallsReturn = (program : Program) (words m at h callee n j : ℕ) (body : List Step) (w caller v back : Workspace) (given : List Value) (result : Option Value) (others : List Frame) → LiesAt program m at (Does (Call h) ∷ []) → effect program words (Call h) w ≡ enters callee given caller → callee ≢ m → LiesAt program callee 0 body → outcome program words body (body_workspace given caller) ≡ stopped n j v (gives result back) → length others < 63 → Path program words m at (at + 3) (n + 2) (λ weight. weight (Call h) + weigh weight body) (placed m at w others) (placed m (at + 3) (caller_workspace result caller back) others)
-
-abbrev pub CallsStop : Type 0
-CallsStop = (program : Program) (words m at h callee n j : ℕ) (body : List Step) (w caller v : Workspace) (given : List Value) (others : List Frame) (e : Effect) → LiesAt program m at (Does (Call h) ∷ []) → effect program words (Call h) w ≡ enters callee given caller → callee ≢ m → LiesAt program callee 0 body → outcome program words body (body_workspace given caller) ≡ stopped n j v e → length others < 63 → Path program words m at (at + 3) (n + 1) (λ weight. weight (Call h) + weigh weight (take j body)) (placed m at w others) (placed callee (bytes_before body j) v (waiting_behind m at h caller ∷ others)) × StopsAt program words callee 0 body (waiting_behind m at h caller ∷ others) j v e
-
-abbrev pub StepsTurn : Type 0
-StepsTurn = (program : Program) (words own m low at i : ℕ) (code : List Step) (s : Step) (w : Workspace) (others : List Frame) (y : State) → own ≢ m → LiesAt program own at code → slice_get code i ≡ Some s → turn program words (placed own (at + bytes_before code i) w others) ≡ moves y → Path program words m low low 1 (λ weight. step_weight weight s) (placed own (at + bytes_before code i) w others) y
-
-abbrev pub PartsLie : Type 0
-PartsLie = (program : Program) (m at : ℕ) (first second : List Step) → IsTrue (stays_within first) → LiesAt program m at (first ++ second) → LiesAt program m at first × LiesAt program m (at + size first) second
-
-module _ (is_path : IsPath) (parts_lie : PartsLie) (site : Site) (order : Order) (at n h : ℕ) (front back : List Step) (w v caller : Workspace) (given : List Value) (within : IsTrue (stays_within front)) (lies : LiesAt site.program site.method at (front ++ Does (Call h) ∷ back)) (helper : IsHelper site.program order h) (differ : h ≢ site.method) (front_is : outcome site.program site.words front w ≡ ended n v) (calls : effect site.program site.words (Call h) v ≡ enters h given caller) where
+module _ (is_path : CodeIsPath) (parts_lie : PartsLie) (site : Site) (order : Order) (at n h : ℕ) (front back : List Step) (w v caller : Workspace) (given : List Value) (within : IsTrue (stays_within front)) (lies : LiesAt site.program site.method at (front ++ Does (Call h) ∷ back)) (helper : IsHelper site.program order h) (differ : h ≢ site.method) (front_is : outcome site.program site.words front w ≡ ended n v) (calls : effect site.program site.words (Call h) v ≡ enters h given caller) where
   abbrev code : List Step
   code = front ++ Does (Call h) ∷ back
 
@@ -59,6 +43,16 @@ module _ (is_path : IsPath) (parts_lie : PartsLie) (site : Site) (order : Order)
 
   call-lies : LiesAt site.program site.method call_at (Does (Call h) ∷ [])
   call-lies = (parts.1.0, tt)
+
+  enters-helper : length site.others < 63
+      → EntersCode site.program site.words site.method site.method call_at h h v given caller (helper_code order h) site.others
+  enters-helper few = record {
+    lies = call-lies;
+    calls = calls;
+    apart = differ;
+    body_lies = helper.lies;
+    room = few;
+  }
 
   -- the code before the call
   front-path : PathIn site at call_at n (whole_weight order front) (stands site at w) (stands site call_at v)
@@ -72,7 +66,7 @@ module _ (is_path : IsPath) (parts_lie : PartsLie) (site : Site) (order : Order)
   whole : (weight : Instruction → ℕ) → whole_weight order code weight ≡ whole_weight order front weight + (weight (Call h) + helper_weight order weight h + whole_weight order back weight)
   whole weight = whole-both order weight front (Does (Call h) ∷ back)
 
-  module _ (calls_return : CallsReturn) (most later : ℕ) (result : Option Value) (Leaves : (ℕ → Value) → Heap → Type 0) (Arrives : Workspace → Type 0) (few : length site.others < 63) (method_gives : Gives site.program site.words most (helper_code order h) given caller result Leaves) (goes_on : (left : Workspace) → Leaves left.fields left.heap → Ends site.program site.words later back (caller_workspace result caller left) Arrives) where
+  module _ (calls_return : CallsArePaths) (most later : ℕ) (result : Option Value) (Leaves : (ℕ → Value) → Heap → Type 0) (Arrives : Workspace → Type 0) (few : length site.others < 63) (method_gives : Gives site.program site.words most (helper_code order h) given caller result Leaves) (goes_on : (left : Workspace) → Leaves left.fields left.heap → Ends site.program site.words later back (caller_workspace result caller left) Arrives) where
     abbrev behind : Workspace
     behind = caller_workspace result caller method_gives.back
 
@@ -80,7 +74,7 @@ module _ (is_path : IsPath) (parts_lie : PartsLie) (site : Site) (order : Order)
     last = goes_on method_gives.back method_gives.leaves
 
     call-path : PathIn site call_at (call_at + 3) (method_gives.turns + 2) (λ weight. weight (Call h) + weigh weight (helper_code order h)) (stands site call_at v) (stands site (call_at + 3) behind)
-    call-path = calls_return site.program site.words site.method call_at h h method_gives.turns method_gives.step (helper_code order h) v caller method_gives.at method_gives.back given result site.others call-lies calls differ helper.lies method_gives.comes few
+    call-path = calls_return site.program site.words site.method call_at h h method_gives.turns method_gives.step (helper_code order h) v caller method_gives.at method_gives.back given result site.others (enters-helper few) method_gives.comes
 
     back-path : PathIn site (call_at + 3) (call_at + 3 + size back) last.turns (whole_weight order back) (stands site (call_at + 3) behind) (stands site (call_at + 3 + size back) last.after)
     back-path =
@@ -113,7 +107,7 @@ module _ (is_path : IsPath) (parts_lie : PartsLie) (site : Site) (order : Order)
           arrives = last.arrives;
         })
 
-  module _ (elsewhere : IsPathElsewhere) (calls_stop : CallsStop) (steps_turn : StepsTurn) (most g : ℕ) (ending : Fault) (Last : ℕ → ℕ → Turn State → Type 0) (other : IsHelper site.program order g) (apart : g ≢ site.method) (few : length site.others < 62) (is_fault : (g ≡ 18) ⊎ (g ≡ 19)) (stops : CallsFault site.program site.words most (helper_code order) (helper_code order h) given caller g ending) (last : (used place : ℕ) → Last used place (ends («fault» ending))) where
+  module _ (elsewhere : CodeIsPathElsewhere) (calls_stop : CallsThatStop) (steps_turn : TurnsAtStepsElsewhere) (most g : ℕ) (ending : Fault) (Last : ℕ → ℕ → Turn State → Type 0) (other : IsHelper site.program order g) (apart : g ≢ site.method) (few : length site.others < 62) (is_fault : (g ≡ 18) ⊎ (g ≡ 19)) (stops : CallsFault site.program site.words most (helper_code order) (helper_code order h) given caller g ending) (last : (used place : ℕ) → Last used place (ends («fault» ending))) where
     abbrev body : List Step
     body = helper_code order h
 
@@ -121,8 +115,8 @@ module _ (is_path : IsPath) (parts_lie : PartsLie) (site : Site) (order : Order)
     frames = waiting_behind site.method call_at h caller ∷ site.others
 
     -- up to the call in the helper
-    first : Path site.program site.words site.method call_at (call_at + 3) (stops.turns + 1) (λ weight. weight (Call h) + weigh weight (take stops.step body)) (stands site call_at v) (placed h (bytes_before body stops.step) stops.at frames) × StopsAt site.program site.words h 0 body frames stops.step stops.at (enters g stops.arguments stops.waiting)
-    first = calls_stop site.program site.words site.method call_at h h stops.turns stops.step body v caller stops.at given site.others (enters g stops.arguments stops.waiting) call-lies calls differ helper.lies stops.comes (omega arith)
+    first : Path site.program site.words site.method call_at (call_at + 1) (stops.turns + 1) (λ weight. weight (Call h) + weigh weight (take stops.step body)) (stands site call_at v) (placed h (bytes_before body stops.step) stops.at frames) × StopsAt site.program site.words h 0 body frames stops.step stops.at (enters g stops.arguments stops.waiting)
+    first = calls_stop site.program site.words site.method call_at h h stops.turns stops.step body v caller stops.at given site.others (enters g stops.arguments stops.waiting) (enters-helper (omega arith)) stops.comes
 
     -- the frames above which the run ends
     abbrev deeper : List Frame
@@ -134,25 +128,25 @@ module _ (is_path : IsPath) (parts_lie : PartsLie) (site : Site) (order : Order)
     calling : (s : Step) × (slice_get body stops.step ≡ Some s)
     calling = line-step stops.step body 0 first.1.line first.1.line_is
 
-    enter-path : PathIn site (call_at + 3) (call_at + 3) 1 (λ weight. step_weight weight calling.0) (placed h (bytes_before body stops.step) stops.at frames) inside
+    enter-path : PathIn site (call_at + 1) (call_at + 1) 1 (λ weight. step_weight weight calling.0) (placed h (bytes_before body stops.step) stops.at frames) inside
     enter-path =
         let start : 0 + bytes_before body stops.step ≡ bytes_before body stops.step = omega arith in
         let room : length deeper < 64 = omega arith in
-        subst (λ a. PathIn site (call_at + 3) (call_at + 3) 1 (λ weight. step_weight weight calling.0) (placed h a stops.at frames) inside) start
-        (steps_turn site.program site.words h site.method (call_at + 3) 0 stops.step body calling.0 stops.at frames inside differ helper.lies calling.1
+        subst (λ a. PathIn site (call_at + 1) (call_at + 1) 1 (λ weight. step_weight weight calling.0) (placed h a stops.at frames) inside) start
+        (steps_turn site.program site.words h site.method (call_at + 1) 0 stops.step body calling.0 stops.at frames inside differ helper.lies calling.1
         (first.1.turns ∙ entered-moves g stops.arguments (placed h first.1.line.next stops.waiting frames) room))
 
-    ending-path : PathElsewhere site.program site.words g site.method (call_at + 3) 0 0 (helper_code order g) deeper (placed g (0 + bytes_before (helper_code order g) 0) (body_workspace stops.arguments stops.waiting) deeper) (stopped stops.ends.turns stops.ends.step stops.ends.at (faults ending))
+    ending-path : PathElsewhere site.program site.words g site.method (call_at + 1) 0 0 (helper_code order g) deeper (placed g (0 + bytes_before (helper_code order g) 0) (body_workspace stops.arguments stops.waiting) deeper) (stopped stops.ends.turns stops.ends.step stops.ends.at (faults ending))
     ending-path =
-        subst (PathElsewhere site.program site.words g site.method (call_at + 3) 0 0 (helper_code order g) deeper (placed g (0 + bytes_before (helper_code order g) 0) (body_workspace stops.arguments stops.waiting) deeper)) stops.ends.comes
-        (elsewhere site.program site.words g site.method (call_at + 3) 0 0 (helper_code order g) (body_workspace stops.arguments stops.waiting) deeper apart other.lies)
+        subst (PathElsewhere site.program site.words g site.method (call_at + 1) 0 0 (helper_code order g) deeper (placed g (0 + bytes_before (helper_code order g) 0) (body_workspace stops.arguments stops.waiting) deeper)) stops.ends.comes
+        (elsewhere site.program site.words g site.method (call_at + 1) 0 0 (helper_code order g) (body_workspace stops.arguments stops.waiting) deeper apart other.lies)
 
     abbrev final : State
     final = placed g (0 + bytes_before (helper_code order g) stops.ends.step) stops.ends.at deeper
 
-    stop-path : PathIn site at (call_at + 3) (n + (stops.turns + 1) + 1 + stops.ends.turns) (whole_weight order code) (stands site at w) final
+    stop-path : PathIn site at (call_at + 1) (n + (stops.turns + 1) + 1 + stops.ends.turns) (whole_weight order code) (stands site at w) final
     stop-path =
-        path-wider site.program site.words site.method at (call_at + 3) at (call_at + 3) (n + (stops.turns + 1) + 1 + stops.ends.turns) (λ weight. whole_weight order front weight + (weight (Call h) + weigh weight (take stops.step body)) + step_weight weight calling.0 + weigh weight (drop 0 (take stops.ends.step (helper_code order g)))) (whole_weight order code) (stands site at w) final (omega arith) (omega arith)
+        path-wider site.program site.words site.method at (call_at + 1) at (call_at + 1) (n + (stops.turns + 1) + 1 + stops.ends.turns) (λ weight. whole_weight order front weight + (weight (Call h) + weigh weight (take stops.step body)) + step_weight weight calling.0 + weigh weight (drop 0 (take stops.ends.step (helper_code order g)))) (whole_weight order code) (stands site at w) final (omega arith) (omega arith)
         (λ weight still.
         let a = whole weight in
         let b = weigh-more weight stops.step body calling.0 calling.1 in
@@ -160,9 +154,9 @@ module _ (is_path : IsPath) (parts_lie : PartsLie) (site : Site) (order : Order)
         let e = weigh-front weight stops.ends.step (helper_code order g) in
         let f = fault-within order weight h g is_fault in
         omega (arith, a, b, d, e, f))
-        (paths-join site.program site.words site.method at (call_at + 3) (call_at + 3) (n + (stops.turns + 1) + 1) stops.ends.turns (λ weight. whole_weight order front weight + (weight (Call h) + weigh weight (take stops.step body)) + step_weight weight calling.0) (λ weight. weigh weight (drop 0 (take stops.ends.step (helper_code order g)))) (stands site at w) inside final
-        (paths-join site.program site.words site.method at (call_at + 3) (call_at + 3) (n + (stops.turns + 1)) 1 (λ weight. whole_weight order front weight + (weight (Call h) + weigh weight (take stops.step body))) (λ weight. step_weight weight calling.0) (stands site at w) (placed h (bytes_before body stops.step) stops.at frames) inside
-        (paths-join site.program site.words site.method at call_at (call_at + 3) n (stops.turns + 1) (whole_weight order front) (λ weight. weight (Call h) + weigh weight (take stops.step body)) (stands site at w) (stands site call_at v) (placed h (bytes_before body stops.step) stops.at frames) front-path first.0)
+        (paths-join site.program site.words site.method at (call_at + 1) (call_at + 1) (n + (stops.turns + 1) + 1) stops.ends.turns (λ weight. whole_weight order front weight + (weight (Call h) + weigh weight (take stops.step body)) + step_weight weight calling.0) (λ weight. weigh weight (drop 0 (take stops.ends.step (helper_code order g)))) (stands site at w) inside final
+        (paths-join site.program site.words site.method at (call_at + 1) (call_at + 1) (n + (stops.turns + 1)) 1 (λ weight. whole_weight order front weight + (weight (Call h) + weigh weight (take stops.step body))) (λ weight. step_weight weight calling.0) (stands site at w) (placed h (bytes_before body stops.step) stops.at frames) inside
+        (paths-join site.program site.words site.method at call_at (call_at + 1) n (stops.turns + 1) (whole_weight order front) (λ weight. weight (Call h) + weigh weight (take stops.step body)) (stands site at w) (stands site call_at v) (placed h (bytes_before body stops.step) stops.at frames) front-path first.0)
         enter-path)
         ending-path.0)
 
@@ -170,13 +164,15 @@ module _ (is_path : IsPath) (parts_lie : PartsLie) (site : Site) (order : Order)
     call-stops =
         let a = stops.in_time in
         let b = stops.ends.in_time in
+        let split = size-both front (Does (Call h) ∷ back) in
         record {
           turns = n + (stops.turns + 1) + 1 + stops.ends.turns;
           before = final;
-          place = call_at + 3;
+          place = call_at + 1;
           path = stop-path;
-          is_there = none-there site.method g (0 + bytes_before (helper_code order g) stops.ends.step) (call_at + 3) stops.ends.at deeper apart;
+          is_there = none-there site.method g (0 + bytes_before (helper_code order g) stops.ends.step) (call_at + 1) stops.ends.at deeper apart;
+          below = omega (arith, split);
           no_sooner = omega arith;
           in_time = omega (arith, a, b);
-          last = subst (Last (n + (stops.turns + 1) + 1 + stops.ends.turns + 1) (call_at + 3)) (sym ending-path.1.turns) (last (n + (stops.turns + 1) + 1 + stops.ends.turns + 1) (call_at + 3));
+          last = subst (Last (n + (stops.turns + 1) + 1 + stops.ends.turns + 1) (call_at + 1)) (sym ending-path.1.turns) (last (n + (stops.turns + 1) + 1 + stops.ends.turns + 1) (call_at + 1));
         }

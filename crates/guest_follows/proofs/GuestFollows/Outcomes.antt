@@ -1,20 +1,21 @@
 -- Code without calls follows by its outcome.
-use Rattle.std.proofs.Common.{◌≡◌, ℕ, suc, ◌+◌, ◌≤◌, List, take, drop, Option, ap, subst, sym, ◌∙◌, arith}
+use Rattle.std.proofs.Common.{◌≡◌, ℕ, suc, ◌+◌, ◌<◌, ◌≤◌, List, take, drop, Option, ap, subst, sym, ◌∙◌, arith}
 use Rattle.nv_words.specs.declared.order.Order.{Order}
 use Rattle.nv_events.specs.Turn.{Turn, ends, «fault»}
 use Rattle.nv_events.specs.declared.call.Call.{Call}
 use Rattle.nv_events.specs.declared.fault.Fault.{Fault}
-use Rattle.jvm_program.specs.Program.{Program}
 use Rattle.jvm_program.specs.Effect.{Workspace, Effect, faults, asks_host}
-use Rattle.jvm_program.specs.Step.{State, Frame, placed, asked_host, after_host}
+use Rattle.jvm_program.specs.Step.{State, placed, asked_host, after_host}
 use Rattle.code_steps.specs.declared.step.Step.{Step}
 use Rattle.code_steps.specs.Widths.{bytes_before, size}
 use Rattle.code_steps.specs.Outcomes.{Outcome, outcome, outcome_from, ended, stopped}
 use Rattle.code_steps.specs.Placing.{LiesAt}
 use Rattle.code_steps.specs.Leading.{StopsAt}
 use Rattle.code_paths.specs.Paths.{PathWithin, weigh}
+use Rattle.code_paths.specs.Laws.{CodeIsPath}
 use Rattle.code_paths.proofs.Joining.{path-wider, seen-within}
-use Rattle.code_paths.proofs.Weighing.{weigh-front, weigh-back}
+use Rattle.code_steps.proofs.WidthLemmas.{width-some}
+use Rattle.code_paths.proofs.Weighing.{weigh-front, weigh-back, bytes-more, bytes-within, line-step}
 use Rattle.guest_follows.specs.Sites.{Site, stands, turn_in, whole_weight, PathIn}
 use Rattle.guest_follows.specs.Following.{ComesToEnd, ComesToTurn}
 use Rattle.guest_follows.proofs.GuestFollows.Weights.{weigh-whole}
@@ -22,11 +23,7 @@ use Rattle.guest_follows.proofs.GuestFollows.Weights.{weigh-whole}
 pub here : (at : ℕ) → at + 0 ≡ at
 here at = omega arith
 
--- the law that code is a path to where its outcome leads
-abbrev pub IsPath : Type 0
-IsPath = (program : Program) (words m at k : ℕ) (code : List Step) (w : Workspace) (others : List Frame) → LiesAt program m at code → PathWithin program words m at k code others (placed m (at + bytes_before code k) w others) (outcome_from program words code k w)
-
-module _ (is_path : IsPath) (site : Site) (order : Order) (at : ℕ) (code : List Step) (lies : LiesAt site.program site.method at code) where
+module _ (is_path : CodeIsPath) (site : Site) (order : Order) (at : ℕ) (code : List Step) (lies : LiesAt site.program site.method at code) where
   -- the path to where the code comes, from its k-th step on
   pub goes : (k : ℕ) (w : Workspace) (o : Outcome) → outcome_from site.program site.words code k w ≡ o → PathWithin site.program site.words site.method at k code site.others (stands site (at + bytes_before code k) w) o
   goes k w o is =
@@ -61,6 +58,15 @@ module _ (is_path : IsPath) (site : Site) (order : Order) (at : ℕ) (code : Lis
   turn-stops : (n i : ℕ) (w v : Workspace) (e : Effect) → outcome site.program site.words code w ≡ stopped n i v e → StopsAt site.program site.words site.method at code site.others i v e
   turn-stops n i w v e is = (goes 0 w (stopped n i v e) is).1
 
+  -- which lies before the code's end
+  step-below : (i : ℕ) (v : Workspace) (e : Effect) → StopsAt site.program site.words site.method at code site.others i v e → at + bytes_before code i < at + size code
+  step-below i v e stops =
+      let s = line-step i code at stops.line stops.line_is in
+      let some = width-some s.0 in
+      let more = bytes-more code i s.0 s.1 in
+      let within = bytes-within code (suc i) in
+      omega (arith, some, more, within)
+
   comes : (least most n i : ℕ) (w v : Workspace) (e : Effect) (Last : ℕ → ℕ → Turn State → Type 0) → outcome site.program site.words code w ≡ stopped n i v e → least ≤ n + 1 → n + 1 ≤ most → Last (n + 1) (at + bytes_before code i) (turn_in site (stands site (at + bytes_before code i) v)) → ComesToTurn site at (at + size code) least most (whole_weight order code) Last (stands site at w)
   comes least most n i w v e Last is some few last = record {
     turns = n;
@@ -68,6 +74,7 @@ module _ (is_path : IsPath) (site : Site) (order : Order) (at : ℕ) (code : Lis
     place = at + bytes_before code i;
     path = stop-path n i w v e is;
     is_there = seen-within site.program site.words site.method (at + bytes_before code i) (at + bytes_before code i + 1) v site.others (omega arith);
+    below = step-below i v e (turn-stops n i w v e is);
     no_sooner = some;
     in_time = few;
     last = last;
