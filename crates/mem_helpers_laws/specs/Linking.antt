@@ -1,13 +1,21 @@
 -- What the helper method that stores where an address is linked comes to.
-use Rattle.std.specs.Prelude.{◌≡◌, ℕ, ◌==◌, if◌then◌else◌}
+use Rattle.std.specs.Prelude.{◌≡◌, ◌≢◌, ℕ, ◌==◌, if◌then◌else◌, Some}
 use Rattle.nv_words.specs.Words.{IsWord}
+use Rattle.nv_words.specs.declared.order.Order.{Order}
 use Rattle.nv_events.specs.Memory.{Memory}
+use Rattle.mips_decode.specs.Loads.{stored}
+use Rattle.mips_decode.specs.declared.names.store_name.StoreName.TheVariants.{Sw}
 use Rattle.jvm_program.specs.declared.value.Value.{Value}
 use Rattle.jvm_program.specs.declared.value.Value.TheVariants.{Int as int}
+use Rattle.jvm_program.specs.Program.{Program}
 use Rattle.jvm_program.specs.Values.{Heap}
 use Rattle.jvm_program.specs.Effect.{Workspace}
 use Rattle.guest_code.specs.Fields.{link_field, linked_field}
+use Rattle.guest_code.specs.Helpers.{store_conditional_helper}
+use Rattle.mem_helpers.specs.Methods.{helper_code}
 use Rattle.guest_follows.specs.Match.{HoldsMemory}
+use Rattle.guest_follows.specs.Outcomes.{Gives}
+use Rattle.mem_helpers_laws.specs.Storing.{MayStore, given_to_store, store_turns}
 
 -- This address is linked.
 pub record IsLinked (w : Workspace) (at : ℕ) : Type 0 where
@@ -27,3 +35,29 @@ LeavesStored w readable writable memory fields heap =
 -- no address is linked, and nothing else is changed
 abbrev pub LeavesUnlinked : Workspace → (ℕ → Value) → Heap → Type 0
 LeavesUnlinked w fields heap = (fields ≡ unlinked w) × (heap ≡ w.heap)
+
+-- ---- the law
+
+-- SC, where SW may store. No address is linked afterwards.
+pub record ConcludesStore (program : Program) (words pc value a readable writable : ℕ)
+    (order : Order) (memory : Memory) (w : Workspace) : Type 0 where
+  -- it stores as SW and gives 1 where its address is linked
+  pub linked : (at : ℕ) → IsWord value → IsLinked w at → at ≡ a
+      → Gives program words store_turns (helper_code order store_conditional_helper)
+      (given_to_store value a pc) w (Some (int 1))
+      (LeavesStored w readable writable (stored Sw order memory a value))
+  -- it gives 0 and stores nothing where another one is
+  pub elsewhere : (at : ℕ) → IsLinked w at → at ≢ a
+      → Gives program words store_turns (helper_code order store_conditional_helper)
+      (given_to_store value a pc) w (Some (int 0)) (LeavesUnlinked w)
+  -- and where none is
+  pub unlinked : w.fields linked_field ≡ int 0
+      → Gives program words store_turns (helper_code order store_conditional_helper)
+      (given_to_store value a pc) w (Some (int 0)) (LeavesUnlinked w)
+
+abbrev pub StoresAreConcluded : Type 0
+StoresAreConcluded =
+    (program : Program) (words pc value a readable writable : ℕ) (order : Order)
+    (memory : Memory) (w : Workspace)
+    → MayStore Sw order w readable writable memory a
+    → ConcludesStore program words pc value a readable writable order memory w

@@ -1,20 +1,25 @@
 -- What the helper methods that load come to.
 use Rattle.std.specs.Prelude.{◌≡◌, ℕ, Bool, true, false, List, [], ◌∷◌, Some, ◌==◌, if◌then◌else◌, is_none}
-use Rattle.nv_events.specs.Memory.{Memory}
+use Rattle.nv_words.specs.Words.{IsWord}
 use Rattle.nv_words.specs.declared.order.Order.{Order}
+use Rattle.nv_events.specs.Memory.{Memory}
 use Rattle.jvm_program.specs.declared.value.Value.{Value}
-use Rattle.jvm_program.specs.declared.value.Value.TheVariants.{Int as int}
+use Rattle.jvm_program.specs.declared.value.Value.TheVariants.{Int as int, Array as array}
 use Rattle.jvm_program.specs.Program.{Program}
+use Rattle.jvm_program.specs.Values.{Heap}
 use Rattle.jvm_program.specs.Effect.{Workspace}
 use Rattle.mips_decode.specs.Effect.{read_align_fault, read_unmapped_fault}
 use Rattle.mips_decode.specs.Loads.{load_aligned, loaded}
 use Rattle.mips_decode.specs.declared.names.load_name.LoadName.{LoadName}
 use Rattle.mips_decode.specs.declared.names.load_name.LoadName.TheVariants.{Lw, Lwl, Lwr}
 use Rattle.code_steps.specs.declared.step.Step.{Step}
+use Rattle.guest_layout.specs.FieldNumbers.{readable_field}
 use Rattle.guest_code.specs.Fields.{link_field, linked_field}
 use Rattle.guest_code.specs.Helpers.{load_helper, load_linked_helper}
 use Rattle.mem_helpers.specs.Loads.{read_fault_number}
 use Rattle.mem_helpers.specs.Methods.{helper_code}
+use Rattle.guest_follows.specs.Match.{HoldsMemory}
+use Rattle.guest_follows.specs.Helpers.{HasHelpers}
 use Rattle.guest_follows.specs.Outcomes.{Gives, CallsFault}
 
 -- at most so many instructions before a load's method returns, or calls the method that ends the run, and as many before that ends it
@@ -63,3 +68,39 @@ LoadsLinked program words order memory caller a pc =
     LoadsAs program words order (helper_code order load_linked_helper) (int a ∷ int pc ∷ [])
     caller pc a (loaded Lw order memory a 0)
     (linked_fields caller.fields a) (load_aligned Lw a) (is_none (memory.byte a))
+
+-- ---- the laws
+
+-- A load has the helper methods, a word as its address, and the guest's memory in the table of
+-- pages that may be read.
+pub record MayLoad (program : Program) (order : Order) (readable writable : ℕ) (memory : Memory)
+    (caller : Workspace) (a : ℕ) : Type 0 where
+  pub helpers : HasHelpers program order
+  pub readable_is : caller.fields readable_field ≡ array readable
+  pub held : HoldsMemory caller.heap readable writable memory
+  pub is_word : IsWord a
+
+-- each load gives by its method what the guest loads, or the run ends in the guest's fault
+abbrev pub LoadsAreTheGuests : Type 0
+LoadsAreTheGuests =
+    (program : Program) (words readable writable old a pc : ℕ) (order : Order) (name : LoadName)
+    (memory : Memory) (caller : Workspace)
+    → MayLoad program order readable writable memory caller a
+    → IsWord old
+    → LoadsByName program words order name memory caller old a pc
+
+-- LL by its method does as LW, and the address is linked
+abbrev pub LinkedLoadsAreTheGuests : Type 0
+LinkedLoadsAreTheGuests =
+    (program : Program) (words readable writable a pc : ℕ) (order : Order) (memory : Memory)
+    (caller : Workspace)
+    → MayLoad program order readable writable memory caller a
+    → LoadsLinked program words order memory caller a pc
+
+-- what is loaded from a memory that is held is a word, at any address
+abbrev pub LoadsWords : Type 0
+LoadsWords =
+    (heap : Heap) (readable writable a old : ℕ) (memory : Memory) (order : Order)
+    (name : LoadName)
+    → HoldsMemory heap readable writable memory
+    → IsWord (loaded name order memory a old)

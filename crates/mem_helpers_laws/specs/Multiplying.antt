@@ -1,10 +1,18 @@
 -- What the helper methods of products and quotients come to.
-use Rattle.std.specs.Prelude.{◌≡◌, ◌≢◌, ℕ, List, [], ◌∷◌}
+use Rattle.std.specs.Prelude.{◌≡◌, ◌≢◌, ℕ, List, [], ◌∷◌, None}
+use Rattle.nv_words.specs.Words.{IsWord}
+use Rattle.nv_words.specs.declared.order.Order.{Order}
+use Rattle.mips_decode.specs.Arithmetic.{product_hi, product_lo}
+use Rattle.mips_decode.specs.declared.names.product_name.ProductName.{ProductName}
 use Rattle.jvm_program.specs.declared.value.Value.{Value}
 use Rattle.jvm_program.specs.declared.value.Value.TheVariants.{Int as int}
+use Rattle.jvm_program.specs.Program.{Program}
 use Rattle.jvm_program.specs.Values.{Heap}
 use Rattle.jvm_program.specs.Effect.{Workspace}
 use Rattle.guest_layout.specs.FieldNumbers.{hi_field, lo_field}
+use Rattle.guest_code.specs.Helpers.{product_helper}
+use Rattle.mem_helpers.specs.Methods.{helper_code}
+use Rattle.guest_follows.specs.Outcomes.{Gives}
 
 -- two words
 abbrev pub given_to_product : ℕ → ℕ → List Value
@@ -21,3 +29,23 @@ pub record LeavesProduct (w : Workspace) (hi lo : ℕ) (fields : ℕ → Value) 
   pub lo_is : fields lo_field ≡ int lo
   pub others : (f : ℕ) → f ≢ hi_field → f ≢ lo_field → fields f ≡ w.fields f
   pub heap_is : heap ≡ w.heap
+
+-- ---- the laws
+
+-- a product or a quotient of two words is put into HI and LO, by 0 too, and nothing else is changed
+abbrev pub ProductsArePut : Type 0
+ProductsArePut =
+    (program : Program) (words a b : ℕ) (name : ProductName) (order : Order) (w : Workspace)
+    → IsWord a
+    → IsWord b
+    → Gives program words product_turns (helper_code order (product_helper name))
+    (given_to_product a b) w None
+    (LeavesProduct w (product_hi name a b) (product_lo name a b))
+
+-- both are words
+abbrev pub ProductsAreWords : Type 0
+ProductsAreWords =
+    (name : ProductName) (a b : ℕ)
+    → IsWord a
+    → IsWord b
+    → IsWord (product_hi name a b) × IsWord (product_lo name a b)

@@ -1,17 +1,23 @@
 -- What the helper methods that store come to.
-use Rattle.std.specs.Prelude.{◌≡◌, ℕ, List, [], ◌∷◌}
+use Rattle.std.specs.Prelude.{◌≡◌, ℕ, true, false, List, [], ◌∷◌, None}
+use Rattle.nv_words.specs.Words.{IsWord}
 use Rattle.nv_words.specs.declared.order.Order.{Order}
 use Rattle.nv_events.specs.Memory.{Memory}
+use Rattle.mips_decode.specs.Effect.{write_refused_fault, write_align_fault}
+use Rattle.mips_decode.specs.Loads.{store_aligned, store_allowed, stored}
+use Rattle.mips_decode.specs.declared.names.store_name.StoreName.{StoreName}
 use Rattle.jvm_program.specs.declared.value.Value.{Value}
 use Rattle.jvm_program.specs.declared.value.Value.TheVariants.{Int as int, Array as array}
 use Rattle.jvm_program.specs.Program.{Program}
 use Rattle.jvm_program.specs.Values.{Heap}
 use Rattle.jvm_program.specs.Effect.{Workspace}
 use Rattle.guest_layout.specs.FieldNumbers.{readable_field, writable_field}
+use Rattle.guest_code.specs.Helpers.{store_helper}
 use Rattle.mem_helpers.specs.Stores.{write_fault_number}
 use Rattle.mem_helpers.specs.Methods.{helper_code}
 use Rattle.guest_follows.specs.Match.{HoldsMemory}
-use Rattle.guest_follows.specs.Outcomes.{CallsFault}
+use Rattle.guest_follows.specs.Helpers.{HasHelpers}
+use Rattle.guest_follows.specs.Outcomes.{Gives, CallsFault}
 
 -- The tables of pages are in their fields, and what is read through them is the guest's memory.
 pub record HoldsTables (w : Workspace) (readable writable : ℕ) (memory : Memory) : Type 0 where
@@ -42,3 +48,43 @@ EndsStore program words order number given w kind pc a =
 abbrev pub LeavesMemory : Workspace → ℕ → ℕ → Memory → (ℕ → Value) → Heap → Type 0
 LeavesMemory w readable writable memory fields heap =
     (fields ≡ w.fields) × HoldsMemory heap readable writable memory
+
+-- ---- the laws
+
+-- The method of this number ends the run where a store of this kind faults.
+pub record EndsFaultyStores (name : StoreName) (number : ℕ) : Type 0 where
+  -- its address is not aligned
+  pub unaligned : (program : Program) (words pc value a : ℕ) (order : Order) (w : Workspace)
+      → HasHelpers program order
+      → IsWord a
+      → store_aligned name a ≡ false
+      → EndsStore program words order number (given_to_store value a pc) w write_align_fault pc a
+  -- it is aligned, and a byte there may not be written
+  pub refused : (program : Program) (words pc value a readable writable : ℕ) (order : Order)
+      (memory : Memory) (w : Workspace)
+      → HasHelpers program order
+      → IsWord a
+      → HoldsTables w readable writable memory
+      → store_aligned name a ≡ true
+      → store_allowed name order memory a ≡ false
+      → EndsStore program words order number (given_to_store value a pc) w write_refused_fault pc a
+
+-- The address of a store is a word and aligned, and each byte there may be written.
+pub record MayStore (name : StoreName) (order : Order) (w : Workspace) (readable writable : ℕ)
+    (memory : Memory) (a : ℕ) : Type 0 where
+  pub is_word : IsWord a
+  pub held : HoldsTables w readable writable memory
+  pub aligned : store_aligned name a ≡ true
+  pub allowed : store_allowed name order memory a ≡ true
+
+-- a store that may be done is done: the memory is what the instruction leaves, and no field is
+-- changed
+abbrev pub StoresAreDone : Type 0
+StoresAreDone =
+    (program : Program) (words pc value a readable writable : ℕ) (name : StoreName)
+    (order : Order) (memory : Memory) (w : Workspace)
+    → IsWord value
+    → MayStore name order w readable writable memory a
+    → Gives program words store_turns (helper_code order (store_helper name))
+    (given_to_store value a pc) w None
+    (LeavesMemory w readable writable (stored name order memory a value))

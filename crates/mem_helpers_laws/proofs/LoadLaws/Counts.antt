@@ -6,9 +6,9 @@ use Rattle.mips_decode.specs.declared.names.load_name.LoadName.{LoadName}
 use Rattle.mips_decode.specs.declared.names.load_name.LoadName.TheVariants.{Lb, Lh, Lwl, Lw, Lbu, Lhu, Lwr}
 use Rattle.guest_code.specs.Helpers.{load_helper, load_linked_helper}
 use Rattle.mem_helpers.specs.Methods.{helper_code}
-use Rattle.mem_helpers_laws.specs.LoadCounting.{Reads}
+use Rattle.mem_helpers_laws.specs.Counting.{CountsReads}
 
-pub loads-read : (order : Order) (name : LoadName) → Reads 1 (helper_code order (load_helper name))
+pub loads-read : (order : Order) (name : LoadName) → CountsReads 1 (helper_code order (load_helper name))
 loads-read order Lb = (refl, refl, refl)
 loads-read order Lbu = (refl, refl, refl)
 loads-read Big Lh = (refl, refl, refl)
@@ -22,6 +22,6 @@ loads-read Little Lwl = (refl, refl, refl)
 loads-read Big Lwr = (refl, refl, refl)
 loads-read Little Lwr = (refl, refl, refl)
 
-pub linked-reads : (order : Order) → Reads 1 (helper_code order load_linked_helper)
+pub linked-reads : (order : Order) → CountsReads 1 (helper_code order load_linked_helper)
 linked-reads Big = (refl, refl, refl)
 linked-reads Little = (refl, refl, refl)

@@ -9,7 +9,7 @@ use Rattle.mips_decode.specs.declared.names.store_name.StoreName.TheVariants.{Sb
 use Rattle.guest_code.specs.Helpers.{store_helper, product_helper, store_conditional_helper}
 use Rattle.mem_helpers.specs.Stores.{write_fault_number}
 use Rattle.mem_helpers.specs.Methods.{helper_code}
-use Rattle.mem_helpers_laws.specs.StoreCounting.{CountsReads, words_read}
+use Rattle.mem_helpers_laws.specs.Counting.{CountsReads, words_read}
 
 pub store-counts : (order : Order) (name : StoreName) → CountsReads (words_read name) (helper_code order (store_helper name))
 store-counts Big Sb = (refl, refl, refl)
