@@ -1,5 +1,6 @@
 -- What the code of a unit counts beside what the unit's turns count.
 use Rattle.std.specs.Prelude.{◌≡◌, ℕ, ◌+◌, ◌*◌, ◌<◌, ◌≤◌, Bool, false, if◌then◌else◌, ⊤}
+use Rattle.nv_words.specs.declared.order.Order.{Order}
 use Rattle.nv_events.specs.Turn.{Turn, leaves, asks}
 use Rattle.mips_decode.specs.State.{State}
 use Rattle.mips_decode.specs.declared.inst.Inst.{Inst}
@@ -9,12 +10,16 @@ use Rattle.delay_slots.specs.Turns.{unit_turns, turn_count, last_turn, skips}
 use Rattle.jvm_program.specs.declared.instruction.Instruction.{Instruction}
 use Rattle.jvm_program.specs.Effect.{Workspace}
 use Rattle.code_steps.specs.Widths.{size}
+use Rattle.code_steps.specs.Placing.{LiesAt}
 use Rattle.guest_code.specs.Units.{unit_code}
 use Rattle.code_paths.specs.Classes.{reads, chars, switches, entries}
 use Rattle.code_paths.specs.Guest.{reads_word}
+use Rattle.lawful_units.specs.Lawful.{IsLawful, KnownByUnit}
 use Rattle.guest_follows.specs.Helpers.{helper_count}
+use Rattle.guest_follows.specs.Holding.{HoldsOn}
 use Rattle.guest_follows.specs.Sites.{Site, stands}
 use Rattle.guest_follows.specs.Following.{Follows}
+use Rattle.guest_code_laws.specs.Instructions.{IsReady}
 use Rattle.guest_code_laws.specs.Units.{UnitArrives}
 
 -- A total counts at most so many reads of words and so many entries and switches, and no character.
@@ -58,3 +63,17 @@ pub record UnitCounts (site : Site) (bank : ℕ) (known : ℕ → Bool) (at : �
       (turn_count (unit_turns unit x)) (132 * turn_count (unit_turns unit x)) total
       (UnitArrives bank known unit w) (stands site at w) (last_turn (unit_turns unit x))
   pub asking : ReadsNoneToCall total (last_turn (unit_turns unit x))
+
+-- so does the code of every lawful unit, wherever it lies, from each workspace that holds the state
+abbrev pub UnitsAreCounted : Type 0
+UnitsAreCounted =
+    (unit : Unit) (site : Site) (order : Order) (bank : ℕ) (known : ℕ → Bool) (at : ℕ)
+    (w : Workspace) (x : State) (is_span : ℕ → Bool)
+    → IsLawful unit
+    → IsReady site order
+    → x.order ≡ order
+    → LiesAt site.program site.method at (unit_code bank unit x.pc)
+    → KnownByUnit known unit
+    → HoldsOn bank known w x
+    → SparesHelpers is_span
+    → UnitCounts site bank known at w x unit is_span

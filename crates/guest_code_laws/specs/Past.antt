@@ -1,14 +1,21 @@
 -- When code follows a unit's turns past the code of its delay slot.
-use Rattle.std.specs.Prelude.{ℕ, ◌+◌, ◌*◌, ◌≤◌, List}
+use Rattle.std.specs.Prelude.{◌≡◌, ℕ, ◌+◌, ◌*◌, ◌≤◌, Bool, List}
 use Rattle.nv_words.specs.declared.order.Order.{Order}
 use Rattle.jvm_program.specs.declared.instruction.Instruction.{Instruction}
 use Rattle.jvm_program.specs.Effect.{Workspace}
 use Rattle.mips_decode.specs.State.{State}
-use Rattle.delay_slots.specs.Turns.{UnitTurns, turn_count, last_turn}
+use Rattle.mips_decode.specs.declared.inst.Inst.{Inst}
+use Rattle.delay_slots.specs.declared.unit.Unit.TheVariants.{Branch}
+use Rattle.delay_slots.specs.Turns.{UnitTurns, turn_count, last_turn, unit_turns}
 use Rattle.code_steps.specs.declared.step.Step.{Step}
+use Rattle.code_steps.specs.Placing.{LiesAt}
 use Rattle.code_steps.specs.Widths.{size}
+use Rattle.guest_code.specs.Units.{instruction_code, next_address, unit_code}
+use Rattle.lawful_units.specs.Lawful.{IsLawful, KnownByUnit}
+use Rattle.guest_follows.specs.Holding.{HoldsOn}
 use Rattle.guest_follows.specs.Sites.{Site, stands, whole_weight}
 use Rattle.guest_follows.specs.Following.{Follows}
+use Rattle.guest_code_laws.specs.Units.{UnitArrives}
 
 -- The code follows the turns, and nothing is counted of the slot's code that lies in it.
 pub record FollowsPast (site : Site) (order : Order) (at : ℕ) (code slot : List Step)
@@ -18,3 +25,20 @@ pub record FollowsPast (site : Site) (order : Order) (at : ℕ) (code slot : Lis
       → total weight + whole_weight order slot weight ≤ whole_weight order code weight
   pub follows : Follows site at (at + size code) (turn_count turns) (132 * turn_count turns)
       total Arrives (stands site at w) (last_turn turns)
+
+-- ---- the law
+
+-- where a branch with a delay slot has one turn alone, which passes the slot over, its code follows
+-- that turn past the slot's code
+abbrev pub SlotsArePassedOver : Type 0
+SlotsArePassedOver =
+    (i slot : Inst) (site : Site) (order : Order) (bank : ℕ) (known : ℕ → Bool) (at : ℕ)
+    (w : Workspace) (x : State)
+    → IsLawful (Branch i slot)
+    → LiesAt site.program site.method at (unit_code bank (Branch i slot) x.pc)
+    → KnownByUnit known (Branch i slot)
+    → HoldsOn bank known w x
+    → turn_count (unit_turns (Branch i slot) x) ≡ 1
+    → FollowsPast site order at (unit_code bank (Branch i slot) x.pc)
+    (instruction_code bank slot (next_address x.pc)) (UnitArrives bank known (Branch i slot) w) w
+    (unit_turns (Branch i slot) x)

@@ -1,5 +1,5 @@
 -- When the code of a piece follows the turns of the piece's units.
-use Rattle.std.specs.Prelude.{◌≡◌, ℕ, ◌+◌, ◌*◌, ◌^◌, ◌<◌, Bool, true, not, ◌||◌, List, [], ◌∷◌, length, None, ⊤}
+use Rattle.std.specs.Prelude.{◌≡◌, ◌≢◌, ℕ, ◌+◌, ◌*◌, ◌^◌, ◌<◌, Bool, true, not, ◌||◌, All, List, [], ◌∷◌, length, None, ⊤}
 use Rattle.nv_words.specs.declared.order.Order.{Order}
 use Rattle.nv_events.specs.Turn.{Turn, moves}
 use Rattle.mips_decode.specs.State.{State}
@@ -14,6 +14,7 @@ use Rattle.code_steps.specs.Placing.{LiesAt}
 use Rattle.guest_layout.specs.FieldNumbers.{pc_field}
 use Rattle.guest_code.specs.Access.{keeps}
 use Rattle.word_emitter.specs.Pieces.{bank_of, is_needed, warm_code}
+use Rattle.lawful_units.specs.Lawful.{IsLawful}
 use Rattle.guest_follows.specs.Holding.{HoldsOn, KeepsGoal}
 use Rattle.guest_follows.specs.Sites.{Site, stands, whole_weight}
 use Rattle.guest_follows.specs.Following.{Follows}
@@ -79,3 +80,12 @@ PieceFollows piece =
     → Follows site at (at + size (warm_code piece x.pc)) (piece_turns piece x).0
     (256 * (piece_turns piece x).0) (whole_weight order (warm_code piece x.pc))
     (PieceArrives piece w) (stands site at w) (piece_turns piece x).1
+
+-- every piece of lawful units is followed by its code
+abbrev pub AllPiecesFollow : Type 0
+AllPiecesFollow =
+    (piece : List Unit)
+    → piece ≢ []
+    → All IsLawful piece
+    → AreStraight piece
+    → PieceFollows piece

@@ -1,5 +1,5 @@
 -- The steps of the guest that a unit's turns are.
-use Rattle.std.specs.Prelude.{◌≡◌, ◌≢◌, ◌+◌, ◌%◌, ◌^◌, Bool, true, false, ⊤, List, [], ◌∷◌, Option, Some, None}
+use Rattle.std.specs.Prelude.{◌≡◌, ◌≢◌, ℕ, ◌+◌, ◌%◌, ◌^◌, ◌<◌, ◌≤◌, Bool, true, false, ⊤, List, [], ◌∷◌, Option, Some, None}
 use Rattle.nv_words.specs.Words.{IsWord}
 use Rattle.nv_events.specs.Answer.{Answer}
 use Rattle.nv_events.specs.Turn.{Turn, moves, ends, leaves, asks}
@@ -7,8 +7,12 @@ use Rattle.run_laws.specs.Trail.{Step}
 use Rattle.mips_decode.specs.State.{State}
 use Rattle.delay_slots.specs.declared.unit.Unit.{Unit}
 use Rattle.delay_slots.specs.declared.unit.Unit.TheVariants.{Branch, SlotMissing, SlotIsBranch}
-use Rattle.delay_slots.specs.Turns.{UnitTurns, one_turn, two_turns}
-use Rattle.code_paths.specs.Guest.{is_register_jump}
+use Rattle.delay_slots.specs.Units.{units_of}
+use Rattle.delay_slots.specs.Turns.{StandsAt, UnitTurns, last_turn, one_turn, two_turns, unit_turns}
+use Rattle.block_builder.specs.Blocks.{unit_at}
+use Rattle.code_paths.specs.Guest.{Span, crossings, is_register_jump, partial}
+use Rattle.lawful_units.specs.Lawful.{IsLawful}
+use Rattle.guest_code_laws.specs.Counting.{unit_reads}
 
 -- the trail of a unit's turns, of which the last leads to a state, or nowhere
 abbrev pub unit_trail : State → UnitTurns → Option State → List (Step State)
@@ -41,3 +45,39 @@ LeadsToWords (moves t) = IsWord t.pc
 LeadsToWords (ends end) = ⊤
 LeadsToWords (leaves question end) = ⊤
 LeadsToWords (asks question next) = (answer : Answer) → IsWord (next answer).pc
+
+-- ---- the laws, of the unit at a word of a range
+
+-- its turns read as many words as is told of it
+abbrev pub UnitsReadAsTold : Type 0
+UnitsReadAsTold =
+    (x : State) (first : ℕ) (words : List ℕ) (i : ℕ) (to : Option State)
+    → StandsAt x first words i
+    → partial (unit_trail x (unit_turns (unit_at (units_of words) i) x) to)
+    ≡ unit_reads (unit_at (units_of words) i) x
+
+-- one that begins with JR or JALR crosses spans
+abbrev pub UnitsCrossSpans : Type 0
+UnitsCrossSpans =
+    (x : State) (first : ℕ) (words : List ℕ) (i : ℕ) (spans : List Span) (to : Option State)
+    → StandsAt x first words i
+    → begins_with_register_jump (unit_at (units_of words) i) ≡ true
+    → 1 ≤ crossings spans (unit_trail x (unit_turns (unit_at (units_of words) i) x) to)
+
+-- the second of two turns is made in the delay slot
+abbrev pub UnitsPassSlots : Type 0
+UnitsPassSlots =
+    (x : State) (first : ℕ) (words : List ℕ) (i : ℕ)
+    → StandsAt x first words i
+    → GoesThroughSlot x (unit_turns (unit_at (units_of words) i) x)
+
+-- ---- of any unit
+
+-- where the registers hold words, each address to which it leads is a word, whatever the answer
+abbrev pub UnitsLeadToWords : Type 0
+UnitsLeadToWords =
+    (x : State) (unit : Unit)
+    → IsLawful unit
+    → x.pending ≡ None
+    → ((r : ℕ) → 0 < r → r < 32 → IsWord (x.registers r))
+    → LeadsToWords (last_turn (unit_turns unit x))

@@ -11,7 +11,7 @@ use Rattle.jvm_program.specs.Effect.{Workspace}
 use Rattle.code_steps.specs.Widths.{size}
 use Rattle.code_steps.specs.Placing.{LiesAt}
 use Rattle.guest_code.specs.Units.{unit_code}
-use Rattle.lawful_units.specs.Lawful.{IsInstruction, KnownByUnit}
+use Rattle.lawful_units.specs.Lawful.{IsInstruction, IsLawful, KnownByUnit}
 use Rattle.guest_follows.specs.Holding.{HoldsOn}
 use Rattle.guest_follows.specs.Sites.{Site, stands, whole_weight}
 use Rattle.guest_follows.specs.Following.{Follows}
@@ -47,3 +47,7 @@ UnitFollows unit =
     → Follows site at (at + size (unit_code bank unit x.pc)) (turn_count (unit_turns unit x))
     (132 * turn_count (unit_turns unit x)) (whole_weight order (unit_code bank unit x.pc))
     (UnitArrives bank known unit w) (stands site at w) (last_turn (unit_turns unit x))
+
+-- every unit that words spell is followed by its code
+abbrev pub AllUnitsFollow : Type 0
+AllUnitsFollow = (unit : Unit) → IsLawful unit → UnitFollows unit

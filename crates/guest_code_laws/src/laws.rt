@@ -1,10 +1,7 @@
 //! What emitted code follows. Each call here does nothing: its contract is the law.
 
-ghost use Rattle.std.specs.Prelude.{◌≢◌, All, List, []};
-ghost use Rattle.delay_slots.specs.declared.unit.Unit.{Unit};
-ghost use Rattle.lawful_units.specs.Lawful.{IsLawful};
-ghost use Rattle.guest_code_laws.specs.Units.{AllFollow, UnitFollows};
-ghost use Rattle.guest_code_laws.specs.Pieces.{AreStraight, PieceFollows};
+ghost use Rattle.guest_code_laws.specs.Units.{AllFollow, AllUnitsFollow};
+ghost use Rattle.guest_code_laws.specs.Pieces.{AllPiecesFollow};
 
 use crate::access_laws::{
     conditional_stores_are_followed, linked_loads_are_followed, loads_are_followed,
@@ -45,7 +42,7 @@ pub fn instructions_are_followed()
 
 /// The code of every unit follows the unit's turns.
 pub fn units_are_followed()
-    ensures { (unit : Unit) → IsLawful unit → UnitFollows unit }
+    ensures { AllUnitsFollow }
 {
     instructions_are_followed();
     units::units_are_followed();
@@ -53,8 +50,7 @@ pub fn units_are_followed()
 
 /// The code of every piece, over local variables, follows the turns of the piece's units.
 pub fn pieces_are_followed()
-    ensures { (piece : List Unit) → piece ≢ [] → All IsLawful piece → AreStraight piece
-        → PieceFollows piece }
+    ensures { AllPiecesFollow }
 {
     instructions_are_followed();
     pieces::pieces_are_followed();

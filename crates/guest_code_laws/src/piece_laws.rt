@@ -1,10 +1,7 @@
 //! What the code of pieces follows. Each call here does nothing: its contract is the law.
 
-ghost use Rattle.std.specs.Prelude.{◌≡◌, ◌≢◌, All, List, []};
-ghost use Rattle.delay_slots.specs.declared.unit.Unit.{Unit};
-ghost use Rattle.lawful_units.specs.Lawful.{IsLawful};
 ghost use Rattle.guest_code_laws.specs.Units.{AllFollow};
-ghost use Rattle.guest_code_laws.specs.Pieces.{AreStraight, PieceFollows};
+ghost use Rattle.guest_code_laws.specs.Pieces.{AllPiecesFollow};
 
 use crate::unit_laws::units_are_followed;
 use block_builder::instructions_keep_to_their_registers;
@@ -15,8 +12,7 @@ use lawful_units::laws::{
 
 /// The code of a piece, over local variables, follows the turns of its units, all but the last of which are Plain.
 pub fn pieces_are_followed()
-    ensures { AllFollow → (piece : List Unit) → piece ≢ [] → All IsLawful piece → AreStraight piece
-        → PieceFollows piece }
+    ensures { AllFollow → AllPiecesFollow }
 {
     code_is_paths();
     instructions_keep_to_their_registers();

@@ -30,7 +30,7 @@ use Rattle.guest_follows.specs.Sites.{Site, stands, whole_weight}
 use Rattle.guest_follows.specs.Following.{ComesToEnd, ComesToTurn, LastTurn}
 use Rattle.guest_follows.specs.Behind.{IsDone}
 use Rattle.guest_follows.proofs.GuestFollows.Ends.{Ends}
-use Rattle.guest_follows.proofs.GuestFollows.CodeLaws.{CodeLaws}
+use Rattle.guest_follows.proofs.GuestFollows.CodeLaws.{CallsHelper, CodeLaws}
 use Rattle.guest_follows.proofs.RegisterLaws.Beside.{Agrees, beside, beside-kept, beside-goal-kept, kept-twice, goal-kept-twice}
 use Rattle.guest_code_laws.specs.Instructions.{IsReady, most_turns}
 use Rattle.guest_code_laws.proofs.InstructionLaws.Results.{CodeFollows}
@@ -45,19 +45,30 @@ module _ (site : Site) (low high least most more : ℕ) (total : (Instruction �
   turn-later : (Last : ℕ → ℕ → Turn machine.State → Type 0) → ComesToTurn site low high least most total Last x → ComesToTurn site low high least more total Last x
   turn-later Last c =
       let few = c.in_time in
-      record { turns = c.turns; before = c.before; place = c.place; path = c.path; is_there = c.is_there; no_sooner = c.no_sooner; in_time = omega (arith, few, fewer); last = c.last }
+      record { turns = c.turns; before = c.before; place = c.place; path = c.path; is_there = c.is_there; below = c.below; no_sooner = c.no_sooner; in_time = omega (arith, few, fewer); last = c.last }
 
 module _ (laws : CodeLaws) (site : Site) (order : Order) (bank : ℕ) (known : ℕ → Bool) (at : ℕ) (w : Workspace) (ready : IsReady site order) where
   module _ (h most : ℕ) (front back : List Step) (v : Workspace) (given : List Value) (written : List Register) (is_helper : h < 18) (within : IsTrue (stays_within front)) (lies : LiesAt site.program site.method at (front ++ Does (Call h) ∷ back)) (front_is : Brings site.program site.words 5 front w v) (calls : effect site.program site.words (Call h) v ≡ enters h given w) where
+    helped : CallsHelper site order at front_is.turns h front back w v given w
+    helped =
+        let high = ready.no_helper in
+        record {
+          within = within;
+          lies = lies;
+          helper = ready.helpers h (omega (arith, is_helper));
+          apart = omega (arith, is_helper, high);
+          front_is = front_is.comes;
+          calls = calls;
+        }
+
     -- the method returns, and the code behind the call ends where the instruction is done
     pub returned-follows : most ≤ 80 → (result : Option Value) (Leaves : (ℕ → Value) → Heap → Type 0) (t : State) → Gives site.program site.words most (helper_code order h) given w result Leaves → ((left : Workspace) → Leaves left.fields left.heap → Ends site.program site.words 1 back (caller_workspace result w left) (λ u. IsDone bank known written w u t)) → CodeFollows site order bank known at w written (front ++ Does (Call h) ∷ back) (moves t)
     returned-follows short result Leaves t method_gives goes_on =
         let few = front_is.in_time in
-        let high = ready.no_helper in
         let room = ready.few in
         end-later site at (at + size (front ++ Does (Call h) ∷ back)) 1 (front_is.turns + (most + 2) + 1) most_turns (whole_weight order (front ++ Does (Call h) ∷ back)) (stands site at w) (omega (arith, few, short)) (λ u. IsDone bank known written w u t)
-        (laws.call_follows site order at front_is.turns most 1 h front back w v w given result Leaves (λ u. IsDone bank known written w u t) within lies
-        (ready.helpers h (omega (arith, is_helper))) (omega (arith, is_helper, high)) (omega (arith, room)) front_is.comes calls method_gives goes_on)
+        (laws.call_follows site order at front_is.turns most 1 h front back w v w given result Leaves (λ u. IsDone bank known written w u t) helped
+        (omega (arith, room)) method_gives goes_on)
 
     -- the method calls the one that ends the run
     pub faulted-follows : most ≤ 60 → (g : ℕ) (ending : Fault) → (g ≡ 18) ⊎ (g ≡ 19) → CallsFault site.program site.words most (helper_code order) (helper_code order h) given w g ending → CodeFollows site order bank known at w written (front ++ Does (Call h) ∷ back) (ends («fault» ending))
@@ -65,8 +76,8 @@ module _ (laws : CodeLaws) (site : Site) (order : Order) (bank : ℕ) (known : �
         let few = front_is.in_time in
         let high = ready.no_helper in
         turn-later site at (at + size (front ++ Does (Call h) ∷ back)) 1 (front_is.turns + (most + 1) + (most + 1) + 1) most_turns (whole_weight order (front ++ Does (Call h) ∷ back)) (stands site at w) (omega (arith, few, short)) (LastTurn site (at + size (front ++ Does (Call h) ∷ back)) most_turns (whole_weight order (front ++ Does (Call h) ∷ back)) (IsDone bank known written w) (ends («fault» ending)))
-        (laws.call_fault_follows site order at front_is.turns most h g front back w v w given ending (LastTurn site (at + size (front ++ Does (Call h) ∷ back)) most_turns (whole_weight order (front ++ Does (Call h) ∷ back)) (IsDone bank known written w) (ends («fault» ending))) within lies
-        (ready.helpers h (omega (arith, is_helper))) (ready.helpers g (below g is_fault)) (omega (arith, is_helper, high)) (omega (arith, high, below g is_fault)) ready.few is_fault front_is.comes calls stops (λ used place. refl))
+        (laws.call_fault_follows site order at front_is.turns most h g front back w v w given ending (LastTurn site (at + size (front ++ Does (Call h) ∷ back)) most_turns (whole_weight order (front ++ Does (Call h) ∷ back)) (IsDone bank known written w) (ends («fault» ending))) helped
+        (ready.helpers g (below g is_fault)) (omega (arith, high, below g is_fault)) ready.few is_fault stops (λ used place. refl))
       where
         below : (g : ℕ) → (g ≡ 18) ⊎ (g ≡ 19) → g < 20
         below g (inl e) = omega (arith, e)

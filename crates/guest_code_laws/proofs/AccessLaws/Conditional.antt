@@ -1,13 +1,11 @@
 -- The code of SC.
-use Rattle.std.proofs.Common.{◌≡◌, ◌≢◌, ℕ, ◌==◌, ◌<◌, Bool, true, false, if◌then◌else◌, List, [], ◌∷◌, ◌++◌, Option, Some, None, subst, sym, refl, arith, lit<}
+use Rattle.std.proofs.Common.{◌≡◌, ℕ, ◌==◌, ◌<◌, Bool, true, false, if◌then◌else◌, List, [], ◌∷◌, ◌++◌, Option, Some, None, subst, sym, refl, arith, lit<}
 use Rattle.std.proofs.lemmas.Bool.{eqb-true, eqb-false}
-use Rattle.nv_words.specs.declared.order.Order.{Order}
 use Rattle.nv_words.specs.Words.{IsWord}
 use Rattle.nv_events.specs.Memory.{Memory}
 use Rattle.nv_events.specs.Turn.{moves}
 use Rattle.mips_decode.specs.State.{State, register, with_register}
 use Rattle.mips_decode.specs.Step.{advanced}
-use Rattle.mips_decode.specs.Effect.{write_align_fault, write_refused_fault}
 use Rattle.mips_decode.specs.Loads.{address_of, store_aligned, store_allowed, stored, is_linked, concluded, store_conditional_to}
 use Rattle.mips_decode.specs.Targets.{extended_imm}
 use Rattle.mips_decode.specs.declared.inst.Inst.TheVariants as inst
@@ -17,7 +15,6 @@ use Rattle.block_builder.specs.Registers.{general}
 use Rattle.jvm_program.specs.declared.value.Value.{Value}
 use Rattle.jvm_program.specs.declared.value.Value.TheVariants.{Int as int}
 use Rattle.jvm_program.specs.declared.instruction.Instruction.TheVariants.{Call}
-use Rattle.jvm_program.specs.Program.{Program}
 use Rattle.jvm_program.specs.Values.{Heap}
 use Rattle.jvm_program.specs.Effect.{Workspace}
 use Rattle.jvm_program.specs.Stretch.{caller_workspace}
@@ -32,7 +29,6 @@ use Rattle.mem_helpers.specs.Methods.{helper_code}
 use Rattle.lawful_units.specs.Knowing.{IsKnown}
 use Rattle.guest_follows.specs.Match.{HoldsMemory}
 use Rattle.guest_follows.specs.Outcomes.{Gives}
-use Rattle.guest_follows.specs.Helpers.{HasHelpers}
 use Rattle.guest_follows.specs.Holding.{HoldsOn, IsLink}
 use Rattle.guest_follows.proofs.RegisterLaws.Reading.{known-word}
 use Rattle.guest_follows.specs.Sites.{Site}
@@ -40,8 +36,8 @@ use Rattle.guest_follows.specs.Behind.{IsDone}
 use Rattle.guest_follows.proofs.GuestFollows.Ends.{Ends}
 use Rattle.guest_follows.proofs.GuestFollows.CodeLaws.{CodeLaws}
 use Rattle.guest_follows.proofs.RegisterLaws.Beside.{Agrees, agree-but, other-field, beside, beside-held}
-use Rattle.mem_helpers_laws.specs.Linking.{IsLinked, unlinked, LeavesStored, LeavesUnlinked}
-use Rattle.mem_helpers_laws.specs.Storing.{HoldsTables, EndsStore, given_to_store, store_turns}
+use Rattle.mem_helpers_laws.specs.Linking.{ConcludesStore, IsLinked, StoresAreConcluded, unlinked, LeavesStored, LeavesUnlinked}
+use Rattle.mem_helpers_laws.specs.Storing.{EndsFaultyStores, given_to_store, store_turns}
 use Rattle.guest_code_laws.specs.Instructions.{IsReady, InstructionFollows}
 use Rattle.guest_code_laws.proofs.InstructionLaws.Results.{CodeFollows}
 use Rattle.guest_code_laws.proofs.AccessLaws.Arranging.{given_code}
@@ -51,11 +47,8 @@ use Rattle.guest_code_laws.proofs.AccessLaws.Orders.{FollowsInItsOrder, in-each-
 
 -- the laws of the method
 pub record ConditionalLaws : Type 0 where
-  pub unaligned : (program : Program) (words pc value a : ℕ) (order : Order) (w : Workspace) → HasHelpers program order → IsWord a → store_aligned Sw a ≡ false → EndsStore program words order store_conditional_helper (given_to_store value a pc) w write_align_fault pc a
-  pub refused : (program : Program) (words pc value a readable writable : ℕ) (order : Order) (memory : Memory) (w : Workspace) → HasHelpers program order → IsWord a → HoldsTables w readable writable memory → store_aligned Sw a ≡ true → store_allowed Sw order memory a ≡ false → EndsStore program words order store_conditional_helper (given_to_store value a pc) w write_refused_fault pc a
-  pub linked : (program : Program) (words pc value a readable writable at : ℕ) (order : Order) (memory : Memory) (w : Workspace) → IsWord value → IsWord a → HoldsTables w readable writable memory → store_aligned Sw a ≡ true → store_allowed Sw order memory a ≡ true → IsLinked w at → at ≡ a → Gives program words store_turns (helper_code order store_conditional_helper) (given_to_store value a pc) w (Some (int 1)) (LeavesStored w readable writable (stored Sw order memory a value))
-  pub elsewhere : (program : Program) (words pc value a readable writable at : ℕ) (order : Order) (memory : Memory) (w : Workspace) → IsWord a → HoldsTables w readable writable memory → store_aligned Sw a ≡ true → store_allowed Sw order memory a ≡ true → IsLinked w at → at ≢ a → Gives program words store_turns (helper_code order store_conditional_helper) (given_to_store value a pc) w (Some (int 0)) (LeavesUnlinked w)
-  pub unlinked : (program : Program) (words pc value a readable writable : ℕ) (order : Order) (memory : Memory) (w : Workspace) → IsWord a → HoldsTables w readable writable memory → store_aligned Sw a ≡ true → store_allowed Sw order memory a ≡ true → w.fields linked_field ≡ int 0 → Gives program words store_turns (helper_code order store_conditional_helper) (given_to_store value a pc) w (Some (int 0)) (LeavesUnlinked w)
+  pub faulty : EndsFaultyStores Sw store_conditional_helper
+  pub concluded : StoresAreConcluded
 
 unlinked-agree : (w : Workspace) → Agrees w.fields (unlinked w)
 unlinked-agree w = agree-but w.fields (unlinked w) (λ f no_hi no_lo no_link no_linked. other-field f linked_field (int 0) (w.fields f) no_linked)
@@ -88,23 +81,28 @@ module _ (laws : CodeLaws) (stores : ConditionalLaws) (rs rt imm : ℕ) where
       gives n Leaves memory =
           gives-as laws site bank known at w s ready h store_conditional_helper rs rt imm (lit< tt) refl is it (put_register bank rt ∷ []) (general rt ∷ []) lies (Some (int n)) Leaves (advanced (record (with_register s rt n) { memory = memory; load_link = None }))
 
+      conclusion : ConcludesStore site.program site.words s.pc value a h.readable h.writable s.order s.memory w
+      conclusion =
+          stores.concluded site.program site.words s.pc value a h.readable h.writable s.order s.memory w
+          (record { is_word = a-word; held = tables bank known w s h; aligned = aligned; allowed = allowed })
+
       stays : (left : Workspace) → LeavesUnlinked w left.fields left.heap → Ends site.program site.words 1 (put_register bank rt ∷ []) (caller_workspace (Some (int 0)) w left) (λ u. IsDone bank known (general rt ∷ []) w u (advanced (record (with_register s rt 0) { memory = s.memory; load_link = None })))
       stays left leaves = concludes site bank known w s h rt below 0 s.memory left (lit< tt) leaves.0 (subst (λ heap. HoldsMemory heap h.readable h.writable s.memory) (sym leaves.1) h.memory_held)
 
       by-address : (linked_at : ℕ) (same : Bool) → IsLinked w linked_at → (linked_at == a) ≡ same → CodeFollows site s.order bank known at w (general rt ∷ []) code (moves (advanced (if same then record (with_register s rt 1) { memory = stored Sw s.order s.memory a value; load_link = None } else record (with_register s rt 0) { load_link = None })))
       by-address linked_at true link e =
           gives 1 (LeavesStored w h.readable h.writable (stored Sw s.order s.memory a value)) (stored Sw s.order s.memory a value)
-          (stores.linked site.program site.words s.pc value a h.readable h.writable linked_at s.order s.memory w (known-word bank rt known w s h it) a-word (tables bank known w s h) aligned allowed link (eqb-true linked_at a e))
+          (conclusion.linked linked_at (known-word bank rt known w s h it) link (eqb-true linked_at a e))
           (λ left leaves. concludes site bank known w s h rt below 1 (stored Sw s.order s.memory a value) left (lit< tt) leaves.0 leaves.1)
       by-address linked_at false link e =
           gives 0 (LeavesUnlinked w) s.memory
-          (stores.elsewhere site.program site.words s.pc value a h.readable h.writable linked_at s.order s.memory w a-word (tables bank known w s h) aligned allowed link (eqb-false linked_at a e))
+          (conclusion.elsewhere linked_at link (eqb-false linked_at a e))
           stays
 
       by-link : (link : Option ℕ) → IsLink w.fields link → CodeFollows site s.order bank known at w (general rt ∷ []) code (moves (advanced (if is_linked (record s { load_link = link }) a then record (with_register s rt 1) { memory = stored Sw s.order s.memory a value; load_link = None } else record (with_register s rt 0) { load_link = None })))
       by-link None link_is =
           gives 0 (LeavesUnlinked w) s.memory
-          (stores.unlinked site.program site.words s.pc value a h.readable h.writable s.order s.memory w a-word (tables bank known w s h) aligned allowed link_is)
+          (conclusion.unlinked link_is)
           stays
       by-link (Some linked_at) link_is =
           by-address linked_at (linked_at == a) (record { linked = link_is.0; link_is = link_is.1; is_word = link_is.2 }) refl
@@ -113,8 +111,8 @@ module _ (laws : CodeLaws) (stores : ConditionalLaws) (rs rt imm : ℕ) where
     split lies =
         store-follows-by laws site bank known at w s ready h store_conditional_helper rs rt imm (lit< tt) refl is it (put_register bank rt ∷ []) (general rt ∷ []) lies
         (store_aligned Sw a) (store_allowed Sw s.order s.memory a) (concluded s rt a)
-        (λ test. stores.unaligned site.program site.words s.pc value a s.order w ready.helpers a-word test)
-        (λ aligned test. stores.refused site.program site.words s.pc value a h.readable h.writable s.order s.memory w ready.helpers a-word (tables bank known w s h) aligned test)
+        (λ test. stores.faulty.unaligned site.program site.words s.pc value a s.order w ready.helpers a-word test)
+        (λ aligned test. stores.faulty.refused site.program site.words s.pc value a h.readable h.writable s.order s.memory w ready.helpers a-word (tables bank known w s h) aligned test)
         (λ aligned allowed. by-link lies aligned allowed s.load_link h.link_is)
 
   in-order : FollowsInItsOrder (inst.StoreConditional rs rt imm)

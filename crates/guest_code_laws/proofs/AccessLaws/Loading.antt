@@ -1,8 +1,6 @@
 -- The code of the instructions that load.
 use Rattle.std.proofs.Common.{◌≡◌, ℕ, ◌<◌, not, Bool, true, false, if◌then◌else◌, List, [], ◌∷◌, ◌++◌, Some, is_none, IsTrue, inl, refl, subst, subst₂, sym, arith, lit<, lit≤}
 use Rattle.nv_words.specs.Words.{IsWord}
-use Rattle.nv_words.specs.declared.order.Order.{Order}
-use Rattle.nv_events.specs.Memory.{Memory}
 use Rattle.mips_decode.specs.State.{State, register, with_register}
 use Rattle.mips_decode.specs.Effect.{faults, goes_on, read_align_fault, read_unmapped_fault}
 use Rattle.mips_decode.specs.Loads.{address_of, load_aligned, load_from, loaded}
@@ -15,44 +13,32 @@ use Rattle.delay_slots.specs.Turns.{done_by}
 use Rattle.block_builder.specs.Registers.{general, read_by_load}
 use Rattle.jvm_program.specs.declared.kind.Kind.TheVariants.{Int}
 use Rattle.jvm_program.specs.declared.value.Value.{Value}
-use Rattle.jvm_program.specs.declared.value.Value.TheVariants.{Int as int, Array as array}
+use Rattle.jvm_program.specs.declared.value.Value.TheVariants.{Int as int}
 use Rattle.jvm_program.specs.declared.instruction.Instruction.TheVariants.{Call}
-use Rattle.jvm_program.specs.Program.{Program}
-use Rattle.jvm_program.specs.Values.{Heap}
 use Rattle.jvm_program.specs.Effect.{Workspace, enters, effect, with_operands}
 use Rattle.code_steps.specs.declared.step.Step.{Step}
 use Rattle.code_steps.specs.declared.step.Step.TheVariants.{Does}
 use Rattle.code_steps.specs.Outcomes.{stays_within}
 use Rattle.code_steps.specs.Placing.{LiesAt}
-use Rattle.guest_layout.specs.FieldNumbers.{readable_field}
 use Rattle.guest_code.specs.Access.{get_register, put_register, push_word}
 use Rattle.guest_code.specs.Accessing.{address_code, access_code, load_code}
 use Rattle.guest_code.specs.Helpers.{load_helper}
 use Rattle.mem_helpers.specs.Methods.{helper_code}
 use Rattle.lawful_units.specs.Knowing.{IsKnown, AreKnown}
-use Rattle.guest_follows.specs.Match.{HoldsMemory}
-use Rattle.guest_follows.specs.Helpers.{HasHelpers, helper_parameters}
+use Rattle.guest_follows.specs.Helpers.{helper_parameters}
 use Rattle.guest_follows.specs.Holding.{HoldsOn}
 use Rattle.guest_follows.proofs.RegisterLaws.Reading.{register-word}
 use Rattle.guest_follows.specs.Sites.{Site}
 use Rattle.guest_follows.proofs.GuestFollows.CodeLaws.{CodeLaws}
 use Rattle.guest_follows.proofs.RegisterLaws.Beside.{Agrees, agree-itself, beside}
-use Rattle.mem_helpers_laws.specs.Loading.{LoadsAs, LoadsByName, FaultsAt, most_of_a_load}
+use Rattle.mem_helpers_laws.specs.Loading.{LoadsAs, LoadsByName, LoadsAreTheGuests, LoadsWords, FaultsAt, most_of_a_load}
 use Rattle.guest_code_laws.specs.Instructions.{IsReady, InstructionFollows}
 use Rattle.guest_code_laws.proofs.InstructionLaws.Results.{CodeFollows}
 use Rattle.guest_code_laws.proofs.AccessLaws.Arranging.{Brings, brought-within, given_code, address-brought, register-brought, register-within, address-within, enters-with-two, enters-with-three}
 use Rattle.guest_code_laws.proofs.AccessLaws.Called.{returned-follows, faulted-follows, put-behind}
 use Rattle.guest_code_laws.proofs.AccessLaws.Orders.{in-each-order, called-before}
 
--- ---- the laws of the methods that load
-
-abbrev pub AreLoads : Type 0
-AreLoads =
-    (program : Program) (words readable writable old a pc : ℕ) (order : Order) (name : LoadName) (memory : Memory) (caller : Workspace) → HasHelpers program order → caller.fields readable_field ≡ array readable → HoldsMemory caller.heap readable writable memory → IsWord a → IsWord old → LoadsByName program words order name memory caller old a pc
-
-abbrev pub LoadWords : Type 0
-LoadWords =
-    (heap : Heap) (readable writable a old : ℕ) (memory : Memory) (order : Order) (name : LoadName) → HoldsMemory heap readable writable memory → IsWord (loaded name order memory a old)
+-- ---- by the two tests of a load
 
 module _ (laws : CodeLaws) (site : Site) (bank : ℕ) (known : ℕ → Bool) (at : ℕ) (w : Workspace) (s : State) (ready : IsReady site s.order) where
   -- code follows a load by its two tests; where it loads, a register takes the word, and the rest of the state is as said
@@ -109,7 +95,7 @@ module _ (laws : CodeLaws) (site : Site) (bank : ℕ) (known : ℕ → Bool) (at
 
 -- ---- by the instructions' names
 
-module _ (laws : CodeLaws) (loads : AreLoads) (load_words : LoadWords) (rs rt imm : ℕ) where
+module _ (laws : CodeLaws) (loads : LoadsAreTheGuests) (load_words : LoadsWords) (rs rt imm : ℕ) where
   module _ (site : Site) (bank : ℕ) (known : ℕ → Bool) (at : ℕ) (w : Workspace) (s : State) (ready : IsReady site s.order) (h : HoldsOn bank known w s) (below : rt < 32) where
     abbrev address : ℕ
     address = address_of s rs imm
@@ -119,7 +105,9 @@ module _ (laws : CodeLaws) (loads : AreLoads) (load_words : LoadWords) (rs rt im
 
     law : (name : LoadName) → LoadsByName site.program site.words s.order name s.memory w (register s rt) address s.pc
     law name =
-        loads site.program site.words h.readable h.writable (register s rt) address s.pc s.order name s.memory w ready.helpers h.readable_is h.memory_held (omega arith) (register-word bank rt known w s h below)
+        loads site.program site.words h.readable h.writable (register s rt) address s.pc s.order name s.memory w
+        (record { helpers = ready.helpers; readable_is = h.readable_is; held = h.memory_held; is_word = omega arith })
+        (register-word bank rt known w s h below)
 
     is-word : (name : LoadName) → IsWord (word name)
     is-word name = load_words w.heap h.readable h.writable address (register s rt) s.memory s.order name h.memory_held

@@ -1,6 +1,5 @@
 -- The code of products and quotients.
 use Rattle.std.proofs.Common.{◌≡◌, ℕ, ◌<◌, [], ◌∷◌, Option, Some, None, subst, sym, ◌∙◌, refl, arith, lit<, lit≤}
-use Rattle.nv_words.specs.declared.order.Order.{Order}
 use Rattle.nv_words.specs.Words.{IsWord}
 use Rattle.mips_decode.specs.State.{register}
 use Rattle.mips_decode.specs.Step.{advanced}
@@ -13,31 +12,21 @@ use Rattle.block_builder.specs.Registers.{special}
 use Rattle.jvm_program.specs.declared.kind.Kind.TheVariants.{Int}
 use Rattle.jvm_program.specs.declared.value.Value.{Value}
 use Rattle.jvm_program.specs.declared.value.Value.TheVariants.{Int as int}
-use Rattle.jvm_program.specs.Program.{Program}
-use Rattle.jvm_program.specs.Effect.{Workspace, with_operands}
+use Rattle.jvm_program.specs.Effect.{with_operands}
 use Rattle.guest_code.specs.Access.{get_register}
 use Rattle.guest_code.specs.Fields.{link_field, linked_field}
 use Rattle.guest_code.specs.Helpers.{product_helper}
-use Rattle.mem_helpers.specs.Methods.{helper_code}
 use Rattle.guest_follows.specs.Match.{HoldsMemory}
-use Rattle.guest_follows.specs.Outcomes.{Gives}
 use Rattle.guest_follows.specs.Helpers.{helper_parameters}
 use Rattle.guest_follows.specs.Holding.{IsLink}
 use Rattle.guest_follows.proofs.RegisterLaws.Reading.{known-word}
 use Rattle.guest_follows.proofs.GuestFollows.CodeLaws.{CodeLaws}
 use Rattle.guest_follows.proofs.RegisterLaws.Beside.{agree-but, beside-held}
-use Rattle.mem_helpers_laws.specs.Multiplying.{LeavesProduct, given_to_product, product_turns}
+use Rattle.mem_helpers_laws.specs.Multiplying.{LeavesProduct, ProductsArePut, ProductsAreWords, given_to_product, product_turns}
 use Rattle.guest_code_laws.specs.Instructions.{InstructionFollows}
 use Rattle.guest_code_laws.proofs.AccessLaws.Arranging.{register-brought, register-within, brought-within, enters-with-two}
 use Rattle.guest_code_laws.proofs.AccessLaws.Called.{returned-follows, nothing-behind}
 use Rattle.guest_code_laws.proofs.AccessLaws.Orders.{FollowsInItsOrder, in-each-order}
-
--- the laws of the methods
-abbrev pub AreProducts : Type 0
-AreProducts = (program : Program) (words a b : ℕ) (name : ProductName) (order : Order) (w : Workspace) → IsWord a → IsWord b → Gives program words product_turns (helper_code order (product_helper name)) (given_to_product a b) w None (LeavesProduct w (product_hi name a b) (product_lo name a b))
-
-abbrev pub ProductWords : Type 0
-ProductWords = (name : ProductName) (a b : ℕ) → IsWord a → IsWord b → IsWord (product_hi name a b) × IsWord (product_lo name a b)
 
 is-helper : (name : ProductName) → product_helper name < 18
 is-helper Div = lit< tt
@@ -55,7 +44,7 @@ link-kept : (link : Option ℕ) (old new : ℕ → Value) → new link_field ≡
 link-kept None old new at_is is link_is = is ∙ link_is
 link-kept (Some at) old new at_is is link_is = (is ∙ link_is.0, at_is ∙ link_is.1, link_is.2)
 
-module _ (laws : CodeLaws) (products : AreProducts) (product_words : ProductWords) (name : ProductName) (rs rt : ℕ) where
+module _ (laws : CodeLaws) (products : ProductsArePut) (product_words : ProductsAreWords) (name : ProductName) (rs rt : ℕ) where
   in-order : FollowsInItsOrder (inst.Product name rs rt)
   in-order site bank known at w s ready lies fields reads h =
       let a = register s rs in

@@ -1,8 +1,6 @@
 -- The code of the instructions that store.
 use Rattle.std.proofs.Common.{◌≡◌, ℕ, ◌<◌, not, Bool, true, false, if◌then◌else◌, List, [], ◌∷◌, ◌++◌, Option, None, inr, ap, subst, sym, refl, arith, lit<, lit≤}
-use Rattle.nv_words.specs.declared.order.Order.{Order}
 use Rattle.nv_words.specs.Words.{IsWord}
-use Rattle.nv_events.specs.Memory.{Memory}
 use Rattle.nv_events.specs.Turn.{moves}
 use Rattle.mips_decode.specs.State.{State, register}
 use Rattle.mips_decode.specs.Step.{advanced, faulted}
@@ -18,7 +16,6 @@ use Rattle.jvm_program.specs.declared.kind.Kind.TheVariants.{Int}
 use Rattle.jvm_program.specs.declared.value.Value.{Value}
 use Rattle.jvm_program.specs.declared.value.Value.TheVariants.{Int as int}
 use Rattle.jvm_program.specs.declared.instruction.Instruction.TheVariants.{Call}
-use Rattle.jvm_program.specs.Program.{Program}
 use Rattle.jvm_program.specs.Values.{Heap}
 use Rattle.jvm_program.specs.Effect.{Workspace, with_operands}
 use Rattle.jvm_program.specs.Stretch.{caller_workspace}
@@ -31,7 +28,7 @@ use Rattle.guest_code.specs.Helpers.{store_helper}
 use Rattle.mem_helpers.specs.Methods.{helper_code}
 use Rattle.lawful_units.specs.Knowing.{IsKnown}
 use Rattle.guest_follows.specs.Outcomes.{Gives}
-use Rattle.guest_follows.specs.Helpers.{HasHelpers, helper_parameters}
+use Rattle.guest_follows.specs.Helpers.{helper_parameters}
 use Rattle.guest_follows.specs.Holding.{HoldsOn}
 use Rattle.guest_follows.proofs.RegisterLaws.Reading.{known-word}
 use Rattle.guest_follows.specs.Sites.{Site}
@@ -39,7 +36,7 @@ use Rattle.guest_follows.specs.Behind.{IsDone}
 use Rattle.guest_follows.proofs.GuestFollows.Ends.{Ends}
 use Rattle.guest_follows.proofs.GuestFollows.CodeLaws.{CodeLaws}
 use Rattle.guest_follows.proofs.RegisterLaws.Beside.{agree-but, agree-itself, beside, beside-held}
-use Rattle.mem_helpers_laws.specs.Storing.{HoldsTables, EndsStore, LeavesMemory, given_to_store, store_turns, store_fault_turns}
+use Rattle.mem_helpers_laws.specs.Storing.{EndsFaultyStores, StoresAreDone, HoldsTables, EndsStore, LeavesMemory, given_to_store, store_turns, store_fault_turns}
 use Rattle.guest_code_laws.specs.Instructions.{IsReady, InstructionFollows}
 use Rattle.guest_code_laws.proofs.InstructionLaws.Results.{CodeFollows}
 use Rattle.guest_code_laws.proofs.AccessLaws.Arranging.{Brings, given_code, address-brought, register-brought, register-within, address-within, enters-with-three}
@@ -92,9 +89,8 @@ module _ (laws : CodeLaws) (site : Site) (bank : ℕ) (known : ℕ → Bool) (at
 -- ---- the laws of the methods that store
 
 pub record StoreLaws : Type 0 where
-  pub unaligned : (program : Program) (words pc value a : ℕ) (name : StoreName) (order : Order) (w : Workspace) → HasHelpers program order → IsWord a → store_aligned name a ≡ false → EndsStore program words order (store_helper name) (given_to_store value a pc) w write_align_fault pc a
-  pub refused : (program : Program) (words pc value a readable writable : ℕ) (name : StoreName) (order : Order) (memory : Memory) (w : Workspace) → HasHelpers program order → IsWord a → HoldsTables w readable writable memory → store_aligned name a ≡ true → store_allowed name order memory a ≡ false → EndsStore program words order (store_helper name) (given_to_store value a pc) w write_refused_fault pc a
-  pub stores : (program : Program) (words pc value a readable writable : ℕ) (name : StoreName) (order : Order) (memory : Memory) (w : Workspace) → IsWord value → IsWord a → HoldsTables w readable writable memory → store_aligned name a ≡ true → store_allowed name order memory a ≡ true → Gives program words store_turns (helper_code order (store_helper name)) (given_to_store value a pc) w None (LeavesMemory w readable writable (stored name order memory a value))
+  pub faulty : (name : StoreName) → EndsFaultyStores name (store_helper name)
+  pub stores : StoresAreDone
 
 pub tables : (bank : ℕ) (known : ℕ → Bool) (w : Workspace) (s : State) (h : HoldsOn bank known w s) → HoldsTables w h.readable h.writable s.memory
 tables bank known w s h = record { readable_is = h.readable_is; writable_is = h.writable_is; held = h.memory_held }
@@ -123,11 +119,12 @@ module _ (laws : CodeLaws) (stores : StoreLaws) (name : StoreName) (rs rt imm : 
       let t = record s { memory = stored name s.order s.memory a value } in
       store-follows-by laws site bank known at w s ready h (store_helper name) rs rt imm (is-helper name) (has-three name) is it [] [] lies
       (store_aligned name a) (store_allowed name s.order s.memory a) t
-      (λ test. stores.unaligned site.program site.words s.pc value a name s.order w ready.helpers a_word test)
-      (λ aligned test. stores.refused site.program site.words s.pc value a h.readable h.writable name s.order s.memory w ready.helpers a_word (tables bank known w s h) aligned test)
+      (λ test. (stores.faulty name).unaligned site.program site.words s.pc value a s.order w ready.helpers a_word test)
+      (λ aligned test. (stores.faulty name).refused site.program site.words s.pc value a h.readable h.writable s.order s.memory w ready.helpers a_word (tables bank known w s h) aligned test)
       (λ aligned allowed.
       gives-as laws site bank known at w s ready h (store_helper name) rs rt imm (is-helper name) (has-three name) is it [] [] lies None (LeavesMemory w h.readable h.writable (stored name s.order s.memory a value)) (advanced t)
-      (stores.stores site.program site.words s.pc value a h.readable h.writable name s.order s.memory w value_word a_word (tables bank known w s h) aligned allowed)
+      (stores.stores site.program site.words s.pc value a h.readable h.writable name s.order s.memory w value_word
+      (record { is_word = a_word; held = tables bank known w s h; aligned = aligned; allowed = allowed }))
       (λ back leaves.
       let agrees = agree-but w.fields back.fields (λ f no_hi no_lo no_link no_linked. ap (λ (fields : ℕ → Value). fields f) leaves.0) in
       nothing-behind site bank known w back.fields back.heap agrees t

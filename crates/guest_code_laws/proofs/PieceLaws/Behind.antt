@@ -69,24 +69,25 @@ module _ (site : Site) (middle high most extra later : ℕ) (total more all : (I
   last-before (asks q next) used place (ends f) last = absurd last
   last-before (asks q next) used place (leaves r f) last = absurd last
 
-  turn-before : (low least : ℕ) (guest : Turn State) (x : machine.State)
+  turn-before : middle ≤ high → (low least : ℕ) (guest : Turn State) (x : machine.State)
       → ComesToTurn site low middle least most total (LastTurn site middle most total First guest) x
       → ComesToTurn site low high least later all (LastTurn site high later all Then guest) x
-  turn-before low least guest x c = record {
+  turn-before ordered low least guest x c = record {
     turns = c.turns;
     before = c.before;
     place = c.place;
     path = path-wider site.program site.words site.method low c.place low c.place c.turns total all x c.before (omega arith) (omega arith)
         (λ weight still. let a = weighs weight in omega (arith, a)) c.path;
     is_there = c.is_there;
+    below = let a = c.below in omega (arith, a, ordered);
     no_sooner = c.no_sooner;
     in_time = let few = c.in_time in omega (arith, few, in_time);
     last = last-before guest (c.turns + 1) c.place (turn_in site c.before) c.last;
   }
 
-  pub follows-before : (low least : ℕ) (guest : Turn State) (x : machine.State) → Follows site low middle least most total First x guest
+  pub follows-before : middle ≤ high → (low least : ℕ) (guest : Turn State) (x : machine.State) → Follows site low middle least most total First x guest
       → Follows site low high least later all Then x guest
-  follows-before low least (moves t) x c =
+  follows-before ordered low least (moves t) x c =
       let d = end-before low least most t x c in
       record {
         turns = d.turns;
@@ -96,9 +97,9 @@ module _ (site : Site) (middle high most extra later : ℕ) (total more all : (I
         in_time = let few = d.in_time in omega (arith, few, in_time);
         arrives = d.arrives;
       }
-  follows-before low least (ends e) x c = turn-before low least (ends e) x c
-  follows-before low least (leaves q e) x c = turn-before low least (leaves q e) x c
-  follows-before low least (asks q next) x c = turn-before low least (asks q next) x c
+  follows-before ordered low least (ends e) x c = turn-before ordered low least (ends e) x c
+  follows-before ordered low least (leaves q e) x c = turn-before ordered low least (leaves q e) x c
+  follows-before ordered low least (asks q next) x c = turn-before ordered low least (asks q next) x c
 
 -- ---- code in three parts, of which the one in the middle follows
 
@@ -125,7 +126,7 @@ module _ (site : Site) (order : Order) (at k : ℕ) (front middle back : List St
       let few = c.in_time in
       let rest = follows-before site second_end third_end (132 * k) 62 (132 * k + 62) (whole_weight order middle) (whole_weight order back)
       (whole_weight order (middle ++ back)) (omega arith) (λ weight. let a = whole-both order weight middle back in omega (arith, a)) (Runs v)
-      Then (λ u t runs. behind v u t c.arrives runs) first_end k last (stands site first_end v) (follows v c.arrives) in
+      Then (λ u t runs. behind v u t c.arrives runs) (omega arith) first_end k last (stands site first_end v) (follows v c.arrives) in
       let outer = size-both front (middle ++ back) in
       let inner = size-both middle back in
       let end : third_end ≡ at + size (front ++ (middle ++ back)) = omega (arith, outer, inner) in

@@ -160,6 +160,7 @@ module _ (site : Site) (order : Order) (at : ℕ) (first second : List Step) (w 
     path = path-wider site.program site.words site.method at c.place at c.place c.turns (whole_weight order first) all (stands site at w) c.before
         (omega arith) (omega arith) (λ weight still. let a = whole-both order weight first second in omega (arith, a)) c.path;
     is_there = c.is_there;
+    below = let a = c.below in omega (arith, a);
     no_sooner = c.no_sooner;
     in_time = c.in_time;
     last = ends-alike e (c.turns + 1) c.place (turn_in site c.before) c.last;

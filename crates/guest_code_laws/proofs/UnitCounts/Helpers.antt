@@ -10,12 +10,9 @@ use Rattle.mips_decode.specs.declared.names.product_name.ProductName.{ProductNam
 use Rattle.mips_decode.specs.declared.names.product_name.ProductName.TheVariants.{Mult, Multu, Div, Divu}
 use Rattle.guest_code.specs.Helpers.{load_helper, store_helper, product_helper, load_linked_helper, store_conditional_helper}
 use Rattle.mem_helpers.specs.Methods.{helper_code}
-use Rattle.mem_helpers.specs.Loads.{read_fault_number}
-use Rattle.mem_helpers.specs.Stores.{write_fault_number}
 use Rattle.code_paths.specs.Paths.{weigh}
 use Rattle.guest_follows.specs.Sites.{helper_weight}
-use Rattle.mem_helpers_laws.specs.LoadCounting.{Reads}
-use Rattle.mem_helpers_laws.specs.StoreCounting.{words_read}
+use Rattle.mem_helpers_laws.specs.Counting.{CountsReads, LoadsRead, StoresRead, words_read}
 use Rattle.guest_code_laws.specs.Counting.{Counts, SparesHelpers}
 use Rattle.guest_code_laws.proofs.UnitCounts.Weights.{strange, known-entries}
 
@@ -67,19 +64,14 @@ products-call order Divu = refl
 
 -- what helper methods read
 pub record HelperReads : Type 0 where
-  pub loads : (order : Order) (name : LoadName) → Reads 1 (helper_code order (load_helper name))
-  pub linked : (order : Order) → Reads 1 (helper_code order load_linked_helper)
-  pub read_faults : (order : Order) → Reads 0 (helper_code order read_fault_number)
-  pub stores : (order : Order) (name : StoreName) → Reads (words_read name) (helper_code order (store_helper name))
-  pub conditional : (order : Order) → Reads 0 (helper_code order store_conditional_helper)
-  pub products : (order : Order) (name : ProductName) → Reads 0 (helper_code order (product_helper name))
-  pub write_faults : (order : Order) → Reads 0 (helper_code order write_fault_number)
+  pub loads : LoadsRead
+  pub stores : StoresRead
 
 module _ (helpers : HelperReads) (is_span : ℕ → Bool) (spares : SparesHelpers is_span) (order : Order) where
-  helper-counts : (n h : ℕ) → Reads n (helper_code order h) → CallsHelpers order h → Counts is_span n 0 (λ weight. helper_weight order weight h)
+  helper-counts : (n h : ℕ) → CountsReads n (helper_code order h) → CallsHelpers order h → Counts is_span n 0 (λ weight. helper_weight order weight h)
   helper-counts n h is calls =
-      let r = helpers.read_faults order in
-      let w = helpers.write_faults order in
+      let r = helpers.loads.faults order in
+      let w = helpers.stores.faults order in
       let a = known-entries is_span spares (helper_code order h) calls in
       let b = known-entries is_span spares (helper_code order 18) refl in
       let c = known-entries is_span spares (helper_code order 19) refl in
@@ -91,19 +83,19 @@ module _ (helpers : HelperReads) (is_span : ℕ → Bool) (spares : SparesHelper
       }
 
   pub load-counts : (name : LoadName) → Counts is_span 1 0 (λ weight. helper_weight order weight (load_helper name))
-  load-counts name = helper-counts 1 (load_helper name) (helpers.loads order name) (loads-call order name)
+  load-counts name = helper-counts 1 (load_helper name) (helpers.loads.loads order name) (loads-call order name)
 
   pub linked-counts : Counts is_span 1 0 (λ weight. helper_weight order weight load_linked_helper)
-  linked-counts = helper-counts 1 load_linked_helper (helpers.linked order) (linked-calls order)
+  linked-counts = helper-counts 1 load_linked_helper (helpers.loads.linked order) (linked-calls order)
 
   pub store-counts : (name : StoreName) → Counts is_span (words_read name) 0 (λ weight. helper_weight order weight (store_helper name))
-  store-counts name = helper-counts (words_read name) (store_helper name) (helpers.stores order name) (stores-call order name)
+  store-counts name = helper-counts (words_read name) (store_helper name) (helpers.stores.stores order name) (stores-call order name)
 
   pub conditional-counts : Counts is_span 0 0 (λ weight. helper_weight order weight store_conditional_helper)
-  conditional-counts = helper-counts 0 store_conditional_helper (helpers.conditional order) (conditional-calls order)
+  conditional-counts = helper-counts 0 store_conditional_helper (helpers.stores.conditional order) (conditional-calls order)
 
   pub product-counts : (name : ProductName) → Counts is_span 0 0 (λ weight. helper_weight order weight (product_helper name))
-  product-counts name = helper-counts 0 (product_helper name) (helpers.products order name) (products-call order name)
+  product-counts name = helper-counts 0 (product_helper name) (helpers.stores.products order name) (products-call order name)
 
 -- ---- their numbers
 

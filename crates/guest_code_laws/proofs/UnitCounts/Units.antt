@@ -26,8 +26,8 @@ use Rattle.guest_follows.specs.Holding.{HoldsOn}
 use Rattle.guest_follows.specs.Sites.{Site, whole_weight}
 use Rattle.guest_follows.proofs.GuestFollows.Weights.{whole-both}
 use Rattle.guest_code_laws.specs.Instructions.{IsReady}
-use Rattle.guest_code_laws.specs.Units.{UnitArrives, UnitFollows}
-use Rattle.guest_code_laws.specs.Past.{FollowsPast}
+use Rattle.guest_code_laws.specs.Units.{AllUnitsFollow}
+use Rattle.guest_code_laws.specs.Past.{SlotsArePassedOver}
 use Rattle.guest_code_laws.specs.Counting.{Counts, SparesHelpers, words_read_by, unit_reads, ReadsNoneToCall, UnitCounts}
 use Rattle.guest_code_laws.proofs.UnitCounts.Weights.{quiet-whole, counts-fewer, counts-nothing, quiet-counts}
 use Rattle.guest_code_laws.proofs.UnitCounts.Helpers.{HelperReads}
@@ -75,8 +75,8 @@ done-reads i s = zero-reads (done i s)
 -- the laws that are needed
 pub record CountLaws : Type 1 where
   pub helpers : HelperReads
-  pub follow : (unit : Unit) → IsLawful unit → UnitFollows unit
-  pub past : (i slot : Inst) (site : Site) (order : Order) (bank : ℕ) (known : ℕ → Bool) (at : ℕ) (w : Workspace) (x : State) → IsLawful (units.Branch i slot) → LiesAt site.program site.method at (unit_code bank (units.Branch i slot) x.pc) → KnownByUnit known (units.Branch i slot) → HoldsOn bank known w x → turn_count (unit_turns (units.Branch i slot) x) ≡ 1 → FollowsPast site order at (unit_code bank (units.Branch i slot) x.pc) (instruction_code bank slot (next_address x.pc)) (UnitArrives bank known (units.Branch i slot) w) w (unit_turns (units.Branch i slot) x)
+  pub follow : AllUnitsFollow
+  pub past : SlotsArePassedOver
 
 module _ (laws : CountLaws) (site : Site) (order : Order) (bank : ℕ) (known : ℕ → Bool) (at : ℕ) (w : Workspace) (x : State) (is_span : ℕ → Bool) (ready : IsReady site order) (order_is : x.order ≡ order) (h : HoldsOn bank known w x) (spares : SparesHelpers is_span) where
   -- a unit whose code is counted whole

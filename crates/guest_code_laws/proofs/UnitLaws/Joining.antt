@@ -60,6 +60,7 @@ module _ (site : Site) (high : ℕ) (total all : (Instruction → ℕ) → ℕ) 
     place = c.place;
     path = path-wider site.program site.words site.method low c.place low c.place c.turns total all x c.before (omega arith) (omega arith) (λ weight still. weighs weight) c.path;
     is_there = c.is_there;
+    below = c.below;
     no_sooner = c.no_sooner;
     in_time = c.in_time;
     last =
@@ -95,6 +96,7 @@ module _ (site : Site) (low middle high n least most sooner later : ℕ) (first 
     path = path-wider site.program site.words site.method low c.place low c.place (n + c.turns) (λ weight. first weight + total weight) all x c.before (omega arith) (omega arith) (λ weight still. weighs weight)
         (paths-join site.program site.words site.method low middle c.place n c.turns first total x y c.before path c.path);
     is_there = c.is_there;
+    below = c.below;
     no_sooner = let a = c.no_sooner in omega (arith, a, no_sooner);
     in_time = let a = c.in_time in omega (arith, a, in_time);
     last =

@@ -7,9 +7,8 @@ use Rattle.mips_decode.specs.State.{State}
 use Rattle.mips_decode.specs.Effect.{fetch_fault, branch_in_slot_fault}
 use Rattle.mips_decode.specs.Step.{into_slot, past_slot, faulted}
 use Rattle.mips_decode.specs.declared.inst.Inst.{Inst}
-use Rattle.delay_slots.specs.declared.unit.Unit.{Unit}
 use Rattle.delay_slots.specs.declared.unit.Unit.TheVariants as units
-use Rattle.delay_slots.specs.Turns.{UnitTurns, done, then_slot, turn_count, last_turn, unit_turns}
+use Rattle.delay_slots.specs.Turns.{UnitTurns, done, then_slot, turn_count, last_turn}
 use Rattle.block_builder.specs.Registers.{Register, general, special, read_by, written_by}
 use Rattle.jvm_program.specs.declared.value.Value.TheVariants.{Int as int}
 use Rattle.jvm_program.specs.declared.instruction.Instruction.{Instruction}
@@ -19,10 +18,10 @@ use Rattle.code_steps.specs.Widths.{size}
 use Rattle.code_steps.specs.Placing.{LiesAt}
 use Rattle.guest_code.specs.Branching.{transfer_code}
 use Rattle.guest_code.specs.Faulting.{fault_code}
-use Rattle.guest_code.specs.Units.{instruction_code, next_address, unit_code}
+use Rattle.guest_code.specs.Units.{instruction_code, next_address}
 use Rattle.word_emitter.specs.Pieces.{is_likely}
 use Rattle.lawful_units.specs.Knowing.{gaining, AreKnown, gained}
-use Rattle.lawful_units.specs.Lawful.{IsTransfer, IsInstruction, IsLawful, KnownByBranch, KnownByUnit}
+use Rattle.lawful_units.specs.Lawful.{IsTransfer, IsInstruction, KnownByBranch}
 use Rattle.guest_follows.specs.Holding.{HoldsOn}
 use Rattle.guest_follows.specs.Sites.{Site, stands, whole_weight}
 use Rattle.guest_follows.specs.Following.{LastTurn, Follows}
@@ -30,8 +29,8 @@ use Rattle.guest_follows.specs.Behind.{IsDone, HasGone}
 use Rattle.guest_follows.specs.Laws.{PathLaws}
 use Rattle.guest_follows.proofs.GuestFollows.CodeLaws.{CodeLaws, code-laws}
 use Rattle.guest_code_laws.specs.Instructions.{IsReady, most_turns}
-use Rattle.guest_code_laws.specs.Units.{AllFollow, UnitArrives, UnitFollows}
-use Rattle.guest_code_laws.specs.Past.{FollowsPast}
+use Rattle.guest_code_laws.specs.Units.{AllFollow, AllUnitsFollow}
+use Rattle.guest_code_laws.specs.Past.{FollowsPast, SlotsArePassedOver}
 use Rattle.guest_code_laws.proofs.UnitLaws.Goals.{GoesTo, slot-goes}
 use Rattle.guest_code_laws.proofs.UnitLaws.Joining.{follows-wider}
 use Rattle.guest_code_laws.proofs.UnitLaws.Fronts.{PassesOver}
@@ -165,7 +164,7 @@ slot-passed i slot known is knows likely r above below more =
     subst (λ k. k r ≡ true) (sym (link-gained i known is))
     (knows.passed_over likely r above below (subst (λ k. k r ≡ true) (sym (gained-joined (written_by i) (written_by slot) known)) more))
 
-pub unit-follows : PathLaws → AllFollow → (unit : Unit) → IsLawful unit → UnitFollows unit
+pub unit-follows : PathLaws → AllFollow → AllUnitsFollow
 unit-follows laws all (units.Plain i) is = λ site order bank known at w x ready order_is lies knows h.
     all i is.0 site order bank known at w x ready order_is lies is.0.fields knows h
 unit-follows laws all units.Call is = λ site order bank known at w x ready order_is lies knows h.
@@ -203,6 +202,6 @@ unit-follows laws all (units.SlotIsBranch i word) is = λ site order bank known 
     (λ likely r above below more. subst (λ k. k r ≡ true) (sym (link-gained i known is.0)) more)
 
 -- a branch whose slot is passed over
-pub slot-past : PathLaws → (i slot : Inst) → IsLawful (units.Branch i slot) → (site : Site) (order : Order) (bank : ℕ) (known : ℕ → Bool) (at : ℕ) (w : Workspace) (x : State) → LiesAt site.program site.method at (unit_code bank (units.Branch i slot) x.pc) → KnownByUnit known (units.Branch i slot) → HoldsOn bank known w x → turn_count (unit_turns (units.Branch i slot) x) ≡ 1 → FollowsPast site order at (unit_code bank (units.Branch i slot) x.pc) (instruction_code bank slot (next_address x.pc)) (UnitArrives bank known (units.Branch i slot) w) w (unit_turns (units.Branch i slot) x)
-slot-past laws i slot is site order bank known at w x lies knows h one =
+pub slot-past : PathLaws → SlotsArePassedOver
+slot-past laws i slot site order bank known at w x is lies knows h one =
     branch-past laws site order bank known at w x h i is.0 knows.branch (instruction_code bank slot (next_address x.pc)) lies (written_by i ++ written_by slot) (written_by slot) (slot-gained i slot known is.0) (done slot) (slot-passed i slot known is.0 knows) one

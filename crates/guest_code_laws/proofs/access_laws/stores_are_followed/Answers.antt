@@ -4,7 +4,6 @@ use Rattle.guest_code_laws.proofs.access_laws.stores_are_followed.Goals as goal
 
 pub returns : goal.returns
 returns c = store-follows (code-laws c.code_is_paths.ensures) (record {
-  unaligned = c.faulty_stores_end_the_run.ensures.unaligned;
-  refused = c.faulty_stores_end_the_run.ensures.refused;
+  faulty = c.faulty_stores_end_the_run.ensures;
   stores = c.stores_are_done.ensures;
 })

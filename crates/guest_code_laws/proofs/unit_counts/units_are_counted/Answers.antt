@@ -6,13 +6,8 @@ returns c unit site order bank known at w x is_span lawful ready order_is lies k
     unit-counts
     (record {
       helpers = record {
-        loads = c.loads_read_one_word.ensures.loads;
-        linked = c.loads_read_one_word.ensures.linked;
-        read_faults = c.loads_read_one_word.ensures.faults;
-        stores = c.stores_read_at_most_one_word.ensures.stores;
-        conditional = c.stores_read_at_most_one_word.ensures.conditional;
-        products = c.stores_read_at_most_one_word.ensures.products;
-        write_faults = c.stores_read_at_most_one_word.ensures.faults;
+        loads = c.loads_read_one_word.ensures;
+        stores = c.stores_read_at_most_one_word.ensures;
       };
       follow = c.units_are_followed.ensures;
       past = c.slots_are_passed_over.ensures;
