@@ -1,5 +1,5 @@
 -- The method that belongs to an address, among methods by the addresses at which their parts of the code begin.
-use Rattle.std.specs.Prelude.{◌≡◌, ℕ, suc, ◌%◌, ◌^◌, ◌<◌, ◌≤◌, int_lt, Bool, if◌then◌else◌, List, [], ◌∷◌, Some}
+use Rattle.std.specs.Prelude.{◌≡◌, ℕ, suc, ◌%◌, ◌^◌, ◌<◌, ◌≤◌, int_lt, Bool, if◌then◌else◌, List, [], ◌∷◌, length, Some}
 use Rattle.std.specs.List.{All}
 use Rattle.nv_words.specs.Words.{signed_of}
 use Rattle.jvm_program.specs.declared.linked_method.LinkedMethod.{LinkedMethod}
@@ -42,6 +42,14 @@ pub record IsMethod (program : Program) (number : ℕ) : Type 0 where
 
 abbrev pub AreMethods : Program → List Start → Type 0
 AreMethods program starts = All (λ (s : Start). IsMethod program s.method) starts
+
+-- Starts among which a method can be chosen: one at least and so many at most, which rise, each with
+-- a method of the program.
+pub record AreStarts (program : Program) (most : ℕ) (starts : List Start) : Type 0 where
+  pub some : 1 ≤ length starts
+  pub few : length starts ≤ most
+  pub rise : Rise starts
+  pub methods : AreMethods program starts
 
 -- ---- which addresses are followed
 

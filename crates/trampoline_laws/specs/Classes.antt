@@ -12,7 +12,7 @@ use Rattle.span_code.specs.Laying.{span_code}
 use Rattle.trampoline.specs.declared.start.Start.{Start}
 use Rattle.trampoline.specs.Choosers.{class_chooser}
 use Rattle.code_paths.specs.Guest as counted
-use Rattle.trampoline_laws.specs.Choosing.{IsMethod}
+use Rattle.trampoline_laws.specs.Choosing.{IsMethod, IsWithin, Rise}
 
 -- ---- a class
 
@@ -72,6 +72,31 @@ pub record IsClass (c : CodeClass) : Type 0 where
   pub some : 1 ≤ c.count
   pub few : length c.spans ≤ 2048
   pub joined : AreJoined 0 c.spans c.count
+
+-- ---- what follows
+
+-- Its spans begin at addresses that rise. There is one at least, and there are 2048 at most.
+pub record HasRisingSpans (c : CodeClass) : Type 0 where
+  pub rise : Rise (span_starts c)
+  pub some : 1 ≤ length (span_starts c)
+  pub few : length (span_starts c) ≤ 2048
+
+-- The addresses of its words are the multiples of 4 from its first word's address to before its
+-- end, all below address 80000000 (hexadecimal).
+pub record FillsItsAddresses (c : CodeClass) : Type 0 where
+  pub within : (k : ℕ) → k < c.count → IsWithin (address c 0) (end_of c) (address c k)
+  pub only : (x : ℕ) → IsWithin (address c 0) (end_of c) x
+      → (k : ℕ) × (k < c.count) × (x ≡ address c k)
+  pub first_low : address c 0 < 2 ^ 31
+  pub end_low : end_of c < 2 ^ 31
+
+-- A span has a word, and all its words are words of the class, and of the range.
+pub record LiesInClass (c : CodeClass) (j : ℕ) : Type 0 where
+  pub some : 1 ≤ (span_at c j).words
+  pub within : (span_at c j).first + (span_at c j).words ≤ c.count
+  pub in_range : (span_words c j).end ≤ length c.words
+
+-- ---- in a program
 
 -- its methods stand in a program
 pub record HasClass (program : Program) (c : CodeClass) : Type 0 where

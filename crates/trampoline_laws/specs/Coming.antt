@@ -1,14 +1,26 @@
 -- What the code of choosers comes to.
-use Rattle.std.specs.Prelude.{◌≡◌, ℕ, suc, ◌%◌, ◌==◌, ◌≤◌, if◌then◌else◌, List, [], ◌∷◌, slice_get, Some}
+use Rattle.std.specs.Prelude.{◌≡◌, ℕ, suc, ◌+◌, ◌*◌, ◌%◌, ◌^◌, ◌==◌, ◌<◌, ◌≤◌, ◌⊎◌, if◌then◌else◌, List, [], ◌∷◌, length, slice_get, Some, None}
+use Rattle.nv_words.specs.Words.{IsWord}
 use Rattle.nv_events.specs.declared.fault.Fault.{Fault}
 use Rattle.jvm_program.specs.declared.value.Value.TheVariants.{Int as int}
+use Rattle.jvm_program.specs.declared.instruction.Instruction.{Instruction}
 use Rattle.jvm_program.specs.declared.instruction.Instruction.TheVariants.{Call}
 use Rattle.jvm_program.specs.Program.{Program}
-use Rattle.jvm_program.specs.Effect.{Workspace, Effect, enters, with_operands, with_local}
+use Rattle.jvm_program.specs.Effect.{Workspace, Effect, enters, gives, faults, with_operands, with_local}
+use Rattle.jvm_program.specs.Step.{State, Frame, placed}
 use Rattle.mips_decode.specs.Effect.{fetch_fault, pc_align_fault}
 use Rattle.code_steps.specs.declared.step.Step.{Step}
 use Rattle.code_steps.specs.declared.step.Step.TheVariants.{Does}
-use Rattle.code_steps.specs.Outcomes.{Outcome, outcome, outcome_from, left, stopped}
+use Rattle.code_steps.specs.Widths.{bytes_before}
+use Rattle.code_steps.specs.Outcomes.{Outcome, ended, outcome, outcome_from, left, stopped}
+use Rattle.code_steps.specs.Placing.{LiesAt}
+use Rattle.guest_layout.specs.FieldNumbers.{pc_field}
+use Rattle.trampoline.specs.declared.start.Start.{Start}
+use Rattle.trampoline.specs.Trees.{tree}
+use Rattle.trampoline.specs.Choosers.{class_chooser, main_chooser, missing_code}
+use Rattle.code_paths.specs.Paths.{Path}
+use Rattle.trampoline_laws.specs.Choosing.{AreStarts, IsMethod, IsReached, IsWithin, Rise, chosen}
+use Rattle.trampoline_laws.specs.Weights.{beside_calls, turns_of}
 
 -- It stops within so many instructions, with a workspace and an effect.
 pub record Stops (program : Program) (words most : ℕ) (code : List Step) (w v : Workspace)
@@ -51,3 +63,113 @@ stray_fault x = record { kind = stray_kind x; pc = x; value = x }
 -- the kind, the pc and the value on the stack, where the address is in local variable 0
 abbrev pub with_stray : Workspace → ℕ → Workspace
 with_stray w x = with_operands (with_address w x) (int x ∷ int x ∷ int (stray_kind x) ∷ w.operands)
+
+-- ---- trees
+
+-- The tree calls the method of the last start that is not above the address in local variable 0, or
+-- the first one's where all are, with three instructions a level; behind the call it ends, with one
+-- a level.
+abbrev pub TreesChoose : Type 0
+TreesChoose =
+    (program : Program) (words levels x : ℕ) (starts : List Start) (w : Workspace)
+    → AreStarts program (2 ^ levels) starts
+    → IsWord x → w.locals 0 ≡ int x
+    → Calls program words (3 * levels) (tree starts) w w (chosen starts x) levels ended
+
+-- ---- choosers, by the address in field pc
+
+-- That of a class calls the method that belongs to the address, where this is one of the class's
+-- words, and is then begun anew.
+abbrev pub ClassChoosersCall : Type 0
+ClassChoosersCall =
+    (program : Program) (words first end x : ℕ) (starts : List Start) (w : Workspace)
+    → AreStarts program 2048 starts
+    → end < 2 ^ 31
+    → w.fields pc_field ≡ int x → IsWithin first end x
+    → Calls program words 45 (class_chooser starts first end) w (with_address w x)
+    (chosen starts x) 12 begins_anew
+
+-- Else it returns.
+abbrev pub ClassChoosersReturn : Type 0
+ClassChoosersReturn =
+    (program : Program) (words first end x : ℕ) (starts : List Start) (w : Workspace)
+    → first < 2 ^ 31 → end < 2 ^ 31
+    → IsWord x → w.fields pc_field ≡ int x → (IsWithin first end x → ⊥)
+    → Stops program words 12 (class_chooser starts first end) w (with_address w x)
+    (gives None (with_address w x))
+
+-- That of the whole program calls the method that belongs to the address, where this is a word's
+-- address that is not below all starts, and is then begun anew.
+abbrev pub MainChoosersCall : Type 0
+MainChoosersCall =
+    (program : Program) (words missing x : ℕ) (starts : List Start) (w : Workspace)
+    → AreStarts program 2048 starts
+    → w.fields pc_field ≡ int x → IsReached starts x
+    → Calls program words 42 (main_chooser starts missing) w (with_address w x)
+    (chosen starts x) 12 begins_anew
+
+-- Else it calls the method for addresses outside all code.
+abbrev pub MainChoosersStray : Type 0
+MainChoosersStray =
+    (program : Program) (words missing x : ℕ) (starts : List Start) (w : Workspace)
+    → 1 ≤ length starts → Rise starts
+    → IsMethod program missing
+    → IsWord x → w.fields pc_field ≡ int x → (IsReached starts x → ⊥)
+    → Calls program words 9 (main_chooser starts missing) w (with_address w x) missing 1 begins_anew
+
+-- This method ends the run in the fault of the address.
+abbrev pub StraysFault : Type 0
+StraysFault =
+    (program : Program) (words x : ℕ) (w : Workspace)
+    → w.fields pc_field ≡ int x
+    → Stops program words 10 missing_code w (with_stray w x) (faults (stray_fault x))
+
+-- ---- one round of a chooser
+
+-- That of a class makes one choice, and calls its method once, where the address is one of the class's words; else it makes none, and returns.
+abbrev pub ClassRound : Program → (words first end x : ℕ) → List Start → Workspace → Type 0
+ClassRound program words first end x starts w =
+    (IsWithin first end x
+    × Calls program words 45 (class_chooser starts first end) w (with_address w x)
+    (chosen starts x) 12 begins_anew)
+    ⊎ ((IsWithin first end x → ⊥)
+    × Stops program words 12 (class_chooser starts first end) w (with_address w x)
+    (gives None (with_address w x)))
+
+-- That of the whole program makes one choice where the address is a word's that is not below all starts; else it makes none, and calls the method
+-- for addresses outside all code.
+abbrev pub MainRound : Program → (words missing x : ℕ) → List Start → Workspace → Type 0
+MainRound program words missing x starts w =
+    (IsReached starts x
+    × Calls program words 42 (main_chooser starts missing) w (with_address w x)
+    (chosen starts x) 12 begins_anew)
+    ⊎ ((IsReached starts x → ⊥)
+    × Calls program words 9 (main_chooser starts missing) w (with_address w x) missing 1
+    begins_anew)
+
+-- Each round makes one choice or none, and which is told by the address in field pc. Until it calls, fields, arrays and operands are as they were.
+pub record ChoosersChooseOnce : Type 0 where
+  pub class : (program : Program) (words first end x : ℕ) (starts : List Start) (w : Workspace)
+      → AreStarts program 2048 starts
+      → first < 2 ^ 31 → end < 2 ^ 31
+      → IsWord x → w.fields pc_field ≡ int x
+      → ClassRound program words first end x starts w
+  pub main : (program : Program) (words missing x : ℕ) (starts : List Start) (w : Workspace)
+      → AreStarts program 2048 starts
+      → IsMethod program missing
+      → IsWord x → w.fields pc_field ≡ int x
+      → MainRound program words missing x starts w
+
+-- ---- until they call
+
+-- As long as code goes on it makes no call: a path through it to where it stops weighs nothing for
+-- calls.
+abbrev pub PathsMakeNoCalls : Type 0
+PathsMakeNoCalls =
+    (program : Program) (words own m low high at k n : ℕ) (total : (Instruction → ℕ) → ℕ)
+    (code : List Step) (w : Workspace) (others : List Frame) (y : State)
+    → LiesAt program own at code
+    → turns_of (outcome_from program words code k w) ≡ n
+    → Path program words m low high n total (placed own (at + bytes_before code k) w others) y
+    → Path program words m low high n (λ weight. total (beside_calls weight))
+    (placed own (at + bytes_before code k) w others) y

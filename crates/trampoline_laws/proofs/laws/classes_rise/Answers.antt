@@ -1,8 +1,8 @@
 use Rattle.trampoline_laws.proofs.TrampolineLaws.Programs.{rise, some}
 use Rattle.trampoline_laws.proofs.laws.classes_rise.Goals as goal
 
-pub returns-clause-rise : goal.returns-clause-rise
-returns-clause-rise c = rise
-
-pub returns-clause-some : goal.returns-clause-some
-returns-clause-some c = some
+pub returns : goal.returns
+returns c program order choose missing classes code t = record {
+  rise = rise program order choose missing classes code t;
+  some = some program order choose missing classes code t;
+}

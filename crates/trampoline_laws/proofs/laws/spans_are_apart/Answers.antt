@@ -4,11 +4,10 @@ use Rattle.trampoline_laws.proofs.TrampolineLaws.Programs.{are-classes}
 use Rattle.trampoline_laws.proofs.TrampolineLaws.Apart.{one-span-turned, none-has-both}
 use Rattle.trampoline_laws.proofs.laws.spans_are_apart.Goals as goal
 
-pub returns-clause-out : goal.returns-clause-out
-returns-clause-out c program order choose missing classes code n a j x y t at below held apart =
-    none-has-both classes n a j x y (are-classes program order choose missing classes code t) t.ordered at below held apart
-
-pub returns-clause-into : goal.returns-clause-into
-returns-clause-into c program order choose missing classes code n a j x y t at below apart held =
-    one-span-turned x y (counted_spans classes)
-    ∙ none-has-both classes n a j y x (are-classes program order choose missing classes code t) t.ordered at below held apart
+pub returns : goal.returns
+returns c program order choose missing classes code t n a j at below =
+    let are = are-classes program order choose missing classes code t in
+    record {
+      out = λ x y held apart. none-has-both classes n a j x y are t.ordered at below held apart;
+      into = λ x y apart held. one-span-turned x y (counted_spans classes) ∙ none-has-both classes n a j y x are t.ordered at below held apart;
+    }
