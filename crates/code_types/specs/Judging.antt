@@ -1,5 +1,5 @@
 -- The types with which each step of code is entered, from the list alone.
-use Rattle.std.specs.Prelude.{◌≡◌, ℕ, ◌≤◌, ◌==◌, Bool, true, false, length, take, ◌&&◌, nat_le, List, [], ◌∷◌, ◌++◌, slice_get, Option, Some, None, All, ⊤}
+use Rattle.std.specs.Prelude.{◌≡◌, ℕ, ◌+◌, ◌≤◌, ◌==◌, Bool, true, false, length, map, take, ◌&&◌, nat_le, List, [], ◌∷◌, ◌++◌, slice_get, Option, Some, None, All, ⊤}
 use Rattle.std.specs.List.{flat_map}
 use Rattle.jvm_names.specs.declared.branch_name.BranchName.{BranchName}
 use Rattle.jvm_names.specs.declared.branch_name.BranchName.TheVariants.{Goto}
@@ -112,6 +112,31 @@ is_no_switch s = true
 -- Where a frame is owed at an offset, one above is owed at the other offset.
 abbrev pub Carries : (ℕ → ℕ) → Rules → Rules → Type 0
 Carries to old new = (at : ℕ) (f : TypeFrame) → Meets f (old.owes at) → Meets f (new.owes (to at))
+
+-- Code without a switch that leaves to other offsets is typed, where above what was owed is owed
+-- there.
+abbrev pub RedirectedCodeIsTyped : Type 0
+RedirectedCodeIsTyped =
+    (program : Program) (old new : ℕ → Option TypeFrame) (to : ℕ → ℕ) (code : List Step)
+    (from : TypeFrame) (behind : List TypeFrame)
+    → let before : Rules = record { program = program; owes = old } in
+    let after : Rules = record { program = program; owes = new } in
+    Carries to before after → All (λ s. is_no_switch s ≡ true) code
+    → TypesFrom before code from behind
+    → TypesFrom after (map (redirected to) code) from behind
+
+-- ---- ways that join
+
+-- A branch over code for one of its ways, which goes over the code for the other one, is typed
+-- where both are.
+abbrev pub EitherWayIsTyped : Type 0
+EitherWayIsTyped =
+    (rules : Rules) (name : BranchName) (first second : List Step) (from between to : TypeFrame)
+    (k j : ℕ)
+    → IsTest name from between → is_plain_frame to ≡ true
+    → k ≡ length first + 1 → j ≡ length second
+    → Leads rules first between to → Leads rules second between to
+    → Leads rules (Skips name k ∷ (first ++ Skips Goto j ∷ second)) from to
 
 -- ---- parts that are entered and left with one frame, one after the other
 

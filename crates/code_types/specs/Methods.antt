@@ -1,11 +1,13 @@
 -- The bodies of methods that are typed, by what they take.
-use Rattle.std.specs.Prelude.{◌≡◌, ℕ, ◌==◌, ◌<◌, true, false, if◌then◌else◌, List, [], ◌∷◌, Option, Some, None, All, slice_index_or}
+use Rattle.std.specs.Prelude.{◌≡◌, ℕ, ◌==◌, ◌<◌, ◌≤◌, true, false, if◌then◌else◌, List, [], ◌∷◌, length, Option, Some, None, All, slice_index_or}
 use Rattle.nv_words.specs.declared.order.Order.{Order}
 use Rattle.jvm_program.specs.declared.kind.Kind.{Kind}
 use Rattle.jvm_program.specs.declared.kind.Kind.TheVariants.{Top, Int, Ints, Text}
+use Rattle.jvm_program.specs.declared.linked_method.LinkedMethod.{LinkedMethod}
 use Rattle.jvm_program.specs.Program.{Program}
-use Rattle.jvm_program.specs.Typing.{TypeFrame, with_local_kind}
+use Rattle.jvm_program.specs.Typing.{TypeFrame, Typed, with_local_kind}
 use Rattle.code_steps.specs.declared.step.Step.{Step}
+use Rattle.code_steps.specs.Placing.{laid}
 use Rattle.mem_helpers.specs.Methods.{helper_code}
 use Rattle.trampoline.specs.declared.start.Start.{Start}
 use Rattle.trampoline.specs.Choosers.{class_chooser, main_chooser}
@@ -16,7 +18,7 @@ use Rattle.loading_code.specs.Pages.{runs_offset, pages_offset}
 use Rattle.loading_code.specs.Filling.{fill_code}
 use Rattle.loading_code.specs.Starting.{run_code}
 use Rattle.guest_follows.specs.Helpers.{helper_parameters, helper_count}
-use Rattle.code_types.specs.Judging.{TakesGives}
+use Rattle.code_types.specs.Judging.{TakesGives, most_operands}
 use Rattle.code_types.specs.Bodies.{BodyTypes, all_names_below}
 use Rattle.code_types.specs.Knowing.{HelperTypes}
 
@@ -37,6 +39,16 @@ owes_nothing at = None
 -- a body that is begun anew
 abbrev pub owes_beginning : ℕ → Option TypeFrame
 owes_beginning at = if at == 0 then Some (taking []) else None
+
+-- A method that is laid down from such a body, with room for its operands and parameters, has a
+-- typing.
+abbrev pub BodiesHaveTypings : Type 0
+BodiesHaveTypings =
+    (program : Program) (owes : ℕ → Option TypeFrame) (method : LinkedMethod) (code : List Step)
+    → method.lines ≡ laid 0 code
+    → length method.parameters ≤ method.locals → most_operands ≤ method.stack
+    → IsBody program owes method.parameters method.locals code
+    → Typed program method
 
 -- ---- helpers
 

@@ -1,13 +1,15 @@
 -- The method of a span as a body that is typed.
-use Rattle.std.specs.Prelude.{ℕ, ◌==◌, Bool, if◌then◌else◌, List, [], ◌∷◌, Option, Some, None}
+use Rattle.std.specs.Prelude.{ℕ, ◌≤◌, ◌==◌, All, Bool, if◌then◌else◌, List, [], ◌∷◌, length, Option, Some, None}
 use Rattle.std.specs.List.{list_any}
+use Rattle.nv_words.specs.Words.{IsWord}
 use Rattle.delay_slots.specs.declared.unit.Unit.{Unit}
+use Rattle.delay_slots.specs.Units.{HasNoFloat, units_of}
 use Rattle.jvm_program.specs.Program.{Program}
 use Rattle.jvm_program.specs.Typing.{TypeFrame}
 use Rattle.span_code.specs.declared.span_words.SpanWords.{SpanWords}
 use Rattle.span_code.specs.Laying.{targets_of, return_offset, span_code}
 use Rattle.span_code.specs.Locals.{locals_of}
-use Rattle.code_types.specs.Knowing.{unknown}
+use Rattle.code_types.specs.Knowing.{HelperTypes, unknown}
 use Rattle.code_types.specs.Methods.{IsBody}
 
 -- the offsets to which the switch of a span goes, and all code behind it: those of the codes of the words, and that of the return
@@ -23,3 +25,11 @@ abbrev pub SpanTyped : Program → List Unit → (ℕ → Bool) → SpanWords �
 SpanTyped program units leads span =
     IsBody program (owes_unknown (goals_of units leads span)) []
     (locals_of (span_code units leads span)) (span_code units leads span)
+
+-- It is so for the words of a range that are not of the floating point unit.
+abbrev pub SpansAreTyped : Type 0
+SpansAreTyped =
+    (program : Program) (words : List ℕ) (leads : ℕ → Bool) (span : SpanWords)
+    → HelperTypes program
+    → All IsWord words → HasNoFloat words → span.end ≤ length words
+    → SpanTyped program (units_of words) leads span

@@ -1,15 +1,11 @@
 //! What holds of code that is typed. Each call here does nothing: its contract is the law.
 
-ghost use Rattle.std.specs.Prelude.{◌≡◌, ℕ, ◌+◌, ◌++◌, ◌∷◌, [], All, List, Option, Some, length, map, slice_get, true};
+ghost use Rattle.std.specs.Prelude.{◌≡◌, ℕ, ◌++◌, [], All, List, Some, slice_get};
 ghost use Rattle.std.specs.List.{flat_map};
-ghost use Rattle.jvm_names.specs.declared.branch_name.BranchName.{BranchName};
-ghost use Rattle.jvm_names.specs.declared.branch_name.BranchName.TheVariants.{Goto};
 ghost use Rattle.jvm_program.specs.declared.linked_method.LinkedMethod.{LinkedMethod};
-ghost use Rattle.jvm_program.specs.Program.{Program};
 ghost use Rattle.jvm_program.specs.Typing.{Below, TypeFrame, Typed};
 ghost use Rattle.code_steps.specs.declared.step.Step.{Step};
-ghost use Rattle.code_steps.specs.declared.step.Step.TheVariants.{Skips};
-ghost use Rattle.code_types.specs.Judging.{Carries, IsTest, Leads, Meets, PartsTyped, Rules, TypesFrom, is_no_switch, is_plain_frame, redirected};
+ghost use Rattle.code_types.specs.Judging.{EitherWayIsTyped, Leads, Meets, PartsTyped, RedirectedCodeIsTyped, Rules, TypesFrom};
 ghost use Rattle.code_types.specs.Flowing.{Ahead, Flows, FlowsFrom};
 ghost use Rattle.code_types.specs.Bodies.{BodyTypes, HasBody, HasParts, IsAhead};
 
@@ -36,49 +32,44 @@ pub fn loops_are_typed()
 /// Code and other code behind it are typed one after the other.
 pub fn typed_codes_follow_each_other()
     ensures { (rules : Rules) (first second : List Step) (from between : TypeFrame)
-        (behind : List TypeFrame) → Leads rules first from between
-        → TypesFrom rules second between behind → TypesFrom rules (first ++ second) from behind }
+        (behind : List TypeFrame)
+        → Leads rules first from between → TypesFrom rules second between behind
+        → TypesFrom rules (first ++ second) from behind }
 {}
 
 /// A branch over code for one of its ways, which goes over the code for the other one, is typed where both are.
 pub fn either_way_is_typed()
-    ensures { (rules : Rules) (name : BranchName) (first second : List Step)
-        (from between to : TypeFrame) (k j : ℕ) → IsTest name from between
-        → is_plain_frame to ≡ true → k ≡ length first + 1 → j ≡ length second
-        → Leads rules first between to → Leads rules second between to
-        → Leads rules (Skips name k ∷ (first ++ Skips Goto j ∷ second)) from to }
+    ensures { EitherWayIsTyped }
 {}
 
 /// Code may be entered with a frame below, and may be left with one above.
 pub fn frames_may_be_moved()
     ensures entered { (rules : Rules) (code : List Step) (below from : TypeFrame)
-        (behind : List TypeFrame) → Below below from → TypesFrom rules code from behind
+        (behind : List TypeFrame)
+        → Below below from → TypesFrom rules code from behind
         → TypesFrom rules code below behind }
-    ensures left { (rules : Rules) (code : List Step) (from to above : TypeFrame) → Below to above
-        → Leads rules code from to → Leads rules code from above }
+    ensures left { (rules : Rules) (code : List Step) (from to above : TypeFrame)
+        → Below to above → Leads rules code from to
+        → Leads rules code from above }
 {}
 
 /// Code without a switch may leave to other offsets, where above what is owed is owed there.
 pub fn redirected_code_is_typed()
-    ensures { (program : Program) (old new : ℕ → Option TypeFrame) (to : ℕ → ℕ) (code : List Step)
-        (from : TypeFrame) (behind : List TypeFrame)
-        → Carries to (record { program = program; owes = old })
-        (record { program = program; owes = new }) → All (λ s. is_no_switch s ≡ true) code
-        → TypesFrom (record { program = program; owes = old }) code from behind
-        → TypesFrom (record { program = program; owes = new }) (map (redirected to) code)
-        from behind }
+    ensures { RedirectedCodeIsTyped }
 {}
 
 /// Parts that are entered and left with one frame are typed one after the other, and each begins with that frame.
 pub fn parts_are_typed()
     ensures { (rules : Rules) (part : ℕ → List Step) (parts : List ℕ) (f : TypeFrame)
-        (behind : List TypeFrame) → Meets f (slice_get behind 0)
-        → All (λ k. Leads rules (part k) f f) parts → PartsTyped rules part parts f behind }
+        (behind : List TypeFrame)
+        → Meets f (slice_get behind 0) → All (λ k. Leads rules (part k) f f) parts
+        → PartsTyped rules part parts f behind }
 {}
 
 /// A body of parts is typed, where it leaves to offsets between its parts alone.
 pub fn bodies_of_parts_are_typed()
     ensures { (rules : Rules) (front : List Step) (part : ℕ → List Step) (parts : List ℕ)
-        (back : List Step) (entry f : TypeFrame) → HasParts rules front part parts back entry f
+        (back : List Step) (entry f : TypeFrame)
+        → HasParts rules front part parts back entry f
         → BodyTypes rules (front ++ (flat_map part parts ++ back)) entry }
 {}
