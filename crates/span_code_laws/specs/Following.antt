@@ -1,22 +1,28 @@
 -- When the classes follow the turns of a unit, whatever its code is counted to weigh.
-use Rattle.std.specs.Prelude.{ℕ, ◌+◌, ◌*◌, ◌≤◌, Bool, List, []}
+use Rattle.std.specs.Prelude.{◌≡◌, ℕ, ◌+◌, ◌*◌, ◌≤◌, Bool, true, false, List, [], ◌∷◌, ◌++◌}
 use Rattle.nv_words.specs.declared.order.Order.{Order}
 use Rattle.nv_events.specs.Turn.{Turn}
 use Rattle.mips_decode.specs.State.{State}
 use Rattle.delay_slots.specs.declared.unit.Unit.{Unit}
+use Rattle.delay_slots.specs.Units.{units_of}
 use Rattle.delay_slots.specs.Turns.{unit_turns, turn_count, last_turn}
+use Rattle.block_builder.specs.Blocks.{unit_at}
+use Rattle.block_builder.specs.Leaders.{is_plain}
 use Rattle.jvm_program.specs.declared.instruction.Instruction.{Instruction}
 use Rattle.jvm_program.specs.Effect.{Workspace}
 use Rattle.code_steps.specs.Widths.{size}
 use Rattle.guest_code.specs.Units.{unit_code}
+use Rattle.word_emitter.specs.Pieces.{bank_of}
 use Rattle.span_code.specs.declared.span_words.SpanWords.{SpanWords}
+use Rattle.span_code.specs.Pieces.{begins}
 use Rattle.span_code.specs.Laying.{entry_at}
 use Rattle.guest_follows.specs.Sites.{Site, stands, whole_weight}
 use Rattle.guest_follows.specs.Following.{ComesToEnd, Follows}
 use Rattle.guest_code_laws.specs.Units.{UnitArrives}
 use Rattle.span_code_laws.specs.Counting.{SparesMoves}
 use Rattle.span_code_laws.specs.Resuming.{Resumes, FollowsInSpan}
-use Rattle.span_code_laws.specs.InPieces.{StandsInPiece, fetching, offset_in, own_units}
+use Rattle.span_code_laws.specs.Spans.{HasSpan, StandsAt}
+use Rattle.span_code_laws.specs.InPieces.{HasUnit, StandsInPiece, fetching, known_behind, offset_in, own_units}
 
 -- The code of a unit, at an offset and over a bank, follows the unit's turns by paths of such a total.
 abbrev pub UnitFollowsBy : Site → (bank : ℕ) → (ℕ → Bool) → (at : ℕ) → ((Instruction → ℕ) → ℕ)
@@ -46,3 +52,91 @@ pub record EntersPiece (site : Site) (order : Order) (units : List Unit) (leads 
       (whole_weight order (fetching (own_units units leads span k)))
       (λ v. StandsInPiece order units leads span k [] unit rest v x)
       (stands site (entry_at units leads span k) w)
+
+-- ---- words with which no piece begins
+
+-- At such a word the code of its unit lies, over the fields of the registers.
+pub record WordAloneIsFollowed (site : Site) (units : List Unit) (leads : ℕ → Bool)
+    (span : SpanWords) (k : ℕ) (w : Workspace) (x : State) : Type 0 where
+  pub has : HasUnit site units span k 0 (λ r. true) (entry_at units leads span k)
+      (unit_at units k) x
+  -- if it follows the unit's turns, so do the classes, to where they go on
+  pub goes_on : (total : (Instruction → ℕ) → ℕ)
+      → UnitFollowsBy site 0 (λ r. true) (entry_at units leads span k) total (unit_at units k) w x
+      → let turns = unit_turns (unit_at units k) x in
+      UnitGoesOn site units leads span (entry_at units leads span k) (turn_count turns)
+      (132 * turn_count turns + 8) total (unit_at units k) w (last_turn turns)
+
+-- So it is with each word with which no piece begins.
+abbrev pub WordsAloneAreFollowed : Type 0
+WordsAloneAreFollowed =
+    (site : Site) (order : Order) (words : List ℕ) (leads : ℕ → Bool) (span : SpanWords)
+    (k : ℕ) (w : Workspace) (x : State)
+    → HasSpan site words leads span
+    → StandsAt order span k w x
+    → begins leads span k ≡ false
+    → WordAloneIsFollowed site (units_of words) leads span k w x
+
+-- ---- pieces
+
+-- From the code of each word with which a piece begins the classes come to the piece's first unit.
+abbrev pub PiecesAreEntered : Type 0
+PiecesAreEntered =
+    (site : Site) (order : Order) (words : List ℕ) (leads : ℕ → Bool) (span : SpanWords)
+    (k : ℕ) (w : Workspace) (x : State)
+    → HasSpan site words leads span
+    → StandsAt order span k w x
+    → begins leads span k ≡ true
+    → EntersPiece site order (units_of words) leads span k w x
+
+-- What they do until then weighs nothing where moves of values weigh nothing.
+abbrev pub FetchingIsSpared : Type 0
+FetchingIsSpared =
+    (order : Order) (weight : Instruction → ℕ) (piece : List Unit)
+    → SparesMoves weight
+    → whole_weight order (fetching piece) weight ≡ 0
+
+-- The code of a unit of the piece that begins with word k, behind the units that are done, follows
+-- the unit's turns by paths of such a total.
+abbrev pub FollowsInPiece : Site → List Unit → (ℕ → Bool) → SpanWords → ℕ → (front : List Unit)
+    → ((Instruction → ℕ) → ℕ) → Unit → Workspace → State → Type 0
+FollowsInPiece site units leads span k front total unit w x =
+    UnitFollowsBy site (bank_of (own_units units leads span k))
+    (known_behind (own_units units leads span k) front) (offset_in units leads span k front)
+    total unit w x
+
+-- A unit of a piece is Plain where another one follows it.
+pub record InnerUnitIsFollowed (site : Site) (order : Order) (units : List Unit) (leads : ℕ → Bool)
+    (span : SpanWords) (k : ℕ) (front : List Unit) (unit next : Unit) (rest : List Unit)
+    (w : Workspace) (x : State) : Type 0 where
+  pub plain : is_plain unit ≡ true
+  -- if its code follows its turn, the classes come to the next unit
+  pub comes : (total : (Instruction → ℕ) → ℕ)
+      → FollowsInPiece site units leads span k front total unit w x
+      → let done = front ++ unit ∷ [] in
+      Follows site (offset_in units leads span k front) (offset_in units leads span k done)
+      1 132 total (λ v t. StandsInPiece order units leads span k done next rest v t)
+      (stands site (offset_in units leads span k front) w) (last_turn (unit_turns unit x))
+
+-- So it is with each unit that another one follows in its piece.
+abbrev pub InnerUnitsAreFollowed : Type 0
+InnerUnitsAreFollowed =
+    (site : Site) (order : Order) (words : List ℕ) (leads : ℕ → Bool) (span : SpanWords)
+    (k : ℕ) (front : List Unit) (unit next : Unit) (rest : List Unit) (w : Workspace) (x : State)
+    → HasSpan site words leads span
+    → StandsInPiece order (units_of words) leads span k front unit (next ∷ rest) w x
+    → InnerUnitIsFollowed site order (units_of words) leads span k front unit next rest w x
+
+-- If the code of the last unit of a piece follows the unit's turns, so do the classes, to where they
+-- go on.
+abbrev pub LastUnitsAreFollowed : Type 0
+LastUnitsAreFollowed =
+    (site : Site) (order : Order) (words : List ℕ) (leads : ℕ → Bool) (span : SpanWords)
+    (k : ℕ) (front : List Unit) (unit : Unit) (w : Workspace) (x : State)
+    (total : (Instruction → ℕ) → ℕ)
+    → HasSpan site words leads span
+    → StandsInPiece order (units_of words) leads span k front unit [] w x
+    → FollowsInPiece site (units_of words) leads span k front total unit w x
+    → let turns = unit_turns unit x in
+    UnitGoesOn site (units_of words) leads span (offset_in (units_of words) leads span k front)
+    (turn_count turns) (132 * turn_count turns + 70) total unit w (last_turn turns)

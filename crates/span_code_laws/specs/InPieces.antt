@@ -4,6 +4,7 @@ use Rattle.std.specs.List.{flat_map}
 use Rattle.nv_words.specs.declared.order.Order.{Order}
 use Rattle.mips_decode.specs.State.{State}
 use Rattle.delay_slots.specs.declared.unit.Unit.{Unit}
+use Rattle.delay_slots.specs.Units.{units_of}
 use Rattle.block_builder.specs.Blocks.{unit_at}
 use Rattle.block_builder.specs.Registers.{unit_writes}
 use Rattle.jvm_program.specs.declared.value.Value.TheVariants.{Int as int}
@@ -23,6 +24,7 @@ use Rattle.span_code.specs.Laying.{entry_at}
 use Rattle.guest_follows.specs.Holding.{HoldsOn}
 use Rattle.guest_follows.specs.Sites.{Site}
 use Rattle.guest_code_laws.specs.Pieces.{known_first}
+use Rattle.span_code_laws.specs.Spans.{HasSpan}
 
 -- ---- some units of a piece are done
 
@@ -82,3 +84,22 @@ pub record HasUnit (site : Site) (units : List Unit) (span : SpanWords) (word ba
   pub lawful : IsLawful unit
   pub lies : LiesAt site.program site.method at (unit_code bank unit x.pc)
   pub knows : KnownByUnit known unit
+
+-- What is known of a unit of the piece that begins with word k, behind the units that are done.
+pub record HasUnitInPiece (site : Site) (units : List Unit) (leads : ℕ → Bool) (span : SpanWords)
+    (k : ℕ) (front : List Unit) (unit : Unit) (x : State) : Type 0 where
+  -- its code lies there, over local variables, and finds known what it reads
+  pub has : HasUnit site units span (k + length front)
+      (bank_of (own_units units leads span k)) (known_behind (own_units units leads span k) front)
+      (offset_in units leads span k front) unit x
+  -- no piece begins with a word in the middle of another one
+  pub inner : 1 ≤ length front → begins leads span (k + length front) ≡ false
+
+-- It is so wherever the classes stand in a piece.
+abbrev pub UnitsStandInPieces : Type 0
+UnitsStandInPieces =
+    (site : Site) (order : Order) (words : List ℕ) (leads : ℕ → Bool) (span : SpanWords)
+    (k : ℕ) (front : List Unit) (unit : Unit) (rest : List Unit) (w : Workspace) (x : State)
+    → HasSpan site words leads span
+    → StandsInPiece order (units_of words) leads span k front unit rest w x
+    → HasUnitInPiece site (units_of words) leads span k front unit x

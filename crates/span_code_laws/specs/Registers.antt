@@ -1,24 +1,31 @@
 -- How often code reads and writes the fields of registers, and the lines that a part of a method is.
-use Rattle.std.specs.Prelude.{◌≡◌, ℕ, ◌≤◌, ◌==◌, Bool, ◌&&◌, nat_le, nat_lt, if◌then◌else◌, List, [], ◌∷◌, filter, Some}
+use Rattle.std.specs.Prelude.{◌≡◌, ℕ, ◌+◌, ◌<◌, ◌≤◌, Bool, true, ◌&&◌, nat_le, nat_lt, List, [], ◌∷◌, filter, Some}
 use Rattle.std.specs.List.{sum_by}
+use Rattle.delay_slots.specs.declared.unit.Unit.{Unit}
 use Rattle.jvm_program.specs.declared.linked_line.LinkedLine.{LinkedLine}
 use Rattle.jvm_program.specs.declared.instruction.Instruction.{Instruction}
-use Rattle.jvm_program.specs.declared.instruction.Instruction.TheVariants.{Get, Put}
-use Rattle.jvm_program.specs.Program.{Program, line_at}
+use Rattle.jvm_program.specs.declared.linked_method.LinkedMethod.{LinkedMethod}
+use Rattle.jvm_program.specs.Program.{LaidFrom, Program, line_at}
+use Rattle.code_steps.specs.declared.step.Step.{Step}
+use Rattle.code_steps.specs.Widths.{size}
+use Rattle.code_steps.specs.Placing.{LiesAt, laid}
 use Rattle.guest_layout.specs.FieldNumbers.{register_field}
-
--- 1 where an instruction reads a field, and 1 where it writes it
-abbrev pub gets : ℕ → Instruction → ℕ
-gets field (Get f kind) = if f == field then 1 else 0
-gets field _ = 0
-
-abbrev pub puts : ℕ → Instruction → ℕ
-puts field (Put f kind) = if f == field then 1 else 0
-puts field _ = 0
+use Rattle.span_code.specs.declared.span_words.SpanWords.{SpanWords}
+use Rattle.span_code.specs.Pieces.{begins}
+use Rattle.span_code.specs.Laying.{entry_at, span_code, stretch_at}
+use Rattle.span_code.specs.Standing.{laid_part}
+use Rattle.code_paths.specs.Classes.{gets, puts}
+use Rattle.code_paths.specs.Paths.{weigh}
+use Rattle.guest_follows.specs.Sites.{Site}
 
 -- of each register from r1 to r31, what is counted of its field is 1 at most
 abbrev pub AtMostOnce : (ℕ → ℕ) → Type 0
 AtMostOnce count = (r : ℕ) → 1 ≤ r → r ≤ 31 → count (register_field r) ≤ 1
+
+-- Code reads the field of each of these registers at most once, and writes it at most once.
+pub record TouchesRegistersOnce (code : List Step) : Type 0 where
+  pub read_once : AtMostOnce (λ f. weigh (gets f) code)
+  pub written_once : AtMostOnce (λ f. weigh (puts f) code)
 
 -- ---- lines
 
@@ -38,3 +45,56 @@ lies_between from to l = nat_le from l.at && nat_lt l.at to
 
 abbrev pub lines_between : ℕ → ℕ → List LinkedLine → List LinkedLine
 lines_between from to lines = filter (lies_between from to) lines
+
+-- Lines read the field of each of the registers at most once, and write it at most once.
+pub record LinesTouchRegistersOnce (lines : List LinkedLine) : Type 0 where
+  pub read_once : AtMostOnce (λ f. weigh_lines (gets f) lines)
+  pub written_once : AtMostOnce (λ f. weigh_lines (puts f) lines)
+
+-- ---- the stretch of a piece's warm code in the method of a span
+
+-- The offsets that are told of it are those of the code of the word with which the piece begins.
+pub record IsOwnStretch (units : List Unit) (leads : ℕ → Bool) (span : SpanWords) (k : ℕ)
+    : Type 0 where
+  pub from_is : (stretch_at units leads span k).from ≡ entry_at units leads span k
+  pub to_is : (stretch_at units leads span k).to
+      ≡ entry_at units leads span k + size (laid_part units leads span k)
+
+-- So it is with each word with which a piece begins.
+abbrev pub StretchesAreOfPieces : Type 0
+StretchesAreOfPieces =
+    (units : List Unit) (leads : ℕ → Bool) (span : SpanWords) (k : ℕ)
+    → begins leads span k ≡ true
+    → IsOwnStretch units leads span k
+
+-- the lines of that code, where it lies at the first of these offsets
+abbrev pub stretch_lines : List Unit → (ℕ → Bool) → SpanWords → ℕ → List LinkedLine
+stretch_lines units leads span k =
+    laid (stretch_at units leads span k).from (laid_part units leads span k)
+
+-- those of some lines that stand between these offsets
+abbrev pub in_stretch : List Unit → (ℕ → Bool) → SpanWords → ℕ → List LinkedLine → List LinkedLine
+in_stretch units leads span k lines =
+    lines_between (stretch_at units leads span k).from (stretch_at units leads span k).to lines
+
+-- Where the code lies at the first of these offsets in a site's method, its lines are those of the
+-- method up to the second one.
+abbrev pub StretchesAreLines : Type 0
+StretchesAreLines =
+    (site : Site) (units : List Unit) (leads : ℕ → Bool) (span : SpanWords) (k : ℕ)
+    → begins leads span k ≡ true
+    → LiesAt site.program site.method (stretch_at units leads span k).from
+    (laid_part units leads span k)
+    → AreLines site.program site.method (stretch_at units leads span k).from
+    (stretch_at units leads span k).to (stretch_lines units leads span k)
+
+-- In the method of a span, all lines between these offsets touch the registers once.
+abbrev pub StretchesTouchRegistersOnce : Type 0
+StretchesTouchRegistersOnce =
+    (site : Site) (method : LinkedMethod) (units : List Unit) (leads : ℕ → Bool)
+    (span : SpanWords) (k : ℕ)
+    → site.program.method site.method ≡ Some method → LaidFrom 0 method.lines
+    → LiesAt site.program site.method 0 (span_code units leads span)
+    → span.first ≤ k → k < span.end
+    → begins leads span k ≡ true
+    → LinesTouchRegistersOnce (in_stretch units leads span k method.lines)

@@ -1,5 +1,5 @@
 -- Where the classes go on in the method of a span, and when they follow a turn of the guest to there.
-use Rattle.std.specs.Prelude.{◌≡◌, ℕ, ◌+◌, ◌%◌, ◌<◌, ◌≤◌, ◌⊎◌, Bool, true, false, IsTrue, List, [], ◌∷◌}
+use Rattle.std.specs.Prelude.{◌≡◌, ℕ, ◌+◌, ◌%◌, ◌<◌, ◌≤◌, ◌⊎◌, Bool, true, false, IsTrue, List, [], ◌∷◌, None}
 use Rattle.nv_events.specs.Question.{Question}
 use Rattle.nv_events.specs.Answer.{Answer, fits}
 use Rattle.nv_events.specs.Turn.{Turn, moves, ends, leaves, asks}
@@ -17,7 +17,7 @@ use Rattle.span_code.specs.declared.span_words.SpanWords.{SpanWords}
 use Rattle.span_code.specs.Neighbours.{address}
 use Rattle.span_code.specs.Laying.{entry_at}
 use Rattle.code_paths.specs.Guest.{is_register_jump}
-use Rattle.guest_follows.specs.Sites.{Site, PathIn, stands}
+use Rattle.guest_follows.specs.Sites.{Site, PathIn, stands, turn_in}
 use Rattle.guest_follows.specs.Following.{ComesToTurn}
 use Rattle.guest_code_laws.specs.Pieces.{HoldsAll}
 
@@ -27,6 +27,13 @@ use Rattle.guest_code_laws.specs.Pieces.{HoldsAll}
 pub record IsAtRest (w : Workspace) (t : State) : Type 0 where
   pub held : HoldsAll w t
   pub no_operands : w.operands ≡ []
+
+-- A state is held in fields and arrays alone: another workspace with the same ones holds it too.
+abbrev pub FieldsHoldAll : Type 0
+FieldsHoldAll =
+    (w v : Workspace) (t : State)
+    → v.fields ≡ w.fields → v.heap ≡ w.heap
+    → HoldsAll w t → HoldsAll v t
 
 -- An offset is that of the code of the word of the span that stands at an address.
 pub record IsEntryOf (units : List Unit) (leads : ℕ → Bool) (span : SpanWords) (at a : ℕ)
@@ -79,6 +86,13 @@ abbrev pub Resumes : Site → List Unit → (ℕ → Bool) → SpanWords → Uni
     → Type 0
 Resumes site units leads span unit y t = StandsAtWord site units leads span y t
     ⊎ StandsAtReturn site span unit y t
+
+-- A return gives back to the frame below.
+abbrev pub ReturnsGiveBack : Type 0
+ReturnsGiveBack =
+    (site : Site) (at : ℕ) (w : Workspace)
+    → LiesAt site.program site.method at (returns ∷ [])
+    → turn_in site (stands site at w) ≡ machine.returned_to site.others None w
 
 -- ---- to there
 

@@ -1,5 +1,5 @@
 -- A method that is the method of a span of a range's words, and what its words and pieces do.
-use Rattle.std.specs.Prelude.{◌≡◌, ℕ, ◌+◌, ◌-◌, ◌*◌, ◌^◌, ◌<◌, ◌≤◌, Bool, All, List, length, None}
+use Rattle.std.specs.Prelude.{◌≡◌, ℕ, ◌+◌, ◌-◌, ◌*◌, ◌^◌, ◌<◌, ◌≤◌, Bool, true, false, All, List, length, None}
 use Rattle.nv_words.specs.declared.order.Order.{Order}
 use Rattle.nv_words.specs.Words.{IsWord}
 use Rattle.nv_events.specs.Turn.{Turn}
@@ -13,11 +13,12 @@ use Rattle.code_steps.specs.Widths.{size}
 use Rattle.code_steps.specs.Placing.{LiesAt}
 use Rattle.word_emitter.specs.Pieces.{piece_units}
 use Rattle.span_code.specs.declared.span_words.SpanWords.{SpanWords}
-use Rattle.span_code.specs.Pieces.{piece_at}
+use Rattle.span_code.specs.Pieces.{begins, piece_at}
 use Rattle.span_code.specs.Neighbours.{address}
 use Rattle.span_code.specs.Laying.{entry_at, span_code}
 use Rattle.span_code.specs.Standing.{laid_part}
 use Rattle.guest_follows.specs.Sites.{Site, stands, whole_weight}
+use Rattle.guest_code_laws.specs.Instructions.{IsReady}
 use Rattle.guest_code_laws.specs.Pieces.{piece_turns}
 use Rattle.span_code_laws.specs.Resuming.{IsAtRest, Resumes, FollowsInSpan}
 
@@ -66,3 +67,23 @@ FollowsPiece site order units leads span k w x =
     (k + length (piece_units units (piece_at units leads span k)) - 1)
     (piece_turns (piece_units units (piece_at units leads span k)) x).0
     (piece_turns (piece_units units (piece_at units leads span k)) x).1
+
+-- From the code of a word with which no piece begins they follow the turns of the word's unit.
+abbrev pub SpanWordsFollow : Type 0
+SpanWordsFollow =
+    (site : Site) (order : Order) (words : List ℕ) (leads : ℕ → Bool) (span : SpanWords)
+    (k : ℕ) (w : Workspace) (x : State)
+    → HasSpan site words leads span → IsReady site order
+    → StandsAt order span k w x
+    → begins leads span k ≡ false
+    → FollowsUnit site order (units_of words) leads span k w x
+
+-- From that of a word with which a piece begins they follow the turns of all units of the piece.
+abbrev pub SpanPiecesFollow : Type 0
+SpanPiecesFollow =
+    (site : Site) (order : Order) (words : List ℕ) (leads : ℕ → Bool) (span : SpanWords)
+    (k : ℕ) (w : Workspace) (x : State)
+    → HasSpan site words leads span → IsReady site order
+    → StandsAt order span k w x
+    → begins leads span k ≡ true
+    → FollowsPiece site order (units_of words) leads span k w x

@@ -18,7 +18,7 @@ use Rattle.span_code.specs.Laying.{laid_step, return_offset, targets_of}
 use Rattle.span_code.specs.Standing.{laid_part}
 use Rattle.code_paths.specs.Paths.{LooksAtNoTarget, step_weight, weigh}
 use Rattle.code_paths.proofs.Weighing.{weigh-both}
-use Rattle.span_code_laws.specs.Registers.{gets, puts}
+use Rattle.code_paths.specs.Classes.{gets, puts}
 use Rattle.span_code_laws.proofs.PieceRegisters.Touching.{Quiet, gets-touch, puts-touch, touches, weigh-less}
 use Rattle.span_code_laws.proofs.PieceRegisters.Units.{piece-quiet}
 use Rattle.span_code_laws.proofs.PieceRegisters.Ways.{exit-quiet}

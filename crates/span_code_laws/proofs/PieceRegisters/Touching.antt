@@ -12,7 +12,8 @@ use Rattle.guest_layout.specs.FieldNumbers.{register_field}
 use Rattle.guest_code.specs.Access.{keeps, get_field, put_field, get_register, put_register}
 use Rattle.code_paths.specs.Paths.{step_weight, weigh}
 use Rattle.code_paths.proofs.Weighing.{weigh-both}
-use Rattle.span_code_laws.specs.Registers.{AtMostOnce, gets, puts}
+use Rattle.code_paths.specs.Classes.{gets, puts}
+use Rattle.span_code_laws.specs.Registers.{AtMostOnce}
 
 -- what is counted of the field of each register
 pub each-register : (count : ℕ → ℕ) → ((r : ℕ) → 1 ≤ r → r ≤ 31 → count (register_field r) ≤ 1) → AtMostOnce count

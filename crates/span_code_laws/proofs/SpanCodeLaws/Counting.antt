@@ -1,6 +1,7 @@
 -- What the code of a word weighs, and where the warm code of a piece stands.
-use Rattle.std.proofs.Common.{◌≡◌, ℕ, ◌+◌, ◌-◌, ◌||◌, Bool, true, false, if◌then◌else◌, List, [], ◌∷◌, ◌++◌, length, map, Option, refl, ap, sym, ◌∙◌, arith}
-use Rattle.std.specs.List.{flat_map, range_with_len}
+use Rattle.std.proofs.Common.{◌≡◌, ℕ, ◌+◌, ◌-◌, ◌<◌, ◌||◌, nat_lt, Bool, true, false, if◌then◌else◌, List, [], ◌∷◌, ◌++◌, length, map, Option, refl, ap, sym, ◌∙◌, arith}
+use Rattle.std.proofs.lemmas.Bool.{and_parts, ltb-true}
+use Rattle.std.specs.List.{flat_map, list_all, range_with_len}
 use Rattle.nv_words.specs.declared.order.Order.{Order}
 use Rattle.mips_decode.specs.Targets.{branch_target, jump_target}
 use Rattle.mips_decode.specs.declared.inst.Inst.{Inst}
@@ -96,7 +97,7 @@ module _ (order : Order) (weight : Instruction → ℕ) where
           by_tests false true = let e = spares.branch Goto 0 in omega (arith, e)
           by_tests false false =
               let a = spares.push (constants.Int next) in
-              let b = spares.put pc_field kinds.Int in
+              let b = spares.put pc_field kinds.Int (omega arith) in
               let c = returns-weigh in
               omega (arith, a, b, c)
 
@@ -136,24 +137,27 @@ module _ (order : Order) (weight : Instruction → ℕ) where
     some-weighs true code none = none
     some-weighs false code none = refl
 
-    each-weighs : (test : ℕ → Bool) (code : ℕ → List Step) → ((r : ℕ) → weighs (code r) ≡ 0) → (rs : List ℕ)
-        → weighs (flat_map (λ r. if test r then code r else []) rs) ≡ 0
-    each-weighs test code each [] = refl
-    each-weighs test code each (r ∷ rs) =
+    each-weighs : (test : ℕ → Bool) (code : ℕ → List Step) → ((r : ℕ) → r < 32 → weighs (code r) ≡ 0) → (rs : List ℕ)
+        → list_all (λ r. nat_lt r 32) rs ≡ true → weighs (flat_map (λ r. if test r then code r else []) rs) ≡ 0
+    each-weighs test code each [] below = refl
+    each-weighs test code each (r ∷ rs) below =
+        let parts = and_parts (nat_lt r 32) (list_all (λ r. nat_lt r 32) rs) below in
         let here : List Step = if test r then code r else [] in
         let others : List Step = flat_map (λ r. if test r then code r else []) rs in
         let both = whole-both order weight here others in
-        let a = some-weighs (test r) (code r) (each r) in
-        let b = each-weighs test code each rs in
+        let a = some-weighs (test r) (code r) (each r (ltb-true r 32 parts.0)) in
+        let b = each-weighs test code each rs parts.1 in
         omega (arith, both, a, b)
 
     pub fetching-weighs : (test : ℕ → Bool) → weighs (for_registers test fetched) ≡ 0
     fetching-weighs test = each-weighs test fetched
-        (λ r. let x = spares.get (register_field r) kinds.Int in let y = spares.store local_kinds.Int r in omega (arith, x, y)) (range_with_len 1 31)
+        (λ r few. let x = spares.get (register_field r) kinds.Int in let y = spares.store local_kinds.Int r in omega (arith, x, y)) (range_with_len 1 31)
+        refl
 
     pub putting-weighs : (test : ℕ → Bool) → weighs (for_registers test put_back) ≡ 0
     putting-weighs test = each-weighs test put_back
-        (λ r. let x = spares.load local_kinds.Int r in let y = spares.put (register_field r) kinds.Int in omega (arith, x, y)) (range_with_len 1 31)
+        (λ r few. let x = spares.load local_kinds.Int r in let y = spares.put (register_field r) kinds.Int (omega (arith, few)) in omega (arith, x, y))
+        (range_with_len 1 31) refl
 
     warm-weighs : (piece : List Word) (at : ℕ) → weighs (warm_code piece at) ≡ weighs (units_code (bank_of piece) piece at)
     warm-weighs piece at =

@@ -1,5 +1,5 @@
 -- Code that follows a turn of the guest, with the exit of its last unit behind it.
-use Rattle.std.proofs.Common.{◌≡◌, ℕ, ◌+◌, ◌%◌, ◌≤◌, Bool, true, inl, List, map, Option}
+use Rattle.std.proofs.Common.{◌≡◌, ℕ, ◌+◌, ◌%◌, ◌≤◌, Bool, true, inl, List, map, Option, arith}
 use Rattle.nv_words.specs.declared.order.Order.{Order}
 use Rattle.nv_events.specs.Turn.{Turn, moves, ends, leaves, asks}
 use Rattle.mips_decode.specs.State.{State}
@@ -58,7 +58,7 @@ module _ (laws : PathLaws) (site : Site) (order : Order) (units : List Word) (le
         → FollowsInSpan site entry (middle + size exit) n later all (Resumes site units leads span unit) (stands site entry w) last
     goes-on entry n most total all w last later few weighs lies f =
         follows-on site middle (middle + size exit) most 4 later total (whole_weight order exit) all few weighs f.First
-        (Resumes site units leads span unit) entry n last (stands site entry w)
+        (Resumes site units leads span unit) (omega arith) entry n last (stands site entry w)
         (reaches-map (λ (t : State). LeadsTo unit a t.pc)
         (λ t. (u : Workspace) → f.First u t → ComesTo site middle (middle + size exit) 0 4 (whole_weight order exit)
         (λ y. Resumes site units leads span unit y t) (stands site middle u))

@@ -68,24 +68,25 @@ module _ (site : Site) (middle high most extra later : ℕ) (total more all : (I
   last-before (asks q next) used place (ends f) behind last = absurd last
   last-before (asks q next) used place (leaves r f) behind last = absurd last
 
-  turn-before : (low least : ℕ) (guest : Turn State) (x : machine.State) → Reaches GoesOn guest
+  turn-before : middle ≤ high → (low least : ℕ) (guest : Turn State) (x : machine.State) → Reaches GoesOn guest
       → ComesToTurn site low middle least most total (LastTurn site middle most total First guest) x
       → ComesToTurn site low high least later all (LastInSpan site high later all Then guest) x
-  turn-before low least guest x behind c = record {
+  turn-before ordered low least guest x behind c = record {
     turns = c.turns;
     before = c.before;
     place = c.place;
     path = path-wider site.program site.words site.method low c.place low c.place c.turns total all x c.before (omega arith) (omega arith)
         (λ weight still. let a = weighs weight in omega (arith, a)) c.path;
     is_there = c.is_there;
+    below = let a = c.below in omega (arith, a, ordered);
     no_sooner = c.no_sooner;
     in_time = let few = c.in_time in omega (arith, few, in_time);
     last = last-before guest (c.turns + 1) c.place (turn_in site c.before) behind c.last;
   }
 
-  pub follows-on : (low least : ℕ) (guest : Turn State) (x : machine.State) → Reaches GoesOn guest
+  pub follows-on : middle ≤ high → (low least : ℕ) (guest : Turn State) (x : machine.State) → Reaches GoesOn guest
       → Follows site low middle least most total First x guest → FollowsInSpan site low high least later all Then x guest
-  follows-on low least (moves t) x behind c =
+  follows-on ordered low least (moves t) x behind c =
       let d = end-before low least most t x behind c in
       record {
         turns = d.turns;
@@ -95,6 +96,6 @@ module _ (site : Site) (middle high most extra later : ℕ) (total more all : (I
         in_time = let few = d.in_time in omega (arith, few, in_time);
         arrives = d.arrives;
       }
-  follows-on low least (ends e) x behind c = turn-before low least (ends e) x behind c
-  follows-on low least (leaves q e) x behind c = turn-before low least (leaves q e) x behind c
-  follows-on low least (asks q next) x behind c = turn-before low least (asks q next) x behind c
+  follows-on ordered low least (ends e) x behind c = turn-before ordered low least (ends e) x behind c
+  follows-on ordered low least (leaves q e) x behind c = turn-before ordered low least (leaves q e) x behind c
+  follows-on ordered low least (asks q next) x behind c = turn-before ordered low least (asks q next) x behind c

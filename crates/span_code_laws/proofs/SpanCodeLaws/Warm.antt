@@ -36,7 +36,7 @@ use Rattle.guest_follows.specs.Sites.{Site, stands, whole_weight}
 use Rattle.guest_follows.specs.Following.{Follows}
 use Rattle.guest_follows.proofs.GuestFollows.Weights.{whole-both, size-both}
 use Rattle.guest_code_laws.specs.Instructions.{IsReady}
-use Rattle.guest_code_laws.specs.Pieces.{AreStraight, PieceArrives, PieceFollows, UnitGoal, piece_turns, then_turns}
+use Rattle.guest_code_laws.specs.Pieces.{AllPiecesFollow, AreStraight, PieceArrives, UnitGoal, piece_turns, then_turns}
 use Rattle.guest_code_laws.proofs.PieceLaws.Turns.{ChangeWritten}
 use Rattle.guest_code_laws.proofs.PieceLaws.Within.{units-stay}
 use Rattle.span_code_laws.specs.Resuming.{IsEntryOf, Resumes, FollowsInSpan}
@@ -131,7 +131,7 @@ not-empty piece some none = let e : length piece ≡ 0 = ap length none in omega
 pub record PieceLaws : Type 1 where
   pub units : UnitLaws
   pub change : ChangeWritten
-  pub follow : (piece : List Word) → piece ≢ [] → All IsLawful piece → AreStraight piece → PieceFollows piece
+  pub follow : AllPiecesFollow
   pub are_pieces : (units : List Word) (leads : ℕ → Bool) (span : SpanWords) (k : ℕ) → AreUnits units → k < span.end → span.end ≤ length units
       → IsPiece units (piece_at units leads span k)
 

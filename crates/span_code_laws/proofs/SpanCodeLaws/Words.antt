@@ -37,7 +37,7 @@ use Rattle.guest_follows.specs.Behind.{IsHeld}
 use Rattle.guest_follows.specs.Laws.{PathLaws}
 use Rattle.guest_follows.proofs.GuestFollows.Weights.{whole-both, size-both}
 use Rattle.guest_code_laws.specs.Instructions.{IsReady}
-use Rattle.guest_code_laws.specs.Units.{UnitArrives, UnitFollows}
+use Rattle.guest_code_laws.specs.Units.{AllUnitsFollow, UnitArrives}
 use Rattle.guest_code_laws.specs.Pieces.{HoldsAll}
 use Rattle.guest_code_laws.proofs.PieceLaws.Within.{unit-stays}
 use Rattle.span_code_laws.specs.Resuming.{IsAtRest, IsEntryOf, Resumes, FollowsInSpan}
@@ -111,7 +111,7 @@ units-length (word ∷ words) = ap suc (units-length words)
 -- the laws that are needed
 pub record UnitLaws : Type 1 where
   pub paths : PathLaws
-  pub follow : (unit : Word) → IsLawful unit → UnitFollows unit
+  pub follow : AllUnitsFollow
   pub lawful : (words : List ℕ) → All IsWord words → HasNoFloat words → All IsLawful (units_of words)
   pub known : (unit : Word) (known : ℕ → Bool) → IsLawful unit → AreAllKnown (needs unit) known → KnownByUnit known unit
 

@@ -237,7 +237,7 @@ module _ (laws : StepLaws) (site : Site) (order : Order) (words : List ℕ) (lea
             omega (arith, first_none, second_none);
         follows =
             follows-on site second (third + size exit) (132 * n) 66 (132 * n + 70) total more (λ weight. total weight + more weight) (omega arith)
-            (λ weight. omega arith) (UnitArrives bank (known_behind own front) unit w) (Resumes site unit_list leads span unit) at n
+            (λ weight. omega arith) (UnitArrives bank (known_behind own front) unit w) (Resumes site unit_list leads span unit) (omega arith) at n
             (last_turn (unit_turns unit x)) (stands site at w)
             (reaches-map Leads
             (λ t. (u : Workspace) → UnitArrives bank (known_behind own front) unit w u t

@@ -1,14 +1,15 @@
-use Rattle.std.proofs.Common.{refl}
-use Rattle.code_paths.specs.Classes.{reads, chars, switches}
+use Rattle.std.proofs.Common.{ℕ, ◌≤◌, Bool, if◌then◌else◌, refl, ap, arith}
+use Rattle.std.proofs.lemmas.Bool.{ne_eqb}
+use Rattle.code_paths.specs.Classes.{reads, chars, switches, entries, puts}
 use Rattle.span_code_laws.specs.Counting.{SparesMoves}
 use Rattle.span_code_laws.proofs.SpanCodeLaws.Counting.{piece-weighs, word-weighs}
 use Rattle.span_code_laws.proofs.laws.parts_weigh_their_units.Goals as goal
 
-pub returns-clause-words : goal.returns-clause-words
-returns-clause-words c order weight units leads span k spares inner = word-weighs order weight spares units leads span k inner
-
-pub returns-clause-pieces : goal.returns-clause-pieces
-returns-clause-pieces c order weight units leads span k spares begin = piece-weighs order weight spares units leads span k begin
+pub returns-clause-parts : goal.returns-clause-parts
+returns-clause-parts c order weight units leads span k spares = record {
+  word = λ inner. word-weighs order weight spares units leads span k inner;
+  piece = λ begin. piece-weighs order weight spares units leads span k begin;
+}
 
 spared-reads : SparesMoves reads
 spared-reads = record {
@@ -16,7 +17,7 @@ spared-reads = record {
   load = λ kind i. refl;
   store = λ kind i. refl;
   get = λ f kind. refl;
-  put = λ f kind. refl;
+  put = λ f kind below. refl;
   branch = λ name target. refl;
   give_back = λ name. refl;
 }
@@ -27,7 +28,7 @@ spared-chars = record {
   load = λ kind i. refl;
   store = λ kind i. refl;
   get = λ f kind. refl;
-  put = λ f kind. refl;
+  put = λ f kind below. refl;
   branch = λ name target. refl;
   give_back = λ name. refl;
 }
@@ -38,21 +39,38 @@ spared-switches = record {
   load = λ kind i. refl;
   store = λ kind i. refl;
   get = λ f kind. refl;
-  put = λ f kind. refl;
+  put = λ f kind below. refl;
+  branch = λ name target. refl;
+  give_back = λ name. refl;
+}
+
+spared-entries : (is_span : ℕ → Bool) → SparesMoves (entries is_span)
+spared-entries is_span = record {
+  push = λ constant. refl;
+  load = λ kind i. refl;
+  store = λ kind i. refl;
+  get = λ f kind. refl;
+  put = λ f kind below. refl;
+  branch = λ name target. refl;
+  give_back = λ name. refl;
+}
+
+spared-puts : (f : ℕ) → 38 ≤ f → SparesMoves (puts f)
+spared-puts f above = record {
+  push = λ constant. refl;
+  load = λ kind i. refl;
+  store = λ kind i. refl;
+  get = λ g kind. refl;
+  put = λ g kind below. ap (λ b. if b then 1 else 0) (ne_eqb g f (omega (arith, above, below)));
   branch = λ name target. refl;
   give_back = λ name. refl;
 }
 
 pub returns-clause-spared : goal.returns-clause-spared
-returns-clause-spared c = (spared-reads, spared-chars, spared-switches)
-
-pub returns-clause-spared_entries : goal.returns-clause-spared_entries
-returns-clause-spared_entries c is_span = record {
-  push = λ constant. refl;
-  load = λ kind i. refl;
-  store = λ kind i. refl;
-  get = λ f kind. refl;
-  put = λ f kind. refl;
-  branch = λ name target. refl;
-  give_back = λ name. refl;
+returns-clause-spared c = record {
+  of_reads = spared-reads;
+  of_chars = spared-chars;
+  of_switches = spared-switches;
+  of_entries = spared-entries;
+  of_puts = spared-puts;
 }

@@ -28,10 +28,8 @@ laws c = record {
   };
 }
 
-pub returns-clause-plain : goal.returns-clause-plain
-returns-clause-plain c site order words leads span k front unit next rest w x has s =
-    unit-plain (laws c) site order words leads span has k front next rest w x unit s
-
-pub returns-clause-follows : goal.returns-clause-follows
-returns-clause-follows c site order words leads span k front unit next rest w x total has s follows =
-    plain-follows (laws c) site order words leads span has k front next rest w x unit total s follows
+pub returns : goal.returns
+returns c site order words leads span k front unit next rest w x has s = record {
+  plain = unit-plain (laws c) site order words leads span has k front next rest w x unit s;
+  comes = λ total follows. plain-follows (laws c) site order words leads span has k front next rest w x unit total s follows;
+}

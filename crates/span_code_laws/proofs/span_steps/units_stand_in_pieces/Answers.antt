@@ -32,13 +32,12 @@ laws c = record {
   };
 }
 
-pub returns-clause-unit : goal.returns-clause-unit
-returns-clause-unit c site order words leads span k front unit rest w x has s =
-    unit-has (laws c) site order words leads span has k front unit rest w x s
-
-pub returns-clause-inner : goal.returns-clause-inner
-returns-clause-inner c site order words leads span k front unit rest w x has s some =
-    none-begins (units_of words) leads span k s.above
-    (let total = units-length words in let within = has.within in let below = s.below in omega (arith, total, within, below))
-    (is-piece (laws c).pieces site words leads span has k s.above s.below s.begin) (length front) some
-    (number-few (laws c) site order words leads span has k front unit rest w x s)
+pub returns : goal.returns
+returns c site order words leads span k front unit rest w x has s = record {
+  has = unit-has (laws c) site order words leads span has k front unit rest w x s;
+  inner = λ some.
+      none-begins (units_of words) leads span k s.above
+      (let total = units-length words in let within = has.within in let below = s.below in omega (arith, total, within, below))
+      (is-piece (laws c).pieces site words leads span has k s.above s.below s.begin) (length front) some
+      (number-few (laws c) site order words leads span has k front unit rest w x s);
+}
