@@ -1,10 +1,14 @@
 -- Programs whose memory is pages of words.
-use Rattle.std.specs.Prelude.{◌≡◌, ℕ, ◌*◌, ◌/◌, ◌%◌, ◌≤◌, false}
+use Rattle.std.specs.Prelude.{◌≡◌, ℕ, ◌*◌, ◌/◌, ◌%◌, ◌≤◌, false, List, length, map}
 use Rattle.nv_words.specs.Words.{lane_of_word}
 use Rattle.elf_reader.specs.Segments.{live}
-use Rattle.elf_image.specs.Start.{Source, readable}
+use Rattle.elf_image.specs.Start.{Source, image_of, readable, writable}
 use Rattle.elf_image.specs.Content.{stored_byte, stored_word, is_filled_page}
+use Rattle.image_parts.specs.Pages.{Page, filled_below, page_words}
+use Rattle.image_parts.specs.Runs.{pages_of}
 use Rattle.guest_layout.specs.FieldNumbers.{page_count}
+use Rattle.loading_code.specs.declared.page_slot.PageSlot.{PageSlot}
+use Rattle.loading_code_laws.specs.Loaded.{IsPaged, paged}
 
 -- The words of a program have its bytes, pages that are not filled are zero, and no page lies at address 80000000 or above. Each image is so.
 pub record IsWhole (s : Source) : Type 0 where
@@ -13,3 +17,19 @@ pub record IsWhole (s : Source) : Type 0 where
   pub zeros : (at : ℕ) → is_filled_page s.file (live s.file) (at / 4096) ≡ false
       → stored_byte s.file (live s.file) at ≡ 0
   pub low : (page : ℕ) → page_count ≤ page → readable s page ≡ false
+
+-- Slots have the pages of a program that are not all zero, in order.
+abbrev pub HaveFilledPages : Source → List PageSlot → Type 0
+HaveFilledPages s slots =
+    map (λ (t : PageSlot). t.page) slots
+    ≡ map (λ (p : Page). p.number) (filled_below s page_count)
+
+-- The memory of a program is pages of its words.
+pub record ImageIsPages (s : Source) : Type 0 where
+  pub memory_is : paged (readable s) (writable s) (page_words s) ≡ (image_of s).memory
+  -- what has no slot is zero
+  pub are_paged : (slots : List PageSlot) → HaveFilledPages s slots
+      → IsPaged (readable s) (writable s) (page_words s) slots
+  -- there are no more slots than pages that can be read
+  pub few : (slots : List PageSlot) → HaveFilledPages s slots
+      → length slots ≤ length (pages_of (readable s) (writable s) page_count)

@@ -1,13 +1,18 @@
 -- Methods that are called and come back.
-use Rattle.std.specs.Prelude.{◌≡◌, ℕ, ◌≤◌, List, ◌∷◌, Some}
+use Rattle.std.specs.Prelude.{◌≡◌, ◌≢◌, ℕ, ◌+◌, ◌<◌, ◌≤◌, List, [], ◌∷◌, length, Some}
 use Rattle.jvm_program.specs.declared.instruction.Instruction.{Instruction}
+use Rattle.jvm_program.specs.declared.instruction.Instruction.TheVariants.{Call}
 use Rattle.jvm_program.specs.declared.kind.Kind.{Kind}
 use Rattle.jvm_program.specs.declared.linked_method.LinkedMethod.{LinkedMethod}
+use Rattle.jvm_program.specs.declared.value.Value.{Value}
 use Rattle.jvm_program.specs.Program.{Program}
 use Rattle.jvm_program.specs.Values.{Heap}
-use Rattle.jvm_program.specs.Effect.{Workspace}
+use Rattle.jvm_program.specs.Effect.{Workspace, effect, enters, with_heap}
 use Rattle.jvm_program.specs.Step.{State, Frame, placed}
-use Rattle.code_paths.specs.Paths.{Path}
+use Rattle.jvm_program.specs.Stretch.{body_workspace}
+use Rattle.code_steps.specs.declared.step.Step.TheVariants.{Does}
+use Rattle.code_steps.specs.Placing.{LiesAt}
+use Rattle.code_paths.specs.Paths.{Path, waiting_behind}
 
 -- One state leads to another in so many turns at most, which only move. What they execute weighs no more than this total, and none of it
 -- stands in method m.
@@ -29,3 +34,17 @@ pub record IsMethod (program : Program) (number : ℕ) (parameters : List Kind) 
   pub method : LinkedMethod
   pub there : program.method number ≡ Some method
   pub parameters_are : method.parameters ≡ parameters
+
+-- A call of a method that leads back leads behind the call, with one turn more.
+abbrev pub CallsLeadBack : Type 0
+CallsLeadBack =
+    (program : Program) (words own m at h callee most : ℕ) (total : (Instruction → ℕ) → ℕ)
+    (w caller : Workspace) (given : List Value) (others : List Frame) (heap : Heap)
+    → own ≢ m → LiesAt program own at (Does (Call h) ∷ [])
+    → effect program words (Call h) w ≡ enters callee given caller
+    → length others < 63
+    → LeadsBack program words callee m most total (body_workspace given caller)
+    (waiting_behind own at h caller) others heap
+    → Reaches program words m (1 + most) (λ weight. weight (Call h) + total weight)
+    (placed own at w others)
+    (placed own (at + 3) (with_heap caller caller.operands heap) others)

@@ -74,6 +74,14 @@ slots_of fillers = flat_map (λ (f : Filler). f.slots) fillers
 
 -- ---- memory
 
+-- None of the methods that make memory, by the one that makes pages and by the classes that fill them, passes a test.
+abbrev pub FillsApart : (ℕ → Bool) → Filler → Type 0
+FillsApart test f = (test f.number ≡ false) × (test f.puts ≡ false)
+
+pub record MakersAreNone (test : ℕ → Bool) (pages : ℕ) (fillers : List Filler) : Type 0 where
+  pub pages_is_none : test pages ≡ false
+  pub fillers_are_none : All (FillsApart test) fillers
+
 -- the memory of pages of words
 abbrev pub paged : (readable writable : ℕ → Bool) → (ℕ → List ℕ) → Memory
 paged readable writable page_words = record {
@@ -134,3 +142,27 @@ HasRuns runs = 1 ≤ length runs
 
 abbrev pub HasSlots : Filler → Type 0
 HasSlots f = 1 ≤ length f.slots
+
+-- How many turns it takes, by the number of pages.
+abbrev pub LoadingTakes : Type 0
+LoadingTakes =
+    (program : Program) (texts : List ℕ) (shares : List (List PageRun)) (fillers : List Filler)
+    → AllZip (TellsRuns program 0) texts shares → All HasRuns shares
+    → All HasSlots fillers → length (slots_of fillers) ≤ length (pages_told shares)
+    → memory_turns shares fillers ≤ 6 + 42057 * length (pages_told shares)
+
+-- ---- runs that are divided
+
+-- Texts that are those of the runs, so many in each, tell them.
+abbrev pub TextsTellRuns : Type 0
+TextsTellRuns =
+    (program : Program) (size : ℕ) (runs : List PageRun) (texts : List ℕ)
+    → size < 2 ^ 29 → All IsRun runs
+    → AllZip (λ (slot : ℕ) (chars : List ℕ). program.characters 0 slot ≡ chars) texts
+    (share_texts size runs)
+    → AllZip (TellsRuns program 0) texts (run_shares size runs)
+
+-- The shares of runs have all their pages, and each has a run.
+pub record SharesAllRuns (size : ℕ) (runs : List PageRun) : Type 0 where
+  pub told : pages_told (run_shares size runs) ≡ flat_map run_pages runs
+  pub some : All HasRuns (run_shares size runs)

@@ -1,10 +1,13 @@
 -- The memory that a translated program makes, and how it begins.
-use Rattle.std.specs.Prelude.{◌≡◌, ◌≢◌, ℕ, ◌<◌, ◌==◌, Bool, true, false, IsTrue, if◌then◌else◌, List, [], ◌∷◌, Option, Some}
+use Rattle.std.specs.Prelude.{◌≡◌, ◌≢◌, ℕ, ◌+◌, ◌<◌, ◌≤◌, ◌==◌, Bool, true, false, IsTrue, if◌then◌else◌, List, [], ◌∷◌, ◌++◌, length, Option, Some}
 use Rattle.nv_events.specs.Answer.{Answer, fits}
 use Rattle.nv_events.specs.Turn.{asks}
 use Rattle.nv_events.specs.Memory.{Memory}
+use Rattle.run_laws.specs.Turns.{Pair}
+use Rattle.run_laws.specs.Turns as runs
 use Rattle.mips_decode.specs.State as guest
 use Rattle.mips_decode.specs.Step as guest_step
+use Rattle.image_parts.specs.declared.page_run.PageRun.{PageRun}
 use Rattle.jvm_program.specs.declared.instruction.Instruction.{Instruction}
 use Rattle.jvm_program.specs.declared.kind.Kind.TheVariants as kinds
 use Rattle.jvm_program.specs.declared.value.Value.{Value}
@@ -18,13 +21,14 @@ use Rattle.code_steps.specs.Placing.{LiesAt}
 use Rattle.guest_layout.specs.FieldNumbers.{pc_field, readable_field, writable_field}
 use Rattle.guest_code.specs.Fields.{linked_field}
 use Rattle.loading_code.specs.declared.beginning.Beginning.{Beginning}
-use Rattle.loading_code.specs.Starting.{run_code}
-use Rattle.code_paths.specs.Classes.{reads, chars, switches, entries}
+use Rattle.loading_code.specs.Starting.{memory_code, run_code}
+use Rattle.code_paths.specs.Classes.{reads, chars, switches, entries, executed}
+use Rattle.code_paths.specs.Paths.{LooksAtNoTarget}
 use Rattle.guest_follows.specs.Match.{HoldsMemory}
 use Rattle.guest_follows.specs.Holding.{HoldsOn}
 use Rattle.loading_code_laws.specs.Leading.{Reaches, IsMethod}
 use Rattle.loading_code_laws.specs.Quiet.{Quietly, ComesTo}
-use Rattle.loading_code_laws.specs.Loaded.{Filler, numbers_of}
+use Rattle.loading_code_laws.specs.Loaded.{Filler, MakersAreNone, MakesMemory, memory_turns, numbers_of, paged}
 
 -- ---- memory
 
@@ -50,14 +54,31 @@ over locals operands fields heap = record {
 }
 
 -- The code that makes memory has come to what stands behind it, and the tables hold the memory.
-pub record HasMade (program : Program) (words own m most : ℕ) (rest : List Step)
-    (locals : ℕ → Value) (operands : List Value) (fields : ℕ → Value) (others : List Frame)
+pub record HasMade (program : Program) (words own m : ℕ) (is_span : ℕ → Bool) (most : ℕ)
+    (rest : List Step) (locals : ℕ → Value) (operands : List Value) (fields : ℕ → Value) (others : List Frame)
     (memory : Memory) : Type 0 where
   pub heap : Heap
-  pub comes : ComesTo program words own m most rest
+  pub comes : ComesTo program words own m is_span most rest
       (placed own 0 (over locals operands fields no_arrays) others)
       (over locals operands (with_tables fields) heap) others
   pub held : HoldsMemory heap readable_place writable_place memory
+
+-- The code that makes a program's memory makes the pages that its texts tell, with the words that
+-- the texts of the classes of data spell, and enters no span, where none of the methods is a span's.
+abbrev pub MemoryIsMade : Type 0
+MemoryIsMade =
+    (program : Program) (words own m pages : ℕ) (is_span : ℕ → Bool) (texts : List ℕ)
+    (shares : List (List PageRun)) (fillers : List Filler) (readable writable : ℕ → Bool)
+    (page_words : ℕ → List ℕ)
+    → MakesMemory program words m pages texts shares fillers readable writable page_words
+    → MakersAreNone is_span pages fillers
+    → own ≢ m
+    → (locals : ℕ → Value) (operands : List Value) (fields : ℕ → Value) (others : List Frame)
+    → length others < 61
+    → (rest : List Step)
+    → LiesAt program own 0 (memory_code texts 0 pages (numbers_of fillers) ++ rest)
+    → HasMade program words own m is_span (memory_turns shares fillers) rest locals operands fields
+    others (paged readable writable page_words)
 
 -- ---- the start
 
@@ -96,13 +117,29 @@ pub record Begins (program : Program) (words own m choose most : ℕ) (x : State
   pub waits_in : below.method ≡ own
 
 -- The program comes to a call of the system, by which it asks what the guest asks at its start, and by each answer that fits it begins.
-pub record Loads (program : Program) (words own m choose most : ℕ) (s : guest.State) : Type 0 where
+pub record Loads (program : Program) (words own m choose : ℕ) (is_span : ℕ → Bool) (most : ℕ)
+    (s : guest.State) : Type 0 where
   pub asking : State
-  pub reaches : Quietly program words m most (start program) asking
+  pub reaches : Quietly program words m is_span most (start program) asking
+  -- the call itself is no entry either
+  pub no_entry : (to : Option State)
+      → executed program (entries is_span) (record { from = asking; to = to }) ≡ 0
   pub next : Answer → State
   pub asks_it : turn program words asking ≡ asks (guest_step.loader_question s) next
   pub begins : (a : Answer) → IsTrue (fits a (guest_step.loader_question s))
       → Begins program words own m choose 8 (next a) (guest_step.after_loader s a)
+
+-- A program that begins with its memory and makes it loads so.
+abbrev pub ProgramsLoad : Type 0
+ProgramsLoad =
+    (program : Program) (words own m choose pages : ℕ) (is_span : ℕ → Bool) (b : Beginning)
+    (texts : List ℕ) (shares : List (List PageRun)) (fillers : List Filler)
+    (readable writable : ℕ → Bool) (page_words : ℕ → List ℕ) (code : ℕ → Option ℕ)
+    → IsProgram program own m choose pages b texts fillers
+    → MakesMemory program words m pages texts shares fillers readable writable page_words
+    → MakersAreNone is_span pages fillers
+    → Loads program words own m choose is_span (memory_turns shares fillers + 7)
+    (start_of b (paged readable writable page_words) code)
 
 -- where it has begun
 abbrev pub begun_at : (program : Program) (words own m choose most : ℕ) (x : State)
@@ -118,3 +155,30 @@ pub record HasBegun (own choose : ℕ) (t : guest.State) (x : State) : Type 0 wh
   pub pc_is : workspace.fields pc_field ≡ int t.pc
   pub no_operands : workspace.operands ≡ []
   pub waits_in : below.method ≡ own
+
+-- ---- loading as the laws of runs want it
+
+-- A pair of machines, of which things of a kind are counted: the guest machine, and the classes of
+-- a program, whose instructions weigh so much by each.
+pub record IsCountedPair (I : Type 0) (program : Program) (words choose : ℕ)
+    (p : Pair guest.State State I) (weight : I → Instruction → ℕ) : Type 0 where
+  pub guest_is : p.guest ≡ guest_step.turn
+  pub classes_are : p.classes ≡ turn program words
+  pub tally_is : (i : I) → (p.tally i).classes ≡ executed program (weight i)
+  -- where a branch goes is not counted, and nothing is that loading counts
+  pub looks : (i : I) → LooksAtNoTarget (weight i)
+  pub nothing : (i : I) (total : (Instruction → ℕ) → ℕ) → CountNothing choose total
+      → total (weight i) ≡ 0
+
+-- Where a program loads, its pair comes to rest where it has begun.
+abbrev pub ProgramsLoadInRuns : Type 0 → Type 0
+ProgramsLoadInRuns I =
+    (program : Program) (words own m choose : ℕ) (is_span : ℕ → Bool) (most limit : ℕ)
+    (s : guest.State) (p : Pair guest.State State I) (allowed : I → ℕ) (weight : I → Instruction → ℕ)
+    → IsCountedPair I program words choose p weight
+    → s.begun ≡ false
+    → Loads program words own m choose is_span most s
+    → most + 9 ≤ limit
+    → ((i : I) (t : guest.State) (x : State) → HasBegun own choose t x
+    → (p.tally i).credit x ≤ allowed i)
+    → runs.Loads p (HasBegun own choose) limit allowed s (start program)

@@ -1,9 +1,20 @@
 -- Tables of pages for which pages are made.
-use Rattle.std.specs.Prelude.{◌≡◌, ◌≢◌, ℕ, suc, ◌+◌, ◌<◌, ◌≤◌, ◌==◌, ◌&&◌, Bool, true, false, if◌then◌else◌, List, [], ◌∷◌, Option, Some, is_some}
+use Rattle.std.specs.Prelude.{◌≡◌, ◌≢◌, ℕ, suc, ◌+◌, ◌*◌, ◌<◌, ◌≤◌, ◌==◌, ◌&&◌, nat_lt, Bool, true, false, if◌then◌else◌, List, [], ◌∷◌, ◌++◌, length, flat_map, Option, Some, None, is_some}
 use Rattle.std.specs.List.{list_any}
+use Rattle.image_parts.specs.declared.page_run.PageRun.{PageRun}
+use Rattle.image_parts.specs.Runs.{pages_of, run_pages}
+use Rattle.jvm_program.specs.declared.value.Value.TheVariants.{Array as array, Text as text}
+use Rattle.jvm_program.specs.Program.{Program}
 use Rattle.jvm_program.specs.Values.{ints, pages, Heap, with_new, with_page}
-use Rattle.guest_layout.specs.FieldNumbers.{page_count}
+use Rattle.jvm_program.specs.Effect.{Workspace}
+use Rattle.jvm_program.specs.Step.{Frame}
+use Rattle.code_steps.specs.Placing.{LiesAt}
+use Rattle.guest_layout.specs.FieldNumbers.{page_count, readable_field, writable_field}
+use Rattle.loading_code.specs.Pages.{pages_code}
+use Rattle.code_paths.specs.Paths.{weigh}
+use Rattle.loading_code_laws.specs.Leading.{LeadsBack}
 use Rattle.loading_code_laws.specs.Filled.{AreApart}
+use Rattle.loading_code_laws.specs.Loaded.{TellsRuns}
 
 -- Two arrays are the tables of the pages that can be read and of those that can be written.
 pub record HasTables (heap : Heap) (readable writable : ℕ)
@@ -72,3 +83,46 @@ pub record ArePages (heap : Heap) (readable_pages writable_pages : ℕ → Optio
   pub shared : (n p : ℕ) → writable_pages n ≡ Some p → readable_pages n ≡ Some p
   pub read : (n : ℕ) → is_some (readable_pages n) ≡ is_among xs n
   pub written : (n : ℕ) → is_some (writable_pages n) ≡ is_written_among xs n
+
+-- ---- the laws
+
+-- What arrays are that are made so, behind those of a heap.
+pub record MakesPages (readable writable : ℕ) (xs : List (ℕ × Bool)) (heap : Heap) : Type 0 where
+  -- the tables have the places of the new arrays, in the order of the pages
+  pub tables : (readable_pages writable_pages : ℕ → Option ℕ)
+      → HasTables heap readable writable readable_pages writable_pages
+      → HasTables (made readable writable heap xs) readable writable
+      (readable_after readable_pages heap.used xs) (writable_after writable_pages heap.used xs)
+  -- where they were empty and the pages rise, they have exactly these pages
+  pub are_pages : HasTables heap readable writable (λ _. None) (λ _. None) → PagesRise 0 xs
+      → ArePages (made readable writable heap xs) (readable_after (λ _. None) heap.used xs)
+      (writable_after (λ _. None) heap.used xs) xs
+  -- each page takes 1,026 words
+  pub used_is : (made readable writable heap xs).used ≡ heap.used + 1026 * length xs
+  -- further pages are made behind these
+  pub joined : (ys : List (ℕ × Bool)) → made readable writable heap (xs ++ ys)
+      ≡ made readable writable (made readable writable heap xs) ys
+
+-- What the pages are that can be read below a page.
+pub record ListsPages (readable writable : ℕ → Bool) (end : ℕ) : Type 0 where
+  pub rise : PagesRise 0 (pages_of readable writable end)
+  pub read : (n : ℕ) → is_among (pages_of readable writable end) n ≡ (nat_lt n end && readable n)
+  pub written : (n : ℕ) → is_written_among (pages_of readable writable end) n
+      ≡ (nat_lt n end && (readable n && writable n))
+
+-- The method that makes pages makes those of the runs that its text tells, in their order, with at
+-- most 19 instructions for each page and 27 for each run.
+abbrev pub PagesAreMade : Type 0
+PagesAreMade =
+    (program : Program) (words own m class slot readable writable : ℕ)
+    (readable_pages writable_pages : ℕ → Option ℕ) (runs : List PageRun) (w : Workspace)
+    (caller : Frame) (others : List Frame)
+    → own ≢ m → LiesAt program own 0 pages_code
+    → TellsRuns program class slot runs → w.locals 0 ≡ text class slot
+    → w.fields readable_field ≡ array readable → w.fields writable_field ≡ array writable
+    → HasTables w.heap readable writable readable_pages writable_pages
+    → let told = flat_map run_pages runs in
+    w.heap.used + 1026 * length told ≤ words
+    → LeadsBack program words own m (27 * length runs + 19 * length told + 7)
+    (λ weight. (length told + 2) * weigh weight pages_code)
+    w caller others (made readable writable w.heap told)

@@ -1,5 +1,5 @@
 -- The code that puts the words of texts into pages.
-use Rattle.std.proofs.Common.{◌≡◌, ◌≢◌, IsTrue, ℕ, suc, ◌+◌, ◌*◌, ◌<◌, ◌==◌, Bool, true, false, if◌then◌else◌, List, [], ◌∷◌, ◌++◌, length, slice_index_or, Option, Some, None, refl, ap, subst, ◌∙◌, arith, mul-le-mul_right}
+use Rattle.std.proofs.Common.{◌≡◌, ◌≢◌, ℕ, suc, ◌+◌, ◌*◌, ◌<◌, ◌==◌, Bool, true, false, if◌then◌else◌, List, [], ◌∷◌, ◌++◌, length, slice_index_or, Option, Some, None, refl, ap, subst, ◌∙◌, arith, mul-le-mul_right}
 use Rattle.std.specs.List.{All}
 use Rattle.std.proofs.lemmas.Bool.{lt-ltb}
 use Rattle.std.proofs.lemmas.List.Elements.{All-head, All-tail}
@@ -20,8 +20,10 @@ use Rattle.jvm_program.specs.Stretch.{body_workspace}
 use Rattle.code_steps.specs.declared.step.Step.{Step}
 use Rattle.code_steps.specs.declared.step.Step.TheVariants.{Does}
 use Rattle.code_steps.specs.Widths.{size}
-use Rattle.code_steps.specs.Outcomes.{ended, outcome, stays_within}
+use Rattle.code_steps.specs.Outcomes.{ended, outcome}
 use Rattle.code_steps.specs.Placing.{LiesAt}
+use Rattle.code_steps.specs.Laws.{PartsLie}
+use Rattle.code_paths.specs.Laws.{CodeIsPathElsewhere}
 use Rattle.guest_layout.specs.FieldNumbers.{page_count, readable_field}
 use Rattle.guest_code.specs.Access.{push_word}
 use Rattle.loading_code.specs.declared.page_slot.PageSlot.{PageSlot}
@@ -34,14 +36,9 @@ use Rattle.loading_code_laws.specs.Arrays.{set_ints, with_ints}
 use Rattle.loading_code_laws.specs.Leading.{Reaches, LeadsBack, IsMethod}
 use Rattle.loading_code_laws.specs.Filled.{IsArray, HoldsPages, HasText, with_page_ints, filled}
 use Rattle.loading_code_laws.proofs.FillingLaws.Reading.{over_all}
-use Rattle.loading_code_laws.proofs.FillingLaws.Returning.{Paths, back_in, returns-path}
+use Rattle.loading_code_laws.proofs.FillingLaws.Returning.{back_in, returns-path}
 use Rattle.loading_code_laws.proofs.FillingLaws.Putting.{puts-words, passes-over}
 use Rattle.loading_code_laws.proofs.FillingLaws.Calling.{reaches-join, reaches-wider, call-leads}
-
--- parts of code that does not branch past its end lie one behind the other
-abbrev pub Parts : Type 0
-Parts =
-    (program : Program) (m at : ℕ) (first second : List Step) → IsTrue (stays_within first) → LiesAt program m at (first ++ second) → LiesAt program m at first × LiesAt program m (at + size first) second
 
 -- ---- arrays that stay
 
@@ -104,7 +101,7 @@ module _ (program : Program) (words class h table : ℕ) (places : ℕ → Optio
 pub one-more : (k a : ℕ) → a + k * a ≡ suc k * a
 one-more k a = grind arith
 
-module _ (paths : Paths) (parts : Parts) (program : Program) (words own m class h table : ℕ) (places : ℕ → Option ℕ) (given : ℕ → List ℕ) (locals : ℕ → Value) (operands : List Value) (fields : ℕ → Value) (caller : Frame) (others : List Frame) (differ : own ≢ m) (apart : h ≢ m) (is : IsMethod program h (kinds.Ints ∷ kinds.Text ∷ [])) (puts : LiesAt program h 0 words_code) (fields_are : fields readable_field ≡ array table) (few : length others < 62) where
+module _ (paths : CodeIsPathElsewhere) (parts : PartsLie) (program : Program) (words own m class h table : ℕ) (places : ℕ → Option ℕ) (given : ℕ → List ℕ) (locals : ℕ → Value) (operands : List Value) (fields : ℕ → Value) (caller : Frame) (others : List Frame) (differ : own ≢ m) (apart : h ≢ m) (is : IsMethod program h (kinds.Ints ∷ kinds.Text ∷ [])) (puts : LiesAt program h 0 words_code) (fields_are : fields readable_field ≡ array table) (few : length others < 62) where
   abbrev stands : List Value → Heap → Workspace
   stands below heap = over_all locals below fields heap
 
@@ -169,6 +166,6 @@ module _ (paths : Paths) (parts : Parts) (program : Program) (words own m class 
       (reaches-join program words m 42000 (42000 * length slots + 1) weighs weighs_rest (placed own at (stands operands heap) frames) (placed own first.0 (stands operands heap_then) frames) (back_in (stands operands heap) (filled places given heap (s ∷ slots)) caller others) first.2 next)
 
 -- the whole method
-pub fills-pages : (paths : Paths) (parts : Parts) (program : Program) (words own m class h table : ℕ) (places : ℕ → Option ℕ) (given : ℕ → List ℕ) (slots : List PageSlot) (w : Workspace) (caller : Frame) (others : List Frame) → own ≢ m → h ≢ m → LiesAt program own 0 (fill_code slots class h) → IsMethod program h (kinds.Ints ∷ kinds.Text ∷ []) → LiesAt program h 0 words_code → w.fields readable_field ≡ array table → HoldsPages w.heap table places → All (HasText program class given) slots → length others < 62 → LeadsBack program words own m (42000 * length slots + 1) (λ weight. weigh weight (fill_code slots class h) + length slots * (1025 * weigh weight words_code)) w caller others (filled places given w.heap slots)
+pub fills-pages : (paths : CodeIsPathElsewhere) (parts : PartsLie) (program : Program) (words own m class h table : ℕ) (places : ℕ → Option ℕ) (given : ℕ → List ℕ) (slots : List PageSlot) (w : Workspace) (caller : Frame) (others : List Frame) → own ≢ m → h ≢ m → LiesAt program own 0 (fill_code slots class h) → IsMethod program h (kinds.Ints ∷ kinds.Text ∷ []) → LiesAt program h 0 words_code → w.fields readable_field ≡ array table → HoldsPages w.heap table places → All (HasText program class given) slots → length others < 62 → LeadsBack program words own m (42000 * length slots + 1) (λ weight. weigh weight (fill_code slots class h) + length slots * (1025 * weigh weight words_code)) w caller others (filled places given w.heap slots)
 fills-pages paths parts program words own m class h table places given slots w caller others differ apart lies is puts fields_are held has few =
     fills paths parts program words own m class h table places given w.locals w.operands w.fields caller others differ apart is puts fields_are few slots w.heap 0 lies held has

@@ -13,6 +13,7 @@ use Rattle.jvm_program.specs.Effect.{Workspace, gives}
 use Rattle.jvm_program.specs.Step.{State, Frame, placed}
 use Rattle.code_steps.specs.Outcomes.{Outcome, beyond, left, stopped, outcome}
 use Rattle.code_steps.specs.Placing.{LiesAt}
+use Rattle.code_paths.specs.Laws.{CodeIsPathElsewhere}
 use Rattle.loading_code.specs.Words.{words_code}
 use Rattle.data_strings.specs.Texts.{group, page_text}
 use Rattle.code_paths.specs.Paths.{weigh, Path}
@@ -24,13 +25,13 @@ use Rattle.loading_code_laws.proofs.FillingLaws.Spelling.{five-spell, get-behind
 use Rattle.loading_code_laws.proofs.FillingLaws.Reading.{laters, over_all, compared}
 use Rattle.loading_code_laws.proofs.FillingLaws.Passes.{word_put, loop_code, passes, ends, begun, array-there, no-array}
 use Rattle.loading_code_laws.proofs.FillingLaws.Fronts.{with-more, with-none, there-with}
-use Rattle.loading_code_laws.proofs.FillingLaws.Returning.{Paths, leaves-path, returns-path}
+use Rattle.loading_code_laws.proofs.FillingLaws.Returning.{leaves-path, returns-path}
 
 -- so many passes weigh one and the others
 one-more : (k a : ℕ) → a + (k + 1) * a ≡ (suc k + 1) * a
 one-more k a = grind arith
 
-module _ (paths : Paths) (program : Program) (words own m class slot p : ℕ) (old : ℕ → ℕ) (operands : List Value) (fields : ℕ → Value) (heap : Heap) (caller : Frame) (others : List Frame) (differ : own ≢ m) (lies : LiesAt program own 0 words_code) (there : heap.array_at p ≡ Some (ints 1024 old)) where
+module _ (paths : CodeIsPathElsewhere) (program : Program) (words own m class slot p : ℕ) (old : ℕ → ℕ) (operands : List Value) (fields : ℕ → Value) (heap : Heap) (caller : Frame) (others : List Frame) (differ : own ≢ m) (lies : LiesAt program own 0 words_code) (there : heap.array_at p ≡ Some (ints 1024 old)) where
   abbrev chars : List ℕ
   chars = program.characters class slot
 
@@ -179,7 +180,7 @@ module _ (paths : Paths) (program : Program) (words own m class slot p : ℕ) (o
     }
 
 -- without an array
-pub passes-over : (paths : Paths) (program : Program) (words own m : ℕ) (w : Workspace) (caller : Frame) (others : List Frame) → own ≢ m → LiesAt program own 0 words_code → w.locals 0 ≡ null → LeadsBack program words own m 3 (λ weight. weigh weight words_code) w caller others w.heap
+pub passes-over : (paths : CodeIsPathElsewhere) (program : Program) (words own m : ℕ) (w : Workspace) (caller : Frame) (others : List Frame) → own ≢ m → LiesAt program own 0 words_code → w.locals 0 ≡ null → LeadsBack program words own m 3 (λ weight. weigh weight words_code) w caller others w.heap
 passes-over paths program words own m w caller others differ lies is = record {
   turns = 3;
   in_time = omega arith;

@@ -9,20 +9,16 @@ use Rattle.code_steps.specs.declared.step.Step.{Step}
 use Rattle.code_steps.specs.Widths.{bytes_before}
 use Rattle.code_steps.specs.Outcomes.{left, stopped, outcome_from}
 use Rattle.code_steps.specs.Placing.{LiesAt}
+use Rattle.code_paths.specs.Laws.{CodeIsPathElsewhere}
 use Rattle.code_paths.specs.Paths.{step_weight, weigh, Path, PathElsewhere}
 use Rattle.code_paths.proofs.Joining.{paths-join, path-wider, turn-path, seen-elsewhere}
 use Rattle.code_paths.proofs.Weighing.{weigh-back, weigh-front, weigh-more, step-weighs, line-step}
-
--- code is a path, seen from another method
-abbrev pub Paths : Type 0
-Paths =
-    (program : Program) (words own m low at k : ℕ) (code : List Step) (w : Workspace) (others : List Frame) → own ≢ m → LiesAt program own at code → PathElsewhere program words own m low at k code others (placed own (at + bytes_before code k) w others) (outcome_from program words code k w)
 
 -- back in the caller's frame
 abbrev pub back_in : Workspace → Heap → Frame → List Frame → State
 back_in w heap caller others = record { fields = w.fields; heap = heap; frames = caller ∷ others }
 
-module _ (paths : Paths) (program : Program) (words own m at : ℕ) (differ : own ≢ m) (code : List Step) (lies : LiesAt program own at code) (k : ℕ) (w : Workspace) (others : List Frame) where
+module _ (paths : CodeIsPathElsewhere) (program : Program) (words own m at : ℕ) (differ : own ≢ m) (code : List Step) (lies : LiesAt program own at code) (k : ℕ) (w : Workspace) (others : List Frame) where
   abbrev begin : State
   begin = placed own (at + bytes_before code k) w others
 
@@ -39,7 +35,7 @@ module _ (paths : Paths) (program : Program) (words own m at : ℕ) (differ : ow
       path-wider program words m low low low low n (λ weight. weigh weight (drop k code)) (λ weight. weigh weight code) begin (placed own target v others) (omega arith) (omega arith) (λ weight still. weigh-back weight k code) way
 
 -- it returns
-pub returns-path : (paths : Paths) (program : Program) (words own m at : ℕ) → own ≢ m → (code : List Step) → LiesAt program own at code → (k : ℕ) (w : Workspace) (caller : Frame) (others : List Frame) (n i : ℕ) (v back : Workspace) → outcome_from program words code k w ≡ stopped n i v (gives None back) → (low : ℕ) → Path program words m low low (n + 1) (λ weight. weigh weight code) (placed own (at + bytes_before code k) w (caller ∷ others)) (back_in back back.heap caller others)
+pub returns-path : (paths : CodeIsPathElsewhere) (program : Program) (words own m at : ℕ) → own ≢ m → (code : List Step) → LiesAt program own at code → (k : ℕ) (w : Workspace) (caller : Frame) (others : List Frame) (n i : ℕ) (v back : Workspace) → outcome_from program words code k w ≡ stopped n i v (gives None back) → (low : ℕ) → Path program words m low low (n + 1) (λ weight. weigh weight code) (placed own (at + bytes_before code k) w (caller ∷ others)) (back_in back back.heap caller others)
 returns-path paths program words own m at differ code lies k w caller others n i v back is low =
     let frames = caller ∷ others in
     let begin = placed own (at + bytes_before code k) w frames in

@@ -18,6 +18,8 @@ use Rattle.code_steps.specs.declared.step.Step.TheVariants.{Leaves}
 use Rattle.code_steps.specs.Widths.{bytes_before}
 use Rattle.code_steps.specs.Outcomes.{Outcome, beyond, left, outcome, outcome_from}
 use Rattle.code_steps.specs.Placing.{LiesAt}
+use Rattle.code_steps.specs.Laws.{PartsLie}
+use Rattle.code_paths.specs.Laws.{CodeIsPathElsewhere}
 use Rattle.guest_layout.specs.FieldNumbers.{page_count, readable_field, writable_field}
 use Rattle.loading_code.specs.Parts.{returns, ended_code}
 use Rattle.loading_code.specs.Pages.{begun_code, run_code, runs_body, next_code, writable_code, pages_code, pages_offset, runs_offset}
@@ -28,9 +30,9 @@ use Rattle.loading_code_laws.specs.Leading.{Reaches, LeadsBack}
 use Rattle.loading_code_laws.specs.MadePages.{HasTables, with_new_page, with_made, made, with_place, with_place_if}
 use Rattle.loading_code_laws.proofs.FillingLaws.Spelling.{get-behind}
 use Rattle.loading_code_laws.proofs.FillingLaws.Reading.{laters, over_all, with_int_in, compared, goes-on, has-ended}
-use Rattle.loading_code_laws.proofs.FillingLaws.Returning.{Paths, leaves-path, returns-path}
+use Rattle.loading_code_laws.proofs.FillingLaws.Returning.{leaves-path, returns-path}
 use Rattle.loading_code_laws.proofs.FillingLaws.Calling.{reaches-join, reaches-wider}
-use Rattle.loading_code_laws.proofs.FillingLaws.Filling.{Parts, one-more}
+use Rattle.loading_code_laws.proofs.FillingLaws.Filling.{one-more}
 use Rattle.loading_code_laws.proofs.FillingLaws.Making.{run_read, next_target, pages_rest, reads-run, makes, shares, passes-over, goes-next}
 use Rattle.loading_code_laws.proofs.FillingLaws.Tables.{array-there, readable-there, writable-there, page-found, tables-stay, used-made, made-joined, used-all, from_page, from-pages, from-long}
 
@@ -86,7 +88,7 @@ record AtPage (class slot n c page last : ℕ) (locals : ℕ → Value) : Type 0
   page_is : locals 3 ≡ int page
   last_is : locals 4 ≡ int last
 
-module _ (paths : Paths) (program : Program) (words own m class slot : ℕ) (fields : ℕ → Value) (operands : List Value) (readable writable : ℕ) (readable_is : fields readable_field ≡ array readable) (writable_is : fields writable_field ≡ array writable) (frames : List Frame) (differ : own ≢ m) (lies : LiesAt program own 2 runs_code) where
+module _ (paths : CodeIsPathElsewhere) (program : Program) (words own m class slot : ℕ) (fields : ℕ → Value) (operands : List Value) (readable writable : ℕ) (readable_is : fields readable_field ≡ array readable) (writable_is : fields writable_field ≡ array writable) (frames : List Frame) (differ : own ≢ m) (lies : LiesAt program own 2 runs_code) where
   abbrev stands : (ℕ → Value) → Heap → Workspace
   stands locals heap = over_all locals operands fields heap
 
@@ -181,7 +183,7 @@ runs-long (run ∷ runs) = let rest = runs-long runs in omega (arith, rest)
 more-passes : (p r a : ℕ) → p * a + (r + 1) * a ≡ (p + r + 1) * a
 more-passes p r a = grind arith
 
-module _ (paths : Paths) (program : Program) (words own m class slot : ℕ) (fields : ℕ → Value) (operands : List Value) (readable writable : ℕ) (readable_is : fields readable_field ≡ array readable) (writable_is : fields writable_field ≡ array writable) (caller : Frame) (others : List Frame) (differ : own ≢ m) (lies : LiesAt program own 2 runs_code) where
+module _ (paths : CodeIsPathElsewhere) (program : Program) (words own m class slot : ℕ) (fields : ℕ → Value) (operands : List Value) (readable writable : ℕ) (readable_is : fields readable_field ≡ array readable) (writable_is : fields writable_field ≡ array writable) (caller : Frame) (others : List Frame) (differ : own ≢ m) (lies : LiesAt program own 2 runs_code) where
   abbrev chars : List ℕ
   chars = program.characters class slot
 
@@ -288,7 +290,7 @@ begun-weighs p b r a e =
     let more : (p + 1) * a + a ≡ (p + 2) * a = grind arith in
     omega (arith, e, less, more)
 
-pub makes-pages : (paths : Paths) (parts : Parts) (program : Program) (words own m class slot readable writable : ℕ) (readable_pages writable_pages : ℕ → Option ℕ) (runs : List PageRun) (w : Workspace) (caller : Frame) (others : List Frame) → own ≢ m → LiesAt program own 0 pages_code → program.characters class slot ≡ text_of runs → All IsRun runs → length runs < 2 ^ 29 → w.locals 0 ≡ text class slot → w.fields readable_field ≡ array readable → w.fields writable_field ≡ array writable → HasTables w.heap readable writable readable_pages writable_pages → w.heap.used + 1026 * length (flat_map run_pages runs) ≤ words → LeadsBack program words own m (27 * length runs + 19 * length (flat_map run_pages runs) + 7) (λ weight. (length (flat_map run_pages runs) + 2) * weigh weight pages_code) w caller others (made readable writable w.heap (flat_map run_pages runs))
+pub makes-pages : (paths : CodeIsPathElsewhere) (parts : PartsLie) (program : Program) (words own m class slot readable writable : ℕ) (readable_pages writable_pages : ℕ → Option ℕ) (runs : List PageRun) (w : Workspace) (caller : Frame) (others : List Frame) → own ≢ m → LiesAt program own 0 pages_code → program.characters class slot ≡ text_of runs → All IsRun runs → length runs < 2 ^ 29 → w.locals 0 ≡ text class slot → w.fields readable_field ≡ array readable → w.fields writable_field ≡ array writable → HasTables w.heap readable writable readable_pages writable_pages → w.heap.used + 1026 * length (flat_map run_pages runs) ≤ words → LeadsBack program words own m (27 * length runs + 19 * length (flat_map run_pages runs) + 7) (λ weight. (length (flat_map run_pages runs) + 2) * weigh weight pages_code) w caller others (made readable writable w.heap (flat_map run_pages runs))
 makes-pages paths parts program words own m class slot readable writable readable_pages writable_pages runs w caller others differ lies chars_are are_runs few text_is readable_is writable_is has room =
     let lie = parts program own 0 begun_code runs_code refl lies in
     let frames = caller ∷ others in

@@ -25,6 +25,7 @@ use Rattle.jvm_program.specs.HostMemory.{HostMemory, memory_of}
 use Rattle.jvm_program.specs.Effect.{Workspace, asks_host, enters, effect}
 use Rattle.jvm_program.specs.Step.{State, Frame, placed, turn, entered, after_host, host_question}
 use Rattle.code_steps.specs.declared.step.Step.{Step}
+use Rattle.code_steps.specs.declared.step.Step.TheVariants.{Does}
 use Rattle.code_steps.specs.Widths.{bytes_before}
 use Rattle.code_steps.specs.Outcomes.{beyond, stopped, outcome, outcome_from, after_instruction}
 use Rattle.code_steps.specs.Placing.{LiesAt}
@@ -34,16 +35,16 @@ use Rattle.guest_code.specs.Fields.{linked_field}
 use Rattle.loading_code.specs.declared.beginning.Beginning.{Beginning}
 use Rattle.loading_code.specs.Parts.{call}
 use Rattle.loading_code.specs.Starting.{beginning_call, begun_code}
-use Rattle.code_paths.specs.Classes.{entries}
+use Rattle.code_paths.specs.Classes.{entries, executed, weighed}
 use Rattle.code_paths.specs.Paths.{weigh, Path, PathElsewhere}
 use Rattle.code_paths.proofs.Joining.{paths-join, turn-path, seen-elsewhere}
-use Rattle.code_paths.proofs.Weighing.{step-weighs}
+use Rattle.code_paths.proofs.Weighing.{lies-line, step-weighs}
 use Rattle.guest_follows.specs.Match.{HoldsMemory, host_memory}
 use Rattle.guest_follows.proofs.Patches.{HoldsMemory-answered}
 use Rattle.guest_follows.specs.Holding.{HoldsOn}
+use Rattle.code_paths.specs.Laws.{CodeIsPathElsewhere}
 use Rattle.loading_code_laws.specs.Leading.{Reaches, IsMethod}
 use Rattle.loading_code_laws.proofs.FillingLaws.Reading.{laters}
-use Rattle.loading_code_laws.proofs.FillingLaws.Returning.{Paths}
 use Rattle.loading_code_laws.specs.Quiet.{Quietly}
 use Rattle.loading_code_laws.specs.Made.{readable_place, writable_place, with_tables, over, start_of, CountNothing, Begins}
 use Rattle.loading_code_laws.proofs.LoadingCodeLaws.Texts.{plus-none}
@@ -111,7 +112,7 @@ if-none : (b : Bool) → b ≡ false → ◌≡◌ {A = ℕ} (if b then 1 else 0
 if-none false e = refl
 if-none true e = cc
 
-module _ (paths : Paths) (program : Program) (words own m choose : ℕ) (differ : own ≢ m) (choose_is : IsMethod program choose []) (b : Beginning) (memory : Memory) (code : ℕ → Option ℕ) (locals fields : ℕ → Value) (zeros : (f : ℕ) → f < 34 → fields f ≡ int 0) (unlinked : fields linked_field ≡ int 0) (heap : Heap) (held : HoldsMemory heap readable_place writable_place memory) (at : ℕ) (lies : LiesAt program own at (begun_code b choose)) where
+module _ (paths : CodeIsPathElsewhere) (program : Program) (words own m : ℕ) (is_span : ℕ → Bool) (choose : ℕ) (differ : own ≢ m) (choose_is : IsMethod program choose []) (b : Beginning) (memory : Memory) (code : ℕ → Option ℕ) (locals fields : ℕ → Value) (zeros : (f : ℕ) → f < 34 → fields f ≡ int 0) (unlinked : fields linked_field ≡ int 0) (heap : Heap) (held : HoldsMemory heap readable_place writable_place memory) (at : ℕ) (lies : LiesAt program own at (begun_code b choose)) where
   abbrev steps : List Step
   steps = begun_code b choose
 
@@ -150,7 +151,7 @@ module _ (paths : Paths) (program : Program) (words own m choose : ℕ) (differ 
   stop low =
       subst (λ o. PathElsewhere program words own m low at 0 steps [] (placed own (at + 0) begin []) o) asked-runs (paths program words own m low at 0 steps begin [] differ lies)
 
-  pub asking-reached : Quietly program words m 7 (placed own at begin []) (placed own place asking [])
+  pub asking-reached : Quietly program words m is_span 7 (placed own at begin []) (placed own place asking [])
   asking-reached = record {
     total = λ weight. weigh weight (drop 0 (take 7 steps));
     reaches = record {
@@ -158,8 +159,11 @@ module _ (paths : Paths) (program : Program) (words own m choose : ℕ) (differ 
       in_time = omega arith;
       path = λ low. subst (λ a. Path program words m low low 7 (λ weight. weigh weight (drop 0 (take 7 steps))) (placed own a begin []) (placed own place asking [])) (let start : at + 0 ≡ at = omega arith in start) (stop low).0;
     };
-    quiet = (refl, refl);
+    quiet = record { no_reads = refl; no_switches = refl; no_entries = refl };
   }
+
+  pub no-entry : (to : Option State) → executed program (entries is_span) (record { from = placed own place asking []; to = to }) ≡ 0
+  no-entry to = ap (weighed (entries is_span)) (lies-line program own 7 steps at (Does instructions.CallHost) lies refl)
 
   -- ---- by an answer
 

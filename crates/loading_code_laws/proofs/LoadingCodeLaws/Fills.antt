@@ -1,5 +1,5 @@
 -- The calls of the methods that fill pages.
-use Rattle.std.proofs.Common.{◌≡◌, ◌≢◌, ℕ, ◌+◌, ◌*◌, ◌<◌, ◌≤◌, List, [], ◌∷◌, ◌++◌, length, map, Option, refl, ap, ◌∙◌, sym, subst, arith}
+use Rattle.std.proofs.Common.{◌≡◌, ◌≢◌, ℕ, ◌+◌, ◌*◌, ◌<◌, ◌≤◌, Bool, false, if◌then◌else◌, List, [], ◌∷◌, ◌++◌, length, map, Option, refl, ap, ◌∙◌, sym, subst, arith}
 use Rattle.std.specs.List.{All, range_with_len}
 use Rattle.std.proofs.lemmas.List.Elements.{All-head, All-tail, All-weaker}
 use Rattle.std.proofs.lemmas.List.FromFn.{fill_by_all}
@@ -22,19 +22,20 @@ use Rattle.loading_code.specs.Parts.{call}
 use Rattle.loading_code.specs.Words.{words_code}
 use Rattle.loading_code.specs.Filling.{fill_code}
 use Rattle.data_strings.specs.Texts.{page_text}
-use Rattle.code_paths.specs.Classes.{reads, switches}
+use Rattle.code_paths.specs.Classes.{reads, switches, entries}
 use Rattle.code_paths.specs.Paths.{weigh, waiting_behind}
+use Rattle.code_steps.specs.Laws.{PartsLie}
+use Rattle.code_paths.specs.Laws.{CodeIsPathElsewhere}
 use Rattle.loading_code_laws.specs.Texts.{AreWords, int_at}
 use Rattle.loading_code_laws.specs.Leading.{IsMethod}
 use Rattle.loading_code_laws.specs.Filled.{HoldsPages, HasText, with_page_ints, filled}
 use Rattle.loading_code_laws.proofs.FillingLaws.Reading.{over_all}
-use Rattle.loading_code_laws.proofs.FillingLaws.Returning.{Paths}
 use Rattle.loading_code_laws.proofs.FillingLaws.Spelling.{text-spells}
-use Rattle.loading_code_laws.proofs.FillingLaws.Filling.{Parts, fills-pages}
+use Rattle.loading_code_laws.proofs.FillingLaws.Filling.{fills-pages}
 use Rattle.loading_code_laws.proofs.FillingLaws.Held.{held-stays}
 use Rattle.loading_code_laws.proofs.FillingLaws.Calling.{call-leads}
 use Rattle.loading_code_laws.specs.Quiet.{Quietly, ComesTo}
-use Rattle.loading_code_laws.specs.Loaded.{Filler, IsFiller, HasPage, numbers_of, slots_of, filler_turns, fillers_turns}
+use Rattle.loading_code_laws.specs.Loaded.{FillsApart, Filler, IsFiller, HasPage, numbers_of, slots_of, filler_turns, fillers_turns}
 use Rattle.loading_code_laws.proofs.LoadingCodeLaws.Quietly.{quiet-join, quiet-wider, quiet-itself}
 use Rattle.loading_code_laws.proofs.LoadingCodeLaws.Texts.{times-none, plus-none}
 
@@ -70,6 +71,13 @@ joined-filled places page_words (s ∷ first) second heap =
 five-nones : (a : ℕ) → a ≡ 0 → 0 + (0 + (0 + (0 + (0 + a)))) ≡ 0
 five-nones a e = omega (arith, e)
 
+filled-entries : (is_span : ℕ → Bool) (slots : List PageSlot) (class h : ℕ) → is_span h ≡ false → weigh (entries is_span) (fill_code slots class h) ≡ 0
+filled-entries is_span [] class h none = refl
+filled-entries is_span (s ∷ slots) class h none =
+    let rest = filled-entries is_span slots class h none in
+    let one : entries is_span (Call h) ≡ 0 = ap (λ b. if b then 1 else 0) none in
+    omega (arith, one, rest)
+
 filled-reads : (slots : List PageSlot) (class h : ℕ) → weigh reads (fill_code slots class h) ≡ 0
 filled-reads [] class h = refl
 filled-reads (s ∷ slots) class h =
@@ -87,7 +95,7 @@ called program words h w is =
     ap (λ (method : Option LinkedMethod). calls h method w) is.there
     ∙ ap (λ (parameters : List Kind). arguments w.heap (last_first parameters []) w.operands [] (λ given rest. enters h given (with_operands w rest))) is.parameters_are
 
-module _ (paths : Paths) (parts : Parts) (program : Program) (words own m table : ℕ) (places : ℕ → Option ℕ) (page_words : ℕ → List ℕ) (are : (n : ℕ) → AreWords (page_words n)) (long : (n : ℕ) → length (page_words n) ≡ 1024) (locals : ℕ → Value) (operands : List Value) (fields : ℕ → Value) (others : List Frame) (differ : own ≢ m) (table_is : fields readable_field ≡ array table) (few : length others < 61) (rest : List Step) where
+module _ (paths : CodeIsPathElsewhere) (parts : PartsLie) (program : Program) (words own m : ℕ) (is_span : ℕ → Bool) (table : ℕ) (places : ℕ → Option ℕ) (page_words : ℕ → List ℕ) (are : (n : ℕ) → AreWords (page_words n)) (long : (n : ℕ) → length (page_words n) ≡ 1024) (locals : ℕ → Value) (operands : List Value) (fields : ℕ → Value) (others : List Frame) (differ : own ≢ m) (table_is : fields readable_field ≡ array table) (few : length others < 61) (rest : List Step) where
   abbrev stands : Heap → Workspace
   stands heap = over_all locals operands fields heap
 
@@ -103,8 +111,8 @@ module _ (paths : Paths) (parts : Parts) (program : Program) (words own m table 
       }
 
   -- a call
-  one-filled : (behind : List Step) (f : Filler) (at : ℕ) (heap : Heap) → IsFiller program m page_words f → LiesAt program own at (call f.number ∷ behind) → HoldsPages heap table places → ComesTo program words own m (filler_turns f) behind (placed own at (stands heap) others) (stands (filled places page_words heap (map by_page f.slots))) others
-  one-filled behind f at heap is lies held =
+  one-filled : (behind : List Step) (f : Filler) (at : ℕ) (heap : Heap) → IsFiller program m page_words f → FillsApart is_span f → LiesAt program own at (call f.number ∷ behind) → HoldsPages heap table places → ComesTo program words own m is_span (filler_turns f) behind (placed own at (stands heap) others) (stands (filled places page_words heap (map by_page f.slots))) others
+  one-filled behind f at heap is none lies held =
       let w = stands heap in
       let slots = f.slots in
       let given = spelled program f.class in
@@ -112,37 +120,42 @@ module _ (paths : Paths) (parts : Parts) (program : Program) (words own m table 
       let same = All-weaker (HasPage program f.class page_words) (λ (s : PageSlot). given s.slot ≡ page_words s.page) (λ s h. sym (spells program f.class s.slot (page_words s.page) h.spells (are s.page) (long s.page))) slots is.has in
       let back = fills-pages paths parts program words f.number m f.class f.puts table places given slots (body_workspace [] w) (waiting_behind own at f.number w) others is.apart is.puts_apart is.fills_lies is.puts_is is.puts_lies table_is held has (omega (arith, few)) in
       let total : (Instruction → ℕ) → ℕ = λ weight. weigh weight (fill_code slots f.class f.puts) + length slots * (1025 * weigh weight words_code) in
+      let filled-none : (weight : Instruction → ℕ) → weight (Call f.number) ≡ 0 → weigh weight (fill_code slots f.class f.puts) ≡ 0 → weigh weight words_code ≡ 0 → weight (Call f.number) + total weight ≡ 0 =
+      λ weight one all body.
+      plus-none (weight (Call f.number)) (total weight) one (plus-none (weigh weight (fill_code slots f.class f.puts)) (length slots * (1025 * weigh weight words_code)) all
+      (times-none (length slots) (1025 * weigh weight words_code) (times-none 1025 (weigh weight words_code) body))) in
       let reached = call-leads program words own m at f.number f.number (42000 * length slots + 1) total w w [] others (filled places given heap slots) differ (lies.0, tt) (called program words f.number w is.fills) (omega (arith, few)) back in
       record {
         at = at + 3;
         lies = lies.1;
-        quietly = subst (λ (last : Heap). Quietly program words m (filler_turns f) (placed own at w others) (placed own (at + 3) (stands last) others)) (same-filled places given page_words slots heap same)
-            (quiet-wider program words m (1 + (42000 * length slots + 1)) (filler_turns f) (placed own at w others) (placed own (at + 3) (stands (filled places given heap slots)) others) (omega arith)
+        quietly = subst (λ (last : Heap). Quietly program words m is_span (filler_turns f) (placed own at w others) (placed own (at + 3) (stands last) others)) (same-filled places given page_words slots heap same)
+            (quiet-wider program words m is_span (1 + (42000 * length slots + 1)) (filler_turns f) (placed own at w others) (placed own (at + 3) (stands (filled places given heap slots)) others) (omega arith)
             (record {
               total = λ weight. weight (Call f.number) + total weight;
               reaches = reached;
-              quiet = (
-                plus-none (reads (Call f.number)) (total reads) refl (plus-none (weigh reads (fill_code slots f.class f.puts)) (length slots * (1025 * weigh reads words_code)) (filled-reads slots f.class f.puts) (times-none (length slots) (1025 * weigh reads words_code) refl)),
-                plus-none (switches (Call f.number)) (total switches) refl (plus-none (weigh switches (fill_code slots f.class f.puts)) (length slots * (1025 * weigh switches words_code)) (filled-switches slots f.class f.puts) (times-none (length slots) (1025 * weigh switches words_code) refl)),
-              );
+              quiet = record {
+                no_reads = filled-none reads refl (filled-reads slots f.class f.puts) refl;
+                no_switches = filled-none switches refl (filled-switches slots f.class f.puts) refl;
+                no_entries = filled-none (entries is_span) (ap (λ b. if b then 1 else 0) none.0) (filled-entries is_span slots f.class f.puts none.1) refl;
+              };
             }));
       }
 
   -- all of them
-  pub all-filled : (fillers : List Filler) (at : ℕ) (heap : Heap) → All (IsFiller program m page_words) fillers → LiesAt program own at (map call (numbers_of fillers) ++ rest) → HoldsPages heap table places → ComesTo program words own m (fillers_turns fillers) rest (placed own at (stands heap) others) (stands (filled places page_words heap (map by_page (slots_of fillers)))) others
-  all-filled [] at heap are_fillers lies held = record {
+  pub all-filled : (fillers : List Filler) (at : ℕ) (heap : Heap) → All (IsFiller program m page_words) fillers → All (FillsApart is_span) fillers → LiesAt program own at (map call (numbers_of fillers) ++ rest) → HoldsPages heap table places → ComesTo program words own m is_span (fillers_turns fillers) rest (placed own at (stands heap) others) (stands (filled places page_words heap (map by_page (slots_of fillers)))) others
+  all-filled [] at heap are_fillers none lies held = record {
     at = at;
     lies = lies;
-    quietly = quiet-itself program words m (placed own at (stands heap) others);
+    quietly = quiet-itself program words m is_span (placed own at (stands heap) others);
   }
-  all-filled (f ∷ fillers) at heap are_fillers lies held =
+  all-filled (f ∷ fillers) at heap are_fillers none lies held =
       let behind = map call (numbers_of fillers) ++ rest in
-      let first = one-filled behind f at heap (All-head (IsFiller program m page_words) f fillers are_fillers) lies held in
+      let first = one-filled behind f at heap (All-head (IsFiller program m page_words) f fillers are_fillers) (All-head (FillsApart is_span) f fillers none) lies held in
       let heap_then = filled places page_words heap (map by_page f.slots) in
-      let next = all-filled fillers first.at heap_then (All-tail (IsFiller program m page_words) f fillers are_fillers) first.lies (held-stays places page_words (map by_page f.slots) heap table held) in
+      let next = all-filled fillers first.at heap_then (All-tail (IsFiller program m page_words) f fillers are_fillers) (All-tail (FillsApart is_span) f fillers none) first.lies (held-stays places page_words (map by_page f.slots) heap table held) in
       record {
         at = next.at;
         lies = next.lies;
-        quietly = subst (λ (last : Heap). Quietly program words m (fillers_turns (f ∷ fillers)) (placed own at (stands heap) others) (placed own next.at (stands last) others)) (sym (joined-filled places page_words f.slots (slots_of fillers) heap))
-            (quiet-join program words m (filler_turns f) (fillers_turns fillers) (placed own at (stands heap) others) (placed own first.at (stands heap_then) others) (placed own next.at (stands (filled places page_words heap_then (map by_page (slots_of fillers)))) others) first.quietly next.quietly);
+        quietly = subst (λ (last : Heap). Quietly program words m is_span (fillers_turns (f ∷ fillers)) (placed own at (stands heap) others) (placed own next.at (stands last) others)) (sym (joined-filled places page_words f.slots (slots_of fillers) heap))
+            (quiet-join program words m is_span (filler_turns f) (fillers_turns fillers) (placed own at (stands heap) others) (placed own first.at (stands heap_then) others) (placed own next.at (stands (filled places page_words heap_then (map by_page (slots_of fillers)))) others) first.quietly next.quietly);
       }

@@ -15,13 +15,13 @@ use Rattle.guest_layout.specs.FieldNumbers.{page_count, readable_field, writable
 use Rattle.loading_code.specs.Parts.{call}
 use Rattle.loading_code.specs.Starting.{table_code, page_texts_code, memory_code}
 use Rattle.guest_follows.specs.Match.{HoldsMemory}
+use Rattle.code_steps.specs.Laws.{PartsLie}
+use Rattle.code_paths.specs.Laws.{CodeIsPathElsewhere}
 use Rattle.loading_code_laws.specs.MadePages.{HasTables, ArePages, PagesRise, made, readable_after, writable_after}
 use Rattle.loading_code_laws.specs.Filled.{filled}
-use Rattle.loading_code_laws.proofs.FillingLaws.Returning.{Paths}
-use Rattle.loading_code_laws.proofs.FillingLaws.Filling.{Parts}
 use Rattle.loading_code_laws.proofs.FillingLaws.Listed.{pages-rise}
 use Rattle.loading_code_laws.proofs.FillingLaws.Told.{tables-after, pages-there}
-use Rattle.loading_code_laws.specs.Loaded.{Filler, MakesMemory, numbers_of, slots_of, pages_told, texts_turns, fillers_turns, memory_turns, paged}
+use Rattle.loading_code_laws.specs.Loaded.{Filler, MakersAreNone, MakesMemory, numbers_of, slots_of, pages_told, texts_turns, fillers_turns, memory_turns, paged}
 use Rattle.loading_code_laws.specs.Made.{HasMade, readable_place, writable_place, with_tables, over}
 use Rattle.loading_code_laws.proofs.LoadingCodeLaws.Quietly.{quiet-join, quiet-code}
 use Rattle.loading_code_laws.proofs.LoadingCodeLaws.Texts.{texts-made}
@@ -53,7 +53,7 @@ has-tables = record {
   apart = λ e. absurd (omega (arith, e));
 }
 
-module _ (paths : Paths) (parts : Parts) (program : Program) (words own m pages : ℕ) (texts : List ℕ) (shares : List (List PageRun)) (fillers : List Filler) (readable writable : ℕ → Bool) (page_words : ℕ → List ℕ) (is : MakesMemory program words m pages texts shares fillers readable writable page_words) (differ : own ≢ m) (locals : ℕ → Value) (operands : List Value) (fields : ℕ → Value) (others : List Frame) (few : length others < 61) (rest : List Step) (lies : LiesAt program own 0 (memory_code texts 0 pages (numbers_of fillers) ++ rest)) where
+module _ (paths : CodeIsPathElsewhere) (parts : PartsLie) (program : Program) (words own m pages : ℕ) (is_span : ℕ → Bool) (texts : List ℕ) (shares : List (List PageRun)) (fillers : List Filler) (readable writable : ℕ → Bool) (page_words : ℕ → List ℕ) (is : MakesMemory program words m pages texts shares fillers readable writable page_words) (none : MakersAreNone is_span pages fillers) (differ : own ≢ m) (locals : ℕ → Value) (operands : List Value) (fields : ℕ → Value) (others : List Frame) (few : length others < 61) (rest : List Step) (lies : LiesAt program own 0 (memory_code texts 0 pages (numbers_of fillers) ++ rest)) where
   abbrev xs : List (ℕ × Bool)
   xs = pages_told shares
 
@@ -89,22 +89,22 @@ module _ (paths : Paths) (parts : Parts) (program : Program) (words own m pages 
   begin : State
   begin = placed own 0 (over locals operands fields no_arrays) others
 
-  pub makes-memory : HasMade program words own m (memory_turns shares fillers) rest locals operands fields others (paged readable writable page_words)
+  pub makes-memory : HasMade program words own m is_span (memory_turns shares fillers) rest locals operands fields others (paged readable writable page_words)
   unfolding begin
   makes-memory =
       let room = is.room in
       let at = 0 + size tables_code in
       let with = with_tables fields in
-      let first = quiet-code paths program words own m 0 6 tables_code (over locals operands fields no_arrays) (over locals operands with tables_made) others differ lie.0 (tables-run program words locals operands fields (omega (arith, room))) (refl, refl) in
-      let next = texts-made paths parts program words own m pages readable_place writable_place locals operands with others differ is.apart is.pages_is is.pages_lies refl refl (omega (arith, few)) (fills ++ rest) texts shares at tables_made no_pages no_pages is.tell (subst (LiesAt program own at) (append_assoc (page_texts_code 0 pages texts) fills rest) lie.1) has-tables (omega (arith, room)) in
-      let last = all-filled paths parts program words own m readable_place places page_words is.are_pages.are_words is.are_pages.long locals operands with others differ refl few rest fillers next.at heap_made is.fill next.lies (record { there = tables.readable_there; whole = λ n q e. record { words = λ _. 0; there = are-pages.zeros n q e } }) in
+      let first = quiet-code paths program words own m is_span 0 6 tables_code (over locals operands fields no_arrays) (over locals operands with tables_made) others differ lie.0 (tables-run program words locals operands fields (omega (arith, room))) (record { no_reads = refl; no_switches = refl; no_entries = refl }) in
+      let next = texts-made paths parts program words own m is_span pages readable_place writable_place none.pages_is_none locals operands with others differ is.apart is.pages_is is.pages_lies refl refl (omega (arith, few)) (fills ++ rest) texts shares at tables_made no_pages no_pages is.tell (subst (LiesAt program own at) (append_assoc (page_texts_code 0 pages texts) fills rest) lie.1) has-tables (omega (arith, room)) in
+      let last = all-filled paths parts program words own m is_span readable_place places page_words is.are_pages.are_words is.are_pages.long locals operands with others differ refl few rest fillers next.at heap_made is.fill none.fillers_are_none next.lies (record { there = tables.readable_there; whole = λ n q e. record { words = λ _. 0; there = are-pages.zeros n q e } }) in
       record {
         heap = heap_filled;
         comes = record {
           at = last.at;
           lies = last.lies;
-          quietly = quiet-join program words m 6 (texts_turns shares + fillers_turns fillers) begin (placed own at (over locals operands with tables_made) others) (placed own last.at (over locals operands with heap_filled) others) first
-              (quiet-join program words m (texts_turns shares) (fillers_turns fillers) (placed own at (over locals operands with tables_made) others) (placed own next.at (over locals operands with heap_made) others) (placed own last.at (over locals operands with heap_filled) others) next.quietly last.quietly);
+          quietly = quiet-join program words m is_span 6 (texts_turns shares + fillers_turns fillers) begin (placed own at (over locals operands with tables_made) others) (placed own last.at (over locals operands with heap_filled) others) first
+              (quiet-join program words m is_span (texts_turns shares) (fillers_turns fillers) (placed own at (over locals operands with tables_made) others) (placed own next.at (over locals operands with heap_made) others) (placed own last.at (over locals operands with heap_filled) others) next.quietly last.quietly);
         };
         held = held;
       }

@@ -1,5 +1,5 @@
 -- Quiet turns, one after the other.
-use Rattle.std.proofs.Common.{◌≡◌, ◌≢◌, ℕ, ◌+◌, ◌≤◌, List, refl, subst, arith}
+use Rattle.std.proofs.Common.{◌≡◌, ◌≢◌, ℕ, ◌+◌, ◌≤◌, Bool, List, refl, subst, arith}
 use Rattle.jvm_program.specs.Program.{Program}
 use Rattle.jvm_program.specs.Effect.{Workspace}
 use Rattle.jvm_program.specs.Step.{State, Frame, placed}
@@ -8,39 +8,41 @@ use Rattle.code_steps.specs.Widths.{size}
 use Rattle.code_steps.specs.Outcomes.{ended, outcome}
 use Rattle.code_steps.specs.Placing.{LiesAt}
 use Rattle.code_paths.specs.Paths.{weigh, Path, PathElsewhere}
-use Rattle.loading_code_laws.proofs.FillingLaws.Returning.{Paths}
+use Rattle.code_paths.specs.Laws.{CodeIsPathElsewhere}
 use Rattle.loading_code_laws.proofs.FillingLaws.Calling.{reaches-join, reaches-wider, reaches-itself}
 use Rattle.loading_code_laws.specs.Quiet.{IsQuiet, Quietly}
 
-pub quiet-join : (program : Program) (words m most more : ℕ) (x y z : State) → Quietly program words m most x y → Quietly program words m more y z → Quietly program words m (most + more) x z
-quiet-join program words m most more x y z first next =
-    let a = first.quiet.0 in
-    let b = next.quiet.0 in
-    let c = first.quiet.1 in
-    let d = next.quiet.1 in
+pub quiet-join : (program : Program) (words m : ℕ) (is_span : ℕ → Bool) (most more : ℕ) (x y z : State) → Quietly program words m is_span most x y → Quietly program words m is_span more y z → Quietly program words m is_span (most + more) x z
+quiet-join program words m is_span most more x y z first next =
+    let a = first.quiet in
+    let b = next.quiet in
     record {
       total = λ weight. first.total weight + next.total weight;
       reaches = reaches-join program words m most more first.total next.total x y z first.reaches next.reaches;
-      quiet = (omega (arith, a, b), omega (arith, c, d));
+      quiet = record {
+        no_reads = let c = a.no_reads in let d = b.no_reads in omega (arith, c, d);
+        no_switches = let c = a.no_switches in let d = b.no_switches in omega (arith, c, d);
+        no_entries = let c = a.no_entries in let d = b.no_entries in omega (arith, c, d);
+      };
     }
 
-pub quiet-wider : (program : Program) (words m most more : ℕ) (x y : State) → most ≤ more → Quietly program words m most x y → Quietly program words m more x y
-quiet-wider program words m most more x y time first = record {
+pub quiet-wider : (program : Program) (words m : ℕ) (is_span : ℕ → Bool) (most more : ℕ) (x y : State) → most ≤ more → Quietly program words m is_span most x y → Quietly program words m is_span more x y
+quiet-wider program words m is_span most more x y time first = record {
   total = first.total;
   reaches = reaches-wider program words m most more first.total first.total x y time (λ weight still. omega arith) first.reaches;
   quiet = first.quiet;
 }
 
-pub quiet-itself : (program : Program) (words m : ℕ) (x : State) → Quietly program words m 0 x x
-quiet-itself program words m x = record {
+pub quiet-itself : (program : Program) (words m : ℕ) (is_span : ℕ → Bool) (x : State) → Quietly program words m is_span 0 x x
+quiet-itself program words m is_span x = record {
   total = λ weight. 0;
   reaches = reaches-itself program words m x;
-  quiet = (refl, refl);
+  quiet = record { no_reads = refl; no_switches = refl; no_entries = refl };
 }
 
 -- code that comes to its end
-pub quiet-code : (paths : Paths) (program : Program) (words own m at n : ℕ) (code : List Step) (w v : Workspace) (others : List Frame) → own ≢ m → LiesAt program own at code → outcome program words code w ≡ ended n v → IsQuiet (λ weight. weigh weight code) → Quietly program words m n (placed own at w others) (placed own (at + size code) v others)
-quiet-code paths program words own m at n code w v others differ lies is quiet =
+pub quiet-code : (paths : CodeIsPathElsewhere) (program : Program) (words own m : ℕ) (is_span : ℕ → Bool) (at n : ℕ) (code : List Step) (w v : Workspace) (others : List Frame) → own ≢ m → LiesAt program own at code → outcome program words code w ≡ ended n v → IsQuiet is_span (λ weight. weigh weight code) → Quietly program words m is_span n (placed own at w others) (placed own (at + size code) v others)
+quiet-code paths program words own m is_span at n code w v others differ lies is quiet =
     let start : at + 0 ≡ at = omega arith in
     record {
       total = λ weight. weigh weight code;

@@ -1,5 +1,5 @@
 -- Loading as the laws of runs want it, over any pair of machines whose classes are this program.
-use Rattle.std.proofs.Common.{◌≡◌, ℕ, ◌+◌, ◌≤◌, false, if◌then◌else◌, IsTrue, [], ap, ◌∙◌, arith}
+use Rattle.std.proofs.Common.{◌≡◌, ℕ, ◌+◌, ◌≤◌, Bool, false, if◌then◌else◌, IsTrue, [], ap, ◌∙◌, arith}
 use Rattle.std.specs.List.{sum_by}
 use Rattle.nv_events.specs.Answer.{Answer, fits}
 use Rattle.nv_events.specs.Turn.{asks}
@@ -16,11 +16,11 @@ use Rattle.code_paths.specs.Classes.{executed}
 use Rattle.code_paths.specs.Paths.{LooksAtNoTarget}
 use Rattle.loading_code_laws.specs.Made.{Begins, CountNothing, Loads, begun_at}
 
-module _ {I : Type 0} (program : Program) (words own m choose most limit : ℕ) (s : guest.State) (p : Pair guest.State State I) (Rests : guest.State → State → Type 0) (allowed : I → ℕ) (weight : I → Instruction → ℕ) (guest_is : p.guest ≡ guest_step.turn) (classes_is : p.classes ≡ turn program words) (looks : (i : I) → LooksAtNoTarget (weight i)) (tally_is : (i : I) → (p.tally i).classes ≡ executed program (weight i)) (nothing : (i : I) (total : (Instruction → ℕ) → ℕ) → CountNothing choose total → total (weight i) ≡ 0) (begun : s.begun ≡ false) (l : Loads program words own m choose most s) (time : most + 9 ≤ limit) (rests : (x : State) (t : guest.State) (b : Begins program words own m choose 8 x t) → Rests t (begun_at program words own m choose 8 x t b)) (credit : (i : I) (x : State) (t : guest.State) (b : Begins program words own m choose 8 x t) → (p.tally i).credit (begun_at program words own m choose 8 x t b) ≤ allowed i) where
+module _ {I : Type 0} (program : Program) (words own m choose : ℕ) (is_span : ℕ → Bool) (most limit : ℕ) (s : guest.State) (p : Pair guest.State State I) (Rests : guest.State → State → Type 0) (allowed : I → ℕ) (weight : I → Instruction → ℕ) (guest_is : p.guest ≡ guest_step.turn) (classes_is : p.classes ≡ turn program words) (looks : (i : I) → LooksAtNoTarget (weight i)) (tally_is : (i : I) → (p.tally i).classes ≡ executed program (weight i)) (nothing : (i : I) (total : (Instruction → ℕ) → ℕ) → CountNothing choose total → total (weight i) ≡ 0) (begun : s.begun ≡ false) (l : Loads program words own m choose is_span most s) (time : most + 9 ≤ limit) (rests : (x : State) (t : guest.State) (b : Begins program words own m choose 8 x t) → Rests t (begun_at program words own m choose 8 x t b)) (credit : (i : I) (x : State) (t : guest.State) (b : Begins program words own m choose 8 x t) → (p.tally i).credit (begun_at program words own m choose 8 x t b) ≤ allowed i) where
   abbrev turns : ℕ
   turns = l.reaches.reaches.turns
 
-  comes-to-rest : (a : Answer) → IsTrue (fits a (loader_question s)) → ComesToRest p Rests (turns + 1) limit allowed [] [] (after_loader s a) (l.next a)
+  pub comes-to-rest : (a : Answer) → IsTrue (fits a (loader_question s)) → ComesToRest p Rests (turns + 1) limit allowed [] [] (after_loader s a) (l.next a)
   comes-to-rest a fit =
       let b = l.begins a fit in
       let more = b.reaches.turns in
@@ -40,7 +40,7 @@ module _ {I : Type 0} (program : Program) (words own m choose most limit : ℕ) 
             omega (arith, same, counts, none, room);
       }
 
-  pub loads-in-runs : runs.Loads p Rests limit allowed s (start program)
+  unfoldable pub loads-in-runs : runs.Loads p Rests limit allowed s (start program)
   loads-in-runs =
       let before = l.reaches.reaches.in_time in
       record {

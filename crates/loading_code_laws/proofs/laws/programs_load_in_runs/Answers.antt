@@ -18,5 +18,5 @@ begun program words own m choose x t b = record {
 }
 
 pub returns : goal.returns
-returns g c program words own m choose most limit s p allowed weight guest_is classes_is looks tally_is nothing at_start l time credit =
-    loads-in-runs program words own m choose most limit s p (HasBegun own choose) allowed weight guest_is classes_is looks tally_is nothing at_start l time (begun program words own m choose) (λ i x t b. credit i t (begun_at program words own m choose 8 x t b) (begun program words own m choose x t b))
+returns g c program words own m choose is_span most limit s p allowed weight pair at_start l time credit =
+    loads-in-runs program words own m choose is_span most limit s p (HasBegun own choose) allowed weight pair.guest_is pair.classes_are pair.looks pair.tally_is pair.nothing at_start l time (begun program words own m choose) (λ i x t b. credit i t (begun_at program words own m choose 8 x t b) (begun program words own m choose x t b))

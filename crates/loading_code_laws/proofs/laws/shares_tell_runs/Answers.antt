@@ -4,8 +4,5 @@ use Rattle.loading_code_laws.proofs.laws.shares_tell_runs.Goals as goal
 pub returns-clause-tell : goal.returns-clause-tell
 returns-clause-tell c = texts-tell
 
-pub returns-clause-told : goal.returns-clause-told
-returns-clause-told c = runs-told
-
-pub returns-clause-some : goal.returns-clause-some
-returns-clause-some c = shares-some
+pub returns-clause-all : goal.returns-clause-all
+returns-clause-all c size runs some = record { told = runs-told size runs some; some = shares-some size runs some }
