@@ -1,5 +1,5 @@
 -- Marked states of the guest.
-use Rattle.std.specs.Prelude.{◌≡◌, ℕ, ◌<◌, ◌≤◌, Bool, true, List, length, slice_get, Some, None}
+use Rattle.std.specs.Prelude.{◌≡◌, ℕ, ◌<◌, ◌≤◌, Bool, true, List, length, slice_get, Option, Some, None}
 use Rattle.nv_words.specs.declared.order.Order.{Order}
 use Rattle.mips_decode.specs.State as guest
 use Rattle.jvm_program.specs.Program.{Program}
@@ -8,7 +8,7 @@ use Rattle.span_code.specs.Neighbours as words
 use Rattle.span_code.specs.Pieces.{begins}
 use Rattle.trampoline_laws.specs.Classes.{CodeClass, span_words}
 use Rattle.trampoline_laws.specs.Programs.{IsInClass}
-use Rattle.running_laws.specs.Standing.{AtWord}
+use Rattle.running_laws.specs.Standing.{AtWord, IsGuest}
 
 -- Where the guest's state is marked, no branch is pending, and a piece begins with the word at which it stands.
 pub record MarksPieces (classes : List CodeClass) (marked : guest.State → Bool) : Type 0 where
@@ -19,8 +19,9 @@ pub record MarksPieces (classes : List CodeClass) (marked : guest.State → Bool
       → (span_words c j).first ≤ k → k < (span_words c j).end
       → t.pc ≡ words.address (span_words c j) k → begins c.leads (span_words c j) k ≡ true
 
--- The classes stand at the code of a word with which a piece begins, and the guest stands at that word.
+-- The classes stand at the code of a word with which a piece begins, and the guest stands at that word between units.
 pub record AtPiece (program : Program) (words : ℕ) (order : Order) (classes : List CodeClass)
-    (choose : ℕ) (t : guest.State) (y : State) : Type 0 where
+    (choose : ℕ) (code : ℕ → Option ℕ) (t : guest.State) (y : State) : Type 0 where
+  pub guest_is : IsGuest order code t
   pub at_word : AtWord program words order classes choose y t
   pub begin : begins at_word.class.leads (span_words at_word.class at_word.span) at_word.word ≡ true

@@ -11,9 +11,9 @@ use Rattle.image_parts.specs.declared.page_run.PageRun.{PageRun}
 use Rattle.jvm_program.specs.Program.{Program}
 use Rattle.jvm_program.specs.Step.{State, start, turn}
 use Rattle.loading_code.specs.declared.beginning.Beginning.{Beginning}
-use Rattle.trampoline_laws.specs.Classes.{CodeClass}
+use Rattle.trampoline_laws.specs.Classes.{CodeClass, is_span}
 use Rattle.trampoline_laws.specs.Programs.{IsTranslated}
-use Rattle.loading_code_laws.specs.Loaded.{Filler, MakesMemory, memory_turns, paged}
+use Rattle.loading_code_laws.specs.Loaded.{Filler, MakersAreNone, MakesMemory, memory_turns, paged}
 use Rattle.loading_code_laws.specs.Made.{IsProgram, start_of}
 
 -- A guest's program, and a program of classes that is to run as it does.
@@ -47,6 +47,8 @@ pub record IsTranslatedProgram (t : TranslatedProgram) : Type 0 where
   pub begins : IsProgram t.program t.own t.apart t.choose t.pages t.beginning t.texts t.fillers
   pub memory_is : MakesMemory t.program t.words t.apart t.pages t.texts t.shares t.fillers
       t.readable t.writable t.page_words
+  -- no method that makes memory is a span's
+  pub makers_are_none : MakersAreNone (is_span t.classes) t.pages t.fillers
   pub order_is : t.beginning.order ≡ t.order
   pub entry_word : IsWord t.beginning.entry
 
@@ -69,8 +71,10 @@ abbrev pub guest_trail : TranslatedProgram → ℕ → List Answer → List (Ste
 guest_trail t m answers =
     after_call guest_step.turn (trail_of guest_step.turn next_answer m (guest_start t) answers)
 
--- those of the classes
+-- those of the classes, from their start on, and behind their first call
+abbrev pub whole_class_trail : TranslatedProgram → ℕ → List Answer → List (Step State)
+whole_class_trail t m answers =
+    trail_of (turn t.program t.words) next_answer m (start t.program) answers
+
 abbrev pub class_trail : TranslatedProgram → ℕ → List Answer → List (Step State)
-class_trail t m answers =
-    after_call (turn t.program t.words)
-    (trail_of (turn t.program t.words) next_answer m (start t.program) answers)
+class_trail t m answers = after_call (turn t.program t.words) (whole_class_trail t m answers)

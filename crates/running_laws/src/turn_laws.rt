@@ -1,15 +1,6 @@
 //! How the classes of a translated program follow the guest. Each call here does nothing: its contract is the law.
 
-ghost use Rattle.std.specs.Prelude.{ℕ, Bool, List, Option};
-ghost use Rattle.nv_words.specs.declared.order.Order.{Order};
-ghost use Rattle.run_laws.specs.Turns.{LawOfTurn, LawOfMarks};
-ghost use Rattle.mips_decode.specs.State as guest;
-ghost use Rattle.jvm_program.specs.Program.{Program};
-ghost use Rattle.trampoline_laws.specs.Classes.{CodeClass};
-ghost use Rattle.trampoline_laws.specs.Programs.{IsTranslated};
-ghost use Rattle.running_laws.specs.Counted.{pair};
-ghost use Rattle.running_laws.specs.Rests.{Rests};
-ghost use Rattle.running_laws.specs.Marks.{AtPiece, MarksPieces};
+ghost use Rattle.running_laws.specs.Turning.{MarksAreReached, TurnsAreFollowed};
 
 use crate::choice_passes::{choosers_lead_to_words, guests_fault_outside_code, spans_come_back};
 use delay_slots::{unit_is_its_steps, unit_leads_on};
@@ -26,11 +17,7 @@ use trampoline_laws::laws::{
 /// one of the guest's, and come to rest again. They read a word of an array only where the guest's instruction reads one, read no character, and
 /// enter a span, by one call and one switch, only where the guest has crossed from one span to another.
 pub fn turns_are_followed()
-    ensures { (program : Program) (words : ℕ) (order : Order) (choose missing : ℕ)
-        (classes : List CodeClass) (code : ℕ → Option ℕ) (marked : guest.State → Bool)
-        → IsTranslated program order choose missing classes code → MarksPieces classes marked
-        → LawOfTurn (pair program words classes marked)
-        (Rests program words order choose classes code) 512 }
+    ensures { TurnsAreFollowed }
 {
     unit_is_its_steps();
     unit_leads_on();
@@ -54,12 +41,7 @@ pub fn turns_are_followed()
 /// From rest at a marked state of the guest the classes come within 150 turns that only move to the code of the word at which the guest stands, with
 /// which a piece begins.
 pub fn marks_are_reached()
-    ensures { (program : Program) (words : ℕ) (order : Order) (choose missing : ℕ)
-        (classes : List CodeClass) (code : ℕ → Option ℕ) (marked : guest.State → Bool)
-        → IsTranslated program order choose missing classes code → MarksPieces classes marked
-        → LawOfMarks (pair program words classes marked)
-        (Rests program words order choose classes code)
-        (AtPiece program words order classes choose) 150 }
+    ensures { MarksAreReached }
 {
     units_stand_in_pieces();
     classes_stand();

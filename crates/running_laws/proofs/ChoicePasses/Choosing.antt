@@ -70,10 +70,10 @@ pub record Entered (program : Program) (words : ℕ) (is_span : ℕ → Bool) (o
 module _ (laws : CodeLaws) (program : Program) (words : ℕ) (is_span : ℕ → Bool) (own : ℕ) (code : List Step) (lies : LiesAt program own 0 code) (silent : IsSilent code) where
   counts-nothing : (total : (Instruction → ℕ) → ℕ) → ((weight : Instruction → ℕ) → total weight ≤ weigh (beside_calls weight) code) → Spares is_span 0 0 total
   counts-nothing total less = record {
-    no_reads = none-at-all (total reads) (weigh (beside_calls reads) code) (less reads) (silent reads laws.spare_reads);
-    no_chars = none-at-all (total chars) (weigh (beside_calls chars) code) (less chars) (silent chars laws.spare_chars);
-    few_switches = let a = less switches in let b = silent switches laws.spare_switches in omega (arith, a, b);
-    few_entries = let a = less (entries is_span) in let b = silent (entries is_span) (laws.spare_entries is_span) in omega (arith, a, b);
+    no_reads = none-at-all (total reads) (weigh (beside_calls reads) code) (less reads) (silent reads laws.spared.of_reads.comparing);
+    no_chars = none-at-all (total chars) (weigh (beside_calls chars) code) (less chars) (silent chars laws.spared.of_chars.comparing);
+    few_switches = let a = less switches in let b = silent switches laws.spared.of_switches.comparing in omega (arith, a, b);
+    few_entries = let a = less (entries is_span) in let b = silent (entries is_span) (laws.spared.of_entries is_span) in omega (arith, a, b);
   }
 
   -- the frame behind a step

@@ -19,6 +19,7 @@ use Rattle.code_paths.specs.Paths.{weigh}
 use Rattle.span_code_laws.specs.GuestFollows.Sites as sites
 use Rattle.span_code_laws.specs.GuestCodeLaws.Pieces.{HoldsAll}
 use Rattle.span_code_laws.specs.Entering.{entering, IsEntered}
+use Rattle.span_code_laws.specs.Resuming.{FieldsHoldAll}
 use Rattle.trampoline_laws.specs.Choosing.{chosen, IsWithin, IsReached}
 use Rattle.trampoline_laws.specs.Coming.{Calls, begins_anew, with_address}
 use Rattle.trampoline_laws.specs.Weights.{beside_calls}
@@ -26,7 +27,7 @@ use Rattle.trampoline_laws.specs.Classes.{CodeClass, address, end_of, run_of, sp
 use Rattle.trampoline_laws.specs.Programs.{IsTranslated}
 use Rattle.running_laws.specs.Going.{ComesTo, Waits, with_frame, work_of}
 use Rattle.running_laws.specs.Standing.{IsGuest, StandsChoosing, AtChoose, AtRun, AtWord, span_site, word_entry}
-use Rattle.running_laws.proofs.ChoicePasses.Given.{Held, CodeLaws, ChooserLaws, SpanLaws, ClassFacts, ProgramFacts}
+use Rattle.running_laws.proofs.ChoicePasses.Given.{CodeLaws, ChooserLaws, SpanLaws, ClassFacts, ProgramFacts}
 use Rattle.running_laws.proofs.ChoicePasses.Going.{Moves, Leads, moves-path, moves-so, leads-then, comes-so}
 use Rattle.running_laws.proofs.ChoicePasses.Choosing.{IsSilent, Entered, call-comes, return-comes}
 use Rattle.running_laws.proofs.ChoicePasses.Ranges.{within-or-not}
@@ -35,18 +36,18 @@ use Rattle.running_laws.proofs.ChoicePasses.Ranges.{within-or-not}
 
 pub class-silent : ChooserLaws → (first end : ℕ) (starts : List Start) → IsSilent (class_chooser starts first end)
 class-silent laws first end starts weight spares =
-    let beside = laws.spare_beside weight spares in
-    laws.class_weighs (beside_calls weight) first end starts beside.0 ∙ laws.no_calls (beside_calls weight) starts beside.1
+    let beside = laws.spared.beside weight spares in
+    (laws.weigh (beside_calls weight) beside.comparing).class_choosers first end starts ∙ laws.no_calls (beside_calls weight) starts beside.calls
 
 pub main-silent : ChooserLaws → (missing : ℕ) (starts : List Start) → IsSilent (main_chooser starts missing)
 main-silent laws missing starts weight spares =
-    let beside = laws.spare_beside weight spares in
-    let all = laws.main_weighs (beside_calls weight) missing starts beside.0 in
-    let calls = laws.no_calls (beside_calls weight) starts beside.1 in
+    let beside = laws.spared.beside weight spares in
+    let all = (laws.weigh (beside_calls weight) beside.comparing).main_choosers missing starts in
+    let calls = laws.no_calls (beside_calls weight) starts beside.calls in
     omega (arith, all, calls)
 
 pub stray-silent : ChooserLaws → IsSilent missing_code
-stray-silent laws weight spares = laws.stray_weighs (beside_calls weight) (laws.spare_beside weight spares).0
+stray-silent laws weight spares = (laws.weigh (beside_calls weight) (laws.spared.beside weight spares).comparing).strays
 
 -- a call of a span is one entry at most, and that of another method none
 one-entry : (b : Bool) → (if b then 1 else 0) ≤ 1
@@ -60,7 +61,7 @@ no-entry false e = omega arith
 -- ---- a frame that waits
 
 -- it comes back to the beginning of its method, which chooses
-pub back-chooses : (program : Program) (words : ℕ) (is_span : ℕ → Bool) (same_held : Held) (m : ℕ) (f : Frame) (others : List Frame) (t : guest.State) (w : Workspace) (y : State) → Waits program words is_span m f others → HoldsAll w t → w.fields pc_field ≡ int t.pc → y ≡ with_frame f others w.fields w.heap → Leads program words is_span 12 0 0 (λ z. StandsChoosing m others z t) y
+pub back-chooses : (program : Program) (words : ℕ) (is_span : ℕ → Bool) (same_held : FieldsHoldAll) (m : ℕ) (f : Frame) (others : List Frame) (t : guest.State) (w : Workspace) (y : State) → Waits program words is_span m f others → HoldsAll w t → w.fields pc_field ≡ int t.pc → y ≡ with_frame f others w.fields w.heap → Leads program words is_span 12 0 0 (λ z. StandsChoosing m others z t) y
 back-chooses program words is_span same_held m f others t w y waits held pc_is is =
     let u = work_of f w.fields w.heap in
     let end = placed m 0 u others in
@@ -104,16 +105,18 @@ module _ (laws : CodeLaws) (choosers : ChooserLaws) (spans : SpanLaws) (program 
             let others = e.waiting ∷ below in
             let site = span_site program words c j others in
             let u = body_workspace [] v in
-            let is_class = facts.has.is_class in
-            let high = facts.span_within j j_below in
+            let has = facts.stands.has in
+            let is_class = has.is_class in
+            let high = (facts.span_lies j j_below).in_range in
             let low = is_class.low in
-            let enter : IsEntered site (units_of c.words) c.leads own_words u (word_entry c j (c.first + k)) = spans.enters site (units_of c.words) c.leads own_words (c.first + k) u (facts.has.spans_lie j j_below) (omega (arith, high, low)) (omega (arith, from)) (omega (arith, to)) (pc_is ∙ ap int pc) in
+            let enter : IsEntered site (units_of c.words) c.leads own_words u (word_entry c j (c.first + k)) = (spans.enters site (units_of c.words) c.leads own_words (has.spans_lie j j_below) (omega (arith, high, low))).words (c.first + k) u (omega (arith, from)) (omega (arith, to)) (pc_is ∙ ap int pc) in
             let units = units_of c.words in
             let end = sites.stands site (word_entry c j (c.first + k)) u in
-            let reads_none = spans.no_reads units c.leads own_words in
-            let chars_none = spans.no_chars units c.leads own_words in
-            let one_switch = spans.one_switch units c.leads own_words in
-            let entries_none = spans.no_entries numbers units c.leads own_words in
+            let counts = spans.counts units c.leads own_words in
+            let reads_none = counts.no_reads in
+            let chars_none = counts.no_chars in
+            let one_switch = counts.one_switch in
+            let entries_none = counts.no_entries numbers in
             let way : Moves program words numbers enter.turns 1 0 (sites.stands site 0 u) end = moves-path program words numbers (c.first_method + j) 0 (base own_words) enter.turns 1 0 (λ weight. weigh weight (entering units c.leads own_words)) (sites.stands site 0 u) end enter.path (record { no_reads = reads_none; no_chars = chars_none; few_switches = omega (arith, one_switch); few_entries = omega (arith, entries_none) }) in
             record {
               turns = enter.turns;
@@ -149,14 +152,14 @@ module _ (laws : CodeLaws) (choosers : ChooserLaws) (spans : SpanLaws) (program 
           let callee = c.first_method + found.number in
           let w = s.workspace in
           let v = with_address w t.pc in
-          let within : IsWithin (address c 0) (end_of c) t.pc = subst (IsWithin (address c 0) (end_of c)) (sym pc) (facts.within k less) in
+          let within : IsWithin (address c 0) (end_of c) t.pc = subst (IsWithin (address c 0) (end_of c)) (sym pc) (facts.fills.within k less) in
           let is_chosen : chosen (span_starts c) t.pc ≡ callee = ap (chosen (span_starts c)) pc ∙ found.chosen_is in
-          let call : Calls program words 45 chooser w v callee 12 begins_anew = subst (λ m. Calls program words 45 chooser w v m 12 begins_anew) is_chosen (choosers.class_calls program words (address c 0) (end_of c) t.pc (span_starts c) w facts.some facts.few facts.rise facts.methods facts.end_low s.pc_is within) in
+          let call : Calls program words 45 chooser w v callee 12 begins_anew = subst (λ m. Calls program words 45 chooser w v m 12 begins_anew) is_chosen (choosers.class_calls program words (address c 0) (end_of c) t.pc (span_starts c) w facts.starts facts.fills.end_low s.pc_is within) in
           let start = placed (run_of c) 0 w below in
           let Arrives : State → Type 0 = λ z. AtWord program words order classes choose z t in
           subst (λ (z : State). Leads program words numbers 60 1 1 Arrives z) (sym s.is_there)
           (leads-then program words numbers 46 14 0 1 1 0 (Entered program words numbers (run_of c) callee v below) Arrives start
-          (call-comes laws program words numbers (run_of c) chooser facts.has.run_lies (class-silent choosers (address c 0) (end_of c) (span_starts c)) 45 12 callee 1 w v below (omega arith) s.no_operands (omega arith) (one-entry (numbers callee)) call)
+          (call-comes laws program words numbers (run_of c) chooser facts.stands.has.run_lies (class-silent choosers (address c 0) (end_of c) (span_starts c)) 45 12 callee 1 w v below (omega arith) s.no_operands (omega arith) (one-entry (numbers callee)) call)
           (enters-word order guest_is found.number k found.below found.begins found.ends pc v (spans.held w v t refl refl s.held) s.pc_is))
 
       -- where its address is another class's, it returns, and the method that waits below it is begun anew
@@ -169,13 +172,13 @@ module _ (laws : CodeLaws) (choosers : ChooserLaws) (spans : SpanLaws) (program 
           let Between : State → Type 0 = λ z. z ≡ with_frame in_main (at_start ∷ []) v.fields v.heap in
           subst (λ (z : State). Leads program words numbers 25 0 0 Arrives z) (sym s.is_there)
           (leads-then program words numbers 13 12 0 0 0 0 Between Arrives start
-          (return-comes laws program words numbers (run_of c) chooser facts.has.run_lies (class-silent choosers (address c 0) (end_of c) (span_starts c)) 12 w v v in_main (at_start ∷ [])
-          (choosers.class_returns program words (address c 0) (end_of c) t.pc (span_starts c) w facts.start_low facts.end_low word s.pc_is outside))
+          (return-comes laws program words numbers (run_of c) chooser facts.stands.has.run_lies (class-silent choosers (address c 0) (end_of c) (span_starts c)) 12 w v v in_main (at_start ∷ [])
+          (choosers.class_returns program words (address c 0) (end_of c) t.pc (span_starts c) w facts.fills.first_low facts.fills.end_low word s.pc_is outside))
           (λ z is. back-chooses program words numbers spans.held choose in_main (at_start ∷ []) t v z waits (spans.held w v t refl refl s.held) s.pc_is is))
 
   -- ---- the whole program
 
-  module _ (order : Order) (is_in : IsTranslated program order choose missing classes code) (facts : ProgramFacts program missing classes code) (t : guest.State) (guest_is : IsGuest order code t) where
+  module _ (order : Order) (is_in : IsTranslated program order choose missing classes code) (facts : ProgramFacts program is_in.low missing classes code) (t : guest.State) (guest_is : IsGuest order code t) where
     abbrev main : List Step
     main = main_chooser (starts_of missing classes) missing
 
@@ -190,13 +193,14 @@ module _ (laws : CodeLaws) (choosers : ChooserLaws) (spans : SpanLaws) (program 
         let callee = run_of c in
         let w = s.workspace in
         let v = with_address w t.pc in
-        let reached : IsReached starts t.pc = subst (IsReached starts) (sym pc) (class.reached k less) in
-        let is_chosen : chosen starts t.pc ≡ callee = ap (chosen starts) pc ∙ class.is_chosen k less in
-        let call : Calls program words 42 main w v callee 12 begins_anew = subst (λ m. Calls program words 42 main w v m 12 begins_anew) is_chosen (choosers.main_calls program words missing t.pc starts w facts.some is_in.few facts.rise facts.methods s.pc_is reached) in
+        let choice = class.is_chosen k less in
+        let reached : IsReached starts t.pc = subst (IsReached starts) (sym pc) choice.reached in
+        let is_chosen : chosen starts t.pc ≡ callee = ap (chosen starts) pc ∙ choice.own in
+        let call : Calls program words 42 main w v callee 12 begins_anew = subst (λ m. Calls program words 42 main w v m 12 begins_anew) is_chosen (choosers.main_calls program words missing t.pc starts w facts.starts s.pc_is reached) in
         let start = placed choose 0 w (at_start ∷ []) in
         subst (λ (z : State). Leads program words numbers 103 1 1 Words z) (sym s.is_there)
         (leads-then program words numbers 43 60 0 0 1 1 (Entered program words numbers choose callee v (at_start ∷ [])) Words start
-        (call-comes laws program words numbers choose main is_in.choose_lies (main-silent choosers missing starts) 42 12 callee 0 w v (at_start ∷ []) (omega arith) s.no_operands (omega arith) (no-entry (numbers callee) class.no_span) call)
+        (call-comes laws program words numbers choose main is_in.choose_lies (main-silent choosers missing starts) 42 12 callee 0 w v (at_start ∷ []) (omega arith) s.no_operands (omega arith) (no-entry (numbers callee) (facts.told.runs number c there)) call)
         (λ z e. run-enters number c there class t e.waiting at_start e.waits order guest_is k less pc z
         (record { workspace = body_workspace [] v; held = spans.held w (body_workspace [] v) t refl refl s.held; no_operands = refl; pc_is = s.pc_is; is_there = e.is_there })))
 
@@ -213,7 +217,7 @@ module _ (laws : CodeLaws) (choosers : ChooserLaws) (spans : SpanLaws) (program 
           by_case : IsWithin (address s.class 0) (end_of s.class) t.pc ⊎ (IsWithin (address s.class 0) (end_of s.class) t.pc → ⊥) → ComesTo program words numbers 150 0 1 Words y
           by_case (inl within) =
               let class = facts.class s.number s.class s.there in
-              let k = class.word_of t.pc within in
+              let k = class.fills.only t.pc within in
               comes-so program words numbers 60 150 1 Words y (omega arith)
               (run-enters s.number s.class s.there class t s.in_main s.at_start s.main_waits order guest_is k.0 k.1 k.2 y s.stands)
           by_case (inr outside) =

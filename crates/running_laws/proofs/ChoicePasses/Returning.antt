@@ -9,19 +9,15 @@ use Rattle.code_steps.specs.Placing.{placed_line, LiesAt}
 use Rattle.word_emitter.specs.Exits.{returns}
 use Rattle.code_paths.proofs.Joining.{turn-path, turn-weighs, seen-within}
 use Rattle.span_code_laws.specs.GuestFollows.Sites.{Site, stands, turn_in}
+use Rattle.span_code_laws.specs.Resuming.{FieldsHoldAll, ReturnsGiveBack}
 use Rattle.trampoline_laws.specs.Classes.{CodeClass, run_of, is_span}
 use Rattle.running_laws.specs.Going.{ComesTo, with_frame}
 use Rattle.running_laws.specs.Standing.{StandsChoosing, AtRun, AtReturn, span_site}
-use Rattle.running_laws.proofs.ChoicePasses.Given.{Held}
 use Rattle.running_laws.proofs.ChoicePasses.Going.{Moves, moves-path, leads-then, leads-so, comes-so}
 use Rattle.running_laws.proofs.ChoicePasses.Classes.{back-chooses}
 
--- what a return does
-abbrev pub GiveBack : Type 0
-GiveBack = (site : Site) (at : ℕ) (w : Workspace) → LiesAt site.program site.method at (returns ∷ []) → turn_in site (stands site at w) ≡ returned_to site.others None w
-
 -- the turn of a return
-return-moves : GiveBack → (site : Site) (at : ℕ) (w : Workspace) (f : Frame) (others : List Frame) (is_span : ℕ → Bool) → LiesAt site.program site.method at (returns ∷ []) → site.others ≡ f ∷ others → Moves site.program site.words is_span 1 0 0 (stands site at w) (with_frame f others w.fields w.heap)
+return-moves : ReturnsGiveBack → (site : Site) (at : ℕ) (w : Workspace) (f : Frame) (others : List Frame) (is_span : ℕ → Bool) → LiesAt site.program site.method at (returns ∷ []) → site.others ≡ f ∷ others → Moves site.program site.words is_span 1 0 0 (stands site at w) (with_frame f others w.fields w.heap)
 return-moves gives_back site at w f others is_span lies are =
     let x = stands site at w in
     let y = with_frame f others w.fields w.heap in
@@ -33,7 +29,7 @@ return-moves gives_back site at w f others is_span lies are =
     (seen-within site.program site.words site.method at (at + 1) w site.others (omega arith)))
     (record { no_reads = refl; no_chars = refl; few_switches = omega arith; few_entries = omega arith })
 
-pub comes-back : GiveBack → Held → (program : Program) (words : ℕ) (classes : List CodeClass) (choose : ℕ) (t : guest.State) (y : State) → AtReturn program words classes choose y t → ComesTo program words (is_span classes) 13 0 0 (λ z. AtRun program words classes choose z t) y
+pub comes-back : ReturnsGiveBack → FieldsHoldAll → (program : Program) (words : ℕ) (classes : List CodeClass) (choose : ℕ) (t : guest.State) (y : State) → AtReturn program words classes choose y t → ComesTo program words (is_span classes) 13 0 0 (λ z. AtRun program words classes choose z t) y
 comes-back gives_back held program words classes choose t y s =
     let numbers = is_span classes in
     let below = s.below in

@@ -24,7 +24,7 @@ use Rattle.running_laws.proofs.ChoicePasses.Choosing.{Entered, call-comes, fault
 use Rattle.running_laws.proofs.ChoicePasses.Ranges.{within-or-not, can-fetch}
 use Rattle.running_laws.proofs.ChoicePasses.Classes.{main-silent, stray-silent, no-entry, run-returns}
 
-module _ (laws : CodeLaws) (choosers : ChooserLaws) (spans : SpanLaws) (program : Program) (words : ℕ) (order : Order) (classes : List CodeClass) (choose missing : ℕ) (code : ℕ → Option ℕ) (is_in : IsTranslated program order choose missing classes code) (facts : ProgramFacts program missing classes code) (t : guest.State) (low : IsWord t.pc) (stray : IsStray code t.pc) where
+module _ (laws : CodeLaws) (choosers : ChooserLaws) (spans : SpanLaws) (program : Program) (words : ℕ) (order : Order) (classes : List CodeClass) (choose missing : ℕ) (code : ℕ → Option ℕ) (is_in : IsTranslated program order choose missing classes code) (facts : ProgramFacts program is_in.low missing classes code) (t : guest.State) (low : IsWord t.pc) (stray : IsStray code t.pc) where
   abbrev numbers : ℕ → Bool
   numbers = is_span classes
 
@@ -51,7 +51,7 @@ module _ (laws : CodeLaws) (choosers : ChooserLaws) (spans : SpanLaws) (program 
   call-faults most few at_start w less none pc_is call =
       let v = with_address w t.pc in
       leads-then program words numbers (most + 1) 10 0 0 0 0 (Entered program words numbers choose missing v (at_start ∷ [])) Faults (placed choose 0 w (at_start ∷ []))
-      (call-comes laws program words numbers choose main is_in.choose_lies (main-silent choosers missing (starts_of missing classes)) most few missing 0 w v (at_start ∷ []) less none (omega arith) (no-entry (numbers missing) facts.no_span) call)
+      (call-comes laws program words numbers choose main is_in.choose_lies (main-silent choosers missing (starts_of missing classes)) most few missing 0 w v (at_start ∷ []) less none (omega arith) (no-entry (numbers missing) (facts.told.lower missing is_in.missing_low)) call)
       (λ y e. missing-faults v at_start y pc_is e)
 
   -- from the method that chooses among classes
@@ -59,13 +59,13 @@ module _ (laws : CodeLaws) (choosers : ChooserLaws) (spans : SpanLaws) (program 
   stands-faults at_start w none pc_is (inl reached) =
       let starts = starts_of missing classes in
       let v = with_address w t.pc in
-      let is_chosen : chosen starts t.pc ≡ missing = facts.outside t.pc reached (no-word reached.0 stray) in
+      let is_chosen : chosen starts t.pc ≡ missing = facts.strays t.pc reached (no-word reached.0 stray) in
       call-faults 42 12 at_start w (omega arith) none pc_is
-      (subst (λ m. Calls program words 42 main w v m 12 begins_anew) is_chosen (choosers.main_calls program words missing t.pc starts w facts.some is_in.few facts.rise facts.methods pc_is reached))
+      (subst (λ m. Calls program words 42 main w v m 12 begins_anew) is_chosen (choosers.main_calls program words missing t.pc starts w facts.starts pc_is reached))
   stands-faults at_start w none pc_is (inr outside) =
       leads-sooner program words numbers 20 53 0 0 Faults (placed choose 0 w (at_start ∷ [])) (omega arith)
       (call-faults 9 1 at_start w (omega arith) none pc_is
-      (choosers.main_strays program words missing t.pc (starts_of missing classes) w facts.some facts.rise is_in.missing_is low pc_is outside))
+      (choosers.main_strays program words missing t.pc (starts_of missing classes) w facts.starts.some facts.starts.rise is_in.missing_is low pc_is outside))
 
   choose-leads : (at_start : Frame) (y : State) → StandsChoosing choose (at_start ∷ []) y t → Leads program words numbers 53 0 0 Faults y
   choose-leads at_start y s =
@@ -78,10 +78,10 @@ module _ (laws : CodeLaws) (choosers : ChooserLaws) (spans : SpanLaws) (program 
   -- no word outside all code is one of a class
   outside-class : (c : CodeClass) → ClassFacts program missing classes code c → IsWithin (address c 0) (end_of c) t.pc → ⊥
   outside-class c class within =
-      let k = class.word_of t.pc within in
-      let is_class = class.has.is_class in
+      let k = class.fills.only t.pc within in
+      let is_class = class.stands.has.is_class in
       let in_range = is_class.within in
-      can-fetch code c.start c.words (c.first + k.0) class.range (omega (arith, k.1, in_range)) (sym (ap code k.2) ∙ no-word within.0 stray)
+      can-fetch code c.start c.words (c.first + k.0) class.stands.range (omega (arith, k.1, in_range)) (sym (ap code k.2) ∙ no-word within.0 stray)
 
   pub run-faults : (y : State) → AtRun program words classes choose y t → ComesTo program words numbers 80 0 0 Faults y
   run-faults y s =

@@ -1,13 +1,16 @@
 -- Loading leads to where the classes rest.
-use Rattle.std.proofs.Common.{◌≡◌, ℕ, ◌+◌, ◌*◌, ◌≤◌, Bool, false, refl, ap, sym, subst, ◌∙◌, arith, inr}
+use Rattle.std.proofs.Common.{◌≡◌, ℕ, ◌+◌, ◌*◌, ◌≤◌, Bool, false, Option, refl, ap, sym, subst, ◌∙◌, arith, inr}
+use Rattle.std.specs.List.{sum_by}
 use Rattle.nv_events.specs.Question.{Question}
 use Rattle.nv_events.specs.Answer.{Answer}
 use Rattle.nv_events.specs.Turn.{Turn, moves, ends, leaves, asks}
+use Rattle.run_laws.specs.Trail.{Step, moved}
 use Rattle.run_laws.specs.Turns.{Pair}
 use Rattle.run_laws.specs.Turns as runs
 use Rattle.mips_decode.specs.State as guest
 use Rattle.mips_decode.specs.Step.{loader_question, after_loader}
-use Rattle.jvm_program.specs.Step.{State, start}
+use Rattle.jvm_program.specs.Step.{State, start, turn}
+use Rattle.code_paths.specs.Classes.{entries, executed}
 use Rattle.trampoline_laws.specs.Classes.{is_span}
 use Rattle.loading_code_laws.specs.Loaded.{memory_turns}
 use Rattle.loading_code_laws.specs.Made.{Begins, HasBegun, Loads, begun_at}
@@ -85,19 +88,35 @@ module _ (laws : LoadingLaws) (t : TranslatedProgram) (is : IsTranslatedProgram 
     stands = inr (inr (inr (laws.chooses t.own t.choose (after_loader (guest_start t) a) x begun)));
   }
 
-  loads : Loads t.program t.words t.own t.apart t.choose (memory_turns t.shares t.fillers + 7) (guest_start t)
+  loads : Loads t.program t.words t.own t.apart t.choose (is_span t.classes) (memory_turns t.shares t.fillers + 7) (guest_start t)
   loads =
-      laws.loads t.program t.words t.own t.apart t.choose t.pages t.beginning t.texts t.shares t.fillers t.readable t.writable t.page_words t.code is.begins is.memory_is
+      laws.loads t.program t.words t.own t.apart t.choose t.pages (is_span t.classes) t.beginning t.texts t.shares t.fillers t.readable t.writable t.page_words t.code is.begins is.memory_is is.makers_are_none
 
   chooses-in-no-span : is_span t.classes t.choose ≡ false
   chooses-in-no-span =
-      laws.lower t.program t.order t.choose t.missing t.classes t.code t.choose is.code_is is.code_is.choose_low
+      (laws.numbered t.program t.order t.choose t.missing t.classes t.code is.code_is).lower t.choose is.code_is.choose_low
 
   loads-to-begun : runs.Loads (pair t.program t.words t.classes marked) Begun (extra + 2 * 512) allowed (guest_start t) (start t.program)
   loads-to-begun =
       let time : memory_turns t.shares t.fillers + 7 + 9 ≤ extra + 2 * 512 = omega (arith, within) in
-      loads-in-runs t.program t.words t.own t.apart t.choose (memory_turns t.shares t.fillers + 7) (extra + 2 * 512) (guest_start t) (pair t.program t.words t.classes marked) Begun allowed (weight t.classes) refl refl (looks-at-no-target laws t.classes) (λ i. refl) (counts-nothing t.classes t.choose chooses-in-no-span) refl loads time has-begun (λ i x s b. credit-within t.classes i (begun_at t.program t.words t.own t.apart t.choose 8 x s b))
+      loads-in-runs t.program t.words t.own t.apart t.choose (is_span t.classes) (memory_turns t.shares t.fillers + 7) (extra + 2 * 512) (guest_start t) (pair t.program t.words t.classes marked) Begun allowed (weight t.classes) refl refl (looks-at-no-target laws t.classes) (λ i. refl) (counts-nothing t.classes t.choose chooses-in-no-span) refl loads time has-begun (λ i x s b. credit-within t.classes i (begun_at t.program t.words t.own t.apart t.choose 8 x s b))
 
   pub loads-to-rest : runs.Loads (pair t.program t.words t.classes marked) Resting (extra + 2 * 512) allowed (guest_start t) (start t.program)
   loads-to-rest =
       rests-so (pair t.program t.words t.classes marked) Begun Resting (extra + 2 * 512) allowed (guest_start t) (start t.program) (loader_question (guest_start t)) (after_loader (guest_start t)) refl begun-rests loads-to-begun
+
+  -- ---- no span is entered up to the call
+
+  abbrev counted_entries : Step State → ℕ
+  counted_entries = executed t.program (entries (is_span t.classes))
+
+  pub none-entered : sum_by counted_entries (moved (turn t.program t.words) loads-to-rest.class_turns (start t.program)) ≡ 0
+  unfolding loads-to-rest loads-to-begun rests-so loads-in-runs
+  none-entered =
+      let counts = (loads.reaches.reaches.path 0).counts (entries (is_span t.classes)) (laws.look_entries (is_span t.classes)) in
+      let none = loads.reaches.quiet.no_entries in
+      omega (arith, counts, none)
+
+  pub none-at-call : (to : Option State) → counted_entries (record { from = loads-to-rest.class_at; to = to }) ≡ 0
+  unfolding loads-to-rest loads-to-begun rests-so loads-in-runs
+  none-at-call to = loads.no_entry to

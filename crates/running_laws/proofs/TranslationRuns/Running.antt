@@ -19,10 +19,11 @@ use Rattle.running_laws.specs.Counted.{Counted, weight, paid, pair}
 use Rattle.running_laws.specs.Counted.Counted.{Reads, Chars, Switches, Entries}
 use Rattle.running_laws.specs.Rests.{Rests}
 use Rattle.running_laws.specs.Marks.{MarksPieces, AtPiece}
-use Rattle.running_laws.specs.Translated.{TranslatedProgram, IsTranslatedProgram, LoadsWithin, guest_start, guest_run, guest_trail, class_trail}
-use Rattle.running_laws.proofs.TranslationRuns.Given.{LoadingLaws, TurnsLaw, MarksLaw}
+use Rattle.running_laws.specs.Turning.{MarksAreReached, TurnsAreFollowed}
+use Rattle.running_laws.specs.Translated.{TranslatedProgram, IsTranslatedProgram, LoadsWithin, guest_start, guest_run, guest_trail, class_trail, whole_class_trail}
+use Rattle.running_laws.proofs.TranslationRuns.Given.{LoadingLaws}
 use Rattle.running_laws.proofs.TranslationRuns.Counting.{allowed, sum-of-ones, sum-of-none}
-use Rattle.running_laws.proofs.TranslationRuns.Loading.{loads-to-rest}
+use Rattle.running_laws.proofs.TranslationRuns.Loading.{loads-to-rest, none-entered, none-at-call}
 
 -- where no state is marked
 abbrev unmarked : guest.State → Bool
@@ -35,7 +36,7 @@ none-marked t = record {
   begin = λ s n c j k e there below first end at. absurd (false≢true e);
 }
 
-module _ (laws : LoadingLaws) (turns : TurnsLaw) (t : TranslatedProgram) (is : IsTranslatedProgram t) where
+module _ (laws : LoadingLaws) (turns : TurnsAreFollowed) (t : TranslatedProgram) (is : IsTranslatedProgram t) where
   abbrev Resting : guest.State → State → Type 0
   Resting = Rests t.program t.words t.order t.choose t.classes t.code
 
@@ -75,21 +76,27 @@ module _ (laws : LoadingLaws) (turns : TurnsLaw) (t : TranslatedProgram) (is : I
       let ones : sum_by (paid t.classes Switches) (guest_trail t m answers) ≡ crossings (counted_spans t.classes) (guest_trail t m answers) = sum-of-ones (crosses (counted_spans t.classes)) (guest_trail t m answers) in
       omega (arith, all, ones)
 
-  pub counts-entries : (m : ℕ) (answers : List Answer) → sum_by (executed t.program (entries (is_span t.classes))) (class_trail t m answers) ≤ crossings (counted_spans t.classes) (guest_trail t m answers) + 1
+  pub counts-entries : (m : ℕ) (answers : List Answer) → sum_by (executed t.program (entries (is_span t.classes))) (whole_class_trail t m answers) ≤ crossings (counted_spans t.classes) (guest_trail t m answers) + 1
+  unfolding translates
   counts-entries m answers =
+      let extra = memory_turns t.shares t.fillers in
+      let within : LoadsWithin t extra = omega arith in
+      let whole : sum_by (executed t.program (entries (is_span t.classes))) (whole_class_trail t m answers) ≡ sum_by (executed t.program (entries (is_span t.classes))) (class_trail t m answers) =
+      running.whole_counts (pair t.program t.words t.classes unmarked) next_answer Resting 512 extra allowed (guest_start t) (start t.program) (translates unmarked (none-marked t) extra within) (λ k l q a. next_fits k l q a)
+      (executed t.program (entries (is_span t.classes))) (none-entered laws t is unmarked extra within) (none-at-call laws t is unmarked extra within) m answers in
       let all : sum_by (executed t.program (entries (is_span t.classes))) (class_trail t m answers) ≤ 1 + sum_by (paid t.classes Entries) (guest_trail t m answers) = counted Entries m answers in
       let ones : sum_by (paid t.classes Entries) (guest_trail t m answers) ≡ crossings (counted_spans t.classes) (guest_trail t m answers) = sum-of-ones (crosses (counted_spans t.classes)) (guest_trail t m answers) in
-      omega (arith, all, ones)
+      omega (arith, whole, all, ones)
 
   -- ---- marks
 
-  module _ (reached : MarksLaw) (marked : guest.State → Bool) (marks : MarksPieces t.classes marked) where
-    within-turn : LawOfMarks (pair t.program t.words t.classes marked) Resting (AtPiece t.program t.words t.order t.classes t.choose) 512
+  module _ (reached : MarksAreReached) (marked : guest.State → Bool) (marks : MarksPieces t.classes marked) where
+    within-turn : LawOfMarks (pair t.program t.words t.classes marked) Resting (AtPiece t.program t.words t.order t.classes t.choose t.code) 512
     within-turn g j rests is_marked =
         let r = reached t.program t.words t.order t.choose t.missing t.classes t.code marked is.code_is marks g j rests is_marked in
         let few = r.2 in
         (r.0, r.1, omega (arith, few), r.3, r.4)
 
-    pub comes-to-marks : (extra : ℕ) → LoadsWithin t extra → (n : ℕ) (answers : List Answer) → 1 ≤ n → (guest_run t n answers).outcome ≡ Going → marked (guest_run t n answers).last ≡ true → ComesBy (turn t.program t.words) next_answer (allowance 512 extra (n + 1)) (AtPiece t.program t.words t.order t.classes t.choose (guest_run t n answers).last) (guest_run t n answers).questions (start t.program) answers
+    pub comes-to-marks : (extra : ℕ) → LoadsWithin t extra → (n : ℕ) (answers : List Answer) → 1 ≤ n → (guest_run t n answers).outcome ≡ Going → marked (guest_run t n answers).last ≡ true → ComesBy (turn t.program t.words) next_answer (allowance 512 extra (n + 1)) (AtPiece t.program t.words t.order t.classes t.choose t.code (guest_run t n answers).last) (guest_run t n answers).questions (start t.program) answers
     comes-to-marks extra within n answers one goes is_marked =
-        running.comes_to_marks (pair t.program t.words t.classes marked) next_answer Resting 512 extra allowed (guest_start t) (start t.program) (translates marked marks extra within) (λ k l q a. next_fits k l q a) (AtPiece t.program t.words t.order t.classes t.choose) within-turn n answers one goes is_marked
+        running.comes_to_marks (pair t.program t.words t.classes marked) next_answer Resting 512 extra allowed (guest_start t) (start t.program) (translates marked marks extra within) (λ k l q a. next_fits k l q a) (AtPiece t.program t.words t.order t.classes t.choose t.code) within-turn n answers one goes is_marked

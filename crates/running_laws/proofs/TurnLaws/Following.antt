@@ -34,10 +34,10 @@ looks classes Switches = λ name t u. refl
 looks classes Entries = λ name t u. refl
 
 pub spares : (classes : List CodeClass) (i : Counted) → SparesMoves (weight classes i)
-spares classes Reads = record { push = λ constant. refl; load = λ kind k. refl; store = λ kind k. refl; get = λ f kind. refl; put = λ f kind. refl; branch = λ name target. refl; give_back = λ name. refl }
-spares classes Chars = record { push = λ constant. refl; load = λ kind k. refl; store = λ kind k. refl; get = λ f kind. refl; put = λ f kind. refl; branch = λ name target. refl; give_back = λ name. refl }
-spares classes Switches = record { push = λ constant. refl; load = λ kind k. refl; store = λ kind k. refl; get = λ f kind. refl; put = λ f kind. refl; branch = λ name target. refl; give_back = λ name. refl }
-spares classes Entries = record { push = λ constant. refl; load = λ kind k. refl; store = λ kind k. refl; get = λ f kind. refl; put = λ f kind. refl; branch = λ name target. refl; give_back = λ name. refl }
+spares classes Reads = record { push = λ constant. refl; load = λ kind k. refl; store = λ kind k. refl; get = λ f kind. refl; put = λ f kind below. refl; branch = λ name target. refl; give_back = λ name. refl }
+spares classes Chars = record { push = λ constant. refl; load = λ kind k. refl; store = λ kind k. refl; get = λ f kind. refl; put = λ f kind below. refl; branch = λ name target. refl; give_back = λ name. refl }
+spares classes Switches = record { push = λ constant. refl; load = λ kind k. refl; store = λ kind k. refl; get = λ f kind. refl; put = λ f kind below. refl; branch = λ name target. refl; give_back = λ name. refl }
+spares classes Entries = record { push = λ constant. refl; load = λ kind k. refl; store = λ kind k. refl; get = λ f kind. refl; put = λ f kind below. refl; branch = λ name target. refl; give_back = λ name. refl }
 
 -- A total has no more than so many reads, and nothing else of what is counted.
 pub record ReadsAlone (classes : List CodeClass) (most : ℕ) (used : Counted → ℕ) : Type 0 where

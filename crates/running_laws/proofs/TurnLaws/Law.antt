@@ -93,7 +93,7 @@ module _ (unit_laws : UnitLaws) (laws : SpanLaws) (program : Program) (words : �
   word-credit : (i : Counted) (t : guest.State) (z : State) → Words t z → credit classes i z ≡ 0
   word-credit i t z s =
       let c = s.class in
-      credit-in-span classes i z (c.first_method + s.span) _ s.workspace s.others s.is_there (facts.spans s.number c s.span s.there s.span_below)
+      credit-in-span classes i z (c.first_method + s.span) _ s.workspace s.others s.is_there (facts.told.spans s.number c s.span s.there s.span_below)
 
   -- ---- where a span is chosen first
 
@@ -112,7 +112,7 @@ module _ (unit_laws : UnitLaws) (laws : SpanLaws) (program : Program) (words : �
   stray-turn t y guest_is stray c =
       let end = «fault» (stray_fault t.pc) in
       let last : Turn guest.State = ends end in
-      let made : HasTurns marked t last = record { earlier = 0; few = omega arith; before = t; comes = refl; last_is = facts.stray_guest t guest_is stray; hidden = λ some. absurd (omega (arith, some)) } in
+      let made : HasTurns marked t last = record { earlier = 0; few = omega arith; before = t; comes = refl; last_is = facts.stray_guest order code t guest_is stray; hidden = λ some. absurd (omega (arith, some)) } in
       let walks : Walks program words classes (λ i. 0) c.turns y c.after = goes-none classes program words c.turns y c.after c.goes in
       let in_time = c.in_time in
       let is : turn program words c.after ≡ ends end = c.arrives in
@@ -131,7 +131,7 @@ module _ (unit_laws : UnitLaws) (laws : SpanLaws) (program : Program) (words : �
       follows-wider machines Rest (λ n. 132 * n + 295) turn_limit (λ n. omega arith) t y (chosen-turn t y guest_is one (enters w is))
 
   run-credit : (i : Counted) (t : guest.State) (y : State) → AtRun program words classes choose y t → credit classes i y ≡ entry i
-  run-credit i t y s = credit-choosing classes i y (run_of s.class) 0 s.stands.workspace (s.in_main ∷ s.at_start ∷ []) s.stands.is_there (facts.runs s.number s.class s.there)
+  run-credit i t y s = credit-choosing classes i y (run_of s.class) 0 s.stands.workspace (s.in_main ∷ s.at_start ∷ []) s.stands.is_there (facts.told.runs s.number s.class s.there)
 
   choose-credit : (i : Counted) (t : guest.State) (y : State) → AtChoose choose y t → credit classes i y ≡ entry i
   choose-credit i t y s = credit-choosing classes i y choose 0 s.stands.workspace (s.at_start ∷ []) s.stands.is_there facts.chooses
@@ -140,11 +140,11 @@ module _ (unit_laws : UnitLaws) (laws : SpanLaws) (program : Program) (words : �
   rest-turn t y r (inl s) = follows-wider machines Rest word_limit turn_limit (λ n. omega arith) t y (word-turn t y r.guest_is s)
   rest-turn t y r (inr (inl s)) = follows-wider machines Rest (λ n. 132 * n + 83) turn_limit (λ n. omega arith) t y (unit-turn t y r.guest_is s)
   rest-turn t y r (inr (inr (inl s))) =
-      chooses-by t y r.guest_is (code t.pc) refl (λ i. run-credit i t y s) (λ w is. facts.from_run t w y r.guest_is is r.pc_word s)
-      (λ stray. facts.stray_run t y stray r.pc_word s)
+      chooses-by t y r.guest_is (code t.pc) refl (λ i. run-credit i t y s) (λ w is. facts.leads.from_run t w y r.guest_is is r.pc_word s)
+      (λ stray. facts.leads.stray_run t y stray r.pc_word s)
   rest-turn t y r (inr (inr (inr s))) =
-      chooses-by t y r.guest_is (code t.pc) refl (λ i. choose-credit i t y s) (λ w is. facts.from_choose t w y r.guest_is is s)
-      (λ stray. facts.stray_choose t y stray r.pc_word s)
+      chooses-by t y r.guest_is (code t.pc) refl (λ i. choose-credit i t y s) (λ w is. facts.leads.from_choose t w y r.guest_is is s)
+      (λ stray. facts.leads.stray_choose t y stray r.pc_word s)
 
   pub turns-followed : LawOfTurn machines Rest 512
   turns-followed t y r = rest-turn t y r r.stands

@@ -8,16 +8,17 @@ use Rattle.run_laws.specs.Turns.{LawOfMarks}
 use Rattle.mips_decode.specs.State as guest
 use Rattle.jvm_program.specs.Program.{Program}
 use Rattle.jvm_program.specs.Step.{State, turn}
+use Rattle.span_code_laws.specs.InPieces.{UnitsStandInPieces}
 use Rattle.trampoline_laws.specs.Classes.{CodeClass, is_span, span_words}
 use Rattle.running_laws.specs.Going.{ComesTo}
-use Rattle.running_laws.specs.Standing.{AtWord, span_site}
+use Rattle.running_laws.specs.Standing.{AtWord, IsGuest, span_site}
 use Rattle.running_laws.specs.Counted.{pair}
 use Rattle.running_laws.specs.Rests.{AtUnit, Rests, StandsSomewhere}
 use Rattle.running_laws.specs.Marks.{AtPiece, MarksPieces}
-use Rattle.running_laws.proofs.TurnLaws.Given.{InPieceLaws, ProgramFacts}
+use Rattle.running_laws.proofs.TurnLaws.Given.{ProgramFacts}
 use Rattle.running_laws.proofs.TurnLaws.Spans.{has-span}
 
-module _ (laws : InPieceLaws) (program : Program) (words : ℕ) (order : Order) (choose : ℕ) (classes : List CodeClass) (code : ℕ → Option ℕ) (facts : ProgramFacts program words order choose classes code) (marked : guest.State → Bool) (marks : MarksPieces classes marked) where
+module _ (in_pieces : UnitsStandInPieces) (program : Program) (words : ℕ) (order : Order) (choose : ℕ) (classes : List CodeClass) (code : ℕ → Option ℕ) (facts : ProgramFacts program words order choose classes code) (marked : guest.State → Bool) (marks : MarksPieces classes marked) where
   abbrev Rest : guest.State → State → Type 0
   Rest t y = Rests program words order choose classes code t y
 
@@ -25,26 +26,28 @@ module _ (laws : InPieceLaws) (program : Program) (words : ℕ) (order : Order) 
   Words t z = AtWord program words order classes choose z t
 
   abbrev Marked : guest.State → State → Type 0
-  Marked t z = AtPiece program words order classes choose t z
+  Marked t z = AtPiece program words order classes choose code t z
 
   abbrev Comes : guest.State → State → Type 0
   Comes t y = (n : ℕ) × (place : State) × (n ≤ 150) × (advanced (turn program words) n y ≡ Some place) × Marked t place
 
-  word-marked : (t : guest.State) (y : State) → marked t ≡ true → Words t y → Marked t y
-  word-marked t y is s = record {
+  word-marked : (t : guest.State) (y : State) → IsGuest order code t → marked t ≡ true → Words t y → Marked t y
+  word-marked t y guest_is is s = record {
+    guest_is = guest_is;
     at_word = s;
     begin = marks.begin t s.number s.class s.span s.word is s.there s.span_below s.stands.above s.stands.below s.stands.pc;
   }
 
-  chosen-marked : (t : guest.State) (y : State) → marked t ≡ true → ComesTo program words (is_span classes) 150 0 1 (Words t) y → Comes t y
-  chosen-marked t y is c = (c.turns, c.after, c.in_time, c.goes.comes, word-marked t c.after is c.arrives)
+  chosen-marked : (t : guest.State) (y : State) → IsGuest order code t → marked t ≡ true → ComesTo program words (is_span classes) 150 0 1 (Words t) y → Comes t y
+  chosen-marked t y guest_is is c = (c.turns, c.after, c.in_time, c.goes.comes, word-marked t c.after guest_is is c.arrives)
 
   -- code stands where the guest is marked
   marked-code : (t : guest.State) → marked t ≡ true → (w : ℕ) × (code t.pc ≡ Some w)
   marked-code t is =
       let at = marks.in_class t is in
-      let range = facts.range at.number at.class at.there in
-      let within = (facts.class at.number at.class at.there).is_class.within in
+      let stands = facts.stands at.number at.class at.there in
+      let range = stands.range in
+      let within = stands.has.is_class.within in
       let below = at.below in
       let c = at.class in
       let k = c.first + at.word in
@@ -57,16 +60,17 @@ module _ (laws : InPieceLaws) (program : Program) (words : ℕ) (order : Order) 
       let own = span_words c s.span in
       let site = span_site program words c s.span s.others in
       let has_span = has-span program words order choose classes code facts s.number c s.there s.span s.span_below s.others in
-      let has = laws.has site order c.words c.leads own s.word s.front s.unit s.rest s.workspace t has_span s.held in
-      let inner = laws.inner site order c.words c.leads own s.word s.front s.unit s.rest s.workspace t has_span s.held s.some_done in
+      let here = in_pieces site order c.words c.leads own s.word s.front s.unit s.rest s.workspace t has_span s.held in
+      let has = here.has in
+      let inner = here.inner s.some_done in
       let begin = marks.begin t s.number c s.span (s.word + length s.front) is s.there s.span_below has.above has.below s.held.pc in
       true≢false (sym begin ∙ inner)
 
   rest-marked : (t : guest.State) (y : State) (r : Rest t y) → marked t ≡ true → StandsSomewhere program words order classes choose y t → Comes t y
-  rest-marked t y r is (inl s) = (0, y, omega arith, refl, word-marked t y is s)
+  rest-marked t y r is (inl s) = (0, y, omega arith, refl, word-marked t y r.guest_is is s)
   rest-marked t y r is (inr (inl s)) = absurd (unit-marked t y is s)
-  rest-marked t y r is (inr (inr (inl s))) = let at = marked-code t is in chosen-marked t y is (facts.from_run t at.0 y r.guest_is at.1 r.pc_word s)
-  rest-marked t y r is (inr (inr (inr s))) = let at = marked-code t is in chosen-marked t y is (facts.from_choose t at.0 y r.guest_is at.1 s)
+  rest-marked t y r is (inr (inr (inl s))) = let at = marked-code t is in chosen-marked t y r.guest_is is (facts.leads.from_run t at.0 y r.guest_is at.1 r.pc_word s)
+  rest-marked t y r is (inr (inr (inr s))) = let at = marked-code t is in chosen-marked t y r.guest_is is (facts.leads.from_choose t at.0 y r.guest_is at.1 s)
 
   pub marks-reached : LawOfMarks (pair program words classes marked) Rest Marked 150
   marks-reached t y r is = rest-marked t y r is r.stands

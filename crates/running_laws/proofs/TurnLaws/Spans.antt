@@ -11,13 +11,13 @@ use Rattle.running_laws.proofs.TurnLaws.Given.{ProgramFacts}
 module _ (program : Program) (words : ℕ) (order : Order) (choose : ℕ) (classes : List CodeClass) (code : ℕ → Option ℕ) (facts : ProgramFacts program words order choose classes code) (number : ℕ) (c : CodeClass) (there : slice_get classes number ≡ Some c) (j : ℕ) (j_below : j < length c.spans) (others : List Frame) where
   pub has-span : HasSpan (span_site program words c j others) c.words c.leads (span_words c j)
   has-span =
-      let class = facts.class number c there in
+      let class = (facts.stands number c there).has in
       let is_class = class.is_class in
       let low = is_class.low in
       record {
         lies = class.spans_lie j j_below;
         are_words = is_class.are_words;
         no_float = is_class.no_float;
-        within = facts.in_range number c j there j_below;
+        within = (facts.lies number c j there j_below).in_range;
         below = omega (arith, low);
       }

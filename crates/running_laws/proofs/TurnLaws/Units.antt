@@ -118,6 +118,7 @@ module _ (site : Site) (low high least most : ℕ) (total : (Instruction → ℕ
     place = c.place;
     path = c.path;
     is_there = c.is_there;
+    below = c.below;
     no_sooner = c.no_sooner;
     in_time = c.in_time;
     last = last-in-span last (c.turns + 1) c.place (turn_in site c.before) c.last;
@@ -167,17 +168,17 @@ module _ (unit_laws : UnitLaws) (laws : SpanLaws) (program : Program) (words : �
     has_span = has-span program words order choose classes code facts number c there j j_below others
 
     in-span : (i : Counted) (y : State) (at : ℕ) (w : Workspace) → y ≡ stands site at w → credit classes i y ≡ 0
-    in-span i y at w is = credit-in-span classes i y (c.first_method + j) at w others is (facts.spans number c j there j_below)
+    in-span i y at w is = credit-in-span classes i y (c.first_method + j) at w others is (facts.told.spans number c j there j_below)
 
     stands-there : (x : guest.State) → IsGuest order code x → (k : ℕ) → k < own.end → x.pc ≡ address own k → delay.StandsAt x c.start c.words k
     stands-there x guest_is k less pc =
-        let within = facts.in_range number c j there j_below in
+        let within = (facts.lies number c j there j_below).in_range in
         record {
           begun = guest_is.begun;
           pending = guest_is.pending;
           pc = pc;
           in_range = omega (arith, less, within);
-          range = subst (λ (f : ℕ → Option ℕ). HasRange f c.start c.words) (sym guest_is.code_is) (facts.range number c there);
+          range = subst (λ (f : ℕ → Option ℕ). HasRange f c.start c.words) (sym guest_is.code_is) (facts.stands number c there).range;
         }
 
     guest-next : (x t : guest.State) → IsGuest order code x → IsBetweenUnits x t → IsGuest order code t
@@ -290,7 +291,7 @@ module _ (unit_laws : UnitLaws) (laws : SpanLaws) (program : Program) (words : �
         }
 
         crosses : (t : guest.State) (y : State) → StandsAtReturn site own unit y t → 1 ≤ crossings (counted_spans classes) (own_trail (Some t))
-        crosses t y s = by_reason (s.because (facts.class number c there).is_class.aligned)
+        crosses t y s = by_reason (s.because (facts.stands number c there).has.is_class.aligned)
           where
             same : crossings (counted_spans classes) (own_trail (Some t)) ≡ crossings (counted_spans classes) (unit_trail x (unit_turns unit x) (Some t))
             same = ap (crossings (counted_spans classes)) (unit_made.trail (Some t))
@@ -298,12 +299,12 @@ module _ (unit_laws : UnitLaws) (laws : SpanLaws) (program : Program) (words : �
             by_reason : (jumps_by_register unit ≡ true) ⊎ IsOutside own t.pc → 1 ≤ crossings (counted_spans classes) (own_trail (Some t))
             by_reason (inl jump) = let one = guest_side.jumps (Some t) (sym (same-jumps unit) ∙ jump) in omega (arith, one, same)
             by_reason (inr outside) =
-                let one = unit-crosses (counted_spans classes) (counted_span c j) (λ a b. facts.apart number c j a b there j_below) x t (unit_turns unit x) guest_is.begun guest_side.slot (word-inside c j k x.pc above less pc) (other-outside c j t.pc outside) in
+                let one = unit-crosses (counted_spans classes) (counted_span c j) (facts.apart number c j there j_below).out x t (unit_turns unit x) guest_is.begun guest_side.slot (word-inside c j k x.pc above less pc) (other-outside c j t.pc outside) in
                 omega (arith, one, same)
 
         settles-at-return : (t : guest.State) → IsBetweenUnits x t → IsWord t.pc → (y : State) → StandsAtReturn site own unit y t → SettlesOn 13 t y
         settles-at-return t between pc_word y s =
-            let back = facts.comes_back t y (record {
+            let back = facts.comes_back program words classes choose t y (record {
               number = number;
               class = c;
               there = there;
@@ -337,9 +338,10 @@ module _ (unit_laws : UnitLaws) (laws : SpanLaws) (program : Program) (words : �
     alone-follows x guest_is k w s inner =
         let unit = unit_at all k in
         let at = word_entry c j k in
-        let has = laws.alone_has site order c.words c.leads own k w x has_span s inner in
+        let here = laws.alone site order c.words c.leads own k w x has_span s inner in
+        let has = here.has in
         let counts = counted x guest_is k s.above s.below s.pc 0 (λ r. true) at w unit s.rests.held s.rests.no_operands has in
-        let goes = laws.alone_goes_on site order c.words c.leads own k w x counts.total has_span s inner counts.follows in
+        let goes = here.goes_on counts.total counts.follows in
         let spared : (i : Counted) → goes.sum (weight classes i) ≤ counts.total (weight classes i) = λ i. goes.spared (weight classes i) (spares classes i) in
         unit-follows x guest_is k s.above s.below s.pc 0 (λ r. true) at w unit s.rests.held s.rests.no_operands has goes.sum spared at goes.high (132 * turn_count (unit_turns unit x) + 8) 13 (Resumes site all c.leads own unit) word_limit goes.follows
         (settles-behind x guest_is k s.above s.below s.pc 0 (λ r. true) at w unit s.rests.held s.rests.no_operands has goes.sum spared) (omega arith)
@@ -381,7 +383,7 @@ module _ (unit_laws : UnitLaws) (laws : SpanLaws) (program : Program) (words : �
         let bank = bank_of (own_units all c.leads own k) in
         let known = known_behind (own_units all c.leads own k) front in
         let at = offset_in all c.leads own k front in
-        let has = laws.pieces.has site order c.words c.leads own k front unit [] w x has_span s in
+        let has = (laws.in_pieces site order c.words c.leads own k front unit [] w x has_span s).has in
         let counts = counted x guest_is (k + length front) has.above has.below s.pc bank known at w unit s.inside.held s.inside.no_operands has in
         let goes = laws.last site order c.words c.leads own k front unit w x counts.total has_span s counts.follows in
         let spared : (i : Counted) → goes.sum (weight classes i) ≤ counts.total (weight classes i) = λ i. goes.spared (weight classes i) (spares classes i) in
@@ -392,11 +394,11 @@ module _ (unit_laws : UnitLaws) (laws : SpanLaws) (program : Program) (words : �
         let known = known_behind (own_units all c.leads own k) front in
         let at = offset_in all c.leads own k front in
         let high = offset_in all c.leads own k (front ++ unit ∷ []) in
-        let has = laws.pieces.has site order c.words c.leads own k front unit (next ∷ rest) w x has_span s in
+        let has = (laws.in_pieces site order c.words c.leads own k front unit (next ∷ rest) w x has_span s).has in
         let counts = counted x guest_is (k + length front) has.above has.below s.pc bank known at w unit s.inside.held s.inside.no_operands has in
-        let plain = laws.plain site order c.words c.leads own k front unit next rest w x has_span s in
-        let once = plain-once unit x plain in
-        let follows = laws.goes_on site order c.words c.leads own k front unit next rest w x counts.total has_span s counts.follows in
+        let inner = laws.inner site order c.words c.leads own k front unit next rest w x has_span s in
+        let once = plain-once unit x inner.plain in
+        let follows = inner.comes counts.total counts.follows in
         let Arrives : Workspace → guest.State → Type 0 = λ v t. StandsInPiece order all c.leads own k (front ++ unit ∷ []) next rest v t in
         let in_span : FollowsInSpan site at high 1 132 counts.total (StandsWith site high Arrives) (stands site at w) (last_turn (unit_turns unit x)) = follows-in-span site at high 1 132 counts.total Arrives (stands site at w) (last_turn (unit_turns unit x)) follows in
         let whole : FollowsInSpan site at high (turn_count (unit_turns unit x)) 132 counts.total (StandsWith site high Arrives) (stands site at w) (last_turn (unit_turns unit x)) = subst (λ (n : ℕ). FollowsInSpan site at high n 132 counts.total (StandsWith site high Arrives) (stands site at w) (last_turn (unit_turns unit x))) (sym once) in_span in

@@ -1,0 +1,84 @@
+-- How the classes of a translated program come from one word to the next.
+use Rattle.std.specs.Prelude.{◌≡◌, ℕ, List, Option, Some}
+use Rattle.nv_words.specs.Words.{IsWord}
+use Rattle.nv_words.specs.declared.order.Order.{Order}
+use Rattle.nv_events.specs.Turn.{ends, «fault»}
+use Rattle.mips_decode.specs.State as guest
+use Rattle.mips_decode.specs.Step as guest_step
+use Rattle.jvm_program.specs.Program.{Program}
+use Rattle.jvm_program.specs.Step.{State}
+use Rattle.trampoline_laws.specs.Coming.{stray_fault}
+use Rattle.trampoline_laws.specs.Classes.{CodeClass, is_span}
+use Rattle.trampoline_laws.specs.Programs.{IsTranslated}
+use Rattle.loading_code_laws.specs.Made.{HasBegun}
+use Rattle.running_laws.specs.Going.{ComesTo}
+use Rattle.running_laws.specs.Standing.{IsGuest, IsStray, AtChoose, AtRun, AtWord, AtReturn, EndsStray}
+
+-- ---- from the methods that choose
+
+-- They come to the code of the word at which the guest stands: they read nothing, and make one entry
+-- and one switch at most.
+abbrev pub ComesToWord : Program → ℕ → Order → ℕ → List CodeClass → guest.State → State → Type 0
+ComesToWord program words order choose classes t y =
+    ComesTo program words (is_span classes) 150 0 1
+    (λ z. AtWord program words order classes choose z t) y
+
+-- They come to the fault of an address from which no word can be fetched, and count nothing.
+abbrev pub ComesToStray : Program → ℕ → List CodeClass → ℕ → State → Type 0
+ComesToStray program words classes a y =
+    ComesTo program words (is_span classes) 80 0 0 (λ z. EndsStray program words a z) y
+
+-- Where they go from the beginning of a method that chooses, by the guest's address.
+pub record ChoosesWords (program : Program) (words : ℕ) (order : Order) (choose : ℕ)
+    (classes : List CodeClass) (code : ℕ → Option ℕ) : Type 0 where
+  -- where a word stands there
+  pub from_choose : (t : guest.State) (word : ℕ) (y : State)
+      → IsGuest order code t → code t.pc ≡ Some word
+      → AtChoose choose y t
+      → ComesToWord program words order choose classes t y
+  pub from_run : (t : guest.State) (word : ℕ) (y : State)
+      → IsGuest order code t → code t.pc ≡ Some word → IsWord t.pc
+      → AtRun program words classes choose y t
+      → ComesToWord program words order choose classes t y
+  -- where none can be fetched
+  pub stray_choose : (t : guest.State) (y : State)
+      → IsStray code t.pc → IsWord t.pc
+      → AtChoose choose y t
+      → ComesToStray program words classes t.pc y
+  pub stray_run : (t : guest.State) (y : State)
+      → IsStray code t.pc → IsWord t.pc
+      → AtRun program words classes choose y t
+      → ComesToStray program words classes t.pc y
+
+-- So it is in each translated program.
+abbrev pub ChoosersLeadToWords : Type 0
+ChoosersLeadToWords =
+    (program : Program) (words : ℕ) (order : Order) (choose missing : ℕ)
+    (classes : List CodeClass) (code : ℕ → Option ℕ)
+    → IsTranslated program order choose missing classes code
+    → ChoosesWords program words order choose classes code
+
+-- Where no word can be fetched, the guest's run ends in that same fault.
+abbrev pub GuestsStray : Type 0
+GuestsStray =
+    (order : Order) (code : ℕ → Option ℕ) (t : guest.State)
+    → IsGuest order code t → IsStray code t.pc
+    → guest_step.turn t ≡ ends («fault» (stray_fault t.pc))
+
+-- ---- to them
+
+-- Where the classes have begun, they stand at the beginning of the method that chooses among classes.
+abbrev pub BegunProgramsChoose : Type 0
+BegunProgramsChoose =
+    (own choose : ℕ) (t : guest.State) (y : State)
+    → HasBegun own choose t y → AtChoose choose y t
+
+-- From a return of the method of a span they come back to the beginning of its class's method that
+-- chooses, and count nothing.
+abbrev pub SpansComeBack : Type 0
+SpansComeBack =
+    (program : Program) (words : ℕ) (classes : List CodeClass) (choose : ℕ) (t : guest.State)
+    (y : State)
+    → AtReturn program words classes choose y t
+    → ComesTo program words (is_span classes) 13 0 0
+    (λ z. AtRun program words classes choose z t) y
