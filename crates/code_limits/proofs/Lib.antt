@@ -1,6 +1,5 @@
 pub mod Counting
 pub mod StepSlots
-pub mod InstructionSlots
 pub mod UnitSlots
 pub mod AlikeCode
 pub mod Pushing
@@ -14,8 +13,6 @@ pub mod OwnWords
 pub mod SpanSizes
 pub mod CutSizes
 pub mod StepSizes
-pub mod InstructionSizes
-pub mod TransferSizes
 pub mod UnitSizes
 pub mod WeightCounts
 pub mod PieceSizes

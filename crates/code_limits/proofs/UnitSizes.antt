@@ -1,7 +1,17 @@
 -- The code of each unit and the way from it keep to their bytes.
-use Rattle.std.proofs.Common.{ℕ, ◌≤◌, ◌||◌, if◌then◌else◌, [], ◌∷◌, Option, arith}
+use Rattle.std.proofs.Common.{ℕ, ◌+◌, ◌≤◌, ◌||◌, if◌then◌else◌, [], ◌∷◌, Option, arith}
 use Rattle.mips_decode.specs.Effect.{fetch_fault, branch_in_slot_fault}
 use Rattle.mips_decode.specs.Targets.{branch_target, jump_target}
+use Rattle.mips_decode.specs.declared.names.arithmetic_name.ArithmeticName.TheVariants.{Add}
+use Rattle.mips_decode.specs.declared.names.arithmetic_immediate_name.ArithmeticImmediateName.TheVariants.{Addi}
+use Rattle.mips_decode.specs.declared.names.logical_immediate_name.LogicalImmediateName.TheVariants.{Andi}
+use Rattle.mips_decode.specs.declared.names.load_name.LoadName.TheVariants.{Lwl}
+use Rattle.mips_decode.specs.declared.names.trap_name.TrapName.TheVariants.{Tgeu}
+use Rattle.mips_decode.specs.declared.names.trap_immediate_name.TrapImmediateName.TheVariants.{Tgeiu}
+use Rattle.mips_decode.specs.declared.names.branch_equal_name.BranchEqualName.TheVariants.{Beq}
+use Rattle.mips_decode.specs.declared.names.branch_zero_name.BranchZeroName.TheVariants.{Blez}
+use Rattle.mips_decode.specs.declared.names.branch_sign_name.BranchSignName.TheVariants.{Bltz}
+use Rattle.mips_decode.specs.declared.names.jump_name.JumpName.TheVariants.{J}
 use Rattle.mips_decode.specs.declared.inst.Inst.{Inst}
 use Rattle.mips_decode.specs.declared.inst.Inst.TheVariants as inst
 use Rattle.delay_slots.specs.declared.unit.Unit.{Unit}
@@ -14,43 +24,59 @@ use Rattle.code_steps.specs.Widths.{width, size}
 use Rattle.guest_layout.specs.FieldNumbers.{pc_field}
 use Rattle.guest_code.specs.Access.{push_word, put_field}
 use Rattle.guest_code.specs.Branching.{behind_slot}
-use Rattle.guest_code.specs.Faulting.{fault_code}
-use Rattle.guest_code.specs.Units.{instruction_code, unit_code, next_address}
+use Rattle.guest_code.specs.Units.{unit_code, next_address}
+use Rattle.guest_code.proofs.Forms.{Form, either-most, most}
+use Rattle.guest_code.proofs.InstructionForms.{fault_form, instruction_form}
+use Rattle.guest_code.proofs.UnitForms.{transfer_form, unit_form, unit-weighs}
 use Rattle.word_emitter.specs.declared.extent.Extent.{Extent}
 use Rattle.word_emitter.specs.Pieces.{is_likely}
 use Rattle.word_emitter.specs.Exits.{has, follows, returns, arrive, last_way, two_ways, branch_exit, passing_exit, next_exit, exit_code}
-use Rattle.code_limits.specs.Weights.{unit_bytes, exit_bytes, branch_exit_bytes}
-use Rattle.code_limits.proofs.StepSizes.{code-either, step-either, word-bytes}
-use Rattle.code_limits.proofs.InstructionSizes.{fault-size, call-size, instruction-size}
-use Rattle.code_limits.proofs.TransferSizes.{transfer-size}
+use Rattle.code_limits.specs.Weights.{instruction_bytes, unit_bytes, exit_bytes, branch_exit_bytes}
+use Rattle.code_limits.proofs.StepSizes.{word-bytes, sizes}
+
+-- ---- units
+
+instruction-fits : (i : Inst) (at : ℕ) → most sizes (instruction_form i at) ≤ instruction_bytes i
+instruction-fits (inst.Arithmetic Add rs rt rd) at = omega arith
+instruction-fits (inst.ArithmeticImmediate Addi rs rt imm) at = omega arith
+instruction-fits (inst.LogicalImmediate Andi rs rt imm) at = omega arith
+instruction-fits (inst.Load Lwl rs rt imm) at = omega arith
+instruction-fits (inst.Trap Tgeu rs rt code) at = omega arith
+instruction-fits (inst.TrapImmediate Tgeiu rs imm) at = omega arith
+instruction-fits _ at = omega arith
+
+transfer-fits : (i : Inst) (at : ℕ) (slot : Form) → most sizes (transfer_form i at slot) ≤ instruction_bytes i + most sizes slot
+transfer-fits (inst.BranchEqual Beq rs rt imm) at slot = omega arith
+transfer-fits (inst.BranchZero Blez rs imm) at slot = omega arith
+transfer-fits (inst.BranchSign Bltz rs imm) at slot = omega arith
+transfer-fits (inst.Jump J index) at slot = omega arith
+transfer-fits _ at slot = omega arith
+
+unit-fits : (unit : Unit) (at : ℕ) → most sizes (unit_form unit at) ≤ unit_bytes unit
+unit-fits (Plain i) at = instruction-fits i at
+unit-fits (Branch i slot) at =
+    omega (arith, transfer-fits i at (instruction_form slot (next_address at)), instruction-fits slot (next_address at))
+unit-fits (SlotMissing i) at = omega (arith, transfer-fits i at (fault_form fetch_fault (next_address at) (next_address at)))
+unit-fits (SlotIsBranch i word) at = omega (arith, transfer-fits i at (fault_form branch_in_slot_fault (next_address at) word))
+unit-fits _ at = omega arith
 
 pub unit-size : (bank : ℕ) (unit : Unit) (at : ℕ) → size (unit_code bank unit at) ≤ unit_bytes unit
-unit-size bank (Plain i) at = instruction-size bank i at
-unit-size bank (Branch i slot) at =
-    omega (arith, transfer-size bank i at (instruction_code bank slot (next_address at)), instruction-size bank slot (next_address at))
-unit-size bank (SlotMissing i) at =
-    let fault = fault_code fetch_fault (next_address at) (next_address at) in
-    omega (arith, transfer-size bank i at fault, fault-size fetch_fault (next_address at) (next_address at))
-unit-size bank (SlotIsBranch i word) at =
-    let fault = fault_code branch_in_slot_fault (next_address at) word in
-    omega (arith, transfer-size bank i at fault, fault-size branch_in_slot_fault (next_address at) word)
-unit-size bank Call at = call-size bank
-unit-size bank (Trap kind value) at = fault-size kind at value
+unit-size bank unit at = omega (arith, unit-weighs sizes bank unit at, unit-fits unit at)
 
 -- ---- ways
 
 arrive-bytes : (span : Extent) (goal : ℕ) → width (arrive span goal) ≤ 5
-arrive-bytes span goal = step-either (has span goal) (Leaves goal) returns 5 (omega arith) (omega arith)
+arrive-bytes span goal = either-most width (has span goal) (Leaves goal) returns 5 (omega arith) (omega arith)
 
 last-size : (span : Extent) (behind : Option ℕ) (goal : ℕ) → size (last_way span behind goal) ≤ 5
 last-size span behind goal =
-    code-either (follows behind goal) [] (arrive span goal ∷ []) 5 (omega arith) (omega (arith, arrive-bytes span goal))
+    either-most size (follows behind goal) [] (arrive span goal ∷ []) 5 (omega arith) (omega (arith, arrive-bytes span goal))
 
 two-size : (span : Extent) (behind : Option ℕ) (first second : ℕ) → size (two_ways span behind first second) ≤ 17
 two-size span behind first second =
     let looks = Does (Load local_kinds.Int 0) ∷ push_word first ∷ Skips IfIcmpne 1 ∷ arrive span first ∷ last_way span behind second in
     let a : size looks ≤ 17 = omega (arith, word-bytes first, arrive-bytes span first, last-size span behind second) in
-    code-either (has span first || has span second) looks (returns ∷ []) 17 a (omega arith)
+    either-most size (has span first || has span second) looks (returns ∷ []) 17 a (omega arith)
 
 branch-exit-size : (span : Extent) (behind : Option ℕ) (i : Inst) (at : ℕ) → size (branch_exit span behind i at) ≤ branch_exit_bytes i
 branch-exit-size span behind (inst.BranchSign name rs imm) at = two-size span behind (branch_target at imm) (behind_slot at)
@@ -61,13 +87,13 @@ branch-exit-size span behind other at = omega arith
 
 passing-size : (span : Extent) (behind : Option ℕ) (i : Inst) (at : ℕ) → size (passing_exit span behind i at) ≤ 5
 passing-size span behind i at =
-    code-either (is_likely i) (last_way span behind (behind_slot at)) (returns ∷ []) 5 (last-size span behind (behind_slot at)) (omega arith)
+    either-most size (is_likely i) (last_way span behind (behind_slot at)) (returns ∷ []) 5 (last-size span behind (behind_slot at)) (omega arith)
 
 next-size : (span : Extent) (behind : Option ℕ) (next : ℕ) → size (next_exit span behind next) ≤ 7
 next-size span behind next =
     let out = push_word next ∷ put_field pc_field ∷ returns ∷ [] in
-    code-either (follows behind next) [] (if has span next then Leaves next ∷ [] else out) 7 (omega arith)
-    (code-either (has span next) (Leaves next ∷ []) out 7 (omega arith) (omega (arith, word-bytes next)))
+    either-most size (follows behind next) [] (if has span next then Leaves next ∷ [] else out) 7 (omega arith)
+    (either-most size (has span next) (Leaves next ∷ []) out 7 (omega arith) (omega (arith, word-bytes next)))
 
 pub exit-size : (span : Extent) (behind : Option ℕ) (unit : Unit) (at : ℕ) → size (exit_code span behind unit at) ≤ exit_bytes unit
 exit-size span behind (Plain i) at = next-size span behind (next_address at)

@@ -23,7 +23,8 @@ pub fn spans_keep_to_their_bytes()
 pub fn divided_words_keep_to_the_limit()
     ensures { (units : List Unit) (leads : ℕ → Bool) (start first count limit : ℕ)
         (spans : List Span)
-        → Cuts 0 (map (λ k. weight (unit_at units (first + k))) (range_with_len 0 count))
-        limit spans → All (λ s.
-        size (span_code units leads (span_of start (first + s.first) s.words)) ≤ limit) spans }
+        → Cuts 0 (map (λ k. weight (unit_at units (first + k))) (range_with_len 0 count)) limit
+        spans
+        → All (λ s. size (span_code units leads (span_of start (first + s.first) s.words)) ≤ limit)
+        spans }
 {}

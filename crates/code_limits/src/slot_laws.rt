@@ -40,11 +40,12 @@ pub fn loading_takes_few_slots()
     ensures fills { (slots : List PageSlot) (class words : ℕ)
         → slots_of (fill_code slots class words) ≤ 2 * length slots }
     ensures run { (b : Beginning) (page_texts : List ℕ) (class pages : ℕ) (fills : List ℕ)
-        (choose : ℕ) → slots_of (run_code b page_texts class pages fills choose)
-        ≤ length page_texts + 16 }
+        (choose : ℕ)
+        → slots_of (run_code b page_texts class pages fills choose) ≤ length page_texts + 16 }
 {}
 
 /// The constants of each of the 20 helpers take at most two slots.
 pub fn helpers_take_few_slots()
-    ensures { (order : Order) (number : ℕ) → number < 20 → slots_of (helper_code order number) ≤ 2 }
+    ensures { (order : Order) (number : ℕ) → number < 20
+        → slots_of (helper_code order number) ≤ 2 }
 {}
