@@ -1,6 +1,8 @@
 -- What the code of a method may name: fields of the main class with their types, some methods, texts of its own class, and its own return.
-use Rattle.std.specs.Prelude.{ℕ, Bool, true, false, ◌&&◌, ◌||◌, ◌==◌, nat_lt, List}
+use Rattle.std.specs.Prelude.{◌≡◌, ℕ, ◌<◌, All, Bool, true, false, ◌&&◌, ◌||◌, ◌==◌, nat_lt, List}
 use Rattle.std.specs.List.{list_all}
+use Rattle.nv_words.specs.declared.order.Order.{Order}
+use Rattle.delay_slots.specs.declared.unit.Unit.{Unit}
 use Rattle.jvm_names.specs.declared.return_name.ReturnName.{ReturnName}
 use Rattle.jvm_names.specs.declared.return_name.ReturnName.TheVariants as returns
 use Rattle.jvm_program.specs.declared.constant.Constant.TheVariants.{Text}
@@ -8,10 +10,19 @@ use Rattle.jvm_program.specs.declared.kind.Kind.{Kind}
 use Rattle.jvm_program.specs.declared.instruction.Instruction.{Instruction}
 use Rattle.jvm_program.specs.declared.instruction.Instruction.TheVariants.{Push, Increment, Get, Put, Call, Return, Wrong}
 use Rattle.jvm_program.specs.Typing.{same_kind}
-use Rattle.jvm_link.specs.Linking.{kind_of}
+use Rattle.jvm_link.specs.Linking.{gives_int, kind_of}
 use Rattle.code_steps.specs.declared.step.Step.{Step}
 use Rattle.code_steps.specs.declared.step.Step.TheVariants.{Does}
 use Rattle.guest_layout.specs.Fields.{field_descriptor}
+use Rattle.guest_layout.specs.Helpers.{helper_descriptor}
+use Rattle.mem_helpers.specs.Methods.{helper_code}
+use Rattle.lawful_units.specs.Lawful.{IsLawful}
+use Rattle.span_code.specs.declared.span_words.SpanWords.{SpanWords}
+use Rattle.span_code.specs.Parts.{cold_part, warm_part}
+use Rattle.span_code.specs.Laying.{span_code}
+use Rattle.trampoline.specs.declared.start.Start.{Start}
+use Rattle.loading_code.specs.declared.beginning.Beginning.{Beginning}
+use Rattle.loading_code.specs.Starting.{run_code}
 use Rattle.code_assembly.specs.Assembling.{is_signed_byte}
 
 -- one of the 38 fields of the main class, with its type
@@ -51,3 +62,49 @@ step_names_well calls class gives _ = true
 -- each step of code names only what is there
 abbrev pub all_well : (ℕ → Bool) → ℕ → Bool → List Step → Bool
 all_well calls class gives code = list_all (step_names_well calls class gives) code
+
+-- methods that may be called
+abbrev pub MayCall : (ℕ → Bool) → List ℕ → Type 0
+MayCall calls methods = All (λ m. calls m ≡ true) methods
+
+-- so may the methods of these starts
+abbrev pub MayCallStarts : (ℕ → Bool) → List Start → Type 0
+MayCallStarts calls starts = All (λ (start : Start). calls start.method ≡ true) starts
+
+-- ---- the laws
+
+-- Helpers call none but the two that end the run for them, and return as their descriptors say.
+abbrev pub HelpersNameWell : Type 0
+HelpersNameWell =
+    (order : Order) (class number : ℕ) → number < 20
+    → all_well is_fault class (gives_int (helper_descriptor number)) (helper_code order number)
+    ≡ true
+
+-- The pieces in the method of a span of lawful units call helpers alone.
+abbrev pub PiecesNameWell : Type 0
+PiecesNameWell =
+    (class k : ℕ) (units : List Unit) (leads : ℕ → Bool) (span : SpanWords)
+    → All IsLawful units
+    → all_well is_helper class false (warm_part units leads span k) ≡ true
+
+-- So do words alone.
+abbrev pub WordsNameWell : Type 0
+WordsNameWell =
+    (class k : ℕ) (units : List Unit) (leads : ℕ → Bool) (span : SpanWords)
+    → All IsLawful units
+    → all_well is_helper class false (cold_part units leads span k) ≡ true
+
+-- So does the whole method.
+abbrev pub SpansNameWell : Type 0
+SpansNameWell =
+    (class : ℕ) (units : List Unit) (leads : ℕ → Bool) (span : SpanWords)
+    → All IsLawful units
+    → all_well is_helper class false (span_code units leads span) ≡ true
+
+-- The method with which the program begins calls the methods that it is given, and pushes texts of
+-- its own class.
+abbrev pub RunsNameWell : Type 0
+RunsNameWell =
+    (calls : ℕ → Bool) (class pages choose : ℕ) (b : Beginning) (page_texts fills : List ℕ)
+    → calls pages ≡ true → MayCall calls fills → calls choose ≡ true
+    → all_well calls class false (run_code b page_texts class pages fills choose) ≡ true

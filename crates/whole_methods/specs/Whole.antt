@@ -1,8 +1,20 @@
 -- Code that can be the code of a method, and tables of what it names.
-use Rattle.std.specs.Prelude.{◌≡◌, ◌≤◌, ◌&&◌, true, List, length}
+use Rattle.std.specs.Prelude.{◌≡◌, ℕ, ◌<◌, ◌≤◌, ◌&&◌, All, Bool, true, List, length}
+use Rattle.nv_words.specs.Words.{IsWord}
+use Rattle.delay_slots.specs.Units.{HasNoFloat, units_of}
 use Rattle.code_steps.specs.declared.step.Step.{Step}
+use Rattle.code_steps.specs.Widths.{size}
+use Rattle.span_code.specs.declared.span_words.SpanWords.{SpanWords}
+use Rattle.span_code.specs.Laying.{span_code}
+use Rattle.trampoline.specs.declared.start.Start.{Start}
+use Rattle.trampoline.specs.Choosers.{class_chooser, main_chooser}
+use Rattle.loading_code.specs.declared.beginning.Beginning.{Beginning}
+use Rattle.loading_code.specs.declared.page_slot.PageSlot.{PageSlot}
+use Rattle.loading_code.specs.Filling.{fill_code}
+use Rattle.loading_code.specs.Starting.{run_code}
 use Rattle.code_assembly.specs.declared.references.References.{References}
-use Rattle.code_assembly.specs.Assembling.{can_be_assembled, is_method}
+use Rattle.code_assembly.specs.Assembling.{can_be_assembled, has_method, is_method}
+use Rattle.whole_methods.specs.Naming.{MayCall, MayCallStarts}
 
 -- code can be made into the bytes of a method of a class with such references
 abbrev pub CanBeMethod : References → List Step → Type 0
@@ -13,3 +25,52 @@ pub record HasHelpers (r : References) : Type 0 where
   pub fields : length r.fields ≡ 38
   pub first : r.first_method ≡ 0
   pub helpers : 20 ≤ length r.methods
+
+-- ---- the laws
+
+-- The code of a span of a range's words can be the code of a method, where there is a word and it
+-- has at most 65,535 bytes.
+abbrev pub SpansAreWhole : Type 0
+SpansAreWhole =
+    (r : References) (words : List ℕ) (leads : ℕ → Bool) (span : SpanWords)
+    → HasHelpers r
+    → All IsWord words → HasNoFloat words
+    → span.end ≤ length words → span.first < span.end
+    → size (span_code (units_of words) leads span) ≤ 65535
+    → CanBeMethod r (span_code (units_of words) leads span)
+
+-- So can the codes of the methods that choose among spans, for at most 2,048 methods that the table
+-- has.
+abbrev pub ClassChoosersAreWhole : Type 0
+ClassChoosersAreWhole =
+    (r : References) (starts : List Start) (first end : ℕ)
+    → length r.fields ≡ 38
+    → length starts ≤ 2048 → MayCallStarts (has_method r) starts
+    → CanBeMethod r (class_chooser starts first end)
+
+-- So can those of the one that chooses among classes.
+abbrev pub MainChoosersAreWhole : Type 0
+MainChoosersAreWhole =
+    (r : References) (starts : List Start) (missing : ℕ)
+    → length r.fields ≡ 38
+    → length starts ≤ 2048 → MayCallStarts (has_method r) starts
+    → has_method r missing ≡ true
+    → CanBeMethod r (main_chooser starts missing)
+
+-- So can those of the methods that fill pages, of at most 2,048 texts.
+abbrev pub FillsAreWhole : Type 0
+FillsAreWhole =
+    (r : References) (slots : List PageSlot) (class words : ℕ)
+    → length r.fields ≡ 38
+    → length slots ≤ 2048 → has_method r words ≡ true
+    → CanBeMethod r (fill_code slots class words)
+
+-- So can that of the method with which the program begins.
+abbrev pub RunsAreWhole : Type 0
+RunsAreWhole =
+    (r : References) (b : Beginning) (page_texts : List ℕ) (class pages : ℕ) (fills : List ℕ)
+    (choose : ℕ)
+    → length r.fields ≡ 38
+    → length page_texts ≤ 2048 → length fills ≤ 2048
+    → has_method r pages ≡ true → MayCall (has_method r) fills → has_method r choose ≡ true
+    → CanBeMethod r (run_code b page_texts class pages fills choose)

@@ -1,45 +1,37 @@
 //! What holds of the names in emitted code. Each call here does nothing: its contract is the law.
 
-ghost use Rattle.std.specs.Prelude.{◌≡◌, ℕ, ◌<◌, Bool, true, false, List, All, Option};
-ghost use Rattle.nv_words.specs.declared.order.Order.{Order};
+ghost use Rattle.std.specs.Prelude.{◌≡◌, ℕ, Bool, true, false, List, All, Option};
 ghost use Rattle.delay_slots.specs.declared.unit.Unit.{Unit};
-ghost use Rattle.jvm_link.specs.Linking.{gives_int};
 ghost use Rattle.code_steps.specs.declared.step.Step.{Step};
-ghost use Rattle.guest_layout.specs.Helpers.{helper_descriptor};
 ghost use Rattle.guest_code.specs.Units.{unit_code};
-ghost use Rattle.mem_helpers.specs.Methods.{helper_code};
 ghost use Rattle.word_emitter.specs.declared.extent.Extent.{Extent};
 ghost use Rattle.word_emitter.specs.Pieces.{warm_code, units_code};
 ghost use Rattle.word_emitter.specs.Exits.{exit_code};
 ghost use Rattle.lawful_units.specs.Lawful.{IsLawful};
-ghost use Rattle.span_code.specs.declared.span_words.SpanWords.{SpanWords};
-ghost use Rattle.span_code.specs.Parts.{cold_part, warm_part};
-ghost use Rattle.span_code.specs.Laying.{span_code};
 ghost use Rattle.trampoline.specs.declared.start.Start.{Start};
 ghost use Rattle.trampoline.specs.Choosers.{class_chooser, main_chooser, missing_code};
-ghost use Rattle.loading_code.specs.declared.beginning.Beginning.{Beginning};
 ghost use Rattle.loading_code.specs.declared.page_slot.PageSlot.{PageSlot};
 ghost use Rattle.loading_code.specs.Filling.{fill_code};
 ghost use Rattle.loading_code.specs.Pages.{pages_code};
-ghost use Rattle.loading_code.specs.Starting.{run_code};
 ghost use Rattle.loading_code.specs.Words.{words_code};
-ghost use Rattle.whole_methods.specs.Naming.{all_well, is_fault, is_helper};
+ghost use Rattle.whole_methods.specs.Naming.{HelpersNameWell, MayCallStarts, PiecesNameWell, RunsNameWell, SpansNameWell, WordsNameWell, all_well, is_helper};
 
 /// Helpers call none but the two that end the run for them, and return as their descriptors say.
 pub fn helpers_name_well()
-    ensures { (order : Order) (class number : ℕ) → number < 20
-        → all_well is_fault class (gives_int (helper_descriptor number)) (helper_code order number)
-        ≡ true }
+    ensures { HelpersNameWell }
 {}
 
 /// The code of a lawful unit calls helpers alone and has no return, over any bank of registers, and so has the code of lawful units one after
 /// the other, and that of a piece.
 pub fn units_name_well()
-    ensures one { (class : ℕ) (gives : Bool) (bank at : ℕ) (unit : Unit) → IsLawful unit
+    ensures one { (class : ℕ) (gives : Bool) (bank at : ℕ) (unit : Unit)
+        → IsLawful unit
         → all_well is_helper class gives (unit_code bank unit at) ≡ true }
     ensures several { (class : ℕ) (gives : Bool) (bank at : ℕ) (units : List Unit)
-        → All IsLawful units → all_well is_helper class gives (units_code bank units at) ≡ true }
-    ensures piece { (class : ℕ) (gives : Bool) (at : ℕ) (units : List Unit) → All IsLawful units
+        → All IsLawful units
+        → all_well is_helper class gives (units_code bank units at) ≡ true }
+    ensures piece { (class : ℕ) (gives : Bool) (at : ℕ) (units : List Unit)
+        → All IsLawful units
         → all_well is_helper class gives (warm_code units at) ≡ true }
 {}
 
@@ -51,23 +43,18 @@ pub fn exits_name_well()
 
 /// The method of a span of lawful units calls helpers alone, and so do its parts.
 pub fn spans_name_well()
-    ensures pieces { (class k : ℕ) (units : List Unit) (leads : ℕ → Bool) (span : SpanWords)
-        → All IsLawful units → all_well is_helper class false (warm_part units leads span k)
-        ≡ true }
-    ensures words { (class k : ℕ) (units : List Unit) (leads : ℕ → Bool) (span : SpanWords)
-        → All IsLawful units → all_well is_helper class false (cold_part units leads span k)
-        ≡ true }
-    ensures method { (class : ℕ) (units : List Unit) (leads : ℕ → Bool) (span : SpanWords)
-        → All IsLawful units → all_well is_helper class false (span_code units leads span) ≡ true }
+    ensures pieces { PiecesNameWell }
+    ensures words { WordsNameWell }
+    ensures method { SpansNameWell }
 {}
 
 /// The methods that choose call those of their starts; the main one also calls the method for addresses outside all code, which calls none.
 pub fn choosers_name_well()
     ensures class { (calls : ℕ → Bool) (class : ℕ) (starts : List Start) (first end : ℕ)
-        → All (λ start. calls start.method ≡ true) starts
+        → MayCallStarts calls starts
         → all_well calls class false (class_chooser starts first end) ≡ true }
     ensures main { (calls : ℕ → Bool) (class : ℕ) (starts : List Start) (missing : ℕ)
-        → All (λ start. calls start.method ≡ true) starts → calls missing ≡ true
+        → MayCallStarts calls starts → calls missing ≡ true
         → all_well calls class false (main_chooser starts missing) ≡ true }
     ensures missing { (calls : ℕ → Bool) (class : ℕ)
         → all_well calls class false missing_code ≡ true }
@@ -78,17 +65,16 @@ pub fn choosers_name_well()
 pub fn loading_names_well()
     ensures pages { (calls : ℕ → Bool) (class : ℕ) → all_well calls class false pages_code ≡ true }
     ensures words { (calls : ℕ → Bool) (class : ℕ) → all_well calls class false words_code ≡ true }
-    ensures fill { (calls : ℕ → Bool) (class words : ℕ) (slots : List PageSlot) → calls words ≡ true
+    ensures fill { (calls : ℕ → Bool) (class words : ℕ) (slots : List PageSlot)
+        → calls words ≡ true
         → all_well calls class false (fill_code slots class words) ≡ true }
-    ensures run { (calls : ℕ → Bool) (class pages choose : ℕ) (b : Beginning)
-        (page_texts fills : List ℕ) → calls pages ≡ true → All (λ m. calls m ≡ true) fills
-        → calls choose ≡ true
-        → all_well calls class false (run_code b page_texts class pages fills choose) ≡ true }
+    ensures run { RunsNameWell }
 {}
 
 /// Code that names only what is there does so too where more methods may be called.
 pub fn more_may_be_called()
     ensures { (calls more : ℕ → Bool) (class : ℕ) (gives : Bool) (code : List Step)
-        → ((m : ℕ) → calls m ≡ true → more m ≡ true) → all_well calls class gives code ≡ true
+        → ((m : ℕ) → calls m ≡ true → more m ≡ true)
+        → all_well calls class gives code ≡ true
         → all_well more class gives code ≡ true }
 {}
