@@ -13,8 +13,8 @@ use Rattle.span_code.specs.Laying.{span_code}
 use Rattle.code_assembly.specs.declared.references.References.{References}
 use Rattle.code_assembly.specs.Assembling.{slots_of}
 use Rattle.class_builder.specs.Code.{is_code}
-use Rattle.whole_methods.specs.Naming.{all_well, is_helper}
-use Rattle.whole_methods.specs.Whole.{CanBeMethod, HasHelpers}
+use Rattle.whole_methods.specs.Naming.{SpansNameWell, is_helper}
+use Rattle.whole_methods.specs.Whole.{CanBeMethod, HasHelpers, SpansAreWhole}
 use Rattle.program_classes.specs.declared.part.Part.{Part}
 use Rattle.program_classes.specs.Parts.{IsCode, IsPart, IsSpan}
 use Rattle.program_classes.specs.Code.{code_of_span}
@@ -24,17 +24,6 @@ use Rattle.program_classes.proofs.Rooms.CodeLemmas.{no-texts, whole-code}
 abbrev pub AllLawful : Type 0
 AllLawful = (words : List ℕ) → All IsWord words → HasNoFloat words → All IsLawful (units_of words)
 
-abbrev pub AllNamedWell : Type 0
-AllNamedWell =
-    (class : ℕ) (units : List Unit) (leads : ℕ → Bool) (span : SpanWords) → All IsLawful units
-    → all_well is_helper class false (span_code units leads span) ≡ true
-
-abbrev pub AllWhole : Type 0
-AllWhole =
-    (r : References) (words : List ℕ) (leads : ℕ → Bool) (span : SpanWords) → HasHelpers r → All IsWord words → HasNoFloat words
-    → span.end ≤ length words → span.first < span.end → size (span_code (units_of words) leads span) ≤ 65535
-    → CanBeMethod r (span_code (units_of words) leads span)
-
 abbrev pub AllFew : Type 0
 AllFew =
     (units : List Unit) (leads : ℕ → Bool) (span : SpanWords) → slots_of (span_code units leads span) ≤ 2 + 9 * (span.end - span.first)
@@ -43,7 +32,7 @@ units-length : (words : List ℕ) → length (units_of words) ≡ length words
 units-length [] = refl
 units-length (w ∷ words) = ap suc (units-length words)
 
-span-whole : AllWhole → (r : References) (units : List Unit) (leads : ℕ → Bool) (span : SpanWords) → HasHelpers r → IsCode units
+span-whole : SpansAreWhole → (r : References) (units : List Unit) (leads : ℕ → Bool) (span : SpanWords) → HasHelpers r → IsCode units
     → span.end ≤ length units → span.first < span.end → size (span_code units leads span) ≤ 65535 → CanBeMethod r (span_code units leads span)
 span-whole whole r units leads span helpers code within some small =
     subst (λ u. CanBeMethod r (span_code u leads span)) (sym code.units_are)
@@ -51,7 +40,7 @@ span-whole whole r units leads span helpers code within some small =
     (omega (arith, within, ap length code.units_are, units-length code.words)) some
     (subst (λ u. size (span_code u leads span) ≤ 65535) code.units_are small))
 
-pub span-is-code : AllLawful → AllNamedWell → AllWhole → (r : References) (pool : List Entry) (part : Part) (s : Span) → HasHelpers r
+pub span-is-code : AllLawful → SpansNameWell → SpansAreWhole → (r : References) (pool : List Entry) (part : Part) (s : Span) → HasHelpers r
     → IsPart part → IsCode part.units.now → IsSpan part.words s → size (code_of_span part s) ≤ 65535
     → is_code r pool (code_of_span part s) ≡ true
 span-is-code lawful well whole r pool part s helpers is code own small =
