@@ -1,4 +1,5 @@
 pub mod Before
+pub mod Members
 pub mod Places
 pub mod Distinct
 pub mod Planned

@@ -3,28 +3,40 @@ use Rattle.std.specs.Prelude.{◌≡◌, ℕ, ◌+◌, ◌-◌, ◌<◌, Bool, t
 use Rattle.jvm_program.specs.declared.array_kind.ArrayKind.TheVariants.{Pages}
 use Rattle.jvm_program.specs.declared.instruction.Instruction.TheVariants as instructions
 use Rattle.constant_pool.specs.declared.entry.Entry.{Entry}
+use Rattle.constant_pool.specs.declared.entry.Entry.TheVariants.{MethodRef}
 use Rattle.constant_pool.specs.Names.{same_text}
 use Rattle.jvm_code.specs.declared.class.Class.{Class}
 use Rattle.jvm_code.specs.declared.names.pool_name.PoolName.TheVariants.{Getstatic, Putstatic, Invokevirtual, Invokestatic, Anewarray}
 use Rattle.name_resolution.specs.Names.{signature, reference, host_name, field_number, method_number}
 use Rattle.jvm_link.specs.Linking.{kind_of, pool_instruction}
 use Rattle.guest_layout.specs.Fields.{field_name, field_descriptor}
+use Rattle.code_steps.specs.declared.step.Step.{Step}
+use Rattle.guest_layout.specs.Helpers.{helper_name, helper_descriptor}
 use Rattle.code_assembly.specs.declared.references.References.{References}
+use Rattle.code_assembly.specs.Assembling.{AreKnown, Extends, has_method}
 use Rattle.class_builder.specs.Named.{IsClassAt, IsMethodAt}
+use Rattle.whole_methods.specs.Naming.{all_well, is_helper}
+use Rattle.program_classes.specs.declared.names.Names.{Names}
+use Rattle.program_classes.specs.Named.{AreHelpers, AreMembers, AreNames}
+use Rattle.program_classes.specs.Tables.{references_of}
 
 -- The slots of fields, of the host, of strings and of arrays mean what code means by them, in a class with a number.
 pub record AreMeant (r : References) (classes : List Class) (number : ℕ) (c : Class) : Type 0 where
+  -- the 38 fields of the main class, by their numbers: how each is read, and how it is written
   pub get : (f : ℕ) → f < 38
       → pool_instruction classes number c Getstatic (slice_index r.fields f)
       ≡ instructions.Get f (kind_of (field_descriptor f))
   pub put : (f : ℕ) → f < 38
       → pool_instruction classes number c Putstatic (slice_index r.fields f)
       ≡ instructions.Put f (kind_of (field_descriptor f))
+  -- the host's two methods
   pub call : pool_instruction classes number c Invokestatic r.host_call ≡ instructions.CallHost
   pub fault : pool_instruction classes number c Invokestatic r.host_fault ≡ instructions.FaultHost
+  -- the two methods of strings
   pub length : pool_instruction classes number c Invokevirtual r.string_length ≡ instructions.Length
   pub char_at : pool_instruction classes number c Invokevirtual r.string_char_at
       ≡ instructions.CharAt
+  -- a new table of pages
   pub ints : pool_instruction classes number c Anewarray r.ints_class ≡ instructions.NewArray Pages
 
 -- the slots of methods mean calls of those that may be called
@@ -52,11 +64,68 @@ HaveMethodNumbers classes owner name descriptor first count =
 
 -- A slot of a pool names the method that has a number, of a class that is not the host.
 pub record IsMethodNumber (classes : List Class) (pool : List Entry) (slot m : ℕ) : Type 0 where
+  -- the slot of its class, and the name of that
   pub class : ℕ
   pub owner : List ℕ
+  -- its own name and descriptor
   pub name : List ℕ
   pub descriptor : List ℕ
   pub owner_is : IsClassAt pool class owner
   pub no_host : same_text owner host_name ≡ false
+  -- the slot names it, and that is its number in the program
   pub method_is : IsMethodAt pool slot class name descriptor
   pub number_is : method_number classes (reference owner (signature name descriptor)) ≡ Some m
+
+-- ---- the laws
+
+-- A class knows what code names where its slots mean what code means by them, and the code names
+-- only what is there.
+abbrev pub NamedCodeIsKnown : Type 0
+NamedCodeIsKnown =
+    (r : References) (classes : List Class) (number : ℕ) (c : Class) (calls : ℕ → Bool)
+    (gives : Bool) (code : List Step)
+    → AreMeant r classes number c → AreCalled r classes number c calls
+    → all_well calls number gives code ≡ true
+    → AreKnown r classes number c gives code
+
+-- The slots of what every class of a program names mean what code means by them, in a class whose
+-- pool goes on behind the one that has them.
+abbrev pub NamesAreMeant : Type 0
+NamesAreMeant =
+    (classes : List Class) (number : ℕ) (c : Class) (pool : List Entry) (main : List ℕ)
+    (names : Names) (first : ℕ) (methods : List ℕ)
+    → Extends pool c.pool
+    → AreNames pool main names → HaveFieldNumbers classes main
+    → AreMeant (references_of names first methods) classes number c
+
+-- The slots of methods mean calls of them where each names the method of its number.
+abbrev pub NumberedAreCalled : Type 0
+NumberedAreCalled =
+    (r : References) (classes : List Class) (number : ℕ) (c : Class) (pool : List Entry)
+    (calls : ℕ → Bool)
+    → Extends pool c.pool
+    → ((m : ℕ) → calls m ≡ true
+    → IsMethodNumber classes pool (slice_index r.methods (m - r.first_method)) m)
+    → AreCalled r classes number c calls
+
+-- So do those of the members of a class whose numbers follow each other.
+abbrev pub MembersAreCalled : Type 0
+MembersAreCalled =
+    (r : References) (classes : List Class) (number : ℕ) (c : Class) (pool : List Entry)
+    (class count : ℕ) (owner : List ℕ) (name descriptor : ℕ → List ℕ)
+    → Extends pool c.pool
+    → IsClassAt pool class owner → same_text owner host_name ≡ false
+    → AreMembers MethodRef name descriptor pool class r.methods count
+    → HaveMethodNumbers classes owner name descriptor r.first_method count
+    → AreCalled r classes number c (has_method r)
+
+-- So do those of the helpers.
+abbrev pub HelpersAreCalled : Type 0
+HelpersAreCalled =
+    (classes : List Class) (number : ℕ) (c : Class) (pool : List Entry) (main : List ℕ)
+    (names : Names) (helpers : List ℕ)
+    → Extends pool c.pool
+    → AreNames pool main names → same_text main host_name ≡ false
+    → AreHelpers pool names.main helpers 20
+    → HaveMethodNumbers classes main helper_name helper_descriptor 0 20
+    → AreCalled (references_of names 0 helpers) classes number c is_helper

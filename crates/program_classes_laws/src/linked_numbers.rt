@@ -1,22 +1,20 @@
 //! Where the fields and methods of classes stand in the program that the classes are. Each call here does nothing: its contract is the law.
 
-ghost use Rattle.std.specs.Prelude.{◌≡◌, ℕ, ◌+◌, ◌<◌, ◌≤◌, ◌^◌, All, false, List, [], ◌∷◌, map, length, slice_get, true, Some, None};
+ghost use Rattle.std.specs.Prelude.{◌≡◌, ℕ, ◌+◌, ◌^◌, ◌≤◌, true, false, List, [], ◌∷◌, All, map, length, slice_get, Some, None};
 ghost use Rattle.std.specs.List.{AllZip, IsDistinct};
-ghost use Rattle.jvm_program.specs.declared.instruction.Instruction.TheVariants.{Get, Put, Call};
 ghost use Rattle.jvm_program.specs.declared.linked_method.LinkedMethod.{LinkedMethod};
-ghost use Rattle.constant_pool.specs.declared.entry.Entry.{Entry};
 ghost use Rattle.constant_pool.specs.Names.{same_text};
 ghost use Rattle.jvm_code.specs.declared.class.Class.{Class};
 ghost use Rattle.jvm_code.specs.declared.member.Member.{Member};
 ghost use Rattle.jvm_code.specs.declared.method.Method.{Method};
-ghost use Rattle.jvm_code.specs.declared.names.pool_name.PoolName.TheVariants.{Getstatic, Putstatic, Invokestatic};
 ghost use Rattle.name_resolution.specs.Names.{Signature, reference, own_name, is_known, known_methods, fields_of, methods_of, fields_named, methods_named, field_number, method_number};
-ghost use Rattle.name_resolution.specs.Faults.{no_field, no_method, has_equal, is_class, member_fault, entry_fault, run_signature, twice_fault, link_fault};
-ghost use Rattle.jvm_link.specs.Linking.{kind_of, field_kind, linked_method, pool_instruction, program_of};
-ghost use Rattle.class_builder.specs.Named.{IsClassAt, IsFieldAt, IsMethodAt};
+ghost use Rattle.name_resolution.specs.Faults.{no_field, no_method, has_equal, is_class, member_fault, run_signature, link_fault};
+ghost use Rattle.jvm_link.specs.Linking.{field_kind, linked_method, program_of};
+ghost use Rattle.class_builder.specs.Named.{IsClassAt};
 ghost use Rattle.class_builder.specs.Built.{IsNamed};
 ghost use Rattle.program_classes.specs.Making.{Plan, IsMade};
 ghost use Rattle.program_classes_laws.specs.Before.{fields_before, methods_before};
+ghost use Rattle.program_classes_laws.specs.Members.{EntriesName, SlotsMeanFields, SlotsMeanMethods, StandOnce};
 ghost use Rattle.program_classes_laws.specs.Places.{IsMethodOf};
 ghost use Rattle.program_classes_laws.specs.Distinct.{HasDistinctMembers};
 ghost use Rattle.program_classes_laws.specs.Planned.{planned, numbered};
@@ -28,8 +26,9 @@ use class_builder::{fields_are_meant, methods_are_meant};
 /// has it.
 pub fn methods_have_numbers()
     ensures number { (classes : List Class) (n k : ℕ) (c : Class) (s : Signature)
-        → twice_fault [] 0 classes ≡ None → slice_get classes n ≡ Some c
-        → slice_get (methods_of c) k ≡ Some s → method_number classes (reference (own_name c) s)
+        → StandOnce classes
+        → slice_get classes n ≡ Some c → slice_get (methods_of c) k ≡ Some s
+        → method_number classes (reference (own_name c) s)
         ≡ Some (methods_before classes n + k) }
     ensures linked { (classes : List Class) (n k : ℕ) (c : Class) (m : Method)
         → slice_get classes n ≡ Some c → slice_get c.methods k ≡ Some m
@@ -47,9 +46,9 @@ pub fn methods_are_of_classes()
 /// has its type.
 pub fn fields_have_numbers()
     ensures number { (classes : List Class) (n k : ℕ) (c : Class) (s : Signature)
-        → twice_fault [] 0 classes ≡ None → slice_get classes n ≡ Some c
-        → slice_get (fields_of c) k ≡ Some s → field_number classes (reference (own_name c) s)
-        ≡ Some (fields_before classes n + k) }
+        → StandOnce classes
+        → slice_get classes n ≡ Some c → slice_get (fields_of c) k ≡ Some s
+        → field_number classes (reference (own_name c) s) ≡ Some (fields_before classes n + k) }
     ensures typed { (classes : List Class) (n k : ℕ) (c : Class) (f : Member)
         → slice_get classes n ≡ Some c → slice_get c.fields k ≡ Some f
         → (program_of classes).field (fields_before classes n + k) ≡ Some (field_kind c f) }
@@ -58,10 +57,10 @@ pub fn fields_have_numbers()
 /// The methods and fields of the first class have their numbers in that class. Where no other class has fields, these are all.
 pub fn members_of_the_first_class_have_numbers()
     ensures method { (c : Class) (others : List Class) (k : ℕ) (s : Signature)
-        → twice_fault [] 0 (c ∷ others) ≡ None → slice_get (methods_of c) k ≡ Some s
+        → StandOnce (c ∷ others) → slice_get (methods_of c) k ≡ Some s
         → method_number (c ∷ others) (reference (own_name c) s) ≡ Some k }
     ensures field { (c : Class) (others : List Class) (k : ℕ) (s : Signature)
-        → twice_fault [] 0 (c ∷ others) ≡ None → slice_get (fields_of c) k ≡ Some s
+        → StandOnce (c ∷ others) → slice_get (fields_of c) k ≡ Some s
         → field_number (c ∷ others) (reference (own_name c) s) ≡ Some k }
     ensures all { (c : Class) (others : List Class) (k : ℕ)
         → All (λ (d : Class). d.fields ≡ []) others
@@ -74,15 +73,18 @@ pub fn members_of_the_first_class_have_numbers()
 /// Before the methods of the first class stand none, and before those of the next class those of one class more.
 pub fn methods_are_counted()
     ensures first { (classes : List Class) → methods_before classes 0 ≡ 0 }
-    ensures next { (classes : List Class) (n : ℕ) (c : Class) → slice_get classes n ≡ Some c
+    ensures next { (classes : List Class) (n : ℕ) (c : Class)
+        → slice_get classes n ≡ Some c
         → methods_before classes (n + 1) ≡ methods_before classes n + length c.methods }
 {}
 
 /// A class that is made has the name that it was to have, and its members have the names and descriptors that they were to have.
 pub fn members_are_as_planned()
-    ensures class { (c : Class) (name : List ℕ) → IsClassAt c.pool c.this_class name
+    ensures class { (c : Class) (name : List ℕ)
+        → IsClassAt c.pool c.this_class name
         → own_name c ≡ name }
-    ensures methods { (c : Class) (plans : List Plan) → AllZip (IsMade c.pool) c.methods plans
+    ensures methods { (c : Class) (plans : List Plan)
+        → AllZip (IsMade c.pool) c.methods plans
         → methods_of c ≡ map planned plans }
     ensures fields { (c : Class) (name descriptor : ℕ → List ℕ) (numbers : List ℕ)
         → AllZip (λ (f : Member) k. IsNamed c.pool f (name k) (descriptor k)) c.fields numbers
@@ -91,10 +93,11 @@ pub fn members_are_as_planned()
 
 /// The classes of a translation have different names. None of them is the name of a known class if that of the main class is not.
 pub fn names_of_classes_differ()
-    ensures distinct { (main : List ℕ) (code_classes data_classes : ℕ) → code_classes ≤ 2 ^ 64
-        → data_classes ≤ 2 ^ 64
+    ensures distinct { (main : List ℕ) (code_classes data_classes : ℕ)
+        → code_classes ≤ 2 ^ 64 → data_classes ≤ 2 ^ 64
         → IsDistinct same_text (class_names main code_classes data_classes) }
-    ensures unknown { (main : List ℕ) (code_classes data_classes : ℕ) → is_known main ≡ false
+    ensures unknown { (main : List ℕ) (code_classes data_classes : ℕ)
+        → is_known main ≡ false
         → All (λ name. is_known name ≡ false) (class_names main code_classes data_classes) }
 {}
 
@@ -108,9 +111,11 @@ pub fn members_of_classes_differ()
 
 /// No name stands twice in classes with different names that are not known ones, each with different members.
 pub fn nothing_stands_twice()
-    ensures { (classes : List Class) → IsDistinct same_text (map own_name classes)
+    ensures { (classes : List Class)
+        → IsDistinct same_text (map own_name classes)
         → All (λ name. is_known name ≡ false) (map own_name classes)
-        → All HasDistinctMembers classes → twice_fault [] 0 classes ≡ None }
+        → All HasDistinctMembers classes
+        → StandOnce classes }
 {}
 
 /// So it is with classes that have the names of a translation.
@@ -118,7 +123,8 @@ pub fn nothing_stands_twice_in_a_translation()
     ensures { (main : List ℕ) (code_classes data_classes : ℕ) (classes : List Class)
         → code_classes ≤ 2 ^ 64 → data_classes ≤ 2 ^ 64 → is_known main ≡ false
         → map own_name classes ≡ class_names main code_classes data_classes
-        → All HasDistinctMembers classes → twice_fault [] 0 classes ≡ None }
+        → All HasDistinctMembers classes
+        → StandOnce classes }
 {
     names_of_classes_differ();
     nothing_stands_twice();
@@ -126,24 +132,8 @@ pub fn nothing_stands_twice_in_a_translation()
 
 /// An instruction with the slot of a member of a class means the member of the number that this has.
 pub fn members_are_meant()
-    ensures get { (classes : List Class) (number n k slot class : ℕ) (c owner : Class)
-        (s : Signature) → twice_fault [] 0 classes ≡ None → slice_get classes n ≡ Some owner
-        → slice_get (fields_of owner) k ≡ Some s → IsClassAt c.pool class (own_name owner)
-        → IsFieldAt c.pool slot class s.name s.descriptor
-        → pool_instruction classes number c Getstatic slot
-        ≡ Get (fields_before classes n + k) (kind_of s.descriptor) }
-    ensures put { (classes : List Class) (number n k slot class : ℕ) (c owner : Class)
-        (s : Signature) → twice_fault [] 0 classes ≡ None → slice_get classes n ≡ Some owner
-        → slice_get (fields_of owner) k ≡ Some s → IsClassAt c.pool class (own_name owner)
-        → IsFieldAt c.pool slot class s.name s.descriptor
-        → pool_instruction classes number c Putstatic slot
-        ≡ Put (fields_before classes n + k) (kind_of s.descriptor) }
-    ensures call { (classes : List Class) (number n k slot class : ℕ) (c owner : Class)
-        (s : Signature) → twice_fault [] 0 classes ≡ None → slice_get classes n ≡ Some owner
-        → slice_get (methods_of owner) k ≡ Some s → IsClassAt c.pool class (own_name owner)
-        → IsMethodAt c.pool slot class s.name s.descriptor
-        → pool_instruction classes number c Invokestatic slot
-        ≡ Call (methods_before classes n + k) }
+    ensures fields { SlotsMeanFields }
+    ensures methods { SlotsMeanMethods }
 {
     fields_are_meant();
     methods_are_meant();
@@ -153,30 +143,32 @@ pub fn members_are_meant()
 
 /// The names of a class and of its members find these. A known class has the methods that are known of it.
 pub fn names_find_what_they_name()
-    ensures class { (classes : List Class) (n : ℕ) (c : Class) → slice_get classes n ≡ Some c
+    ensures class { (classes : List Class) (n : ℕ) (c : Class)
+        → slice_get classes n ≡ Some c
         → is_class classes (own_name c) ≡ true }
     ensures field { (classes : List Class) (n k : ℕ) (c : Class) (s : Signature)
-        → twice_fault [] 0 classes ≡ None → slice_get classes n ≡ Some c
-        → slice_get (fields_of c) k ≡ Some s
+        → StandOnce classes
+        → slice_get classes n ≡ Some c → slice_get (fields_of c) k ≡ Some s
         → member_fault no_field (fields_named classes (own_name c)) s ≡ None }
     ensures method { (classes : List Class) (n k : ℕ) (c : Class) (s : Signature)
-        → twice_fault [] 0 classes ≡ None → slice_get classes n ≡ Some c
-        → slice_get (methods_of c) k ≡ Some s
+        → StandOnce classes
+        → slice_get classes n ≡ Some c → slice_get (methods_of c) k ≡ Some s
         → member_fault no_method (methods_named classes (own_name c)) s ≡ None }
-    ensures known { (classes : List Class) (name : List ℕ) → twice_fault [] 0 classes ≡ None
-        → is_known name ≡ true → methods_named classes name ≡ known_methods name }
+    ensures known { (classes : List Class) (name : List ℕ)
+        → StandOnce classes → is_known name ≡ true
+        → methods_named classes name ≡ known_methods name }
 {}
 
 /// Classes link if they are few, nothing stands twice in them, each entry of their pools names what is there, and the first class has a
 /// method `run`. With this the program begins.
 pub fn classes_link()
-    ensures links { (c : Class) (others : List Class) (k : ℕ) → length (c ∷ others) ≤ 1024
-        → twice_fault [] 0 (c ∷ others) ≡ None
-        → ((n slot : ℕ) (d : Class) (e : Entry) → slice_get (c ∷ others) n ≡ Some d
-        → slice_get d.pool slot ≡ Some e → entry_fault (c ∷ others) d e ≡ None)
-        → slice_get (methods_of c) k ≡ Some run_signature → link_fault (c ∷ others) ≡ None }
-    ensures first { (c : Class) (others : List Class) (k : ℕ) → twice_fault [] 0 (c ∷ others) ≡ None
-        → slice_get (methods_of c) k ≡ Some run_signature → (program_of (c ∷ others)).first ≡ k }
+    ensures links { (c : Class) (others : List Class) (k : ℕ)
+        → length (c ∷ others) ≤ 1024 → StandOnce (c ∷ others) → EntriesName (c ∷ others)
+        → slice_get (methods_of c) k ≡ Some run_signature
+        → link_fault (c ∷ others) ≡ None }
+    ensures first { (c : Class) (others : List Class) (k : ℕ)
+        → StandOnce (c ∷ others) → slice_get (methods_of c) k ≡ Some run_signature
+        → (program_of (c ∷ others)).first ≡ k }
 {
     members_of_the_first_class_have_numbers();
 }
