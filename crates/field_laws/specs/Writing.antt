@@ -1,0 +1,71 @@
+-- Which fields emitted code writes.
+use Rattle.std.specs.Prelude.{◌≡◌, ℕ, ◌<◌, ◌≤◌, All, Bool, true, List}
+use Rattle.nv_words.specs.declared.order.Order.{Order}
+use Rattle.delay_slots.specs.declared.unit.Unit.{Unit}
+use Rattle.code_steps.specs.declared.step.Step.{Step}
+use Rattle.guest_code.specs.Units.{unit_code}
+use Rattle.mem_helpers.specs.Methods.{helper_code}
+use Rattle.word_emitter.specs.Pieces.{warm_code}
+use Rattle.lawful_units.specs.Lawful.{IsLawful}
+use Rattle.span_code.specs.declared.span_words.SpanWords.{SpanWords}
+use Rattle.span_code.specs.Laying.{span_code}
+use Rattle.span_code.specs.Parts.{cold_part, warm_part}
+use Rattle.code_paths.specs.Classes.{puts}
+use Rattle.code_paths.specs.Paths.{weigh}
+use Rattle.guest_follows.specs.Sites.{whole_weight}
+use Rattle.whole_methods.specs.Naming.{all_well}
+
+-- the layout's fields come first: the registers, hi, lo, pc, the two tables of pages, and the link
+abbrev pub layout_fields : ℕ
+layout_fields = 38
+
+-- Code has no write of another field.
+abbrev pub WritesLayout : List Step → Type 0
+WritesLayout code = (f : ℕ) → layout_fields ≤ f → weigh (puts f) code ≡ 0
+
+-- Nor have the helper methods that it calls.
+abbrev pub AllWritesLayout : Order → List Step → Type 0
+AllWritesLayout order code = (f : ℕ) → layout_fields ≤ f → whole_weight order code (puts f) ≡ 0
+
+-- ---- the laws
+
+-- Code that names only what is there writes the layout's fields alone, whatever it calls.
+abbrev pub NamedCodeWritesLayout : Type 0
+NamedCodeWritesLayout =
+    (calls : ℕ → Bool) (class : ℕ) (gives : Bool) (code : List Step)
+    → all_well calls class gives code ≡ true
+    → WritesLayout code
+
+-- So does each of the 20 helper methods, with those that it calls.
+abbrev pub HelpersWriteLayout : Type 0
+HelpersWriteLayout =
+    (order : Order) (number : ℕ) → number < 20 → AllWritesLayout order (helper_code order number)
+
+-- So does the code of a unit, wherever its registers are.
+abbrev pub UnitsWriteLayout : Type 0
+UnitsWriteLayout =
+    (order : Order) (bank at : ℕ) (unit : Unit)
+    → IsLawful unit
+    → AllWritesLayout order (unit_code bank unit at)
+
+-- So does that of a piece.
+abbrev pub PiecesWriteLayout : Type 0
+PiecesWriteLayout =
+    (order : Order) (at : ℕ) (piece : List Unit)
+    → All IsLawful piece
+    → AllWritesLayout order (warm_code piece at)
+
+-- So does that of a word in a span, with which a piece begins or none.
+abbrev pub PartsWriteLayout : Type 0
+PartsWriteLayout =
+    (order : Order) (k : ℕ) (units : List Unit) (leads : ℕ → Bool) (span : SpanWords)
+    → All IsLawful units
+    → AllWritesLayout order (warm_part units leads span k)
+    × AllWritesLayout order (cold_part units leads span k)
+
+-- So does the method of a span.
+abbrev pub SpansWriteLayout : Type 0
+SpansWriteLayout =
+    (order : Order) (units : List Unit) (leads : ℕ → Bool) (span : SpanWords)
+    → All IsLawful units
+    → AllWritesLayout order (span_code units leads span)

@@ -1,0 +1,55 @@
+//! Emitted code writes no fields but the layout's. Each call here does nothing: its contract is the law.
+
+ghost use Rattle.field_laws.specs.Leaving.{HelpersLeaveOthers, PiecesLeaveOthers, SpanPiecesLeaveOthers, UnitsLeaveOthers, WordsLeaveOthers};
+ghost use Rattle.field_laws.specs.Writing.{HelpersWriteLayout, NamedCodeWritesLayout, PartsWriteLayout, PiecesWriteLayout, SpansWriteLayout, UnitsWriteLayout};
+
+use code_paths::laws::{calls_are_paths, fields_are_left};
+use guest_code_laws::laws::{pieces_are_followed, units_are_followed};
+use span_code_laws::laws::{pieces_follow, words_follow};
+use span_code_laws::units_are_lawful;
+use whole_methods::named_code::{helpers_name_well, spans_name_well, units_name_well};
+
+/// The code of helpers, units, pieces and spans has no write of a field but the layout's. Nor has any code that names only what is there, as
+/// that of all methods that are emitted.
+pub fn code_writes_the_layout()
+    ensures named { NamedCodeWritesLayout }
+    ensures helpers { HelpersWriteLayout }
+    ensures units { UnitsWriteLayout }
+    ensures pieces { PiecesWriteLayout }
+    ensures parts { PartsWriteLayout }
+    ensures spans { SpansWriteLayout }
+{
+    helpers_name_well();
+    units_name_well();
+    spans_name_well();
+}
+
+/// A call of a helper that returns leaves each other field alone.
+pub fn helpers_leave_other_fields()
+    ensures { HelpersLeaveOthers }
+{
+    calls_are_paths();
+    code_writes_the_layout();
+    fields_are_left();
+}
+
+/// While the code of a unit or a piece follows the guest, each other field is left alone, a call of the system included.
+pub fn units_leave_other_fields()
+    ensures units { UnitsLeaveOthers }
+    ensures pieces { PiecesLeaveOthers }
+{
+    code_writes_the_layout();
+    units_are_followed();
+    pieces_are_followed();
+}
+
+/// So it is in the method of a span.
+pub fn spans_leave_other_fields()
+    ensures words { WordsLeaveOthers }
+    ensures pieces { SpanPiecesLeaveOthers }
+{
+    code_writes_the_layout();
+    units_are_lawful();
+    words_follow();
+    pieces_follow();
+}
