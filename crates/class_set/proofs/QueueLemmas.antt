@@ -6,11 +6,10 @@ use Rattle.std.specs.String.{string_eq}
 use Rattle.std.proofs.lemmas.List.{flat_map_more, take_more, drop_more, drop_all, drop-append-le, take-append-le, take-append-drop, map-append, length-map}
 use Rattle.std.proofs.lemmas.Option.{get_or_from_slice_get, slice_get_within, slice_get-map}
 use Rattle.indexmap.specs.IndexSet.{insert_key}
-use Rattle.nv_outside.specs.Files.{Files, Finds, SameFiles}
+use Rattle.nv_outside.specs.Files.{Files}
 use Rattle.constant_pool.specs.declared.entry.Entry.{Entry}
 use Rattle.class_set.specs.ClassSets.{asked_in, file_of, is_among, Found, found_or, next}
 use Rattle.class_set.specs.Waiting.{fresh, texts, Queue, queue, IsOnce, file_found}
-use Rattle.class_set.proofs.SetLemmas.{found_there}
 use Rattle.class_set.proofs.WaitingLemmas.{fresh-append, fresh-fresh, fresh-head, next-first, next-none}
 
 abbrev Names : Type 0
@@ -54,12 +53,6 @@ asked_all files names i le =
 
 pub text_at : (names : List (String Global)) (i : ℕ) (name : String Global) → slice_get names i ≡ Some name → slice_get (texts names) i ≡ Some (string_bytes name)
 text_at names i name at = slice_get-map string_bytes names i ∙ ap (option_map string_bytes) at
-
--- a file that was asked for
-pub file_asked : (files : Files) (told now : Option Files) (names : List (String Global)) (i : ℕ) (name : String Global) (text : List ℕ) (found : Option (Vec ℕ Global)) → told ≡ Some files → SameFiles told now → Finds now (file_of text) found → text ≡ string_bytes name → slice_get names i ≡ Some name → IsOnce (queue i (texts names)) → next files (take i (texts names)) (drop i (texts names)) ≡ found_or (option_map (λ v. v.items) found) (take (i + 1) (texts names)) (drop (i + 1) (texts names)) (next files (take (i + 1) (texts names)) (drop (i + 1) (texts names)))
-file_asked files told now names i name text found is same finds text_is at once =
-    let there : files (file_of (string_bytes name)) ≡ option_map (λ v. v.items) found = ap (λ t. files (file_of t)) (sym text_is) ∙ found_there files told now (file_of text) found is same finds in
-    asked_more files (texts names) i (string_bytes name) (option_map (λ v. v.items) found) (text_at names i name at) once there
 
 pub found_some : (q : Queue) (found : Option (Vec ℕ Global)) (others : Option Found) → is_some found ≡ true → found_or (option_map (λ v. v.items) found) q.asked q.waiting others ≡ option_map (file_found q) found
 found_some q None others e = absurd cc

@@ -2,7 +2,7 @@
 use Rattle.std.proofs.Common.{◌≡◌, ◌∙◌, ℕ, suc, ◌+◌, ◌-◌, ◌<◌, ◌≤◌, List, [], ◌∷◌, ◌++◌, length, Option, Some, None, option_map, Result, Ok, Err, Vec, Global, IfOk, length-append, sym, ap, subst, arith}
 use Rattle.std.specs.List.{All}
 use Rattle.std.proofs.lemmas.List.Elements.{All-push, All-same}
-use Rattle.nv_outside.specs.Files.{Files, Finds, SameFiles}
+use Rattle.nv_outside.specs.Files.{Files}
 use Rattle.nv_faults.specs.declared.class_fault.ClassFault.{ClassFault}
 use Rattle.jvm_code.specs.declared.class.Class.{Class}
 use Rattle.name_resolution.specs.Kept.{IsClass}
@@ -12,14 +12,6 @@ use Rattle.class_set.specs.ClassSets.{names_asked, class_in, next, set_of, grown
 use Rattle.class_set.specs.Kept.{IsKeptSet}
 use Rattle.class_set.specs.Waiting.{fresh, Queue, IsOnce, file_found}
 use Rattle.class_set.proofs.WaitingLemmas.{grown-zero, grown-none, grown-fault, grown-class, grown-once}
-
--- what was found under a name is what the files have there
-pub found_there : (files : Files) (told now : Option Files) (name : List ℕ) (found : Option (Vec ℕ Global)) → told ≡ Some files → SameFiles told now → Finds now name found → files name ≡ option_map (λ v. v.items) found
-found_there files None now name found is same finds = absurd cc
-found_there files (Some f) None name found is same finds = absurd same
-found_there files (Some f) (Some g) name found is same finds =
-    let e : files ≡ f = cc in
-    rw e (sym (finds ∙ same name))
 
 -- ---- a set that goes on
 
@@ -65,12 +57,6 @@ set_grows files k classes more q mid new bytes c all lt is found read once asked
   where
     n : ℕ
     n = 1025 - (k + 1)
-
--- files that are as before are still told
-pub told_same : (files : Files) (told now : Option Files) → told ≡ Some files → SameFiles told now → now ≡ Some files
-told_same files None now is same = absurd cc
-told_same files (Some f) None is same = absurd same
-told_same files (Some f) (Some g) is same = let e : g ≡ f = (λ i name. same name i) in ap Some e ∙ is
 
 -- ---- a class more
 

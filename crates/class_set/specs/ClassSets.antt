@@ -1,7 +1,8 @@
--- JVM Specification, 5.3: the set of classes that is loaded by the name of its first one. Names and files are lists of characters.
-use Rattle.std.specs.Prelude.{ℕ, zero, suc, ◌||◌, Bool, not, if◌then◌else◌, List, [], ◌∷◌, ◌++◌, length, filter, flat_map, codes, Option, Some, None, option_and_then, option_to_list, Result, Ok, Err}
+-- JVM Specification, 5.3: the set of classes that is loaded by the name of its first one. Names and
+-- files are lists of characters.
+use Rattle.std.specs.Prelude.{◌≡◌, ℕ, zero, suc, ◌||◌, Bool, not, if◌then◌else◌, List, [], ◌∷◌, ◌++◌, length, filter, flat_map, codes, Option, Some, None, option_and_then, option_to_list, Result, Ok, Err}
 use Rattle.std.specs.List.{list_any}
-use Rattle.nv_outside.specs.Files.{Files}
+use Rattle.nv_outside.specs.Files.{AgreeWith, Files}
 use Rattle.nv_faults.specs.declared.class_fault.ClassFault.{ClassFault}
 use Rattle.class_format.specs.declared.miss.Miss.{Miss}
 use Rattle.class_format.specs.Kinds.{trailing}
@@ -48,7 +49,8 @@ class_or_fault size (Err miss) = Err (fault_at 0 size miss)
 abbrev pub class_in : List ℕ → Result Class ClassFault
 class_in bytes = class_or_fault (length bytes) (whole format.class trailing bytes)
 
--- a file that was found: its bytes, the names that were asked for by then, and those that still wait
+-- a file that was found: its bytes, the names that were asked for by then, and those that still
+-- wait
 pub record Found : Type 0 where
   pub bytes : List ℕ
   pub asked : List (List ℕ)
@@ -83,7 +85,8 @@ abbrev pub with_file : Loaded → (Found → Loaded) → Option Found → Loaded
 with_file ended more None = ended
 with_file ended more (Some found) = more found
 
--- A set to which so many classes may come still: the names that a new class asks for wait behind all others.
+-- A set to which so many classes may come still: the names that a new class asks for wait behind
+-- all others.
 unfoldable pub grown : Files → ℕ → List Class → List (List ℕ) → List (List ℕ) → Loaded
 grown files zero classes asked waiting = set_of classes
 grown files (suc n) classes asked waiting =
@@ -96,3 +99,9 @@ grown files (suc n) classes asked waiting =
 -- The set of a name: it ends with the 1,025th class, which is one more than a program can have.
 abbrev pub class_set : Files → List ℕ → Loaded
 class_set files name = grown files 1025 [] [] (name ∷ [])
+
+-- a set that was loaded: that of some files, which are those that are told, where any are
+pub record IsLoaded (told : Option Files) (name : List ℕ) (loaded : Loaded) : Type 0 where
+  pub files : Files
+  pub agree : AgreeWith told files
+  pub is : loaded ≡ class_set files name

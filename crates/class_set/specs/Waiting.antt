@@ -1,8 +1,8 @@
 -- Names that were asked for and that wait, each once.
-use Rattle.std.specs.Prelude.{◌≡◌, ℕ, if◌then◌else◌, List, [], ◌∷◌, ◌++◌, map, take, drop, String, string_bytes, Vec, Option, Some, option_map}
+use Rattle.std.specs.Prelude.{◌≡◌, ℕ, true, if◌then◌else◌, List, [], ◌∷◌, ◌++◌, map, take, drop, String, string_bytes, Vec, Option, option_map}
 use Rattle.std.specs.declared.alloc.Global.{Global}
-use Rattle.nv_outside.specs.Files.{Files}
-use Rattle.class_set.specs.ClassSets.{is_among, Found, next}
+use Rattle.nv_outside.specs.Files.{AgreeWith, Files, SameFiles}
+use Rattle.class_set.specs.ClassSets.{file_of, is_among, Found, next}
 
 -- those of names that are none of some, nor of those before them
 abbrev pub fresh : List (List ℕ) → List (List ℕ) → List (List ℕ)
@@ -30,6 +30,21 @@ IsOnce q = fresh q.asked q.waiting ≡ q.waiting
 abbrev pub file_found : Queue → Vec ℕ Global → Found
 file_found q bytes = record { bytes = bytes.items; asked = q.asked; waiting = q.waiting }
 
+-- two maps have the same files of some classes
+abbrev pub SameFilesOf : List (List ℕ) → Files → Files → Type 0
+SameFilesOf names before after =
+    (name : List ℕ) → is_among names name ≡ true → after (file_of name) ≡ before (file_of name)
+
+-- What a queue gave, where these files were found before: more are now, and every map that has them
+-- gives the same.
+pub record GivesOver (told : Option Files) (before : Files) (old : Queue)
+    (found : Option (Vec ℕ Global)) (new : Queue) : Type 0 where
+  pub after : Files
+  pub agree : AgreeWith told after
+  pub had : (files : Files) → SameFilesOf new.asked after files → SameFilesOf old.asked before files
+  pub gives : (files : Files) → SameFilesOf new.asked after files
+      → next files old.asked old.waiting ≡ option_map (file_found new) found
+
 abbrev pub GivesFile : Option Files → Queue → Option (Vec ℕ Global) → Queue → Type 0
-GivesFile told old found new = (files : Files) → told ≡ Some files
-    → next files old.asked old.waiting ≡ option_map (file_found new) found
+GivesFile now old found new = (told : Option Files) (before : Files) → SameFiles told now
+    → AgreeWith told before → GivesOver told before old found new

@@ -8,7 +8,8 @@ use constant_pool::{Entry, is_array_name, text_of};
 use name_resolution::is_known;
 use std::alloc::{AllocError, Global};
 
-/// The name that an entry of a pool asks for, which is ASCII; None exactly where it is no class, a type of arrays or a known class.
+/// The name that an entry of a pool asks for, which is ASCII; None exactly where it is no class, a type of arrays or a
+/// known class.
 pub fn asked_name<'a>(pool: &'a [Entry], entry: &Entry) -> Option<&'a [u16]>
     requires { entry_fault pool.now entry.now ≡ None }
     ensures name { option_to_list (option_map (λ x. x.now) result) ≡ asked_in pool.now entry.now }

@@ -1,5 +1,5 @@
-//! The classes that a command works on (JVM Specification, 5.3): a class is loaded by its name, and then those that loaded classes
-//! name.
+//! The classes that a command works on (JVM Specification, 5.3): a class is loaded by its name, and then those that
+//! loaded classes name.
 #![tactic(auto)]
 
 mod asked;
@@ -10,3 +10,4 @@ mod reading;
 
 pub use load::load_set;
 pub use loaded::Loaded;
+pub use reading::class_file;

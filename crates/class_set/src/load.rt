@@ -1,8 +1,8 @@
 //! Loading a set of classes.
-ghost use Rattle.std.specs.Prelude.{◌≡◌, ◌++◌, ◌∷◌, [], IfOk, OnOk, Some};
+ghost use Rattle.std.specs.Prelude.{◌≡◌, ◌++◌, ◌∷◌, [], IfOk, OnOk};
 ghost use Rattle.nv_outside.specs.Faults.{CountsFailure, shelf_failed};
-ghost use Rattle.nv_outside.specs.Files.{Files, SameFiles};
-ghost use Rattle.class_set.specs.ClassSets.{class_set, set_of};
+ghost use Rattle.nv_outside.specs.Files.{SameFiles};
+ghost use Rattle.class_set.specs.ClassSets.{IsLoaded, set_of};
 ghost use Rattle.class_set.specs.Kept.{IsKeptSet};
 
 use crate::loaded::Loaded;
@@ -16,16 +16,16 @@ use std::alloc::{AllocError, Global};
 /// One class more than a program can have.
 const CLASSES: u32 = 1025;
 
-/// The set of a class: the class whose file has this name, and then, class by class and slot by slot, those of which a class of the set
-/// has an entry. Each name is asked for once. A class other than the first whose file is not there is left out, and the set ends with
-/// the 1,025th class. Each class is read when it was loaded, so the first one at fault ends it.
+/// The set of a class: the class whose file has this name, and then, class by class and slot by slot, those of which a
+/// class of the set has an entry. Each name is asked for once. A class other than the first whose file is not there is
+/// left out, and the set ends with the 1,025th class. Each class is read when it was loaded, so the first one at fault
+/// ends it. Over a shelf that tells nothing it is the set of some files.
 ///
 /// # Errors
 ///
 /// Failed where the shelf failed. NoMemory.
 pub fn load_set<H: Shelf>(alloc: Global, shelf: &mut H, name: &str) -> Result<Loaded, ShelfError>
-    ensures loaded { IfOk result (λ loaded. (files : Files) → H.files shelf.old ≡ Some files
-        → loaded ≡ class_set files name.now) }
+    ensures loaded { IfOk result (IsLoaded (H.files shelf.old) name.now) }
     ensures kept { IfOk result IsKeptSet }
     ensures same { SameFiles (H.files shelf.old) (H.files shelf.new) }
     ensures count { CountsFailure (shelf_failed result) (H.faults shelf.old) (H.faults shelf.new) }

@@ -13,8 +13,8 @@ use nv_outside::{Shelf, ShelfError};
 use std::alloc::{AllocError, Global};
 use std::marker::Model;
 
-/// The names of classes in the order in which they were named first, each once: those that were asked for, and behind them those that
-/// wait.
+/// The names of classes in the order in which they were named first, each once: those that were asked for, and behind
+/// them those that wait.
 #[derive(Drop)]
 pub struct Names {
     names: IndexSet<String>,
@@ -50,7 +50,8 @@ impl Names {
         alloc: Global,
         shelf: &mut H,
     ) -> Result<Option<Vec<u8>>, ShelfError>
-        ensures found { IfOk result (λ found. GivesFile (H.files shelf.old) self.old found self.new) }
+        ensures found { IfOk result (λ found.
+            GivesFile (H.files shelf.old) self.old found self.new) }
         ensures once { IsOnce self.new }
         ensures same { SameFiles (H.files shelf.old) (H.files shelf.new) }
         ensures count { CountsFailure (shelf_failed result) (H.faults shelf.old)

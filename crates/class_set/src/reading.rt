@@ -1,5 +1,5 @@
 //! The files of classes.
-ghost use Rattle.std.specs.Prelude.{◌≡◌, IfOk};
+ghost use Rattle.std.specs.Prelude.{◌≡◌, IfOk, string_bytes};
 ghost use Rattle.nv_outside.specs.Faults.{CountsFailure, shelf_failed};
 ghost use Rattle.nv_outside.specs.Files.{Finds, SameFiles};
 ghost use Rattle.name_resolution.specs.Kept.{IsClass};
@@ -21,9 +21,17 @@ pub fn load_file<H: Shelf>(
     ensures same { SameFiles (H.files shelf.old) (H.files shelf.new) }
     ensures count { CountsFailure (shelf_failed result) (H.faults shelf.old) (H.faults shelf.new) }
 {
+    let file = class_file(alloc, name)?;
+    shelf.load(alloc, file.as_str())
+}
+
+/// The name of the file of a class.
+pub fn class_file(alloc: Global, name: &str) -> Result<String, AllocError>
+    ensures { IfOk result (λ file. string_bytes file ≡ file_of name.now) }
+{
     let mut file = String::from_str(alloc, name)?;
     file.push_str(".class")?;
-    shelf.load(alloc, file.as_str())
+    Ok(file)
 }
 
 /// The class that bytes spell, or the first rule that they break.

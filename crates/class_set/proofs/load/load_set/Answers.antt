@@ -1,7 +1,8 @@
-use Rattle.std.proofs.Common.{◌∙◌, false, option_map, refl, sym, ap}
-use Rattle.class_set.specs.ClassSets.{class_set, class_in}
-use Rattle.class_set.specs.Waiting.{file_found}
-use Rattle.class_set.proofs.SetLemmas.{told_same, kept_loaded, set_ends, set_full, set_faulty, set_grows, one_class_more, kept_more}
+use Rattle.std.proofs.Common.{◌∙◌, false, refl, sym, ap, subst, rules}
+use Rattle.class_set.specs.ClassSets.{class_in}
+use Rattle.class_set.specs.Waiting.{GivesOver}
+use Rattle.class_set.proofs.FoundLemmas.{begins, goes_more, loads_all, loads_faulty, loads_full, same_still}
+use Rattle.class_set.proofs.SetLemmas.{kept_loaded, one_class_more, kept_more}
 use Rattle.class_set.proofs.load.load_set.Goals as goal
 use Rattle.nv_outside.proofs.FilesLemmas.{same_then_same}
 
@@ -23,22 +24,37 @@ returns-in-Err-clause-same g c = same_then_same (g.H.Shelf.files c.args.shelf.no
 pub returns-in_default-clause-same : goal.returns-in_default-clause-same
 returns-in_default-clause-same g c = same_then_same (g.H.Shelf.files c.args.shelf.now) (g.H.Shelf.files c.loop-number.shelf) (g.H.Shelf.files c.next_file.new.shelf) c.loop-number.invariant.same c.next_file.ensures.same
 
+pub loop-number-init : goal.loop-number-init
+loop-number-init g c =
+    let none = c.new-classes.ensures.items in
+    record {
+      numbered = search rules;
+      kept = search rules;
+      same = same_still (g.H.Shelf.files c.args.shelf.now);
+      faults = refl;
+      goes_on = begins (g.H.Shelf.files c.args.shelf.now) c.args.name.now c.new-classes.result.items c.in_ok-names.names none
+          c.in_ok-names.ensures.asked c.in_ok-names.ensures.waiting;
+    }
+
 pub returns-in_default-clause-kept : goal.returns-in_default-clause-kept
 returns-in_default-clause-kept g c = kept_loaded c.set_of.result c.loop-number.classes.items c.set_of.ensures c.loop-number.invariant.kept
 
 pub returns-in_default-clause-loaded : goal.returns-in_default-clause-loaded
-returns-in_default-clause-loaded g c = λ files told.
-    let now = told_same files (g.H.Shelf.files c.args.shelf.now) (g.H.Shelf.files c.loop-number.shelf) told c.loop-number.invariant.same in
-    c.set_of.ensures
-    ∙ set_ends files c.loop-number.number c.loop-number.classes.items c.loop-number.names (class_set files c.args.name.now) c.loop-number-test.true (c.loop-number.invariant.goes_on files told)
-    (c.in_ok-bytes.ensures.found files now ∙ ap (option_map (file_found c.next_file.new.self)) c.in_default.is)
+returns-in_default-clause-loaded g c =
+    let told = g.H.Shelf.files c.args.shelf.now in
+    let s = c.loop-number.invariant.goes_on in
+    loads_all told c.args.name.now c.loop-number.number c.loop-number.classes.items c.loop-number.names c.next_file.new.self c.set_of.result
+    c.loop-number-test.true s (subst (λ found. GivesOver told s.found c.loop-number.names found c.next_file.new.self) c.in_default.is
+    (c.in_ok-bytes.ensures.found told s.found c.loop-number.invariant.same s.agree)) c.set_of.ensures
 
 pub returns-in-Err-clause-loaded : goal.returns-in-Err-clause-loaded
-returns-in-Err-clause-loaded g c = λ files told.
-    let now = told_same files (g.H.Shelf.files c.args.shelf.now) (g.H.Shelf.files c.loop-number.shelf) told c.loop-number.invariant.same in
-    set_faulty files c.loop-number.number c.loop-number.classes.items c.loop-number.names c.next_file.new.self c.in-Some.bytes c.in-Err.fault (class_set files c.args.name.now)
-    c.loop-number-test.true c.loop-number.invariant.numbered (c.loop-number.invariant.goes_on files told)
-    (c.in_ok-bytes.ensures.found files now ∙ ap (option_map (file_found c.next_file.new.self)) c.in-Some.is)
+returns-in-Err-clause-loaded g c =
+    let told = g.H.Shelf.files c.args.shelf.now in
+    let s = c.loop-number.invariant.goes_on in
+    loads_faulty told c.args.name.now c.loop-number.number c.loop-number.classes.items c.loop-number.names c.next_file.new.self c.in-Some.bytes
+    c.in-Err.fault c.loop-number-test.true c.loop-number.invariant.numbered s
+    (subst (λ found. GivesOver told s.found c.loop-number.names found c.next_file.new.self) c.in-Some.is
+    (c.in_ok-bytes.ensures.found told s.found c.loop-number.invariant.same s.agree))
     (ap class_in (sym c.as_slice.ensures.value) ∙ sym c.in_ok-class.ensures.is ∙ c.in-Err.is)
 
 pub loop-number-preserved : goal.loop-number-preserved
@@ -46,24 +62,26 @@ loop-number-preserved g c =
     let classes = c.loop-number.classes.items in
     let more = c.push.new.classes.items in
     let class = c.in-Ok.class in
+    let told = g.H.Shelf.files c.args.shelf.now in
+    let s = c.loop-number.invariant.goes_on in
     record {
       numbered = one_class_more classes more class c.loop-number.number c.loop-number.invariant.numbered c.in_ok-push-in-Ok.ensures;
       kept = kept_more classes more class c.in_ok-class.field-0 c.loop-number.invariant.kept c.in_ok-class.ensures.kept c.in-Ok.is c.in_ok-push-in-Ok.ensures;
-      same = same_then_same (g.H.Shelf.files c.args.shelf.now) (g.H.Shelf.files c.loop-number.shelf) (g.H.Shelf.files c.next_file.new.shelf) c.loop-number.invariant.same c.next_file.ensures.same;
+      same = same_then_same told (g.H.Shelf.files c.loop-number.shelf) (g.H.Shelf.files c.next_file.new.shelf) c.loop-number.invariant.same c.next_file.ensures.same;
       faults = c.in_ok-bytes.ensures.count.stays (refl {a = false}) ∙ c.loop-number.invariant.faults;
-      goes_on = λ files told.
-          let now = told_same files (g.H.Shelf.files c.args.shelf.now) (g.H.Shelf.files c.loop-number.shelf) told c.loop-number.invariant.same in
-          set_grows files c.loop-number.number classes more c.loop-number.names c.next_file.new.self c.add.new.self c.in-Some.bytes class (class_set files c.args.name.now)
-          c.loop-number-test.true (c.loop-number.invariant.goes_on files told)
-          (c.in_ok-bytes.ensures.found files now ∙ ap (option_map (file_found c.next_file.new.self)) c.in-Some.is)
+      goes_on =
+          goes_more told c.args.name.now c.loop-number.number classes more c.loop-number.names c.next_file.new.self c.add.new.self c.in-Some.bytes class
+          c.loop-number-test.true s
+          (subst (λ found. GivesOver told s.found c.loop-number.names found c.next_file.new.self) c.in-Some.is
+          (c.in_ok-bytes.ensures.found told s.found c.loop-number.invariant.same s.agree))
           (ap class_in (sym c.as_slice.ensures.value) ∙ sym c.in_ok-class.ensures.is ∙ c.in-Ok.is)
           c.next_file.ensures.once c.in_ok-add-in-Ok.ensures.asked c.in_ok-add-in-Ok.ensures.waiting c.in_ok-push-in-Ok.ensures;
     }
 
 pub returns-clause-loaded : goal.returns-clause-loaded
-returns-clause-loaded g c = λ files told.
-    c.set_of-2.ensures
-    ∙ set_full files c.loop-number.number c.loop-number.classes.items c.loop-number.names (class_set files c.args.name.now) c.loop-number-test.false (c.loop-number.invariant.goes_on files told)
+returns-clause-loaded g c =
+    loads_full (g.H.Shelf.files c.args.shelf.now) c.args.name.now c.loop-number.number c.loop-number.classes.items c.loop-number.names c.set_of-2.result
+    c.loop-number-test.false c.loop-number.invariant.goes_on c.set_of-2.ensures
 
 pub returns-clause-kept : goal.returns-clause-kept
 returns-clause-kept g c = kept_loaded c.set_of-2.result c.loop-number.classes.items c.set_of-2.ensures c.loop-number.invariant.kept

@@ -1,8 +1,8 @@
-use Rattle.std.proofs.Common.{◌≡◌, ◌-◌, length, Some}
+use Rattle.std.proofs.Common.{◌≡◌, length}
 use Rattle.std.specs.List.{All}
-use Rattle.nv_outside.specs.Files.{Files, SameFiles}
+use Rattle.nv_outside.specs.Files.{SameFiles}
 use Rattle.name_resolution.specs.Kept.{IsClass}
-use Rattle.class_set.specs.ClassSets.{grown, class_set}
+use Rattle.class_set.proofs.FoundLemmas.{GoesOn}
 use Rattle.class_set.proofs.load.load_set.Given as goal
 
 abbrev pub invariant-loop-number : goal.invariant-loop-number
@@ -11,5 +11,5 @@ invariant-loop-number g l = record {
   kept : All IsClass l.classes.items;
   same : SameFiles (g.H.Shelf.files l.initial.shelf) (g.H.Shelf.files l.shelf);
   faults : g.H.Shelf.faults l.shelf ≡ g.H.Shelf.faults l.initial.shelf;
-  goes_on : (files : Files) → g.H.Shelf.files l.initial.shelf ≡ Some files → grown files (1025 - l.number) l.classes.items l.names.asked l.names.waiting ≡ class_set files l.fn.name;
+  goes_on : GoesOn (g.H.Shelf.files l.initial.shelf) l.fn.name l.number l.classes.items l.names;
 }

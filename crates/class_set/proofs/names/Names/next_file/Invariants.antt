@@ -1,7 +1,7 @@
-use Rattle.std.proofs.Common.{◌≡◌, ◌-◌, ◌≤◌, length, take, drop, Some}
-use Rattle.nv_outside.specs.Files.{Files, SameFiles}
-use Rattle.class_set.specs.ClassSets.{next}
+use Rattle.std.proofs.Common.{◌≡◌, ◌-◌, ◌≤◌, length, Option}
+use Rattle.nv_outside.specs.Files.{AgreeWith, Files, SameFiles}
 use Rattle.class_set.specs.Waiting.{texts, queue, IsOnce}
+use Rattle.class_set.proofs.FoundLemmas.{SkipsTo}
 use Rattle.class_set.proofs.names.Names.next_file.Given as goal
 
 abbrev pub invariant-loop-self : goal.invariant-loop-self
@@ -10,7 +10,8 @@ invariant-loop-self g l = record {
   once : IsOnce (queue l.self-inside.asked (texts l.self-inside.names.keys));
   same : SameFiles (g.H.Shelf.files l.initial.shelf) (g.H.Shelf.files l.shelf);
   faults : g.H.Shelf.faults l.shelf ≡ g.H.Shelf.faults l.initial.shelf;
-  skipped : (files : Files) → g.H.Shelf.files l.initial.shelf ≡ Some files → next files l.fn.self.asked l.fn.self.waiting ≡ next files (take l.self-inside.asked (texts l.self-inside.names.keys)) (drop l.self-inside.asked (texts l.self-inside.names.keys));
+  skipped : (told : Option Files) (before : Files) → SameFiles told (g.H.Shelf.files l.initial.shelf) → AgreeWith told before
+      → SkipsTo told before l.fn.self (queue l.self-inside.asked (texts l.self-inside.names.keys));
 }
 
 abbrev pub decreases-loop-self : goal.decreases-loop-self
