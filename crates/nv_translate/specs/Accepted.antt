@@ -11,3 +11,9 @@ pub record IsAccepted (source : Source) (name : Text) (method_bytes : ℕ) (buil
     : Type 0 where
   pub linked : IsLinked source name method_bytes built
   pub accepted : Accepted linked.classes
+
+-- Its classes are accepted whatever links of it, and there are such classes.
+pub record AreAccepted (source : Source) (name : Text) (method_bytes : ℕ) (built : Built)
+    : Type 0 where
+  pub all : (l : IsLinked source name method_bytes built) → Accepted l.classes
+  pub some : IsAccepted source name method_bytes built

@@ -40,34 +40,42 @@ span_numbers before (span ∷ spans) = span_number before span ∷ span_numbers 
 abbrev pub is_span_method : Layout → ℕ → Bool
 is_span_method layout m = list_any (λ n. n == m) (span_numbers 0 layout.spans.items)
 
--- ---- runs of so many turns, behind the first call
+-- ---- runs of so many turns
 
+-- of the guest, behind its first call, which is the loader's
 abbrev pub guest_trail : Source → ℕ → List Answer → List (Step guest.State)
 guest_trail source m answers =
     after_call guest_step.turn (trail_of guest_step.turn next_answer m (start_of (image_of source))
     answers)
 
--- in a region of so many words
+-- in a region of so many words: from the start on, and behind the first call
+abbrev pub whole_class_trail : Program → ℕ → ℕ → List Answer → List (Step State)
+whole_class_trail program words m answers =
+    trail_of (turn program words) next_answer m (start program) answers
+
 abbrev pub class_trail : Program → ℕ → ℕ → List Answer → List (Step State)
 class_trail program words m answers =
-    after_call (turn program words)
-    (trail_of (turn program words) next_answer m (start program) answers)
+    after_call (turn program words) (whole_class_trail program words m answers)
 
 -- ---- both
 
--- Over every list of answers of the system, and in every region that has room for the pages, in m turns of the classes and m turns of the guest: the
--- classes read at most as many words of memory as the guest makes accesses for which a word is read, and no character. They switch, and enter spans of
--- the layout, at most once for each crossing of the guest, and once more.
+-- Over every list of answers of the system, and in every region that has room for the pages, in m turns of the classes and m turns of the guest: behind
+-- the first call the classes read at most as many words of memory as the guest makes accesses for which a word is read, and no character. They switch
+-- there, and enter spans of the layout in the whole run, at most once for each crossing of the guest, and once more.
 pub record CountsAlike (source : Source) (layout : Layout) (program : Program) : Type 0 where
+  -- words of memory that are read
   pub reads : (words m : ℕ) (answers : List Answer) → need (image_of source).mapped ≤ words
       → sum_by (executed program reads) (class_trail program words m answers)
       ≤ partial (guest_trail source m answers)
+  -- characters of texts, of which none is read
   pub chars : (words m : ℕ) (answers : List Answer) → need (image_of source).mapped ≤ words
       → sum_by (executed program chars) (class_trail program words m answers) ≡ 0
+  -- switches
   pub switches : (words m : ℕ) (answers : List Answer) → need (image_of source).mapped ≤ words
       → sum_by (executed program switches) (class_trail program words m answers)
       ≤ crossings (layout_spans layout) (guest_trail source m answers) + 1
+  -- calls of methods of spans, from the start on: making the memory enters none
   pub entries : (words m : ℕ) (answers : List Answer) → need (image_of source).mapped ≤ words
       → sum_by (executed program (entries (is_span_method layout)))
-      (class_trail program words m answers)
+      (whole_class_trail program words m answers)
       ≤ crossings (layout_spans layout) (guest_trail source m answers) + 1

@@ -32,10 +32,12 @@ pub record EndsAs {S T K : Type 0} (run : Run S K) (other : Run T K) : Type 0 wh
 -- From each state of the system, and in every region that has room for the pages: where a program is over within n steps, its classes end as it does
 -- within the allowance for n. And where the classes are over within m instructions, the program ends as they do within m steps.
 pub record EndsAlike (source : Source) (classes : List Class) : Type 0 where
+  -- where the program is over
   pub forth : (system : System) (words n : ℕ) → need (image_of source).mapped ≤ words
       → (guest_run source system n).outcome ≢ Going
       → EndsAs (guest_run source system n)
       (classes_run classes words system (allow (image_of source).mapped n))
+  -- where the classes are over
   pub back : (system : System) (words m : ℕ) → need (image_of source).mapped ≤ words
       → (classes_run classes words system m).outcome ≢ Going
       → EndsAs (classes_run classes words system m) (guest_run source system m)

@@ -1,7 +1,14 @@
--- What holds of each image.
+-- What holds of each image, and of its translations.
+use Rattle.std.specs.Prelude.{ℕ, ◌≤◌}
 use Rattle.nv_words.specs.Words.{IsWord}
+use Rattle.command_values.specs.Names.{Text}
 use Rattle.elf_image.specs.Start.{Source, image_of}
+use Rattle.jvm_program.specs.Program.{Program}
+use Rattle.jvm_link.specs.Linking.{program_of}
+use Rattle.program_translation.specs.declared.built.Built.{Built}
+use Rattle.program_translation.specs.declared.layout.Layout.{Layout}
 use Rattle.nv_translate.specs.AcceptedCode.{HasAcceptedCode}
+use Rattle.nv_translate.specs.Linked.{IsLinked}
 use Rattle.nv_translate.specs.MappedPages.{HasMappedPages}
 
 -- Its code is whole and not too much, its memory is pages of words, and it begins at an address of 32 bits.
@@ -9,3 +16,12 @@ pub record IsImage (source : Source) : Type 0 where
   pub code : HasAcceptedCode source
   pub pages : HasMappedPages source
   pub entry : IsWord (image_of source).entry
+
+-- What is said of an image, of a layout and of the program that classes are, is said of each linked
+-- translation of an image, whose spans may have 4,096 bytes or more.
+abbrev pub OfTranslations : (Source → Layout → Program → Type 0) → Type 0
+OfTranslations Says =
+    (source : Source) (name : Text) (method_bytes : ℕ) (built : Built)
+    → IsImage source → 4096 ≤ method_bytes
+    → (l : IsLinked source name method_bytes built)
+    → Says source built.layout (program_of l.classes)

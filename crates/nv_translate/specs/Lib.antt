@@ -8,6 +8,7 @@ pub mod Loading
 pub mod Accepted
 pub mod Stored
 pub mod Images
+pub mod Layouts
 pub mod Running
 pub mod Counts
 pub mod Staying

@@ -34,9 +34,12 @@ use Rattle.program_translation.specs.Translation.{code_methods, fills_behind}
 pub record IsPlanned (program : Program) (number : ℕ) (p : Plan) : Type 0 where
   pub method : LinkedMethod
   pub there : program.method number ≡ Some method
+  -- its lines are the plan's code, laid down from offset 0
   pub lines_are : method.lines ≡ laid 0 p.code
+  -- it takes and gives what the plan's descriptor says
   pub parameters_are : method.parameters ≡ parameters_of p.descriptor
   pub gives_is : method.gives_int ≡ gives_int p.descriptor
+  -- it has room for 16 operands, and as many local variables as the plan
   pub stack_is : method.stack ≡ 16
   pub locals_are : method.locals ≡ p.locals
 
@@ -52,8 +55,10 @@ pub record SpellsPage (program : Program) (class : ℕ) (slot : PageSlot) (page 
 
 -- The methods of a class of code.
 pub record HasCodeClass (program : Program) (c : Placed) : Type 0 where
+  -- the tables by which its spans and its method `run` are written
   pub spans_by : References
   pub run_by : References
+  -- one method for each span, and behind them the one that chooses among them
   pub planned : ArePlanned program c.first_method
       (codes.span_plans c.part c.spans spans_by (length c.spans)
       ++ codes.run_plan c.part c.spans c.first_method run_by ∷ [])
@@ -61,10 +66,13 @@ pub record HasCodeClass (program : Program) (c : Placed) : Type 0 where
 -- The methods of a class of data, by its number among these, and its texts.
 pub record HasDataClass (program : Program) (code_classes methods : ℕ) (pages : List Page) (k : ℕ)
     : Type 0 where
+  -- the table by which they are written
   pub by : References
+  -- its texts, each of which spells the words of one of its pages
   pub texts : List PageSlot
   pub texts_are : AllZip (SpellsPage program (class_number code_classes k)) texts
       (pages_of_class pages k)
+  -- the method that puts words, and the one that fills the pages
   pub planned : ArePlanned program (first_method methods k)
       (words_plan by ∷ fill_plan texts (class_number code_classes k) (first_method methods k) by
       ∷ [])
@@ -73,24 +81,32 @@ pub record HasDataClass (program : Program) (code_classes methods : ℕ) (pages 
 -- was planned to be, and has its number, and there are no others. The layout has the spans of the classes of code, and their blocks.
 pub record IsLinked (source : Source) (name : Text) (method_bytes : ℕ) (built : Built)
     : Type 0 where
+  -- the classes of code, of which there is one at least, with their words, spans and first methods
   pub code : List Placed
   pub some : 1 ≤ length code
   pub code_is : AreCodeClasses source method_bytes code
+  -- the layout tells these spans, and their blocks
   pub spans_are : built.layout.spans.items ≡ spans_of code
   pub blocks_are : built.layout.blocks.items ≡ blocks_of 0 code
+  -- what the main class is made of
   pub main : MainClass
   pub content : IsContent source (starts_of code) (map run_of code) (fills_behind source code) main
+  -- the classes that the files spell, in which no name stands twice
   pub classes : List Class
   pub spelled : AllZip (λ (f : NamedFile) (c : Class). Spells f.bytes.items c)
       built.files.items classes
   pub distinct : twice_fault [] 0 classes ≡ None
+  -- the 38 fields of the main class are the program's, and it begins with the method `run`
   pub fields_are : (f : ℕ) → f < 38 → (program_of classes).field f
       ≡ Some (kind_of (field_descriptor f))
   pub no_more_fields : (f : ℕ) → 38 ≤ f → (program_of classes).field f ≡ None
   pub first_is : (program_of classes).first ≡ run_number
+  -- the texts of the main class, which tell the runs of pages
   pub texts : List ℕ
   pub texts_are : AllZip (λ (slot : ℕ) (characters : List ℕ). (program_of classes).characters 0 slot
       ≡ characters) texts (share_texts main.runs.now)
+  -- the methods of the main class come first, then those of each class of code, then those of each
+  -- class of data, and there are no more
   pub main_by : References
   pub main_planned : ArePlanned (program_of classes) 0 (main_plans main texts main_by)
   pub code_has : (i : ℕ) (c : Placed) → slice_get code i ≡ Some c

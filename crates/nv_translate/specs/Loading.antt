@@ -1,11 +1,11 @@
 -- How the program of a translation makes its memory and begins.
-use Rattle.std.specs.Prelude.{◌≢◌, ℕ, ◌+◌, ◌*◌, ◌<◌, ◌≤◌, List}
+use Rattle.std.specs.Prelude.{◌≡◌, ◌≢◌, ℕ, ◌+◌, ◌*◌, ◌<◌, ◌≤◌, Bool, true, List}
 use Rattle.elf_image.specs.Start.{Source, image_of, readable, writable}
 use Rattle.image_parts.specs.declared.page_run.PageRun.{PageRun}
 use Rattle.image_parts.specs.Pages.{page_words}
 use Rattle.jvm_program.specs.Program.{Program}
 use Rattle.guest_layout.specs.Numbers.{run_number, choose_number, pages_number}
-use Rattle.running_laws.specs.LoadingCodeLaws.Loaded.{Filler, MakesMemory, run_shares, memory_turns}
+use Rattle.running_laws.specs.LoadingCodeLaws.Loaded.{Filler, MakersAreNone, MakesMemory, run_shares, memory_turns}
 use Rattle.running_laws.specs.LoadingCodeLaws.Made.{IsProgram}
 use Rattle.program_classes.specs.Content.{text_runs}
 use Rattle.program_translation.specs.Classes.{Placed}
@@ -17,18 +17,26 @@ use Rattle.program_translation.specs.Translation.{code_methods}
 pub record TakesNoPart (source : Source) (code : List Placed) (m : ℕ) : Type 0 where
   pub first : run_number ≢ m
   pub pages : pages_number ≢ m
+  -- of a class of data neither the one that puts words nor the one that fills pages
   pub words : (k : ℕ) → k < class_count (filled_pages source)
       → first_method (code_methods code) k ≢ m
   pub fills : (k : ℕ) → k < class_count (filled_pages source) → fill_of (code_methods code) k ≢ m
 
 -- A program begins as a source does and makes its memory, in a region of so many words, from texts that tell these runs of pages. A method m
 -- takes no part in it. It takes some 42,057 instructions a page.
-pub record LoadsSource (source : Source) (program : Program) (words m : ℕ) (texts : List ℕ)
-    (runs : List PageRun) : Type 0 where
+pub record LoadsSource (source : Source) (code : List Placed) (program : Program) (words m : ℕ)
+    (texts : List ℕ) (runs : List PageRun) : Type 0 where
+  -- its methods that fill pages, each with the texts and the pages that it fills
   pub fillers : List Filler
+  -- its first method makes the memory and begins as the source does
   pub begins : IsProgram program run_number m choose_number pages_number (beginning_of source)
       texts fillers
+  -- what it makes is the source's memory: which pages can be read and written, and their words
   pub makes : MakesMemory program words m pages_number texts (run_shares text_runs runs) fillers
       (readable source) (writable source) (page_words source)
+  -- none of the methods that do this is one that takes no part
+  pub others : (test : ℕ → Bool) → ((k : ℕ) → test k ≡ true → TakesNoPart source code k)
+      → MakersAreNone test pages_number fillers
+  -- the instructions that this takes, by the pages that are mapped
   pub in_time : memory_turns (run_shares text_runs runs) fillers
       ≤ 6 + 42057 * (image_of source).mapped

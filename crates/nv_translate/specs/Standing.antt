@@ -25,11 +25,14 @@ class_of p words = record {
 -- It is that class: its range has words of which these are the units.
 pub record IsClassOf (p : Placed) (c : CodeClass) : Type 0 where
   pub is : c ≡ class_of p c.words
+  -- its units are those of the range's words
   pub units_are : p.part.units.now ≡ units_of c.words
 
 -- The classes of code of a translation are the classes of a program, which is a translation of the source's code.
 pub record Stands (source : Source) (placed : List Placed) (program : Program) : Type 0 where
+  -- the classes as the laws of translated programs have them, one for each class of code
   pub classes : List CodeClass
   pub classes_are : AllZip IsClassOf placed classes
+  -- the program has their methods, the helpers, and those that choose
   pub translated : IsTranslated program (image_of source).order choose_number missing_number classes
       (image_of source).code

@@ -12,7 +12,7 @@ use Rattle.nv_translate.specs.Counts.{CountsAlike}
 use Rattle.nv_translate.specs.Ends.{EndsAlike}
 use Rattle.nv_translate.specs.Linked.{IsLinked}
 use Rattle.nv_translate.specs.Running.{RunsAlike}
-use Rattle.nv_translate.specs.Sizes.{AreSized}
+use Rattle.nv_translate.specs.Sizes.{AreLeast, AreSized}
 use Rattle.nv_translate.specs.Stored.{AreStored}
 use Rattle.nv_translate.specs.Warm.{IsWarm}
 
@@ -27,13 +27,15 @@ pub record Translated (source : Source) (name : Text) (method_bytes : ℕ) (buil
   -- Where the files are stored, among whatever others, they are the classes that are loaded by the name.
   pub stored : (files : Files) → AreStored files built.files.items
       → class_set files name ≡ Classes linked.classes
-  -- The method of each span has at most so many bytes of code.
-  pub sized : AreSized method_bytes linked.code
+  -- The method of each span has at most so many bytes of code, and no division into such spans has fewer.
+  pub sized : AreSized method_bytes linked.code (program_of linked.classes)
+  pub least : AreLeast method_bytes linked.code
   -- The program that they are runs as the one that was translated, whatever the system answers, and to every bound.
   pub runs : RunsAlike source (program_of linked.classes)
   -- So over the system of the commands: they end as the program does, with the same files and the same output, and only where it does.
   pub ends : EndsAlike source linked.classes
-  -- It reads no word that the program does not read, and enters spans only where the program goes from one to another.
+  -- It reads at most as many words of memory as the program makes accesses for which one is read, no character, and enters spans at most once for
+  -- each time that the program goes from one to another, and once more. These are sums over whole runs.
   pub counts : CountsAlike source built.layout (program_of linked.classes)
   -- The blocks of the layout are what runs, over local variables.
   pub warm : IsWarm source built.layout (program_of linked.classes)

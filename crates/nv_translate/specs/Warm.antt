@@ -1,8 +1,9 @@
 -- A translation is warm: the blocks of its layout are the pieces of its code, and what runs of each is its code over local variables.
-use Rattle.std.specs.Prelude.{◌≡◌, ℕ, ◌+◌, ◌-◌, ◌*◌, ◌<◌, ◌≤◌, true, false, List, length, slice_get, Option, Some, None}
+use Rattle.std.specs.Prelude.{◌≡◌, ℕ, ◌+◌, ◌-◌, ◌*◌, ◌<◌, ◌≤◌, true, false, List, length, slice_get, Option, Some, None, ⊤}
 use Rattle.nv_words.specs.declared.order.Order.{Order}
 use Rattle.nv_events.specs.Answer.{Answer, next_answer}
 use Rattle.nv_events.specs.Run.{Run, run_of}
+use Rattle.nv_events.specs.Turn.{Turn, moves, ends, leaves, asks}
 use Rattle.nv_events.specs.declared.outcome.Outcome.TheVariants.{Going}
 use Rattle.run_laws.specs.Runs.{ComesBy}
 use Rattle.mips_decode.specs.State as guest
@@ -31,12 +32,12 @@ use Rattle.running_laws.specs.SpanCodeLaws.Sites.{Site, stands, whole_weight}
 use Rattle.running_laws.specs.SpanCodeLaws.Pieces.{piece_turns}
 use Rattle.running_laws.specs.SpanCodeLaws.Entering.{IsEntered}
 use Rattle.running_laws.specs.SpanCodeLaws.Made.{AreTurns}
-use Rattle.running_laws.specs.SpanCodeLaws.Registers.{AtMostOnce, gets, lines_between, puts, weigh_lines}
+use Rattle.code_paths.specs.Classes.{gets, puts}
+use Rattle.running_laws.specs.SpanCodeLaws.Registers.{AtMostOnce, lines_between, weigh_lines}
 use Rattle.running_laws.specs.SpanCodeLaws.Resuming.{FollowsInSpan, IsAtRest, Resumes, jumps_by_register}
-use Rattle.running_laws.specs.SpanCodeLaws.Spans.{StandsAt}
 use Rattle.running_laws.specs.TrampolineLaws.Classes.{CodeClass, address, span_at, span_words}
 use Rattle.running_laws.specs.TrampolineLaws.Programs.{IsTranslated}
-use Rattle.running_laws.specs.Standing.{span_site}
+use Rattle.running_laws.specs.Standing.{IsGuest, span_site}
 use Rattle.program_classes.specs.Blocks.{is_slot}
 use Rattle.program_translation.specs.declared.block_info.BlockInfo.{BlockInfo}
 use Rattle.program_translation.specs.declared.layout.Layout.{Layout}
@@ -60,21 +61,27 @@ told_span number class span =
 -- A block is a piece: the words, from one on, of a block of the range's code that lie in one span. It tells their addresses, and where their code
 -- over local variables stands in the span's method. The piece is not only the delay slot of a branch in the span before.
 pub record IsPieceOf (classes : List CodeClass) (layout : Layout) (b : BlockInfo) : Type 0 where
+  -- its class, by its number
   pub number : ℕ
   pub class : CodeClass
   pub there : slice_get classes number ≡ Some class
+  -- its span, by its number in the class, as the layout tells it
   pub span : ℕ
   pub span_below : span < length class.spans
   pub info : slice_get layout.spans.items b.span ≡ Some (told_span number class span)
+  -- the number of the span's method in the program
   pub method_is : class.first_method + span ≡ span_number b.span (told_span number class span)
+  -- its first word, by its number in the range: a word of the span with which a piece begins
   pub word : ℕ
   pub above : (span_words class span).first ≤ word
   pub below : word < (span_words class span).end
   pub begin : begins class.leads (span_words class span) word ≡ true
   pub no_slot : is_slot (units_of class.words) class.leads word ≡ false
+  -- the address of that word, and how many words the piece has
   pub first_is : b.first ≡ words.address (span_words class span) word
   pub words_are : b.words ≡ piece_words (units_of class.words) class.leads (span_words class span)
       word
+  -- from where to where its code stands in the span's method
   pub from_is : b.from
       ≡ (stretch_at (units_of class.words) class.leads (span_words class span) word).from
   pub to_is : b.to ≡ (stretch_at (units_of class.words) class.leads (span_words class span) word).to
@@ -82,9 +89,11 @@ pub record IsPieceOf (classes : List CodeClass) (layout : Layout) (b : BlockInfo
 -- The piece of a span that begins with a word has a block.
 pub record HasBlock (classes : List CodeClass) (layout : Layout) (number span word : ℕ)
     : Type 0 where
+  -- the block, by its place in the layout
   pub place : ℕ
   pub block : BlockInfo
   pub there : slice_get layout.blocks.items place ≡ Some block
+  -- it is that piece
   pub is : IsPieceOf classes layout block
   pub number_is : is.number ≡ number
   pub span_is : is.span ≡ span
@@ -145,14 +154,33 @@ module _ {classes : List CodeClass} {layout : Layout} {b : BlockInfo} where
       (stands (site_of program words p others) b.from w)
       (piece_turns (own_units p) x).1 follows
 
-  -- The classes stand at the beginning of its code and hold the guest's state, and the guest stands at its first word.
-  pub record AtBlock (program : Program) (words : ℕ) (p : IsPieceOf classes layout b)
-      (others : List Frame) (t : guest.State) (y : State) : Type 0
+  -- What the classes have at its code matches the guest's state, for a guest with an order of bytes and this code.
+  pub record Matches (order : Order) (code : ℕ → Option ℕ) (p : IsPieceOf classes layout b)
+      (others : List Frame) (w : Workspace) (t : guest.State) : Type 0
+    where
+      -- the guest has begun, and no branch is pending
+      pub guest_is : IsGuest order code t
+      -- it stands at the first word
+      pub pc : t.pc ≡ b.first
+      -- the fields hold its registers, HI, LO and the link of LL, the arrays its memory, and there are no operands
+      pub rests : IsAtRest w t
+      -- with that of the span's method there are at most 32 frames
+      pub few : length others ≤ 31
+
+  -- The classes stand at the beginning of its code, and match.
+  pub record AtBlock (program : Program) (order : Order) (code : ℕ → Option ℕ) (words : ℕ)
+      (p : IsPieceOf classes layout b) (others : List Frame) (t : guest.State) (y : State) : Type 0
     where
       pub workspace : Workspace
-      pub rests : IsAtRest workspace t
-      pub pc : t.pc ≡ b.first
+      pub matches : Matches order code p others workspace t
       pub is_there : y ≡ stands (site_of program words p others) b.from workspace
+
+-- Each state to which a turn leads, whatever the answer, is that of a guest that has begun, with no branch pending.
+abbrev pub LeavesGuest : Order → (ℕ → Option ℕ) → Turn guest.State → Type 0
+LeavesGuest order code (moves t) = IsGuest order code t
+LeavesGuest order code (ends e) = ⊤
+LeavesGuest order code (leaves q e) = ⊤
+LeavesGuest order code (asks q next) = (a : Answer) → IsGuest order code (next a)
 
 -- What runs of a block, in a program for a guest with an order of bytes and this code.
 pub record RunsWarm (program : Program) (order : Order) (code : ℕ → Option ℕ)
@@ -162,29 +190,30 @@ pub record RunsWarm (program : Program) (order : Order) (code : ℕ → Option �
   pub entered : (words : ℕ) (others : List Frame) (w : Workspace) → w.fields pc_field ≡ int b.first
       → IsEntered (site_of program words p others) (units_of p.class.words) p.class.leads
       (span_of p) w b.from
-  -- From there, where they hold the guest's state, the classes follow the guest through the piece, and nothing else runs.
+  -- From there, where they match the guest's state, the classes follow the guest through the piece, and nothing else runs.
   pub follows : (words : ℕ) (others : List Frame) (w : Workspace) (x : guest.State)
-      → length others < 62 → StandsAt order (span_of p) p.word w x
+      → Matches order code p others w x
       → Follows program order words p others w x
   pub alone : (words : ℕ) (others : List Frame) (w : Workspace) (x : guest.State)
-      (few : length others < 62)
-      (at : StandsAt order (span_of p) p.word w x)
-      → IsAlone program order words p others w x (follows words others w x few at)
-  -- Those turns are the guest's own.
-  pub made : (x : guest.State) → x.begun ≡ true → x.pending ≡ None → x.code ≡ code → x.pc ≡ b.first
+      (at : Matches order code p others w x)
+      → IsAlone program order words p others w x (follows words others w x at)
+  -- Those turns are the guest's own, and behind them no branch is pending.
+  pub made : (x : guest.State) → IsGuest order code x → x.pc ≡ b.first
       → AreTurns x (piece_turns (own_units p) x).0 (piece_turns (own_units p) x).1
+      × LeavesGuest order code (piece_turns (own_units p) x).1
   -- The lines there read no field of a register twice, and write none twice.
   pub reads : (method : LinkedMethod) → program.method (method_of p) ≡ Some method
       → AtMostOnce (λ f. weigh_lines (gets f) (lines_between b.from b.to method.lines))
   pub writes : (method : LinkedMethod) → program.method (method_of p) ≡ Some method
       → AtMostOnce (λ f. weigh_lines (puts f) (lines_between b.from b.to method.lines))
   -- Where the piece does not end with JR or JALR, and the guest goes on at the first word of a block of the same span, the classes go on at that
-  -- block's code: nothing is called, read or written between.
+  -- block's code, and match there: nothing is called, read or written between.
   pub goes_on : (words : ℕ) (others : List Frame) (y : State) (t : guest.State) (d : BlockInfo)
       (q : IsPieceOf classes layout d)
-      → GoesOn program words p others y t → jumps_by_register (last_unit p) ≡ false
+      → GoesOn program words p others y t → IsGuest order code t → length others ≤ 31
+      → jumps_by_register (last_unit p) ≡ false
       → d.span ≡ b.span → t.pc ≡ d.first
-      → AtBlock program words q others t y
+      → AtBlock program order code words q others t y
 
 -- ---- all of it
 
@@ -198,8 +227,10 @@ guest_run source n answers =
 pub record IsWarm (source : Source) (layout : Layout) (program : Program) : Type 0 where
   -- the classes of code, with the words that begin the blocks of their ranges
   pub classes : List CodeClass
+  -- the program has their methods, the helpers, and those that choose
   pub translated : IsTranslated program (image_of source).order choose_number missing_number classes
       (image_of source).code
+  -- the flags of a class are those of the words that begin blocks
   pub leaders : (n : ℕ) (c : CodeClass) → slice_get classes n ≡ Some c → (k : ℕ)
       → k < length c.words
       → c.leads k ≡ is_leader (units_of c.words) c.start k
@@ -211,6 +242,7 @@ pub record IsWarm (source : Source) (layout : Layout) (program : Program) : Type
       → k < (span_words c j).end → begins c.leads (span_words c j) k ≡ true
       → is_slot (units_of c.words) c.leads k ≡ false
       → HasBlock classes layout n j k
+  -- they stand in the order of their addresses, and apart in the method of each span
   pub rise : (i j : ℕ) (b d : BlockInfo) → slice_get layout.blocks.items i ≡ Some b
       → slice_get layout.blocks.items j ≡ Some d → i < j
       → b.first < d.first
@@ -218,9 +250,10 @@ pub record IsWarm (source : Source) (layout : Layout) (program : Program) : Type
       → slice_get layout.blocks.items j ≡ Some d → i < j
       → b.span ≡ d.span
       → b.to ≤ d.from
+  -- what runs of each is its code
   pub runs : (b : BlockInfo) (p : IsPieceOf classes layout b)
       → RunsWarm program (image_of source).order (image_of source).code p
-  -- Where the guest has come to a block between units, the classes come to its code with the same calls, within the allowance for a turn more.
+  -- Where the guest has come to a block between units, the classes come to its code with the same calls, within the allowance for a turn more, and match.
   pub comes : (b : BlockInfo) (p : IsPieceOf classes layout b) (words n : ℕ) (answers : List Answer)
       → need (image_of source).mapped ≤ words → 1 ≤ n
       → (guest_run source n answers).outcome ≡ Going
@@ -228,6 +261,7 @@ pub record IsWarm (source : Source) (layout : Layout) (program : Program) : Type
       → (guest_run source n answers).last.pc ≡ b.first
       → ComesBy (turn program words) next_answer (allow (image_of source).mapped (n + 1))
       (λ y. (others : List Frame)
-      × AtBlock program words p others (guest_run source n answers).last y)
+      × AtBlock program (image_of source).order (image_of source).code words p others
+      (guest_run source n answers).last y)
       (guest_run source n answers).questions
       (start program) answers

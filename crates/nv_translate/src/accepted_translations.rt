@@ -5,14 +5,13 @@ ghost use Rattle.std.specs.Prelude.{◌≡◌, ℕ};
 ghost use Rattle.nv_outside.specs.Files.{Files};
 ghost use Rattle.command_values.specs.Names.{Text, IsClassName};
 ghost use Rattle.elf_image.specs.Start.{Source};
-ghost use Rattle.jvm_link.specs.Linking.{Accepted};
 ghost use Rattle.class_set.specs.declared.loaded.Loaded.TheVariants.{Classes};
 ghost use Rattle.class_set.specs.ClassSets.{class_set};
 ghost use Rattle.program_translation.specs.declared.built.Built.{Built};
 ghost use Rattle.program_translation.specs.Translation.{IsTranslation};
 ghost use Rattle.nv_translate.specs.Linked.{IsLinked};
 ghost use Rattle.nv_translate.specs.AcceptedCode.{HasAcceptedCode};
-ghost use Rattle.nv_translate.specs.Accepted.{IsAccepted};
+ghost use Rattle.nv_translate.specs.Accepted.{AreAccepted};
 ghost use Rattle.nv_translate.specs.Stored.{AreStored};
 
 use crate::linked_translations::translations_link;
@@ -20,12 +19,10 @@ use crate::translated_types::translations_are_typed;
 
 /// The classes of a translation of a program that was accepted link, and each method of theirs is typed. There are such classes.
 pub fn translations_are_accepted()
-    ensures all { (source : Source) (name : Text) (method_bytes : ℕ) (built : Built)
-        → HasAcceptedCode source → IsClassName name → IsTranslation source name method_bytes built
-        → (l : IsLinked source name method_bytes built) → Accepted l.classes }
-    ensures some { (source : Source) (name : Text) (method_bytes : ℕ) (built : Built)
-        → HasAcceptedCode source → IsClassName name → IsTranslation source name method_bytes built
-        → IsAccepted source name method_bytes built }
+    ensures { (source : Source) (name : Text) (method_bytes : ℕ) (built : Built)
+        → HasAcceptedCode source → IsClassName name
+        → IsTranslation source name method_bytes built
+        → AreAccepted source name method_bytes built }
 {
     translations_link();
     translations_are_typed();
@@ -34,7 +31,8 @@ pub fn translations_are_accepted()
 /// Where its files are stored, they are the classes that are loaded by the name of the main class, whatever other files are there.
 pub fn translations_are_sets()
     ensures { (source : Source) (name : Text) (method_bytes : ℕ) (built : Built) (files : Files)
-        → HasAcceptedCode source → IsClassName name → IsTranslation source name method_bytes built
+        → HasAcceptedCode source → IsClassName name
+        → IsTranslation source name method_bytes built
         → (l : IsLinked source name method_bytes built) → AreStored files built.files.items
         → class_set files name ≡ Classes l.classes }
 {}

@@ -1,13 +1,7 @@
 //! What the classes of a translation count. The call here does nothing: its contract is the law.
 
-ghost use Rattle.std.specs.Prelude.{ℕ, ◌≤◌};
-ghost use Rattle.command_values.specs.Names.{Text};
-ghost use Rattle.elf_image.specs.Start.{Source};
-ghost use Rattle.jvm_link.specs.Linking.{program_of};
-ghost use Rattle.program_translation.specs.declared.built.Built.{Built};
-ghost use Rattle.nv_translate.specs.Linked.{IsLinked};
-ghost use Rattle.nv_translate.specs.Images.{IsImage};
 ghost use Rattle.nv_translate.specs.Counts.{CountsAlike};
+ghost use Rattle.nv_translate.specs.Images.{OfTranslations};
 
 use crate::translated_loading::{others_do_not_load, translations_load};
 use crate::translated_methods::translations_stand;
@@ -18,9 +12,7 @@ use running_laws::laws::translated_programs_count_alike;
 /// enter spans of the layout, and switch, at most once for each crossing of the program between these, and once more: for every list of answers of the
 /// system and every number of turns.
 pub fn translations_count_alike()
-    ensures { (source : Source) (name : Text) (method_bytes : ℕ) (built : Built) → IsImage source
-        → 4096 ≤ method_bytes → (l : IsLinked source name method_bytes built)
-        → CountsAlike source built.layout (program_of l.classes) }
+    ensures { OfTranslations CountsAlike }
 {
     images_are_pages();
     others_do_not_load();

@@ -10,6 +10,7 @@ ghost use Rattle.nv_translate.specs.Running.{RunsAlike};
 /// Where classes run as a program does, whatever the system answers, they end over the system as the program does, and only where it does: after the
 /// same calls, in the same way, and with the system in the same state.
 pub fn runs_end_alike()
-    ensures { (source : Source) (classes : List Class) → RunsAlike source (program_of classes)
+    ensures { (source : Source) (classes : List Class)
+        → RunsAlike source (program_of classes)
         → EndsAlike source classes }
 {}

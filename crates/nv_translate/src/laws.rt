@@ -3,12 +3,9 @@
 ghost use Rattle.std.specs.Prelude.{ℕ, ◌≤◌};
 ghost use Rattle.nv_words.specs.Words.{IsWord};
 ghost use Rattle.command_values.specs.Names.{IsClassName, Text};
-ghost use Rattle.elf_image.specs.Start.{Source};
-ghost use Rattle.jvm_link.specs.Linking.{program_of};
 ghost use Rattle.program_translation.specs.declared.built.Built.{Built};
 ghost use Rattle.program_translation.specs.Translation.{IsTranslation};
-ghost use Rattle.nv_translate.specs.Linked.{IsLinked};
-ghost use Rattle.nv_translate.specs.Images.{IsImage};
+ghost use Rattle.nv_translate.specs.Images.{OfTranslations};
 ghost use Rattle.nv_translate.specs.Running.{RunsAlike};
 ghost use Rattle.nv_translate.specs.Translated.{Translated};
 
@@ -16,7 +13,7 @@ use crate::accepted_translations::{translations_are_accepted, translations_are_s
 use crate::counted_translations::translations_count_alike;
 use crate::ended_translations::runs_end_alike;
 use crate::linked_translations::translations_link;
-use crate::sized_translations::translated_spans_keep_to_the_limit;
+use crate::sized_translations::{translated_spans_are_least, translated_spans_keep_to_the_limit};
 use crate::translated_loading::{others_do_not_load, translations_load};
 use crate::translated_methods::translations_stand;
 use crate::warm_translations::translations_are_warm;
@@ -26,9 +23,7 @@ use running_laws::laws::translated_programs_run_alike;
 
 /// The classes of a translation run as the program does: for every list of answers of the system and every bound, both ways.
 pub fn translations_run_alike()
-    ensures { (source : Source) (name : Text) (method_bytes : ℕ) (built : Built) → IsImage source
-        → 4096 ≤ method_bytes → (l : IsLinked source name method_bytes built)
-        → RunsAlike source (program_of l.classes) }
+    ensures { OfTranslations (λ source layout program. RunsAlike source program) }
 {
     images_are_pages();
     others_do_not_load();
@@ -39,8 +34,9 @@ pub fn translations_run_alike()
 
 /// Every translation of an image is so: its classes are accepted, and run as the image's program does; they count no more than it, and are warm.
 pub fn images_are_translated(image: &Image)
-    ensures { (name : Text) (method_bytes : ℕ) (built : Built) → IsClassName name
-        → 4096 ≤ method_bytes → IsTranslation image.now name method_bytes built
+    ensures { (name : Text) (method_bytes : ℕ) (built : Built)
+        → IsClassName name → 4096 ≤ method_bytes
+        → IsTranslation image.now name method_bytes built
         → Translated image.now name method_bytes built }
 {
     image.laws();
@@ -50,6 +46,7 @@ pub fn images_are_translated(image: &Image)
     translations_are_accepted();
     translations_are_sets();
     translated_spans_keep_to_the_limit();
+    translated_spans_are_least();
     translations_run_alike();
     runs_end_alike();
     translations_count_alike();

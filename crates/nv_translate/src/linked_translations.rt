@@ -22,7 +22,8 @@ pub fn images_have_whole_code(image: &Image)
 /// The classes of a translation of a program that was accepted are the program that they were planned to be.
 pub fn translations_link()
     ensures { (source : Source) (name : Text) (method_bytes : ℕ) (built : Built)
-        → HasWholeCode source → IsClassName name → IsTranslation source name method_bytes built
+        → HasWholeCode source → IsClassName name
+        → IsTranslation source name method_bytes built
         → IsLinked source name method_bytes built }
 {
     names_are_meant();

@@ -21,9 +21,9 @@ use running_laws::{images_are_pages, loading_takes, shares_tell_runs};
 /// needed, and no method that takes no part is run meanwhile.
 pub fn translations_load()
     ensures { (source : Source) (name : Text) (method_bytes : ℕ) (built : Built)
-        → HasMappedPages source → (l : IsLinked source name method_bytes built) → (words m : ℕ)
-        → need (image_of source).mapped ≤ words → TakesNoPart source l.code m
-        → LoadsSource source (program_of l.classes) words m l.texts l.main.runs.now }
+        → HasMappedPages source → (l : IsLinked source name method_bytes built)
+        → (words m : ℕ) → need (image_of source).mapped ≤ words → TakesNoPart source l.code m
+        → LoadsSource source l.code (program_of l.classes) words m l.texts l.main.runs.now }
 {
     shares_are_all();
     shares_tell_runs();
@@ -33,8 +33,9 @@ pub fn translations_load()
 
 /// The methods of the classes of code take no part in loading, nor do numbers behind those of all methods.
 pub fn others_do_not_load()
-    ensures code { (source : Source) (code : List Placed) (m : ℕ) → main_methods ≤ m
-        → m < code_methods code → TakesNoPart source code m }
+    ensures code { (source : Source) (code : List Placed) (m : ℕ)
+        → main_methods ≤ m → m < code_methods code
+        → TakesNoPart source code m }
     ensures behind { (source : Source) (method_bytes : ℕ) (code : List Placed) (m : ℕ)
         → AreCodeClasses source method_bytes code
         → first_method (code_methods code) (class_count (filled_pages source)) ≤ m

@@ -1,12 +1,6 @@
 //! That a translation is warm. The call here does nothing: its contract is the law.
 
-ghost use Rattle.std.specs.Prelude.{ℕ, ◌≤◌};
-ghost use Rattle.command_values.specs.Names.{Text};
-ghost use Rattle.elf_image.specs.Start.{Source};
-ghost use Rattle.jvm_link.specs.Linking.{program_of};
-ghost use Rattle.program_translation.specs.declared.built.Built.{Built};
-ghost use Rattle.nv_translate.specs.Linked.{IsLinked};
-ghost use Rattle.nv_translate.specs.Images.{IsImage};
+ghost use Rattle.nv_translate.specs.Images.{OfTranslations};
 ghost use Rattle.nv_translate.specs.Warm.{IsWarm};
 
 use crate::translated_loading::{others_do_not_load, translations_load};
@@ -24,9 +18,7 @@ use running_laws::{
 /// the next block or out of the span, while nothing else runs; and the code reads and writes the field of each register at most once. Wherever the
 /// program comes to the first word of a block, the classes come to its code.
 pub fn translations_are_warm()
-    ensures { (source : Source) (name : Text) (method_bytes : ℕ) (built : Built) → IsImage source
-        → 4096 ≤ method_bytes → (l : IsLinked source name method_bytes built)
-        → IsWarm source built.layout (program_of l.classes) }
+    ensures { OfTranslations IsWarm }
 {
     images_are_pages();
     others_do_not_load();

@@ -12,7 +12,7 @@ use Rattle.image_parts.specs.Pages.{page_words}
 use Rattle.jvm_program.specs.declared.instruction.Instruction.{Instruction}
 use Rattle.jvm_program.specs.Program.{Program}
 use Rattle.jvm_link.specs.Linking.{program_of}
-use Rattle.guest_layout.specs.Numbers.{run_number, choose_number, pages_number, missing_number}
+use Rattle.guest_layout.specs.Numbers.{main_methods, run_number, choose_number, pages_number, missing_number}
 use Rattle.code_paths.specs.Classes.{reads, switches, entries, executed}
 use Rattle.code_paths.specs.Guest.{crossings, partial}
 use Rattle.running_laws.specs.LoadingCodeLaws.Loaded.{run_shares, paged}
@@ -29,8 +29,9 @@ use Rattle.nv_translate.specs.Linked.{IsLinked}
 use Rattle.nv_translate.specs.Images.{IsImage}
 use Rattle.nv_translate.specs.Loading.{LoadsSource}
 use Rattle.nv_translate.specs.Standing.{Stands}
-use Rattle.nv_translate.specs.Counts.{layout_spans, is_span_method, guest_trail, class_trail}
-use Rattle.nv_translate.proofs.CountedTranslations.Spans.{spans-counted, spans-tested}
+use Rattle.nv_translate.specs.Counts.{layout_spans, is_span_method, guest_trail, class_trail, whole_class_trail}
+use Rattle.nv_translate.proofs.CountedTranslations.Spans.{number-within, spans-counted, spans-tested}
+use Rattle.nv_translate.proofs.TranslatedLoading.Others.{code-takes-no-part}
 
 -- the number behind those of all methods
 abbrev pub behind_all : Source → List Placed → ℕ
@@ -38,7 +39,7 @@ behind_all source code = first_method (code_methods code) (class_count (filled_p
 
 module _ (source : Source) (name : Text) (method_bytes : ℕ) (built : Built) (image : IsImage source) (l : IsLinked source name method_bytes built)
     (stands : Stands source l.code (program_of l.classes)) (words : ℕ)
-    (loads : LoadsSource source (program_of l.classes) words (behind_all source l.code) l.texts l.main.runs.now) where
+    (loads : LoadsSource source l.code (program_of l.classes) words (behind_all source l.code) l.texts l.main.runs.now) where
   abbrev program : Program
   program = program_of l.classes
 
@@ -70,6 +71,10 @@ module _ (source : Source) (name : Text) (method_bytes : ℕ) (built : Built) (i
     code_is = stands.translated;
     begins = loads.begins;
     memory_is = loads.makes;
+    makers_are_none = loads.others (is_span stands.classes)
+        (λ m is.
+        let within = number-within m l.code stands.classes stands.classes_are 0 main_methods l.code_is.placed.follow is in
+        code-takes-no-part source l.code m within.0 within.1);
     order_is = refl;
     entry_word = image.entry;
   }
@@ -107,8 +112,12 @@ module _ (source : Source) (name : Text) (method_bytes : ℕ) (built : Built) (i
         → sum_of switches ≤ crossed + 1
     counted-switches few = subst (λ n. sum_of switches ≤ n + 1) crossed-is few
 
-    pub counted-entries : sum_of (entries (is_span stands.classes)) ≤ crossings (counted_spans stands.classes) (runs.guest_trail paired m answers) + 1
-        → sum_of (entries (is_span_method built.layout)) ≤ crossed + 1
+    -- over the whole run
+    abbrev all_of : (Instruction → ℕ) → ℕ
+    all_of weight = sum_by (executed program weight) (whole_class_trail program words m answers)
+
+    pub counted-entries : all_of (entries (is_span stands.classes)) ≤ crossings (counted_spans stands.classes) (runs.guest_trail paired m answers) + 1
+        → all_of (entries (is_span_method built.layout)) ≤ crossed + 1
     counted-entries few =
-        subst (λ (test : ℕ → Bool). sum_of (entries test) ≤ crossed + 1) tests
-        (subst (λ n. sum_of (entries (is_span stands.classes)) ≤ n + 1) crossed-is few)
+        subst (λ (test : ℕ → Bool). all_of (entries test) ≤ crossed + 1) tests
+        (subst (λ n. all_of (entries (is_span stands.classes)) ≤ n + 1) crossed-is few)

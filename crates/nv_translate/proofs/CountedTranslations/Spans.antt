@@ -1,6 +1,7 @@
 -- The spans of a layout are those of the classes of its translation.
-use Rattle.std.proofs.Common.{◌≡◌, ℕ, zero, suc, ◌+◌, ◌==◌, ◌&&◌, ◌||◌, nat_le, nat_lt, Bool, List, [], ◌∷◌, ◌++◌, map, length, refl, ap, sym, subst, ◌∙◌, arith}
+use Rattle.std.proofs.Common.{◌≡◌, ℕ, zero, suc, ◌+◌, ◌<◌, ◌≤◌, ◌==◌, ◌&&◌, ◌||◌, nat_le, nat_lt, Bool, true, false, List, [], ◌∷◌, ◌++◌, map, length, refl, ap, sym, subst, ◌∙◌, arith}
 use Rattle.std.specs.List.{AllZip, list_any, range_with_len}
+use Rattle.std.proofs.lemmas.Bool.{and_parts, false≢true, leb-true, ltb-true}
 use Rattle.std.proofs.lemmas.Bool.Decides.{nat_tests}
 use Rattle.std.proofs.lemmas.List.{map-append}
 use Rattle.std.proofs.lemmas.Simd.{map-map}
@@ -10,8 +11,9 @@ use Rattle.running_laws.specs.TrampolineLaws.Classes.{CodeClass, is_span_of, is_
 use Rattle.program_classes.specs.declared.part.Part.{Part}
 use Rattle.program_translation.specs.declared.layout.Layout.{Layout}
 use Rattle.program_translation.specs.declared.span_info.SpanInfo.{SpanInfo}
-use Rattle.program_translation.specs.Classes.{Placed, Follow, span_info, spans_of_class, spans_of}
+use Rattle.program_translation.specs.Classes.{Placed, Follow, methods_behind, run_of, span_info, spans_of_class, spans_of}
 use Rattle.nv_translate.specs.Standing.{IsClassOf}
+use Rattle.nv_translate.proofs.TranslatedLoading.Others.{no-fewer}
 use Rattle.nv_translate.specs.Counts.{counted, layout_spans, span_numbers, is_span_method}
 
 -- ---- their words
@@ -74,6 +76,32 @@ methods-are m (p ∷ placed) (c ∷ classes) are number first before follow same
     let others = methods-are m placed classes are.1 (number + 1) (p.first_method + count + 1) (before + count) follow.2 behind in
     numbers-of m p.number p.part p.spans (spans_of placed) count 0 before p.first_method here
     ∙ (λ i. is-span-of m p c are.0 i || others i)
+
+-- each is one of the methods of classes of code
+pub number-within : (m : ℕ) (placed : List Placed) (classes : List CodeClass) → AllZip IsClassOf placed classes → (number first : ℕ)
+    → Follow number first placed → is_span classes m ≡ true → (first ≤ m) × (m < methods_behind first placed)
+number-within m [] [] are number first follow is = absurd (false≢true is)
+number-within m [] (c ∷ classes) are number first follow is = absurd are
+number-within m (p ∷ placed) [] are number first follow is = absurd are
+number-within m (p ∷ placed) (c ∷ classes) are number first follow is =
+    by-class (number-within m placed classes are.1 (number + 1) (run_of p + 1) follow.2) (is_span_of c m) refl
+  where
+    more : run_of p + 1 ≤ methods_behind (run_of p + 1) placed
+    more = no-fewer (number + 1) (run_of p + 1) placed follow.2
+
+    Rest : Type 0
+    Rest = is_span classes m ≡ true → (run_of p + 1 ≤ m) × (m < methods_behind (run_of p + 1) placed)
+
+    by-class : Rest → (b : Bool) → is_span_of c m ≡ b → (first ≤ m) × (m < methods_behind first (p ∷ placed))
+    by-class others true own =
+        let parts = and_parts (nat_le p.first_method m) (nat_lt m (p.first_method + length p.spans)) (is-span-of m p c are.0 ∙ own) in
+        let low = leb-true p.first_method m parts.0 in
+        let high = ltb-true m (p.first_method + length p.spans) parts.1 in
+        (omega (arith, low, follow.1), omega (arith, high, more))
+    by-class others false other =
+        let rest = others (sym (ap (λ b. b || is_span classes m) other) ∙ is) in
+        let low = rest.0 in
+        (omega (arith, low, follow.1), rest.1)
 
 module _ (layout : Layout) (placed : List Placed) (classes : List CodeClass) (are : AllZip IsClassOf placed classes)
     (spans_are : layout.spans.items ≡ spans_of placed) where

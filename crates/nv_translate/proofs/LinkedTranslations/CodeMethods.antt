@@ -28,13 +28,13 @@ use Rattle.program_classes_laws.specs.Translated.{methods_of_code}
 use Rattle.program_classes_laws.proofs.LinkedNumbers.Made.{methods-made}
 use Rattle.program_classes_laws.proofs.LinkedNumbers.Programs.{get-front, get-behind}
 use Rattle.program_classes_laws.specs.Naming.{is_helper}
-use Rattle.program_classes_laws.specs.Meaning.{AreMeant, AreCalled}
+use Rattle.program_classes_laws.specs.Meaning.{AreCalled, AreMeant, NamesAreMeant}
 use Rattle.program_classes_laws.proofs.NamedCode.Meant.{members-called, helpers-called}
 use Rattle.program_classes_laws.proofs.NamedCode.Known.{code-known}
 use Rattle.program_translation.specs.Classes.{Placed, run_of}
 use Rattle.nv_translate.specs.Linked.{HasCodeClass}
 use Rattle.nv_translate.proofs.LinkedTranslations.Lists.{mapped-get, mapped-length, mapped-from, range-member, get-either, get-one, all-got}
-use Rattle.nv_translate.proofs.LinkedTranslations.Knowing.{NamesLaw, HasMain, slot-law, owner-no-host, methods-numbered, method-at}
+use Rattle.nv_translate.proofs.LinkedTranslations.Knowing.{HasMain, slot-law, owner-no-host, methods-numbered, method-at}
 use Rattle.nv_translate.proofs.LinkedTranslations.Planned.{Knows, are-planned}
 
 -- the names of its methods
@@ -77,7 +77,7 @@ module _ (name : List ℕ) (c : Placed) (bytes : List ℕ) (is : IsCodeClass nam
 
   -- ---- in the program
 
-  module _ (law : NamesLaw) (classes : List Class) (has : HasMain classes name) (once : twice_fault [] 0 classes ≡ None) (n : ℕ)
+  module _ (law : NamesAreMeant) (classes : List Class) (has : HasMain classes name) (once : twice_fault [] 0 classes ≡ None) (n : ℕ)
       (there : slice_get classes n ≡ Some is.class) (before : methods_before classes n ≡ c.first_method) (lawful : All IsLawful c.part.units.now) where
     meant : (first : ℕ) (methods : List ℕ) → AreMeant (references_of is.names first methods) classes n is.class
     meant first methods =

@@ -29,12 +29,12 @@ use Rattle.program_classes.specs.Data.{IsDataClass, words_plan, fill_plan}
 use Rattle.program_classes_laws.specs.Before.{methods_before}
 use Rattle.program_classes_laws.specs.Translated.{methods_of_data}
 use Rattle.program_classes_laws.proofs.LinkedNumbers.Made.{methods-made}
-use Rattle.program_classes_laws.specs.Meaning.{AreMeant, AreCalled}
+use Rattle.program_classes_laws.specs.Meaning.{AreCalled, AreMeant, NamesAreMeant}
 use Rattle.program_classes_laws.proofs.NamedCode.Meant.{members-called}
 use Rattle.program_classes_laws.proofs.NamedCode.Known.{code-known}
 use Rattle.program_translation.specs.DataFiles.{class_number, first_method, fill_of, pages_of_class}
 use Rattle.nv_translate.specs.Linked.{SpellsPage, HasDataClass}
-use Rattle.nv_translate.proofs.LinkedTranslations.Knowing.{NamesLaw, HasMain, slot-law, owner-no-host, methods-numbered, method-at}
+use Rattle.nv_translate.proofs.LinkedTranslations.Knowing.{HasMain, slot-law, owner-no-host, methods-numbered, method-at}
 use Rattle.nv_translate.proofs.LinkedTranslations.Planned.{Knows, are-planned, text-is}
 
 module _ (name : List ℕ) (code_classes methods : ℕ) (pages : List Page) (i : ℕ) (bytes : List ℕ)
@@ -70,7 +70,7 @@ module _ (name : List ℕ) (code_classes methods : ℕ) (pages : List Page) (i :
 
   -- ---- in the program
 
-  module _ (law : NamesLaw) (classes : List Class) (has : HasMain classes name) (once : twice_fault [] 0 classes ≡ None)
+  module _ (law : NamesAreMeant) (classes : List Class) (has : HasMain classes name) (once : twice_fault [] 0 classes ≡ None)
       (there : slice_get classes n ≡ Some is.class) (before : methods_before classes n ≡ first) where
     abbrev own : List ℕ
     own = data_class_name name i

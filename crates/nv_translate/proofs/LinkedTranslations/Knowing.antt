@@ -2,28 +2,17 @@
 use Rattle.std.proofs.Common.{◌≡◌, ℕ, ◌+◌, ◌<◌, ◌||◌, false, List, [], Some, None, ap, subst, ◌∙◌, slice_get}
 use Rattle.std.specs.Prelude.{unwrap_or}
 use Rattle.std.proofs.lemmas.Bool.{or_parts}
-use Rattle.constant_pool.specs.declared.entry.Entry.{Entry}
 use Rattle.constant_pool.specs.Names.{same_text}
 use Rattle.jvm_code.specs.declared.class.Class.{Class}
 use Rattle.name_resolution.specs.Names.{Signature, signature, reference, own_name, is_known, object_name, string_name, host_name, methods_of, method_number}
 use Rattle.name_resolution.specs.Faults.{twice_fault}
 use Rattle.guest_layout.specs.Helpers.{helper_name, helper_descriptor}
-use Rattle.code_assembly.specs.Assembling.{Extends}
 use Rattle.class_builder.specs.Named.{IsClassAt}
 use Rattle.class_builder.proofs.Meant.{call-meant}
-use Rattle.program_classes.specs.declared.names.Names.{Names}
-use Rattle.program_classes.specs.Named.{AreNames}
-use Rattle.program_classes.specs.Tables.{references_of}
 use Rattle.program_classes_laws.specs.Before.{methods_before}
 use Rattle.program_classes_laws.proofs.LinkedNumbers.Numbers.{method-number, own-unknown}
-use Rattle.program_classes_laws.specs.Meaning.{AreMeant, HaveFieldNumbers, HaveMethodNumbers}
+use Rattle.program_classes_laws.specs.Meaning.{HaveFieldNumbers, HaveMethodNumbers}
 use Rattle.program_classes_laws.proofs.NamedCode.Meant.{SlotLaw}
-
--- the law of what every class names
-abbrev pub NamesLaw : Type 0
-NamesLaw =
-    (classes : List Class) (number : ℕ) (c : Class) (pool : List Entry) (main : List ℕ) (names : Names) (first : ℕ) (methods : List ℕ)
-    → Extends pool c.pool → AreNames pool main names → HaveFieldNumbers classes main → AreMeant (references_of names first methods) classes number c
 
 pub slot-law : SlotLaw
 slot-law classes number c pool slot class n owner name descriptor goes_on of is other numbered =

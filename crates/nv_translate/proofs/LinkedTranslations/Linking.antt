@@ -19,10 +19,11 @@ use Rattle.program_translation.specs.Classes.{Placed, run_of, is_last, starts_of
 use Rattle.program_translation.specs.DataFiles.{class_count, class_number, filled_pages, fill_of}
 use Rattle.program_translation.specs.declared.built.Built.{Built}
 use Rattle.program_translation.specs.Translation.{IsTranslation, code_methods}
+use Rattle.program_classes_laws.specs.Meaning.{NamesAreMeant}
 use Rattle.nv_translate.specs.WholeCode.{HasWholeCode}
 use Rattle.nv_translate.specs.Linked.{IsLinked, HasCodeClass, HasDataClass}
 use Rattle.nv_translate.proofs.LinkedTranslations.Lists.{mapped-get, mapped-length, get-either, get-one}
-use Rattle.nv_translate.proofs.LinkedTranslations.Knowing.{NamesLaw, HasMain, owner-no-host}
+use Rattle.nv_translate.proofs.LinkedTranslations.Knowing.{HasMain, owner-no-host}
 use Rattle.nv_translate.proofs.LinkedTranslations.Lawful.{LawfulLaw, code-lawful}
 use Rattle.nv_translate.proofs.LinkedTranslations.CodeMethods.{has-code, run-number}
 use Rattle.nv_translate.proofs.LinkedTranslations.DataMethods.{has-data, fill-number}
@@ -61,7 +62,7 @@ there-is (c ∷ code) (suc i) below = there-is code i (omega (arith, below))
 
 -- ---- the whole
 
-module _ (names-law : NamesLaw) (lawful-law : LawfulLaw) (source : Source) (name : Text) (method_bytes : ℕ) (built : Built) (whole : HasWholeCode source)
+module _ (names-law : NamesAreMeant) (lawful-law : LawfulLaw) (source : Source) (name : Text) (method_bytes : ℕ) (built : Built) (whole : HasWholeCode source)
     (class_name : IsClassName name) (t : IsTranslation source name method_bytes built) where
   abbrev main : MainClass
   main = t.main_is.main

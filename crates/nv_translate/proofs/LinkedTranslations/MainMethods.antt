@@ -38,12 +38,12 @@ use Rattle.program_classes_laws.proofs.LinkedNumbers.Made.{methods-made, fields-
 use Rattle.program_classes_laws.proofs.LinkedNumbers.Numbers.{field-number, method-number}
 use Rattle.program_classes_laws.proofs.LinkedNumbers.Programs.{get-front, first-kinds}
 use Rattle.program_classes_laws.specs.Naming.{is_fault, is_helper}
-use Rattle.program_classes_laws.specs.Meaning.{AreMeant, AreCalled, HaveFieldNumbers, HaveMethodNumbers, IsMethodNumber}
+use Rattle.program_classes_laws.specs.Meaning.{AreCalled, AreMeant, HaveFieldNumbers, HaveMethodNumbers, IsMethodNumber, NamesAreMeant}
 use Rattle.program_classes_laws.proofs.NamedCode.Meant.{numbered-called}
 use Rattle.program_classes_laws.proofs.NamedCode.Known.{code-known}
 use Rattle.nv_translate.specs.Linked.{ArePlanned}
 use Rattle.nv_translate.proofs.LinkedTranslations.Lists.{mapped-get, mapped-from, range-member, get-either, all-got, zip-mapped}
-use Rattle.nv_translate.proofs.LinkedTranslations.Knowing.{NamesLaw, HasMain, slot-law, own-is, owner-no-host, methods-numbered, method-at}
+use Rattle.nv_translate.proofs.LinkedTranslations.Knowing.{HasMain, slot-law, own-is, owner-no-host, methods-numbered, method-at}
 use Rattle.nv_translate.proofs.LinkedTranslations.Planned.{Knows, are-planned, text-is}
 
 -- ---- the methods that it calls
@@ -230,7 +230,7 @@ module _ (name : List ℕ) (main : MainClass) (bytes : List ℕ) (is : IsMainCla
       | inr missing ↦ subst HasSlot (sym (eqb-true m missing_number missing)) missing-number
     ]
 
-    module _ (law : NamesLaw) (has : HasOthers classes name main) where
+    module _ (law : NamesAreMeant) (has : HasOthers classes name main) where
       code-number : (m : ℕ) → has_number main.code.now m ≡ true → HasSlot m
       code-number m code =
           let found = number-at main.code.now m code in

@@ -1,5 +1,5 @@
 -- The methods that fill pages, of the classes of data of a translation.
-use Rattle.std.proofs.Common.{◌≡◌, ◌≢◌, ℕ, zero, suc, ◌+◌, ◌<◌, ◌≤◌, List, [], ◌∷◌, ◌++◌, map, flat_map, length, refl, ap, sym, ◌∙◌, arith}
+use Rattle.std.proofs.Common.{◌≡◌, ◌≢◌, ℕ, zero, suc, ◌+◌, ◌<◌, ◌≤◌, Bool, false, List, [], ◌∷◌, ◌++◌, map, flat_map, length, refl, ap, sym, ◌∙◌, arith}
 use Rattle.std.specs.List.{All, range_with_len}
 use Rattle.std.proofs.lemmas.List.{map-append, length-map}
 use Rattle.std.proofs.lemmas.List.Elements.{All-nil, All-cons}
@@ -8,7 +8,7 @@ use Rattle.image_parts.specs.Pages.{Page, page_words}
 use Rattle.jvm_program.specs.declared.kind.Kind.TheVariants as kinds
 use Rattle.jvm_program.specs.Program.{Program}
 use Rattle.method_splitter.specs.Shares.{share_at, share_count, shared, shares}
-use Rattle.running_laws.specs.LoadingCodeLaws.Loaded.{Filler, IsFiller, HasSlots, numbers_of, slots_of}
+use Rattle.running_laws.specs.LoadingCodeLaws.Loaded.{Filler, FillsApart, IsFiller, HasSlots, numbers_of, slots_of}
 use Rattle.program_classes.specs.Making.{Plan}
 use Rattle.program_classes.specs.Data.{words_plan, fill_plan}
 use Rattle.program_translation.specs.DataFiles.{class_pages, class_count, class_number, filled_pages, pages_of_class, first_method, fill_of, fills_of}
@@ -85,6 +85,15 @@ module _ (program : Program) (source : Source) (code_classes methods : ℕ) (dat
       (is-filler m a (data_has a below) (words_apart a below) (fills_apart a below))
       (are-fillers m words_apart fills_apart (a + 1) n rest)
 
+  are-apart : (test : ℕ → Bool) → ((k : ℕ) → k < count → test (first_method methods k) ≡ false) → ((k : ℕ) → k < count → test (fill_of methods k) ≡ false)
+      → (a n : ℕ) (fits : a + n ≤ count) → All (FillsApart test) (fillers-from a n fits)
+  are-apart test words fills a zero fits = All-nil (FillsApart test)
+  are-apart test words fills a (suc n) fits =
+      let below : a < count = omega arith in
+      let rest : a + 1 + n ≤ count = omega arith in
+      All-cons (FillsApart test) (filler a (data_has a below)) (fillers-from (a + 1) n rest) (fills a below, words a below)
+      (are-apart test words fills (a + 1) n rest)
+
   have-slots : (a n : ℕ) (fits : a + n ≤ count) → All HasSlots (fillers-from a n fits)
   have-slots a zero fits = All-nil HasSlots
   have-slots a (suc n) fits =
@@ -126,6 +135,10 @@ module _ (program : Program) (source : Source) (code_classes methods : ℕ) (dat
   pub all-fill : (m : ℕ) → AreApart (first_method methods) m → AreApart (fill_of methods) m
       → All (IsFiller program m (page_words source)) fillers
   all-fill m words_apart fills_apart = are-fillers m words_apart fills_apart 0 count fits-all
+
+  pub all-apart : (test : ℕ → Bool) → ((k : ℕ) → k < count → test (first_method methods k) ≡ false) → ((k : ℕ) → k < count → test (fill_of methods k) ≡ false)
+      → All (FillsApart test) fillers
+  all-apart test words fills = are-apart test words fills 0 count fits-all
 
   pub all-have-slots : All HasSlots fillers
   all-have-slots = have-slots 0 count fits-all

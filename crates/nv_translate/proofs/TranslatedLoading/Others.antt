@@ -15,7 +15,7 @@ code-takes-no-part source code m from below = record {
   fills = λ k within e. omega (arith, e, below);
 }
 
-no-fewer : (number first : ℕ) (code : List Placed) → Follow number first code → first ≤ methods_behind first code
+pub no-fewer : (number first : ℕ) (code : List Placed) → Follow number first code → first ≤ methods_behind first code
 no-fewer number first [] follow = omega arith
 no-fewer number first (c ∷ code) follow =
     let rest = no-fewer (number + 1) (run_of c + 1) code follow.2 in

@@ -1,18 +1,13 @@
 -- What the laws of lower crates say of the bodies of methods.
-use Rattle.std.specs.Prelude.{ℕ, ◌≤◌, Bool, List, [], ◌∷◌, length, All}
-use Rattle.nv_words.specs.Words.{IsWord}
+use Rattle.std.specs.Prelude.{[], ◌∷◌}
 use Rattle.nv_words.specs.declared.order.Order.{Order}
-use Rattle.delay_slots.specs.Units.{HasNoFloat, units_of}
 use Rattle.jvm_program.specs.declared.kind.Kind.TheVariants.{Ints, Text}
 use Rattle.jvm_program.specs.Program.{Program}
-use Rattle.span_code.specs.declared.span_words.SpanWords.{SpanWords}
 use Rattle.trampoline.specs.Choosers.{missing_code}
 use Rattle.loading_code.specs.Pages.{pages_code}
 use Rattle.loading_code.specs.Words.{words_code}
-use Rattle.code_types.specs.Knowing.{HelperTypes}
-use Rattle.code_types.specs.Methods.{HelpersTyped, MainChooserTyped, ClassChooserTyped, FillTyped, RunTyped, IsBody, owes_nothing, owes_pages, owes_words}
-use Rattle.code_types.specs.Spans.{SpanTyped}
-use Rattle.nv_translate.proofs.TranslatedTypes.Planned.{BodiesTyped}
+use Rattle.code_types.specs.Methods.{BodiesHaveTypings, HelpersTyped, MainChooserTyped, ClassChooserTyped, FillTyped, RunTyped, IsBody, owes_nothing, owes_pages, owes_words}
+use Rattle.code_types.specs.Spans.{SpansAreTyped}
 
 pub record TypingLaws : Type 0 where
   pub helpers : (order : Order) → HelpersTyped order
@@ -23,6 +18,5 @@ pub record TypingLaws : Type 0 where
   pub pages : (program : Program) → IsBody program owes_pages (Text ∷ []) 5 pages_code
   pub fill : (program : Program) → FillTyped program
   pub run : (program : Program) → RunTyped program
-  pub spans : (program : Program) (words : List ℕ) (leads : ℕ → Bool) (span : SpanWords) → HelperTypes program → All IsWord words
-      → HasNoFloat words → span.end ≤ length words → SpanTyped program (units_of words) leads span
-  pub bodies : BodiesTyped
+  pub spans : SpansAreTyped
+  pub bodies : BodiesHaveTypings

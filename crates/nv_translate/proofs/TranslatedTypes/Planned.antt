@@ -7,19 +7,10 @@ use Rattle.jvm_program.specs.Program.{Program}
 use Rattle.jvm_program.specs.Typing.{TypeFrame, Typed}
 use Rattle.constant_pool.specs.Names.{after_field}
 use Rattle.jvm_link.specs.Linking.{parameters_of, parameters_from, gives_int}
-use Rattle.code_steps.specs.declared.step.Step.{Step}
-use Rattle.code_steps.specs.Placing.{laid}
-use Rattle.code_types.specs.Judging.{TakesGives, most_operands}
-use Rattle.code_types.specs.Methods.{IsBody}
+use Rattle.code_types.specs.Judging.{TakesGives}
+use Rattle.code_types.specs.Methods.{BodiesHaveTypings, IsBody}
 use Rattle.program_classes.specs.Making.{Plan, nothing}
 use Rattle.nv_translate.specs.Linked.{IsPlanned}
-
--- what is said of methods with typed bodies
-abbrev pub BodiesTyped : Type 0
-BodiesTyped =
-    (program : Program) (owes : ℕ → Option TypeFrame) (method : LinkedMethod) (code : List Step) → method.lines ≡ laid 0 code
-    → length method.parameters ≤ method.locals → most_operands ≤ method.stack → IsBody program owes method.parameters method.locals code
-    → Typed program method
 
 -- the method of a number is typed
 abbrev pub HasType : Program → ℕ → Type 0
@@ -34,7 +25,7 @@ plan-takes program number p parameters gives is taken given = record {
   gives_are = is.gives_is ∙ given;
 }
 
-pub plan-typed : (bodies : BodiesTyped) (program : Program) (number : ℕ) (p : Plan) (owes : ℕ → Option TypeFrame) (parameters : List Kind)
+pub plan-typed : (bodies : BodiesHaveTypings) (program : Program) (number : ℕ) (p : Plan) (owes : ℕ → Option TypeFrame) (parameters : List Kind)
     → IsPlanned program number p → parameters_of p.descriptor ≡ parameters → length parameters ≤ p.locals
     → IsBody program owes parameters p.locals p.code → HasType program number
 plan-typed bodies program number p owes parameters is taken room body method there =
@@ -61,7 +52,7 @@ pub plan-quiet : (program : Program) (number : ℕ) (p : Plan) → IsPlanned pro
 plan-quiet program number p is none =
     plan-takes program number p [] false is (ap parameters_of none ∙ nothing-taken) (ap gives_int none ∙ nothing-given)
 
-pub quiet-typed : (bodies : BodiesTyped) (program : Program) (number : ℕ) (p : Plan) (owes : ℕ → Option TypeFrame) → IsPlanned program number p
+pub quiet-typed : (bodies : BodiesHaveTypings) (program : Program) (number : ℕ) (p : Plan) (owes : ℕ → Option TypeFrame) → IsPlanned program number p
     → p.descriptor ≡ nothing → IsBody program owes [] p.locals p.code → HasType program number
 quiet-typed bodies program number p owes is none body =
     plan-typed bodies program number p owes [] is (ap parameters_of none ∙ nothing-taken) (omega arith) body

@@ -1,5 +1,5 @@
 -- Where the guest comes to a block, the classes come to its code.
-use Rattle.std.proofs.Common.{◌≡◌, ℕ, ◌+◌, ◌-◌, ◌&&◌, ◌==◌, Bool, true, List, Option, Some, None, All, refl, sym, ap, ◌∙◌, arith}
+use Rattle.std.proofs.Common.{◌≡◌, ℕ, ◌+◌, ◌-◌, ◌&&◌, ◌==◌, Bool, true, List, length, Option, Some, None, All, refl, sym, ap, ◌∙◌, arith}
 use Rattle.std.specs.Option.{is_none}
 use Rattle.std.proofs.lemmas.Bool.{and_from, and_parts, true≢false, eqb-true, eq-eqb}
 use Rattle.nv_words.specs.declared.order.Order.{Order}
@@ -60,8 +60,9 @@ module _ (classes : List CodeClass) (are : All IsClass classes) (ordered : AreOr
   -- the piece at which the classes stand is the block's
   module _ (from : b.from ≡ entry_at (units_of p.class.words) p.class.leads (span_words p.class p.span) p.word) (program : Program) (words : ℕ)
       (order : Order)
-      (choose : ℕ) (t : guest.State) (y : State) where
-    pub at-block : AtPiece program words order classes choose t y → t.pc ≡ b.first → (others : List Frame) × AtBlock program words p others t y
+      (choose : ℕ) (code : ℕ → Option ℕ) (t : guest.State) (y : State) where
+    pub at-block : AtPiece program words order classes choose code t y → t.pc ≡ b.first
+        → (others : List Frame) × AtBlock program order code words p others t y
     at-block at pc =
         let s = at.at_word in
         let word : IsWordOf classes s.number s.class s.span s.word =
@@ -72,8 +73,12 @@ module _ (classes : List CodeClass) (are : All IsClass classes) (ordered : AreOr
           s.others,
           record {
             workspace = s.workspace;
-            rests = s.stands.rests;
-            pc = pc;
+            matches = record {
+              guest_is = at.guest_is;
+              pc = pc;
+              rests = s.stands.rests;
+              few = let three = ap length s.below.others_are in omega (arith, three);
+            };
             is_there =
                 s.is_there
                 ∙ (λ i. placed ((same.classes_are i).first_method + same.spans i)

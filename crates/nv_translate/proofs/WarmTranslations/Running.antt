@@ -2,11 +2,11 @@
 use Rattle.std.proofs.Common.{◌≡◌, ℕ, ◌+◌, ◌*◌, ◌^◌, ◌<◌, ◌≤◌, true, false, inl, inr, List, [], length, slice_get, Option, Some, None, sym, ap, subst, ◌∙◌, arith}
 use Rattle.std.proofs.lemmas.Bool.{true≢false}
 use Rattle.nv_words.specs.declared.order.Order.{Order}
+use Rattle.nv_events.specs.Turn.{Turn, moves, ends as ends_so, leaves, asks}
 use Rattle.mips_decode.specs.State as guest
 use Rattle.delay_slots.specs.Units.{units_of}
-use Rattle.delay_slots.specs.Turns.{HasRange}
+use Rattle.delay_slots.specs.Turns.{HasRange, IsBetweenUnits, LeadsOn}
 use Rattle.jvm_program.specs.declared.value.Value.TheVariants.{Int as int}
-use Rattle.jvm_program.specs.declared.instruction.Instruction.{Instruction}
 use Rattle.jvm_program.specs.declared.linked_method.LinkedMethod.{LinkedMethod}
 use Rattle.jvm_program.specs.Program.{Program, LaidFrom}
 use Rattle.jvm_program.specs.Effect.{Workspace}
@@ -22,17 +22,18 @@ use Rattle.running_laws.specs.SpanCodeLaws.Instructions.{IsReady}
 use Rattle.running_laws.specs.SpanCodeLaws.Pieces.{piece_turns}
 use Rattle.running_laws.specs.SpanCodeLaws.Entering.{IsEntered}
 use Rattle.running_laws.specs.SpanCodeLaws.Made.{AreTurns}
-use Rattle.running_laws.specs.SpanCodeLaws.Registers.{AtMostOnce, gets, lines_between, puts, weigh_lines}
+use Rattle.running_laws.specs.SpanCodeLaws.Registers.{LinesTouchRegistersOnce, lines_between}
 use Rattle.running_laws.specs.SpanCodeLaws.Resuming.{FollowsInSpan, IsOutside, StandsAtWord, jumps_by_register}
 use Rattle.running_laws.specs.SpanCodeLaws.Spans.{HasSpan, StandsAt}
 use Rattle.running_laws.specs.TrampolineLaws.Classes.{CodeClass, HasClass, IsClass, span_words}
 use Rattle.running_laws.specs.TrampolineLaws.Programs.{IsTranslated}
 use Rattle.running_laws.proofs.TrampolineLaws.Elements.{all-at}
 use Rattle.running_laws.proofs.TrampolineLaws.Words.{span-end}
+use Rattle.running_laws.specs.Standing.{IsGuest}
 use Rattle.program_translation.specs.declared.block_info.BlockInfo.{BlockInfo}
 use Rattle.program_translation.specs.declared.layout.Layout.{Layout}
-use Rattle.nv_translate.specs.Warm.{IsPieceOf, AtBlock, Follows, GoesOn, IsAlone, RunsWarm, code_of, last_unit, method_of, own_units, site_of, span_of}
-use Rattle.nv_translate.proofs.WarmTranslations.Given.{CountsOnce, WarmLaws}
+use Rattle.nv_translate.specs.Warm.{IsPieceOf, AtBlock, Follows, GoesOn, IsAlone, RunsWarm, code_of, last_unit, method_of, own_units, site_of, span_of, LeavesGuest, Matches}
+use Rattle.nv_translate.proofs.WarmTranslations.Given.{WarmLaws}
 use Rattle.nv_translate.proofs.WarmTranslations.Calling.{part-none}
 use Rattle.nv_translate.proofs.WarmTranslations.Staying.{is_other}
 use Rattle.nv_translate.proofs.WarmTranslations.Alone.{alone-stays}
@@ -60,17 +61,17 @@ module _ (laws : WarmLaws) (program : Program) (order : Order) (choose missing :
     low = omega (arith, is.low, ends)
 
     pub from-entry : b.from ≡ entry_at (units_of p.class.words) p.class.leads (span_of p) p.word
-    from-entry = p.from_is ∙ laws.from (units_of p.class.words) p.class.leads (span_of p) p.word p.begin
+    from-entry = p.from_is ∙ (laws.stretches (units_of p.class.words) p.class.leads (span_of p) p.word p.begin).from_is
 
     to-entry : b.to ≡ entry_at (units_of p.class.words) p.class.leads (span_of p) p.word + size (code_of p)
-    to-entry = p.to_is ∙ laws.to (units_of p.class.words) p.class.leads (span_of p) p.word p.begin
+    to-entry = p.to_is ∙ (laws.stretches (units_of p.class.words) p.class.leads (span_of p) p.word p.begin).to_is
 
     block-entered : (words : ℕ) (others : List Frame) (w : Workspace) → w.fields pc_field ≡ int b.first
         → IsEntered (site_of program words p others) (units_of p.class.words) p.class.leads (span_of p) w b.from
     block-entered words others w pc =
         subst (IsEntered (site_of program words p others) (units_of p.class.words) p.class.leads (span_of p) w) (sym from-entry)
-        (laws.enters (site_of program words p others) (units_of p.class.words) p.class.leads (span_of p) p.word w
-        (has.spans_lie p.span p.span_below) low p.above p.below (pc ∙ ap int p.first_is))
+        ((laws.enters (site_of program words p others) (units_of p.class.words) p.class.leads (span_of p)
+        (has.spans_lie p.span p.span_below) low).words p.word w p.above p.below (pc ∙ ap int p.first_is))
 
     has-span : (words : ℕ) (others : List Frame) → HasSpan (site_of program words p others) p.class.words p.class.leads (span_of p)
     has-span words others = record {
@@ -84,14 +85,25 @@ module _ (laws : WarmLaws) (program : Program) (order : Order) (choose missing :
     ready : (words : ℕ) (others : List Frame) → length others < 62 → IsReady (site_of program words p others) order
     ready words others few = record {
       helpers = translated.helpers;
-      no_helper = (let above = laws.above program order choose missing classes code p.number p.class translated p.there in
+      no_helper = (let above = (laws.numbered program order choose missing classes code translated).above p.number p.class p.there in
           omega (arith, above, translated.helpers_low));
       few = few;
     }
 
-    block-follows : (words : ℕ) (others : List Frame) (w : Workspace) (x : guest.State) → length others < 62 → StandsAt order (span_of p) p.word w x
+    -- states that match at the block stand at its word
+    matched-stands : (others : List Frame) (w : Workspace) (x : guest.State) → Matches order code p others w x → StandsAt order (span_of p) p.word w x
+    matched-stands others w x at = record {
+      above = p.above;
+      below = p.below;
+      rests = at.rests;
+      pc = at.pc ∙ p.first_is;
+      pending = at.guest_is.pending;
+      order_is = at.guest_is.order_is;
+    }
+
+    stands-follow : (words : ℕ) (others : List Frame) (w : Workspace) (x : guest.State) → length others < 62 → StandsAt order (span_of p) p.word w x
         → Follows program order words p others w x
-    block-follows words others w x few at =
+    stands-follow words others w x few at =
         let site = site_of program words p others in
         let entry = entry_at (units_of p.class.words) p.class.leads (span_of p) p.word in
         let n = (piece_turns (own_units p) x).0 in
@@ -104,18 +116,40 @@ module _ (laws : WarmLaws) (program : Program) (order : Order) (choose missing :
         last)
         (sym from-entry) there)
 
-    block-made : (x : guest.State) → x.begun ≡ true → x.pending ≡ None → x.code ≡ code → x.pc ≡ b.first
+    block-follows : (words : ℕ) (others : List Frame) (w : Workspace) (x : guest.State) → Matches order code p others w x
+        → Follows program order words p others w x
+    block-follows words others w x at =
+        let few = at.few in
+        stands-follow words others w x (omega (arith, few)) (matched-stands others w x at)
+
+    between-is : (x t : guest.State) → IsGuest order code x → IsBetweenUnits x t → IsGuest order code t
+    between-is x t is_guest between = record {
+      begun = between.begun;
+      pending = between.pending;
+      order_is = between.order ∙ is_guest.order_is;
+      code_is = between.code ∙ is_guest.code_is;
+    }
+
+    leaves-guest : (x : guest.State) → IsGuest order code x → (last : Turn guest.State) → LeadsOn x last → LeavesGuest order code last
+    leaves-guest x is_guest (moves t) on = between-is x t is_guest on
+    leaves-guest x is_guest (ends_so e) on = tt
+    leaves-guest x is_guest (leaves q e) on = tt
+    leaves-guest x is_guest (asks q next) on = λ a. between-is x (next a) is_guest (on a)
+
+    block-made : (x : guest.State) → IsGuest order code x → x.pc ≡ b.first
         → AreTurns x (piece_turns (own_units p) x).0 (piece_turns (own_units p) x).1
-    block-made x begun pending code_is pc =
+        × LeavesGuest order code (piece_turns (own_units p) x).1
+    block-made x is_guest pc =
         let range : HasRange code p.class.start p.class.words =
         all-at (λ (c : CodeClass). HasRange code c.start c.words) classes p.number p.class translated.code_is.ranges p.there in
-        laws.made p.class.words p.class.leads (span_of p) p.word x (record {
-          begun = begun;
-          pending = pending;
+        let made = laws.made p.class.words p.class.leads (span_of p) p.word x (record {
+          begun = is_guest.begun;
+          pending = is_guest.pending;
           pc = pc ∙ p.first_is;
           in_range = omega (arith, p.below, ends);
-          range = subst (λ (held : ℕ → Option ℕ). HasRange held p.class.start p.class.words) (sym code_is) range;
-        }) is.are_words is.no_float p.below ends
+          range = subst (λ (held : ℕ → Option ℕ). HasRange held p.class.start p.class.words) (sym is_guest.code_is) range;
+        }) is.are_words is.no_float p.below ends in
+        (made.turns, leaves-guest x is_guest (piece_turns (own_units p) x).1 made.goes_on)
 
     calls-helpers : whole_weight order (code_of p) (entries is_other) ≡ 0
     calls-helpers =
@@ -127,32 +161,33 @@ module _ (laws : WarmLaws) (program : Program) (order : Order) (choose missing :
     resumed-stands words others y t (inl s) = (s.at, s.workspace, s.is_there)
     resumed-stands words others y t (inr s) = (s.at, s.workspace, s.is_there)
 
-    block-alone : (words : ℕ) (others : List Frame) (w : Workspace) (x : guest.State) (few : length others < 62)
-        (at : StandsAt order (span_of p) p.word w x)
-        → IsAlone program order words p others w x (block-follows words others w x few at)
-    block-alone words others w x few at =
+    block-alone : (words : ℕ) (others : List Frame) (w : Workspace) (x : guest.State) (at : Matches order code p others w x)
+        → IsAlone program order words p others w x (block-follows words others w x at)
+    block-alone words others w x at =
+        let small = at.few in
+        let few : length others < 62 = omega (arith, small) in
         let n = (piece_turns (own_units p) x).0 in
         alone-stays (site_of program words p others) (whole_weight order (code_of p)) calls-helpers (ready words others few).no_helper b.from w b.to n
         (264 * n)
         (GoesOn program words p others) (GoesOn program words p []) (resumed-stands words others) (piece_turns (own_units p) x).1
         (piece-plain (own_units p) x)
-        (block-follows words others w x few at) (block-follows words [] w x (omega arith) at)
+        (block-follows words others w x at) (stands-follow words [] w x (omega arith) (matched-stands others w x at))
 
-    block-counts : (count : ℕ → Instruction → ℕ) → CountsOnce count → (method : LinkedMethod) → program.method (method_of p) ≡ Some method
-        → LaidFrom 0 method.lines → AtMostOnce (λ f. weigh_lines (count f) (lines_between b.from b.to method.lines))
-    block-counts count once method there laid =
-        let bounds = once (site_of program 0 p []) method (units_of p.class.words) p.class.leads (span_of p) p.word there laid
+    block-once : (method : LinkedMethod) → program.method (method_of p) ≡ Some method → LaidFrom 0 method.lines
+        → LinesTouchRegistersOnce (lines_between b.from b.to method.lines)
+    block-once method there laid =
+        let once = laws.once (site_of program 0 p []) method (units_of p.class.words) p.class.leads (span_of p) p.word there laid
         (has.spans_lie p.span p.span_below) p.above p.below p.begin in
-        subst (λ from. AtMostOnce (λ f. weigh_lines (count f) (lines_between from b.to method.lines))) (sym p.from_is)
-        (subst (λ to. AtMostOnce
-        (λ f. weigh_lines (count f) (lines_between (stretch_at (units_of p.class.words) p.class.leads (span_of p) p.word).from to method.lines)))
-        (sym p.to_is) bounds)
+        subst (λ from. LinesTouchRegistersOnce (lines_between from b.to method.lines)) (sym p.from_is)
+        (subst
+        (λ to. LinesTouchRegistersOnce (lines_between (stretch_at (units_of p.class.words) p.class.leads (span_of p) p.word).from to method.lines))
+        (sym p.to_is) once)
 
   -- ---- from a block to another one of its span
 
   module _ (b d : BlockInfo) (p : IsPieceOf classes layout b) (q : IsPieceOf classes layout d) (same : b.span ≡ d.span) (words : ℕ)
       (others : List Frame)
-      (y : State) (t : guest.State) (pc : t.pc ≡ d.first) where
+      (y : State) (t : guest.State) (pc : t.pc ≡ d.first) (is_guest : IsGuest order code t) (small : length others ≤ 31) where
     starts : p.class.start ≡ q.class.start
     starts = ap (λ (c : CodeClass). c.start) (one-span classes layout b d p q same).classes_are
 
@@ -174,7 +209,7 @@ module _ (laws : WarmLaws) (program : Program) (order : Order) (choose missing :
         omega (arith, behind, spans, pc, q.first_is, q.below)
 
     at-word : StandsAtWord (site_of program words p others) (units_of p.class.words) p.class.leads (span_of p) y t
-        → AtBlock program words q others t y
+        → AtBlock program order code words q others t y
     at-word s =
         let one = one-span classes layout b d p q same in
         let word : s.entry.word ≡ q.word = omega (arith, s.entry.is_there, pc, q.first_is, starts) in
@@ -184,12 +219,11 @@ module _ (laws : WarmLaws) (program : Program) (order : Order) (choose missing :
         ∙ sym (from-entry d q) in
         record {
           workspace = s.workspace;
-          rests = s.rests;
-          pc = pc;
+          matches = record { guest_is = is_guest; pc = pc; rests = s.rests; few = small };
           is_there = s.is_there ∙ (λ i. placed (methods-same i) (entry i) s.workspace others);
         }
 
-    block-goes-on : GoesOn program words p others y t → jumps_by_register (last_unit p) ≡ false → AtBlock program words q others t y
+    block-goes-on : GoesOn program words p others y t → jumps_by_register (last_unit p) ≡ false → AtBlock program order code words q others t y
     block-goes-on (inl s) no_jump = at-word s
     block-goes-on (inr s) no_jump = absurd (elim (s.because (is b p).aligned) [
       | inl jumps ↦ true≢false (sym jumps ∙ no_jump)
@@ -205,7 +239,8 @@ module _ (laws : WarmLaws) (program : Program) (order : Order) (choose missing :
     follows = block-follows b p;
     alone = block-alone b p;
     made = block-made b p;
-    reads = λ method there. block-counts b p gets laws.reads method there (laid b p method there);
-    writes = λ method there. block-counts b p puts laws.writes method there (laid b p method there);
-    goes_on = λ words others y t d q on no_jump same pc. block-goes-on b d p q (sym same) words others y t pc on no_jump;
+    reads = λ method there. (block-once b p method there (laid b p method there)).read_once;
+    writes = λ method there. (block-once b p method there (laid b p method there)).written_once;
+    goes_on = λ words others y t d q on is_guest small no_jump same pc.
+        block-goes-on b d p q (sym same) words others y t pc is_guest small on no_jump;
   }

@@ -1,11 +1,11 @@
 -- A linked translation is warm.
-use Rattle.std.proofs.Common.{◌≡◌, ℕ, ◌+◌, ◌*◌, ◌≤◌, Bool, true, List, None, All, ap, subst, arith}
+use Rattle.std.proofs.Common.{◌≡◌, ℕ, ◌+◌, ◌*◌, ◌≤◌, true, List, None, All, ap, subst, arith}
 use Rattle.nv_events.specs.Answer.{Answer, next_answer}
 use Rattle.nv_events.specs.Memory.{Memory}
 use Rattle.nv_events.specs.Run.{Run, run_of}
 use Rattle.nv_events.specs.declared.outcome.Outcome.TheVariants.{Going}
 use Rattle.command_values.specs.Names.{Text}
-use Rattle.run_laws.specs.Runs.{ComesBy, allowance}
+use Rattle.run_laws.specs.Runs.{ComesBy}
 use Rattle.mips_decode.specs.State as guest
 use Rattle.mips_decode.specs.Step as guest_step
 use Rattle.elf_image.specs.Start.{Source, image_of, readable, writable}
@@ -17,9 +17,10 @@ use Rattle.guest_layout.specs.Numbers.{choose_number, missing_number}
 use Rattle.running_laws.specs.LoadingCodeLaws.Loaded.{paged}
 use Rattle.running_laws.specs.TrampolineLaws.Classes.{CodeClass, HasClass, IsClass}
 use Rattle.running_laws.proofs.TrampolineLaws.Elements.{all-at}
-use Rattle.running_laws.specs.Marks.{AtPiece, MarksPieces}
+use Rattle.running_laws.specs.Alike.{TranslatedProgramsComeToMarks}
+use Rattle.running_laws.specs.Marks.{AtPiece}
 use Rattle.running_laws.specs.Translated as runs
-use Rattle.running_laws.specs.Translated.{TranslatedProgram, IsTranslatedProgram, LoadsWithin}
+use Rattle.running_laws.specs.Translated.{TranslatedProgram, LoadsWithin}
 use Rattle.program_translation.specs.declared.block_info.BlockInfo.{BlockInfo}
 use Rattle.program_translation.specs.declared.built.Built.{Built}
 use Rattle.program_translation.specs.Bounds.{allow, need}
@@ -38,20 +39,11 @@ use Rattle.nv_translate.proofs.WarmTranslations.Lines.{lines-follow}
 use Rattle.nv_translate.proofs.WarmTranslations.Leaders.{leads-are}
 use Rattle.nv_translate.proofs.WarmTranslations.Coming.{marks_block, is-marked, marks-piece, at-block}
 
--- where the guest comes to marked states, the classes come to pieces
-abbrev pub ComesToMarks : Type 0
-ComesToMarks =
-    (t : TranslatedProgram) (extra : ℕ) (marked : guest.State → Bool) → IsTranslatedProgram t → LoadsWithin t extra → MarksPieces t.classes marked
-    → (n : ℕ) (answers : List Answer) → 1 ≤ n → (runs.guest_run t n answers).outcome ≡ Going → marked (runs.guest_run t n answers).last ≡ true
-    → ComesBy (turn t.program t.words) next_answer (allowance 512 extra (n + 1))
-    (AtPiece t.program t.words t.order t.classes t.choose (runs.guest_run t n answers).last) (runs.guest_run t n answers).questions (start t.program)
-    answers
-
 -- a linked translation makes its memory
 abbrev pub Loads : (source : Source) (name : Text) (method_bytes : ℕ) (built : Built) → IsLinked source name method_bytes built → ℕ → Type 0
-Loads source name method_bytes built l words = LoadsSource source (program_of l.classes) words (behind_all source l.code) l.texts l.main.runs.now
+Loads source name method_bytes built l words = LoadsSource source l.code (program_of l.classes) words (behind_all source l.code) l.texts l.main.runs.now
 
-module _ (laws : WarmLaws) (marks-law : ComesToMarks) (source : Source) (name : Text) (method_bytes : ℕ) (built : Built) (image : IsImage source)
+module _ (laws : WarmLaws) (marks-law : TranslatedProgramsComeToMarks) (source : Source) (name : Text) (method_bytes : ℕ) (built : Built) (image : IsImage source)
     (l : IsLinked source name method_bytes built) (stands : Stands source l.code (program_of l.classes)) where
   abbrev program : Program
   program = program_of l.classes
@@ -82,7 +74,7 @@ module _ (laws : WarmLaws) (marks-law : ComesToMarks) (source : Source) (name : 
     Comes At run = ComesBy (turn program words) next_answer (allow (image_of source).mapped (n + 1)) At run.questions (start program) answers
 
     abbrev Piece : Run guest.State (List Answer) → State → Type 0
-    Piece run y = AtPiece program words (image_of source).order classes choose_number run.last y
+    Piece run y = AtPiece program words (image_of source).order classes choose_number (image_of source).code run.last y
 
     comes-to-piece : (run : Run guest.State (List Answer)) → runs.guest_run t n answers ≡ run → run.outcome ≡ Going → marks_block b run.last ≡ true
         → Comes (Piece run) run
@@ -97,7 +89,8 @@ module _ (laws : WarmLaws) (marks-law : ComesToMarks) (source : Source) (name : 
 
     block-comes : (guest_run source n answers).outcome ≡ Going → (guest_run source n answers).last.pending ≡ None
         → (guest_run source n answers).last.pc ≡ b.first
-        → Comes (λ y. (others : List Frame) × AtBlock program words p others (guest_run source n answers).last y) (guest_run source n answers)
+        → Comes (λ y. (others : List Frame) × AtBlock program (image_of source).order (image_of source).code words p others
+        (guest_run source n answers).last y) (guest_run source n answers)
     block-comes goes between at =
         let run = guest_run source n answers in
         let comes = comes-to-piece run runs-same goes (is-marked b run.last between at) in
@@ -109,7 +102,7 @@ module _ (laws : WarmLaws) (marks-law : ComesToMarks) (source : Source) (name : 
           asks_so = comes.asks_so;
           goes = comes.goes;
           stands =
-              at-block classes are stands.translated.ordered built.layout b p from program words (image_of source).order choose_number run.last
+              at-block classes are stands.translated.ordered built.layout b p from program words (image_of source).order choose_number (image_of source).code run.last
               (run_of (turn program words) next_answer comes.turns (start program) answers).last comes.stands at;
         }
 

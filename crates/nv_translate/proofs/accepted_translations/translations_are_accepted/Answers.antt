@@ -15,14 +15,9 @@ accepted : (source : Source) (name : Text) (method_bytes : ℕ) (built : Built) 
 accepted source name method_bytes built has t l typed =
     record { links = classes-link source name method_bytes built t l.classes l.spelled l.distinct has; typed = typed }
 
-pub returns-clause-all : goal.returns-clause-all
-returns-clause-all c source name method_bytes built has class_name t l =
-    accepted source name method_bytes built has t l (c.translations_are_typed.ensures source name method_bytes built has.whole l)
-
-pub returns-clause-some : goal.returns-clause-some
-returns-clause-some c source name method_bytes built has class_name t =
-    let l = c.translations_link.ensures source name method_bytes built has.whole class_name t in
-    record {
-      linked = l;
-      accepted = accepted source name method_bytes built has t l (c.translations_are_typed.ensures source name method_bytes built has.whole l);
-    }
+pub returns : goal.returns
+returns c source name method_bytes built has class_name t =
+    let each = λ (l : IsLinked source name method_bytes built).
+    accepted source name method_bytes built has t l (c.translations_are_typed.ensures source name method_bytes built has.whole l) in
+    let linked = c.translations_link.ensures source name method_bytes built has.whole class_name t in
+    record { all = each; some = record { linked = linked; accepted = each linked } }

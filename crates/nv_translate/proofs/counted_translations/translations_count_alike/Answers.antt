@@ -5,7 +5,7 @@ use Rattle.nv_translate.proofs.counted_translations.translations_count_alike.Goa
 pub returns : goal.returns
 returns c source name method_bytes built image large l =
     let stands = c.translations_stand.ensures source name method_bytes built image.code large l in
-    let same = c.images_are_pages.ensures.memory source image.pages.whole in
+    let same = (c.images_are_pages.ensures source image.pages.whole).memory_is in
     let behind : ℕ = behind_all source l.code in
     let apart = c.others_do_not_load.ensures.behind source method_bytes l.code behind l.code_is (omega arith) in
     let counts = c.translated_programs_count_alike.ensures in
@@ -13,20 +13,20 @@ returns c source name method_bytes built image large l =
       reads = λ words m answers room.
           let loads = c.translations_load.ensures source name method_bytes built image.pages l words behind room apart in
           counted-reads source name method_bytes built image l stands words loads same m answers
-          (counts.reads (paired source name method_bytes built image l stands words loads)
-          (are-paired source name method_bytes built image l stands words loads) m answers);
+          ((counts (paired source name method_bytes built image l stands words loads)
+          (are-paired source name method_bytes built image l stands words loads)).reads_few m answers);
       chars = λ words m answers room.
           let loads = c.translations_load.ensures source name method_bytes built image.pages l words behind room apart in
-          counts.chars (paired source name method_bytes built image l stands words loads)
-          (are-paired source name method_bytes built image l stands words loads) m answers;
+          (counts (paired source name method_bytes built image l stands words loads)
+          (are-paired source name method_bytes built image l stands words loads)).no_chars m answers;
       switches = λ words m answers room.
           let loads = c.translations_load.ensures source name method_bytes built image.pages l words behind room apart in
           counted-switches source name method_bytes built image l stands words loads same m answers
-          (counts.switches (paired source name method_bytes built image l stands words loads)
-          (are-paired source name method_bytes built image l stands words loads) m answers);
+          ((counts (paired source name method_bytes built image l stands words loads)
+          (are-paired source name method_bytes built image l stands words loads)).switches_few m answers);
       entries = λ words m answers room.
           let loads = c.translations_load.ensures source name method_bytes built image.pages l words behind room apart in
           counted-entries source name method_bytes built image l stands words loads same m answers
-          (counts.entries (paired source name method_bytes built image l stands words loads)
-          (are-paired source name method_bytes built image l stands words loads) m answers);
+          ((counts (paired source name method_bytes built image l stands words loads)
+          (are-paired source name method_bytes built image l stands words loads)).entries_few m answers);
     }

@@ -27,9 +27,10 @@ returns c name method_bytes built lawful large is =
     record {
       is = is;
       linked = linked;
-      accepted = c.translations_are_accepted.ensures.all source name method_bytes built code lawful is linked;
+      accepted = (c.translations_are_accepted.ensures source name method_bytes built code lawful is).all linked;
       stored = λ files stored. c.translations_are_sets.ensures source name method_bytes built files code lawful is linked stored;
-      sized = c.translated_spans_keep_to_the_limit.ensures source method_bytes linked.code linked.code_is;
+      sized = c.translated_spans_keep_to_the_limit.ensures source name method_bytes built linked;
+      least = c.translated_spans_are_least.ensures source method_bytes linked.code linked.code_is;
       runs = alike;
       ends = c.runs_end_alike.ensures source linked.classes alike;
       counts = c.translations_count_alike.ensures source name method_bytes built image large linked;

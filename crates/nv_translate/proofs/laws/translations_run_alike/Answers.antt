@@ -26,6 +26,6 @@ returns c source name method_bytes built image large l = record {
       let time = loads.in_time in
       let within : LoadsWithin translated (131072 * (mapped + 4)) = omega (arith, time) in
       subst (λ (memory : Memory). SameRuns guest.turn (turn program words) next_answer (allow mapped) (guest_state.start (image_of source).order (image_of source).entry memory (image_of source).code (image_of source).heap_start (image_of source).heap_bytes) (start program) answers)
-      (c.images_are_pages.ensures.memory source image.pages.whole)
+      (c.images_are_pages.ensures source image.pages.whole).memory_is
       (c.translated_programs_run_alike.ensures translated (131072 * (mapped + 4)) (are-paired source name method_bytes built image l stands words loads) within answers);
 }
