@@ -1,21 +1,23 @@
 -- How deeds follow one another.
-use Rattle.std.proofs.Common.{◌≡◌, ℕ, true, false, List, [], ◌∷◌, ◌++◌, Option, Some}
-use Rattle.std.proofs.Common.{None, Result, Ok, Err, refl, ◌∙◌, ap, subst, inl, inr}
-use Rattle.std.specs.Prelude.{IfSome}
+use Rattle.std.proofs.Common.{◌≡◌, ℕ, Bool, true, false, List, [], ◌∷◌, ◌++◌, Option, Some}
+use Rattle.std.proofs.Common.{None, Result, Ok, Err, Vec, Global, option_map, refl, sym, ◌∙◌, ap, subst, inl, inr}
 use Rattle.nv_outside.specs.Faults.{CountsFailure, shelf_failed}
-use Rattle.nv_outside.specs.Files.{Files, OthersStay, SameFiles, SetsFile, Stores}
+use Rattle.nv_outside.specs.Files.{AgreeWith, Files, Finds, OthersStay, SameFiles, SetsFile, Stores}
 use Rattle.unix_calls.specs.Stages.{ComesTo, StopsRun}
 use Rattle.nv_outside.specs.declared.shelf_error.ShelfError.{ShelfError}
 use Rattle.nv_outside.specs.declared.shelf_error.ShelfError.TheVariants as shelf
 use Rattle.command_deeds.specs.declared.stop.Stop.{Stop}
 use Rattle.command_deeds.specs.declared.stop.Stop.TheVariants.{ReadFault, WriteFault, ShelfFault, NoMemory}
 use Rattle.command_deeds.specs.Deeds.{Deed, prepares, stores, prints, plays, DoesDeed, StopsDeed, DoesAll, StopsIn}
-use Rattle.command_deeds.specs.Ends.{CommandAnswer, ByFiles, Comes, DoesOrStops, Due, GivesEnd}
-use Rattle.command_deeds.specs.Ends.{MakesEnd, Works, answers, is_stop}
+use Rattle.command_words.specs.declared.named.Named.{Named}
+use Rattle.command_deeds.specs.declared.ending.Ending.{Ending}
+use Rattle.command_deeds.specs.Checks.{Check, file_at, file_named, there}
+use Rattle.command_deeds.specs.Ends.{CommandAnswer, Comes, DoesOrStops, Due, Gives, GivesEnd}
+use Rattle.command_deeds.specs.Ends.{Makes, MakesEnd, Over, Works, answers, end_of, is_stop, lacks}
 use Rattle.command_deeds.specs.Stops.{shelf_stop}
 use Rattle.command_deeds.specs.World.{OnlyOut, OnlyShelf, Rises, SameShelf, Seen, Sets, Stays}
 use Rattle.command_deeds.specs.World.{StopsLoad, StopsPrint, StopsStore, Takes, World, streams_of, world}
-use Rattle.nv_outside.proofs.FilesLemmas.{same_then_same}
+use Rattle.nv_outside.proofs.FilesLemmas.{agree_before, same_then_same, told_agree, told_has, told_or}
 
 -- ---- the shelf
 
@@ -59,12 +61,6 @@ same_then_store a b c name WriteFault p q = q
 same_then_store a b c name ShelfFault p q = (same_then_others a.told b.told c.told name p.0 q.0, same_then_rises a.faults b.faults c.faults p.1 q.1)
 same_then_store a b c name NoMemory p q = same_then_shelf a b c p q
 
--- what is known by told files is known by the same files
-pub by_same : (a b : Option Files) (P : Files → Type 0) → SameFiles a b → IfSome b P → IfSome a P
-by_same None b P same h = tt
-by_same (Some f) None P same h = absurd same
-by_same (Some f) (Some g) P same h = subst P (λ i name. same name i) h
-
 -- ---- nothing has changed yet
 
 pub stays : (w : World) → Stays w w
@@ -90,7 +86,7 @@ stays_then_deed (plays turns stage) w u v p q =
     (same_then_shelf w.shelf u.shelf v.shelf p.0 q.0, subst (λ s. ComesTo (stage turns) s (streams_of v)) (same_streams w u p.1) q.1)
 
 stays_then_stop : (deed : Deed) (w u v : World) (stop : Stop) → Stays w u → StopsDeed deed u v stop → StopsDeed deed w v stop
-stays_then_stop prepares w u v stop p q = (same_then_load w.shelf u.shelf v.shelf stop p.0 q.0, only_then w u v p.1 q.1)
+stays_then_stop prepares w u v stop p q = (q.0, stays_then w u v p q.1)
 stays_then_stop (stores name bytes) w u v stop p q = (same_then_store w.shelf u.shelf v.shelf name stop p.0 q.0, only_then w u v p.1 q.1)
 stays_then_stop (prints text) w u v stop p q = (subst (λ o. StopsPrint o v.out text stop) p.1.1 q.0, only_out_then w u v p q.1)
 stays_then_stop (plays turns stage) w u v stop p q = (
@@ -114,38 +110,77 @@ stays_then_works due w u v (Ok answer) p q = (q.0, q.1, stays_then_all due.deeds
 stays_then_works due w u v (Err stop) p q = stays_then_stops due.deeds w u v stop p q
 
 -- what is due later is due here
-pub stays_then_comes : (Later IsDueAt : World → Due → Type 0) (w u v : World) (end : Result CommandAnswer Stop) → Stays w u
-    → ((due : Due) → Later u due → IsDueAt w due) → Comes Later u v end → Comes IsDueAt w v end
-stays_then_comes Later IsDueAt w u v (Ok answer) p f (inl q) = absurd q
-stays_then_comes Later IsDueAt w u v (Err stop) p f (inl q) = inl (same_then_load w.shelf u.shelf v.shelf stop p.0 q.0, only_then w u v p.1 q.1)
-stays_then_comes Later IsDueAt w u v end p f (inr q) = inr (q.0, f q.0 q.1, stays_then_works q.0 w u v end p q.2)
+pub stays_then_comes : (loads : Bool) (Later IsDueAt : World → Due → Type 0) (w u v : World) (end : Result CommandAnswer Stop) → Stays w u
+    → ((due : Due) → Later u due → IsDueAt w due) → Comes loads Later u v end → Comes loads IsDueAt w v end
+stays_then_comes loads Later IsDueAt w u v end p f (inr q) = inr (q.0, f q.0 q.1, stays_then_works q.0 w u v end p q.2)
+stays_then_comes loads Later IsDueAt w u v (Ok answer) p f (inl q) = absurd q
+stays_then_comes true Later IsDueAt w u v (Err stop) p f (inl q) =
+    inl (same_then_load w.shelf u.shelf v.shelf stop p.0 q.0, only_then w u v p.1 q.1)
+stays_then_comes false Later IsDueAt w u v (Err stop) p f (inl q) = inl (q.0, stays_then w u v p q.1)
 
 -- what is due is due under another name
-pub due_as : (Later IsDueAt : World → Due → Type 0) (w v : World) (end : Result CommandAnswer Stop) → ((due : Due) → Later w due → IsDueAt w due)
-    → Comes Later w v end → Comes IsDueAt w v end
-due_as Later IsDueAt w v end f q = stays_then_comes Later IsDueAt w w v end (stays w) f q
+pub due_as : (loads : Bool) (Later IsDueAt : World → Due → Type 0) (w v : World) (end : Result CommandAnswer Stop)
+    → ((due : Due) → Later w due → IsDueAt w due) → Comes loads Later w v end → Comes loads IsDueAt w v end
+due_as loads Later IsDueAt w v end f q = stays_then_comes loads Later IsDueAt w w v end (stays w) f q
 
 -- ---- ends
 
 -- an answer alone is due
-pub answers_due : (IsDueAt : World → Due → Type 0) (answer : CommandAnswer) (w : World) → is_stop answer.done ≡ false → IsDueAt w (answers answer)
-    → Comes IsDueAt w w (Ok answer)
+answers_due : (IsDueAt : World → Due → Type 0) (answer : CommandAnswer) (w : World) → is_stop answer.done ≡ false → IsDueAt w (answers answer)
+    → Comes false IsDueAt w w (Ok answer)
 answers_due IsDueAt answer w kind due = inr (answers answer, due, (refl, kind, stays w))
 
 -- memory ran out before any deed
-pub no_memory : (IsDueAt : World → Due → Type 0) (w : World) → Comes IsDueAt w w (Err NoMemory)
-no_memory IsDueAt w = inl (stays w)
+pub no_memory : (IsDueAt : World → Due → Type 0) (w : World) → Comes false IsDueAt w w (Err NoMemory)
+no_memory IsDueAt w = inl (refl, stays w)
+
+-- what is so of some files, where nothing had changed before
+pub over_as : (IsSo Also : Files → Type 0) (a b c : Seen Files) → SameShelf a b → ((files : Files) → IsSo files → Also files) → Over IsSo b c → Over Also a c
+over_as IsSo Also a b c p f q = record {
+  files = q.files;
+  agree = agree_before a.told b.told q.files p.0 q.agree;
+  same = same_then_shelf a b c p q.same;
+  is = f q.files q.is;
+}
+
+-- what is so of all files
+pub over_any : (IsSo : Files → Type 0) (a b : Seen Files) → SameShelf a b → ((files : Files) → IsSo files) → Over IsSo a b
+over_any IsSo a b p f = record {
+  files = told_or a.told (λ name. None);
+  agree = told_agree a.told (λ name. None);
+  same = p;
+  is = f (told_or a.told (λ name. None));
+}
+
+-- a file that was looked for
+pub over_found : (old new : Seen Files) (word : ℕ) (name : List ℕ) (found : Option (Vec ℕ Global)) → Finds old.told name found → SameShelf old new
+    → Over (λ files. there word name (option_map (λ v. v.items) found) ≡ file_at files word name) old new
+over_found old new word name found finds same = record {
+  files = told_or old.told (λ other. option_map (λ v. v.items) found);
+  agree = told_agree old.told (λ other. option_map (λ v. v.items) found);
+  same = same;
+  is = ap (there word name) (sym (told_has old.told name found finds));
+}
+
+pub load_found : (old new : Seen Files) (word : ℕ) (name : List ℕ) (found : Option (Vec ℕ Global)) (file : Vec ℕ Global) → Finds old.told name found
+    → SameShelf old new → found ≡ Some file → Over (λ files. Ok file.items ≡ file_at files word name) old new
+load_found old new word name found file finds same is =
+    subst (λ f. Over (λ files. there word name (option_map (λ v. v.items) f) ≡ file_at files word name) old new) is
+    (over_found old new word name found finds same)
+
+pub load_lacks : (old new : Seen Files) (word : ℕ) (name text : List ℕ) (found : Option (Vec ℕ Global)) → Finds old.told name found
+    → SameShelf old new → found ≡ None → text ≡ name → Over (λ files. Err (lacks word text) ≡ file_at files word name) old new
+load_lacks old new word name text found finds same is text_is =
+    subst (λ n. Over (λ files. Err (lacks word n) ≡ file_at files word name) old new) (sym text_is)
+    (subst (λ f. Over (λ files. there word name (option_map (λ v. v.items) f) ≡ file_at files word name) old new) is
+    (over_found old new word name found finds same))
 
 -- an end by another name, and where nothing had changed before
 pub gives_end_as : (IsRefused Also : Files → CommandAnswer → Type 0) (a b c : Seen Files) (end : Result CommandAnswer Stop) → SameShelf a b
     → ((files : Files) (answer : CommandAnswer) → IsRefused files answer → Also files answer) → GivesEnd IsRefused b c end → GivesEnd Also a c end
 gives_end_as IsRefused Also a b c (Err stop) p f q = same_then_load a b c stop p q
 gives_end_as IsRefused Also a b c (Ok answer) p f q =
-    (same_then_shelf a b c p q.0, q.1, by_same a.told b.told (λ files. Also files answer) p.0 (each b.told q.2))
-  where
-    each : (told : Option Files) → IfSome told (λ files. IsRefused files answer) → IfSome told (λ files. Also files answer)
-    each None h = tt
-    each (Some files) h = f files answer h
+    (q.0, over_as (λ files. IsRefused files answer) (λ files. Also files answer) a b c p (λ files. f files answer) q.1)
 
 pub makes_end_as : (IsRefused Also : CommandAnswer → Type 0) (end : Result CommandAnswer Stop) → ((answer : CommandAnswer) → IsRefused answer → Also answer)
     → MakesEnd IsRefused end → MakesEnd Also end
@@ -153,53 +188,33 @@ makes_end_as IsRefused Also (Err stop) f q = q
 makes_end_as IsRefused Also (Ok answer) f q = (q.0, f answer q.1)
 
 -- a stage that only takes memory ended, where the shelf was loaded from before
-pub makes_gives : (IsRefused : CommandAnswer → Type 0) (Also : Files → CommandAnswer → Type 0) (a b : Seen Files) (end : Result CommandAnswer Stop) → SameShelf a b
-    → ((files : Files) (answer : CommandAnswer) → IsRefused answer → Also files answer) → MakesEnd IsRefused end → GivesEnd Also a b end
-makes_gives IsRefused Also a b (Err stop) p f q = rw q p
-makes_gives IsRefused Also a b (Ok answer) p f q = (p, q.0, each a.told)
-  where
-    each : (told : Option Files) → IfSome told (λ files. Also files answer)
-    each None = tt
-    each (Some files) = f files answer q.1
+pub makes_gives : (IsSo : Files → Type 0) (IsRefused : CommandAnswer → Type 0) (Also : Files → CommandAnswer → Type 0) (a b : Seen Files)
+    (end : Result CommandAnswer Stop) → Over IsSo a b → ((files : Files) (answer : CommandAnswer) → IsSo files → IsRefused answer → Also files answer)
+    → MakesEnd IsRefused end → GivesEnd Also a b end
+makes_gives IsSo IsRefused Also a b (Err stop) o f q = subst (StopsLoad a b) (sym q) o.same
+makes_gives IsSo IsRefused Also a b (Ok answer) o f q =
+    (q.0, record { files = o.files; agree = o.agree; same = o.same; is = f o.files answer o.is q.1 })
 
 -- a stage that loads ended the command
-pub gives_ends : (IsDue : Files → Option (List ℕ) → Due → Type 0) (IsRefused : Files → CommandAnswer → Type 0) (w v : World) (end : Result CommandAnswer Stop)
+pub gives_ends : (IsDueAt : World → Due → Type 0) (IsRefused : Files → CommandAnswer → Type 0) (w v : World) (end : Result CommandAnswer Stop)
     → GivesEnd IsRefused w.shelf v.shelf end → OnlyShelf w v
-    → ((files : Files) (answer : CommandAnswer) → IsRefused files answer → IsDue files w.input.told (answers answer)) → Comes (ByFiles IsDue) w v end
-gives_ends IsDue IsRefused w v (Err stop) q only f = inl (q, only)
-gives_ends IsDue IsRefused w v (Ok answer) q only f = inr (answers answer, each w.shelf.told q.2, (refl, q.1, (q.0, only)))
-  where
-    each : (told : Option Files) → IfSome told (λ files. IsRefused files answer) → IfSome told (λ files. IsDue files w.input.told (answers answer))
-    each None h = tt
-    each (Some files) h = f files answer h
+    → ((files : Files) (answer : CommandAnswer) → AgreeWith w.shelf.told files → IsRefused files answer → IsDueAt w (answers answer))
+    → Comes true IsDueAt w v end
+gives_ends IsDueAt IsRefused w v (Err stop) q only f = inl (q, only)
+gives_ends IsDueAt IsRefused w v (Ok answer) q only f =
+    inr (answers answer, f q.1.files answer q.1.agree q.1.is, (refl, q.0, (q.1.same, only)))
 
 -- it gave a value, and the command went on
-pub gives_then : {A : Type 0} (IsDue Later : Files → Option (List ℕ) → Due → Type 0) (IsGiven : Files → A → Type 0) (value : A) (w u v : World)
-    (end : Result CommandAnswer Stop) → SameShelf w.shelf u.shelf × IfSome w.shelf.told (λ files. IsGiven files value) → OnlyShelf w u
-    → ((files : Files) (due : Due) → IsGiven files value → Later files w.input.told due → IsDue files w.input.told due)
-    → Comes (ByFiles Later) u v end → Comes (ByFiles IsDue) w v end
-gives_then IsDue Later IsGiven value w u v end q only f comes =
-    stays_then_comes (ByFiles Later) (ByFiles IsDue) w u v end (q.0, only) (λ due later. each due w.shelf.told q.1
-    (by_same w.shelf.told u.shelf.told (λ files. Later files w.input.told due) q.0.0
-    (subst (λ input. IfSome u.shelf.told (λ files. Later files input due)) (ap (λ i. i.told) only.0) later))) comes
-  where
-    each : (due : Due) (told : Option Files) → IfSome told (λ files. IsGiven files value) → IfSome told (λ files. Later files w.input.told due)
-        → IfSome told (λ files. IsDue files w.input.told due)
-    each due None g h = tt
-    each due (Some files) g h = f files due g h
+pub gives_then : (IsDueAt Later : World → Due → Type 0) (IsSo : Files → Type 0) (w u v : World) (end : Result CommandAnswer Stop)
+    → Over IsSo w.shelf u.shelf → OnlyShelf w u
+    → ((files : Files) (due : Due) → AgreeWith w.shelf.told files → IsSo files → Later u due → IsDueAt w due)
+    → Comes true Later u v end → Comes true IsDueAt w v end
+gives_then IsDueAt Later IsSo w u v end q only f comes =
+    stays_then_comes true Later IsDueAt w u v end (q.same, only) (λ due later. f q.files due q.agree q.is later) comes
 
--- what is due whatever the files are
-pub over_any : (IsDue : Option (List ℕ) → Due → Type 0) (w v : World) (end : Result CommandAnswer Stop) → Comes (λ w. IsDue w.input.told) w v end
-    → Comes (ByFiles (λ files. IsDue)) w v end
-over_any IsDue w v end comes = due_as (λ w. IsDue w.input.told) (ByFiles (λ files. IsDue)) w v end (λ due h. each due w.shelf.told h) comes
-  where
-    each : (due : Due) (told : Option Files) → IsDue w.input.told due → IfSome told (λ files. IsDue w.input.told due)
-    each due None h = tt
-    each due (Some files) h = h
-
--- a stage that takes memory ended the command
+-- a stage that takes memory ended a command that loads nothing
 pub makes_ends : (IsDueAt : World → Due → Type 0) (IsRefused : CommandAnswer → Type 0) (w : World) (end : Result CommandAnswer Stop) → MakesEnd IsRefused end
-    → ((answer : CommandAnswer) → IsRefused answer → IsDueAt w (answers answer)) → Comes IsDueAt w w end
+    → ((answer : CommandAnswer) → IsRefused answer → IsDueAt w (answers answer)) → Comes false IsDueAt w w end
 makes_ends IsDueAt IsRefused w (Ok answer) q f = answers_due IsDueAt answer w q.0 (f answer q.1)
 makes_ends IsDueAt IsRefused w (Err stop) q f = rw q (no_memory IsDueAt w)
 
@@ -257,3 +272,32 @@ pub store_stopped : (error : ShelfError) (old new : Seen Files) (name bytes : Li
     → CountsFailure (shelf_failed {A = Unit {0}} (Err error)) old.faults new.faults → StopsStore old new name (shelf_stop error)
 store_stopped shelf.Failed old new name bytes left count = (left, failed old.faults new.faults count)
 store_stopped shelf.NoMemory old new name bytes left count = (left, count.stays refl)
+
+-- ---- checks
+
+-- a stage that takes memory by another name
+pub makes_as : {A : Type 0} (IsChecked Also : Check A → Type 0) (result : Result A Ending) → ((check : Check A) → IsChecked check → Also check)
+    → Makes IsChecked result → Makes Also result
+makes_as IsChecked Also (Ok value) f q = f (Ok value) q
+makes_as IsChecked Also (Err ending) f q =
+    makes_end_as (λ answer. IsChecked (Err answer)) (λ answer. Also (Err answer)) (end_of ending) (λ answer h. f (Err answer) h) q
+
+-- a stage that takes memory, behind one that loads
+pub makes_over : {A : Type 0} (IsSo : Files → Type 0) (IsMade : Check A → Type 0) (IsChecked : Files → Check A → Type 0) (a b : Seen Files)
+    (result : Result A Ending) → Over IsSo a b → ((files : Files) (check : Check A) → IsSo files → IsMade check → IsChecked files check)
+    → Makes IsMade result → Gives IsChecked a b result
+makes_over IsSo IsMade IsChecked a b (Ok value) o f q =
+    over_as IsSo (λ files. IsChecked files (Ok value)) a a b (same_shelf a) (λ files h. f files (Ok value) h q) o
+makes_over IsSo IsMade IsChecked a b (Err ending) o f q =
+    makes_gives IsSo (λ answer. IsMade (Err answer)) (λ files answer. IsChecked files (Err answer)) a b (end_of ending) o
+    (λ files answer h r. f files (Err answer) h r) q
+
+-- a file that was loaded is that of the words
+pub file_is : (input : Named) (name file bytes : List ℕ) (files : Files) → name ≡ input.text → bytes ≡ file → Ok file ≡ file_at files input.word name
+    → Ok bytes ≡ file_named files input
+file_is input name file bytes files is same found = ap (λ b. Ok b) same ∙ found ∙ ap (file_at files input.word) is
+
+-- and so is one that is not there
+pub file_is_not : (input : Named) (name : List ℕ) (files : Files) (answer : CommandAnswer) → name ≡ input.text
+    → Err answer ≡ file_at files input.word name → Err answer ≡ file_named files input
+file_is_not input name files answer is lacks = lacks ∙ ap (file_at files input.word) is

@@ -1,9 +1,15 @@
 -- How far a writing of several pieces has come.
 use Rattle.std.proofs.Common.{◌≡◌, ℕ, ◌+◌, ◌<◌, List, ◌∷◌, ◌++◌, length, map, drop, get_or}
 use Rattle.std.proofs.Common.{Bor, sym, ◌∙◌, append_assoc, add-one, ap, drop-cons, subst}
+use Rattle.std.proofs.Common.{Option, Result, Ok, Err, refl}
+use Rattle.std.specs.Prelude.{OnErr, OnOk, is_err}
+use Rattle.std.specs.Io.KnownBytes.{Appends}
 use Rattle.nv_outside.proofs.SeenLemmas.{fails-before, fails-behind, takes-both}
+use Rattle.nv_outside.specs.Faults.{CountsFailure}
+use Rattle.nv_outside.specs.Gains.{AppendsProperPart}
+use Rattle.nv_outside.specs.declared.failed.Failed.{Failed}
 use Rattle.command_deeds.specs.Line.{joined}
-use Rattle.command_deeds.specs.World.{FailsIn, Seen, Takes}
+use Rattle.command_deeds.specs.World.{FailsIn, Seen, Takes, Writes}
 
 pub record Joins (old new : Seen (List ℕ)) (all later : List (List ℕ)) : Type 0 where
   pub gained : List ℕ
@@ -28,3 +34,9 @@ Joins-part old mid new all later piece j fails =
 pub later_split : (pieces : List (Bor (List ℕ))) (i : ℕ) (d : Bor (List ℕ)) → i < length pieces
     → map (λ p. p.now) (drop i pieces) ≡ (get_or pieces i d).now ∷ map (λ p. p.now) (drop (i + 1) pieces)
 later_split pieces i d h = rw add-one (ap (map (λ p. p.now)) (drop-cons pieces i d h))
+
+-- what a sink did with a text, by what it says
+pub writes-all : (old new : Seen (List ℕ)) (text : List ℕ) (result : Result (Unit {0}) Failed) → OnOk result (Appends old.told new.told text)
+    → OnErr result (AppendsProperPart old.told new.told text) → CountsFailure (is_err result) old.faults new.faults → Writes old new text result
+writes-all old new text (Ok done) ok err count = (ok, count.stays refl)
+writes-all old new text (Err failed) ok err count = (err, record { never_falls = count.never_falls; rose = count.rises refl })

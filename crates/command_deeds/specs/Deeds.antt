@@ -4,10 +4,11 @@ use Rattle.nv_events.specs.declared.io_fault.IoFault.{IoFault}
 use Rattle.unix_calls.specs.Stages.{ComesTo, Stage, StopsRun}
 use Rattle.command_deeds.specs.Stops.{stop_of}
 use Rattle.command_deeds.specs.declared.stop.Stop.{Stop}
-use Rattle.command_deeds.specs.World.{OnlyOut, OnlyShelf, SameShelf, Sets, Stays, StopsLoad, StopsPrint, StopsStore, Takes, World, streams_of}
+use Rattle.command_deeds.specs.declared.stop.Stop.TheVariants.{NoMemory}
+use Rattle.command_deeds.specs.World.{OnlyOut, OnlyShelf, SameShelf, Sets, Stays, StopsPrint, StopsStore, Takes, World, streams_of}
 
 pub data Deed : Type 0 where
-  -- files are loaded or memory is taken, and nothing changes
+  -- memory is taken, and nothing changes
   prepares : Deed
   -- a file is set to these bytes
   stores : List ℕ → List ℕ → Deed
@@ -26,7 +27,7 @@ DoesDeed (plays turns stage) w v = SameShelf w.shelf v.shelf
 
 -- What may stop a deed, and what is done of it then. A guest's run takes no memory.
 abbrev pub StopsDeed : Deed → World → World → Stop → Type 0
-StopsDeed prepares w v stop = StopsLoad w.shelf v.shelf stop × OnlyShelf w v
+StopsDeed prepares w v stop = (stop ≡ NoMemory) × Stays w v
 StopsDeed (stores name bytes) w v stop = StopsStore w.shelf v.shelf name stop × OnlyShelf w v
 StopsDeed (prints text) w v stop = StopsPrint w.out v.out text stop × OnlyOut w v
 StopsDeed (plays turns stage) w v stop =

@@ -5,3 +5,5 @@ pub mod Ends
 pub mod Line
 pub mod Runs
 pub mod Readying
+pub mod Answers
+pub mod Checks

@@ -7,6 +7,7 @@ use Rattle.nv_faults.specs.declared.image_fault.ImageFault.{ImageFault}
 use Rattle.nv_faults.specs.declared.link_fault.LinkFault.{LinkFault}
 use Rattle.nv_faults.specs.declared.asm_fault.AsmFault.{AsmFault}
 use Rattle.nv_faults.specs.declared.verify_fault.VerifyFault.{VerifyFault}
+use Rattle.command_deeds.specs.declared.status.TheConstants as status
 use Rattle.command_deeds.specs.declared.done.Done.{Done}
 use Rattle.command_deeds.specs.declared.done.Done.TheVariants.{Good, Exited, Faulted, Usage, NoInput, ElfRefused, ImageRefused, ArgsTooLong}
 use Rattle.command_deeds.specs.declared.done.Done.TheVariants.{FilesTooLarge, AsmRefused, ClassRefused, LinkRefused, VerifyRefused, Trapped}
@@ -14,25 +15,25 @@ use Rattle.command_deeds.specs.declared.done.Done.TheVariants.{Spent, ReadFault,
 
 -- the statuses of sysexits.h where one fits, and the program's own status modulo 256
 abbrev pub status_of : Done → ℕ
-status_of Good = 0
+status_of Good = status.GOOD
 status_of (Exited status) = cast_unsigned w32 status % 256
-status_of (Faulted f) = 79
-status_of (Usage kind) = 64
-status_of (NoInput word) = 66
-status_of (ElfRefused f) = 65
-status_of (ImageRefused f) = 67
-status_of (ArgsTooLong n) = 68
-status_of (FilesTooLarge n) = 69
-status_of (AsmRefused f) = 73
-status_of (ClassRefused class kind at) = 70
-status_of (LinkRefused f) = 71
-status_of (VerifyRefused f) = 72
-status_of (Trapped k) = 80
-status_of Spent = 78
-status_of ReadFault = 74
-status_of WriteFault = 75
-status_of ShelfFault = 76
-status_of NoMemory = 77
+status_of (Faulted f) = status.FAULTED
+status_of (Usage kind) = status.USAGE
+status_of (NoInput word) = status.NO_INPUT
+status_of (ElfRefused f) = status.ELF_REFUSED
+status_of (ImageRefused f) = status.IMAGE_REFUSED
+status_of (ArgsTooLong n) = status.ARGS_TOO_LONG
+status_of (FilesTooLarge n) = status.FILES_TOO_LARGE
+status_of (AsmRefused f) = status.ASM_REFUSED
+status_of (ClassRefused class kind at) = status.CLASS_REFUSED
+status_of (LinkRefused f) = status.LINK_REFUSED
+status_of (VerifyRefused f) = status.VERIFY_REFUSED
+status_of (Trapped k) = status.TRAPPED
+status_of Spent = status.SPENT
+status_of ReadFault = status.READ_FAULT
+status_of WriteFault = status.WRITE_FAULT
+status_of ShelfFault = status.SHELF_FAULT
+status_of NoMemory = status.NO_MEMORY
 
 -- an upper-case hexadecimal digit
 abbrev pub hex_digit : ℕ → ℕ

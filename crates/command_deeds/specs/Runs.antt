@@ -1,6 +1,7 @@
--- What a command that runs a guest is to do: its arguments and files, its run, and the files that are kept.
-use Rattle.std.specs.Prelude.{◌≡◌, ℕ, nat_lt, if◌then◌else◌, List, [], ◌∷◌, ◌++◌, map, Option, Some, None, option_map, Result, Ok, Err}
-use Rattle.nv_outside.specs.Files.{Files}
+-- What a command that runs a guest is to do: its arguments and files, its run, and the files that
+-- are kept.
+use Rattle.std.specs.Prelude.{◌≡◌, ℕ, nat_lt, if◌then◌else◌, List, [], ◌∷◌, ◌++◌, flat_map, Option, Some, None, option_map, IfErr, IfOk, Ok, Err}
+use Rattle.nv_outside.specs.Files.{AgreeWith, Files}
 use Rattle.nv_events.specs.declared.outcome.Outcome.{Outcome}
 use Rattle.nv_events.specs.declared.outcome.Outcome.TheVariants.{Exited, Faulted, Trapped, Waiting, Going}
 use Rattle.nv_events.specs.Run.{Run, run_of}
@@ -15,10 +16,13 @@ use Rattle.unix_calls.specs.Arriving.{run_arriving}
 use Rattle.unix_calls.specs.Held.{Held}
 use Rattle.unix_calls.specs.Playing.{run_over}
 use Rattle.unix_calls.specs.Stages.{Stage, stage_of}
+use Rattle.command_deeds.specs.declared.alone.TheConstants.{BLOCKS}
 use Rattle.command_deeds.specs.declared.done.Done.{Done}
 use Rattle.command_deeds.specs.declared.done.Done.TheVariants as done
-use Rattle.command_deeds.specs.Deeds.{Deed, prepares, stores, plays}
-use Rattle.command_deeds.specs.Ends.{CommandAnswer, Due, answers, lacks, says}
+use Rattle.command_deeds.specs.Checks.{Check, after, file_at, unless}
+use Rattle.command_deeds.specs.Deeds.{Deed, stores, plays}
+use Rattle.command_deeds.specs.Ends.{Due, answers, says}
+use Rattle.command_deeds.specs.World.{World}
 use Rattle.command_deeds.specs.declared.launch.Launch.{Launch}
 
 -- how a machine is started: the name that is its first argument, its options, and the moment
@@ -44,7 +48,8 @@ GivenFile = Text × List ℕ
 abbrev pub arguments_of : Plan → List Text
 arguments_of plan = plan.name ∷ plan.session.arguments
 
--- how many bytes the argument block has with the first argument that does not fit, of which there may be 4,096
+-- how many bytes the argument block has with the first argument that does not fit, of which there
+-- may be 4,096
 abbrev pub too_long : List Text → List Text → Option ℕ
 too_long before [] = None
 too_long before (text ∷ texts) =
@@ -52,46 +57,41 @@ too_long before (text ∷ texts) =
     then Some (block_length (before ++ text ∷ []))
     else too_long (before ++ text ∷ []) texts
 
--- The files that a guest finds, loaded and added one after the other; or the answer where one is not there, or does not fit the blocks.
-abbrev pub files_for : Files → ℕ → ℕ → List GivenFile → List Text
-    → Result (List GivenFile) CommandAnswer
+-- the arguments of a guest, if they fit
+abbrev pub arguments_for : Plan → Check (List Text)
+arguments_for plan = unless (too_long [] (arguments_of plan)) done.ArgsTooLong (arguments_of plan)
+
+-- files, if a disk of so many blocks holds them
+abbrev pub on_disk : ℕ → List GivenFile → Check (List GivenFile)
+on_disk blocks files = if nat_lt blocks (blocks_needed files)
+    then Err (says (done.FilesTooLarge (blocks_needed files))) else Ok files
+
+-- files that a guest finds, which are loaded and added one after the other
+abbrev pub files_for : Files → ℕ → ℕ → List GivenFile → List Text → Check (List GivenFile)
 files_for files blocks word found [] = Ok found
-files_for files blocks word found (name ∷ names) = elim (files name) [
-  | None ↦ Err (lacks word name)
-  | Some bytes ↦
-      if nat_lt blocks (blocks_needed (found ++ (name, bytes) ∷ [])) then Err
-      (says (done.FilesTooLarge (blocks_needed (found ++ (name, bytes) ∷ []))))
-      else files_for files blocks word (found ++ (name, bytes) ∷ []) names
-]
+files_for files blocks word found (name ∷ names) =
+    after (file_at files word name) (λ bytes.
+    after (on_disk blocks (found ++ (name, bytes) ∷ [])) (λ more.
+    files_for files blocks word more names))
 
-abbrev pub found_for : Files → Session → Result (List GivenFile) CommandAnswer
-found_for files session = files_for files session.disk session.with.word [] session.with.names
+-- the files of --with
+abbrev pub session_files : Files → Session → Check (List GivenFile)
+session_files files session = files_for files session.disk session.with.word [] session.with.names
 
-abbrev pub IsDueByFiles : Result (List GivenFile) CommandAnswer → (List GivenFile → Due → Type 0)
-    → Due → Type 0
-IsDueByFiles (Ok found) IsDueWith due = IsDueWith found due
-IsDueByFiles (Err answer) IsDueWith due = due ≡ answers answer
-
-abbrev pub IsDueByArgs : Option ℕ → Result (List GivenFile) CommandAnswer
-    → (List GivenFile → Due → Type 0) → Due → Type 0
-IsDueByArgs None found IsDueWith due = IsDueByFiles found IsDueWith due
-IsDueByArgs (Some n) found IsDueWith due = due ≡ answers (says (done.ArgsTooLong n))
-
--- the arguments and the files of a guest, and then what is due with these
-abbrev pub IsDueOfSession : Plan → (List GivenFile → Due → Type 0) → Files → Due → Type 0
-IsDueOfSession plan IsDueWith files due =
-    IsDueByArgs (too_long [] (arguments_of plan)) (found_for files plan.session) IsDueWith due
+-- the arguments of a guest fit, and the files that it finds are there and fit
+abbrev pub found_for : Plan → Files → Check (List GivenFile)
+found_for plan files = after (arguments_for plan) (λ arguments. session_files files plan.session)
 
 -- ---- the run, and the files that are kept
 
 -- keeping one file of a guest, if it has one of this name
-abbrev pub keeps : GuestFiles → Text → Option ℕ → Deed
-keeps files name None = prepares
-keeps files name (Some n) = stores name (bytes_at files n)
+abbrev pub keeps : GuestFiles → Text → Option ℕ → List Deed
+keeps files name None = []
+keeps files name (Some n) = stores name (bytes_at files n) ∷ []
 
 -- the files of a guest that are kept, of these names, those that it has
 abbrev pub kept : GuestFiles → List Text → List Deed
-kept files names = map (λ name. keeps files name (node_named files name)) names
+kept files names = flat_map (λ name. keeps files name (node_named files name)) names
 
 -- the answer of a run's end; a run that waits has none, and over this system none does
 abbrev pub answer_of : Outcome → Option Done
@@ -119,8 +119,8 @@ abbrev pub IsDueOfHeld : {S : Type 0} → ℕ → (S → Turn S) → S → Held 
 IsDueOfHeld steps turn s unix keep input due = (pieces : List (List ℕ))
     × (due ≡ of_runs turn steps (λ n. run_over turn n s unix input pieces) keep)
 
--- The run of a machine from a state for so many steps, over these files and what input has left, where that is told, or else over some
--- pieces of it, of which one comes before each call.
+-- The run of a machine from a state for so many steps, over these files and what input has left,
+-- where that is told, or else over some pieces of it, of which one comes before each call.
 abbrev pub run_for : {S : Type 0} → ℕ → (S → Turn S) → S → Plan → List GivenFile → Option (List ℕ)
     → List (List ℕ) → Run S System
 run_for steps turn s plan found (Some input) pieces =
@@ -129,19 +129,30 @@ run_for steps turn s plan found None pieces =
     run_arriving turn steps s (start plan.session.disk plan.moment found (arguments_of plan) [])
     pieces
 
-abbrev pub IsDueOfSteps : {S : Type 0} → ℕ → (S → Turn S) → S → Plan → Option (List ℕ)
-    → List GivenFile → Due → Type 0
-IsDueOfSteps steps turn s plan input found due =
-    (pieces : List (List ℕ))
-    × (due ≡ of_runs turn steps (λ n. run_for n turn s plan found input pieces)
-    plan.session.keep.names)
+-- what is due of this run for the steps of its session
+abbrev pub session_run : {S : Type 0} → (S → Turn S) → S → Plan → List GivenFile → Option (List ℕ)
+    → List (List ℕ) → Due
+session_run turn s plan found input pieces =
+    of_runs turn plan.session.steps (λ n. run_for n turn s plan found input pieces)
+    plan.session.keep.names
 
--- the arguments and the files of a machine, and then its run for the steps of its session
-abbrev pub IsDueOfPlay : {S : Type 0} → (S → Turn S) → S → Plan → Files → Option (List ℕ) → Due
-    → Type 0
-IsDueOfPlay turn s plan files input due =
-    IsDueOfSession plan (IsDueOfSteps plan.session.steps turn s plan input) files due
+-- What is due of a machine that is started so.
+pub record IsDueOfPlay {S : Type 0} (turn : S → Turn S) (s : S) (plan : Plan) (w : World)
+    (due : Due) : Type 0 where
+  -- the files of --with: those of the shelf, where it tells them
+  pub files : Files
+  pub agree : AgreeWith w.shelf.told files
+  -- the arguments fit, and the files are there and fit
+  pub found : Check (List GivenFile)
+  pub found_is : found ≡ found_for plan files
+  -- pieces of input, of which one comes before each call where it does not tell what it has left
+  pub pieces : List (List ℕ)
+  -- the answer, or the run
+  pub refused : IfErr found (λ answer. due ≡ answers answer)
+  pub done : IfOk found (λ given. due ≡ session_run turn s plan given w.input.told pieces)
 
--- the run of a machine on a system of its own: with 1,024 blocks, without files and input, and with its name as the one argument
+-- the run of a machine on a system of its own: with so many blocks, without files and input, and
+-- with its name as the one argument
 abbrev pub run_alone : {S : Type 0} → ℕ → (S → Turn S) → S → Text → ℕ → Run S System
-run_alone steps turn s name moment = run_of turn reply steps s (start 1024 moment [] (name ∷ []) [])
+run_alone steps turn s name moment =
+    run_of turn reply steps s (start BLOCKS moment [] (name ∷ []) [])

@@ -1,7 +1,7 @@
 -- What is seen of the outside, and how it changes.
 use Rattle.std.specs.Prelude.{◌≡◌, ℕ, List, MatchResult, Result}
 use Rattle.nv_outside.specs.Files.{Files, OthersStay, SameFiles, SetsFile}
-use Rattle.nv_outside.specs.Gains.{AppendsPart}
+use Rattle.nv_outside.specs.Gains.{AppendsProperPart}
 use Rattle.nv_outside.specs.declared.shelf.Shelf as shelf
 use Rattle.nv_outside.specs.declared.sink.Sink as sink
 use Rattle.nv_outside.specs.declared.source.Source as source
@@ -70,10 +70,11 @@ abbrev pub Writes : {E : Type 0} → Seen (List ℕ) → Seen (List ℕ) → Lis
 Writes old new text result =
     MatchResult result (λ done. Takes old new text) (λ failed. FailsIn old new text)
 
--- Writing was stopped: a front part of the text is written, and not all where output failed.
+-- Writing was stopped: a front part of the text is written, but not all.
 abbrev pub StopsPrint : Seen (List ℕ) → Seen (List ℕ) → List ℕ → Stop → Type 0
 StopsPrint old new text WriteFault = FailsIn old new text
-StopsPrint old new text NoMemory = AppendsPart old.told new.told text × (new.faults ≡ old.faults)
+StopsPrint old new text NoMemory = AppendsProperPart old.told new.told text
+    × (new.faults ≡ old.faults)
 StopsPrint old new text ReadFault = ⊥
 StopsPrint old new text ShelfFault = ⊥
 

@@ -12,11 +12,11 @@ use std::alloc::{AllocError, Global};
 use unix_calls::laws::begins_at_start;
 use unix_calls::{Unix, UnixError, play};
 
-/// The blocks of the disk.
-const BLOCKS: u32 = 1024;
+/// The blocks of the disk of a machine that runs alone.
+pub const BLOCKS: u32 = 1024;
 
-/// Runs a machine for so many steps on a system of its own: without files and input, with a name as its one argument. What it writes
-/// is dropped.
+/// Runs a machine for so many steps on a system of its own: without files and input, with a name as its one argument.
+/// What it writes is dropped.
 pub fn play_alone<M: Machine + Drop>(
     alloc: Global,
     name: &str,
@@ -50,7 +50,7 @@ pub fn play_alone<M: Machine + Drop>(
 /// A system without files, with one argument.
 fn alone(alloc: Global, name: &str, moment: u64) -> Result<Unix, AllocError>
     requires short { length name.now ≤ 64 }
-    ensures begins { IfOk result (λ unix. Begins unix 1024 moment [] (name.now ∷ [])) }
+    ensures begins { IfOk result (λ unix. Begins unix BLOCKS moment [] (name.now ∷ [])) }
 {
     let mut unix = Unix::new(alloc, BLOCKS, moment)?;
     match unix.add_arg(name) {

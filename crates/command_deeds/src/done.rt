@@ -1,3 +1,4 @@
+use crate::status;
 use nv_events::Fault;
 use nv_faults::{AsmFault, ElfFault, ImageFault, LinkFault, VerifyFault};
 
@@ -12,8 +13,7 @@ pub enum Done {
     Exited(i32),
     /// The guest program ended in this fault.
     Faulted(Fault),
-    /// The words are no command line: 1 where the first word is missing or no command, 2 where the other words are not those
-    /// of the command.
+    /// The words are no command line: `NO_COMMAND` or `NOT_LAWFUL`.
     Usage(u32),
     /// There is no file of the name that this word gives, counted from 0.
     NoInput(u32),
@@ -58,30 +58,36 @@ impl Done {
     ghost use Rattle.std.specs.Prelude.{◌≡◌};
     ghost use Rattle.command_deeds.specs.Line.{status_of};
 
-    /// The exit status of the process, in the manner of `sysexits.h`; a guest's own status counts modulo 256.
+    /// Of `Usage`: the first word is missing or no command.
+    pub const NO_COMMAND: u32 = 1;
+
+    /// Of `Usage`: the other words are not those of the command.
+    pub const NOT_LAWFUL: u32 = 2;
+
+    /// The exit status of the process; a guest's own status counts modulo 256.
     pub fn status(&self) -> u8
         ensures { result ≡ status_of self.now }
     {
         match *self {
+            Done::Good => status::GOOD,
             Done::Exited(status) => (status.cast_unsigned() % 256) as u8,
-            Done::Good => 0,
-            Done::Usage(_) => 64,
-            Done::ElfRefused(_) => 65,
-            Done::NoInput(_) => 66,
-            Done::ImageRefused(_) => 67,
-            Done::ArgsTooLong(_) => 68,
-            Done::FilesTooLarge(_) => 69,
-            Done::ClassRefused { .. } => 70,
-            Done::LinkRefused(_) => 71,
-            Done::VerifyRefused(_) => 72,
-            Done::AsmRefused(_) => 73,
-            Done::Spent => 78,
-            Done::ReadFault => 74,
-            Done::WriteFault => 75,
-            Done::ShelfFault => 76,
-            Done::NoMemory => 77,
-            Done::Faulted(_) => 79,
-            Done::Trapped(_) => 80,
+            Done::Faulted(_) => status::FAULTED,
+            Done::Usage(_) => status::USAGE,
+            Done::NoInput(_) => status::NO_INPUT,
+            Done::ElfRefused(_) => status::ELF_REFUSED,
+            Done::ImageRefused(_) => status::IMAGE_REFUSED,
+            Done::ArgsTooLong(_) => status::ARGS_TOO_LONG,
+            Done::FilesTooLarge(_) => status::FILES_TOO_LARGE,
+            Done::AsmRefused(_) => status::ASM_REFUSED,
+            Done::ClassRefused { .. } => status::CLASS_REFUSED,
+            Done::LinkRefused(_) => status::LINK_REFUSED,
+            Done::VerifyRefused(_) => status::VERIFY_REFUSED,
+            Done::Trapped(_) => status::TRAPPED,
+            Done::Spent => status::SPENT,
+            Done::ReadFault => status::READ_FAULT,
+            Done::WriteFault => status::WRITE_FAULT,
+            Done::ShelfFault => status::SHELF_FAULT,
+            Done::NoMemory => status::NO_MEMORY,
         }
     }
 }

@@ -1,6 +1,7 @@
-ghost use Rattle.std.specs.Prelude.{◌≡◌, ◌∷◌, [], Some, None};
+ghost use Rattle.std.specs.Prelude.{◌≡◌, ◌∷◌, []};
+ghost use Rattle.command_deeds.specs.Checks.{bytes_of, file_at};
 ghost use Rattle.command_deeds.specs.Deeds.{stores};
-ghost use Rattle.command_deeds.specs.Ends.{Gives, ShelfDoes, lacks};
+ghost use Rattle.command_deeds.specs.Ends.{Gives, ShelfDoes};
 ghost use Rattle.command_deeds.specs.World.{shelf_seen};
 
 use crate::ending::Ending;
@@ -15,8 +16,7 @@ pub fn load<H: Shelf>(
     name: &str,
     shelf: &mut H,
 ) -> Result<Vec<u8>, Ending>
-    ensures gives { Gives (λ files file. files name.now ≡ Some file.items)
-        (λ files answer. (files name.now ≡ None) × (answer ≡ lacks word name.now))
+    ensures gives { Gives (λ files check. bytes_of check ≡ file_at files word name.now)
         (shelf_seen H.Shelf shelf.old) (shelf_seen H.Shelf shelf.new) result }
 {
     match shelf.load(alloc, name)? {

@@ -1,4 +1,4 @@
-ghost use Rattle.std.specs.Prelude.{◌≡◌, ◌∷◌, [], Option, ℕ, map, option_map, string_bytes};
+ghost use Rattle.std.specs.Prelude.{◌≡◌, Option, ℕ, map, option_map, string_bytes};
 ghost use Rattle.unix_files.specs.Files.{Files as GuestFiles, bytes_at, node_named};
 ghost use Rattle.command_deeds.specs.Ends.{ShelfDoes};
 ghost use Rattle.command_deeds.specs.World.{shelf_seen};
@@ -28,20 +28,18 @@ pub fn keep_files<H: Shelf>(
 
 /// Stores the file of this name, if a guest has one.
 fn keep_file<H: Shelf>(alloc: Global, unix: &Unix, name: &str, shelf: &mut H) -> Result<(), Stop>
-    ensures keeps { ShelfDoes (keeps unix.now.files name.now (node_named unix.now.files name.now)
-        ∷ []) (shelf_seen H.Shelf shelf.old) (shelf_seen H.Shelf shelf.new) result }
+    ensures keeps { ShelfDoes (keeps unix.now.files name.now (node_named unix.now.files name.now))
+        (shelf_seen H.Shelf shelf.old) (shelf_seen H.Shelf shelf.new) result }
 {
-    match unix.file(alloc, name.as_bytes()) {
-        Ok(found) => store_found(name, &found, shelf),
-        Err(_) => Err(Stop::NoMemory),
-    }
+    let found = unix.file(alloc, name.as_bytes())?;
+    store_found(name, &found, shelf)
 }
 
 /// Stores what a guest has under a name.
 fn store_found<H: Shelf>(name: &str, found: &Option<Vec<u8>>, shelf: &mut H) -> Result<(), Stop>
     ensures keeps { (files : GuestFiles) (node : Option ℕ)
         → option_map (λ v. v.items) found.now ≡ option_map (bytes_at files) node
-        → ShelfDoes (keeps files name.now node ∷ []) (shelf_seen H.Shelf shelf.old)
+        → ShelfDoes (keeps files name.now node) (shelf_seen H.Shelf shelf.old)
         (shelf_seen H.Shelf shelf.new) result }
 {
     match found {

@@ -1,5 +1,6 @@
-//! What every command of the program has in common: how it ends and the line that says so, its deeds, the loading and storing of whole
-//! files; and the run of any machine: its system made ready with arguments and files, the run, and the files that are kept.
+//! What every command of the program has in common: how it ends and the line that says so, its deeds, the loading and
+//! storing of whole files; and the run of any machine: its system made ready with arguments and files, the run, and the
+//! files that are kept.
 #![tactic(auto)]
 
 mod alone;
@@ -16,9 +17,10 @@ mod outcomes;
 mod outside;
 mod playing;
 mod readying;
+pub mod status;
 mod stop;
 
-pub use alone::play_alone;
+pub use alone::{BLOCKS, play_alone};
 pub use digits::{decimal_long, hexadecimal};
 pub use done::Done;
 pub use ending::Ending;

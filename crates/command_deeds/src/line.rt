@@ -124,10 +124,7 @@ fn write_text<E: Sink>(sink: &mut E, text: &[u8]) -> Result<(), Failed>
     ensures writes { Writes (output_seen E.Sink sink.old) (output_seen E.Sink sink.new)
         text.now result }
 {
-    match write_all(sink, text) {
-        Ok(()) => Ok(()),
-        Err(Failed) => Err(Failed),
-    }
+    write_all(sink, text)
 }
 
 /// Writes pieces one after the other. After a failure the sink has taken a front part of them.

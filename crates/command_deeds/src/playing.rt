@@ -1,7 +1,8 @@
 //! The run of any machine on its system, with arguments and files.
 ghost use Rattle.std.specs.Prelude.{◌≡◌, ◌≤◌, false};
 ghost use Rattle.command_words.specs.Limits.{AreFileNames};
-ghost use Rattle.command_deeds.specs.Ends.{ByFiles, Ends};
+ghost use Rattle.command_deeds.specs.Ends.{Ends, WorksOn, ended};
+ghost use Rattle.command_deeds.specs.World.{SameParts, seen};
 ghost use Rattle.command_deeds.specs.Runs.{IsDueOfHeld, IsDueOfPlay, plan_of};
 
 use crate::done::Done;
@@ -29,7 +30,7 @@ pub fn play_session<M: Machine + Drop, H: Shelf, S: Source, O: Sink, E: Sink>(
     requires disk { launch.now.session.now.disk ≤ 65536 }
     requires names { AreFileNames launch.now.session.now.with.names }
     ensures ends { Ends H.Shelf S.Source O.Sink E.Sink
-        (ByFiles (IsDueOfPlay M.turn (M.state machine) (plan_of launch.now)))
+        (IsDueOfPlay M.turn (M.state machine) (plan_of launch.now))
         outside.old outside.new result }
 {
     begins_at_start();
@@ -48,9 +49,11 @@ pub fn play_for<M: Machine + Drop, H: Shelf, S: Source, O: Sink, E: Sink>(
     outside: &mut Outside<'_, H, S, O, E>,
 ) -> Result<Done, Ending>
     requires going { M.has_ended machine ≡ false }
-    ensures ends { Ends H.Shelf S.Source O.Sink E.Sink
+    ensures same { SameParts outside.old outside.new }
+    ensures works { WorksOn
         (λ w. IsDueOfHeld steps M.turn (M.state machine) unix keep.now.names w.input.told)
-        outside.old outside.new result }
+        (seen H.Shelf S.Source O.Sink E.Sink outside.old)
+        (seen H.Shelf S.Source O.Sink E.Sink outside.new) (ended result) }
 {
     let mut machine = machine;
     let mut unix = unix;

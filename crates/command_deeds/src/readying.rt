@@ -3,25 +3,23 @@ ghost use Rattle.command_words.specs.Limits.{AreFileNames};
 ghost use Rattle.unix_calls.specs.Starting.{IsOpenToFiles};
 ghost use Rattle.command_deeds.specs.Ends.{Gives};
 ghost use Rattle.command_deeds.specs.World.{shelf_seen};
-ghost use Rattle.command_deeds.specs.Readying.{AddsArgs, AddsFiles, HasNoFiles, IsReady, IsUnready, ending_of};
+ghost use Rattle.command_deeds.specs.Readying.{AddsArgs, AddsFiles, HasNoFiles, IsReadied};
 ghost use Rattle.command_deeds.specs.Runs.{plan_of};
 
-use crate::done::Done;
 use crate::ending::Ending;
 use crate::files::load;
 use crate::launch::Launch;
-use crate::stop::Stop;
 use nv_outside::Shelf;
 use std::alloc::Global;
-use unix_calls::{Unix, UnixError};
+use unix_calls::Unix;
 
-/// Makes the system of a guest that is to be run: with its arguments, of which the first is the name of its launch, and the files that
-/// it finds.
+/// Makes the system of a guest that is to be run: with its arguments, of which the first is the name of its launch, and
+/// the files that it finds.
 pub fn ready<H: Shelf>(alloc: Global, launch: &Launch<'_>, shelf: &mut H) -> Result<Unix, Ending>
     requires disk { launch.now.session.now.disk ≤ 65536 }
     requires names { AreFileNames launch.now.session.now.with.names }
-    ensures gives { Gives (IsReady (plan_of launch.now)) (IsUnready (plan_of launch.now))
-        (shelf_seen H.Shelf shelf.old) (shelf_seen H.Shelf shelf.new) result }
+    ensures gives { Gives (IsReadied (plan_of launch.now)) (shelf_seen H.Shelf shelf.old)
+        (shelf_seen H.Shelf shelf.new) result }
     ensures few { IfOk result (λ unix. length unix.ahead ≤ 4096) }
 {
     let session = launch.session;
@@ -47,21 +45,8 @@ fn add_arguments(unix: &mut Unix, name: &str, texts: &[String]) -> Result<(), En
 fn add_argument(unix: &mut Unix, text: &str) -> Result<(), Ending>
     ensures adds { AddsArgs (text.now ∷ []) unix.old unix.new result }
 {
-    match unix.add_arg(text) {
-        Ok(()) => Ok(()),
-        Err(error) => Err(refused_addition(error)),
-    }
-}
-
-/// What an argument or a file that was not added comes to.
-fn refused_addition(error: UnixError) -> Ending
-    ensures { result ≡ ending_of error }
-{
-    match error {
-        UnixError::ArgsTooLong(bytes) => Ending::Refused(Done::ArgsTooLong(bytes)),
-        UnixError::FilesTooLarge(blocks) => Ending::Refused(Done::FilesTooLarge(blocks)),
-        UnixError::NoMemory => Ending::Stopped(Stop::NoMemory),
-    }
+    unix.add_arg(text)?;
+    Ok(())
 }
 
 /// Loads the files that a guest finds, one after the other, and adds them. `word` is the word that names them.
@@ -97,8 +82,6 @@ fn add_file<H: Shelf>(
         (name.now ∷ []) unix.old unix.new result }
 {
     let file = load(alloc, word, name, shelf)?;
-    match unix.add_file(name.as_bytes(), file.as_slice()) {
-        Ok(()) => Ok(()),
-        Err(error) => Err(refused_addition(error)),
-    }
+    unix.add_file(name.as_bytes(), file.as_slice())?;
+    Ok(())
 }

@@ -14,11 +14,10 @@ returns-in_err-outcome g c =
     let w = seen g.H.Shelf g.S.Source g.O.Sink g.E.Sink outside in
     let u = world w.shelf (input_seen g.S.Source c.play.new.input) (output_seen g.O.Sink c.play.new.out) (output_seen g.E.Sink c.play.new.err) in
     record {
-      ends = (
-        (refl, refl, refl, refl),
-        rw (p.1, p.2) (run_failed c.args.steps g.M.Machine.turn (g.M.Machine.state c.args.machine) c.args.unix c.play.new.unix w u
-            c.in_err-outcome.field-0.0 c.args.keep.now.names c.in_err-outcome.ensures.breaks (same_shelf w.shelf)),
-      );
+      same = (refl, refl, refl, refl);
+      works =
+          rw (p.1, p.2) (run_failed c.args.steps g.M.Machine.turn (g.M.Machine.state c.args.machine) c.args.unix c.play.new.unix w u
+          c.in_err-outcome.field-0.0 c.args.keep.now.names c.in_err-outcome.ensures.breaks (same_shelf w.shelf));
     }
 
 pub returns-in_err-keep_files : goal.returns-in_err-keep_files
@@ -33,13 +32,12 @@ returns-in_err-keep_files g c =
     let played = run_played c.args.steps g.M.Machine.turn (g.M.Machine.state c.args.machine) (g.M.Machine.state c.play.new.machine)
     c.args.unix c.play.new.unix w u outcome keep c.in_ok-outcome.ensures.plays (same_shelf w.shelf) in
     record {
-      ends = (
-        (refl, refl, refl, refl),
-        rw (p.1, p.2) (run_not_kept c.args.steps g.M.Machine.turn (g.M.Machine.state c.args.machine) c.args.unix c.play.new.unix w u v keep
-            outcome stop played
-            (subst (λ names. StopsIn (kept c.play.new.unix.files names) u v stop) c.as_slice.ensures
-            (c.in_err-keep_files.ensures.keeps u.input u.out u.err))),
-      );
+      same = (refl, refl, refl, refl);
+      works =
+          rw (p.1, p.2) (run_not_kept c.args.steps g.M.Machine.turn (g.M.Machine.state c.args.machine) c.args.unix c.play.new.unix w u v keep
+          outcome stop played
+          (subst (λ names. StopsIn (kept c.play.new.unix.files names) u v stop) c.as_slice.ensures
+          (c.in_err-keep_files.ensures.keeps u.input u.out u.err)));
     }
 
 pub returns : goal.returns
@@ -52,10 +50,9 @@ returns g c =
     let played = run_played c.args.steps g.M.Machine.turn (g.M.Machine.state c.args.machine) (g.M.Machine.state c.play.new.machine)
     c.args.unix c.play.new.unix w u outcome keep c.in_ok-outcome.ensures.plays (same_shelf w.shelf) in
     record {
-      ends = (
-        (refl, refl, refl, refl),
-        run_kept c.args.steps g.M.Machine.turn (g.M.Machine.state c.args.machine) c.args.unix c.play.new.unix w u v keep outcome
-            c.answer_of.result played c.answer_of.ensures (subst (λ names. DoesAll (kept c.play.new.unix.files names) u v) c.as_slice.ensures
-            (c.in_ok-keep_files.ensures.keeps u.input u.out u.err)),
-      );
+      same = (refl, refl, refl, refl);
+      works =
+          run_kept c.args.steps g.M.Machine.turn (g.M.Machine.state c.args.machine) c.args.unix c.play.new.unix w u v keep outcome
+          c.answer_of.result played c.answer_of.ensures (subst (λ names. DoesAll (kept c.play.new.unix.files names) u v) c.as_slice.ensures
+          (c.in_ok-keep_files.ensures.keeps u.input u.out u.err));
     }

@@ -23,7 +23,7 @@ loop-name-preserved g c =
     files_more (shelf_seen g.H.Shelf c.args.shelf.now) (shelf_seen g.H.Shelf c.loop-name.shelf)
     (shelf_seen g.H.Shelf c.add_file.new.shelf) c.args.word c.args.names.now c.loop-name.name-index c.name-item.result c.as_str.result.now
     c.args.unix.now c.loop-name.unix c.add_file.new.unix tt (Ok tt)
-    c.loop-name-test.true c.name-item.is c.as_str.ensures.value c.loop-name.invariant c.in_ok-add_file.ensures.adds
+    c.loop-name-test.true c.name-item.is c.as_str.ensures.value c.requires.names.different c.loop-name.invariant c.in_ok-add_file.ensures.adds
 
 pub returns-in_err-add_file : goal.returns-in_err-add_file
 returns-in_err-add_file g c =
@@ -35,7 +35,7 @@ returns-in_err-add_file g c =
           (files_more (shelf_seen g.H.Shelf c.args.shelf.now) (shelf_seen g.H.Shelf c.loop-name.shelf)
           (shelf_seen g.H.Shelf c.add_file.new.shelf) c.args.word c.args.names.now c.loop-name.name-index c.name-item.result c.as_str.result.now
           c.args.unix.now c.loop-name.unix c.add_file.new.unix tt (Err e)
-          c.loop-name-test.true c.name-item.is c.as_str.ensures.value c.loop-name.invariant c.in_err-add_file.ensures.adds);
+          c.loop-name-test.true c.name-item.is c.as_str.ensures.value c.requires.names.different c.loop-name.invariant c.in_err-add_file.ensures.adds);
     })
 
 pub returns : goal.returns
