@@ -1,46 +1,58 @@
--- What is due of a set of classes, stage by stage.
-use Rattle.std.proofs.Common.{List, Option, Some, None, inl, inr, sym, subst}
-use Rattle.nv_outside.specs.Files.{Files}
+-- The checks of a set of classes, stage by stage.
+use Rattle.std.proofs.Common.{◌≡◌, ◌∙◌, ℕ, List, Option, Some, None, Result, Ok, Err, refl, sym, ap, subst}
+use Rattle.nv_outside.specs.Files.{Files, SameFiles}
 use Rattle.nv_faults.specs.declared.link_fault.LinkFault.{LinkFault}
 use Rattle.command_words.specs.declared.named.Named.{Named}
+use Rattle.jvm_program.specs.Typing.{AllTyped}
 use Rattle.jvm_code.specs.declared.class.Class.{Class}
 use Rattle.name_resolution.specs.Faults.{link_fault}
 use Rattle.jvm_link.specs.Linking.{program_of}
-use Rattle.class_set.specs.ClassSets.{class_set}
+use Rattle.jvm_link.specs.declared.linked.Linked.{Linked}
+use Rattle.class_set.specs.ClassSets.{IsLoaded, class_set}
 use Rattle.class_set.specs.declared.loaded.Loaded.{Loaded}
-use Rattle.class_set.specs.declared.loaded.Loaded.TheVariants.{NoFile, Faulty, Classes}
+use Rattle.class_set.specs.declared.loaded.Loaded.TheVariants.{Classes}
 use Rattle.type_inference.specs.Unique.{AllTyped-from_least}
 use Rattle.type_verifier.specs.declared.verified.Verified.{Verified}
-use Rattle.command_deeds.specs.Ends.{CommandAnswer, Due, answers}
-use Rattle.command_guest.specs.Classes.{IsAcceptedSet, IsDueByLink, IsDueOfClasses, IsDueOfSet, IsRefusedSet}
+use Rattle.command_deeds.proofs.DeedLemmas.{makes_as, makes_over}
+use Rattle.command_deeds.specs.Checks.{Behind, Check, unless}
+use Rattle.command_deeds.specs.Ends.{Gives, Makes, says}
+use Rattle.command_deeds.specs.World.{Seen}
+use Rattle.command_deeds.specs.declared.done.Done.TheVariants.{LinkRefused}
+use Rattle.command_deeds.specs.declared.ending.Ending.{Ending}
+use Rattle.command_guest.specs.Classes.{IsAccepted, IsAcceptedLoaded, IsAcceptedSet, IsTypeChecked, classes_of}
 
-abbrev Nothing : List Class → Due → Type 0
-Nothing classes due = ⊥
+-- verified classes are typed
+pub type_checked : (classes : List Class) (v : Verified) → v.linked.classes ≡ classes → IsTypeChecked classes (Ok v.linked.classes)
+type_checked classes v is =
+    (is, subst (λ cs. AllTyped (program_of cs)) is (AllTyped-from_least (program_of v.linked.classes) v.typed))
 
-refused_by_link : (found : Option LinkFault) (IsDueWith : List Class → Due → Type 0) (classes : List Class) (due : Due)
-    → IsDueByLink found Nothing classes due → IsDueByLink found IsDueWith classes due
-refused_by_link None IsDueWith classes due (inl h) = absurd h.1
-refused_by_link None IsDueWith classes due (inr h) = inr h
-refused_by_link (Some fault) IsDueWith classes due h = h
+-- classes that do not link
+pub link_refused : (classes : List Class) (fault : LinkFault) → link_fault classes ≡ Some fault → IsAccepted classes (Err (says (LinkRefused fault)))
+link_refused classes fault e =
+    subst (λ found. Behind (unless found LinkRefused classes) IsTypeChecked (Err (says (LinkRefused fault)))) (sym e) refl
 
--- what is due of a set that is refused is the same whatever were to be done with its classes
-refused_loaded : (name : Named) (IsDueWith : List Class → Due → Type 0) (loaded : Loaded) (due : Due) → IsDueOfSet name Nothing loaded due
-    → IsDueOfSet name IsDueWith loaded due
-refused_loaded name IsDueWith NoFile due h = h
-refused_loaded name IsDueWith (Faulty number fault) due h = h
-refused_loaded name IsDueWith (Classes classes) due h = refused_by_link (link_fault classes) IsDueWith classes due h
+-- classes that link, and were verified or not
+pub linked_makes : (classes : List Class) (linked : Linked) (result : Result Verified Ending) → linked.classes ≡ classes
+    → Makes (λ check. IsTypeChecked linked.classes (classes_of check)) result → Makes (λ check. IsAccepted classes (classes_of check)) result
+linked_makes classes linked result is makes =
+    makes_as (λ check. IsTypeChecked linked.classes (classes_of check)) (λ check. IsAccepted classes (classes_of check)) result
+    (λ check h. subst (λ cs. IsAccepted cs (classes_of check)) is
+    (subst (λ found. Behind (unless found LinkRefused linked.classes) IsTypeChecked (classes_of check)) (sym linked.faultless) h)) makes
 
-pub refused_set : (name : Named) (IsDueWith : List Class → Due → Type 0) (files : Files) (answer : CommandAnswer) → IsRefusedSet name files answer
-    → IsDueOfSet name IsDueWith (class_set files name.text) (answers answer)
-refused_set name IsDueWith files answer h = refused_loaded name IsDueWith (class_set files name.text) (answers answer) h
+-- the classes of a set that was loaded
+pub classes_make : (name : Named) (set : Loaded) (classes these : List Class) (result : Result Verified Ending) → set ≡ Classes classes → these ≡ classes
+    → Makes (λ check. IsAccepted these (classes_of check)) result → Makes (λ check. IsAcceptedLoaded name set (classes_of check)) result
+classes_make name set classes these result is same makes =
+    makes_as (λ check. IsAccepted these (classes_of check)) (λ check. IsAcceptedLoaded name set (classes_of check)) result
+    (λ check h. subst (λ s. IsAcceptedLoaded name s (classes_of check)) (sym is) (subst (λ cs. IsAccepted cs (classes_of check)) same h)) makes
 
--- what is due of verified classes
-pub verified_due : (IsDueWith : List Class → Due → Type 0) (v : Verified) (due : Due) → IsDueWith v.linked.classes due
-    → IsDueOfClasses IsDueWith v.linked.classes due
-verified_due IsDueWith v due h =
-    subst (λ found. IsDueByLink found IsDueWith v.linked.classes due) (sym v.linked.faultless)
-    (inl (AllTyped-from_least (program_of v.linked.classes) v.typed, h))
-
-pub accepted_set : (name : Named) (IsDueWith : List Class → Due → Type 0) (files : Files) (v : Verified) (due : Due) → IsAcceptedSet name files v
-    → IsDueWith v.linked.classes due → IsDueOfSet name IsDueWith (class_set files name.text) due
-accepted_set name IsDueWith files v due is h = subst (λ set. IsDueOfSet name IsDueWith set due) (sym is) (verified_due IsDueWith v due h)
+-- a set that was loaded is that of its name
+pub set_gives : (name : Named) (text : List ℕ) (shelf now : Seen Files) (set : Loaded) (result : Result Verified Ending) → text ≡ name.text
+    → IsLoaded shelf.told text set → SameFiles shelf.told now.told → now.faults ≡ shelf.faults
+    → Makes (λ check. IsAcceptedLoaded name set (classes_of check)) result
+    → Gives (λ files check. IsAcceptedSet name files (classes_of check)) shelf now result
+set_gives name text shelf now set result is l same sound makes =
+    makes_over (λ files. set ≡ class_set files name.text) (λ check. IsAcceptedLoaded name set (classes_of check))
+    (λ files check. IsAcceptedSet name files (classes_of check)) shelf now result
+    (record { files = l.files; agree = l.agree; same = (same, sound); is = l.is ∙ ap (class_set l.files) is })
+    (λ files check e h. subst (λ s. IsAcceptedLoaded name s (classes_of check)) e h) makes

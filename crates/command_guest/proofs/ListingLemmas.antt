@@ -1,12 +1,15 @@
 -- How far the writing of a listing has come.
-use Rattle.std.proofs.Common.{◌≡◌, ℕ, suc, ◌+◌, ◌-◌, ◌%◌, ◌^◌, ◌<◌, List, [], ◌++◌, length, drop, get_or}
+use Rattle.std.proofs.Common.{◌≡◌, ℕ, suc, ◌+◌, ◌-◌, ◌%◌, ◌^◌, ◌<◌, List, [], ◌∷◌, ◌++◌, length, length-append, drop, get_or, codes}
 use Rattle.std.proofs.Common.{Option, sym, ap, refl, ◌∙◌, append_assoc, add-one, drop-cons, subst, arith}
 use Rattle.elf_reader.specs.declared.range.Range.{Range}
-use Rattle.nv_outside.specs.Gains.{AppendsPart}
+use Rattle.nv_outside.specs.Gains.{AppendsProperPart}
 use Rattle.command_deeds.specs.World.{FailsIn, Seen, StopsPrint, Takes}
 use Rattle.command_deeds.specs.declared.stop.Stop.{Stop}
 use Rattle.command_deeds.specs.declared.stop.Stop.TheVariants.{ReadFault, WriteFault, ShelfFault, NoMemory}
-use Rattle.command_guest.specs.Listing.{line_at, run_lines, runs_lines}
+use Rattle.command_deeds.specs.Line.{hex_word, joined}
+use Rattle.mips_decode.specs.Table.{inst}
+use Rattle.mips_decode.specs.Text.{text_of}
+use Rattle.command_guest.specs.Listing.{line_at, run_lines, runs_lines, word_line}
 use Rattle.nv_outside.proofs.SeenLemmas.{fails-before, fails-behind}
 use Rattle.nv_outside.proofs.WriteLemmas.{Appends-both, Appends-nothing}
 
@@ -24,13 +27,14 @@ leads_more old mid new all rest piece later e j took = record {
 }
 
 leads_part : (old mid new : Seen (List ℕ)) (all rest piece later : List ℕ) → rest ≡ piece ++ later → Leads old mid all rest
-    → AppendsPart mid.told new.told piece → AppendsPart old.told new.told all
+    → AppendsProperPart mid.told new.told piece → AppendsProperPart old.told new.told all
 leads_part old mid new all rest piece later e j p = record {
   front = j.gained ++ p.front;
+  next = p.next;
   rest = p.rest ++ later;
   splits =
-      j.splits ∙ ap (λ z. j.gained ++ z) (e ∙ ap (λ z. z ++ later) p.splits ∙ append_assoc p.front p.rest later)
-      ∙ sym (append_assoc j.gained p.front (p.rest ++ later));
+      j.splits ∙ ap (λ z. j.gained ++ z) (e ∙ ap (λ z. z ++ later) p.splits ∙ append_assoc p.front (p.next ∷ p.rest) later)
+      ∙ sym (append_assoc j.gained p.front (p.next ∷ (p.rest ++ later)));
   gained = Appends-both old.told mid.told new.told j.gained p.front j.took.0 p.gained;
 }
 
@@ -43,9 +47,22 @@ leads_stopped old mid new all rest piece later NoMemory e j p = (leads_part old 
 leads_stopped old mid new all rest piece later ReadFault e j p = absurd p
 leads_stopped old mid new all rest piece later ShelfFault e j p = absurd p
 
--- nothing was written
-pub none_printed : (old : Seen (List ℕ)) (text : List ℕ) → StopsPrint old old text NoMemory
-none_printed old text = (record { front = []; rest = text; splits = refl; gained = Appends-nothing old.told }, refl)
+-- nothing was written of a text that is not empty
+none_of : (old : Seen (List ℕ)) (text : List ℕ) → 0 < length text → StopsPrint old old text NoMemory
+none_of old [] some = absurd (grind (arith, some))
+none_of old (next ∷ rest) some = (record { front = []; next = next; rest = rest; splits = refl; gained = Appends-nothing old.told }, refl)
+
+hex_long : (word : ℕ) → length (hex_word word) ≡ 8
+unfolding hex_word
+hex_long word = refl
+
+some_before : (xs ys : List ℕ) → length xs ≡ 8 → 0 < length (xs ++ ys)
+some_before xs ys long = omega (arith, length-append xs ys, long)
+
+pub none_printed : (old : Seen (List ℕ)) (at word : ℕ) → StopsPrint old old (word_line at word) NoMemory
+none_printed old at word =
+    let behind : List ℕ = joined (codes ": " ∷ hex_word word ∷ codes " " ∷ text_of (inst word) at ∷ codes "\n" ∷ []) in
+    none_of old (word_line at word) (some_before (hex_word at) behind (hex_long at))
 
 one_less : (n i : ℕ) → i < n → n - i ≡ suc (n - (i + 1))
 one_less n i h = omega arith

@@ -1,7 +1,6 @@
 -- What the commands on classes are to do: a set is loaded, linked and verified, and then worked on.
-use Rattle.std.specs.Prelude.{◌≡◌, ◌⊎◌, ℕ, List, [], ◌∷◌, length, codes, decimal, Option, Some, None}
-use Rattle.nv_outside.specs.Files.{Files}
-use Rattle.nv_faults.specs.declared.link_fault.LinkFault.{LinkFault}
+use Rattle.std.specs.Prelude.{◌≡◌, ℕ, List, [], ◌∷◌, length, codes, decimal, Some, IfErr, IfOk, Ok, Err}
+use Rattle.nv_outside.specs.Files.{AgreeWith, Files}
 use Rattle.nv_faults.specs.declared.verify_fault.VerifyFault.{VerifyFault}
 use Rattle.command_words.specs.declared.named.Named.{Named}
 use Rattle.jvm_program.specs.Step.{loaded, loaded_turn}
@@ -14,54 +13,53 @@ use Rattle.class_set.specs.declared.loaded.Loaded.{Loaded}
 use Rattle.class_set.specs.declared.loaded.Loaded.TheVariants.{NoFile, Faulty, Classes}
 use Rattle.type_verifier.specs.Refusal.{IsAtFault}
 use Rattle.type_verifier.specs.declared.verified.Verified.{Verified}
+use Rattle.command_deeds.specs.Checks.{Behind, Check, after, shown, unless}
 use Rattle.command_deeds.specs.Deeds.{prints}
 use Rattle.command_deeds.specs.Ends.{CommandAnswer, Due, answers, lacks, says}
 use Rattle.command_deeds.specs.Line.{joined}
+use Rattle.command_deeds.specs.World.{World}
+use Rattle.command_deeds.specs.declared.done.Done.{Done}
 use Rattle.command_deeds.specs.declared.done.Done.TheVariants.{Good, ClassRefused, LinkRefused, VerifyRefused}
-use Rattle.command_deeds.specs.Runs.{IsDueOfPlay, Plan}
+use Rattle.command_deeds.specs.Runs.{GivenFile, Plan, found_for, session_run}
 
--- what is due where all methods of some classes are typed, or else the answer by the first that is not
-abbrev pub IsDueByTypes : (List Class → Due → Type 0) → List Class → Due → Type 0
-IsDueByTypes IsDueWith classes due =
-    (AllTyped (program_of classes) × IsDueWith classes due)
-    ⊎ ((fault : VerifyFault) × IsAtFault classes fault
-    × (due ≡ answers (says (VerifyRefused fault))))
+-- ---- the checks of a set
 
--- by the first fault of linking
-abbrev pub IsDueByLink : Option LinkFault → (List Class → Due → Type 0) → List Class → Due → Type 0
-IsDueByLink None IsDueWith classes due = IsDueByTypes IsDueWith classes due
-IsDueByLink (Some fault) IsDueWith classes due = due ≡ answers (says (LinkRefused fault))
+-- the classes of a set whose first class the words name, or why it was not loaded
+abbrev pub set_loaded : Named → Loaded → Check (List Class)
+set_loaded name NoFile = Err (lacks name.word (file_of name.text))
+set_loaded name (Faulty number fault) = Err (says (ClassRefused number fault.kind fault.at))
+set_loaded name (Classes classes) = Ok classes
 
--- what is due of classes, which are linked and verified
-abbrev pub IsDueOfClasses : (List Class → Due → Type 0) → List Class → Due → Type 0
-IsDueOfClasses IsDueWith classes due = IsDueByLink (link_fault classes) IsDueWith classes due
+abbrev pub set_named : Files → Named → Check (List Class)
+set_named files name = set_loaded name (class_set files name.text)
 
--- by what loading a set came to, whose first class the words name
-abbrev pub IsDueOfSet : Named → (List Class → Due → Type 0) → Loaded → Due → Type 0
-IsDueOfSet name IsDueWith NoFile due = due ≡ answers (lacks name.word (file_of name.text))
-IsDueOfSet name IsDueWith (Faulty number fault) due =
-    due ≡ answers (says (ClassRefused number fault.kind fault.at))
-IsDueOfSet name IsDueWith (Classes classes) due = IsDueOfClasses IsDueWith classes due
+-- classes link, or this is their first fault
+abbrev pub link_checked : List Class → Check (List Class)
+link_checked classes = unless (link_fault classes) LinkRefused classes
+
+-- all their methods are typed, or this is the first that is not
+abbrev pub IsTypeChecked : List Class → Check (List Class) → Type 0
+IsTypeChecked classes (Ok typed) = (typed ≡ classes) × AllTyped (program_of classes)
+IsTypeChecked classes (Err answer) = (fault : VerifyFault) × IsAtFault classes fault
+    × (answer ≡ says (VerifyRefused fault))
 
 -- ---- accepting classes
 
--- the classes are these, which link and are typed
-abbrev pub AreVerified : List Class → Verified → Type 0
-AreVerified classes verified = classes ≡ verified.linked.classes
+-- classes link and are typed
+abbrev pub IsAccepted : List Class → Check (List Class) → Type 0
+IsAccepted classes check = Behind (link_checked classes) IsTypeChecked check
 
--- the answer where they do not link, or one is not typed
-abbrev pub IsRefusal : List Class → CommandAnswer → Type 0
-IsRefusal classes answer = IsDueOfClasses (λ classes due. ⊥) classes (answers answer)
+-- the same of what loading a set came to, and of the set of a name
+abbrev pub IsAcceptedLoaded : Named → Loaded → Check (List Class) → Type 0
+IsAcceptedLoaded name set check =
+    Behind (after (set_loaded name set) link_checked) IsTypeChecked check
 
--- the same of the set of a name
-abbrev pub IsAcceptedSet : Named → Files → Verified → Type 0
-IsAcceptedSet name files verified = class_set files name.text ≡ Classes verified.linked.classes
+abbrev pub IsAcceptedSet : Named → Files → Check (List Class) → Type 0
+IsAcceptedSet name files check = IsAcceptedLoaded name (class_set files name.text) check
 
-abbrev pub IsRefusedLoaded : Named → Loaded → CommandAnswer → Type 0
-IsRefusedLoaded name set answer = IsDueOfSet name (λ classes due. ⊥) set (answers answer)
-
-abbrev pub IsRefusedSet : Named → Files → CommandAnswer → Type 0
-IsRefusedSet name files answer = IsRefusedLoaded name (class_set files name.text) answer
+-- the classes of what was verified
+abbrev pub classes_of : Check Verified → Check (List Class)
+classes_of check = shown (λ (verified : Verified). verified.linked.classes) check
 
 -- ---- `verify`
 
@@ -74,19 +72,53 @@ counts_line classes =
 abbrev pub counted : List Class → Due
 counted classes = record { deeds = prints (counts_line classes) ∷ []; answer = Some (says Good) }
 
--- what `verify` is to do with the set of a class
-abbrev pub IsDueOfVerify : Named → Files → Option (List ℕ) → Due → Type 0
-IsDueOfVerify name files rest due =
-    IsDueOfSet name (λ classes due. due ≡ counted classes) (class_set files name.text) due
+-- What `verify` is to do with the set of a class.
+pub record IsDueOfVerify (name : Named) (w : World) (due : Due) : Type 0 where
+  -- the files: those of the shelf, where it tells them
+  pub files : Files
+  pub agree : AgreeWith w.shelf.told files
+  -- the set of the class is loaded
+  pub set : Check (List Class)
+  pub set_is : set ≡ set_named files name
+  -- it links
+  pub linked : Check (List Class)
+  pub linked_is : linked ≡ after set link_checked
+  -- all its methods are typed
+  pub classes : Check (List Class)
+  pub classes_are : Behind linked IsTypeChecked classes
+  -- the answer where one of these refused
+  pub refused : IfErr classes (λ answer. due ≡ answers answer)
+  -- where all passed, classes and methods are counted
+  pub done : IfOk classes (λ accepted. due ≡ counted accepted)
 
 -- ---- `run`
 
--- the run of classes from their start, in a region of so many words
-abbrev pub IsDueOfLoaded : ℕ → Plan → Files → Option (List ℕ) → List Class → Due → Type 0
-IsDueOfLoaded words plan files rest classes due =
-    IsDueOfPlay loaded_turn (loaded (program_of classes) words) plan files rest due
-
--- what `run` is to do with the set of a class
-abbrev pub IsDueOfRun : Named → ℕ → Plan → Files → Option (List ℕ) → Due → Type 0
-IsDueOfRun name words plan files rest due =
-    IsDueOfSet name (IsDueOfLoaded words plan files rest) (class_set files name.text) due
+-- What `run` is to do with the set of a class, in a region of so many words.
+pub record IsDueOfRun (name : Named) (words : ℕ) (plan : Plan) (w : World) (due : Due)
+    : Type 0 where
+  -- the files as the set is loaded: those of the shelf, where it tells them
+  pub files : Files
+  pub agree : AgreeWith w.shelf.told files
+  -- and as the files of --with are
+  pub with_files : Files
+  pub with_agree : AgreeWith w.shelf.told with_files
+  -- the set of the class is loaded
+  pub set : Check (List Class)
+  pub set_is : set ≡ set_named files name
+  -- it links
+  pub linked : Check (List Class)
+  pub linked_is : linked ≡ after set link_checked
+  -- all its methods are typed
+  pub classes : Check (List Class)
+  pub classes_are : Behind linked IsTypeChecked classes
+  -- the arguments fit, and the files of --with are there and fit
+  pub found : Check (List GivenFile)
+  pub found_is : found ≡ after classes (λ accepted. found_for plan with_files)
+  -- pieces of input, of which one comes before each call where it does not tell what it has left
+  pub pieces : List (List ℕ)
+  -- the answer where one of these refused
+  pub refused : IfErr found (λ answer. due ≡ answers answer)
+  -- where all passed, the run of the classes from their start, for the steps of the session
+  pub done : IfOk classes (λ accepted. IfOk found (λ given.
+      due ≡ session_run loaded_turn (loaded (program_of accepted) words) plan given
+      w.input.told pieces))

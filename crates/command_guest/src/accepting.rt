@@ -1,24 +1,22 @@
-ghost use Rattle.std.specs.Prelude.{◌≡◌, ◌++◌, All, IfOk, codes, string_bytes};
+ghost use Rattle.std.specs.Prelude.{All};
 ghost use Rattle.name_resolution.specs.Kept.{IsClass};
-ghost use Rattle.class_set.specs.ClassSets.{file_of};
 ghost use Rattle.class_set.specs.Kept.{IsKeptSet};
-ghost use Rattle.class_set.specs.declared.loaded.Loaded.TheVariants.{Classes};
 ghost use Rattle.command_deeds.specs.Ends.{Gives, Makes};
 ghost use Rattle.command_deeds.specs.World.{shelf_seen};
-ghost use Rattle.command_guest.specs.Classes.{AreVerified, IsAcceptedSet, IsRefusal, IsRefusedLoaded, IsRefusedSet};
+ghost use Rattle.command_guest.specs.Classes.{IsAccepted, IsAcceptedLoaded, IsAcceptedSet, IsTypeChecked, classes_of};
 
-use class_set::{Loaded, load_set};
+use class_set::{Loaded, class_file, load_set};
 use command_deeds::{Done, Ending, Stop};
 use command_words::Named;
 use jvm_code::Class;
 use jvm_link::{LinkError, Linked, link};
 use nv_outside::Shelf;
-use std::alloc::{AllocError, Global};
+use std::alloc::Global;
 use type_verifier::{Verified, VerifyError, verify};
 
 /// Loads the set of a class, links it and verifies it.
 pub fn accept<H: Shelf>(alloc: Global, name: &Named, shelf: &mut H) -> Result<Verified, Ending>
-    ensures gives { Gives (IsAcceptedSet name.now) (IsRefusedSet name.now)
+    ensures gives { Gives (λ files check. IsAcceptedSet name.now files (classes_of check))
         (shelf_seen H.Shelf shelf.old) (shelf_seen H.Shelf shelf.new) result }
 {
     let loaded = load_set(alloc, shelf, name.text.as_str())?;
@@ -28,8 +26,7 @@ pub fn accept<H: Shelf>(alloc: Global, name: &Named, shelf: &mut H) -> Result<Ve
 /// Links and verifies a set that was loaded, if it was.
 fn accept_loaded(alloc: Global, name: &Named, loaded: Loaded) -> Result<Verified, Ending>
     requires kept { IsKeptSet loaded }
-    ensures makes { Makes (λ verified. loaded ≡ Classes verified.linked.classes)
-        (IsRefusedLoaded name.now loaded) result }
+    ensures makes { Makes (λ check. IsAcceptedLoaded name.now loaded (classes_of check)) result }
 {
     match loaded {
         Loaded::NoFile => Err(Ending::NoFile {
@@ -45,19 +42,10 @@ fn accept_loaded(alloc: Global, name: &Named, loaded: Loaded) -> Result<Verified
     }
 }
 
-/// The file of a class.
-fn class_file(alloc: Global, name: &str) -> Result<String, AllocError>
-    ensures { IfOk result (λ file. string_bytes file ≡ file_of name.now) }
-{
-    let mut file = String::from_str(alloc, name)?;
-    file.push_str(".class")?;
-    Ok(file)
-}
-
 /// Links classes and verifies them.
 pub fn accept_classes(alloc: Global, classes: Vec<Class>) -> Result<Verified, Ending>
     requires kept { All IsClass classes.items }
-    ensures makes { Makes (AreVerified classes.items) (IsRefusal classes.items) result }
+    ensures makes { Makes (λ check. IsAccepted classes.items (classes_of check)) result }
 {
     match link(alloc, classes) {
         Ok(linked) => accept_linked(alloc, linked),
@@ -68,7 +56,7 @@ pub fn accept_classes(alloc: Global, classes: Vec<Class>) -> Result<Verified, En
 
 /// Verifies linked classes.
 fn accept_linked(alloc: Global, linked: Linked) -> Result<Verified, Ending>
-    ensures makes { Makes (AreVerified linked.classes) (IsRefusal linked.classes) result }
+    ensures makes { Makes (λ check. IsTypeChecked linked.classes (classes_of check)) result }
 {
     match verify(alloc, linked) {
         Ok(verified) => Ok(verified),

@@ -1,6 +1,7 @@
 ghost use Rattle.std.specs.Prelude.{decimal};
-ghost use Rattle.command_deeds.specs.Ends.{ByFiles, Ends, Makes};
-ghost use Rattle.command_guest.specs.Assembly.{IsDueOfAsm, IsProgramOf, IsRefusedText};
+ghost use Rattle.command_deeds.specs.Checks.{bytes_of};
+ghost use Rattle.command_deeds.specs.Ends.{Ends, Makes};
+ghost use Rattle.command_guest.specs.Assembly.{IsDueOfAsm, IsProgramOf};
 
 use command_deeds::{Done, Ending, Outside, Stop, load, store, write_number};
 use command_words::Named;
@@ -11,6 +12,9 @@ use std::alloc::Global;
 /// The most bytes of a text.
 const LONGEST_TEXT: usize = 67_108_864;
 
+/// The fault of a longer one, of which no line is looked at.
+const TEXT_TOO_LONG: AsmFault = AsmFault { line: 0, kind: 3 };
+
 /// Loads a text, assembles it, stores its program, and writes how many bytes that has.
 pub fn asm<H: Shelf, S: Source, O: Sink, E: Sink>(
     alloc: Global,
@@ -18,7 +22,7 @@ pub fn asm<H: Shelf, S: Source, O: Sink, E: Sink>(
     output: &str,
     outside: &mut Outside<'_, H, S, O, E>,
 ) -> Result<Done, Ending>
-    ensures ends { Ends H.Shelf S.Source O.Sink E.Sink (ByFiles (IsDueOfAsm input.now output.now))
+    ensures ends { Ends H.Shelf S.Source O.Sink E.Sink (IsDueOfAsm input.now output.now)
         outside.old outside.new result }
 {
     let text = load(alloc, input.word, input.text.as_str(), outside.shelf)?;
@@ -30,12 +34,10 @@ pub fn asm<H: Shelf, S: Source, O: Sink, E: Sink>(
 
 /// The program of a text.
 fn assembled(alloc: Global, text: &[u8]) -> Result<Vec<u8>, Ending>
-    ensures makes { Makes (λ file. IsProgramOf text.now file.items) (IsRefusedText text.now)
-        result }
+    ensures makes { Makes (λ check. IsProgramOf text.now (bytes_of check)) result }
 {
     if text.len() > LONGEST_TEXT {
-        let fault = AsmFault { line: 0, kind: 3 };
-        return Err(Ending::Refused(Done::AsmRefused(fault)));
+        return Err(Ending::Refused(Done::AsmRefused(TEXT_TOO_LONG)));
     }
     match assemble(alloc, text) {
         Ok(file) => Ok(file),

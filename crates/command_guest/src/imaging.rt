@@ -7,7 +7,7 @@ ghost use Rattle.elf_reader.specs.Header.{header_of};
 ghost use Rattle.elf_reader.specs.Segments.{live};
 ghost use Rattle.command_deeds.specs.Ends.{Gives, Makes};
 ghost use Rattle.command_deeds.specs.World.{shelf_seen};
-ghost use Rattle.command_guest.specs.Imaging.{IsImageOf, IsImaged, IsRefusal, IsRefusedImage, source_of};
+ghost use Rattle.command_guest.specs.Imaging.{IsImaged, IsImagedFrom};
 
 use command_deeds::{Done, Ending, Stop, load};
 use command_words::{Named, Pages};
@@ -15,6 +15,12 @@ use elf_image::{Image, ImageError, image};
 use elf_reader::{Elf, ElfError, read_elf};
 use nv_outside::Shelf;
 use std::alloc::Global;
+
+/// The sizes of the memory of a program where no words give them.
+pub const DEFAULT_PAGES: Pages = Pages {
+    heap: 256,
+    stack: 64,
+};
 
 /// Loads a program and makes its image with these pages of heap and stack.
 pub fn load_image<H: Shelf>(
@@ -24,7 +30,7 @@ pub fn load_image<H: Shelf>(
     shelf: &mut H,
 ) -> Result<Image, Ending>
     requires pages { ArePages pages }
-    ensures gives { Gives (IsImaged input.now pages) (IsRefusedImage input.now pages)
+    ensures gives { Gives (IsImagedFrom input.now pages)
         (shelf_seen H.Shelf shelf.old) (shelf_seen H.Shelf shelf.new) result }
 {
     let file = load(alloc, input.word, input.text.as_str(), shelf)?;
@@ -34,8 +40,7 @@ pub fn load_image<H: Shelf>(
 /// The image of the program that a file holds, with these pages of heap and stack.
 pub fn image_of_file(alloc: Global, file: &[u8], pages: Pages) -> Result<Image, Ending>
     requires pages { ArePages pages }
-    ensures makes { Makes (IsImageOf (source_of pages file.now))
-        (IsRefusal (source_of pages file.now)) result }
+    ensures makes { Makes (IsImaged pages file.now) result }
 {
     match read_elf(alloc, file) {
         Ok(elf) => image_of_elf(alloc, &elf, pages),
@@ -51,8 +56,7 @@ fn image_of_elf(alloc: Global, elf: &Elf<'_>, pages: Pages) -> Result<Image, End
     requires segments { elf.now.segments.items ≡ live elf.now.file.now }
     requires code { IsRunsOf (area elf.now.file.now) elf.now.code.items }
     requires pages { ArePages pages }
-    ensures makes { Makes (IsImageOf (source_of pages elf.now.file.now))
-        (IsRefusal (source_of pages elf.now.file.now)) result }
+    ensures makes { Makes (IsImaged pages elf.now.file.now) result }
 {
     match image(alloc, elf, pages.heap, pages.stack) {
         Ok(image) => Ok(image),

@@ -1,6 +1,6 @@
 ghost use Rattle.std.specs.Prelude.{◌≤◌};
 ghost use Rattle.command_words.specs.Limits.{AreFileNames, ArePages};
-ghost use Rattle.command_deeds.specs.Ends.{ByFiles, Ends};
+ghost use Rattle.command_deeds.specs.Ends.{Ends};
 ghost use Rattle.command_deeds.specs.Runs.{plan_of};
 ghost use Rattle.command_guest.specs.Interp.{IsDueOfInterp};
 
@@ -21,7 +21,7 @@ pub fn interp<H: Shelf, S: Source, O: Sink, E: Sink>(
     requires disk { guest.now.launch.session.now.disk ≤ 65536 }
     requires names { AreFileNames guest.now.launch.session.now.with.names }
     ensures ends { Ends H.Shelf S.Source O.Sink E.Sink
-        (ByFiles (IsDueOfInterp guest.now.input.now guest.now.pages (plan_of guest.now.launch)))
+        (IsDueOfInterp guest.now.input.now guest.now.pages (plan_of guest.now.launch))
         outside.old outside.new result }
 {
     let image = load_image(alloc, guest.input, guest.pages, outside.shelf)?;

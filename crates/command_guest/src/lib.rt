@@ -1,5 +1,5 @@
-//! The commands on guest programs and on classes: `interp`, `list`, `asm`, `verify` and `run`; and how a command comes to the image of a
-//! program.
+//! The commands on guest programs and on classes: `interp`, `list`, `asm`, `verify` and `run`; and how a command comes
+//! to the image of a program.
 #![tactic(auto)]
 
 mod accepting;
@@ -14,7 +14,7 @@ mod verifying;
 pub use accepting::accept_classes;
 pub use assembly::asm;
 pub use guest::Guest;
-pub use imaging::{image_of_file, load_image};
+pub use imaging::{DEFAULT_PAGES, image_of_file, load_image};
 pub use interpreting::interp;
 pub use listing::list;
 pub use running::run;

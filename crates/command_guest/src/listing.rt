@@ -1,22 +1,16 @@
 ghost use Rattle.elf_image.specs.Start.{image_of};
-ghost use Rattle.command_deeds.specs.Ends.{ByFiles, Ends};
+ghost use Rattle.command_deeds.specs.Ends.{Ends};
 ghost use Rattle.command_deeds.specs.World.{Prints, Writes, output_seen};
 ghost use Rattle.command_guest.specs.Listing.{IsDueOfList, columns, line_at, run_lines, runs_lines, word_line};
 
-use crate::imaging::load_image;
+use crate::imaging::{DEFAULT_PAGES, load_image};
 use command_deeds::{Done, Ending, Outside, Stop, hexadecimal, write_pieces};
-use command_words::{Named, Pages};
+use command_words::Named;
 use elf_image::Image;
 use elf_reader::Range;
 use mips_decode::{decode, print_inst};
 use nv_outside::{Failed, Shelf, Sink, Source};
 use std::alloc::Global;
-
-/// The sizes of the memory of a program that is listed.
-const PAGES: Pages = Pages {
-    heap: 256,
-    stack: 64,
-};
 
 /// Loads a program, and writes a line for each word of its code.
 pub fn list<H: Shelf, S: Source, O: Sink, E: Sink>(
@@ -24,10 +18,10 @@ pub fn list<H: Shelf, S: Source, O: Sink, E: Sink>(
     input: &Named,
     outside: &mut Outside<'_, H, S, O, E>,
 ) -> Result<Done, Ending>
-    ensures ends { Ends H.Shelf S.Source O.Sink E.Sink (ByFiles (IsDueOfList input.now))
+    ensures ends { Ends H.Shelf S.Source O.Sink E.Sink (IsDueOfList input.now)
         outside.old outside.new result }
 {
-    let image = load_image(alloc, input, PAGES, outside.shelf)?;
+    let image = load_image(alloc, input, DEFAULT_PAGES, outside.shelf)?;
     let runs = image.ranges();
     write_runs(alloc, &image, runs, outside.out)?;
     Ok(Done::Good)

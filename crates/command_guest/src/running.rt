@@ -1,6 +1,6 @@
 ghost use Rattle.std.specs.Prelude.{◌≤◌};
 ghost use Rattle.command_words.specs.Limits.{AreFileNames};
-ghost use Rattle.command_deeds.specs.Ends.{ByFiles, Ends};
+ghost use Rattle.command_deeds.specs.Ends.{Ends};
 ghost use Rattle.command_deeds.specs.Runs.{plan_of};
 ghost use Rattle.command_guest.specs.Classes.{IsDueOfRun};
 
@@ -24,8 +24,7 @@ pub fn run<H: Shelf, S: Source, O: Sink, E: Sink>(
     requires disk { launch.now.session.now.disk ≤ 65536 }
     requires names { AreFileNames launch.now.session.now.with.names }
     ensures ends { Ends H.Shelf S.Source O.Sink E.Sink
-        (ByFiles (IsDueOfRun name.now words (plan_of launch.now)))
-        outside.old outside.new result }
+        (IsDueOfRun name.now words (plan_of launch.now)) outside.old outside.new result }
 {
     let verified = accept(alloc, name, outside.shelf)?;
     let jvm = Jvm::load(alloc, verified, u64::from(words))?;

@@ -1,4 +1,4 @@
-ghost use Rattle.command_deeds.specs.Ends.{ByFiles, Ends};
+ghost use Rattle.command_deeds.specs.Ends.{Ends};
 ghost use Rattle.command_deeds.specs.World.{Writes, output_seen};
 ghost use Rattle.command_guest.specs.Classes.{IsDueOfVerify, counts_line};
 
@@ -16,7 +16,7 @@ pub fn verify<H: Shelf, S: Source, O: Sink, E: Sink>(
     name: &Named,
     outside: &mut Outside<'_, H, S, O, E>,
 ) -> Result<Done, Ending>
-    ensures ends { Ends H.Shelf S.Source O.Sink E.Sink (ByFiles (IsDueOfVerify name.now))
+    ensures ends { Ends H.Shelf S.Source O.Sink E.Sink (IsDueOfVerify name.now)
         outside.old outside.new result }
 {
     let verified = accept(alloc, name, outside.shelf)?;

@@ -1,15 +1,14 @@
-use Rattle.std.proofs.Common.{[], ◌≡◌, ◌∷◌, None, Some, Ok, Err, inl, refl, subst}
+use Rattle.std.proofs.Common.{[], ◌∷◌, Some, Ok, Err, inl, refl, subst}
 use Rattle.std.proofs.lemmas.Result.{err_from_is_err_and}
 use Rattle.std.specs.Prelude.{codes, length}
-use Rattle.command_deeds.proofs.DeedLemmas.{all_then_stops, all_then_works, gives_ends, same_shelf, stops_before, written}
+use Rattle.command_deeds.proofs.DeedLemmas.{all_then_stops, all_then_works, same_shelf, stops_before, written}
 use Rattle.command_deeds.specs.Deeds.{DoesAll, StopsIn, prints, stores}
-use Rattle.command_deeds.specs.Ends.{end_of, lacks, says}
+use Rattle.command_deeds.specs.Ends.{end_of, says}
 use Rattle.command_deeds.specs.Line.{number_line}
 use Rattle.command_deeds.specs.World.{StopsPrint, Takes, output_seen, seen, shelf_seen, world}
 use Rattle.command_deeds.specs.declared.done.Done.TheVariants.{Good}
 use Rattle.command_deeds.specs.declared.stop.Stop.TheVariants.{WriteFault}
-use Rattle.command_guest.proofs.AssemblyLemmas.{asm_comes, asm_refused, lacks_text}
-use Rattle.command_guest.specs.Assembly.{IsDueOfAsm}
+use Rattle.command_guest.proofs.AssemblyLemmas.{asm_comes, asm_lacks, asm_refuses}
 use Rattle.command_guest.proofs.assembly.asm.Goals as goal
 
 pub returns-in_err-text : goal.returns-in_err-text
@@ -22,9 +21,8 @@ returns-in_err-text g c =
     record {
       ends = (
         (refl, refl, refl, refl),
-        rw (p.1, p.2) (gives_ends (IsDueOfAsm input output) (λ files answer. (files c.as_str.result.now ≡ None)
-            × (answer ≡ lacks input.word c.as_str.result.now)) w v (end_of c.in_err-text.field-0.0) c.in_err-text.ensures.gives (refl, refl, refl)
-            (λ files answer h. lacks_text input output c.as_str.result.now files w.input.told answer c.as_str.ensures h)),
+        rw (p.1, p.2) (asm_lacks input output c.as_str.result.now w v (end_of c.in_err-text.field-0.0) c.as_str.ensures c.in_err-text.ensures.gives
+            (refl, refl, refl)),
       );
     }
 
@@ -36,7 +34,7 @@ returns-in_err-file g c =
     record {
       ends = (
         (refl, refl, refl, refl),
-        rw (p.1, p.2) (asm_refused c.args.input.now c.args.output.now c.as_str.result.now c.in_ok-text.text.items c.as_slice.result.now w u
+        rw (p.1, p.2) (asm_refuses c.args.input.now c.args.output.now c.as_str.result.now c.in_ok-text.text.items c.as_slice.result.now w u
             (end_of c.in_err-file.field-0.0)
             c.as_str.ensures c.as_slice.ensures.value c.in_ok-text.ensures.gives (refl, refl, refl) c.in_err-file.ensures.makes),
       );

@@ -1,13 +1,13 @@
-use Rattle.std.proofs.Common.{◌∙◌, ap, refl, subst}
+use Rattle.std.proofs.Common.{true, ◌∙◌, Ok, Err, ap, refl, subst}
 use Rattle.std.proofs.lemmas.Result.{err_from_is_err_and}
 use Rattle.jvm_program.specs.Step.{loaded, loaded_turn}
 use Rattle.jvm_link.specs.Linking.{program_of}
 use Rattle.command_deeds.proofs.DeedLemmas.{gives_ends, gives_then}
-use Rattle.command_deeds.specs.Ends.{ByFiles, Comes, end_of, ended}
+use Rattle.command_deeds.specs.Ends.{Comes, end_of, ended}
 use Rattle.command_deeds.specs.World.{seen, shelf_seen, world}
 use Rattle.command_deeds.specs.Runs.{IsDueOfPlay, plan_of}
-use Rattle.command_guest.proofs.ClassLemmas.{accepted_set, refused_set}
-use Rattle.command_guest.specs.Classes.{IsAcceptedSet, IsDueOfLoaded, IsDueOfRun, IsRefusedSet}
+use Rattle.command_guest.proofs.DueLemmas.{run_due, run_refused}
+use Rattle.command_guest.specs.Classes.{IsAcceptedSet, IsDueOfRun}
 use Rattle.command_guest.proofs.running.run.Goals as goal
 
 pub returns-in_err-verified : goal.returns-in_err-verified
@@ -21,9 +21,9 @@ returns-in_err-verified g c =
     record {
       ends = (
         (refl, refl, refl, refl),
-        rw (p.1, p.2) (gives_ends (IsDueOfRun name words plan) (IsRefusedSet name) w v
+        rw (p.1, p.2) (gives_ends (IsDueOfRun name words plan) (λ files answer. IsAcceptedSet name files (Err answer)) w v
             (end_of c.in_err-verified.field-0.0) c.in_err-verified.ensures.gives (refl, refl, refl)
-            (λ files answer h. refused_set name (IsDueOfLoaded words plan files w.input.told) files answer h)),
+            (λ files answer agree h. run_refused name words plan w files answer agree h)),
       );
     }
 
@@ -32,18 +32,19 @@ returns g c =
     let name = c.args.name.now in
     let words = c.args.words in
     let plan = plan_of c.args.launch.now in
-    let verified = c.in_ok-verified.verified in
+    let classes = c.in_ok-verified.verified.linked.classes in
     let w = seen g.H.Shelf g.S.Source g.O.Sink g.E.Sink c.args.outside.now in
-    let u = world (shelf_seen g.H.Shelf c.accept.new.shelf) w.input w.out w.err in
+    let now = shelf_seen g.H.Shelf c.accept.new.shelf in
+    let u = world now w.input w.out w.err in
     let v = seen g.H.Shelf g.S.Source g.O.Sink g.E.Sink c.play_session.new.outside in
+    let over = c.in_ok-verified.ensures.gives in
     record {
       ends = (
         c.play_session.ensures.ends.0,
-        gives_then (IsDueOfRun name words plan) (λ files rest. IsDueOfLoaded words plan files rest verified.linked.classes)
-            (IsAcceptedSet name) verified w u v (ended c.play_session.result)
-            c.in_ok-verified.ensures.gives (refl, refl, refl) (λ files due accepted later. accepted_set name
-            (IsDueOfLoaded words plan files w.input.told) files verified due accepted later)
-            (subst (λ s. Comes (ByFiles (IsDueOfPlay loaded_turn s plan)) u v (ended c.play_session.result))
-            (c.in_ok-jvm.ensures.state ∙ ap (loaded (program_of verified.linked.classes)) c.from.ensures) c.play_session.ensures.ends.1),
+        gives_then (IsDueOfRun name words plan) (IsDueOfPlay loaded_turn (loaded (program_of classes) words) plan)
+            (λ files. IsAcceptedSet name files (Ok classes)) w u v (ended c.play_session.result) over (refl, refl, refl)
+            (λ files due agree h later. run_due name words plan w now files classes due over.same.0 agree h later)
+            (subst (λ s. Comes true (IsDueOfPlay loaded_turn s plan) u v (ended c.play_session.result))
+            (c.in_ok-jvm.ensures.state ∙ ap (loaded (program_of classes)) c.from.ensures) c.play_session.ensures.ends.1),
       );
     }

@@ -1,12 +1,12 @@
 use Rattle.std.proofs.Common.{◌≡◌, Ok, Err, inl, inr, refl}
 use Rattle.std.proofs.lemmas.Result.{err_from_is_err_and}
-use Rattle.command_deeds.proofs.DeedLemmas.{gives_ends, gives_then, over_any, same_shelf, written}
-use Rattle.command_deeds.specs.Ends.{end_of, says}
+use Rattle.command_deeds.proofs.DeedLemmas.{gives_ends, gives_then, same_shelf, written}
+use Rattle.command_deeds.specs.Ends.{answers, end_of, says}
 use Rattle.command_deeds.specs.World.{output_seen, seen, shelf_seen, world}
 use Rattle.command_deeds.specs.declared.done.Done.TheVariants.{Good}
 use Rattle.command_deeds.specs.declared.stop.Stop.TheVariants.{WriteFault}
-use Rattle.command_guest.proofs.ClassLemmas.{accepted_set, refused_set}
-use Rattle.command_guest.specs.Classes.{IsAcceptedSet, IsDueOfVerify, IsRefusedSet, counted, counts_line}
+use Rattle.command_guest.proofs.DueLemmas.{verify_due}
+use Rattle.command_guest.specs.Classes.{IsAcceptedSet, IsDueOfVerify, counted, counts_line}
 use Rattle.command_guest.proofs.verifying.verify.Goals as goal
 
 pub returns-in_err-verified : goal.returns-in_err-verified
@@ -18,9 +18,9 @@ returns-in_err-verified g c =
     record {
       ends = (
         (refl, refl, refl, refl),
-        rw (p.1, p.2) (gives_ends (IsDueOfVerify name) (IsRefusedSet name) w v (end_of c.in_err-verified.field-0.0) c.in_err-verified.ensures.gives
-            (refl, refl, refl)
-            (λ files answer h. refused_set name (λ classes due. due ≡ counted classes) files answer h)),
+        rw (p.1, p.2) (gives_ends (IsDueOfVerify name) (λ files answer. IsAcceptedSet name files (Err answer)) w v
+            (end_of c.in_err-verified.field-0.0) c.in_err-verified.ensures.gives (refl, refl, refl)
+            (λ files answer agree h. verify_due name w files (Err answer) (answers answer) agree h refl tt)),
       );
     }
 
@@ -28,44 +28,39 @@ pub returns-in_err-write_counts : goal.returns-in_err-write_counts
 returns-in_err-write_counts g c =
     let p = err_from_is_err_and c.from_residual-in_err-write_counts.result c.from_residual-in_err-write_counts.ensures.1 in
     let name = c.args.name.now in
-    let verified = c.in_ok-verified.verified in
-    let due = counted verified.linked.classes in
+    let classes = c.in_ok-verified.verified.linked.classes in
+    let due = counted classes in
     let w = seen g.H.Shelf g.S.Source g.O.Sink g.E.Sink c.args.outside.now in
     let u = world (shelf_seen g.H.Shelf c.accept.new.shelf) w.input w.out w.err in
     let v = world u.shelf w.input (output_seen g.O.Sink c.write_counts.new.out) w.err in
     record {
       ends = (
         (refl, refl, refl, refl),
-        rw (p.1, p.2) (gives_then (IsDueOfVerify name) (λ files rest d. d ≡ due) (IsAcceptedSet name) verified w u v
+        rw (p.1, p.2) (gives_then (IsDueOfVerify name) (λ x d. d ≡ due) (λ files. IsAcceptedSet name files (Ok classes)) w u v
             (Err WriteFault) c.in_ok-verified.ensures.gives (refl, refl, refl)
-            (λ files d accepted later. accepted_set name (λ classes due. due ≡ counted classes) files verified d accepted later)
-            (over_any (λ rest d. d ≡ due) u v (Err WriteFault) (inr (
-              due,
-              refl,
-              inl (c.in_err-write_counts.ensures.writes, (same_shelf u.shelf, refl, refl)),
-            )))),
+            (λ files d agree h later. verify_due name w files (Ok classes) d agree h tt later)
+            (inr (due, refl, inl (c.in_err-write_counts.ensures.writes, (same_shelf u.shelf, refl, refl))))),
       );
     }
 
 pub returns : goal.returns
 returns g c =
     let name = c.args.name.now in
-    let verified = c.in_ok-verified.verified in
-    let due = counted verified.linked.classes in
+    let classes = c.in_ok-verified.verified.linked.classes in
+    let due = counted classes in
     let w = seen g.H.Shelf g.S.Source g.O.Sink g.E.Sink c.args.outside.now in
     let u = world (shelf_seen g.H.Shelf c.accept.new.shelf) w.input w.out w.err in
     let v = world u.shelf w.input (output_seen g.O.Sink c.write_counts.new.out) w.err in
     record {
       ends = (
         (refl, refl, refl, refl),
-        gives_then (IsDueOfVerify name) (λ files rest d. d ≡ due) (IsAcceptedSet name) verified w u v (Ok (says Good)) c.in_ok-verified.ensures.gives
-            (refl, refl, refl)
-            (λ files d accepted later. accepted_set name (λ classes due. due ≡ counted classes) files verified d accepted later)
-            (over_any (λ rest d. d ≡ due) u v (Ok (says Good)) (inr (
+        gives_then (IsDueOfVerify name) (λ x d. d ≡ due) (λ files. IsAcceptedSet name files (Ok classes)) w u v (Ok (says Good))
+            c.in_ok-verified.ensures.gives (refl, refl, refl)
+            (λ files d agree h later. verify_due name w files (Ok classes) d agree h tt later)
+            (inr (
               due,
               refl,
-              written (counts_line verified.linked.classes) u v (says Good) refl c.in_ok-write_counts.ensures.writes
-                  (same_shelf u.shelf, refl, refl),
-            ))),
+              written (counts_line classes) u v (says Good) refl c.in_ok-write_counts.ensures.writes (same_shelf u.shelf, refl, refl),
+            )),
       );
     }
