@@ -1,5 +1,5 @@
 -- The classes that files spell.
-use Rattle.std.proofs.Common.{◌≡◌, ℕ, zero, suc, ◌+◌, ◌<◌, List, [], ◌∷◌, ◌++◌, length, take, get_or, Some, refl, sym, ap, ◌∙◌, subst, inl, inr, arith}
+use Rattle.std.proofs.Common.{◌≡◌, ℕ, zero, suc, ◌+◌, ◌<◌, List, [], ◌∷◌, ◌++◌, length, take, get_or, Some, Ok, Err, refl, sym, ap, ◌∙◌, subst, arith}
 use Rattle.std.proofs.lemmas.List.{take_more}
 use Rattle.std.proofs.lemmas.List.Elements.{All-cons, All-nil}
 use Rattle.std.proofs.lemmas.Option.{none-some}
@@ -12,7 +12,9 @@ use Rattle.class_file.specs.ClassFile as format
 use Rattle.name_resolution.specs.Kept.{IsClass}
 use Rattle.jvm_link.specs.Linking as linking
 use Rattle.program_translation.specs.declared.named_file.NamedFile.{NamedFile}
-use Rattle.command_deeds.specs.Ends.{CommandAnswer, Due, answers}
+use Rattle.command_deeds.specs.Checks.{Behind, Check, unless}
+use Rattle.command_deeds.specs.Ends.{CommandAnswer}
+use Rattle.command_deeds.specs.declared.done.Done.TheVariants.{LinkRefused}
 use Rattle.command_guest.specs.Classes as set
 use Rattle.command_translate.specs.Classes.{HoldAccepted, SpellClasses}
 
@@ -69,17 +71,20 @@ no_refusal files i file bytes fault held within is same refused =
 
 -- ---- linking and typing
 
-abbrev Nothing : List Class → Due → Type 0
-Nothing classes due = ⊥
-
-all_typed : (classes : List Class) (answer : CommandAnswer) → AllTyped (linking.program_of classes) → set.IsDueByTypes Nothing classes (answers answer) → ⊥
-all_typed classes answer typed (inl h) = absurd h.1
-all_typed classes answer typed (inr h) =
+all_typed : (classes : List Class) (answer : CommandAnswer) → AllTyped (linking.program_of classes) → set.IsTypeChecked classes (Err answer) → ⊥
+all_typed classes answer typed h =
     let fault = h.1 in
     let typing = typed _ fault.method fault.method_is in
     fault.fails.fails typing.0 (typing.1 h.0.at)
 
+-- classes that link are checked by their types
+by_types : (classes : List Class) (check : Check (List Class)) → linking.Accepted classes → set.IsAccepted classes check → set.IsTypeChecked classes check
+by_types classes check a h = subst (λ found. Behind (unless found LinkRefused classes) set.IsTypeChecked check) a.links h
+
 -- classes that are accepted are not refused
-pub not_refused : (classes : List Class) (answer : CommandAnswer) → linking.Accepted classes → set.IsRefusal classes answer → ⊥
-not_refused classes answer a refused =
-    all_typed classes answer a.typed (subst (λ found. set.IsDueByLink found Nothing classes (answers answer)) a.links refused)
+pub not_refused : (classes : List Class) (answer : CommandAnswer) → linking.Accepted classes → set.IsAccepted classes (Err answer) → ⊥
+not_refused classes answer a refused = all_typed classes answer a.typed (by_types classes (Err answer) a refused)
+
+-- and these are they
+pub accepted_same : (classes these : List Class) → linking.Accepted classes → set.IsAccepted classes (Ok these) → these ≡ classes
+accepted_same classes these a h = (by_types classes (Ok these) a h).0

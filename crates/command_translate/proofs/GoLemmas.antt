@@ -1,33 +1,32 @@
--- What is due of the classes of a program that is run over a system as it is held.
-use Rattle.std.proofs.Common.{ℕ, List, Option, Result}
-use Rattle.std.specs.Prelude.{IfSome}
-use Rattle.nv_outside.specs.Files.{Files}
+-- What is due of `go`, by what its stages came to.
+use Rattle.std.proofs.Common.{◌≡◌, ◌∙◌, ℕ, true, List, Option, Result, Ok, Err, refl, sym, subst}
+use Rattle.nv_outside.specs.Files.{AgreeWith, Files}
+use Rattle.nv_outside.proofs.FilesLemmas.{agree_before}
 use Rattle.command_words.specs.declared.named.Named.{Named}
 use Rattle.command_words.specs.declared.pages.Pages.{Pages}
 use Rattle.elf_image.specs.Start.{Source, image_of}
 use Rattle.unix_calls.specs.Held.{Held}
+use Rattle.unix_calls.specs.Starting.{Begins}
 use Rattle.jvm_program.specs.Step.{loaded, loaded_turn}
 use Rattle.jvm_code.specs.declared.class.Class.{Class}
 use Rattle.jvm_link.specs.Linking.{program_of}
 use Rattle.program_translation.specs.Bounds.{allow, need}
 use Rattle.program_translation.specs.declared.built.Built.{Built}
 use Rattle.nv_translate.specs.Translated.{Translated}
-use Rattle.command_deeds.proofs.DeedLemmas.{due_as, gives_then, over_any}
-use Rattle.command_deeds.specs.Ends.{CommandAnswer, ByFiles, Comes, Due}
-use Rattle.command_deeds.specs.World.{OnlyShelf, SameShelf, World}
-use Rattle.command_deeds.specs.declared.stop.Stop.{Stop}
-use Rattle.command_deeds.proofs.PlayLemmas.{StartsAs, held_due, ready_due}
+use Rattle.command_deeds.proofs.DeedLemmas.{due_as, gives_ends, gives_then, stays_then, stays_then_comes}
+use Rattle.command_deeds.proofs.PlayLemmas.{StartsAs, held_due}
+use Rattle.command_deeds.specs.Checks.{file_named}
+use Rattle.command_deeds.specs.Ends.{CommandAnswer, Comes, Due, GivesEnd, Over, answers}
 use Rattle.command_deeds.specs.Readying.{IsReady}
-use Rattle.command_deeds.specs.Runs.{IsDueOfHeld, Plan}
-use Rattle.command_guest.proofs.ImagingLemmas.{due_of_imaged}
-use Rattle.command_guest.specs.Imaging.{IsImaged}
+use Rattle.command_deeds.specs.Runs.{GivenFile, IsDueOfHeld, Plan, arguments_of, found_for}
+use Rattle.command_deeds.specs.World.{OnlyShelf, World}
+use Rattle.command_deeds.specs.declared.stop.Stop.{Stop}
+use Rattle.command_guest.specs.Imaging.{IsImagedFrom}
 use Rattle.command_translate.proofs.RunLemmas.{run_due}
-use Rattle.command_translate.proofs.TranslationLemmas.{translation_as}
-use Rattle.command_translate.specs.Go.{IsDueOfFound, IsDueOfGo, IsDueOfStored, IsDueOfTranslated}
-use Rattle.command_translate.specs.Stores.{IsDueBehind}
-use Rattle.command_translate.specs.Translate.{IsDueOfTranslation}
+use Rattle.command_translate.proofs.StoreLemmas.{IsDueBehind}
+use Rattle.command_translate.specs.Go.{IsDueOfGo, IsDueOfTranslated}
 
--- the run of classes over a system
+-- the run of classes over a system as it is held
 abbrev pub IsDueOfHeldRun : Plan → Source → Held → List Class → Option (List ℕ) → Due → Type 0
 IsDueOfHeldRun plan image unix classes rest due =
     let mapped = (image_of image).mapped in
@@ -36,44 +35,94 @@ IsDueOfHeldRun plan image unix classes rest due =
 -- a translation, its files, and the run of its classes
 abbrev pub IsDueOfHeldGo : Plan → ℕ → Source → Held → Option (List ℕ) → Due → Type 0
 IsDueOfHeldGo plan method_bytes image unix rest due =
-    IsDueOfTranslation image plan.name method_bytes (λ built classes. IsDueBehind built.files.items (IsDueOfHeldRun plan image unix classes rest)) due
+    (built : Built) × (t : Translated image plan.name method_bytes built)
+    × IsDueBehind built.files.items (IsDueOfHeldRun plan image unix t.linked.classes rest) due
+
+-- the image was refused
+pub go_refused : (input : Named) (pages : Pages) (method_bytes : ℕ) (plan : Plan) (w : World) (files : Files) (answer : CommandAnswer)
+    → AgreeWith w.shelf.told files → IsImagedFrom input pages files (Err answer) → IsDueOfGo input pages method_bytes plan w (answers answer)
+go_refused input pages method_bytes plan w files answer agree h = record {
+  files = files;
+  agree = agree;
+  with_files = files;
+  with_agree = agree;
+  file = file_named files input;
+  file_is = refl;
+  source = Err answer;
+  source_is = h;
+  found = Err answer;
+  found_is = refl;
+  refused = refl;
+  done = tt;
+}
+
+-- arguments or files are refused with this answer
+abbrev IsUnready : Plan → World → Due → Type 0
+IsUnready plan w due = (files : Files) × (answer : CommandAnswer) × AgreeWith w.shelf.told files × (found_for plan files ≡ Err answer)
+    × (due ≡ answers answer)
+
+-- the image was made, and arguments or files were refused
+pub go_unready : (plan : Plan) (input : Named) (pages : Pages) (method_bytes : ℕ) (image : Source) (w u v : World) (end : Result CommandAnswer Stop)
+    → Over (λ files. IsImagedFrom input pages files (Ok image)) w.shelf u.shelf → OnlyShelf w u
+    → GivesEnd (λ files answer. found_for plan files ≡ Err answer) u.shelf v.shelf end → OnlyShelf u v
+    → Comes true (IsDueOfGo input pages method_bytes plan) w v end
+go_unready plan input pages method_bytes image w u v end imaged only ends only' =
+    gives_then (IsDueOfGo input pages method_bytes plan) (IsUnready plan) (λ files. IsImagedFrom input pages files (Ok image)) w u v end imaged only
+    (λ files due agree h later. record {
+      files = files;
+      agree = agree;
+      with_files = later.0;
+      with_agree = agree_before w.shelf.told u.shelf.told later.0 imaged.same.0 later.2;
+      file = file_named files input;
+      file_is = refl;
+      source = Ok image;
+      source_is = h;
+      found = Err later.1;
+      found_is = sym later.3;
+      refused = later.4;
+      done = tt;
+    })
+    (gives_ends (IsUnready plan) (λ files answer. found_for plan files ≡ Err answer) u v end ends only'
+    (λ files answer agree h. (files, answer, agree, h, refl)))
 
 module _ (plan : Plan) (starts : (held : Held) → StartsAs plan held) where
-  found_due : (method_bytes : ℕ) (image : Source) (unix : Held) (files : Files) (rest : Option (List ℕ)) (due : Due)
-      → (ready : IsReady plan files unix) → IsDueOfHeldGo plan method_bytes image unix rest due
-      → IsDueOfFound plan method_bytes image rest ready.found due
-  found_due method_bytes image unix files rest due ready h =
-      translation_as image plan.name method_bytes (λ built classes. IsDueBehind built.files.items (IsDueOfHeldRun plan image unix classes rest))
-      (IsDueOfStored plan image rest ready.found) due
-      (λ built t d. (
-        d.0,
-        run_due plan method_bytes image built t ready.found rest d.0
-            (held_due (allow (image_of image).mapped plan.session.steps) loaded_turn
-            (loaded (program_of t.linked.classes) (need (image_of image).mapped)) plan files unix rest d.0 (starts unix) ready d.1),
-        d.2,
-      )) h
+  translated_due : (method_bytes : ℕ) (image : Source) (unix : Held) (given : List GivenFile) (rest : Option (List ℕ)) (due : Due)
+      → Begins unix plan.session.disk plan.moment given (arguments_of plan) → IsDueOfHeldGo plan method_bytes image unix rest due
+      → IsDueOfTranslated plan method_bytes image given rest due
+  translated_due method_bytes image unix given rest due begins h =
+      run_due plan method_bytes image h.0 h.1 given rest h.2.0 due
+      (held_due (allow (image_of image).mapped plan.session.steps) loaded_turn (loaded (program_of h.1.linked.classes) (need (image_of image).mapped))
+      plan unix given rest h.2.0 (starts unix) begins h.2.1) h.2.2
 
   -- the image was made and the system is ready, and the rest came to this
   pub go_comes : (input : Named) (pages : Pages) (method_bytes : ℕ) (image : Source) (unix : Held) (w u x v : World) (end : Result CommandAnswer Stop)
-      → SameShelf w.shelf u.shelf × IfSome w.shelf.told (λ files. IsImaged input pages files image) → OnlyShelf w u → SameShelf u.shelf x.shelf
-      × IfSome u.shelf.told (λ files. IsReady plan files unix) → OnlyShelf u x
-      → Comes (λ y. IsDueOfHeldGo plan method_bytes image unix y.input.told) x v end
-      → Comes (ByFiles (IsDueOfGo input pages method_bytes plan)) w v end
+      → Over (λ files. IsImagedFrom input pages files (Ok image)) w.shelf u.shelf → OnlyShelf w u → Over (λ files. IsReady plan files unix) u.shelf x.shelf
+      → OnlyShelf u x → Comes true (λ y. IsDueOfHeldGo plan method_bytes image unix y.input.told) x v end
+      → Comes true (IsDueOfGo input pages method_bytes plan) w v end
   go_comes input pages method_bytes image unix w u x v end imaged only ready only' comes =
-      gives_then (IsDueOfGo input pages method_bytes plan) (λ files rest. IsDueOfTranslated plan method_bytes files rest image)
-      (IsImaged input pages) image w u v end imaged only
-      (λ files due is later. due_of_imaged input pages (IsDueOfTranslated plan method_bytes files w.input.told) files image due is later)
-      (gives_then (λ files rest. IsDueOfTranslated plan method_bytes files rest image) (λ files. IsDueOfHeldGo plan method_bytes image unix)
-      (IsReady plan) unix u x v end ready only'
-      (λ files due is later. ready_due (IsDueOfFound plan method_bytes image u.input.told) plan files unix due is
-      (found_due method_bytes image unix files u.input.told due is later))
-      (over_any (IsDueOfHeldGo plan method_bytes image unix) x v end comes))
+      stays_then_comes true (λ y. IsDueOfHeldGo plan method_bytes image unix y.input.told) (IsDueOfGo input pages method_bytes plan) w x v end
+      (stays_then w u x (imaged.same, only) (ready.same, only'))
+      (λ due later. record {
+        files = imaged.files;
+        agree = imaged.agree;
+        with_files = ready.files;
+        with_agree = agree_before w.shelf.told u.shelf.told ready.files imaged.same.0 ready.agree;
+        file = file_named imaged.files input;
+        file_is = refl;
+        source = Ok image;
+        source_is = imaged.is;
+        found = Ok ready.is.given;
+        found_is = sym ready.is.finds;
+        refused = tt;
+        done = translated_due method_bytes image unix ready.is.given w.input.told due ready.is.begins
+            (subst (λ i. IsDueOfHeldGo plan method_bytes image unix i.told due) (only'.0 ∙ only.0) later);
+      }) comes
 
 -- a translation was made, and its files and classes worked on
 pub built_comes : (plan : Plan) (method_bytes : ℕ) (image : Source) (unix : Held) (built : Built) (w v : World) (end : Result CommandAnswer Stop)
-    → (t : Translated image plan.name method_bytes built) → Comes (λ x. IsDueBehind built.files.items
+    → (t : Translated image plan.name method_bytes built) → Comes true (λ x. IsDueBehind built.files.items
     (IsDueOfHeldRun plan image unix t.linked.classes w.input.told)) w v end
-    → Comes (λ x. IsDueOfHeldGo plan method_bytes image unix x.input.told) w v end
+    → Comes true (λ x. IsDueOfHeldGo plan method_bytes image unix x.input.told) w v end
 built_comes plan method_bytes image unix built w v end t comes =
-    due_as (λ x. IsDueBehind built.files.items (IsDueOfHeldRun plan image unix t.linked.classes w.input.told))
+    due_as true (λ x. IsDueBehind built.files.items (IsDueOfHeldRun plan image unix t.linked.classes w.input.told))
     (λ x. IsDueOfHeldGo plan method_bytes image unix x.input.told) w v end (λ due h. (built, t, h)) comes

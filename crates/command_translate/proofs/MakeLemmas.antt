@@ -1,5 +1,5 @@
 -- What is due of the program that is made.
-use Rattle.std.proofs.Common.{◌≡◌, ◌≢◌, ℕ, ℤ, ◌≤◌, ◌%◌, pos, List, [], Option, None, Some, Result, ap, ◌∙◌, subst, arith}
+use Rattle.std.proofs.Common.{◌≡◌, ◌≢◌, ℕ, ℤ, ◌≤◌, ◌%◌, false, pos, List, [], Option, None, Some, Result, Ok, Err, ap, ◌∙◌, subst, arith}
 use Rattle.elf_reader.specs.Area.{area}
 use Rattle.elf_reader.specs.Fault.{elf_fault, IsRunsOf}
 use Rattle.elf_reader.specs.declared.range.Range.{Range}
@@ -8,18 +8,24 @@ use Rattle.elf_image.specs.Start.{Source}
 use Rattle.elf_writer.specs.Fields.{words}
 use Rattle.mips_asm.specs.File.{IsFileOf}
 use Rattle.made_program.specs.Words.{made_words}
+use Rattle.jvm_code.specs.declared.class.Class.{Class}
+use Rattle.program_translation.specs.declared.built.Built.{Built}
+use Rattle.nv_translate.specs.Translated.{Translated}
 use Rattle.made_program.specs.Ends.{ExitsLow, made_outcome}
 use Rattle.command_deeds.proofs.DeedLemmas.{due_as}
-use Rattle.command_deeds.specs.Ends.{CommandAnswer, Comes, Due, answers}
+use Rattle.command_deeds.specs.Checks.{Behind, unless}
+use Rattle.command_deeds.specs.Ends.{CommandAnswer, Comes, Due}
 use Rattle.command_deeds.specs.Line.{status_of}
 use Rattle.command_deeds.specs.World.{World}
 use Rattle.command_deeds.specs.declared.done.Done.{Done}
-use Rattle.command_deeds.specs.declared.done.Done.TheVariants.{Exited, Spent}
+use Rattle.command_deeds.specs.declared.done.Done.TheVariants.{ElfRefused, Exited, ImageRefused, Spent}
 use Rattle.command_deeds.specs.Runs.{answer_of}
 use Rattle.command_deeds.specs.declared.stop.Stop.{Stop}
-use Rattle.command_guest.specs.Imaging.{IsDueByElf, IsDueByImage, IsImageOf, IsRefusal, source_of}
+use Rattle.command_guest.proofs.ImagingLemmas.{image_is}
+use Rattle.command_guest.specs.Imaging.{IsImageChecked, IsImaged, source_of}
+use Rattle.command_guest.specs.declared.imaging.TheConstants.{DEFAULT_PAGES}
 use Rattle.command_translate.proofs.RunLemmas.{same_end}
-use Rattle.command_translate.specs.Make.{IsDueOfMade, IsDueOfMake, IsEndOfTranslation, classes_end, interp_end, made_pages, made_steps, told}
+use Rattle.command_translate.specs.Make.{IsDueOfMake, IsEndOfTranslation, classes_end, interp_end, made_name, made_steps, told}
 
 -- ---- both runs
 
@@ -32,16 +38,29 @@ low_status end status low is =
     let small : status % 256 ≡ status = omega (arith, low) in
     ap status_of is ∙ small
 
+-- it exits with one status of seven bits
+pub record IsDueOfBoth (count moment : ℕ) (source : Source) (made : List Class) (due : Due) : Type 0 where
+  pub status : ℕ
+  pub low : status ≤ 127
+  pub interp : interp_end (made_steps count) moment source ≡ Some (Exited (pos status))
+  pub classes : classes_end (made_steps count) moment source made ≡ Some (Exited (pos status))
+  pub is : due ≡ told count status status
+
+-- what is due of the image of the program
+abbrev pub IsDueOfMade : ℕ → ℕ → ℕ → Source → Due → Type 0
+IsDueOfMade count method_bytes moment source due =
+    (built : Built) × (t : Translated source made_name method_bytes built) × IsDueOfBoth count moment source t.linked.classes due
+
 -- the program exits by itself, and both runs are told
 pub ends_told : (count method_bytes moment steps : ℕ) (file this : List ℕ) (source : Source) (interp classes : Done) (i k : ℕ) → steps ≡ made_steps count
-    → source ≡ source_of made_pages this → this ≡ file → ExitsLow (made_outcome (made_steps count) moment file)
+    → source ≡ source_of DEFAULT_PAGES this → this ≡ file → ExitsLow (made_outcome (made_steps count) moment file)
     → interp_end steps moment source ≡ Some interp
     → IsEndOfTranslation steps moment source method_bytes classes → i ≡ status_of interp → k ≡ status_of classes
     → IsDueOfMade count method_bytes moment source (told count i k)
 ends_told count method_bytes moment steps file this source interp classes i k same imaged is_file exits first second is_i is_k =
     let by = made_steps count in
     let t = second.translated in
-    let as_source : source ≡ source_of made_pages file = imaged ∙ ap (source_of made_pages) is_file in
+    let as_source : source ≡ source_of DEFAULT_PAGES file = imaged ∙ ap (source_of DEFAULT_PAGES) is_file in
     let end : interp_end by moment source ≡ Some (Exited (pos exits.status)) = ap (interp_end by moment) as_source ∙ ap answer_of exits.is in
     let alike : classes_end by moment source t.linked.classes ≡ interp_end by moment source =
     same_end by moment method_bytes source second.built t (not_spent (interp_end by moment source) (pos exits.status) end) in
@@ -67,28 +86,36 @@ ends_told count method_bytes moment steps file this source interp classes i k sa
 
 -- the program in its file
 made_due : (count method_bytes moment : ℕ) (file this : List ℕ) (image : Source) (due : Due) → IsFileOf (words (made_words count)) [] file → this ≡ file
-    → image ≡ source_of made_pages this → IsDueOfMade count method_bytes moment image due → IsDueOfMake count method_bytes moment due
+    → image ≡ source_of DEFAULT_PAGES this → IsDueOfMade count method_bytes moment image due → IsDueOfMake count method_bytes moment due
 made_due count method_bytes moment file this image due is same imaged h =
-    (file, is, subst (λ s. IsDueOfMade count method_bytes moment s due) (imaged ∙ ap (source_of made_pages) same) h)
+    let made = subst (λ s. IsDueOfMade count method_bytes moment s due) (imaged ∙ ap (source_of DEFAULT_PAGES) same) h in
+    record {
+      file = file;
+      file_is = is;
+      built = made.0;
+      translated = made.1;
+      status = made.2.status;
+      low = made.2.low;
+      interp = made.2.interp;
+      classes = made.2.classes;
+      done = made.2.is;
+    }
 
 -- its image was made, and the rest came to this
 pub make_comes : (count method_bytes moment : ℕ) (file this : List ℕ) (image : Source) (w v : World) (end : Result CommandAnswer Stop)
     → IsFileOf (words (made_words count)) [] file → this ≡ file
-    → IsImageOf (source_of made_pages this) image → Comes (λ x. IsDueOfMade count method_bytes moment image) w v end
-    → Comes (λ x. IsDueOfMake count method_bytes moment) w v end
+    → IsImaged DEFAULT_PAGES this (Ok image) → Comes false (λ x. IsDueOfMade count method_bytes moment image) w v end
+    → Comes false (λ x. IsDueOfMake count method_bytes moment) w v end
 make_comes count method_bytes moment file this image w v end is same imaged comes =
-    due_as (λ x. IsDueOfMade count method_bytes moment image) (λ x. IsDueOfMake count method_bytes moment) w v end
-    (λ due h. made_due count method_bytes moment file this image due is same imaged.is h) comes
+    due_as false (λ x. IsDueOfMade count method_bytes moment image) (λ x. IsDueOfMake count method_bytes moment) w v end
+    (λ due h. made_due count method_bytes moment file this image due is same (image_is DEFAULT_PAGES this image imaged) h) comes
 
 -- it is not refused
-
-abbrev Nothing : Source → Due → Type 0
-Nothing source due = ⊥
-
 pub make_accepted : (file this : List ℕ) (answer : CommandAnswer) → this ≡ file → elf_fault file ≡ None
-    → ((runs : List Range) → IsRunsOf (area file) runs → image_fault file runs 256 64 ≡ None) → IsRefusal (source_of made_pages this) answer → ⊥
+    → ((runs : List Range) → IsRunsOf (area file) runs → image_fault file runs 256 64 ≡ None) → IsImaged DEFAULT_PAGES this (Err answer) → ⊥
 make_accepted file this answer same accepted passed refused =
-    let source = source_of made_pages file in
-    let by_elf = subst (λ f. IsDueByElf f Nothing source (answers answer)) accepted
-    (subst (λ f. IsRefusal (source_of made_pages f) answer) same refused) in
-    subst (λ f. IsDueByImage f Nothing source (answers answer)) (passed by_elf.0 by_elf.1) by_elf.2
+    let source = source_of DEFAULT_PAGES file in
+    let checked : IsImageChecked source (Err answer) = subst (λ f. Behind (unless f ElfRefused source) IsImageChecked (Err answer)) accepted
+    (subst (λ f. IsImaged DEFAULT_PAGES f (Err answer)) same refused) in
+    let e : Err answer ≡ Ok source = checked.is ∙ ap (λ f. unless f ImageRefused source) (passed checked.runs checked.are_runs) in
+    cc

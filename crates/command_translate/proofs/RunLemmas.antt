@@ -20,12 +20,15 @@ use Rattle.nv_translate.proofs.EndedRuns.{back, forth, system_fits}
 use Rattle.nv_translate.specs.Ends.{EndsAs}
 use Rattle.nv_translate.specs.Translated.{Translated}
 use Rattle.command_deeds.specs.Ends.{CommandAnswer, Due, says}
+use Rattle.command_deeds.specs.declared.alone.TheConstants.{BLOCKS}
 use Rattle.command_deeds.specs.declared.done.Done.{Done}
 use Rattle.command_deeds.specs.declared.done.Done.TheVariants as done
-use Rattle.command_deeds.specs.Runs.{IsDueOfSteps, GivenFile, Plan, answer_of, arguments_of, of_runs, run_alone, run_for}
+use Rattle.command_deeds.proofs.PlayLemmas.{IsDueOfSteps}
+use Rattle.command_deeds.specs.Runs.{GivenFile, Plan, answer_of, arguments_of, of_runs, run_alone}
 use Rattle.command_translate.proofs.GuestEnds.{never_trapped}
-use Rattle.command_translate.specs.Go.{IsDueOfTheirRun, classes_for, program_for}
+use Rattle.command_translate.specs.Go.{IsDueOfTranslated, classes_for, program_for}
 use Rattle.command_translate.specs.Make.{classes_end, interp_end, made_name}
+use Rattle.command_translate.specs.Stores.{after_stores}
 
 -- a trap is told of a run that ended in one
 abbrev dones : Option CommandAnswer → Option Done
@@ -88,24 +91,23 @@ module _ (plan : Plan) (method_bytes : ℕ) (source : Source) (built : Built) (t
   enough : need mapped ≤ need mapped
   enough = omega arith
 
-  as_interp : (input : Option (List ℕ)) → (program_for plan source found input pieces).outcome ≢ Going
-      → EndsAs (program_for plan source found input pieces)
-      (classes_for plan source found t.linked.classes input pieces (allow mapped plan.session.steps))
-  as_interp (Some input) over =
-      forth reply system_fits source (program_of t.linked.classes) (need mapped) (system input) t.runs plan.session.steps enough over
-  as_interp None over =
+  as_program : (input : Option (List ℕ)) (n : ℕ) → (program_for plan source found input pieces n).outcome ≢ Going
+      → EndsAs (program_for plan source found input pieces n) (classes_for plan source found t.linked.classes input pieces (allow mapped n))
+  as_program (Some input) n over =
+      forth reply system_fits source (program_of t.linked.classes) (need mapped) (system input) t.runs n enough over
+  as_program None n over =
       without _ _ (forth reply_arriving arriving_fits source (program_of t.linked.classes) (need mapped) (arriving (system []) pieces) t.runs
-      plan.session.steps enough over)
+      n enough over)
 
   as_classes : (input : Option (List ℕ)) (m : ℕ) → (classes_for plan source found t.linked.classes input pieces m).outcome ≢ Going
-      → EndsAs (classes_for plan source found t.linked.classes input pieces m) (run_for m turn (start_of (image_of source)) plan found input pieces)
+      → EndsAs (classes_for plan source found t.linked.classes input pieces m) (program_for plan source found input pieces m)
   as_classes (Some input) m over =
       back reply system_fits source (program_of t.linked.classes) (need mapped) (system input) t.runs m enough over
   as_classes None m over =
       without _ _ (back reply_arriving arriving_fits source (program_of t.linked.classes) (need mapped) (arriving (system []) pieces) t.runs
       m enough over)
 
-  program_traps_not : (input : Option (List ℕ)) (m k : ℕ) → (run_for m turn (start_of (image_of source)) plan found input pieces).outcome ≢ Trapped k
+  program_traps_not : (input : Option (List ℕ)) (m k : ℕ) → (program_for plan source found input pieces m).outcome ≢ Trapped k
   program_traps_not (Some input) m k = never_trapped reply m (start_of (image_of source)) (system input) k
   program_traps_not None m k = never_trapped reply_arriving m (start_of (image_of source)) (arriving (system []) pieces) k
 
@@ -118,20 +120,21 @@ module _ (plan : Plan) (method_bytes : ℕ) (source : Source) (built : Built) (t
       let trapped : run.outcome ≡ Trapped k = trap_told run.outcome k (sym (ap (λ d. d.answer) is) ∙ h) in
       program_traps_not input bound k ((as_classes input bound (trap_ends run.outcome k trapped)).outcome ∙ trapped)
 
--- what is due of the run of a translation's classes
+-- what is due of a translation, whose files are stored and whose classes run
 pub run_due : (plan : Plan) (method_bytes : ℕ) (source : Source) (built : Built) (t : Translated source plan.name method_bytes built)
-    (found : List GivenFile) (rest : Option (List ℕ)) (due : Due)
+    (given : List GivenFile) (rest : Option (List ℕ)) (later due : Due)
     → IsDueOfSteps (allow (image_of source).mapped plan.session.steps) loaded_turn
-    (loaded (program_of t.linked.classes) (need (image_of source).mapped)) plan rest found due
-    → IsDueOfTheirRun plan source rest found t.linked.classes due
-run_due plan method_bytes source built t found rest due h = (
-  h.0,
-  record {
-    is = h.1;
-    as_interp = as_interp plan method_bytes source built t found h.0 rest;
-    no_trap = no_trap plan method_bytes source built t found h.0 rest due h.1;
-  },
-)
+    (loaded (program_of t.linked.classes) (need (image_of source).mapped)) plan rest given later
+    → due ≡ after_stores built.files.items later → IsDueOfTranslated plan method_bytes source given rest due
+run_due plan method_bytes source built t given rest later due h is = record {
+  built = built;
+  translated = t;
+  pieces = h.0;
+  is = is ∙ ap (after_stores built.files.items) h.1;
+  as_program = as_program plan method_bytes source built t given h.0 rest plan.session.steps;
+  as_classes = as_classes plan method_bytes source built t given h.0 rest (allow (image_of source).mapped plan.session.steps);
+  no_trap = λ k told. no_trap plan method_bytes source built t given h.0 rest later h.1 k (sym (ap (λ d. d.answer) is) ∙ told);
+}
 
 -- ---- `make`
 
@@ -141,6 +144,6 @@ pub same_end : (steps moment method_bytes : ℕ) (source : Source) (built : Buil
     → classes_end steps moment source t.linked.classes ≡ interp_end steps moment source
 same_end steps moment method_bytes source built t over =
     let mapped = (image_of source).mapped in
-    let alike = t.ends.forth (start 1024 moment [] (made_name ∷ []) []) (need mapped) steps (omega arith)
+    let alike = t.ends.forth (start BLOCKS moment [] (made_name ∷ []) []) (need mapped) steps (omega arith)
     (λ going. over (spent_told (run_alone steps turn (start_of (image_of source)) made_name moment).outcome going)) in
     ap answer_of alike.outcome

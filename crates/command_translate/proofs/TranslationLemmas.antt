@@ -1,13 +1,19 @@
 -- What is due of a translation.
-use Rattle.std.proofs.Common.{◌≡◌, ℕ, List, subst, sym}
+use Rattle.std.proofs.Common.{◌≡◌, ℕ, List, Ok, Err, refl, subst, sym}
+use Rattle.nv_outside.specs.Files.{AgreeWith, Files}
+use Rattle.command_values.specs.Names.{Text}
+use Rattle.command_words.specs.declared.named.Named.{Named}
+use Rattle.command_words.specs.declared.pages.Pages.{Pages}
 use Rattle.elf_image.specs.Start.{Source}
-use Rattle.jvm_code.specs.declared.class.Class.{Class}
 use Rattle.program_translation.specs.declared.built.Built.{Built}
 use Rattle.program_translation.specs.declared.named_file.NamedFile.{NamedFile}
 use Rattle.nv_translate.specs.Translated.{Translated}
-use Rattle.command_deeds.specs.Ends.{Due}
+use Rattle.command_deeds.specs.Checks.{file_named}
+use Rattle.command_deeds.specs.Ends.{CommandAnswer, Due, answers}
+use Rattle.command_deeds.specs.World.{World}
+use Rattle.command_guest.specs.Imaging.{IsImagedFrom}
 use Rattle.command_translate.specs.Classes.{HoldAccepted, SpellClasses}
-use Rattle.command_translate.specs.Translate.{IsDueOfTranslation}
+use Rattle.command_translate.specs.Translate.{IsDueOfTranslate, counted}
 
 -- its files hold classes that are accepted
 pub hold_accepted : (source : Source) (name : List ℕ) (method_bytes : ℕ) (built : Built) (files : List NamedFile)
@@ -20,8 +26,32 @@ pub spell_classes : (source : Source) (name : List ℕ) (method_bytes : ℕ) (bu
     → (t : Translated source name method_bytes built) → files ≡ built.files.items → SpellClasses files t.linked.classes
 spell_classes source name method_bytes built files t same = subst (λ fs. SpellClasses fs t.linked.classes) (sym same) t.linked.spelled
 
--- what is due of it under another name
-pub translation_as : (source : Source) (name : List ℕ) (method_bytes : ℕ) (IsDueWith Also : Built → List Class → Due → Type 0) (due : Due)
-    → ((built : Built) (t : Translated source name method_bytes built) → IsDueWith built t.linked.classes due → Also built t.linked.classes due)
-    → IsDueOfTranslation source name method_bytes IsDueWith due → IsDueOfTranslation source name method_bytes Also due
-translation_as source name method_bytes IsDueWith Also due f h = (h.0, h.1, f h.0 h.1 h.2)
+-- ---- `translate`
+
+pub translate_refused : (input : Named) (name : Text) (pages : Pages) (method_bytes : ℕ) (w : World) (files : Files) (answer : CommandAnswer)
+    → AgreeWith w.shelf.told files → IsImagedFrom input pages files (Err answer)
+    → IsDueOfTranslate input name pages method_bytes w (answers answer)
+translate_refused input name pages method_bytes w files answer agree h = record {
+  files = files;
+  agree = agree;
+  file = file_named files input;
+  file_is = refl;
+  source = Err answer;
+  source_is = h;
+  refused = refl;
+  done = tt;
+}
+
+pub translate_due : (input : Named) (name : Text) (pages : Pages) (method_bytes : ℕ) (w : World) (files : Files) (image : Source) (built : Built)
+    (due : Due) → AgreeWith w.shelf.told files → IsImagedFrom input pages files (Ok image) → Translated image name method_bytes built
+    → due ≡ counted built → IsDueOfTranslate input name pages method_bytes w due
+translate_due input name pages method_bytes w files image built due agree h t is = record {
+  files = files;
+  agree = agree;
+  file = file_named files input;
+  file_is = refl;
+  source = Ok image;
+  source_is = h;
+  refused = tt;
+  done = record { built = built; translated = t; is = is };
+}

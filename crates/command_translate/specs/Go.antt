@@ -1,6 +1,6 @@
 -- What `go` is to do.
-use Rattle.std.specs.Prelude.{◌≡◌, ◌≢◌, ℕ, List, Option, Some}
-use Rattle.nv_outside.specs.Files.{Files}
+use Rattle.std.specs.Prelude.{◌≡◌, ◌≢◌, ℕ, List, Option, Some, IfErr, IfOk}
+use Rattle.nv_outside.specs.Files.{AgreeWith, Files}
 use Rattle.nv_events.specs.Run.{Run}
 use Rattle.nv_events.specs.declared.outcome.Outcome.TheVariants.{Going}
 use Rattle.command_words.specs.declared.named.Named.{Named}
@@ -16,62 +16,85 @@ use Rattle.jvm_link.specs.Linking.{program_of}
 use Rattle.program_translation.specs.Bounds.{allow, need}
 use Rattle.program_translation.specs.declared.built.Built.{Built}
 use Rattle.nv_translate.specs.Ends.{EndsAs}
-use Rattle.command_deeds.specs.Ends.{Due, says}
+use Rattle.nv_translate.specs.Translated.{Translated}
+use Rattle.command_deeds.specs.Checks.{Behind, Check, after, file_named}
+use Rattle.command_deeds.specs.Ends.{Due, answers, says}
 use Rattle.command_deeds.specs.declared.done.Done.TheVariants.{Trapped}
-use Rattle.command_deeds.specs.Runs.{IsDueOfSession, GivenFile, Plan, of_runs, run_for}
-use Rattle.command_guest.specs.Imaging.{IsDueOfProgram}
-use Rattle.command_translate.specs.Stores.{IsDueBehind}
-use Rattle.command_translate.specs.Translate.{IsDueOfTranslation}
+use Rattle.command_deeds.specs.Runs.{GivenFile, Plan, found_for, of_runs, run_for}
+use Rattle.command_deeds.specs.World.{World}
+use Rattle.command_guest.specs.Imaging.{IsImaged}
+use Rattle.command_translate.specs.Stores.{after_stores}
 
--- the run of a program's classes from their start, for at most n instructions: in the region that they need, over these files, and over this
--- input, or these pieces of it
+-- the run of a program's classes from their start, for at most n instructions: in the region that
+-- they need, over these files, and over this input, or these pieces of it
 abbrev pub classes_for : Plan → Source → List GivenFile → List Class → Option (List ℕ)
     → List (List ℕ) → ℕ → Run Loaded System
-classes_for plan source found classes input pieces n =
+classes_for plan source given classes input pieces n =
     run_for n loaded_turn (loaded (program_of classes) (need (image_of source).mapped))
-    plan found input pieces
+    plan given input pieces
 
--- the run of the program itself over the same, for its steps, as `interp` makes it
-abbrev pub program_for : Plan → Source → List GivenFile → Option (List ℕ) → List (List ℕ)
+-- the run of the program itself over the same, for at most n steps, as `interp` makes it
+abbrev pub program_for : Plan → Source → List GivenFile → Option (List ℕ) → List (List ℕ) → ℕ
     → Run State System
-program_for plan source found input pieces =
-    run_for plan.session.steps turn (start_of (image_of source)) plan found input pieces
+program_for plan source given input pieces n =
+    run_for n turn (start_of (image_of source)) plan given input pieces
 
--- What is due of the run of the classes, for as many instructions as the program's steps allow. Where the program itself ends within its steps, they
--- end as it does: after the same calls, in the same way, and with the same files, input and output. They never end in a trap.
-pub record IsDueOfClasses (plan : Plan) (source : Source) (found : List GivenFile)
-    (classes : List Class) (input : Option (List ℕ))
-    (pieces : List (List ℕ)) (due : Due) : Type 0 where
-  pub is : due ≡ of_runs loaded_turn (allow (image_of source).mapped plan.session.steps)
-      (classes_for plan source found classes input pieces) plan.session.keep.names
-  pub as_interp : (program_for plan source found input pieces).outcome ≢ Going
-      → EndsAs (program_for plan source found input pieces)
-      (classes_for plan source found classes input pieces
-      (allow (image_of source).mapped plan.session.steps))
+-- how many instructions the program's steps allow its classes
+abbrev pub allowed : Plan → Source → ℕ
+allowed plan source = allow (image_of source).mapped plan.session.steps
+
+-- what is due of the run of the classes, for so many
+abbrev pub classes_run : Plan → Source → List GivenFile → List Class → Option (List ℕ)
+    → List (List ℕ) → Due
+classes_run plan source given classes input pieces =
+    of_runs loaded_turn (allowed plan source)
+    (classes_for plan source given classes input pieces) plan.session.keep.names
+
+-- What is due of a program that has an image, with the files of --with.
+pub record IsDueOfTranslated (plan : Plan) (method_bytes : ℕ) (source : Source)
+    (given : List GivenFile) (input : Option (List ℕ)) (due : Due) : Type 0 where
+  -- a translation: its files spell classes that are accepted, and that run as the program
+  pub built : Built
+  pub translated : Translated source plan.name method_bytes built
+  -- pieces of input, of which one comes before each call where it does not tell what it has left
+  pub pieces : List (List ℕ)
+  -- its files are stored, and then its classes run
+  pub is : due ≡ after_stores built.files.items
+      (classes_run plan source given translated.linked.classes input pieces)
+  -- Where the program itself ends within its steps, as `interp` makes it, they end as it does:
+  -- after the same calls, in the same way, and with the same files, input and output.
+  pub as_program : (program_for plan source given input pieces plan.session.steps).outcome ≢ Going
+      → EndsAs (program_for plan source given input pieces plan.session.steps)
+      (classes_for plan source given translated.linked.classes input pieces (allowed plan source))
+  -- And where they end, the program ends as they do within as many steps as they may make: they
+  -- exit and fault only where it does.
+  pub as_classes : (classes_for plan source given translated.linked.classes input pieces
+      (allowed plan source)).outcome ≢ Going
+      → EndsAs (classes_for plan source given translated.linked.classes input pieces
+      (allowed plan source)) (program_for plan source given input pieces (allowed plan source))
+  -- they never end in a trap
   pub no_trap : (k : ℕ) → due.answer ≢ Some (says (Trapped k))
 
-abbrev pub IsDueOfTheirRun : Plan → Source → Option (List ℕ) → List GivenFile → List Class → Due
-    → Type 0
-IsDueOfTheirRun plan source input found classes due =
-    (pieces : List (List ℕ)) × IsDueOfClasses plan source found classes input pieces due
-
--- the files of a translation are stored, and the classes that they spell run
-abbrev pub IsDueOfStored : Plan → Source → Option (List ℕ) → List GivenFile → Built → List Class
-    → Due → Type 0
-IsDueOfStored plan source rest found built classes =
-    IsDueBehind built.files.items (IsDueOfTheirRun plan source rest found classes)
-
-abbrev pub IsDueOfFound : Plan → ℕ → Source → Option (List ℕ) → List GivenFile → Due → Type 0
-IsDueOfFound plan method_bytes source rest found =
-    IsDueOfTranslation source plan.name method_bytes (IsDueOfStored plan source rest found)
-
--- the arguments and files of a program, and then its translation
-abbrev pub IsDueOfTranslated : Plan → ℕ → Files → Option (List ℕ) → Source → Due → Type 0
-IsDueOfTranslated plan method_bytes files rest source =
-    IsDueOfSession plan (IsDueOfFound plan method_bytes source rest) files
-
--- what `go` is to do with the program of a file that the words name
-abbrev pub IsDueOfGo : Named → Pages → ℕ → Plan → Files → Option (List ℕ) → Due → Type 0
-IsDueOfGo input pages method_bytes plan files rest due =
-    IsDueOfProgram input pages (IsDueOfTranslated plan method_bytes files rest) (files input.text)
-    due
+-- What `go` is to do with the program of a file that the words name.
+pub record IsDueOfGo (input : Named) (pages : Pages) (method_bytes : ℕ) (plan : Plan) (w : World)
+    (due : Due) : Type 0 where
+  -- the files as the program is loaded: those of the shelf, where it tells them
+  pub files : Files
+  pub agree : AgreeWith w.shelf.told files
+  -- and as the files of --with are
+  pub with_files : Files
+  pub with_agree : AgreeWith w.shelf.told with_files
+  -- the program's file is there
+  pub file : Check (List ℕ)
+  pub file_is : file ≡ file_named files input
+  -- it is a program, and has an image
+  pub source : Check Source
+  pub source_is : Behind file (IsImaged pages) source
+  -- the arguments fit, and the files of --with are there and fit
+  pub found : Check (List GivenFile)
+  pub found_is : found ≡ after source (λ image. found_for plan with_files)
+  -- the answer where one of these refused
+  pub refused : IfErr found (λ answer. due ≡ answers answer)
+  -- where all passed, a translation of the program and the run of its classes
+  pub done : IfOk source (λ image. IfOk found (λ given.
+      IsDueOfTranslated plan method_bytes image given w.input.told due))

@@ -1,7 +1,6 @@
 -- What `make` is to do.
 use Rattle.std.specs.Prelude.{◌≡◌, ℕ, ◌≤◌, ◌+◌, ◌*◌, List, [], ◌∷◌, codes, decimal, pos, Option, Some}
 use Rattle.command_values.specs.Names.{Text}
-use Rattle.command_words.specs.declared.pages.Pages.{Pages}
 use Rattle.mips_decode.specs.Step.{turn}
 use Rattle.elf_image.specs.Start.{Source, image_of}
 use Rattle.elf_writer.specs.Fields.{words}
@@ -21,14 +20,11 @@ use Rattle.command_deeds.specs.Ends.{Due, says}
 use Rattle.command_deeds.specs.Line.{joined}
 use Rattle.command_deeds.specs.Runs.{answer_of, run_alone}
 use Rattle.command_guest.specs.Imaging.{source_of}
-use Rattle.command_translate.specs.Translate.{IsDueOfTranslation}
+use Rattle.command_guest.specs.declared.imaging.TheConstants.{DEFAULT_PAGES}
 
 -- the name of a made program
 abbrev pub made_name : Text
 made_name = codes "Main"
-
-abbrev pub made_pages : Pages
-made_pages = record { heap = 256; stack = 64 }
 
 -- five for each block, three at the end, and the call before the first
 abbrev pub made_steps : ℕ → ℕ
@@ -58,26 +54,25 @@ told count interp classes = record {
   answer = Some (says Good);
 }
 
--- The program exits within its steps, in the reference machine and as classes, with one status of seven bits, which is told twice.
-pub record IsDueOfBoth (count moment : ℕ) (source : Source) (made : List Class) (due : Due)
-    : Type 0 where
+-- What `make` is to do with a program of so many blocks: no check refuses it.
+pub record IsDueOfMake (count method_bytes moment : ℕ) (due : Due) : Type 0 where
+  -- the file of the program, which is written for itself
+  pub file : List ℕ
+  pub file_is : IsFileOf (words (made_words count)) [] file
+  -- a translation of it
+  pub built : Built
+  pub translated : Translated (source_of DEFAULT_PAGES file) made_name method_bytes built
+  -- a status of seven bits
   pub status : ℕ
   pub low : status ≤ 127
-  pub interp : interp_end (made_steps count) moment source ≡ Some (Exited (pos status))
-  pub classes : classes_end (made_steps count) moment source made ≡ Some (Exited (pos status))
-  pub is : due ≡ told count status status
-
--- what is due of the image of the program
-abbrev pub IsDueOfMade : ℕ → ℕ → ℕ → Source → Due → Type 0
-IsDueOfMade count method_bytes moment source =
-    IsDueOfTranslation source made_name method_bytes
-    (λ built classes. IsDueOfBoth count moment source classes)
-
--- what `make` is to do: it writes the file of the program for itself, which is accepted
-abbrev pub IsDueOfMake : ℕ → ℕ → ℕ → Due → Type 0
-IsDueOfMake count method_bytes moment due =
-    (file : List ℕ) × IsFileOf (words (made_words count)) [] file
-    × IsDueOfMade count method_bytes moment (source_of made_pages file) due
+  -- with which the program exits within its steps in the reference machine
+  pub interp : interp_end (made_steps count) moment (source_of DEFAULT_PAGES file)
+      ≡ Some (Exited (pos status))
+  -- and as classes
+  pub classes : classes_end (made_steps count) moment (source_of DEFAULT_PAGES file)
+      translated.linked.classes ≡ Some (Exited (pos status))
+  -- the number of words and both statuses are told
+  pub done : due ≡ told count status status
 
 -- the classes of a translation of the program end so
 pub record IsEndOfTranslation (steps moment : ℕ) (source : Source) (method_bytes : ℕ) (end : Done)

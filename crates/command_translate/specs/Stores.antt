@@ -1,5 +1,5 @@
 -- The files of a translation are stored one after the other, and then a command goes on.
-use Rattle.std.specs.Prelude.{◌≡◌, List, ◌∷◌, ◌++◌, map}
+use Rattle.std.specs.Prelude.{List, ◌∷◌, ◌++◌, map}
 use Rattle.program_translation.specs.Files.{name_of}
 use Rattle.program_translation.specs.declared.named_file.NamedFile.{NamedFile}
 use Rattle.command_deeds.specs.Deeds.{Deed, prepares, stores}
@@ -19,7 +19,3 @@ after_stores files due = record {
       ++ prepares ∷ due.deeds;
   answer = due.answer;
 }
-
--- what is due behind stored files
-abbrev pub IsDueBehind : List NamedFile → (Due → Type 0) → Due → Type 0
-IsDueBehind files IsDue due = (later : Due) × IsDue later × (due ≡ after_stores files later)

@@ -2,7 +2,7 @@ ghost use Rattle.std.specs.Prelude.{◌≤◌, ◌^◌};
 ghost use Rattle.command_values.specs.MethodBytes.{AreMethodBytes};
 ghost use Rattle.command_values.specs.Names.{IsClassName};
 ghost use Rattle.command_words.specs.Limits.{AreFileNames, ArePages};
-ghost use Rattle.command_deeds.specs.Ends.{ByFiles, Ends};
+ghost use Rattle.command_deeds.specs.Ends.{Ends};
 ghost use Rattle.command_deeds.specs.Runs.{plan_of};
 ghost use Rattle.command_translate.specs.Go.{IsDueOfGo};
 
@@ -29,8 +29,8 @@ pub fn go<H: Shelf, S: Source, O: Sink, E: Sink>(
     requires disk { guest.now.launch.session.now.disk ≤ 65536 }
     requires names { AreFileNames guest.now.launch.session.now.with.names }
     ensures ends { Ends H.Shelf S.Source O.Sink E.Sink
-        (ByFiles (IsDueOfGo guest.now.input.now guest.now.pages method_bytes
-        (plan_of guest.now.launch))) outside.old outside.new result }
+        (IsDueOfGo guest.now.input.now guest.now.pages method_bytes (plan_of guest.now.launch))
+        outside.old outside.new result }
 {
     begins_at_start();
     let launch = &guest.launch;

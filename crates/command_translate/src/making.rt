@@ -1,28 +1,21 @@
-ghost use Rattle.std.specs.Prelude.{◌≤◌};
+ghost use Rattle.std.specs.Prelude.{◌≤◌, false};
 ghost use Rattle.command_values.specs.MethodBytes.{AreMethodBytes};
-ghost use Rattle.command_deeds.specs.Ends.{Ends};
-ghost use Rattle.command_deeds.specs.World.{Writes, output_seen};
+ghost use Rattle.command_deeds.specs.Ends.{Comes, ended};
+ghost use Rattle.command_deeds.specs.World.{SameParts, Writes, output_seen, seen};
 ghost use Rattle.command_translate.specs.Make.{IsDueOfMake, made_lines};
 
 use crate::alone_runs::{run_image, run_translated};
 use crate::statuses::Statuses;
 use command_deeds::{Done, Ending, Outside, decimal_long, write_pieces};
-use command_guest::image_of_file;
-use command_words::Pages;
+use command_guest::{DEFAULT_PAGES, image_of_file};
 use itoa::Buffer;
 use made_program::laws::{made_files_are_accepted, made_programs_end};
 use made_program::made_file;
 use nv_outside::{Failed, Shelf, Sink, Source};
 use std::alloc::Global;
 
-/// The sizes of the program's memory.
-const PAGES: Pages = Pages {
-    heap: 256,
-    stack: 64,
-};
-
-/// Makes a program of `count` blocks, runs it in the reference machine and its classes in the class machine, and writes how many words
-/// it has and the statuses of both runs. Nothing is stored. `moment` is the time in seconds since 1970.
+/// Makes a program of `count` blocks, runs it in the reference machine and its classes in the class machine, and writes
+/// how many words it has and the statuses of both runs. Nothing is stored. `moment` is the time in seconds since 1970.
 pub fn make<H: Shelf, S: Source, O: Sink, E: Sink>(
     alloc: Global,
     count: u32,
@@ -32,13 +25,15 @@ pub fn make<H: Shelf, S: Source, O: Sink, E: Sink>(
 ) -> Result<Done, Ending>
     requires count { count ≤ 65536 }
     requires method_bytes { AreMethodBytes method_bytes }
-    ensures ends { Ends H.Shelf S.Source O.Sink E.Sink (λ w. IsDueOfMake count method_bytes moment)
-        outside.old outside.new result }
+    ensures same { SameParts outside.old outside.new }
+    ensures comes { Comes false (λ w. IsDueOfMake count method_bytes moment)
+        (seen H.Shelf S.Source O.Sink E.Sink outside.old)
+        (seen H.Shelf S.Source O.Sink E.Sink outside.new) (ended result) }
 {
     made_files_are_accepted();
     made_programs_end();
     let file = made_file(alloc, count)?;
-    let image = image_of_file(alloc, file.as_slice(), PAGES)?;
+    let image = image_of_file(alloc, file.as_slice(), DEFAULT_PAGES)?;
     let steps = 5 * u64::from(count) + 4;
     let interp_end = run_image(alloc, &image, steps, moment)?;
     let classes_end = run_translated(alloc, &image, method_bytes, steps, moment)?;

@@ -1,7 +1,7 @@
 ghost use Rattle.command_values.specs.MethodBytes.{AreMethodBytes};
 ghost use Rattle.command_values.specs.Names.{IsClassName};
 ghost use Rattle.command_words.specs.Limits.{ArePages};
-ghost use Rattle.command_deeds.specs.Ends.{ByFiles, Ends};
+ghost use Rattle.command_deeds.specs.Ends.{Ends};
 ghost use Rattle.command_deeds.specs.World.{Writes, output_seen};
 ghost use Rattle.command_translate.specs.Translate.{IsDueOfTranslate, counts_line};
 
@@ -14,8 +14,8 @@ use nv_outside::{Failed, Shelf, Sink, Source};
 use nv_translate::Built;
 use std::alloc::Global;
 
-/// Loads a program, translates it, stores its classes under a name, and writes how many files they are and how many words of a region
-/// they need.
+/// Loads a program, translates it, stores its classes under a name, and writes how many files they are and how many
+/// words of a region they need.
 pub fn translate<H: Shelf, S: Source, O: Sink, E: Sink>(
     alloc: Global,
     input: &Named,
@@ -28,7 +28,7 @@ pub fn translate<H: Shelf, S: Source, O: Sink, E: Sink>(
     requires pages { ArePages pages }
     requires method_bytes { AreMethodBytes method_bytes }
     ensures ends { Ends H.Shelf S.Source O.Sink E.Sink
-        (ByFiles (IsDueOfTranslate input.now name.now pages method_bytes))
+        (IsDueOfTranslate input.now name.now pages method_bytes)
         outside.old outside.new result }
 {
     let image = load_image(alloc, input, pages, outside.shelf)?;

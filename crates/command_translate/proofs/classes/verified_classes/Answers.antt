@@ -1,5 +1,8 @@
-use Rattle.command_translate.proofs.FileLemmas.{not_refused}
+use Rattle.command_translate.proofs.FileLemmas.{accepted_same, not_refused}
 use Rattle.command_translate.proofs.classes.verified_classes.Goals as goal
+
+pub returns-in-Ok : goal.returns-in-Ok
+returns-in-Ok c = accepted_same c.args.classes.items c.in-Ok.verified.linked.classes c.requires.accepted c.in-Ok.ensures.makes
 
 pub unreachable-requires : goal.unreachable-requires
 unreachable-requires c =

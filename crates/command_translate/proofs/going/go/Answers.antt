@@ -1,23 +1,21 @@
-use Rattle.std.proofs.Common.{◌∙◌, Err, ap, refl, subst}
+use Rattle.std.proofs.Common.{◌∙◌, Err, ap, inl, refl, subst}
 use Rattle.std.proofs.lemmas.Result.{err_from_is_err_and}
 use Rattle.elf_image.specs.Start.{image_of}
 use Rattle.jvm_program.specs.Step.{loaded, loaded_turn}
 use Rattle.jvm_link.specs.Linking.{program_of}
 use Rattle.program_translation.specs.Bounds.{allow, need}
-use Rattle.command_deeds.proofs.DeedLemmas.{gives_ends, gives_then, no_memory}
+use Rattle.command_deeds.proofs.DeedLemmas.{gives_ends, same_then_shelf}
 use Rattle.command_deeds.specs.Deeds.{DoesAll, StopsIn}
-use Rattle.command_deeds.specs.Ends.{Comes, end_of, ended}
+use Rattle.command_deeds.specs.Ends.{WorksOn, end_of, ended}
 use Rattle.command_deeds.specs.World.{seen, shelf_seen, world}
 use Rattle.command_deeds.specs.declared.stop.Stop.TheVariants.{NoMemory}
-use Rattle.command_deeds.proofs.PlayLemmas.{some_run, unready_due}
-use Rattle.command_deeds.specs.Readying.{IsUnready}
+use Rattle.command_deeds.proofs.PlayLemmas.{some_run}
 use Rattle.command_deeds.specs.Runs.{IsDueOfHeld, arguments_of, plan_of}
-use Rattle.command_guest.proofs.ImagingLemmas.{due_of_imaged, refused_image}
-use Rattle.command_guest.specs.Imaging.{IsImaged, IsRefusedImage}
-use Rattle.command_translate.proofs.GoLemmas.{IsDueOfHeldGo, IsDueOfHeldRun, built_comes, go_comes}
-use Rattle.command_translate.proofs.StoreLemmas.{comes_behind, comes_stopped}
+use Rattle.command_guest.specs.Imaging.{IsImagedFrom}
+use Rattle.command_translate.proofs.GoLemmas.{IsDueOfHeldRun, built_comes, go_comes, go_refused, go_unready}
+use Rattle.command_translate.proofs.StoreLemmas.{comes_behind, comes_stopped, no_memory_behind}
 use Rattle.command_translate.proofs.TranslationLemmas.{spell_classes}
-use Rattle.command_translate.specs.Go.{IsDueOfFound, IsDueOfGo, IsDueOfTranslated}
+use Rattle.command_translate.specs.Go.{IsDueOfGo}
 use Rattle.command_translate.specs.Stores.{stored}
 use Rattle.command_translate.proofs.going.go.Goals as goal
 
@@ -32,9 +30,10 @@ returns-in_err-image g c =
     record {
       ends = (
         (refl, refl, refl, refl),
-        rw (p.1, p.2) (gives_ends (IsDueOfGo input guest.pages c.args.method_bytes plan) (IsRefusedImage input guest.pages) w v
+        rw (p.1, p.2) (gives_ends (IsDueOfGo input guest.pages c.args.method_bytes plan)
+            (λ files answer. IsImagedFrom input guest.pages files (Err answer)) w v
             (end_of c.in_err-image.field-0.0) c.in_err-image.ensures.gives (refl, refl, refl)
-            (λ files answer h. refused_image input guest.pages (IsDueOfTranslated plan c.args.method_bytes files w.input.told) files answer h)),
+            (λ files answer agree h. go_refused input guest.pages c.args.method_bytes plan w files answer agree h)),
       );
     }
 
@@ -42,44 +41,29 @@ pub returns-in_err-unix : goal.returns-in_err-unix
 returns-in_err-unix g c =
     let p = err_from_is_err_and c.from_residual-in_err-unix.result c.from_residual-in_err-unix.ensures.1 in
     let guest = c.args.guest.now in
-    let input = guest.input.now in
     let plan = plan_of guest.launch in
-    let image = c.in_ok-image.image in
-    let end = end_of c.in_err-unix.field-0.0 in
     let w = seen g.H.Shelf g.S.Source g.O.Sink g.E.Sink c.args.outside.now in
     let u = world (shelf_seen g.H.Shelf c.load_image.new.shelf) w.input w.out w.err in
     let v = world (shelf_seen g.H.Shelf c.ready.new.shelf) w.input w.out w.err in
     record {
       ends = (
         (refl, refl, refl, refl),
-        rw (p.1, p.2) (gives_then (IsDueOfGo input guest.pages c.args.method_bytes plan)
-            (λ files rest. IsDueOfTranslated plan c.args.method_bytes files rest image)
-            (IsImaged input guest.pages) image w u v end c.in_ok-image.ensures.gives (refl, refl, refl)
-            (λ files due imaged later. due_of_imaged input guest.pages (IsDueOfTranslated plan c.args.method_bytes files w.input.told) files image due
-            imaged later)
-            (gives_ends (λ files rest. IsDueOfTranslated plan c.args.method_bytes files rest image)
-            (IsUnready plan) u v end c.in_err-unix.ensures.gives (refl, refl, refl)
-            (λ files answer h. unready_due (IsDueOfFound plan c.args.method_bytes image w.input.told) plan files answer h))),
+        rw (p.1, p.2) (go_unready plan guest.input.now guest.pages c.args.method_bytes c.in_ok-image.image w u v (end_of c.in_err-unix.field-0.0)
+            c.in_ok-image.ensures.gives (refl, refl, refl) c.in_err-unix.ensures.gives (refl, refl, refl)),
       );
     }
 
 pub returns-in_err-built : goal.returns-in_err-built
 returns-in_err-built g c =
     let p = err_from_is_err_and c.from_residual-in_err-built.result c.from_residual-in_err-built.ensures.1 in
-    let guest = c.args.guest.now in
-    let plan = plan_of guest.launch in
-    let image = c.in_ok-image.image in
-    let unix = c.in_ok-unix.unix in
-    let w = seen g.H.Shelf g.S.Source g.O.Sink g.E.Sink c.args.outside.now in
-    let u = world (shelf_seen g.H.Shelf c.load_image.new.shelf) w.input w.out w.err in
-    let x = world (shelf_seen g.H.Shelf c.ready.new.shelf) w.input w.out w.err in
     record {
       ends = (
         (refl, refl, refl, refl),
-        rw (p.1, p.2) (go_comes plan (λ held rest found begins. c.begins_at_start.ensures held plan.session.disk plan.moment found
-            (arguments_of plan) rest begins) guest.input.now guest.pages c.args.method_bytes image unix w u x x (Err NoMemory)
-            c.in_ok-image.ensures.gives (refl, refl, refl) c.in_ok-unix.ensures.gives (refl, refl, refl)
-            (no_memory (λ y. IsDueOfHeldGo plan c.args.method_bytes image unix y.input.told) x)),
+        rw (p.1, p.2) (inl (
+          same_then_shelf (shelf_seen g.H.Shelf c.args.outside.now.shelf.now) (shelf_seen g.H.Shelf c.load_image.new.shelf)
+              (shelf_seen g.H.Shelf c.ready.new.shelf) c.in_ok-image.ensures.gives.same c.in_ok-unix.ensures.gives.same,
+          (refl, refl, refl),
+        )),
       );
     }
 
@@ -135,11 +119,10 @@ returns-in_err-jvm g c =
             (arguments_of plan) rest begins) guest.input.now guest.pages c.args.method_bytes image unix w u x v (Err NoMemory)
             c.in_ok-image.ensures.gives (refl, refl, refl) c.in_ok-unix.ensures.gives (refl, refl, refl)
             (built_comes plan c.args.method_bytes image unix built x v (Err NoMemory) t
-            (comes_behind built.files.items (λ y. IsDueOfHeldRun plan image unix classes y.input.told) x v v (Err NoMemory)
+            (no_memory_behind built.files.items (IsDueOfHeldRun plan image unix classes w.input.told) x v
             (some_run (allow mapped plan.session.steps) loaded_turn (loaded (program_of classes) (need mapped)) unix plan.session.keep.names
             w.input.told)
-            (subst (λ fs. DoesAll (stored fs) x v) c.as_slice.ensures.value (c.in_ok-store_files.ensures.stores w.input w.out w.err))
-            (no_memory (λ y. IsDueOfHeldRun plan image unix classes y.input.told) v)))),
+            (subst (λ fs. DoesAll (stored fs) x v) c.as_slice.ensures.value (c.in_ok-store_files.ensures.stores w.input w.out w.err))))),
       );
     }
 
@@ -164,18 +147,16 @@ returns g c =
     let bound = c.allow-steps.ensures ∙ ap (λ m. allow m plan.session.steps) c.mapped.ensures.sum in
     record {
       ends = (
-        c.play_for.ensures.ends.0,
+        c.play_for.ensures.same,
         go_comes plan (λ held rest found begins. c.begins_at_start.ensures held plan.session.disk plan.moment found (arguments_of plan) rest begins)
             guest.input.now guest.pages c.args.method_bytes image unix w u x v end
             c.in_ok-image.ensures.gives (refl, refl, refl) c.in_ok-unix.ensures.gives (refl, refl, refl)
             (built_comes plan c.args.method_bytes image unix built x v end t
             (comes_behind built.files.items (λ z. IsDueOfHeldRun plan image unix classes z.input.told) x y v end
-            (some_run (allow mapped plan.session.steps) loaded_turn (loaded (program_of classes) (need mapped)) unix plan.session.keep.names
-            w.input.told)
             (subst (λ fs. DoesAll (stored fs) x y) c.as_slice.ensures.value (c.in_ok-store_files.ensures.stores w.input w.out w.err))
-            (subst (λ b. Comes (λ z. IsDueOfHeld b loaded_turn (loaded (program_of classes) (need mapped)) unix plan.session.keep.names z.input.told)
+            (subst (λ b. WorksOn (λ z. IsDueOfHeld b loaded_turn (loaded (program_of classes) (need mapped)) unix plan.session.keep.names z.input.told)
             y v end) bound
-            (subst (λ s. Comes (λ z. IsDueOfHeld c.allow-steps.result loaded_turn s unix plan.session.keep.names z.input.told) y v end) state
-            c.play_for.ensures.ends.1)))),
+            (subst (λ s. WorksOn (λ z. IsDueOfHeld c.allow-steps.result loaded_turn s unix plan.session.keep.names z.input.told) y v end) state
+            c.play_for.ensures.works)))),
       );
     }

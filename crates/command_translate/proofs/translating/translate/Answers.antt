@@ -1,78 +1,63 @@
-use Rattle.std.proofs.Common.{[], ◌∷◌, Some, Ok, Err, inl, inr, refl, subst}
+use Rattle.std.proofs.Common.{[], ◌≡◌, ◌∷◌, Some, Ok, Err, inl, inr, refl, subst}
 use Rattle.std.proofs.lemmas.Result.{err_from_is_err_and}
-use Rattle.command_deeds.proofs.DeedLemmas.{all_then_stops, all_then_works, gives_ends, gives_then, no_memory}
-use Rattle.command_deeds.proofs.DeedLemmas.{over_any, same_shelf, stops_before, written}
+use Rattle.command_deeds.proofs.DeedLemmas.{all_then_stops, all_then_works, gives_ends, gives_then, same_shelf, stops_before, written}
 use Rattle.command_deeds.specs.Deeds.{DoesAll, StopsIn, prints}
 use Rattle.command_deeds.specs.Ends.{end_of, says}
 use Rattle.command_deeds.specs.World.{output_seen, seen, shelf_seen, world}
 use Rattle.command_deeds.specs.declared.done.Done.TheVariants.{Good}
-use Rattle.command_deeds.specs.declared.stop.Stop.TheVariants.{NoMemory, WriteFault}
-use Rattle.command_guest.proofs.ImagingLemmas.{due_of_imaged, refused_image}
-use Rattle.command_guest.specs.Imaging.{IsImaged, IsRefusedImage}
+use Rattle.command_deeds.specs.declared.stop.Stop.TheVariants.{WriteFault}
+use Rattle.command_guest.specs.Imaging.{IsImagedFrom}
+use Rattle.command_translate.proofs.TranslationLemmas.{translate_due, translate_refused}
 use Rattle.command_translate.specs.Stores.{stored}
-use Rattle.command_translate.specs.Translate.{IsDueOfBuilt, IsDueOfTranslate, counts_line, translated}
+use Rattle.command_translate.specs.Translate.{IsDueOfTranslate, counted, counts_line}
 use Rattle.command_translate.proofs.translating.translate.Goals as goal
 
 pub returns-in_err-image : goal.returns-in_err-image
 returns-in_err-image g c =
     let p = err_from_is_err_and c.from_residual.result c.from_residual.ensures.1 in
     let input = c.args.input.now in
+    let name = c.args.name.now in
     let w = seen g.H.Shelf g.S.Source g.O.Sink g.E.Sink c.args.outside.now in
     let v = world (shelf_seen g.H.Shelf c.load_image.new.shelf) w.input w.out w.err in
     record {
       ends = (
         (refl, refl, refl, refl),
-        rw (p.1, p.2) (gives_ends (IsDueOfTranslate input c.args.name.now c.args.pages c.args.method_bytes) (IsRefusedImage input c.args.pages) w v
-            (end_of c.in_err-image.field-0.0) c.in_err-image.ensures.gives (refl, refl, refl)
-            (λ files answer h. refused_image input c.args.pages (IsDueOfBuilt c.args.name.now c.args.method_bytes) files answer h)),
+        rw (p.1, p.2) (gives_ends (IsDueOfTranslate input name c.args.pages c.args.method_bytes)
+            (λ files answer. IsImagedFrom input c.args.pages files (Err answer)) w v (end_of c.in_err-image.field-0.0) c.in_err-image.ensures.gives
+            (refl, refl, refl)
+            (λ files answer agree h. translate_refused input name c.args.pages c.args.method_bytes w files answer agree h)),
       );
     }
 
 pub returns-in_err-built : goal.returns-in_err-built
 returns-in_err-built g c =
     let p = err_from_is_err_and c.from_residual-in_err-built.result c.from_residual-in_err-built.ensures.1 in
-    let input = c.args.input.now in
-    let image = c.in_ok-image.image in
-    let w = seen g.H.Shelf g.S.Source g.O.Sink g.E.Sink c.args.outside.now in
-    let u = world (shelf_seen g.H.Shelf c.load_image.new.shelf) w.input w.out w.err in
-    record {
-      ends = (
-        (refl, refl, refl, refl),
-        rw (p.1, p.2) (gives_then (IsDueOfTranslate input c.args.name.now c.args.pages c.args.method_bytes)
-            (λ files rest. IsDueOfBuilt c.args.name.now c.args.method_bytes image)
-            (IsImaged input c.args.pages) image w u u (Err NoMemory) c.in_ok-image.ensures.gives (refl, refl, refl)
-            (λ files due imaged later. due_of_imaged input c.args.pages (IsDueOfBuilt c.args.name.now c.args.method_bytes) files image due imaged
-            later)
-            (over_any (λ rest. IsDueOfBuilt c.args.name.now c.args.method_bytes image) u u (Err NoMemory)
-            (no_memory (λ x. IsDueOfBuilt c.args.name.now c.args.method_bytes image) u))),
-      );
-    }
+    record { ends = ((refl, refl, refl, refl), rw (p.1, p.2) (inl (c.in_ok-image.ensures.gives.same, (refl, refl, refl)))) }
 
 pub returns-in_err-store_files : goal.returns-in_err-store_files
 returns-in_err-store_files g c =
     let p = err_from_is_err_and c.from_residual-in_err-store_files.result c.from_residual-in_err-store_files.ensures.1 in
+    let stop = c.in_err-store_files.field-0.0 in
     let input = c.args.input.now in
+    let name = c.args.name.now in
     let image = c.in_ok-image.image in
     let built = c.in_ok-built.built in
-    let stop = c.in_err-store_files.field-0.0 in
     let w = seen g.H.Shelf g.S.Source g.O.Sink g.E.Sink c.args.outside.now in
     let u = world (shelf_seen g.H.Shelf c.load_image.new.shelf) w.input w.out w.err in
     let v = world (shelf_seen g.H.Shelf c.store_files.new.shelf) w.input w.out w.err in
     record {
       ends = (
         (refl, refl, refl, refl),
-        rw (p.1, p.2) (gives_then (IsDueOfTranslate input c.args.name.now c.args.pages c.args.method_bytes)
-            (λ files rest. IsDueOfBuilt c.args.name.now c.args.method_bytes image) (IsImaged input c.args.pages) image w u v
-            (Err stop) c.in_ok-image.ensures.gives (refl, refl, refl)
-            (λ files due imaged later. due_of_imaged input c.args.pages (IsDueOfBuilt c.args.name.now c.args.method_bytes) files image due imaged
+        rw (p.1, p.2) (gives_then (IsDueOfTranslate input name c.args.pages c.args.method_bytes) (λ x d. d ≡ counted built)
+            (λ files. IsImagedFrom input c.args.pages files (Ok image)) w u v (Err stop) c.in_ok-image.ensures.gives (refl, refl, refl)
+            (λ files d agree h later. translate_due input name c.args.pages c.args.method_bytes w files image built d agree h c.in_ok-built.ensures
             later)
-            (over_any (λ rest. IsDueOfBuilt c.args.name.now c.args.method_bytes image) u v (Err stop)
             (inr (
-              translated built,
-              (built, c.in_ok-built.ensures, refl),
+              counted built,
+              refl,
               stops_before (stored built.files.items) (prints (counts_line built) ∷ []) u v stop
                   (subst (λ fs. StopsIn (stored fs) u v stop) c.as_slice.ensures.value (c.in_err-store_files.ensures.stores w.input w.out w.err)),
-            )))),
+            ))),
       );
     }
 
@@ -80,6 +65,7 @@ pub returns-in_err-write_counts : goal.returns-in_err-write_counts
 returns-in_err-write_counts g c =
     let p = err_from_is_err_and c.from_residual-in_err-write_counts.result c.from_residual-in_err-write_counts.ensures.1 in
     let input = c.args.input.now in
+    let name = c.args.name.now in
     let image = c.in_ok-image.image in
     let built = c.in_ok-built.built in
     let w = seen g.H.Shelf g.S.Source g.O.Sink g.E.Sink c.args.outside.now in
@@ -89,25 +75,24 @@ returns-in_err-write_counts g c =
     record {
       ends = (
         (refl, refl, refl, refl),
-        rw (p.1, p.2) (gives_then (IsDueOfTranslate input c.args.name.now c.args.pages c.args.method_bytes)
-            (λ files rest. IsDueOfBuilt c.args.name.now c.args.method_bytes image) (IsImaged input c.args.pages) image w u v
-            (Err WriteFault) c.in_ok-image.ensures.gives (refl, refl, refl)
-            (λ files due imaged later. due_of_imaged input c.args.pages (IsDueOfBuilt c.args.name.now c.args.method_bytes) files image due imaged
+        rw (p.1, p.2) (gives_then (IsDueOfTranslate input name c.args.pages c.args.method_bytes) (λ x d. d ≡ counted built)
+            (λ files. IsImagedFrom input c.args.pages files (Ok image)) w u v (Err WriteFault) c.in_ok-image.ensures.gives (refl, refl, refl)
+            (λ files d agree h later. translate_due input name c.args.pages c.args.method_bytes w files image built d agree h c.in_ok-built.ensures
             later)
-            (over_any (λ rest. IsDueOfBuilt c.args.name.now c.args.method_bytes image) u v (Err WriteFault)
             (inr (
-              translated built,
-              (built, c.in_ok-built.ensures, refl),
+              counted built,
+              refl,
               all_then_stops (stored built.files.items) (prints (counts_line built) ∷ []) u x v WriteFault
                   (subst (λ fs. DoesAll (stored fs) u x) c.as_slice.ensures.value (c.in_ok-store_files.ensures.stores w.input w.out w.err))
                   (inl (c.in_err-write_counts.ensures.writes, (same_shelf x.shelf, refl, refl))),
-            )))),
+            ))),
       );
     }
 
 pub returns : goal.returns
 returns g c =
     let input = c.args.input.now in
+    let name = c.args.name.now in
     let image = c.in_ok-image.image in
     let built = c.in_ok-built.built in
     let w = seen g.H.Shelf g.S.Source g.O.Sink g.E.Sink c.args.outside.now in
@@ -117,18 +102,16 @@ returns g c =
     record {
       ends = (
         (refl, refl, refl, refl),
-        gives_then (IsDueOfTranslate input c.args.name.now c.args.pages c.args.method_bytes)
-            (λ files rest. IsDueOfBuilt c.args.name.now c.args.method_bytes image) (IsImaged input c.args.pages) image w u v
-            (Ok (says Good)) c.in_ok-image.ensures.gives (refl, refl, refl)
-            (λ files due imaged later. due_of_imaged input c.args.pages (IsDueOfBuilt c.args.name.now c.args.method_bytes) files image due imaged
+        gives_then (IsDueOfTranslate input name c.args.pages c.args.method_bytes) (λ x d. d ≡ counted built)
+            (λ files. IsImagedFrom input c.args.pages files (Ok image)) w u v (Ok (says Good)) c.in_ok-image.ensures.gives (refl, refl, refl)
+            (λ files d agree h later. translate_due input name c.args.pages c.args.method_bytes w files image built d agree h c.in_ok-built.ensures
             later)
-            (over_any (λ rest. IsDueOfBuilt c.args.name.now c.args.method_bytes image) u v (Ok (says Good))
             (inr (
-              translated built,
-              (built, c.in_ok-built.ensures, refl),
+              counted built,
+              refl,
               all_then_works (stored built.files.items) (prints (counts_line built) ∷ []) (Some (says Good)) u x v (Ok (says Good))
                   (subst (λ fs. DoesAll (stored fs) u x) c.as_slice.ensures.value (c.in_ok-store_files.ensures.stores w.input w.out w.err))
                   (written (counts_line built) x v (says Good) refl c.in_ok-write_counts.ensures.writes (same_shelf x.shelf, refl, refl)),
-            ))),
+            )),
       );
     }
