@@ -1,12 +1,12 @@
 -- What the program is to do by its words, and what it leaves.
-use Rattle.std.specs.Prelude.{◌≡◌, ℕ, List, Result, Ok, Err, ⊤}
+use Rattle.std.specs.Prelude.{◌≡◌, ℕ, Bool, true, false, List, Result, Ok, Err}
 use Rattle.command_values.specs.Names.{Text}
 use Rattle.command_words.specs.Meaning.{command_of}
 use Rattle.command_words.specs.declared.command.Command.{Command}
 use Rattle.command_words.specs.declared.command.Command.TheVariants as command
 use Rattle.command_words.specs.declared.session.Session.{Session}
 use Rattle.command_words.specs.declared.usage.Usage.{Usage}
-use Rattle.command_deeds.specs.Ends.{CommandAnswer, ByFiles, Comes, Due, final}
+use Rattle.command_deeds.specs.Ends.{CommandAnswer, Comes, Due, final}
 use Rattle.command_deeds.specs.Line.{line_of}
 use Rattle.command_deeds.specs.World.{World}
 use Rattle.command_deeds.specs.declared.done.Done.{Done}
@@ -26,39 +26,39 @@ use Rattle.nested_cli.specs.Usage.{Misuses}
 abbrev pub plan : Text → Session → ℕ → Plan
 plan name session moment = record { name = name; session = session; moment = moment }
 
--- What a command that runs nothing is to do: by the words and the files, where these are told; `make` by the words alone.
+-- What a command is to do in a world: by its words, and by files and input that are those that are
+-- told, where any are.
 abbrev pub IsDueOf : Command → ℕ → World → Due → Type 0
+IsDueOf (command.Go input name pages method_bytes session) moment w due =
+    IsDueOfGo input pages method_bytes (plan name session moment) w due
 IsDueOf (command.Translate input name pages method_bytes) moment w due =
-    ByFiles (IsDueOfTranslate input name pages method_bytes) w due
-IsDueOf (command.Verify name) moment w due = ByFiles (IsDueOfVerify name) w due
-IsDueOf (command.Asm input output) moment w due = ByFiles (IsDueOfAsm input output) w due
-IsDueOf (command.List input) moment w due = ByFiles (IsDueOfList input) w due
+    IsDueOfTranslate input name pages method_bytes w due
+IsDueOf (command.Interp input name pages session) moment w due =
+    IsDueOfInterp input pages (plan name session moment) w due
+IsDueOf (command.Asm input output) moment w due = IsDueOfAsm input output w due
+IsDueOf (command.List input) moment w due = IsDueOfList input w due
+IsDueOf (command.Run name words session) moment w due =
+    IsDueOfRun name words (plan name.text session moment) w due
+IsDueOf (command.Verify name) moment w due = IsDueOfVerify name w due
 IsDueOf (command.Make count method_bytes) moment w due = IsDueOfMake count method_bytes moment due
-IsDueOf other moment w due = ⊤
 
--- What a command that runs a guest or classes is to do, at a moment: by the words, the files and the input, where these are told. Where
--- input does not tell what it has left, there are some pieces of it, of which one comes before each call, and the run is that over these.
-abbrev pub IsRunOf : Command → ℕ → World → Due → Type 0
-IsRunOf (command.Go input name pages method_bytes session) moment w due =
-    ByFiles (IsDueOfGo input pages method_bytes (plan name session moment)) w due
-IsRunOf (command.Interp input name pages session) moment w due =
-    ByFiles (IsDueOfInterp input pages (plan name session moment)) w due
-IsRunOf (command.Run name words session) moment w due =
-    ByFiles (IsDueOfRun name words (plan name.text session moment)) w due
-IsRunOf other moment w due = ⊤
+-- all but `make` load files
+abbrev pub loads : Command → Bool
+loads (command.Make count method_bytes) = false
+loads other = true
 
 -- What a call of the program leaves, and its answer.
 pub record Does (words : List Text) (moment : ℕ) (w v : World) (said : Done) : Type 0 where
-  -- the world before the answer's line, and how the work ended: with an answer, or stopped on the way
+  -- the world before the answer's line, and how the work ended: with an answer, or stopped on the
+  -- way
   pub worked : World
   pub end : Result CommandAnswer Stop
   -- words that are no command line are answered so over every outside, and nothing else is done
   pub usage : (misuse : Usage) → command_of words ≡ Err misuse → Misuses misuse w worked end
-  -- what a command that runs nothing is to do is done, or stopped on the way
-  pub due : (c : Command) → command_of words ≡ Ok c → Comes (IsDueOf c moment) w worked end
-  -- so is what a command that runs a guest or classes is to do
-  pub run : (c : Command) → command_of words ≡ Ok c → Comes (IsRunOf c moment) w worked end
-  -- a fault is answered where its own count rose, and no failed call is passed over
+  -- else what the command is to do is done, or stopped on the way
+  pub due : (c : Command) → command_of words ≡ Ok c
+      → Comes (loads c) (IsDueOf c moment) w worked end
+  -- a fault is answered exactly where a call failed, once, and no failed call is passed over
   pub faults : Faults w v said
   -- the answer's line is written to error output last
   pub line : Says (line_of (final end).name (final end).done) worked v (final end).done said

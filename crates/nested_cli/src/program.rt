@@ -4,14 +4,13 @@ ghost use Rattle.command_words.specs.Meaning.{command_of};
 ghost use Rattle.command_words.specs.Word.{texts};
 ghost use Rattle.command_words.specs.declared.command.Command as meant;
 ghost use Rattle.command_words.specs.declared.usage.Usage as misuse;
-ghost use Rattle.command_deeds.specs.Ends.{Comes, Ends, ended};
+ghost use Rattle.command_deeds.specs.Ends.{Comes, ended, final};
 ghost use Rattle.command_deeds.specs.Line.{line_of};
 ghost use Rattle.command_deeds.specs.World.{SameParts, input_seen, output_seen, seen, shelf_seen, world};
-ghost use Rattle.nested_cli.specs.Commands.{Does, IsDueOf, IsRunOf};
+ghost use Rattle.nested_cli.specs.Commands.{Does, IsDueOf, loads};
 ghost use Rattle.nested_cli.specs.Line.{Tells};
 ghost use Rattle.nested_cli.specs.Usage.{Misuses};
 
-use crate::misuse::refused_words;
 use command_deeds::{Done, Ending, Launch, Outside, write_line};
 use command_guest::{Guest, asm, interp, list, run, verify};
 use command_translate::{go, make, translate};
@@ -19,18 +18,18 @@ use command_words::{Command, read_words};
 use nv_outside::{Failed, Shelf, Sink, Source};
 use std::alloc::Global;
 
-/// The program: does what its words say, over a shelf of files, a source of input and sinks of output, and writes the answer's
-/// line to `err` last.
+/// The program: does what its words say, over a shelf of files, a source of input and sinks of output, and writes the
+/// answer's line to `err` last.
 ///
 /// `words` are the words after the program's name, and `moment` is the time, in seconds since 1970.
 ///
-/// What it is to do follows from the words, from the files where the shelf tells them, and for a run from the input, or where that does
-/// not tell what it has left, from pieces of it, one before each call. All of it is done, or it is stopped on the way. Words that are no
-/// command line are answered `Usage` over every outside.
+/// What it is to do follows from the words, from the files that it loads, which are those of the shelf where it tells
+/// them, and for a run from the input, or where that does not tell what it has left, from pieces of it, one before each
+/// call. All of it is done, or it is stopped on the way. Words that are no command line are answered `Usage`.
 ///
-/// The answer is `WriteFault` where that last write failed, or a write to `out` or of the guest to `err`. One fault ends the call: where
-/// a call of the outside failed, the answer is one of its faults, and nothing further is read, written or stored but for the answer's
-/// line. A sink that failed has a front part of the text, but not all.
+/// The answer is `WriteFault` where that last write failed, or a write to `out` or of the guest to `err`. One fault
+/// ends the call: where a call of the outside failed, the answer is one of its faults, and nothing further is read,
+/// written or stored but for the answer's line. A sink that failed has a front part of the text, but not all.
 pub fn nested<H: Shelf, S: Source, O: Sink, E: Sink>(
     alloc: Global,
     words: &[String],
@@ -61,11 +60,19 @@ fn call<H: Shelf, S: Source, O: Sink, E: Sink>(
     ensures does { Does (texts words.now) moment (seen H.Shelf S.Source O.Sink E.Sink outside.old)
         (seen H.Shelf S.Source O.Sink E.Sink outside.new) result }
 {
-    match perform(alloc, words, moment, outside) {
-        Ok(done) => tell(outside.err, "", done),
-        Err(Ending::NoFile { word, name }) => tell(outside.err, name.as_str(), Done::NoInput(word)),
-        Err(Ending::Refused(done)) => tell(outside.err, "", done),
-        Err(Ending::Stopped(stop)) => tell(outside.err, "", stop.done()),
+    let end = perform(alloc, words, moment, outside);
+    let (done, name) = answer_of(&end);
+    tell(outside.err, name, done)
+}
+
+/// The answer of a command that ended so, and the name that was asked for where it is that there is no such file.
+fn answer_of(end: &Result<Done, Ending>) -> (Done, &str)
+    ensures done { result.0 ≡ (final (ended end.now)).done }
+    ensures name { result.1.now ≡ (final (ended end.now)).name }
+{
+    match end {
+        Ok(done) => (*done, ""),
+        Err(ending) => (ending.done(), ending.name()),
     }
 }
 
@@ -92,16 +99,11 @@ fn perform<H: Shelf, S: Source, O: Sink, E: Sink>(
         → Misuses u (seen H.Shelf S.Source O.Sink E.Sink outside.old)
         (seen H.Shelf S.Source O.Sink E.Sink outside.new) (ended result) }
     ensures due { (c : meant.Command) → command_of (texts words.now) ≡ Ok c
-        → Comes (IsDueOf c moment) (seen H.Shelf S.Source O.Sink E.Sink outside.old)
-        (seen H.Shelf S.Source O.Sink E.Sink outside.new) (ended result) }
-    ensures run { (c : meant.Command) → command_of (texts words.now) ≡ Ok c
-        → Comes (IsRunOf c moment) (seen H.Shelf S.Source O.Sink E.Sink outside.old)
+        → Comes (loads c) (IsDueOf c moment) (seen H.Shelf S.Source O.Sink E.Sink outside.old)
         (seen H.Shelf S.Source O.Sink E.Sink outside.new) (ended result) }
 {
-    match read_words(alloc, words) {
-        Ok(command) => perform_command(alloc, &command, moment, outside),
-        Err(error) => Err(refused_words(error)),
-    }
+    let command = read_words(alloc, words)?;
+    perform_command(alloc, &command, moment, outside)
 }
 
 /// Does what a command says.
@@ -112,10 +114,10 @@ fn perform_command<H: Shelf, S: Source, O: Sink, E: Sink>(
     outside: &mut Outside<'_, H, S, O, E>,
 ) -> Result<Done, Ending>
     requires { IsWithinLimits command.now }
-    ensures due { Ends H.Shelf S.Source O.Sink E.Sink (IsDueOf command.now moment)
-        outside.old outside.new result }
-    ensures run { Ends H.Shelf S.Source O.Sink E.Sink (IsRunOf command.now moment)
-        outside.old outside.new result }
+    ensures same { SameParts outside.old outside.new }
+    ensures due { Comes (loads command.now) (IsDueOf command.now moment)
+        (seen H.Shelf S.Source O.Sink E.Sink outside.old)
+        (seen H.Shelf S.Source O.Sink E.Sink outside.new) (ended result) }
 {
     match command {
         Command::Go {

@@ -1,8 +1,6 @@
 //! What the program says of itself.
+use nested_cli::status;
 use nv_outside::{Sink, write_all};
-
-/// The status where output failed.
-const WRITE_FAULT: u8 = 75;
 
 const HELP: &str = "nested: runs MIPS programs without native code
 
@@ -43,7 +41,7 @@ pub fn help<O: Sink>(words: &[String], out: &mut O) -> Option<u8> {
         _ => return None,
     };
     match write_all(out, text.as_bytes()) {
-        Ok(()) => Some(0),
-        Err(_) => Some(WRITE_FAULT),
+        Ok(()) => Some(status::GOOD),
+        Err(_) => Some(status::WRITE_FAULT),
     }
 }

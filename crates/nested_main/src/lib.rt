@@ -1,11 +1,11 @@
-//! What a `main` of the program does, over a runtime and its three streams: makes the real things, calls the program over them,
-//! and gives the status of its answer.
+//! What a `main` of the program does, over a runtime and its three streams: makes the real things, calls the program
+//! over them, and gives the status of its answer.
 #![tactic(auto)]
 
 mod answers_itself;
 
 use answers_itself::help;
-use nested_cli::nested;
+use nested_cli::{nested, status};
 use nv_outside::{FileShelf, StdSink, StdSource};
 use std::env::{self, Env};
 use std::io::{ErrorKind, Read, Write};
@@ -13,12 +13,6 @@ use std::path::PathBuf;
 use std::process::ExitCode;
 use std::rt::Files;
 use std::time::{Clock, Duration, SystemTime, UNIX_EPOCH};
-
-/// The status where a word of the command line is no UTF-8.
-const USAGE: u8 = 64;
-
-/// The status where there is no memory for the command line.
-const NO_MEMORY: u8 = 77;
 
 /// Runs the program with the words of the command line, in the folder where it was started.
 pub fn perform<R, I, O, E>(rt: R, input: I, out: O, err: E) -> ExitCode
@@ -34,15 +28,17 @@ where
         Ok(all) => {
             for word in all.skip(1) {
                 if words.push(word).is_err() {
-                    return ExitCode::from(NO_MEMORY);
+                    return ExitCode::from(status::NO_MEMORY);
                 }
             }
         }
-        Err(error) if error.kind() == ErrorKind::OutOfMemory => return ExitCode::from(NO_MEMORY),
-        Err(_) => return ExitCode::from(USAGE),
+        Err(error) if error.kind() == ErrorKind::OutOfMemory => return ExitCode::from(
+            status::NO_MEMORY,
+        ),
+        Err(_) => return ExitCode::from(status::USAGE),
     }
     let Ok(folder) = PathBuf::from_str(alloc, "") else {
-        return ExitCode::from(NO_MEMORY);
+        return ExitCode::from(status::NO_MEMORY);
     };
     let moment = moment(&rt);
     let mut input = StdSource::new(input);
