@@ -1,0 +1,76 @@
+//! Numbers and bytes in hexadecimal digits.
+use anyhow::{Context, Result};
+use std::alloc::Global;
+
+/// The number that the digits are.
+///
+/// # Errors
+/// Where they are no digits of 32 bits.
+pub fn number_of(digits: &str) -> Result<u32> {
+    u32::from_str_radix(digits, 16).context(format_args!("{digits} is no number"))
+}
+
+/// The bytes of pieces of digits. A piece such as `3*00,FF` stands for three times the bytes `00` and `FF`.
+///
+/// # Errors
+/// Where a piece is no such text.
+pub fn bytes_of(alloc: Global, pieces: &[&str]) -> Result<Vec<u8>> {
+    let mut bytes = Vec::new(alloc);
+    for piece in pieces {
+        push_piece(alloc, &mut bytes, *piece)?;
+    }
+    Ok(bytes)
+}
+
+fn push_piece(alloc: Global, bytes: &mut Vec<u8>, piece: &str) -> Result<()> {
+    let (count, digits) = match piece.split_once('*') {
+        Some((count, digits)) => (count.parse::<u32>()?, digits),
+        None => (1, piece),
+    };
+    let mut once = Vec::new(alloc);
+    for part in digits.split(',') {
+        let decoded = hex::decode(alloc, part).context(format_args!("{part} is no bytes"))?;
+        once.extend_from_slice(decoded.as_slice())?;
+    }
+    for _ in 0..count {
+        bytes.extend_from_slice(once.as_slice())?;
+    }
+    Ok(())
+}
+
+/// The words of bytes that are written so, the most significant byte first; up to three bytes at the end are left out.
+///
+/// # Errors
+/// As `bytes_of`.
+pub fn words_of(alloc: Global, pieces: &[&str]) -> Result<Vec<u32>> {
+    let bytes = bytes_of(alloc, pieces)?;
+    let mut words = Vec::new(alloc);
+    for word in bytes.as_slice().chunks_exact(4) {
+        if let [a, b, c, d] = word {
+            words.push(u32::from_be_bytes([*a, *b, *c, *d]))?;
+        }
+    }
+    Ok(words)
+}
+
+/// Bytes as digits.
+///
+/// # Errors
+/// Want of memory.
+pub fn hex_of(alloc: Global, bytes: &[u8]) -> Result<String> {
+    let mut text = String::new(alloc);
+    for byte in bytes {
+        let digits = format!(in alloc; "{byte:02X}")?;
+        text.push_str(digits.as_str())?;
+    }
+    Ok(text)
+}
+
+/// A text, or so many, as `4078*x`.
+///
+/// # Errors
+/// Want of memory.
+pub fn repeated(alloc: Global, text: &str) -> Result<String> {
+    let (count, once) = text.split_once('*').unwrap_or(("1", text));
+    Ok(once.repeat(alloc, count.parse()?)?)
+}

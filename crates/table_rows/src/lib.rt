@@ -1,0 +1,22 @@
+//! Tables of tests: lines that ask, the files that they name, and the answers that are printed beside them. The programs of the room
+//! "Tests" read such a table as their input, and print it with what came.
+//!
+//! A line that begins with a blank belongs to the file above it and is not printed. `docs/TABLES.md` has the forms of files and rows.
+#![tactic(auto)]
+
+mod class_file;
+mod definition;
+mod edit;
+mod files;
+mod hexadecimal;
+mod kind;
+mod outcomes;
+mod segments;
+mod table;
+
+pub use class_file::class_file_of;
+pub use files::Files;
+pub use hexadecimal::{bytes_of, hex_of, number_of, repeated, words_of};
+pub use outcomes::outcome_text;
+pub use segments::{parts_of, program_of};
+pub use table::{Answers, print_answers};
