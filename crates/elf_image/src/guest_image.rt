@@ -44,8 +44,8 @@ impl Model for Image {
       stack = i.layout.stack;
     } };
 
-    ghost invariant = { λ i. IsKeptImage i.table.file.bytes i.entry i.code.items i.layout.segments.value.items
-        i.table.segments.value.items i.layout.heap i.layout.stack i.mapped };
+    ghost invariant = { λ i. IsKeptImage i.table.file.bytes i.entry i.code.items
+        i.layout.segments.value.items i.table.segments.value.items i.layout.heap i.layout.stack i.mapped };
 }
 
 impl Image {

@@ -60,7 +60,8 @@ fn laid_out(alloc: Global, elf: &Elf<'_>, heap: u32, stack: u32) -> Result<Layou
     ensures refused { IfErr result
         (IsAnswer (option_or (size_fault (length elf.now.file.now) elf.now.code.items)
         (pages_fault (live elf.now.file.now) heap stack))) }
-    ensures passed { OnOk result (option_or (size_fault (length elf.now.file.now) elf.now.code.items)
+    ensures passed { OnOk result
+        (option_or (size_fault (length elf.now.file.now) elf.now.code.items)
         (pages_fault (live elf.now.file.now) heap stack) ≡ None) }
     ensures segments { IfOk result (λ layout. layout.segments.value.items ≡ live elf.now.file.now) }
     ensures heap { IfOk result (λ layout. layout.heap ≡ heap) }

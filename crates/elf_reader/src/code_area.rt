@@ -23,7 +23,8 @@ pub fn code_ranges(
     segments: &[Segment],
 ) -> Result<Vec<Range>, AllocError>
     requires low { All (λ (s : Segment). file_end s ≤ 0x7F00_0000) segments.now }
-    ensures { IfOk result (λ v. v.items ≡ ranges_of (has_sections header) sections.now segments.now) }
+    ensures { IfOk result (λ v. v.items
+        ≡ ranges_of (has_sections header) sections.now segments.now) }
 {
     if header.has_sections() {
         section_ranges(alloc, sections)

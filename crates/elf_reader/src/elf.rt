@@ -61,7 +61,8 @@ pub fn read_elf(alloc: Global, b: &[u8]) -> Result<Elf<'_>, ElfError>
     // The code lies in the bytes in the file of the executable segments.
     ensures text { IfOk result (λ elf. (at : ℕ) → area b.now at ≡ true →
         list_any (is_in_text at) elf.segments.items ≡ true) }
-    ensures low { IfOk result (λ elf. All (λ (r : Range). range_end r ≤ 0x7F00_0000) elf.code.items) }
+    ensures low { IfOk result (λ elf.
+        All (λ (r : Range). range_end r ≤ 0x7F00_0000) elf.code.items) }
 {
     let header = read_header(b)?;
     let segments = read_segments(alloc, b, header)?;
@@ -79,7 +80,8 @@ pub fn read_elf(alloc: Global, b: &[u8]) -> Result<Elf<'_>, ElfError>
 fn read_header(b: &[u8]) -> Result<ElfHeader, ElfError>
     ensures refused { IfErr result
         (IsAnswer (first_fault (identity_fault b.now ∷ program_table_fault b.now ∷ []))) }
-    ensures passed { OnOk result (first_fault (identity_fault b.now ∷ program_table_fault b.now ∷ [])
+    ensures passed { OnOk result
+        (first_fault (identity_fault b.now ∷ program_table_fault b.now ∷ [])
         ≡ None) }
     ensures header { IfOk result (λ header. header ≡ header_of b.now) }
     ensures there { IfOk result (λ header. header.e_phoff + 32 * header.e_phnum ≤ length b.now) }
@@ -94,7 +96,8 @@ fn read_header(b: &[u8]) -> Result<ElfHeader, ElfError>
 fn read_segments(alloc: Global, b: &[u8], header: ElfHeader) -> Result<Vec<Segment>, ElfError>
     requires read { header ≡ header_of b.now }
     requires there { header.e_phoff + 32 * header.e_phnum ≤ length b.now }
-    ensures refused { IfErr result (IsAnswer (segment_fault (length b.now) (program_headers b.now))) }
+    ensures refused { IfErr result
+        (IsAnswer (segment_fault (length b.now) (program_headers b.now))) }
     ensures passed { OnOk result (segment_fault (length b.now) (program_headers b.now) ≡ None) }
     ensures live { IfOk result (λ segments. segments.items ≡ live b.now) }
     ensures sound { IfOk result (λ segments. All (IsSound (length b.now)) segments.items) }

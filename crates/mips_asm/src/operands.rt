@@ -133,7 +133,8 @@ impl<'l, 'a> Operands<'l, 'a> {
     #[tactic(auto, using(crate::proofs::ShapeLemmas::other_count, crate::proofs::ShapeLemmas::one_value))]
     pub fn one_code(&self) -> Result<u32, u32>
         ensures { list_of_one result
-            ≡ all_values self.now.labels.now self.now.at (Code ∷ []) (operands_of self.now.text.now) }
+            ≡ all_values self.now.labels.now self.now.at (Code ∷ [])
+            (operands_of self.now.text.now) }
     {
         match one_operand(self.text) {
             None => Err(WRONG_FORM),
@@ -145,7 +146,8 @@ impl<'l, 'a> Operands<'l, 'a> {
     #[tactic(auto, using(crate::proofs::ShapeLemmas::other_count, crate::proofs::ShapeLemmas::one_value))]
     pub fn one_index(&self) -> Result<u32, u32>
         ensures { list_of_one result
-            ≡ all_values self.now.labels.now self.now.at (Far ∷ []) (operands_of self.now.text.now) }
+            ≡ all_values self.now.labels.now self.now.at (Far ∷ [])
+            (operands_of self.now.text.now) }
     {
         match one_operand(self.text) {
             None => Err(WRONG_FORM),

@@ -37,7 +37,8 @@ impl Disk {
     /// A disk without files, of so many free blocks, at most 65,536.
     pub fn new(alloc: Global, blocks: u32) -> Result<Disk, NoMemory>
         requires { blocks ≤ 65536 }
-        ensures { IfOk result (λ disk. disk ≡ record { nodes = replicate 256 None; free = blocks }) }
+        ensures { IfOk result (λ disk. disk
+            ≡ record { nodes = replicate 256 None; free = blocks }) }
     {
         let store = Store::new(alloc, blocks)?;
         let entries = no_entries(alloc)?;

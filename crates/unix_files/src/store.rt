@@ -34,7 +34,8 @@ impl Store {
     /// Empty files over so many free blocks, at most 65,536.
     pub fn new(alloc: Global, blocks: u32) -> Result<Store, NoMemory>
         requires { blocks ≤ 65536 }
-        ensures { IfOk result (λ store. store ≡ record { files = replicate 256 []; free = blocks }) }
+        ensures { IfOk result (λ store. store
+            ≡ record { files = replicate 256 []; free = blocks }) }
     {
         let pool = Blocks::new(alloc, blocks)?;
         let chains = vec![in alloc; Chain::empty(); NODES]?;
@@ -145,7 +146,8 @@ impl Store {
         requires small { place + length bytes.now ≤ 0x7FFFFFFF }
         requires room { blocks_for (place + length bytes.now)
             ≤ blocks_for (length (file_at self.old n)) + self.old.free }
-        ensures { self.new ≡ with_file self.old n (overwritten (file_at self.old n) place bytes.now) }
+        ensures { self.new
+            ≡ with_file self.old n (overwritten (file_at self.old n) place bytes.now) }
     {
         for (i, b) in bytes.iter().enumerate() {
             self.write_byte(n, place + i as u32, *b);

@@ -136,8 +136,10 @@ pub fn copy_out<M: View>(disk: &mut Disk, n: usize, from: u32, count: u32, place
     requires fits { from + count < 2 ^ 32 }
     requires room { IsTrue (can_write (M.memory (M.content view.old)) place count) }
     ensures bytes { M.content view.new
-        ≡ patched M.put_at (M.content view.old) place (take count (drop from (bytes_at disk.old n))) }
-    ensures small { IsTrue (list_all (λ x. nat_lt x 256) (take count (drop from (bytes_at disk.old n)))) }
+        ≡ patched M.put_at (M.content view.old) place
+        (take count (drop from (bytes_at disk.old n))) }
+    ensures small { IsTrue
+        (list_all (λ x. nat_lt x 256) (take count (drop from (bytes_at disk.old n)))) }
     ensures same { disk.new ≡ disk.old }
 {
     for i in 0..count {
