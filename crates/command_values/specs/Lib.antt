@@ -1,2 +1,4 @@
+pub mod Ranges
 pub mod Names
 pub mod MethodBytes
+pub mod RegionWords

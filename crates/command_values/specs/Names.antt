@@ -1,13 +1,11 @@
 -- Texts of a command line, and which of them name a class.
-use Rattle.std.specs.Prelude.{◌≡◌, ℕ, Bool, true, false, ◌&&◌, ◌||◌, List, [], ◌∷◌, length, nat_le, nat_lt}
+use Rattle.std.specs.Prelude.{◌≡◌, ℕ, Bool, true, false, ◌&&◌, ◌||◌, if◌then◌else◌, List, [], ◌∷◌, Option, Some, None, length, nat_lt}
 use Rattle.std.specs.List.{list_all}
+use Rattle.command_values.specs.Ranges.{lies_in}
 
 -- the bytes of a word, in UTF-8
 abbrev pub Text : Type 0
 Text = List ℕ
-
-abbrev pub lies_in : ℕ → ℕ → ℕ → Bool
-lies_in least most n = nat_le least n && nat_le n most
 
 -- the bytes 48 to 57
 abbrev pub is_digit : ℕ → Bool
@@ -26,3 +24,7 @@ is_class_name (b ∷ bs) = is_letter b && list_all is_letter_or_digit bs && nat_
 
 abbrev pub IsClassName : Text → Type 0
 IsClassName name = is_class_name name ≡ true
+
+-- the text, where it is one
+abbrev pub lawful_name : Text → Option Text
+lawful_name text = if is_class_name text then Some text else None

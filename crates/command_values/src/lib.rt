@@ -1,2 +1,15 @@
-//! The values that words of the command line give to a translation: names of classes, and how many bytes a method may have.
+//! The values that words of the command line give: names of classes, how many bytes a method may have, and how many words the arrays
+//! of a class machine.
+//!
+//! Each is made where it is read, by a call that is itself the test, so that what takes one need not ask.
 #![tactic(auto)]
+
+mod characters;
+mod class_name;
+mod method_bytes;
+mod region_words;
+
+pub use characters::is_digit;
+pub use class_name::ClassName;
+pub use method_bytes::MethodBytes;
+pub use region_words::RegionWords;

@@ -1,5 +1,6 @@
 -- The arrays of a region, where each stands, and how they change.
 use Rattle.std.specs.Prelude.{◌≡◌, ◌==◌, ◌<◌, ◌≤◌, ◌+◌, ℕ, List, [], ◌∷◌, Option, Some, None, if◌then◌else◌, IsSome, length, replicate, slice_set, take}
+use Rattle.command_values.specs.RegionWords.{most_region_words}
 
 -- An array: its kind, 0 for ints and 1 for references, and its values.
 pub record Block : Type 0 where
@@ -74,5 +75,5 @@ IsMark arrays m = (k : ℕ) × (used_by (take k arrays) ≡ m)
 -- what is true of every region
 pub record IsSound (c : Contents) : Type 0 where
   pub within : used_by c.arrays ≤ c.size
-  pub few : c.size ≤ 68288580
+  pub few : c.size ≤ most_region_words
   pub kinds : (p : ℕ) → kind_at c.arrays p < 2

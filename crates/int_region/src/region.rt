@@ -2,6 +2,7 @@ ghost use Rattle.std.specs.Prelude.{◌≡◌, ◌≤◌, ◌<◌, ◌+◌, ◌�
 ghost use Rattle.int_region.specs.Arrays.{used_by, array_at, IsLive, kind_at, values_at, zeros, with_value, IsMark, IsSound};
 ghost use Rattle.int_region.specs.Kept.{words_of};
 
+use command_values::RegionWords;
 use std::alloc::{AllocError, Global};
 use std::marker::Model;
 
@@ -44,13 +45,11 @@ impl Model for Region {
 
 impl Region {
     /// A region of so many words and no arrays.
-    pub fn new(alloc: Global, words: u64) -> Result<Region, NoMemory>
-        requires some { 1 ≤ words }
-        requires few { words ≤ 68288580 }
+    pub fn new(alloc: Global, words: RegionWords) -> Result<Region, NoMemory>
         ensures empty { IfOk result (λ region. region ≡ record { size = words; arrays = [] }) }
         ensures sound { IfOk result (λ region. IsSound region) }
     {
-        let words = vec![in alloc; 0; words as usize]?;
+        let words = vec![in alloc; 0; words.get() as usize]?;
         Ok(Region { words, used: 0 })
     }
 

@@ -5,6 +5,7 @@ ghost use Rattle.jvm_heap.specs.Regions.{heap_of};
 ghost use Rattle.jvm_heap.specs.Viewing.{written_is_readable, memory_ends, readable_stays, writable_stays};
 
 use crate::cell::cell_of;
+use command_values::RegionWords;
 use int_region::{Mark, NoMemory, Place, Region};
 use nv_events::View;
 use nv_words::{lane, with_lane};
@@ -41,9 +42,7 @@ impl Heap {
     ghost use Rattle.jvm_heap.specs.Heaps.{nothing_in, IsTable, IsSafe};
 
     /// No arrays, in a region of so many words.
-    pub fn new(alloc: Global, words: u64) -> Result<Heap, NoMemory>
-        requires some { 1 ≤ words }
-        requires few { words ≤ 68288580 }
+    pub fn new(alloc: Global, words: RegionWords) -> Result<Heap, NoMemory>
         ensures { IfOk result (λ heap. heap ≡ nothing_in words) }
     {
         let region = Region::new(alloc, words)?;
@@ -73,8 +72,10 @@ impl Heap {
 
     /// The arrays of pages that a call of the system may use; None for null.
     pub fn open(&mut self, readable: Option<u32>, writable: Option<u32>)
-        requires reads { IsTrue (is_pages_reference (heap_of self.old.region.arrays) (reference readable)) }
-        requires writes { IsTrue (is_pages_reference (heap_of self.old.region.arrays) (reference writable)) }
+        requires reads { IsTrue
+            (is_pages_reference (heap_of self.old.region.arrays) (reference readable)) }
+        requires writes { IsTrue
+            (is_pages_reference (heap_of self.old.region.arrays) (reference writable)) }
         ensures { self.new
             ≡ record { region = self.old.region; readable = readable; writable = writable } }
     {

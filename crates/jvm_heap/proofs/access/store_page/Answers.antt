@@ -1,4 +1,5 @@
 use Rattle.std.proofs.Common.{◌≡◌, ◌≢◌, ℕ, ◌+◌, ◌-◌, ◌<◌, ◌≤◌, ◌%◌, ◌^◌, ◌&&◌, ◌∷◌, [], List, IsSome, slice_index_or, length, subst, ap, sym, ◌∙◌, true, false, Bool, ◌==◌, if◌then◌else◌, Option, Some, None, option_map, refl, arith}
+use Rattle.command_values.specs.RegionWords.{most_region_words}
 use Rattle.jvm_names.specs.declared.array_name.ArrayName.TheVariants.{Aastore}
 use Rattle.jvm_program.specs.declared.instruction.Instruction.TheVariants as instructions
 use Rattle.jvm_program.specs.declared.value.Value.{Value}
@@ -26,11 +27,11 @@ first : (a b : Bool) → (a && b) ≡ true → (a && true) ≡ true
 first true b h = refl
 first false b h = h
 
-word_is : (q : ℕ) → q + 2 ≤ 68288580 → (q + 1) % 2 ^ 32 ≡ q + 1
+word_is : (q : ℕ) → q + 2 ≤ most_region_words → (q + 1) % 2 ^ 32 ≡ q + 1
 word_is q h = omega arith
 
 -- a reference was stored in an array of arrays
-put_page : (arrays : List Block) (words i place : ℕ) (page : Value) (rest : List Value) → used_by arrays ≤ 68288580 → kind_at arrays place < 2 → tests arrays (page ∷ int i ∷ array place ∷ rest) ≡ true → i < length (values_at arrays place) → Does words (instructions.Array Aastore) (page ∷ int i ∷ array place ∷ rest) (heap_of arrays) rest (heap_of (with_value arrays place i (element_word page)))
+put_page : (arrays : List Block) (words i place : ℕ) (page : Value) (rest : List Value) → used_by arrays ≤ most_region_words → kind_at arrays place < 2 → tests arrays (page ∷ int i ∷ array place ∷ rest) ≡ true → i < length (values_at arrays place) → Does words (instructions.Array Aastore) (page ∷ int i ∷ array place ∷ rest) (heap_of arrays) rest (heap_of (with_value arrays place i (element_word page)))
 put_page arrays words i place null rest small few fits within =
     let found : PagesAt arrays place = pages_at arrays place few fits in
     let inside : i < length found.block.values = subst (λ (values : List ℕ). i < length values) (values_of arrays place found.block found.there) within in
@@ -40,7 +41,7 @@ put_page arrays words i place (array q) rest small few fits within =
     let page : IntsAt arrays q = ints_at arrays q (first (is_ints_reference (heap_of arrays) (array q)) (is_pages_reference (heap_of arrays) (array place) && true) fits) in
     let inside : i < length found.block.values = subst (λ (values : List ℕ). i < length values) (values_of arrays place found.block found.there) within in
     let live : IsLive arrays q = subst (λ (o : Option Block). IsSome o) (sym page.there) refl in
-    let bound : q + 2 ≤ 68288580 = omega (arith, small, live_within arrays q live) in
+    let bound : q + 2 ≤ most_region_words = omega (arith, small, live_within arrays q live) in
     does_by words (instructions.Array Aastore) (array q ∷ int i ∷ array place ∷ rest) (array q ∷ int i ∷ array place ∷ rest) rest rest (heap_of arrays) (heap_of (with_value arrays place i ((q + 1) % 2 ^ 32))) (heap_of (with_value arrays place i (q + 1))) refl refl
     (ap (λ w. heap_of (with_value arrays place i w)) (sym (word_is q bound)))
     (page_stored arrays words place i q rest found.block page.block found.there found.kind inside page.there page.kind)
@@ -65,7 +66,7 @@ stored arrays more words i place w page v top old one two rest sound e f g peeke
     let uppermost : v ≡ array place = ap (λ items. slice_index_or items 0 unset) (sym g) ∙ sym peeked ∙ is in
     let all : old ≡ page ∷ int i ∷ array place ∷ rest = e ∙ ap (λ items. page ∷ items) (f ∙ ap (λ items. int i ∷ items) (g ∙ ap (λ u. u ∷ rest) uppermost)) in
     let same : used_by more ≡ used_by arrays = ap used_by made ∙ used_by-with_value arrays place i w in
-    let small : used_by arrays ≤ 68288580 = omega (arith, same, sound.within, sound.few) in
+    let small : used_by arrays ≤ most_region_words = omega (arith, same, sound.within, sound.few) in
     let made_by : with_value arrays place i (element_word page) ≡ more = ap (with_value arrays place i) (sym word) ∙ sym made in
     let few : kind_at arrays place < 2 = omega (arith, sound.kinds place, kind_kept arrays more place i w made) in
     does_by words (instructions.Array Aastore) old (page ∷ int i ∷ array place ∷ rest) rest rest (heap_of arrays) (heap_of more) (heap_of (with_value arrays place i (element_word page))) all refl (ap heap_of made_by)
@@ -86,12 +87,12 @@ returns-clause-ok c =
     (ap (λ (r : Contents). r.arrays) c.put.ensures.changed)
 
 -- what is stored is null or an array of ints
-element_stands : (arrays : List Block) (page : Value) (rest : List Value) (i place : ℕ) → used_by arrays ≤ 68288580 → tests arrays (page ∷ int i ∷ array place ∷ rest) ≡ true → element_word page ≢ 0 → StandsAt arrays (element_word page - 1) 0
+element_stands : (arrays : List Block) (page : Value) (rest : List Value) (i place : ℕ) → used_by arrays ≤ most_region_words → tests arrays (page ∷ int i ∷ array place ∷ rest) ≡ true → element_word page ≢ 0 → StandsAt arrays (element_word page - 1) 0
 element_stands arrays null rest i place small fits some = absurd (some refl)
 element_stands arrays (array q) rest i place small fits some =
     let page : IntsAt arrays q = ints_at arrays q (first (is_ints_reference (heap_of arrays) (array q)) (is_pages_reference (heap_of arrays) (array place) && true) fits) in
     let live : IsLive arrays q = subst (λ (o : Option Block). IsSome o) (sym page.there) refl in
-    let bound : q + 2 ≤ 68288580 = omega (arith, small, live_within arrays q live) in
+    let bound : q + 2 ≤ most_region_words = omega (arith, small, live_within arrays q live) in
     let back : q ≡ (q + 1) % 2 ^ 32 - 1 = omega (arith, word_is q bound) in
     subst (λ n. StandsAt arrays n 0) back (record { block = page.block; there = page.there; kind_is = page.kind })
 element_stands arrays unset rest i place small fits some = absurd (some refl)
@@ -103,7 +104,7 @@ safe_page : (region after : Contents) (readable writable : Option ℕ) (p i v : 
 safe_page region after readable writable p i v page top w old one two rest safe sound h e f g peeked is fits word made =
     let uppermost : w ≡ array p = ap (λ items. slice_index_or items 0 unset) (sym g) ∙ sym peeked ∙ is in
     let all : old ≡ page ∷ int i ∷ array p ∷ rest = e ∙ ap (λ items. page ∷ items) (f ∙ ap (λ items. int i ∷ items) (g ∙ ap (λ u. u ∷ rest) uppermost)) in
-    let small : used_by region.arrays ≤ 68288580 = omega (arith, safe.sound.within, safe.sound.few) in
+    let small : used_by region.arrays ≤ most_region_words = omega (arith, safe.sound.within, safe.sound.few) in
     let stands : v ≢ 0 → StandsAt region.arrays (v - 1) 0 = λ some. subst (λ n. StandsAt region.arrays (n - 1) 0) (sym word) (element_stands region.arrays page rest i p small (ap (tests region.arrays) (sym all) ∙ fits) (λ z. some (word ∙ z))) in
     let fits_all : tests region.arrays (page ∷ int i ∷ array p ∷ rest) ≡ true = ap (tests region.arrays) (sym all) ∙ fits in
     let table : PagesAt region.arrays p = pages_at region.arrays p (safe.sound.kinds p) (second (is_ints_reference (heap_of region.arrays) page) (is_pages_reference (heap_of region.arrays) (array p) && true) fits_all) in
