@@ -285,7 +285,7 @@ module _ (p r : Parts) (q : Question) (b e : List ℕ) (fell : FellReading (λ s
 
 -- ---- what the definition writes in the call
 
-abbrev bare : System → System
+abbrev pub bare : System → System
 bare k = with_console k (record { rest = k.console.rest; output = []; error_output = [] })
 
 bare-behind : (k : System) → behind k.console.output k.console.error_output (bare k) ≡ k
@@ -307,21 +307,26 @@ fits-written false k q y is (inl none) some =
     absurd (no-false (fits y.0 q) so is)
 fits-written false k q y is (inr same) some = absurd (some same.0 same.1)
 
+-- its answer, and the state after it, behind what was written before
+pub reply-written : (k : System) (q : Question) → (((unix (bare k) q).1.console.output ≡ []) → ((unix (bare k) q).1.console.error_output ≡ []) → ⊥)
+    → reply k q ≡ Some ((unix (bare k) q).0, behind k.console.output k.console.error_output (unix (bare k) q).1)
+reply-written k q some =
+    let y : Answer × System = unix (bare k) q in
+    let z : System = behind k.console.output k.console.error_output y.1 in
+    let fit : fits y.0 q ≡ true = fits-written (fits y.0 q) k q y refl (unix-framed k.console.output k.console.error_output (bare k) q).writes some in
+    ap (fitting q) (unix-bare k q) ∙ ap (λ f. if f then Some (y.0, z) else None) fit
+
 -- The state after the call is the definition's, behind what was written before.
 after-written : (k : System) (q : Question) → (((unix (bare k) q).1.console.output ≡ []) → ((unix (bare k) q).1.console.error_output ≡ []) → ⊥)
     → next_state (reply_arriving (arriving k []) q) (arriving k []) ≡ arriving (behind k.console.output k.console.error_output (unix (bare k) q).1) []
 after-written k q some =
-    let y : Answer × System = unix (bare k) q in
-    let z : System = behind k.console.output k.console.error_output y.1 in
-    let fit : fits y.0 q ≡ true = fits-written (fits y.0 q) k q y refl (unix-framed k.console.output k.console.error_output (bare k) q).writes some in
-    let is : reply k q ≡ Some (y.0, z) = ap (fitting q) (unix-bare k q) ∙ ap (λ f. if f then Some (y.0, z) else None) fit in
-    ap (λ a. next_state (option_map (λ given. (given.0, arriving given.1 [])) a) (arriving k [])) is
+    ap (λ a. next_state (option_map (λ given. (given.0, arriving given.1 [])) a) (arriving k [])) (reply-written k q some)
 
 none-left : (front : List ℕ) (next : ℕ) (rest : List ℕ) → [] ≡ front ++ next ∷ rest → ⊥
 none-left [] next rest is = cc
 none-left (x ∷ front) next rest is = cc
 
-some-written : (old new : Seen (List ℕ)) (text : List ℕ) → FailsIn old new text → text ≡ [] → ⊥
+pub some-written : (old new : Seen (List ℕ)) (text : List ℕ) → FailsIn old new text → text ≡ [] → ⊥
 some-written old new text fails none = none-left fails.0.front fails.0.next fails.0.rest (sym none ∙ fails.0.splits)
 
 -- ---- what this is by the stages of the run

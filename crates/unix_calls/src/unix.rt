@@ -171,7 +171,8 @@ impl Unix {
     pub fn add_arg(&mut self, text: &str) -> Result<(), UnixError>
         ensures added { (most blocks moment : ℕ) (files : List (List ℕ × List ℕ))
             (args : List (List ℕ)) → BeginsLimited most self.old blocks moment files args
-            → OnOk result (BeginsLimited most self.new blocks moment files (args ++ text.now ∷ [])) }
+            → OnOk result
+            (BeginsLimited most self.new blocks moment files (args ++ text.now ∷ [])) }
         ensures unchanged { OnErr result (self.new ≡ self.old) }
         ensures fits { OnOk result (block_length (self.old.args ++ text.now ∷ []) ≤ 4096) }
         ensures too_long { (n : ℕ) → result ≡ Err (UnixError.ArgsTooLong n)
