@@ -14,6 +14,7 @@ pub mod LoadLemmas
 pub mod BeginLemmas
 pub mod OpeningLemmas
 pub mod TurnLemmas
+pub mod Counting
 pub mod Lines
 pub mod Methods
 pub mod Fetching

@@ -8,4 +8,5 @@ pub mod Rooms
 pub mod Loading
 pub mod Unique
 pub mod Machine
+pub mod Counting
 pub mod Decoded

@@ -158,7 +158,8 @@ impl Working {
     #[inline]
     pub(crate) fn store(&mut self, kind: LocalKind, i: u8)
         requires local { i < length self.old.frames.current.locals.items }
-        requires operand { IsTrue (on_top (moves kind ∷ []) self.old.frames.current.operands.items) }
+        requires operand { IsTrue
+            (on_top (moves kind ∷ []) self.old.frames.current.operands.items) }
         ensures does { (program : Program)
             → Does program (instructions.Store kind i) self.old self.new }
         ensures keeps { Keeps self.old self.new }

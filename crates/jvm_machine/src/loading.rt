@@ -15,6 +15,7 @@ use crate::fields::Fields;
 use crate::machine_code::MachineCode;
 use crate::room::room_for;
 use crate::working::Working;
+use command_values::RegionWords;
 use jvm_frames::{Callee, Frames};
 use jvm_heap::Heap;
 use jvm_program::{Kind, LinkedMethod};
@@ -29,10 +30,8 @@ pub(crate) fn working_for(
     alloc: Global,
     kinds: &[Kind],
     methods: &[LinkedMethod],
-    words: u64,
+    words: RegionWords,
 ) -> Result<Working, NoMemory>
-    requires some { 1 ≤ words }
-    requires few { words ≤ 68288580 }
     ensures fields { IfOk result (λ w. w.fields ≡ map zero_of kinds.now) }
     ensures heap { IfOk result (λ w. w.heap ≡ nothing_in words) }
     ensures room { IfOk result (λ w.

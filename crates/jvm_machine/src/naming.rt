@@ -17,7 +17,8 @@ impl Working {
     /// `String.length`.
     #[inline]
     pub(crate) fn text_length(&mut self, classes: &[Class]) -> Result<(), Trap>
-        requires operand { IsTrue (on_top (is_text_reference ∷ []) self.old.frames.current.operands.items) }
+        requires operand { IsTrue
+            (on_top (is_text_reference ∷ []) self.old.frames.current.operands.items) }
         requires fit { TextsFit classes.now }
         ensures ok { OnOk result
             (Does (program_of classes.now) instructions.Length self.old self.new) }

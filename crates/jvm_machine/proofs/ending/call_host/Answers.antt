@@ -8,7 +8,7 @@ use Rattle.jvm_heap.specs.Regions.{heap_of}
 use Rattle.jvm_machine.specs.declared.working.Working.{Working}
 use Rattle.jvm_machine.specs.Hosting.{host_tests}
 use Rattle.jvm_machine.proofs.Taking.{still_roomy}
-use Rattle.jvm_machine.proofs.Hosts.{words_found, host_found, host_tables, host_asks, host_exits, host_answers, host_waits, host_falls, served_of, served_size, held_size, held_roomy, tests_within, wrapped_is, answered_working, Answered}
+use Rattle.jvm_machine.proofs.Hosts.{words_found, host_found, host_tables, host_asks, host_exits, host_answers, host_waits, host_falls, served_of, served_size, held_size, held_roomy, held_going, tests_within, wrapped_is, answered_working, Answered}
 use Rattle.jvm_machine.proofs.ending.call_host.Given.{Over}
 use Rattle.jvm_machine.proofs.ending.call_host.Goals as goal
 
@@ -92,3 +92,9 @@ returns-in-Err-clause-size g c =
 pub returns-in-Err-clause-roomy : goal.returns-in-Err-clause-roomy
 returns-in-Err-clause-roomy g c =
     held_roomy c.args.program.now.classes c.args.working.now c.close.new.self (still_roomy c.args.program.now.classes c.args.program.now.code c.args.working.now c.requires.going)
+
+pub returns-in-Ok-None-clause-rests : goal.returns-in-Ok-None-clause-rests
+returns-in-Ok-None-clause-rests g c =
+    let is_none : c.in-Ok-None.field-0 ≡ None = rw c.in-Ok-None.is at c.in-Ok-None.field-0-is in
+    let served = served_of g.V.Server.goes g.V.Server.held g.V.Server.fell c.args.working.now c.of-words.result c.args.server.now c.serve-answer.new.self c.open.new.self c.serve-answer.new.view c.serve-answer.result (Ok None) c.open.ensures (c.in-Ok-None.is ∙ ap Ok is_none) c.serve-answer.ensures.served in
+    λ _. held_going c.args.program.now.classes c.args.program.now.code c.args.working.now c.of-words.result c.close.new.self c.serve-answer.new.view c.requires.going (ap (λ (h : Held). h.region) c.close.ensures) served.1
