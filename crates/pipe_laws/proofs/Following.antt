@@ -13,7 +13,7 @@ use Rattle.unix_calls.specs.Arriving.{arriving, reply_arriving, without_pieces}
 use Rattle.pipe_laws.specs.Stages.{PipeStage, reads_input, writes_output, is_over, after_turn, answered_by, comes_to, with_rest, input_left, output_of}
 use Rattle.pipe_laws.specs.Pipelines.{Pipeline, PipeNet, is_over_at, is_fed, has_enough, may_read, may_write, is_ready, next_turn, can_turn}
 use Rattle.pipe_laws.specs.Turns.{PipeTurn, AllOver, BringNothing, gained, poured, turned_stage, turned_net, happens, run_turns, net_at_start}
-use Rattle.pipe_laws.specs.Alone.{EndsAsAlone, IsFreshPipeline, first_run, first_run_arriving, run_alone_of}
+use Rattle.pipe_laws.specs.Alone.{EndsAsAlone, IsFreshPipeline, WritesFront, first_run, first_run_arriving, run_alone_of}
 use Rattle.pipe_laws.proofs.Lines.{enough-read}
 use Rattle.pipe_laws.proofs.Frames.{more_in, more-framed}
 use Rattle.pipe_laws.proofs.Runs.{AreEmpty, EndsSame, IsFront, ends-back, ends-on, onward-writes, none-left, turn-adds, reply-writes, arriving-writes, left_alone, left_arriving, turn-alone, turn-arriving, empty-pieces}
@@ -274,6 +274,7 @@ module _ {S : Type 0} (p : Pipeline S) (first : Run S System) where
         output = ap (λ r. r.system.system.console.output) (sym e) ∙ ap (λ s. s.console.output) f.leads.system;
         error_output = ap (λ r. r.system.system.console.error_output) (sym e) ∙ ap (λ s. s.console.error_output) f.leads.system;
         machine = ap (λ r. r.last) (sym e) ∙ f.leads.last;
+        rest = λ zero_is. ap (λ r. r.system.system.console.rest) (sym e) ∙ ap (λ s. s.console.rest) f.leads.system;
       }
   ends-so net (suc i) f is =
       let x = with_more (net.stage (suc i)) f.more in
@@ -283,7 +284,11 @@ module _ {S : Type 0} (p : Pipeline S) (first : Run S System) where
         output = ap (λ r. r.system.console.output) (sym e) ∙ ap (λ s. s.console.output) f.leads.system;
         error_output = ap (λ r. r.system.console.error_output) (sym e) ∙ ap (λ s. s.console.error_output) f.leads.system;
         machine = ap (λ r. r.last) (sym e) ∙ f.leads.last;
+        rest = λ zero_is. absurd (omega arith);
       }
+
+  pub front-of : (net : PipeNet S) (i : ℕ) → Leads net [] i → WritesFront p first net i
+  front-of net i f = let front = writes-front net [] i f in record { more = front.more; output = sym front.joined }
 
 -- ---- from the start
 
@@ -364,4 +369,24 @@ module _ {S : Type 0} (p : Pipeline S) (fresh : IsFreshPipeline p) where
         output = ends.output ∙ ap (λ s. s.console.output) h.system;
         error_output = ends.error_output ∙ ap (λ s. s.console.error_output) h.system;
         machine = ends.machine ∙ h.last;
+        rest = λ zero_is. ends.rest zero_is ∙ ap (λ s. s.console.rest) h.system;
       }
+
+  -- ---- at any time
+
+  leads-over-pieces : (turns : List PipeTurn) (i : ℕ) → Leads p (first_run_arriving p (pieces_from_start turns)) (run_turns p (net_at_start p) turns) [] i
+  leads-over-pieces turns i =
+      let pieces = pieces_from_start turns in
+      run-leads p (first_run_arriving p pieces) turns (net_at_start p) (start-leads pieces) i
+
+  pub front-over-pieces : (turns : List PipeTurn) → (pieces : List (List ℕ)) × ((i : ℕ) → WritesFront p (first_run_arriving p pieces) (run_turns p (net_at_start p) turns) i)
+  front-over-pieces turns =
+      let pieces = pieces_from_start turns in
+      (pieces, λ i. front-of p (first_run_arriving p pieces) (run_turns p (net_at_start p) turns) i (leads-over-pieces turns i))
+
+  pub front-of-all : (turns : List PipeTurn) → BringNothing turns → (i : ℕ) → WritesFront p (first_run p) (run_turns p (net_at_start p) turns) i
+  front-of-all turns none i =
+      let pieces = pieces_from_start turns in
+      let front = front-of p (first_run_arriving p pieces) (run_turns p (net_at_start p) turns) i (leads-over-pieces turns i) in
+      let h = alone-alike (first_run_arriving p pieces) (first_run p) (empty-pieces p.turn p.bound p.bound (p.machines 0) (with_rest (p.systems 0) p.input) pieces (nothing-in turns (net_at_start p) none)) i in
+      record { more = front.more; output = ap (λ s. s.console.output) (sym h.system) ∙ front.output }

@@ -211,7 +211,7 @@ module _ {S : Type 0} (turn : S → Turn S) (bound : ℕ) where
   abbrev pub left_arriving : PipeStage S → List (List ℕ) → Run S Arriving
   left_arriving x pieces = onward turn reply_arriving bound x.outcome x.made x.machine (arriving x.system pieces)
 
-  going-of : (x : PipeStage S) → is_over bound x ≡ false → (x.outcome ≡ Going) × (x.made < bound)
+  pub going-of : (x : PipeStage S) → is_over bound x ≡ false → (x.outcome ≡ Going) × (x.made < bound)
   going-of x h =
       let parts = or_parts (not (is_going x.outcome)) (nat_le bound x.made) h in
       (going-is x.outcome (not-false (is_going x.outcome) parts.0), leb-false bound x.made parts.1)

@@ -1,10 +1,10 @@
 -- The stages of a pipeline one after the other. This knows neither pipes nor turns of stages.
-use Rattle.std.specs.Prelude.{◌≡◌, ℕ, zero, suc, List, []}
+use Rattle.std.specs.Prelude.{◌≡◌, ℕ, zero, suc, List, [], ◌++◌}
 use Rattle.nv_events.specs.Run.{Run, run_of}
 use Rattle.unix_system.specs.System.{System}
 use Rattle.unix_system.specs.Unix.{reply}
 use Rattle.unix_calls.specs.Arriving.{run_arriving}
-use Rattle.pipe_laws.specs.Stages.{output_of, with_rest}
+use Rattle.pipe_laws.specs.Stages.{input_left, output_of, with_rest}
 use Rattle.pipe_laws.specs.Pipelines.{Pipeline, PipeNet}
 
 -- the systems have written nothing, and no read of input gives more than c bytes
@@ -28,10 +28,19 @@ run_alone_of p first (suc i) =
     (with_rest (p.systems (suc i)) (run_alone_of p first i).system.console.output)
 
 -- a stage ended as its machine does alone, and wrote the same
-pub record EndsAsAlone {S : Type 0} (p : Pipeline S) (first : Run S System) (net : PipeNet S) (i : ℕ)
-    : Type 0 where
+pub record EndsAsAlone {S : Type 0} (p : Pipeline S) (first : Run S System) (net : PipeNet S)
+    (i : ℕ) : Type 0 where
   pub outcome : (net.stage i).outcome ≡ (run_alone_of p first i).outcome
   pub output : output_of (net.stage i) ≡ (run_alone_of p first i).system.console.output
   pub error_output : (net.stage i).system.console.error_output
       ≡ (run_alone_of p first i).system.console.error_output
   pub machine : (net.stage i).machine ≡ (run_alone_of p first i).last
+  -- and the first one read as much of the input
+  pub rest : i ≡ 0 → input_left (net.stage i) ≡ (run_alone_of p first i).system.console.rest
+
+-- what a stage has written so far is a front part of what it writes alone
+pub record WritesFront {S : Type 0} (p : Pipeline S) (first : Run S System) (net : PipeNet S)
+    (i : ℕ) : Type 0 where
+  pub more : List ℕ
+  pub output :
+      (run_alone_of p first i).system.console.output ≡ output_of (net.stage i) ++ more

@@ -3,7 +3,7 @@
 ghost use Rattle.std.specs.Prelude.{◌≡◌, ℕ, ◌<◌, true, false, List};
 ghost use Rattle.pipe_laws.specs.Pipelines.{Pipeline, PipeNet, is_over_at, can_turn};
 ghost use Rattle.pipe_laws.specs.Turns.{PipeTurn, AllOver, BringNothing, net_at_start, run_turns};
-ghost use Rattle.pipe_laws.specs.Alone.{EndsAsAlone, IsFreshPipeline, first_run, first_run_arriving};
+ghost use Rattle.pipe_laws.specs.Alone.{EndsAsAlone, IsFreshPipeline, WritesFront, first_run, first_run_arriving};
 
 use nv_events::Machine;
 
@@ -21,6 +21,20 @@ pub fn pieces_come_to_the_first<M: Machine>()
         → AllOver p (run_turns p (net_at_start p) turns) → (pieces : List (List ℕ))
         × ((i : ℕ) → i < p.count
         → EndsAsAlone p (first_run_arriving p pieces) (run_turns p (net_at_start p) turns) i) }
+{}
+
+/// Whatever turns the stages have made, each has written a front part of what it writes alone.
+pub fn outputs_are_front_parts<M: Machine>()
+    ensures { (p : Pipeline M.State) (turns : List PipeTurn) → IsFreshPipeline p
+        → BringNothing turns → (i : ℕ)
+        → WritesFront p (first_run p) (run_turns p (net_at_start p) turns) i }
+{}
+
+/// The same where the pipeline's input comes in pieces.
+pub fn outputs_are_front_parts_over_pieces<M: Machine>()
+    ensures { (p : Pipeline M.State) (turns : List PipeTurn) → IsFreshPipeline p
+        → (pieces : List (List ℕ)) × ((i : ℕ)
+        → WritesFront p (first_run_arriving p pieces) (run_turns p (net_at_start p) turns) i) }
 {}
 
 /// While a stage is not over, some stage can make a turn.
