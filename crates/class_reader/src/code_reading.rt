@@ -1,8 +1,9 @@
 //! The attribute with a method's code, from bytes (JVM Specification, 4.7.3).
-ghost use Rattle.std.specs.Prelude.{◌≡◌, ◌&&◌, ◌==◌, ◌+◌};
+ghost use Rattle.std.specs.Prelude.{◌≡◌, ◌&&◌, ◌==◌, ◌+◌, ◌≤◌, IfOk};
 ghost use Rattle.class_format.specs.Gives.{Gives};
 ghost use Rattle.jvm_code.specs.Code.{is_bad_length};
 ghost use Rattle.class_file.specs.Members as format;
+ghost use Rattle.framed_class_file.specs.Tables as framed;
 
 use class_format::{ClassFault, Failure, Miss, exact_half_of, half_of, missed, raw_of, word_of};
 use jvm_code::{CodeError, decode_ops};
@@ -41,13 +42,25 @@ fn code_head_of(bytes: &[u8]) -> Result<(CodeHead, &[u8]), Failure>
     ensures { Gives (λ x. ((x.0.length, (x.0.stack, (x.0.locals, x.0.code_length))), x.1.now))
         result (format.code_head.read bytes.now) }
 {
+    let (head, rest) = code_numbers_of(bytes)?;
+    if head.length != head.code_length + 12 {
+        return Err(missed(ClassFault::ATTRIBUTE, bytes));
+    }
+    Ok((head, rest))
+}
+
+/// What the attribute begins with, whatever its length is.
+pub fn code_numbers_of(bytes: &[u8]) -> Result<(CodeHead, &[u8]), Failure>
+    ensures numbers { Gives (λ x. (
+      (x.0.length, (x.0.stack, (x.0.locals, x.0.code_length))),
+      x.1.now,
+    )) result (framed.code_numbers.read bytes.now) }
+    ensures short { IfOk result (λ x. x.0.code_length ≤ 65535) }
+{
     let (length, rest) = word_of(ClassFault::CUT, bytes)?;
     let (stack, rest) = half_of(ClassFault::CUT, rest)?;
     let (locals, rest) = half_of(ClassFault::CUT, rest)?;
     let (code_length, rest) = code_length_of(rest)?;
-    if length != code_length + 12 {
-        return Err(missed(ClassFault::ATTRIBUTE, bytes));
-    }
     Ok((
         CodeHead {
             length,
@@ -60,7 +73,8 @@ fn code_head_of(bytes: &[u8]) -> Result<(CodeHead, &[u8]), Failure>
 }
 
 fn code_length_of(bytes: &[u8]) -> Result<(u32, &[u8]), Failure>
-    ensures { Gives (λ x. (x.0, x.1.now)) result (format.code_length.read bytes.now) }
+    ensures length { Gives (λ x. (x.0, x.1.now)) result (format.code_length.read bytes.now) }
+    ensures short { IfOk result (λ x. x.0 ≤ 65535) }
 {
     let (length, rest) = word_of(ClassFault::CUT, bytes)?;
     if length == 0 || 65_535 < length {
@@ -69,8 +83,8 @@ fn code_length_of(bytes: &[u8]) -> Result<(u32, &[u8]), Failure>
     Ok((length, rest))
 }
 
-// So many bytes of sound code.
-fn code_of(alloc: Global, length: usize, bytes: &[u8]) -> Result<(&[u8], &[u8]), Failure>
+/// So many bytes of sound code.
+pub fn code_of(alloc: Global, length: usize, bytes: &[u8]) -> Result<(&[u8], &[u8]), Failure>
     ensures { Gives (λ x. (x.0.now, x.1.now)) result ((format.code_bytes length).read bytes.now) }
 {
     let (code, rest) = raw_of(ClassFault::CUT, bytes, length)?;

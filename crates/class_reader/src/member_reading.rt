@@ -61,7 +61,8 @@ fn field_of<'a>(pool: &Slots, bytes: &'a [u8]) -> Result<(Member, &'a [u8]), Fai
     Ok((Member { name, desc }, rest))
 }
 
-fn flags_of(bytes: &[u8]) -> Result<&[u8], Failure>
+/// What follows the flags, public and static.
+pub fn flags_of(bytes: &[u8]) -> Result<&[u8], Failure>
     ensures { Gives (λ x. (tt, x.now)) result (format.public_static.read bytes.now) }
 {
     exact_half_of(ClassFault::CUT, ClassFault::FLAGS, FLAGS, bytes)
@@ -129,7 +130,8 @@ fn method_of<'a>(
     ))
 }
 
-fn one_attribute(bytes: &[u8]) -> Result<&[u8], Failure>
+/// What follows the number of attributes, which is 1.
+pub fn one_attribute(bytes: &[u8]) -> Result<&[u8], Failure>
     ensures { Gives (λ x. (tt, x.now)) result ((format.attributes 1).read bytes.now) }
 {
     exact_half_of(ClassFault::CUT, ClassFault::ATTRIBUTE, 1, bytes)

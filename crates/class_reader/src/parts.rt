@@ -12,9 +12,10 @@ use jvm_code::{Class, Member, Method};
 use jvm_names::Sequence;
 use std::alloc::Global;
 
-const MAGIC: u32 = 0xCAFE_BABE;
+/// CAFEBABE.
+pub const MAGIC: u32 = 0xCAFE_BABE;
 
-const MINOR: u16 = 0;
+pub const MINOR: u16 = 0;
 
 const MAJOR: u16 = 48;
 
@@ -51,8 +52,9 @@ fn behind_preamble(bytes: &[u8]) -> Result<&[u8], Failure>
     exact_half_of(ClassFault::CUT, ClassFault::VERSION, MAJOR, rest)
 }
 
+/// The slots of the class and of the one above it, between the flags and the number of interfaces.
 #[tactic(auto, unfolding(class_file::specs::ClassFile::class_slots))]
-fn class_slots_of<'a>(pool: &Slots, bytes: &'a [u8]) -> Result<((u16, u16), &'a [u8]), Failure>
+pub fn class_slots_of<'a>(pool: &Slots, bytes: &'a [u8]) -> Result<((u16, u16), &'a [u8]), Failure>
     ensures { Gives (λ x. (x.0, x.1.now)) result ((format.class_slots pool.now).read bytes.now) }
 {
     let rest = exact_half_of(ClassFault::CUT, ClassFault::FLAGS, FLAGS, bytes)?;

@@ -42,7 +42,8 @@ fn whole_class_of(alloc: Global, bytes: &[u8]) -> Result<Class, Failure>
     Ok(class)
 }
 
-fn refusal(size: usize, failure: Failure) -> ReadError
+/// A failure of reading so many bytes, as the answer.
+pub fn refusal(size: usize, failure: Failure) -> ReadError
     ensures { result ≡ refusal_of 0 size failure }
 {
     match failure {

@@ -1,2 +1,3 @@
 pub mod MethodLemmas
 pub mod Spelled
+pub mod FramedSpelled

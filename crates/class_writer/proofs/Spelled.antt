@@ -19,7 +19,7 @@ use Rattle.jvm_code.specs.Code.{is_bad_length}
 use Rattle.class_file.specs.Named.{text_slot, is_own_descriptor, code_name_slot}
 use Rattle.class_file.specs.Members.{public_static, attributes, field, CodeHead, code_length, code_head, code_attribute, method_parts, method}
 use Rattle.class_file.specs.ClassFile.{preamble, class_slots, members, class, Spells}
-use Rattle.class_writer.specs.Written.{halves, word, entry_bytes, field_bytes, method_bytes, has_short_code, class_bytes}
+use Rattle.class_writer.specs.Written.{halves, word, entry_bytes, field_bytes, code_bytes, method_bytes, has_short_code, front_bytes, class_bytes}
 
 -- ---- entries
 
@@ -56,7 +56,7 @@ slot_spelled false to_come (FieldRef n m) e = refl
 slot_spelled false to_come (MethodRef n m) e = refl
 slot_spelled false to_come (NameAnd n m) e = refl
 
-entries_spelled : (s : Bool) (es : List Entry) → chain_fits slot (λ _ e. is_long e) s es ≡ true → chain_spelling slot (λ _ e. is_long e) s es ≡ flat_map entry_bytes es
+pub entries_spelled : (s : Bool) (es : List Entry) → chain_fits slot (λ _ e. is_long e) s es ≡ true → chain_spelling slot (λ _ e. is_long e) s es ≡ flat_map entry_bytes es
 entries_spelled s [] e = refl
 entries_spelled s (x ∷ xs) e =
     let p = and_parts ((slot s (length xs)).fits x) (chain_fits slot (λ _ y. is_long y) (is_long x) xs) e in
@@ -64,7 +64,7 @@ entries_spelled s (x ∷ xs) e =
     let others : chain_spelling slot (λ _ y. is_long y) (is_long x) xs ≡ flat_map entry_bytes xs = entries_spelled (is_long x) xs p.1 in
     ap (λ (ys : List ℕ). ys ++ chain_spelling slot (λ _ y. is_long y) (is_long x) xs) one ∙ ap (λ (ys : List ℕ). entry_bytes x ++ ys) others
 
-pool_fits : (es : List Entry) → pool.fits es ≡ true → chain_fits slot (λ _ e. is_long e) false es ≡ true
+pub pool_fits : (es : List Entry) → pool.fits es ≡ true → chain_fits slot (λ _ e. is_long e) false es ≡ true
 unfolding pool
 pool_fits es e =
     let p = and_parts _ ((sound_slots (length es + 1)).fits es) e in
@@ -73,22 +73,22 @@ pool_fits es e =
 
 -- ---- fields and methods
 
-abbrev spelling_of : {A : Type 0} → Format A → List A → List ℕ
+abbrev pub spelling_of : {A : Type 0} → Format A → List A → List ℕ
 spelling_of f xs = chain_spelling {S = Unit {0}} (λ _ _. f) (λ s _. s) tt xs
 
 abbrev fit_all : {A : Type 0} → Format A → List A → Bool
 fit_all f xs = chain_fits {S = Unit {0}} (λ _ _. f) (λ s _. s) tt xs
 
-all_spelled : {A : Type 0} (f : Format A) (bytes : A → List ℕ) → ((a : A) → f.spell a ≡ bytes a) → (xs : List A) → spelling_of f xs ≡ flat_map bytes xs
+pub all_spelled : {A : Type 0} (f : Format A) (bytes : A → List ℕ) → ((a : A) → f.spell a ≡ bytes a) → (xs : List A) → spelling_of f xs ≡ flat_map bytes xs
 all_spelled f bytes is [] = refl
 all_spelled f bytes is (x ∷ xs) = ap (λ (ys : List ℕ). ys ++ spelling_of f xs) (is x) ∙ ap (λ (ys : List ℕ). bytes x ++ ys) (all_spelled f bytes is xs)
 
-field_spelled : (es : List Entry) (f : Member) → (field es).spell f ≡ field_bytes f
+pub field_spelled : (es : List Entry) (f : Member) → (field es).spell f ≡ field_bytes f
 unfolding field
 field_spelled es f = refl
 
 method_spelled : (es : List Entry) (m : Method) → (method es).spell m ≡ method_bytes m
-unfolding method code_attribute method_bytes
+unfolding method code_attribute code_bytes method_bytes
 method_spelled es m = simp append_assoc refl
 
 short_of : (a b : Bool) → not (a || b) ≡ true → not b ≡ true
@@ -140,10 +140,10 @@ members_short es fs ms e =
 
 -- ---- the class
 
-abbrev parts_fit : Class → Bool
+abbrev pub parts_fit : Class → Bool
 parts_fit c = pool.fits c.pool && ((class_slots c.pool).fits (c.this_class, c.super_class) && (members c.pool).fits (c.fields, c.methods))
 
-class_fits : (c : Class) → class.fits c ≡ true → parts_fit c ≡ true
+pub class_fits : (c : Class) → class.fits c ≡ true → parts_fit c ≡ true
 unfolding class
 class_fits c e = (and_parts (preamble.fits tt) (parts_fit c) e).1
 
@@ -153,14 +153,14 @@ codes_short c e =
     let q = and_parts ((class_slots c.pool).fits (c.this_class, c.super_class)) ((members c.pool).fits (c.fields, c.methods)) p.1 in
     members_short c.pool c.fields c.methods q.1
 
-abbrev pieces : ℕ → ℕ → ℕ → ℕ → ℕ → List ℕ → List ℕ → List ℕ → List ℕ
-pieces slots this super fields methods es fs ms =
-    word 0xCAFEBABE ++ halves (0 ∷ 48 ∷ [])
+abbrev pub pieces : ℕ → ℕ → ℕ → ℕ → ℕ → ℕ → List ℕ → List ℕ → List ℕ → List ℕ
+pieces version slots this super fields methods es fs ms =
+    word 0xCAFEBABE ++ halves (0 ∷ version ∷ [])
     ++ ((halves (slots ∷ []) ++ es)
     ++ (halves (0x31 ∷ this ∷ super ∷ 0 ∷ [])
     ++ (((halves (fields ∷ []) ++ fs) ++ (halves (methods ∷ []) ++ ms)) ++ halves (0 ∷ []))))
 
-in_pieces : (c : Class) → class.spell c ≡ pieces (length c.pool + 1) c.this_class c.super_class (length c.fields) (length c.methods)
+in_pieces : (c : Class) → class.spell c ≡ pieces 48 (length c.pool + 1) c.this_class c.super_class (length c.fields) (length c.methods)
     (chain_spelling slot (λ _ e. is_long e) false c.pool) (spelling_of (field c.pool) c.fields) (spelling_of (method c.pool) c.methods)
 unfolding class preamble class_slots members pool
 in_pieces c = refl
@@ -168,23 +168,23 @@ in_pieces c = refl
 regrouped : (w h s es t u fs v ms z : List ℕ) → (w ++ h) ++ ((s ++ es) ++ (t ++ (((u ++ fs) ++ (v ++ ms)) ++ z))) ≡ w ++ (h ++ s) ++ es ++ (t ++ u) ++ fs ++ v ++ ms ++ z
 regrouped w h s es t u fs v ms z = simp append_assoc refl
 
-pieces_joined : (c : Class) → pieces (length c.pool + 1) c.this_class c.super_class (length c.fields) (length c.methods)
-    (flat_map entry_bytes c.pool) (flat_map field_bytes c.fields) (flat_map method_bytes c.methods) ≡ class_bytes c
-pieces_joined c =
-    regrouped (word 0xCAFEBABE) (halves (0 ∷ 48 ∷ [])) (halves ((length c.pool + 1) ∷ [])) (flat_map entry_bytes c.pool) (halves (0x31 ∷ c.this_class ∷ c.super_class ∷ 0 ∷ []))
-    (halves (length c.fields ∷ [])) (flat_map field_bytes c.fields) (halves (length c.methods ∷ [])) (flat_map method_bytes c.methods) (halves (0 ∷ []))
+pub pieces_joined : (version : ℕ) (c : Class) (ms : List ℕ) → pieces version (length c.pool + 1) c.this_class c.super_class (length c.fields) (length c.methods)
+    (flat_map entry_bytes c.pool) (flat_map field_bytes c.fields) ms ≡ front_bytes version c ++ ms ++ halves (0 ∷ [])
+pieces_joined version c ms =
+    regrouped (word 0xCAFEBABE) (halves (0 ∷ version ∷ [])) (halves ((length c.pool + 1) ∷ [])) (flat_map entry_bytes c.pool) (halves (0x31 ∷ c.this_class ∷ c.super_class ∷ 0 ∷ []))
+    (halves (length c.fields ∷ [])) (flat_map field_bytes c.fields) (halves (length c.methods ∷ [])) ms (halves (0 ∷ []))
 
-pieces_same : (slots this super fields methods : ℕ) (es fs ms xs ys zs : List ℕ) → es ≡ xs → fs ≡ ys → ms ≡ zs
-    → pieces slots this super fields methods es fs ms ≡ pieces slots this super fields methods xs ys zs
-pieces_same slots this super fields methods es fs ms xs ys zs e f g = rw (e, f, g) refl
+pub pieces_same : (version slots this super fields methods : ℕ) (es fs ms xs ys zs : List ℕ) → es ≡ xs → fs ≡ ys → ms ≡ zs
+    → pieces version slots this super fields methods es fs ms ≡ pieces version slots this super fields methods xs ys zs
+pieces_same version slots this super fields methods es fs ms xs ys zs e f g = rw (e, f, g) refl
 
 class_spelled : (c : Class) → class.fits c ≡ true → class.spell c ≡ class_bytes c
 class_spelled c e =
     let p = and_parts (pool.fits c.pool) ((class_slots c.pool).fits (c.this_class, c.super_class) && (members c.pool).fits (c.fields, c.methods)) (class_fits c e) in
     in_pieces c
-    ∙ pieces_same (length c.pool + 1) c.this_class c.super_class (length c.fields) (length c.methods) _ _ _ _ _ _
+    ∙ pieces_same 48 (length c.pool + 1) c.this_class c.super_class (length c.fields) (length c.methods) _ _ _ _ _ _
     (entries_spelled false c.pool (pool_fits c.pool p.0)) (all_spelled (field c.pool) field_bytes (field_spelled c.pool) c.fields) (all_spelled (method c.pool) method_bytes (method_spelled c.pool) c.methods)
-    ∙ pieces_joined c
+    ∙ pieces_joined 48 c (flat_map method_bytes c.methods)
 
 pub written_spells : (c : Class) (bytes : List ℕ) → class.fits c ≡ true → bytes ≡ class_bytes c → Spells bytes c
 written_spells c bytes e is = record { fits = e; spelled = is ∙ sym (class_spelled c e) }

@@ -1,10 +1,10 @@
 //! A class file as its bytes.
-ghost use Rattle.std.specs.Prelude.{◌≡◌, ◌≤◌, ◌↔◌, ℕ, true, false, Some, None, Err, IfOk, length};
-ghost use Rattle.std.specs.List.{list_any, list_all};
+ghost use Rattle.std.specs.Prelude.{◌≡◌, ◌↔◌, ℕ, true, Some, None, Err, IfOk};
+ghost use Rattle.std.specs.List.{list_all};
 ghost use Rattle.jvm_code.specs.declared.class.Class.{Class};
 ghost use Rattle.class_file.specs.ClassFile as format;
-ghost use Rattle.class_writer.specs.Limits.{limit, has_long_text};
-ghost use Rattle.class_writer.specs.Written.{class_bytes, has_short_code};
+ghost use Rattle.class_writer.specs.Limits.{limit};
+ghost use Rattle.class_writer.specs.Written.{class_bytes, front_bytes, has_short_code};
 ghost use Rattle.class_writer.specs.declared.error.WriteError.TheVariants.{TooLong};
 
 use crate::entry_writing::append_entries;
@@ -48,19 +48,27 @@ pub fn write_class(alloc: Global, c: &Class) -> Result<Vec<u8>, WriteError>
 }
 
 fn bytes_of(alloc: Global, c: &Class) -> Result<Vec<u8>, NoMemory>
-    requires slots { length c.now.pool ≤ 65534 }
-    requires fields { length c.now.fields ≤ 65535 }
-    requires methods { length c.now.methods ≤ 65535 }
-    requires texts { list_any has_long_text c.now.pool ≡ false }
+    requires held { limit c.now ≡ None }
     requires codes { list_all has_short_code c.now.methods ≡ true }
     ensures { IfOk result (λ bytes. bytes.items ≡ class_bytes c.now) }
+{
+    let mut bytes = front_of(alloc, c, MAJOR)?;
+    append_methods(&mut bytes, c.methods.as_slice())?;
+    append_halves(&mut bytes, &[0])?;
+    Ok(bytes)
+}
+
+/// The bytes of a class of a version up to its methods.
+pub fn front_of(alloc: Global, c: &Class, major: u16) -> Result<Vec<u8>, NoMemory>
+    requires { limit c.now ≡ None }
+    ensures { IfOk result (λ bytes. bytes.items ≡ front_bytes major c.now) }
 {
     let pool = c.pool.as_slice();
     let fields = c.fields.as_slice();
     let methods = c.methods.as_slice();
     let mut bytes = Vec::new(alloc);
     append_word(&mut bytes, MAGIC)?;
-    append_halves(&mut bytes, &[MINOR, MAJOR, pool.len() as u16 + 1])?;
+    append_halves(&mut bytes, &[MINOR, major, pool.len() as u16 + 1])?;
     append_entries(&mut bytes, pool)?;
     append_halves(
         &mut bytes,
@@ -68,7 +76,5 @@ fn bytes_of(alloc: Global, c: &Class) -> Result<Vec<u8>, NoMemory>
     )?;
     append_fields(&mut bytes, fields)?;
     append_halves(&mut bytes, &[methods.len() as u16])?;
-    append_methods(&mut bytes, methods)?;
-    append_halves(&mut bytes, &[0])?;
     Ok(bytes)
 }

@@ -32,7 +32,7 @@ slot-before from (x ∷ entries) n e = by-test (is_table_name x) (λ h. slot-bef
     by-test true others h = omega (arith, same_Some from n h)
     by-test false others h = let less = others h in omega (arith, less)
 
-slot-within : (entries : List Entry) (n : ℕ) → table_slot entries ≡ Some n → n ≤ length entries
+pub slot-within : (entries : List Entry) (n : ℕ) → table_slot entries ≡ Some n → n ≤ length entries
 slot-within entries n e = omega (arith, slot-before 1 entries n e)
 
 slot-is : (n : ℕ) → is_slot (Some n) n ≡ true
