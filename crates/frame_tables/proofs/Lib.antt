@@ -1,0 +1,9 @@
+pub mod TableLaws
+pub mod MeaningLaws
+pub mod SizeLaws
+pub mod ShortLaws
+pub mod GivesLaws
+pub mod ChosenLaws
+pub mod PrefixLaws
+pub mod TrimLaws
+pub mod WrittenLaws

@@ -1,0 +1,5 @@
+pub mod Tables
+pub mod Meaning
+pub mod Last
+pub mod Shortest
+pub mod Written
