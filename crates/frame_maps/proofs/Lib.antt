@@ -1,0 +1,4 @@
+pub mod FramedLaws
+pub mod WalkLaws
+pub mod PlacingLaws
+pub mod CheckLaws

@@ -1,0 +1,4 @@
+pub mod Framed
+pub mod Walk
+pub mod Placed
+pub mod Checked
