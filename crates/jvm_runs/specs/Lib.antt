@@ -1,0 +1,4 @@
+pub mod Relocation
+pub mod Again
+pub mod Below
+pub mod Laws
