@@ -18,14 +18,14 @@ pub live_first : (h : ProgramHeader) (headers : List ProgramHeader) → is_live 
 live_first h headers on = ap (λ t. map (λ (h : ProgramHeader). h.segment) (cond t (h ∷ filter is_live headers) (filter is_live headers))) on
 
 -- no page is shared where none holds code and writable data
-no_shared : (ranges : List Range) (segments : List Segment) → All (λ (s : Segment). 1 ≤ s.memsz) segments
+pub no_shared : (ranges : List Range) (segments : List Segment) → All (λ (s : Segment). 1 ≤ s.memsz) segments
     → ((page : ℕ) → (list_any (range_is_on_page page) ranges && are_within page (page + 1) (map page_span (filter is_writable segments))) ≡ false)
     → least_below (is_shared_page ranges segments) page_count ≡ None
 no_shared ranges segments live apart =
     let spans = map page_span (filter is_writable segments) in
     sym (shared_least ranges segments spans spans spans None page_count live refl (λ first behind lt. refl) refl (λ page le. apart page) tt)
 
-area_passes : (r : Range) (segments : List Segment) → (r.words == 0) ≡ false → least_below (is_shared_page (r ∷ []) segments) page_count ≡ None
+pub area_passes : (r : Range) (segments : List Segment) → (r.words == 0) ≡ false → least_below (is_shared_page (r ∷ []) segments) page_count ≡ None
     → area_fault (r ∷ []) segments ≡ None
 unfolding area_fault
 area_passes r segments some none = λ i. first_fault (fails 21 (some i && true) ∷ fails_at 22 (none i) ∷ [])
@@ -40,11 +40,11 @@ data_at at n = whole at 0x10000000 6 n
 some_words : (n : ℕ) → 4 ≤ n → ((0x00400000 + n) / 4 - 0x00100000 == 0) ≡ false
 some_words n some = ne_eqb ((0x00400000 + n) / 4 - 0x00100000) 0 (λ none. omega (arith, none, some))
 
-few_words : (n : ℕ) → n ≤ 4194304 → (0x00400000 + n) / 4 - 0x00100000 ≤ 1048576
+few_words : (n : ℕ) → n ≤ 4194304 → (0x00400000 + n) / 4 - 0x00100000 ≤ 4194304
 few_words n short = omega (arith, short)
 
 -- the text ends below the page where the data begins
-pages_apart : (page words end : ℕ) → words ≤ 1048576
+pub pages_apart : (page words end : ℕ) → words ≤ 4194304
     → ((range_is_on_page page (record { first = 0x00400000; words = words }) || false) && ((nat_le 65536 page && nat_le (page + 1) end) || false)) ≡ false
 pages_apart page words end few = grind (arith, nat_tests)
 

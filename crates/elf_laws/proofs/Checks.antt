@@ -1,4 +1,4 @@
--- The checks of a written file that has no sections.
+-- The checks of a written file.
 use Rattle.std.proofs.Common.{◌≡◌, ℕ, ◌+◌, ◌*◌, ◌<◌, ◌≤◌, Bool, true, false, cond, not, ◌&&◌, ◌==◌, nat_lt, if◌then◌else◌, List, [], ◌∷◌, ◌++◌, length, length-append, map, filter, position, Option, Some, None, option_map, refl, ap, ◌∙◌, arith}
 use Rattle.std.specs.List.{All, position_from, range_with_len}
 use Rattle.std.specs.Option.{option_or}
@@ -21,22 +21,23 @@ use Rattle.elf_writer.proofs.LengthLemmas.{length-elf_header}
 use Rattle.elf_writer.proofs.ReadBackLemmas.{table_place_is, count_is}
 
 -- ---- the header
-identity_passes : (entry n : ℕ) (ys : List ℕ) → identity_fault (elf_header entry 0 n 0 ++ ys) ≡ None
+pub identity_passes : (entry table n headers : ℕ) (ys : List ℕ) → identity_fault (elf_header entry table n headers ++ ys) ≡ None
 unfolding identity_fault header_of order_of
-identity_passes entry n ys =
-    let long : nat_lt (length (elf_header entry 0 n 0 ++ ys)) 52 ≡ false =
-    le-ltb (length (elf_header entry 0 n 0 ++ ys)) 52 (omega (arith, length-append (elf_header entry 0 n 0) ys, length-elf_header entry 0 n 0)) in
+identity_passes entry table n headers ys =
+    let long : nat_lt (length (elf_header entry table n headers ++ ys)) 52 ≡ false =
+    le-ltb (length (elf_header entry table n headers ++ ys)) 52
+    (omega (arith, length-append (elf_header entry table n headers) ys, length-elf_header entry table n headers)) in
     λ i. option_or (fails 1 (long i)) None
 
-entry_size : (entry n : ℕ) (ys : List ℕ) → (header_of (elf_header entry 0 n 0 ++ ys)).e_phentsize ≡ 32
+pub entry_size : (entry table n headers : ℕ) (ys : List ℕ) → (header_of (elf_header entry table n headers ++ ys)).e_phentsize ≡ 32
 unfolding header_of order_of
-entry_size entry n ys = refl
+entry_size entry table n headers ys = refl
 
 no_table : (entry n : ℕ) (ys : List ℕ) → (header_of (elf_header entry 0 n 0 ++ ys)).e_shoff ≡ 0
 unfolding header_of order_of
 no_table entry n ys = refl
 
-table_passes : (file : List ℕ) (n : ℕ) → (header_of file).e_phnum ≡ n → (header_of file).e_phoff ≡ 52 → (header_of file).e_phentsize ≡ 32
+pub table_passes : (file : List ℕ) (n : ℕ) → (header_of file).e_phnum ≡ n → (header_of file).e_phoff ≡ 52 → (header_of file).e_phentsize ≡ 32
     → 1 ≤ n → 52 + 32 * n ≤ length file → program_table_fault file ≡ None
 unfolding program_table_fault
 table_passes file n count place size some room =
@@ -93,9 +94,9 @@ pub left_fault : (file ys : List ℕ) (entry n : ℕ) (headers : List ProgramHea
 unfolding elf_fault
 left_fault file ys entry n headers is some few room are passed =
     let none = no_sections file (ap (λ f. (header_of f).e_shoff) is ∙ no_table entry n ys) in
-    let identity = ap identity_fault is ∙ identity_passes entry n ys in
+    let identity = ap identity_fault is ∙ identity_passes entry 0 n 0 ys in
     let table = table_passes file n (ap (λ f. (header_of f).e_phnum) is ∙ count_is entry 0 n 0 ys few) (ap (λ f. (header_of f).e_phoff) is ∙ table_place_is entry 0 n 0 ys)
-    (ap (λ f. (header_of f).e_phentsize) is ∙ entry_size entry n ys) some room in
+    (ap (λ f. (header_of f).e_phentsize) is ∙ entry_size entry 0 n 0 ys) some room in
     let segments = ap (segment_fault (length file)) are ∙ passed in
     let section_table = section_table_passes file none in
     let sections = ap (section_fault (live file)) (no_section_headers file none) ∙ no_section_faults (live file) in
@@ -109,7 +110,7 @@ none_from test i (x ∷ xs) fail =
     ap (λ t. cond t (Some i) (position_from test (i + 1) xs)) (All-head (λ x. test x ≡ false) x xs fail)
     ∙ none_from test (i + 1) xs (All-tail (λ x. test x ≡ false) x xs fail)
 
-none_passes : {X : Type 0} (test : X → Bool) (xs : List X) → All (λ x. test x ≡ false) xs → position test xs ≡ None
+pub none_passes : {X : Type 0} (test : X → Bool) (xs : List X) → All (λ x. test x ≡ false) xs → position test xs ≡ None
 none_passes test xs fail = position_from-zero test xs ∙ none_from test 0 xs fail
 
 -- a program header passes each check of one header, in a file of this length
@@ -128,32 +129,40 @@ headers_pass len headers pass apart =
     let kept = none_passes is_writable_text headers (λ k d lt. (pass k d lt).4) in
     λ i. first_fault (fails_at 11 (static i) ∷ fails_at 12 (inside i) ∷ fails_at 13 (sized i) ∷ fails_at 14 (low i) ∷ apart i ∷ fails_at 16 (kept i) ∷ [])
 
--- the header of a segment all of whose bytes are in the file
+-- the header of a segment, by its place and length in the file and its address and length in memory
+abbrev pub loaded : ℕ → ℕ → ℕ → ℕ → ℕ → ProgramHeader
+loaded at address flags n m = record { p_type = 1; segment = record { offset = at; vaddr = address; filesz = n; memsz = m; flags = flags } }
+
+-- that of a segment all of whose bytes are in the file
 abbrev pub whole : ℕ → ℕ → ℕ → ℕ → ProgramHeader
-whole at address flags n = record { p_type = 1; segment = record { offset = at; vaddr = address; filesz = n; memsz = n; flags = flags } }
+whole at address flags n = loaded at address flags n n
 
 never_both : (a b c : Bool) → (b && c) ≡ false → (a && b && c) ≡ false
 never_both true b c never = never
 never_both false b c never = refl
 
-pub whole_passes : (len at address flags n : ℕ) → at + n ≤ len → address + n ≤ 0x7F00_0000 → (has_flag flags 1 && has_flag flags 2) ≡ false
-    → Passes len (whole at address flags n)
-whole_passes len at address flags n inside low never = (
+pub loaded_passes : (len at address flags n m : ℕ) → at + n ≤ len → n ≤ m → address + m ≤ 0x7F00_0000 → (has_flag flags 1 && has_flag flags 2) ≡ false
+    → Passes len (loaded at address flags n m)
+loaded_passes len at address flags n m inside sized low never = (
   refl,
   and_right (nat_lt 0 n) (nat_lt len (at + n)) (le-ltb len (at + n) inside),
-  le-ltb n n (omega arith),
-  and_right (nat_lt 0 n) (nat_lt 0x7F00_0000 (address + n)) (le-ltb 0x7F00_0000 (address + n) low),
-  never_both (nat_lt 0 n) (has_flag flags 1) (has_flag flags 2) never,
+  le-ltb m n sized,
+  and_right (nat_lt 0 m) (nat_lt 0x7F00_0000 (address + m)) (le-ltb 0x7F00_0000 (address + m) low),
+  never_both (nat_lt 0 m) (has_flag flags 1) (has_flag flags 2) never,
 )
 
+pub whole_passes : (len at address flags n : ℕ) → at + n ≤ len → address + n ≤ 0x7F00_0000 → (has_flag flags 1 && has_flag flags 2) ≡ false
+    → Passes len (whole at address flags n)
+whole_passes len at address flags n inside low never = loaded_passes len at address flags n n inside (omega arith) low never
+
 -- one after another share no address
-pub apart_in_order : (at address flags n at' address' flags' n' : ℕ) → address + n ≤ address'
-    → overlap_from 0 (whole at address flags n ∷ whole at' address' flags' n' ∷ []) ≡ None
+pub apart_in_order : (at address flags n m at' address' flags' n' m' : ℕ) → address + m ≤ address'
+    → overlap_from 0 (loaded at address flags n m ∷ loaded at' address' flags' n' m' ∷ []) ≡ None
 unfolding overlap_from
-apart_in_order at address flags n at' address' flags' n' order =
-    let h = whole at address flags n in
-    let g = whole at' address' flags' n' in
-    let apart : overlap h g ≡ false = and_right (nat_lt 0 n && nat_lt 0 n') (meet address (address + n) address' (address' + n')) (meets_not address n address' n' order) in
+apart_in_order at address flags n m at' address' flags' n' m' order =
+    let h = loaded at address flags n m in
+    let g = loaded at' address' flags' n' m' in
+    let apart : overlap h g ≡ false = and_right (nat_lt 0 m && nat_lt 0 m') (meet address (address + m) address' (address' + m')) (meets_not address m address' m' order) in
     let found : ℕ → ElfFault = λ k. record { kind = 15; i = 0; j = 0 + 1 + k } in
     let none = none_passes (overlap h) (g ∷ []) (All-cons (λ x. overlap h x ≡ false) g [] apart (All-nil (λ x. overlap h x ≡ false))) in
     λ i. option_or (option_map found (none i)) None

@@ -21,63 +21,22 @@ use Rattle.mips_asm.specs.File.{Segment as Content, segment_of, whole_segment, d
 use Rattle.mips_asm.proofs.ProgramLemmas.{writable}
 use Rattle.elf_laws.specs.Reading.{contents_in, with_memory}
 use Rattle.elf_laws.proofs.Contents.{parts_read}
+use Rattle.elf_laws.proofs.Written.{begins, end_of, ends, header_bytes, place_of}
 use Rattle.elf_laws.proofs.Checks.{code_of, code_left, area_of, live_of, left_fault, headers_pass, whole_passes, Passes, apart_in_order}
 use Rattle.elf_laws.proofs.Areas.{text_at, data_at, text_live, both_live, text_range, text_area, both_area, no_text_area, data_area}
 
--- ---- the bytes of the program headers, and the end of the bytes of the segments, by what the segments hold
-abbrev header_bytes : ℕ → List Content → List ℕ
-header_bytes at [] = []
-header_bytes at (s ∷ segments) =
-    words (1 ∷ aligned at ∷ s.address ∷ s.address ∷ length s.contents ∷ s.memory ∷ s.flags ∷ 4 ∷ [])
-    ++ header_bytes (aligned at + length s.contents) segments
-
-same_bytes : (at : ℕ) (parts : List Part) → writer.program_headers at parts ≡ header_bytes at (map segment_of parts)
-same_bytes at [] = refl
-same_bytes at (s ∷ parts) = ap (λ bytes. writer.program_header (aligned at) s ++ bytes) (same_bytes (part_end at s) parts)
-
-abbrev end_of : ℕ → List Content → ℕ
-end_of at [] = at
-end_of at (s ∷ segments) = end_of (aligned at + length s.contents) segments
-
-same_end : (at : ℕ) (parts : List Part) → contents_end at parts ≡ end_of at (map segment_of parts)
-same_end at [] = refl
-same_end at (s ∷ parts) = same_end (part_end at s) parts
-
--- the bytes of the segments begin behind the headers
-abbrev place_of : List Content → ℕ
-place_of segments = 52 + 32 * length segments
-
-same_place : (parts : List Part) (segments : List Content) → map segment_of parts ≡ segments → contents_place parts ≡ place_of segments
-same_place parts segments are = ap (λ n. 52 + 32 * n) (sym (length-map parts segment_of) ∙ ap (λ ss. length ss) are)
-
--- the file begins with its header and its program headers
-begins : (text bytes file : List ℕ) → IsFileOf text bytes file
+-- ---- its begin and its end
+first_bytes : (text bytes file : List ℕ) → IsFileOf text bytes file
     → (ys : List ℕ) × (file ≡ writer.elf_header 0x00400000 0 (length (segments_of text bytes)) 0 ++ (header_bytes (place_of (segments_of text bytes)) (segments_of text bytes) ++ ys))
-begins text bytes file is =
-    let parts = is.0 in
-    let segments = parts.segments.items in
-    let sections = parts.sections.items in
-    let place = contents_place segments in
-    let head = writer.elf_header parts.entry (table_place (segments_end parts) sections) (length segments) (header_count sections) in
-    let contents = writer.contents place segments in
-    let table = writer.section_table (segments_end parts) segments sections in
-    let headers : writer.program_headers place segments ≡ header_bytes (place_of (segments_of text bytes)) (segments_of text bytes) =
-    same_bytes place segments ∙ ap (header_bytes place) is.1.1 ∙ ap (λ at. header_bytes at (segments_of text bytes)) (same_place segments (segments_of text bytes) is.1.1) in
-    let count : length segments ≡ length (segments_of text bytes) = sym (length-map segments segment_of) ∙ ap (λ ss. length ss) is.1.1 in (
-      contents ++ table,
-      is.2 ∙ append_assoc (head ++ writer.program_headers place segments) contents table
-          ∙ append_assoc head (writer.program_headers place segments) (contents ++ table)
-          ∙ (λ i. writer.elf_header (is.1.0 i) (table_place (segments_end parts) (is.1.2 i)) (count i) (header_count (is.1.2 i)) ++ (headers i ++ (contents ++ table))),
+first_bytes text bytes file is =
+    let segments = segments_of text bytes in
+    let shape = begins is.0 segments is.1.1 in (
+      shape.0,
+      is.2 ∙ shape.1 ∙ (λ i. writer.elf_header (is.1.0 i) (table_place (segments_end is.0) (is.1.2 i)) (length segments) (header_count (is.1.2 i)) ++ (header_bytes (place_of segments) segments ++ shape.0)),
     )
 
--- it ends with the bytes of its segments
-pub ends : (text bytes file : List ℕ) → IsFileOf text bytes file → length file ≡ end_of (place_of (segments_of text bytes)) (segments_of text bytes)
-ends text bytes file is =
-    let parts = is.0 in
-    let segments = parts.segments.items in
-    ap (λ f. length f) is.2 ∙ length-elf_file parts ∙ ap (λ sections. table_end (segments_end parts) sections) is.1.2
-    ∙ same_end (contents_place segments) segments ∙ ap (end_of (contents_place segments)) is.1.1
-    ∙ ap (λ at. end_of at (segments_of text bytes)) (same_place segments (segments_of text bytes) is.1.1)
+pub file_size : (text bytes file : List ℕ) → IsFileOf text bytes file → length file ≡ end_of (place_of (segments_of text bytes)) (segments_of text bytes)
+file_size text bytes file is = ap (λ f. length f) is.2 ∙ ends is.0 (segments_of text bytes) [] is.1.1 is.1.2
 
 -- ---- its program headers
 text_header : (text ys : List ℕ) → length text < 2 ^ 32
@@ -111,20 +70,20 @@ both_pass len at n at' m short short' inside inside' =
     headers_pass len (text_at at n ∷ data_at at' m ∷ [])
     (All-cons (Passes len) (text_at at n) (data_at at' m ∷ []) (text_passes len at n short inside)
     (All-cons (Passes len) (data_at at' m) [] (data_passes len at' m short' inside') (All-nil (Passes len))))
-    (apart_in_order at 0x00400000 5 n at' 0x10000000 6 m (omega (arith, short)))
+    (apart_in_order at 0x00400000 5 n n at' 0x10000000 6 m m (omega (arith, short)))
 
 -- ---- the file
 pub one_shape : (text file : List ℕ) → IsFileOf text [] file → length text ≤ 4194304
     → (ys : List ℕ) × (file ≡ writer.elf_header 0x00400000 0 1 0 ++ ys) × (program_headers file ≡ text_at 84 (length text) ∷ [])
 one_shape text file is short =
-    let shape = begins text [] file is in
+    let shape = first_bytes text [] file is in
     (header_bytes 84 (segments_of text []) ++ shape.0, shape.1, ap program_headers shape.1 ∙ text_header text shape.0 (omega (arith, short)))
 
 both_shape : (text : List ℕ) (b : ℕ) (bytes file : List ℕ) → IsFileOf text (b ∷ bytes) file → length text ≤ 4194304 → length (b ∷ bytes) ≤ 16777216
     → (ys : List ℕ) × (file ≡ writer.elf_header 0x00400000 0 2 0 ++ ys)
     × (program_headers file ≡ text_at 116 (length text) ∷ data_at (aligned (116 + length text)) (length (b ∷ bytes)) ∷ [])
 both_shape text b bytes file is short short' =
-    let shape = begins text (b ∷ bytes) file is in
+    let shape = first_bytes text (b ∷ bytes) file is in
     (header_bytes 116 (segments_of text (b ∷ bytes)) ++ shape.0, shape.1, ap program_headers shape.1 ∙ both_headers text b bytes shape.0 short short')
 
 -- what is left is the check of the code area
@@ -132,7 +91,7 @@ one_left : (text file : List ℕ) → IsFileOf text [] file → length text ≤ 
     → elf_fault file ≡ option_or (area_of (live_of (text_at 84 (length text) ∷ []))) None
 one_left text file is short =
     let shape = one_shape text file is short in
-    let size : length file ≡ 84 + length text = ends text [] file is in
+    let size : length file ≡ 84 + length text = file_size text [] file is in
     left_fault file shape.0 0x00400000 1 (text_at 84 (length text) ∷ []) shape.1 (omega arith) (omega arith) (omega (arith, size)) shape.2
     (one_passes (length file) 84 (length text) short (omega (arith, size)))
 
@@ -141,7 +100,7 @@ both_left : (text : List ℕ) (b : ℕ) (bytes file : List ℕ) → IsFileOf tex
 both_left text b bytes file is short short' =
     let shape = both_shape text b bytes file is short short' in
     let at = aligned (116 + length text) in
-    let size : length file ≡ at + length (b ∷ bytes) = ends text (b ∷ bytes) file is in
+    let size : length file ≡ at + length (b ∷ bytes) = file_size text (b ∷ bytes) file is in
     left_fault file shape.0 0x00400000 2 (text_at 116 (length text) ∷ data_at at (length (b ∷ bytes)) ∷ []) shape.1 (omega arith) (omega arith) (omega (arith, size)) shape.2
     (both_pass (length file) 116 (length text) at (length (b ∷ bytes)) short short' (omega (arith, size)) (omega (arith, size)))
 
@@ -175,7 +134,7 @@ program_code text (b ∷ bytes) file k is short short' size some =
     ∙ ap code_of (both_live 116 (length text) at (length (b ∷ bytes)) (omega (arith, size, some)) (omega arith)) ∙ ap (λ (r : Range). r ∷ []) (text_range 116 (length text) k size)
 
 -- ---- its segments
-abbrev IsSmall : Content → Type 0
+abbrev pub IsSmall : Content → Type 0
 IsSmall s = (s.address < 2 ^ 32) × (s.memory < 2 ^ 32) × (s.flags < 2 ^ 32)
 
 small : (text bytes : List ℕ) → length text ≤ 4194304 → length bytes ≤ 16777216 → All IsSmall (segments_of text bytes)
@@ -185,7 +144,7 @@ small text (b ∷ bytes) short short' =
     All-cons IsSmall (whole_segment 0x00400000 5 text) (data_segments (b ∷ bytes)) (omega arith, omega (arith, short), omega arith)
     (All-cons IsSmall (whole_segment 0x10000000 6 (b ∷ bytes)) [] (omega arith, omega (arith, short'), omega arith) (All-nil IsSmall))
 
-have_words : (parts : List Part) (segments : List Content) → map segment_of parts ≡ segments → All IsSmall segments → All HasWords parts
+pub have_words : (parts : List Part) (segments : List Content) → map segment_of parts ≡ segments → All IsSmall segments → All HasWords parts
 have_words parts segments are all k d lt =
     let known = subst (λ (ss : List Content). All IsSmall ss) (sym are) all in
     subst IsSmall (get_or-map segment_of parts k d (segment_of d) lt) (known k (segment_of d) (omega (arith, lt, length-map parts segment_of)))

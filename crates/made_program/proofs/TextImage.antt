@@ -12,7 +12,7 @@ use Rattle.elf_image.specs.Refusals.{code_words, data_fault, first_float, float_
 use Rattle.elf_image.proofs.RunsLemmas.{runs_one}
 use Rattle.elf_writer.specs.Fields.{words}
 use Rattle.mips_asm.specs.File.{IsFileOf}
-use Rattle.elf_laws.proofs.Programs.{ends, program_code}
+use Rattle.elf_laws.proofs.Programs.{file_size, program_code}
 use Rattle.made_program.proofs.PlainWords.{IsPlain}
 use Rattle.made_program.proofs.TextBytes.{text_alone, text_segment, text_word}
 use Rattle.made_program.proofs.TextPages.{data_passes, layout_passes, none_below, pages_pass, within_limit}
@@ -60,7 +60,7 @@ module _ (ws file : List ℕ) (is : IsFileOf (words ws) [] file) (short : length
       let code = program_code (words ws) [] file (length ws) is (omega (arith, short)) (omega arith) size some in
       let alone = text_alone (words ws) file is (omega (arith, short)) (omega (arith, size, some)) in
       let runs_same = runs_one (area file) runs (text ∷ []) given (runs_are file text code some refl) in
-      let long : length file ≡ 84 + length (words ws) = ends (words ws) [] file is in
+      let long : length file ≡ 84 + length (words ws) = file_size (words ws) [] file is in
       let sizes = ap (size_fault (length file)) runs_same ∙ sizes_pass (length file) (length ws) (omega (arith, long, short)) (omega (arith, size, short)) in
       let pages = ap (λ ss. pages_fault ss 256 64) alone ∙ pages_pass (length (words ws)) short in
       let filled = ap (data_fault file) alone ∙ data_passes file (length (words ws)) short in
