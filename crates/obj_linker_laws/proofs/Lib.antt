@@ -1,0 +1,10 @@
+pub mod Lists
+pub mod Facts
+pub mod Places
+pub mod Images
+pub mod Words
+pub mod Sites
+pub mod Linked
+pub mod Values
+pub mod Files
+pub mod Shapes
