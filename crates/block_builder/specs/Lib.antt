@@ -2,3 +2,4 @@ pub mod Registers
 pub mod Leaders
 pub mod Blocks
 pub mod Dependence
+pub mod Laws

@@ -6,3 +6,4 @@ pub mod Built
 pub mod Errors
 pub mod Inside
 pub mod Code
+pub mod Laws

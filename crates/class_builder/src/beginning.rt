@@ -18,7 +18,8 @@ pub fn own_slot(alloc: Global, pool: &mut SoundPool, name: &str) -> Result<u16, 
     ensures there { IfOk result (λ slot. IsClassAt pool.new slot name.now) }
     ensures lawful { OnOk result (is_class_name name.now ≡ true) }
     ensures grown { Grows pool.old pool.new 2 }
-    ensures mentions { OnOk result (Mentions pool.new (mentioned pool.old ++ OfClass name.now ∷ [])) }
+    ensures mentions { OnOk result
+        (Mentions pool.new (mentioned pool.old ++ OfClass name.now ∷ [])) }
     ensures full { result ≡ Err Full → LacksRoom pool.old 2 (name.now ∷ []) }
     ensures unlawful { result ≡ Err Unlawful → is_class_name name.now ≡ false }
 {

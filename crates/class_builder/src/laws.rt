@@ -1,6 +1,6 @@
 //! What the slots of a class that was made mean to the instructions of its methods, once it is linked, and what its pool names. Each call
 //! here does nothing: its contract is the law.
-ghost use Rattle.std.specs.Prelude.{◌≡◌, ℕ, Bool, true, false, List, Some, codes, flat_map, option_and_then, option_to_list};
+ghost use Rattle.std.specs.Prelude.{◌≡◌, ℕ, Bool, true, List, Some, codes, flat_map, option_and_then, option_to_list};
 ghost use Rattle.std.specs.List.{list_all};
 ghost use Rattle.constant_pool.specs.declared.entry.Entry.{Entry};
 ghost use Rattle.constant_pool.specs.Names.{same_text};
@@ -11,11 +11,12 @@ ghost use Rattle.jvm_code.specs.declared.class.Class.{Class};
 ghost use Rattle.jvm_code.specs.declared.names.pool_name.PoolName.TheVariants as names;
 ghost use Rattle.jvm_program.specs.declared.array_kind.ArrayKind.TheVariants.{Pages};
 ghost use Rattle.jvm_program.specs.declared.instruction.Instruction.TheVariants as instructions;
-ghost use Rattle.name_resolution.specs.Names.{signature, reference, string_name, host_name, field_number, method_number};
+ghost use Rattle.name_resolution.specs.Names.{signature, reference, string_name, host_name, field_number};
 ghost use Rattle.jvm_link.specs.Linking.{kind_of, pool_instruction};
 ghost use Rattle.code_assembly.specs.Assembling.{Extends};
 ghost use Rattle.class_builder.specs.Named.{IsClassAt, IsFieldAt, IsMethodAt};
 ghost use Rattle.class_builder.specs.Sound.{IsPool};
+ghost use Rattle.class_builder.specs.Laws.{MethodsAreMeant};
 ghost use Rattle.class_builder.specs.Mentioned.{Mention, Mentions, classes_among, mentions_in, once};
 
 /// `getstatic` and `putstatic` with the slot of a field, in a class whose pool goes on behind the one in which the slot was taken.
@@ -36,11 +37,7 @@ pub fn fields_are_meant()
 
 /// `invokestatic` with the slot of a method of the classes.
 pub fn methods_are_meant()
-    ensures { (classes : List Class) (number : ℕ) (c : Class) (pool : List Entry) (slot class n : ℕ)
-        (owner name descriptor : List ℕ) → Extends pool c.pool → IsClassAt pool class owner
-        → IsMethodAt pool slot class name descriptor → same_text owner host_name ≡ false
-        → method_number classes (reference owner (signature name descriptor)) ≡ Some n
-        → pool_instruction classes number c names.Invokestatic slot ≡ instructions.Call n }
+    ensures { MethodsAreMeant }
 {}
 
 /// `invokestatic` with the slot of a method of the host.

@@ -19,7 +19,8 @@ use std::alloc::Global;
 pub fn class_slot(alloc: Global, pool: &mut SoundPool, name: &str) -> Result<u16, BuildError>
     ensures there { IfOk result (λ slot. IsClassAt pool.new slot name.now) }
     ensures grown { Grows pool.old pool.new 2 }
-    ensures mentions { OnOk result (Mentions pool.new (mentioned pool.old ++ OfClass name.now ∷ [])) }
+    ensures mentions { OnOk result
+        (Mentions pool.new (mentioned pool.old ++ OfClass name.now ∷ [])) }
     ensures full { result ≡ Err Full → LacksRoom pool.old 2 (name.now ∷ []) }
     ensures unlawful { result ≡ Err Unlawful → names_class name.now ≡ false }
 {

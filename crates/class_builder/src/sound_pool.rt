@@ -87,7 +87,8 @@ impl SoundPool {
         requires { MayJoin self.old entry }
         ensures there { IfOk result (λ slot. IsAt self.new slot entry) }
         ensures grown { Grows self.old self.new 1 }
-        ensures mentions { OnOk result (Mentions self.new (mentioned self.old ++ mentions_in self.new entry)) }
+        ensures mentions { OnOk result
+            (Mentions self.new (mentioned self.old ++ mentions_in self.new entry)) }
         ensures full { result ≡ Err Full → 65534 < length self.old + 1 }
     {
         let kind = kind_of(&entry);

@@ -26,6 +26,7 @@ use Rattle.jvm_code.specs.Writing.{size_at}
 use Rattle.jvm_link.specs.Linking.{pool_instruction, return_instruction, linked_line}
 use Rattle.code_steps.specs.declared.step.Step.{Step}
 use Rattle.code_steps.specs.declared.step.Step.TheVariants.{Does, Skips, Leaves, Selects}
+use Rattle.code_steps.specs.Offsets.{CodeOffset}
 use Rattle.code_steps.specs.Widths.{lies_from, width, bytes_before, size}
 use Rattle.code_steps.specs.Placing.{laid}
 use Rattle.code_steps.specs.Switches.{switches_are_placed}
@@ -190,7 +191,7 @@ AreKnown r classes number c gives (s ∷ code) = StepIsKnown r classes number c 
 -- ---- where the operations stand
 
 -- operations one after the other, the first one at an offset
-abbrev pub lines_at : ℕ → List Op → List Line
+abbrev pub lines_at : CodeOffset → List Op → List Line
 lines_at at [] = []
 lines_at at (op ∷ ops) = record { at = at; op = op } ∷ lines_at (at + size_at at op) ops
 

@@ -27,6 +27,7 @@ use Rattle.jvm_code.specs.Writing.{size_at}
 use Rattle.jvm_link.specs.Linking.{linked_instruction}
 use Rattle.code_steps.specs.declared.step.Step.{Step}
 use Rattle.code_steps.specs.declared.step.Step.TheVariants.{Does, Skips, Leaves, Selects}
+use Rattle.code_steps.specs.Offsets.{CodeOffset}
 use Rattle.code_steps.specs.Widths.{lies_from, instruction_width, width, bytes_before}
 use Rattle.code_steps.specs.Placing.{laid}
 use Rattle.code_steps.specs.Switches.{needs_no_padding}
@@ -39,14 +40,14 @@ use Rattle.code_assembly.specs.Assembling.{Extends, IsKnown, slots_beside, has_o
 -- names and whose pool has this one at its front.
 pub record IsOperation (r : References) (pool : List Entry) (i : Instruction) (op : Op)
     : Type 0 where
-  pub wide : (at : ℕ) → size_at at op ≡ instruction_width i
-  pub fits : (at : ℕ) → operands_fit at op ≡ true
+  pub wide : (at : CodeOffset) → size_at at op ≡ instruction_width i
+  pub fits : (at : CodeOffset) → operands_fit at op ≡ true
   pub targets : op_targets op ≡ targets_of i
   pub linked : (classes : List Class) (number : ℕ) (c : Class) (gives : Bool) → Extends pool c.pool
       → IsKnown r classes number c gives i → linked_instruction classes number c gives op ≡ i
 
 -- The operation of the i-th step, where the offset behind each step is known.
-abbrev pub IsStepOperation : References → List Entry → List ℕ → ℕ → Step → Op → Type 0
+abbrev pub IsStepOperation : References → List Entry → List CodeOffset → ℕ → Step → Op → Type 0
 IsStepOperation r pool ends i (Does instruction) op = IsOperation r pool instruction op
 IsStepOperation r pool ends i (Skips name k) op = op ≡ ops.Branch name (slice_index ends (i + k))
 IsStepOperation r pool ends i (Leaves target) op = (op ≡ ops.GotoW target) × (target < 2 ^ 32)
@@ -139,16 +140,16 @@ operation_of r instruction = pool_operation (reference_of r instruction)
 -- ---- code that can be assembled into a method
 
 -- the offset behind each step
-pub record AreEnds (code : List Step) (ends : List ℕ) : Type 0 where
+pub record AreEnds (code : List Step) (ends : List CodeOffset) : Type 0 where
   pub len : length ends ≡ length code
   pub each : (k : ℕ) → k < length code → slice_index ends k ≡ bytes_before code (suc k)
 
 -- a step stands at an offset
-abbrev pub is_start : List Step → ℕ → Bool
+abbrev pub is_start : List Step → CodeOffset → Bool
 is_start code target = is_some (line_in (laid 0 code) target)
 
 -- a step of code at an offset, with others behind it: it has an operation, needs no padding, and its targets are steps' offsets
-abbrev pub step_fits : References → List Step → ℕ → Step → List Step → Bool
+abbrev pub step_fits : References → List Step → CodeOffset → Step → List Step → Bool
 step_fits r code at (Does instruction) others = has_operation r instruction
 step_fits r code at (Skips name k) others =
     step_has_operation r (Skips name k) others && is_start code (at + 3 + bytes_before others k)
@@ -158,11 +159,11 @@ step_fits r code at (Selects s) others =
     && list_all (is_start code) (s.default ∷ s.targets)
 
 -- the first of steps
-abbrev pub first_fits : References → List Step → ℕ → List Step → Bool
+abbrev pub first_fits : References → List Step → CodeOffset → List Step → Bool
 first_fits r code at [] = true
 first_fits r code at (s ∷ others) = step_fits r code at s others
 
-abbrev pub steps_fit : References → List Step → ℕ → List Step → Bool
+abbrev pub steps_fit : References → List Step → CodeOffset → List Step → Bool
 steps_fit r code at [] = true
 steps_fit r code at (s ∷ others) = step_fits r code at s others
     && steps_fit r code (at + width s) others

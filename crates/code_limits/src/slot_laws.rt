@@ -1,9 +1,6 @@
 //! What holds of the slots of code. Each call here does nothing: its contract is the law.
-ghost use Rattle.std.specs.Prelude.{ℕ, ◌+◌, ◌-◌, ◌*◌, ◌<◌, ◌≤◌, Bool, List, length};
+ghost use Rattle.std.specs.Prelude.{ℕ, ◌+◌, ◌*◌, ◌<◌, ◌≤◌, List, length};
 ghost use Rattle.nv_words.specs.declared.order.Order.{Order};
-ghost use Rattle.delay_slots.specs.declared.unit.Unit.{Unit};
-ghost use Rattle.span_code.specs.declared.span_words.SpanWords.{SpanWords};
-ghost use Rattle.span_code.specs.Laying.{span_code};
 ghost use Rattle.trampoline.specs.declared.start.Start.{Start};
 ghost use Rattle.trampoline.specs.Choosers.{class_chooser, main_chooser, missing_code};
 ghost use Rattle.loading_code.specs.declared.beginning.Beginning.{Beginning};
@@ -14,12 +11,12 @@ ghost use Rattle.loading_code.specs.Filling.{fill_code};
 ghost use Rattle.loading_code.specs.Starting.{run_code};
 ghost use Rattle.mem_helpers.specs.Methods.{helper_code};
 ghost use Rattle.code_assembly.specs.Assembling.{slots_of};
+ghost use Rattle.code_limits.specs.Laws.{SpansTakeFewSlots};
 
 /// The constants of the method of a span take at most nine slots for each of its words, and two more, with whichever words its pieces
 /// begin.
 pub fn spans_take_few_slots()
-    ensures { (units : List Unit) (leads : ℕ → Bool) (span : SpanWords)
-        → slots_of (span_code units leads span) ≤ 2 + 9 * (span.end - span.first) }
+    ensures { SpansTakeFewSlots }
 {}
 
 /// The constants of a method that chooses by starts take at most one slot for each of these, and four more. Those of the method for

@@ -7,6 +7,7 @@ use Rattle.jvm_program.specs.Step.{Frame, placed, turn}
 use Rattle.jvm_program.specs.Stretch.{advanced, caller_workspace}
 use Rattle.code_steps.specs.declared.step.Step.{Step}
 use Rattle.code_steps.specs.Widths.{bytes_before, size}
+use Rattle.code_steps.specs.Offsets.{CodeOffset}
 use Rattle.code_steps.specs.Outcomes.{outcome, outcome_from, followed_by, stays_within}
 use Rattle.code_steps.specs.Placing.{LiesAt}
 use Rattle.code_steps.specs.Leading.{LeadsTo, StopsAt, Returns}
@@ -14,7 +15,8 @@ use Rattle.code_steps.specs.Leading.{LeadsTo, StopsAt, Returns}
 -- code that lies in a method does there what its list of steps says, from any of its steps on
 abbrev pub CodeLeads : Type 0
 CodeLeads =
-    (program : Program) (words m at k : ℕ) (code : List Step) (w : Workspace) (others : List Frame)
+    (program : Program) (words m : ℕ) (at : CodeOffset) (k : ℕ) (code : List Step) (w : Workspace)
+    (others : List Frame)
     → LiesAt program m at code
     → LeadsTo program words m at code others (placed m (at + bytes_before code k) w others)
     (outcome_from program words code k w)
@@ -32,7 +34,7 @@ CodesFollow =
 -- where both lie, they lie one behind the other
 abbrev pub PartsLie : Type 0
 PartsLie =
-    (program : Program) (m at : ℕ) (first second : List Step)
+    (program : Program) (m : ℕ) (at : CodeOffset) (first second : List Step)
     → IsTrue (stays_within first)
     → LiesAt program m at (first ++ second)
     → LiesAt program m at first × LiesAt program m (at + size first) second
@@ -42,8 +44,8 @@ PartsLie =
 -- a call whose method returns leads behind the call, with two instructions more than the method's
 abbrev pub CallsLeadBehind : Type 0
 CallsLeadBehind =
-    (program : Program) (words m at i callee n : ℕ) (code : List Step) (w caller back : Workspace)
-    (given : List Value) (result : Option Value) (others : List Frame)
+    (program : Program) (words m : ℕ) (at : CodeOffset) (i callee n : ℕ) (code : List Step)
+    (w caller back : Workspace) (given : List Value) (result : Option Value) (others : List Frame)
     → StopsAt program words m at code others i w (enters callee given caller)
     → Returns program words callee given caller n result back
     → length others < 63

@@ -8,12 +8,13 @@ use Rattle.jvm_program.specs.Step.{State, Frame, placed, turn, turn_by}
 use Rattle.jvm_program.specs.Stretch.{advanced, body_workspace}
 use Rattle.code_steps.specs.declared.step.Step.{Step}
 use Rattle.code_steps.specs.Widths.{bytes_before, size}
+use Rattle.code_steps.specs.Offsets.{CodeOffset}
 use Rattle.code_steps.specs.Outcomes.{Outcome, ended, left, stopped, outcome}
 use Rattle.code_steps.specs.Placing.{laid, LiesAt}
 
 -- The machine stands at the i-th step of code that lies at an offset of a method, and its next turn is by this effect.
-pub record StopsAt (program : Program) (words m at : ℕ) (code : List Step) (others : List Frame)
-    (i : ℕ) (w : Workspace) (e : Effect) : Type 0 where
+pub record StopsAt (program : Program) (words m : ℕ) (at : CodeOffset) (code : List Step)
+    (others : List Frame) (i : ℕ) (w : Workspace) (e : Effect) : Type 0 where
   pub line : LinkedLine
   pub line_is : slice_get (laid at code) i ≡ Some line
   pub next_is : line.next ≡ at + bytes_before code (suc i)
@@ -21,7 +22,8 @@ pub record StopsAt (program : Program) (words m at : ℕ) (code : List Step) (ot
       ≡ turn_by e m line others
 
 -- So many turns that only move lead from a state to where the outcome says.
-abbrev pub LeadsTo : Program → ℕ → ℕ → ℕ → List Step → List Frame → State → Outcome → Type 0
+abbrev pub LeadsTo : Program → ℕ → ℕ → CodeOffset → List Step → List Frame → State → Outcome
+    → Type 0
 LeadsTo program words m at code others x (ended n w) =
     advanced (turn program words) n x ≡ Some (placed m (at + size code) w others)
 LeadsTo program words m at code others x (left n target w) =

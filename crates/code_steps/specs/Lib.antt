@@ -1,3 +1,4 @@
+pub mod Offsets
 pub mod Widths
 pub mod Outcomes
 pub mod Placing

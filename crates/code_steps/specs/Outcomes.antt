@@ -5,12 +5,13 @@ use Rattle.jvm_program.specs.Program.{Program, targets_of}
 use Rattle.jvm_program.specs.Effect.{Workspace, Effect, goes_on, jumps, branches, effect}
 use Rattle.code_steps.specs.declared.step.Step.{Step}
 use Rattle.code_steps.specs.declared.step.Step.TheVariants.{Does, Skips, Leaves, Selects}
+use Rattle.code_steps.specs.Offsets.{CodeOffset}
 
 -- How code that is begun with a workspace goes on. So many instructions lead to its end; or so many, of which the last is `goto_w` or a
 -- switch, to an offset of the method; or so many to the step of a number, counted from 0, whose effect is another than to go on.
 pub data Outcome : Type 0 where
   ended : ℕ → Workspace → Outcome
-  left : ℕ → ℕ → Workspace → Outcome
+  left : ℕ → CodeOffset → Workspace → Outcome
   stopped : ℕ → ℕ → Workspace → Effect → Outcome
 
 -- the outcome seen from a step before, which was passed over
@@ -38,11 +39,11 @@ after_branch w (jumps zero v) rest target = later (target v)
 after_branch w e rest target = stopped 0 0 w e
 
 -- what a switch leads to, by its targets
-abbrev pub selected : Workspace → ℕ → Workspace → Option ℕ → Outcome
+abbrev pub selected : Workspace → ℕ → Workspace → Option CodeOffset → Outcome
 selected w k v None = stopped 0 0 w (jumps k v)
 selected w k v (Some target) = left 1 target v
 
-abbrev pub after_switch : Workspace → Effect → List ℕ → Outcome
+abbrev pub after_switch : Workspace → Effect → List CodeOffset → Outcome
 after_switch w (jumps k v) targets = selected w k v (slice_get targets k)
 after_switch w e targets = stopped 0 0 w e
 

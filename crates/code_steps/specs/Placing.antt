@@ -8,15 +8,16 @@ use Rattle.jvm_program.specs.Program.{Program, line_at}
 use Rattle.code_steps.specs.declared.step.Step.{Step}
 use Rattle.code_steps.specs.declared.step.Step.TheVariants.{Does, Skips, Leaves, Selects}
 use Rattle.code_steps.specs.Widths.{width, bytes_before}
+use Rattle.code_steps.specs.Offsets.{CodeOffset}
 
 -- the instruction of a step at an offset, with others behind it
-abbrev pub placed_instruction : ℕ → Step → List Step → Instruction
+abbrev pub placed_instruction : CodeOffset → Step → List Step → Instruction
 placed_instruction at (Does instruction) others = instruction
 placed_instruction at (Skips name k) others = Branch name (at + 3 + bytes_before others k)
 placed_instruction at (Leaves target) others = Branch Goto target
 placed_instruction at (Selects s) others = TableSwitch s
 
-abbrev pub placed_line : ℕ → Step → List Step → LinkedLine
+abbrev pub placed_line : CodeOffset → Step → List Step → LinkedLine
 placed_line at s others = record {
   at = at;
   next = at + width s;
@@ -24,12 +25,12 @@ placed_line at s others = record {
 }
 
 -- the lines of code from an offset on
-abbrev pub laid : ℕ → List Step → List LinkedLine
+abbrev pub laid : CodeOffset → List Step → List LinkedLine
 laid at [] = []
 laid at (s ∷ code) = placed_line at s code ∷ laid (at + width s) code
 
 -- a method has the lines of the code from an offset on
-abbrev pub LiesAt : Program → ℕ → ℕ → List Step → Type 0
+abbrev pub LiesAt : Program → ℕ → CodeOffset → List Step → Type 0
 LiesAt program m at [] = Unit {0}
 LiesAt program m at (s ∷ code) = (line_at program m at ≡ Some (placed_line at s code))
     × LiesAt program m (at + width s) code

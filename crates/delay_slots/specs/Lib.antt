@@ -1,2 +1,4 @@
+pub mod Places
 pub mod Units
 pub mod Turns
+pub mod Laws

@@ -14,6 +14,7 @@ use Rattle.mips_decode.specs.declared.inst.Inst.{Inst}
 use Rattle.mips_decode.specs.declared.inst.Inst.TheVariants.{BranchSign, BranchEqual, BranchZero}
 use Rattle.delay_slots.specs.declared.unit.Unit.{Unit}
 use Rattle.delay_slots.specs.declared.unit.Unit.TheVariants.{Plain, Branch, SlotMissing, SlotIsBranch, Call, Trap}
+use Rattle.delay_slots.specs.Places.{Address, WordIndex}
 
 -- A unit's turns: its one turn, or where its branch comes to the delay slot, that state and the turn of the slot from there.
 pub data UnitTurns : Type 0 where
@@ -56,15 +57,15 @@ AreMade x (one_turn last) = turn x ≡ last
 AreMade x (two_turns slot last) = (turn x ≡ moves slot) × (turn slot ≡ last)
 
 -- Code has the words of one whole range, from an address on.
-pub record HasRange (code : ℕ → Option ℕ) (first : ℕ) (words : List ℕ) : Type 0 where
+pub record HasRange (code : ℕ → Option ℕ) (first : Address) (words : List ℕ) : Type 0 where
   pub aligned : first % 4 ≡ 0
   pub below_end : first + 4 * length words < 2 ^ 32
-  pub are_words : (k : ℕ) → k < length words → IsWord (slice_index words k)
-  pub there : (k : ℕ) → k < length words → code (first + 4 * k) ≡ slice_get words k
+  pub are_words : (k : WordIndex) → k < length words → IsWord (slice_index words k)
+  pub there : (k : WordIndex) → k < length words → code (first + 4 * k) ≡ slice_get words k
   pub ends : code (first + 4 * length words) ≡ None
 
 -- A state stands at word i of the range, with no branch pending.
-pub record StandsAt (x : State) (first : ℕ) (words : List ℕ) (i : ℕ) : Type 0 where
+pub record StandsAt (x : State) (first : Address) (words : List ℕ) (i : WordIndex) : Type 0 where
   pub begun : x.begun ≡ true
   pub pending : x.pending ≡ None
   pub pc : x.pc ≡ first + 4 * i

@@ -4,6 +4,7 @@ use Rattle.mips_decode.specs.Targets.{extended_imm}
 use Rattle.mips_decode.specs.declared.names.load_name.LoadName.{LoadName}
 use Rattle.mips_decode.specs.declared.names.load_name.LoadName.TheVariants.{Lwl, Lwr}
 use Rattle.mips_decode.specs.declared.names.store_name.StoreName.{StoreName}
+use Rattle.delay_slots.specs.Places.{Address}
 use Rattle.jvm_names.specs.declared.int_arithmetic.IntArithmetic.TheVariants.{Iadd}
 use Rattle.jvm_program.specs.declared.kind.Kind.TheVariants as kinds
 use Rattle.jvm_program.specs.declared.instruction.Instruction.TheVariants.{Call, CallHost, Get}
@@ -20,12 +21,12 @@ address_code bank rs w = if w == 0 then get_register bank rs ∷ []
     else get_register bank rs ∷ push_word w ∷ arithmetic Iadd ∷ []
 
 -- an address and the instruction's own address are given to a helper
-abbrev pub access_code : ℕ → ℕ → ℕ → ℕ → ℕ → List Step
+abbrev pub access_code : ℕ → ℕ → ℕ → ℕ → Address → List Step
 access_code bank helper rs imm at = address_code bank rs (extended_imm imm)
     ++ push_word at ∷ Does (Call helper) ∷ []
 
 -- LWL and LWR keep bytes of the register, so what it holds is given too
-abbrev pub load_code : ℕ → LoadName → ℕ → ℕ → ℕ → ℕ → List Step
+abbrev pub load_code : ℕ → LoadName → ℕ → ℕ → ℕ → Address → List Step
 load_code bank Lwl rs rt imm at =
     get_register bank rt ∷ (access_code bank (load_helper Lwl) rs imm at
     ++ put_register bank rt ∷ [])
@@ -35,16 +36,16 @@ load_code bank Lwr rs rt imm at =
 load_code bank name rs rt imm at = access_code bank (load_helper name) rs imm at
     ++ put_register bank rt ∷ []
 
-abbrev pub store_code : ℕ → StoreName → ℕ → ℕ → ℕ → ℕ → List Step
+abbrev pub store_code : ℕ → StoreName → ℕ → ℕ → ℕ → Address → List Step
 store_code bank name rs rt imm at =
     get_register bank rt ∷ access_code bank (store_helper name) rs imm at
 
-abbrev pub load_linked_code : ℕ → ℕ → ℕ → ℕ → ℕ → List Step
+abbrev pub load_linked_code : ℕ → ℕ → ℕ → ℕ → Address → List Step
 load_linked_code bank rs rt imm at = access_code bank load_linked_helper rs imm at
     ++ put_register bank rt ∷ []
 
 -- SC: the helper gives whether it stored
-abbrev pub store_conditional_code : ℕ → ℕ → ℕ → ℕ → ℕ → List Step
+abbrev pub store_conditional_code : ℕ → ℕ → ℕ → ℕ → Address → List Step
 store_conditional_code bank rs rt imm at =
     get_register bank rt ∷ (access_code bank store_conditional_helper rs imm at
     ++ put_register bank rt ∷ [])

@@ -12,6 +12,7 @@ use Rattle.mips_decode.specs.declared.names.jump_name.JumpName.{JumpName}
 use Rattle.mips_decode.specs.declared.names.jump_name.JumpName.TheVariants.{J, Jal}
 use Rattle.mips_decode.specs.declared.inst.Inst.{Inst}
 use Rattle.mips_decode.specs.declared.inst.Inst.TheVariants as inst
+use Rattle.delay_slots.specs.Places.{Address}
 use Rattle.jvm_names.specs.declared.stack_name.StackName.TheVariants.{Dup}
 use Rattle.jvm_names.specs.declared.branch_name.BranchName.{BranchName}
 use Rattle.jvm_names.specs.declared.branch_name.BranchName.TheVariants.{Iflt, Ifge, Ifgt, Ifle, IfIcmpeq, IfIcmpne, Goto}
@@ -26,14 +27,14 @@ use Rattle.guest_code.specs.Access.{push_word, put_field, get_register, put_regi
 abbrev pub settle_code : List Step
 settle_code = Does (Stack Dup) ∷ Does (Store local_kinds.Int 0) ∷ put_field pc_field ∷ []
 
-abbrev pub goes_to_code : ℕ → List Step
+abbrev pub goes_to_code : Address → List Step
 goes_to_code target = push_word target ∷ settle_code
 
 -- the address behind the delay slot, which is also the link
-abbrev pub behind_slot : ℕ → ℕ
+abbrev pub behind_slot : Address → Address
 behind_slot at = (at + 8) % 2 ^ 32
 
-abbrev pub link_code : ℕ → Option ℕ → ℕ → List Step
+abbrev pub link_code : ℕ → Option ℕ → Address → List Step
 link_code bank None at = []
 link_code bank (Some r) at = push_word (behind_slot at) ∷ put_register bank r ∷ []
 
@@ -75,24 +76,25 @@ jump_link Jal = Some 31
 -- ---- branches with the code of their delay slots
 
 -- the goal is chosen, then the link is written, then comes the slot
-abbrev pub branch_code : BranchName → ℕ → ℕ → List Step → List Step → List Step
+abbrev pub branch_code : BranchName → Address → Address → List Step → List Step → List Step
 branch_code test target behind link slot =
     Skips test 2 ∷ push_word behind ∷ Skips Goto 1 ∷ push_word target
     ∷ (settle_code ++ link ++ slot)
 
 -- a likely branch that is not taken passes its slot over: a goal has four steps
-abbrev pub likely_code : BranchName → ℕ → ℕ → List Step → List Step → List Step
+abbrev pub likely_code : BranchName → Address → Address → List Step → List Step → List Step
 likely_code test target behind link slot =
     Skips test (5 + length link) ∷ (goes_to_code behind ++ link
     ++ Skips Goto (4 + length link + length slot) ∷ (goes_to_code target ++ link ++ slot))
 
-abbrev pub conditional_code : Bool → BranchName → ℕ → ℕ → List Step → List Step → List Step
+abbrev pub conditional_code : Bool → BranchName → Address → Address → List Step → List Step
+    → List Step
 conditional_code likely test target behind link slot =
     if likely then likely_code test target behind link slot
     else branch_code test target behind link slot
 
 -- a branch or jump at an address, before the code of its slot; every other instruction has no such code
-abbrev pub transfer_code : ℕ → Inst → ℕ → List Step → List Step
+abbrev pub transfer_code : ℕ → Inst → Address → List Step → List Step
 transfer_code bank (inst.BranchEqual name rs rt imm) at slot =
     get_register bank rs ∷ get_register bank rt
     ∷ conditional_code (equal_likely name) (equal_test name) (branch_target at imm) (behind_slot at)

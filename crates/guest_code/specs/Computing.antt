@@ -15,6 +15,7 @@ use Rattle.mips_decode.specs.declared.names.variable_shift_name.VariableShiftNam
 use Rattle.mips_decode.specs.declared.names.hi_lo.HiLo.{HiLo}
 use Rattle.mips_decode.specs.declared.names.hi_lo.HiLo.TheVariants.{Hi, Lo}
 use Rattle.mips_decode.specs.declared.names.product_name.ProductName.{ProductName}
+use Rattle.delay_slots.specs.Places.{Address}
 use Rattle.jvm_names.specs.declared.int_arithmetic.IntArithmetic.{IntArithmetic}
 use Rattle.jvm_names.specs.declared.int_arithmetic.IntArithmetic.TheVariants.{Iadd, Isub, Iand, Ior, Ixor}
 use Rattle.jvm_names.specs.declared.int_shift.IntShift.{IntShift}
@@ -65,13 +66,13 @@ sltu_code bank rs rt rd =
     else get_turned bank rs ++ get_turned bank rt ++ chosen_code bank IfIcmplt rd
 
 -- Two words are on the stack above a sum or difference, which overflows where both have their top bits set.
-abbrev pub overflow_code : ℕ → ℕ → ℕ → ℕ → List Step
+abbrev pub overflow_code : ℕ → ℕ → Address → ℕ → List Step
 overflow_code bank rd at word =
     arithmetic Iand ∷ Skips Ifge 4 ∷ (fault_code overflow_fault at word
     ++ put_register bank rd ∷ [])
 
 -- ADD: the sum stands on the stack, and overflows where it has another sign than both summands
-abbrev pub add_code : ℕ → ℕ → ℕ → ℕ → ℕ → ℕ → List Step
+abbrev pub add_code : ℕ → ℕ → ℕ → ℕ → Address → ℕ → List Step
 add_code bank rs rt rd at word =
     get_register bank rs ∷ get_register bank rt ∷ arithmetic Iadd
     ∷ Does (instructions.Stack Dup) ∷ get_register bank rs ∷ arithmetic Ixor
@@ -80,14 +81,14 @@ add_code bank rs rt rd at word =
     ∷ overflow_code bank rd at word
 
 -- SUB: the difference overflows where its sign is not that of rs, and the signs of rs and rt differ
-abbrev pub sub_code : ℕ → ℕ → ℕ → ℕ → ℕ → ℕ → List Step
+abbrev pub sub_code : ℕ → ℕ → ℕ → ℕ → Address → ℕ → List Step
 sub_code bank rs rt rd at word =
     get_register bank rs ∷ get_register bank rt ∷ arithmetic Isub
     ∷ Does (instructions.Stack Dup) ∷ get_register bank rs ∷ arithmetic Ixor
     ∷ get_register bank rs ∷ get_register bank rt ∷ arithmetic Ixor
     ∷ overflow_code bank rd at word
 
-abbrev pub arithmetic_code : ℕ → ArithmeticName → ℕ → ℕ → ℕ → ℕ → ℕ → List Step
+abbrev pub arithmetic_code : ℕ → ArithmeticName → ℕ → ℕ → ℕ → Address → ℕ → List Step
 arithmetic_code bank Add rs rt rd at word = add_code bank rs rt rd at word
 arithmetic_code bank Addu rs rt rd at word = combined_or_moved_code bank Iadd rs rt rd
 arithmetic_code bank Sub rs rt rd at word = sub_code bank rs rt rd at word
@@ -157,7 +158,7 @@ joined_with_code bank name rs w rt =
     if rs == 0 then set_code bank w rt
     else if w == 0 then moved_code bank rs rt else combined_with_code bank name rs w rt
 
-abbrev pub addi_code : ℕ → ℕ → ℕ → ℕ → ℕ → ℕ → List Step
+abbrev pub addi_code : ℕ → ℕ → ℕ → ℕ → Address → ℕ → List Step
 addi_code bank rs w rt at word =
     get_register bank rs ∷ push_word w ∷ arithmetic Iadd
     ∷ Does (instructions.Stack Dup) ∷ get_register bank rs ∷ arithmetic Ixor
@@ -174,7 +175,8 @@ sltiu_code bank rs w rt =
     if w == 1 then get_register bank rs ∷ chosen_code bank Ifeq rt
     else get_turned bank rs ++ push_word (turned w) ∷ chosen_code bank IfIcmplt rt
 
-abbrev pub arithmetic_immediate_code : ℕ → ArithmeticImmediateName → ℕ → ℕ → ℕ → ℕ → ℕ → List Step
+abbrev pub arithmetic_immediate_code : ℕ → ArithmeticImmediateName → ℕ → ℕ → ℕ → Address → ℕ
+    → List Step
 arithmetic_immediate_code bank Addi rs rt imm at word =
     addi_code bank rs (extended_imm imm) rt at word
 arithmetic_immediate_code bank Addiu rs rt imm at word =

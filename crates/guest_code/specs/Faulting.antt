@@ -5,6 +5,7 @@ use Rattle.mips_decode.specs.declared.names.trap_name.TrapName.{TrapName}
 use Rattle.mips_decode.specs.declared.names.trap_name.TrapName.TheVariants.{Tge, Tgeu, Tlt, Tltu, Teq, Tne}
 use Rattle.mips_decode.specs.declared.names.trap_immediate_name.TrapImmediateName.{TrapImmediateName}
 use Rattle.mips_decode.specs.declared.names.trap_immediate_name.TrapImmediateName.TheVariants.{Tgei, Tgeiu, Tlti, Tltiu, Teqi, Tnei}
+use Rattle.delay_slots.specs.Places.{Address}
 use Rattle.jvm_names.specs.declared.branch_name.BranchName.{BranchName}
 use Rattle.jvm_names.specs.declared.branch_name.BranchName.TheVariants.{IfIcmpeq, IfIcmpne, IfIcmplt, IfIcmpge}
 use Rattle.jvm_program.specs.declared.instruction.Instruction.TheVariants.{FaultHost}
@@ -13,11 +14,11 @@ use Rattle.code_steps.specs.declared.step.Step.TheVariants.{Does, Skips}
 use Rattle.guest_code.specs.Access.{push_word, get_register, get_turned, turned}
 
 -- the fault of a kind at an address with a value
-abbrev pub fault_code : ℕ → ℕ → ℕ → List Step
+abbrev pub fault_code : ℕ → Address → ℕ → List Step
 fault_code kind at value = push_word kind ∷ push_word at ∷ push_word value ∷ Does FaultHost ∷ []
 
 -- where the two words on the stack compare so, there is no fault; else it is that of a trap
-abbrev pub unless_code : BranchName → ℕ → ℕ → List Step
+abbrev pub unless_code : BranchName → Address → ℕ → List Step
 unless_code passes at word = Skips passes 4 ∷ fault_code trap_fault at word
 
 -- what is pushed to be compared
@@ -56,10 +57,10 @@ passing_immediate Tltiu = IfIcmpge
 passing_immediate Teqi = IfIcmpne
 passing_immediate Tnei = IfIcmpeq
 
-abbrev pub trap_code : ℕ → TrapName → ℕ → ℕ → ℕ → ℕ → List Step
+abbrev pub trap_code : ℕ → TrapName → ℕ → ℕ → Address → ℕ → List Step
 trap_code bank name rs rt at word = compared bank name rs rt ++ unless_code (passing name) at word
 
 -- of rs and a word
-abbrev pub trap_with_code : ℕ → TrapImmediateName → ℕ → ℕ → ℕ → ℕ → List Step
+abbrev pub trap_with_code : ℕ → TrapImmediateName → ℕ → ℕ → Address → ℕ → List Step
 trap_with_code bank name rs w at word =
     compared_with bank name rs w ++ unless_code (passing_immediate name) at word

@@ -8,6 +8,7 @@ use Rattle.mips_decode.specs.declared.inst.Inst.{Inst}
 use Rattle.mips_decode.specs.declared.inst.Inst.TheVariants as inst
 use Rattle.delay_slots.specs.declared.unit.Unit.{Unit}
 use Rattle.delay_slots.specs.declared.unit.Unit.TheVariants.{Plain, Branch, SlotMissing, SlotIsBranch, Call, Trap}
+use Rattle.delay_slots.specs.Places.{Address}
 use Rattle.code_steps.specs.declared.step.Step.{Step}
 use Rattle.code_steps.specs.declared.step.Step.TheVariants.{Does}
 use Rattle.guest_code.specs.Computing.{arithmetic_code, shift_code, variable_shift_code, move_from_code, move_to_code, product_code, arithmetic_immediate_code, logical_immediate_code, load_upper_code}
@@ -16,7 +17,7 @@ use Rattle.guest_code.specs.Accessing.{load_code, store_code, load_linked_code, 
 use Rattle.guest_code.specs.Branching.{transfer_code}
 
 -- an instruction that is no branch and no jump, at an address, alone or in a delay slot
-abbrev pub instruction_code : ℕ → Inst → ℕ → List Step
+abbrev pub instruction_code : ℕ → Inst → Address → List Step
 instruction_code bank (inst.Arithmetic name rs rt rd) at =
     arithmetic_code bank name rs rt rd at (word_of (inst.Arithmetic name rs rt rd))
 instruction_code bank (inst.VariableShift name rs rt rd) at = variable_shift_code bank name rs rt rd
@@ -46,11 +47,11 @@ instruction_code bank (inst.Reserved word) at = fault_code reserved_fault at wor
 instruction_code bank other at = []
 
 -- where the next word stands
-abbrev pub next_address : ℕ → ℕ
+abbrev pub next_address : Address → Address
 next_address at = (at + 4) % 2 ^ 32
 
 -- A branch whose slot is missing or wrong faults there, unless it is a likely one and is not taken.
-abbrev pub unit_code : ℕ → Unit → ℕ → List Step
+abbrev pub unit_code : ℕ → Unit → Address → List Step
 unit_code bank (Plain i) at = instruction_code bank i at
 unit_code bank (Branch i slot) at =
     transfer_code bank i at (instruction_code bank slot (next_address at))

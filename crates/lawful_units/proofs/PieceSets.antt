@@ -10,9 +10,10 @@ use Rattle.delay_slots.specs.declared.unit.Unit.{Unit as Word}
 use Rattle.delay_slots.specs.declared.unit.Unit.TheVariants as units
 use Rattle.block_builder.specs.Registers.{Register, general, special, register_set, unit_reads, unit_writes}
 use Rattle.guest_code.specs.Access.{keeps}
-use Rattle.word_emitter.specs.Pieces.{bank_of, is_in, is_written}
+use Rattle.word_emitter.specs.Pieces.{bank_of, is_written}
 use Rattle.lawful_units.specs.Knowing.{AreNumbers, gained}
 use Rattle.lawful_units.specs.Lawful.{IsLawful, has_register, is_general}
+use Rattle.lawful_units.specs.Laws.{GainsFollowEachOther, ListedAreGained, SetsHaveWhatIsListed, UnitsWriteNumbers}
 
 -- each unit of a piece is lawful
 abbrev pub AreLawful : List Word → Type 0
@@ -24,10 +25,10 @@ are-lawful (unit ∷ piece) all = (all 0 units.Call (omega arith), are-lawful pi
 
 -- what the laws of lawful units say of registers
 pub record SetLaws : Type 0 where
-  pub is_membership : (registers : List Register) (r : ℕ) → AreNumbers registers → 0 < r → r < 32 → is_in r registers ≡ has_register registers r
-  pub gained_is : (registers : List Register) (known : ℕ → Bool) (r : ℕ) → gained registers known r ≡ (has_register registers r || known r)
-  pub gained_joined : (first second : List Register) (known : ℕ → Bool) → gained (first ++ second) known ≡ gained second (gained first known)
-  pub writes_numbers : (unit : Word) → IsLawful unit → AreNumbers (unit_writes unit)
+  pub is_membership : SetsHaveWhatIsListed
+  pub gained_is : ListedAreGained
+  pub gained_joined : GainsFollowEachOther
+  pub writes_numbers : UnitsWriteNumbers
 
 numbers-append : (first second : List Register) → AreNumbers first → AreNumbers second → AreNumbers (first ++ second)
 numbers-append [] second a b = b

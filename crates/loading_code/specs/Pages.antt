@@ -7,6 +7,7 @@ use Rattle.jvm_names.specs.declared.int_arithmetic.IntArithmetic.TheVariants.{Ia
 use Rattle.jvm_program.specs.declared.array_kind.ArrayKind.TheVariants.{Ints}
 use Rattle.jvm_program.specs.declared.instruction.Instruction.TheVariants as instructions
 use Rattle.code_steps.specs.declared.step.Step.{Step}
+use Rattle.code_steps.specs.Offsets.{CodeOffset}
 use Rattle.code_steps.specs.declared.step.Step.TheVariants.{Does, Skips, Leaves}
 use Rattle.code_steps.specs.Widths.{size}
 use Rattle.guest_code.specs.Access.{push_word, arithmetic}
@@ -53,10 +54,10 @@ next_code target = Does (instructions.Increment 3 1) ∷ load 3 ∷ load 4 ∷ S
 -- ---- The method: a loop over the runs, and in it a loop over the run's pages.
 
 -- the offsets of the loops
-abbrev pub runs_offset : ℕ
+abbrev pub runs_offset : CodeOffset
 runs_offset = size begun_code
 
-abbrev pub pages_offset : ℕ
+abbrev pub pages_offset : CodeOffset
 pages_offset = size (begun_code ++ ended_code 0 1 0 ++ run_code)
 
 -- a run's pages, and the next run

@@ -6,6 +6,7 @@ use Rattle.jvm_names.specs.declared.branch_name.BranchName.TheVariants.{Ifnull}
 use Rattle.jvm_names.specs.declared.int_arithmetic.IntArithmetic.TheVariants.{Iadd}
 use Rattle.jvm_program.specs.declared.instruction.Instruction.TheVariants as instructions
 use Rattle.code_steps.specs.declared.step.Step.{Step}
+use Rattle.code_steps.specs.Offsets.{CodeOffset}
 use Rattle.code_steps.specs.declared.step.Step.TheVariants.{Does, Skips, Leaves}
 use Rattle.code_steps.specs.Widths.{size}
 use Rattle.guest_code.specs.Access.{push_word, arithmetic}
@@ -30,7 +31,7 @@ word_code = next_character 1 3 ++ joined_code ++ joined_code ++ joined_code ++ j
 
 -- ---- The method: a loop over the words, if there is an array.
 
-abbrev pub words_offset : ℕ
+abbrev pub words_offset : CodeOffset
 words_offset = size (absent_code 0 ++ begun_code)
 
 abbrev pub put_code : List Step

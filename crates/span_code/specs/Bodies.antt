@@ -1,21 +1,23 @@
 -- The code of the words of a span while it is laid down, word by word.
 use Rattle.std.specs.Prelude.{◌≡◌, ℕ, ◌+◌, ◌≤◌, if◌then◌else◌, List, map, filter, Bool}
 use Rattle.delay_slots.specs.declared.unit.Unit.{Unit}
+use Rattle.delay_slots.specs.Places.{WordIndex}
 use Rattle.code_steps.specs.Widths.{size}
+use Rattle.code_steps.specs.Offsets.{CodeOffset}
 use Rattle.span_code.specs.declared.body.Body.{Body}
 use Rattle.span_code.specs.declared.span_words.SpanWords.{SpanWords}
 use Rattle.span_code.specs.Pieces.{words_before, begins, piece_at}
 use Rattle.span_code.specs.Laying.{base, warm_before, cold_before, stretch_at}
 
 -- where the code of a word begins: warm code in the method, each other code in the code of such words
-abbrev pub part_offset : List Unit → (ℕ → Bool) → SpanWords → ℕ → ℕ
+abbrev pub part_offset : List Unit → (ℕ → Bool) → SpanWords → WordIndex → CodeOffset
 part_offset units leads span k =
     if begins leads span k then base span + size (warm_before units leads span k)
     else size (cold_before units leads span k)
 
 -- The codes of the words before one are laid down.
-pub record IsBody (units : List Unit) (leads : ℕ → Bool) (span : SpanWords) (k : ℕ) (b : Body)
-    : Type 0 where
+pub record IsBody (units : List Unit) (leads : ℕ → Bool) (span : SpanWords) (k : WordIndex)
+    (b : Body) : Type 0 where
   pub warm : b.warm.steps.items ≡ warm_before units leads span k
   pub warm_end : b.warm.end ≡ base span + size (warm_before units leads span k)
   pub warm_small : b.warm.end ≤ 65535

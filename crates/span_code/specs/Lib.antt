@@ -7,3 +7,4 @@ pub mod Bodies
 pub mod Locals
 pub mod Standing
 pub mod Keeping
+pub mod Laws

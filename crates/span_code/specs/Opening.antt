@@ -1,5 +1,6 @@
 -- The beginning of the method: which word the guest stands at.
 use Rattle.std.specs.Prelude.{ℕ, ◌+◌, ◌*◌, ◌%◌, List, [], ◌∷◌, ◌++◌, replicate}
+use Rattle.delay_slots.specs.Places.{Address}
 use Rattle.jvm_names.specs.declared.int_arithmetic.IntArithmetic.TheVariants.{Isub, Ior}
 use Rattle.jvm_names.specs.declared.int_shift.IntShift.TheVariants.{Ishl, Iushr}
 use Rattle.jvm_names.specs.declared.stack_name.StackName.TheVariants.{Dup, Swap}
@@ -18,12 +19,12 @@ turned_code =
     ∷ arithmetic Ior ∷ []
 
 -- x is how far field pc is behind the address of the span's first word
-abbrev pub index_code : ℕ → List Step
+abbrev pub index_code : Address → List Step
 index_code first = get_field pc_field ∷ push_word first ∷ arithmetic Isub ∷ turned_code
 
 -- so many times `nop` that so many bytes behind them end at an offset that leaves 3 modulo 4
 abbrev pub padding : ℕ → List Step
 padding bytes = replicate ((3 * bytes + 3) % 4) (Does instructions.Nop)
 
-abbrev pub opening : ℕ → List Step
+abbrev pub opening : Address → List Step
 opening first = padding (size (index_code first)) ++ index_code first

@@ -1,6 +1,7 @@
 -- The code of the words of a span, before it is laid down: steps that leave name the addresses of words.
 use Rattle.std.specs.Prelude.{ℕ, ◌+◌, ◌-◌, Bool, List, ◌++◌, length, Option}
 use Rattle.delay_slots.specs.declared.unit.Unit.{Unit}
+use Rattle.delay_slots.specs.Places.{Address, WordIndex}
 use Rattle.block_builder.specs.Blocks.{unit_at}
 use Rattle.code_steps.specs.declared.step.Step.{Step}
 use Rattle.guest_code.specs.Units.{unit_code}
@@ -15,18 +16,18 @@ abbrev pub extent : SpanWords → Extent
 extent span = record { first = address span span.first; end = address span span.end }
 
 -- where the guest goes on behind the unit of a word, with some code directly behind
-abbrev pub exit_of : List Unit → SpanWords → Option ℕ → ℕ → List Step
+abbrev pub exit_of : List Unit → SpanWords → Option Address → WordIndex → List Step
 exit_of units span behind k = exit_code (extent span) behind (unit_at units k) (address span k)
 
 -- the warm code of the piece that begins with a word
-abbrev pub warm_part : List Unit → (ℕ → Bool) → SpanWords → ℕ → List Step
+abbrev pub warm_part : List Unit → (ℕ → Bool) → SpanWords → WordIndex → List Step
 warm_part units leads span k =
     let own = piece_units units (piece_at units leads span k) in
     warm_code own (address span k)
     ++ exit_of units span (next_such (begins leads span) span k) (k + length own - 1)
 
 -- the code of a word alone, over the fields of the registers
-abbrev pub cold_part : List Unit → (ℕ → Bool) → SpanWords → ℕ → List Step
+abbrev pub cold_part : List Unit → (ℕ → Bool) → SpanWords → WordIndex → List Step
 cold_part units leads span k =
     unit_code 0 (unit_at units k) (address span k)
     ++ exit_of units span (next_such (is_inner leads span) span k) k

@@ -1,22 +1,24 @@
 -- Where the parts stand in the code of the method.
 use Rattle.std.specs.Prelude.{◌≡◌, ℕ, Bool, if◌then◌else◌, List, ◌++◌, map}
 use Rattle.delay_slots.specs.declared.unit.Unit.{Unit}
+use Rattle.delay_slots.specs.Places.{WordIndex}
 use Rattle.code_steps.specs.declared.step.Step.{Step}
 use Rattle.code_steps.specs.Widths.{size}
+use Rattle.code_steps.specs.Offsets.{CodeOffset}
 use Rattle.span_code.specs.declared.span_words.SpanWords.{SpanWords}
 use Rattle.span_code.specs.Pieces.{begins}
 use Rattle.span_code.specs.Parts.{extent, warm_part, cold_part}
 use Rattle.span_code.specs.Laying.{targets_of, return_offset, laid_step}
 
 -- Steps stand one after the other in code, the first of them at an offset.
-pub record StandsAt (code part : List Step) (at : ℕ) : Type 0 where
+pub record StandsAt (code part : List Step) (at : CodeOffset) : Type 0 where
   pub front : List Step
   pub behind : List Step
   pub is : code ≡ front ++ (part ++ behind)
   pub offset : size front ≡ at
 
 -- the code of a word, as it is laid down
-abbrev pub laid_part : List Unit → (ℕ → Bool) → SpanWords → ℕ → List Step
+abbrev pub laid_part : List Unit → (ℕ → Bool) → SpanWords → WordIndex → List Step
 laid_part units leads span k =
     map (laid_step (extent span) (targets_of units leads span) (return_offset units leads span))
     (if begins leads span k then warm_part units leads span k else cold_part units leads span k)

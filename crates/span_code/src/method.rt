@@ -69,7 +69,8 @@ pub fn span_method(
 
     ensures small { IfOk result (λ m. size m.code.items ≤ 65535) }
     ensures too_long { result ≡ Err TooLong
-        → 65535 < size (laying.span_code units.now (flagged leads.now) (span_of start first words)) }
+        → 65535
+        < size (laying.span_code units.now (flagged leads.now) (span_of start first words)) }
 {
     let span = SpanWords {
         start,

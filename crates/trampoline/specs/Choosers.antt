@@ -2,6 +2,7 @@
 -- arguments. Addresses are compared as signed ints, so code stands below address 80000000 (hexadecimal).
 use Rattle.std.specs.Prelude.{ℕ, List, [], ◌∷◌, ◌++◌}
 use Rattle.mips_decode.specs.Effect.{fetch_fault, pc_align_fault}
+use Rattle.delay_slots.specs.Places.{Address}
 use Rattle.jvm_names.specs.declared.branch_name.BranchName.TheVariants.{Ifne, IfIcmplt, Goto}
 use Rattle.jvm_names.specs.declared.int_arithmetic.IntArithmetic.TheVariants.{Iand}
 use Rattle.jvm_names.specs.declared.return_name.ReturnName.TheVariants as return_names
@@ -32,7 +33,7 @@ abbrev pub unaligned_code : ℕ → List Step
 unaligned_code over = load_address ∷ push_word 3 ∷ arithmetic Iand ∷ Skips Ifne over ∷ []
 
 -- the address is below another one: that many of the following steps are passed over
-abbrev pub below_code : ℕ → ℕ → List Step
+abbrev pub below_code : Address → ℕ → List Step
 below_code bound over = load_address ∷ push_word bound ∷ Skips IfIcmplt over ∷ []
 
 -- a method is called by the tree, and the method that chooses is begun anew
@@ -42,15 +43,15 @@ chosen_code starts = tree starts ++ Leaves 0 ∷ []
 -- ---- methods
 
 -- It returns where the address is unaligned, or is not among the addresses from first to before end; else the tree is followed.
-abbrev pub within_code : ℕ → ℕ → List Step
+abbrev pub within_code : Address → Address → List Step
 within_code first end = unaligned_code 6 ++ below_code first 3 ++ below_code end 1 ++ returns ∷ []
 
 -- The chooser of a class of code: as long as the guest stands at one of the class's words, that word's method is called.
-abbrev pub class_chooser : List Start → ℕ → ℕ → List Step
+abbrev pub class_chooser : List Start → Address → Address → List Step
 class_chooser starts first end = address_code ++ within_code first end ++ chosen_code starts
 
 -- where the address is unaligned or below all starts, a method is called, and the method that chooses is begun anew
-abbrev pub strayed_code : ℕ → ℕ → List Step
+abbrev pub strayed_code : Address → ℕ → List Step
 strayed_code first missing = unaligned_code 3 ++ reached_code first 2
     ++ Does (Call missing) ∷ Leaves 0 ∷ []
 

@@ -1,5 +1,6 @@
 -- Code that calls the method to which an address belongs: a tree of comparisons over the addresses at which the methods' parts begin.
 use Rattle.std.specs.Prelude.{ℕ, zero, suc, ◌+◌, ◌/◌, List, [], ◌∷◌, ◌++◌, length, take, drop}
+use Rattle.delay_slots.specs.Places.{Address}
 use Rattle.jvm_names.specs.declared.branch_name.BranchName.TheVariants.{IfIcmpge, Goto}
 use Rattle.jvm_program.specs.declared.local_kind.LocalKind.TheVariants as local_kinds
 use Rattle.jvm_program.specs.declared.instruction.Instruction.TheVariants.{Load, Store, Call}
@@ -9,16 +10,16 @@ use Rattle.guest_code.specs.Access.{push_word}
 use Rattle.trampoline.specs.declared.start.Start.{Start}
 
 -- the address in local variable 0 is not below a start: that many of the following steps are passed over
-abbrev pub reached_code : ℕ → ℕ → List Step
+abbrev pub reached_code : Address → ℕ → List Step
 reached_code first over = Does (Load local_kinds.Int 0) ∷ push_word first ∷ Skips IfIcmpge over ∷ []
 
 -- the code for the starts of both halves, of which the second one begins at an address
-abbrev pub halves_code : ℕ → List Step → List Step → List Step
+abbrev pub halves_code : Address → List Step → List Step → List Step
 halves_code first below from = reached_code first (length below + 1) ++ below
     ++ Skips Goto (length from) ∷ from
 
 -- where the second half begins
-abbrev pub first_of : List Start → ℕ
+abbrev pub first_of : List Start → Address
 first_of [] = 0
 first_of (s ∷ starts) = s.first
 

@@ -1,11 +1,12 @@
 -- Where code goes behind a unit, inside the method of a span. A step that leaves names the address of a word of the span, whose code is
 -- found once all code is laid down.
-use Rattle.std.specs.Prelude.{ℕ, ◌%◌, Bool, ◌&&◌, ◌||◌, false, ◌==◌, nat_le, nat_lt, if◌then◌else◌, List, [], ◌∷◌, Option, Some, None}
+use Rattle.std.specs.Prelude.{◌%◌, Bool, ◌&&◌, ◌||◌, false, ◌==◌, nat_le, nat_lt, if◌then◌else◌, List, [], ◌∷◌, Option, Some, None}
 use Rattle.mips_decode.specs.declared.inst.Inst.{Inst}
 use Rattle.mips_decode.specs.declared.inst.Inst.TheVariants as inst
 use Rattle.mips_decode.specs.Targets.{branch_target, jump_target}
 use Rattle.delay_slots.specs.declared.unit.Unit.{Unit}
 use Rattle.delay_slots.specs.declared.unit.Unit.TheVariants.{Plain, Branch, SlotMissing, SlotIsBranch, Call, Trap}
+use Rattle.delay_slots.specs.Places.{Address}
 use Rattle.jvm_names.specs.declared.branch_name.BranchName.TheVariants.{IfIcmpne}
 use Rattle.jvm_names.specs.declared.return_name.ReturnName.TheVariants as return_names
 use Rattle.jvm_program.specs.declared.local_kind.LocalKind.TheVariants as local_kinds
@@ -20,12 +21,12 @@ use Rattle.word_emitter.specs.declared.extent.Extent.{Extent}
 use Rattle.word_emitter.specs.Pieces.{is_likely}
 
 -- a word of the span stands at an address
-abbrev pub has : Extent → ℕ → Bool
+abbrev pub has : Extent → Address → Bool
 has span address = nat_le span.first address && nat_lt address span.end
     && address % 4 == span.first % 4
 
 -- the code of an address is directly behind, where there is one
-abbrev pub follows : Option ℕ → ℕ → Bool
+abbrev pub follows : Option Address → Address → Bool
 follows None address = false
 follows (Some next) address = next == address
 
@@ -35,21 +36,21 @@ returns = Does (instructions.Return return_names.Return)
 
 -- ---- ways from a branch: local variable 0 and field pc have the goal
 
-abbrev pub arrive : Extent → ℕ → Step
+abbrev pub arrive : Extent → Address → Step
 arrive span goal = if has span goal then Leaves goal else returns
 
-abbrev pub last_way : Extent → Option ℕ → ℕ → List Step
+abbrev pub last_way : Extent → Option Address → Address → List Step
 last_way span behind goal = if follows behind goal then [] else arrive span goal ∷ []
 
 -- the goal is one of two; where none of them is inside, it is not looked at
-abbrev pub two_ways : Extent → Option ℕ → ℕ → ℕ → List Step
+abbrev pub two_ways : Extent → Option Address → Address → Address → List Step
 two_ways span behind first second =
     if has span first || has span second
     then Does (instructions.Load local_kinds.Int 0) ∷ push_word first ∷ Skips IfIcmpne 1
     ∷ arrive span first ∷ last_way span behind second
     else returns ∷ []
 
-abbrev pub branch_exit : Extent → Option ℕ → Inst → ℕ → List Step
+abbrev pub branch_exit : Extent → Option Address → Inst → Address → List Step
 branch_exit span behind (inst.BranchSign name rs imm) at =
     two_ways span behind (branch_target at imm) (behind_slot at)
 branch_exit span behind (inst.BranchEqual name rs rt imm) at =
@@ -60,20 +61,20 @@ branch_exit span behind (inst.Jump name index) at = last_way span behind (jump_t
 branch_exit span behind other at = returns ∷ []
 
 -- behind a branch that faults in its slot only a likely one goes on, where it is not taken
-abbrev pub passing_exit : Extent → Option ℕ → Inst → ℕ → List Step
+abbrev pub passing_exit : Extent → Option Address → Inst → Address → List Step
 passing_exit span behind i at = if is_likely i then last_way span behind (behind_slot at)
     else returns ∷ []
 
 -- ---- to the next word: field pc is set where that is outside
 
-abbrev pub next_exit : Extent → Option ℕ → ℕ → List Step
+abbrev pub next_exit : Extent → Option Address → Address → List Step
 next_exit span behind next =
     if follows behind next then []
     else if has span next then Leaves next ∷ []
     else push_word next ∷ put_field pc_field ∷ returns ∷ []
 
 -- behind the code of a unit at an address
-abbrev pub exit_code : Extent → Option ℕ → Unit → ℕ → List Step
+abbrev pub exit_code : Extent → Option Address → Unit → Address → List Step
 exit_code span behind (Plain i) at = next_exit span behind (next_address at)
 exit_code span behind (Branch i slot) at = branch_exit span behind i at
 exit_code span behind (SlotMissing i) at = passing_exit span behind i at

@@ -7,6 +7,7 @@ use Rattle.mips_decode.specs.declared.inst.Inst.{Inst}
 use Rattle.mips_decode.specs.declared.inst.Inst.TheVariants.{BranchSign, BranchEqual, BranchZero}
 use Rattle.delay_slots.specs.declared.unit.Unit.{Unit}
 use Rattle.delay_slots.specs.declared.unit.Unit.TheVariants.{Branch}
+use Rattle.delay_slots.specs.Places.{Address}
 use Rattle.block_builder.specs.declared.block.Block.{Block}
 use Rattle.block_builder.specs.Registers.{Register, register_set, read_by, written_by, unit_reads, unit_writes}
 use Rattle.block_builder.specs.Leaders.{words_of}
@@ -53,7 +54,7 @@ bank_of units =
 
 -- ---- code
 
-abbrev pub units_code : ℕ → List Unit → ℕ → List Step
+abbrev pub units_code : ℕ → List Unit → Address → List Step
 units_code bank [] at = []
 units_code bank (unit ∷ units) at = unit_code bank unit at ++ units_code bank units (at + 4)
 
@@ -69,7 +70,7 @@ for_registers test code = flat_map (λ r. if test r then code r else []) (range_
 
 -- Registers whose words are needed are put into local variables, the units are done over these, and the registers that were written
 -- are put back.
-abbrev pub warm_code : List Unit → ℕ → List Step
+abbrev pub warm_code : List Unit → Address → List Step
 warm_code units at =
     for_registers (is_needed units) fetched ++ units_code (bank_of units) units at
     ++ for_registers (is_written units) put_back
