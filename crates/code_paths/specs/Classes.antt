@@ -9,6 +9,7 @@ use Rattle.jvm_program.specs.declared.instruction.Instruction.{Instruction}
 use Rattle.jvm_program.specs.declared.instruction.Instruction.TheVariants.{Array, TableSwitch, LookupSwitch, CharAt, Call, Get, Put}
 use Rattle.jvm_program.specs.Program.{Program, line_at}
 use Rattle.jvm_program.specs.Step.{State, Frame, Loaded}
+use Rattle.code_steps.specs.Offsets.{CodeOffset}
 
 -- ---- what an instruction counts
 
@@ -68,12 +69,12 @@ executed_loaded weight step = weighed weight (line_of step.from.program step.fro
 
 -- ---- where a step is made
 
-abbrev pub place_of : ℕ → List Frame → Option ℕ
+abbrev pub place_of : ℕ → List Frame → Option CodeOffset
 place_of m [] = None
 place_of m (f ∷ others) = if f.method == m then Some f.at else None
 
 -- the offset in a method, where that is the one that runs
-abbrev pub place_in : ℕ → State → Option ℕ
+abbrev pub place_in : ℕ → State → Option CodeOffset
 place_in m s = place_of m s.frames
 
 -- ---- a loaded program

@@ -7,6 +7,7 @@ use Rattle.jvm_program.specs.declared.instruction.Instruction.{Instruction}
 use Rattle.jvm_program.specs.Program.{Program, line_in, line_at, targets_of}
 use Rattle.jvm_program.specs.Effect.{Workspace, enters, gives, effect}
 use Rattle.jvm_program.specs.Stretch.{Point, passed, body_workspace}
+use Rattle.code_steps.specs.Offsets.{CodeOffset}
 use Rattle.jvm_program.specs.Step.{Frame, placed, turn}
 use Rattle.jvm_program.specs.declared.value.Value.{Value}
 
@@ -18,7 +19,8 @@ line_then (Some line) None on = line ∷ []
 line_then (Some line) (Some p) on = line ∷ on p
 
 -- the lines that so many instructions execute, from an offset on
-abbrev pub passes : Program → ℕ → List LinkedLine → ℕ → ℕ → Workspace → List LinkedLine
+abbrev pub passes : Program → ℕ → List LinkedLine → ℕ → CodeOffset → Workspace
+    → List LinkedLine
 passes program words lines zero at w = []
 passes program words lines (suc n) at w =
     line_then (line_in lines at) (passed program words (line_in lines at) w)

@@ -15,6 +15,7 @@ use Rattle.jvm_program.specs.Program.{Program}
 use Rattle.jvm_program.specs.Effect.{Workspace}
 use Rattle.jvm_program.specs.Step.{State, Frame, placed, turn, loaded_turn}
 use Rattle.jvm_program.specs.Stretch.{Point, moved_instruction, StandsAt, CallsAndReturns, body_workspace, caller_workspace}
+use Rattle.code_steps.specs.Offsets.{CodeOffset}
 use Rattle.code_paths.specs.Guest.{Span, crossings, partial}
 use Rattle.code_paths.specs.Classes.{executed, executed_loaded, place_in, with_state, IsRunLoaded}
 use Rattle.code_paths.specs.Code.{passes, weight_of, waiting_frame, CallsThrough}
@@ -39,8 +40,8 @@ IsSameAnywhere weight = (by : ℕ) (i : Instruction) → weight (moved_instructi
 
 -- A stretch where it stands counts what the lines count that it passes by itself, and visits their
 -- offsets, and none of another method.
-pub record StretchCounts (program : Program) (words m by n at : ℕ) (lines : List LinkedLine)
-    (w : Workspace) (others : List Frame) : Type 0 where
+pub record StretchCounts (program : Program) (words m by n : ℕ) (at : CodeOffset)
+    (lines : List LinkedLine) (w : Workspace) (others : List Frame) : Type 0 where
   pub counts : (weight : Instruction → ℕ) → IsSameAnywhere weight
       → sum_by (executed program weight)
       (moved (turn program words) n (placed m (by + at) w others))
@@ -51,8 +52,8 @@ pub record StretchCounts (program : Program) (words m by n at : ℕ) (lines : Li
       → visited (place_in other) (moved (turn program words) n (placed m (by + at) w others)) ≡ []
 
 -- A stretch of lines that go only to what stands behind them, which leads to a point.
-pub record ForwardStretch (program : Program) (words n at : ℕ) (lines : List LinkedLine)
-    (w : Workspace) (p : Point) : Type 0 where
+pub record ForwardStretch (program : Program) (words n : ℕ) (at : CodeOffset)
+    (lines : List LinkedLine) (w : Workspace) (p : Point) : Type 0 where
   -- where it stands, the offsets that it visits rise: each line is executed at most once
   pub rises : (m by : ℕ) (others : List Frame) → StandsAt program m by lines
       → Rises (by + at)

@@ -8,6 +8,7 @@ use Rattle.run_laws.specs.Trail.{advanced, moved, stood}
 use Rattle.jvm_program.specs.declared.instruction.Instruction.{Instruction}
 use Rattle.jvm_program.specs.Program.{Program}
 use Rattle.jvm_program.specs.Step.{State, turn}
+use Rattle.code_steps.specs.Offsets.{CodeOffset}
 use Rattle.code_paths.specs.Classes.{executed, puts}
 use Rattle.code_paths.specs.Paths.{Path}
 
@@ -30,7 +31,7 @@ pub record FieldsAreLeft (program : Program) (words f : ℕ) : Type 0 where
       → sum_by (executed program (puts f)) (moved (turn program words) n x) ≡ 0
       → IsLeft f x y
   -- so does a path over code that weighs no write of it
-  pub paths : (m low high n : ℕ) (total : (Instruction → ℕ) → ℕ) (x y : State)
+  pub paths : (m : ℕ) (low high : CodeOffset) (n : ℕ) (total : (Instruction → ℕ) → ℕ) (x y : State)
       → Path program words m low high n total x y
       → total (puts f) ≡ 0
       → IsLeft f x y

@@ -8,17 +8,18 @@ use Rattle.mips_decode.specs.declared.inst.Inst.{Inst}
 use Rattle.mips_decode.specs.declared.inst.Inst.TheVariants.{JumpRegister, JumpAndLinkRegister, Load, LoadLinked, Store}
 use Rattle.mips_decode.specs.declared.names.store_name.StoreName.{StoreName}
 use Rattle.mips_decode.specs.declared.names.store_name.StoreName.TheVariants.{Sb, Sh, Swl, Sw, Swr}
+use Rattle.delay_slots.specs.Places.{Address}
 
 -- words of the code that are translated together: the address of the first one, and how many there are
 pub record Span : Type 0 where
-  pub first : ℕ
+  pub first : Address
   pub words : ℕ
 
-abbrev pub holds : Span → ℕ → Bool
+abbrev pub holds : Span → Address → Bool
 holds span a = nat_le span.first a && nat_lt a (span.first + 4 * span.words)
 
 -- both addresses lie in one of the spans
-abbrev pub in_one_span : List Span → ℕ → ℕ → Bool
+abbrev pub in_one_span : List Span → Address → Address → Bool
 in_one_span [] a b = false
 in_one_span (span ∷ spans) a b = (holds span a && holds span b) || in_one_span spans a b
 
@@ -38,7 +39,7 @@ is_register_jump (JumpAndLinkRegister rs rd) = true
 is_register_jump _ = false
 
 -- the next pc does not lie in the span of the step's own
-abbrev pub goes_out : List Span → ℕ → Option State → Bool
+abbrev pub goes_out : List Span → Address → Option State → Bool
 goes_out spans pc None = false
 goes_out spans pc (Some s) = not (in_one_span spans pc s.pc)
 

@@ -1,5 +1,5 @@
 -- What holds of paths of the class machine.
-use Rattle.std.specs.Prelude.{◌≡◌, ◌≢◌, ℕ, suc, ◌+◌, ◌<◌, ◌≤◌, List, [], ◌∷◌, length, slice_get, take, Option, Some}
+use Rattle.std.specs.Prelude.{◌≡◌, ◌≢◌, ℕ, suc, ◌+◌, ◌<◌, ◌≤◌, Bool, List, [], ◌∷◌, length, slice_get, take, Option, Some}
 use Rattle.nv_events.specs.Turn.{moves}
 use Rattle.jvm_program.specs.declared.linked_line.LinkedLine.{LinkedLine}
 use Rattle.jvm_program.specs.declared.value.Value.{Value}
@@ -12,9 +12,11 @@ use Rattle.jvm_program.specs.Stretch.{body_workspace, caller_workspace}
 use Rattle.code_steps.specs.declared.step.Step.{Step}
 use Rattle.code_steps.specs.declared.step.Step.TheVariants.{Does}
 use Rattle.code_steps.specs.Widths.{bytes_before}
+use Rattle.code_steps.specs.Offsets.{CodeOffset}
 use Rattle.code_steps.specs.Outcomes.{outcome, outcome_from, stopped}
 use Rattle.code_steps.specs.Placing.{LiesAt}
 use Rattle.code_steps.specs.Leading.{StopsAt}
+use Rattle.code_paths.specs.Classes.{reads, chars, switches, entries, gets, puts}
 use Rattle.code_paths.specs.Paths.{LooksAtNoTarget, step_weight, weigh, Path, PathWithin, PathElsewhere, waiting_behind}
 
 -- ---- code
@@ -22,7 +24,8 @@ use Rattle.code_paths.specs.Paths.{LooksAtNoTarget, step_weight, weigh, Path, Pa
 -- code that lies in a method is a path to where its list of steps says, from any of its steps on
 abbrev pub CodeIsPath : Type 0
 CodeIsPath =
-    (program : Program) (words m at k : ℕ) (code : List Step) (w : Workspace) (others : List Frame)
+    (program : Program) (words m : ℕ) (at : CodeOffset) (k : ℕ) (code : List Step) (w : Workspace)
+    (others : List Frame)
     → LiesAt program m at code
     → PathWithin program words m at k code others (placed m (at + bytes_before code k) w others)
     (outcome_from program words code k w)
@@ -30,8 +33,8 @@ CodeIsPath =
 -- so it is, seen from another method
 abbrev pub CodeIsPathElsewhere : Type 0
 CodeIsPathElsewhere =
-    (program : Program) (words own m low at k : ℕ) (code : List Step) (w : Workspace)
-    (others : List Frame)
+    (program : Program) (words own m : ℕ) (low at : CodeOffset) (k : ℕ) (code : List Step)
+    (w : Workspace) (others : List Frame)
     → own ≢ m
     → LiesAt program own at code
     → PathElsewhere program words own m low at k code others
@@ -50,43 +53,47 @@ StopsByEffect =
 
 pub record PathsJoin (program : Program) (words m : ℕ) : Type 0 where
   -- a path behind a path is a path
-  pub joined : (low middle high n k : ℕ) (total more : (Instruction → ℕ) → ℕ) (x y z : State)
+  pub joined : (low middle high : CodeOffset) (n k : ℕ) (total more : (Instruction → ℕ) → ℕ)
+      (x y z : State)
       → Path program words m low middle n total x y
       → Path program words m middle high k more y z
       → Path program words m low high (n + k) (λ weight. total weight + more weight) x z
   -- no turn at all is one
-  pub no_turns : (low high : ℕ) (x : State) → low ≤ high
+  pub no_turns : (low high : CodeOffset) (x : State) → low ≤ high
       → Path program words m low high 0 (λ weight. 0) x x
   -- a path may be given more weight and more room than it takes
-  pub wider : (low high lower higher n : ℕ) (total more : (Instruction → ℕ) → ℕ) (x y : State)
+  pub wider : (low high lower higher : CodeOffset) (n : ℕ) (total more : (Instruction → ℕ) → ℕ)
+      (x y : State)
       → lower ≤ low
       → high ≤ higher
       → ((weight : Instruction → ℕ) → LooksAtNoTarget weight → total weight ≤ more weight)
       → Path program words m low high n total x y
       → Path program words m lower higher n more x y
   -- one that has no room visits nothing, so it lies anywhere
-  pub unseen : (at low high n : ℕ) (total : (Instruction → ℕ) → ℕ) (x y : State) → low ≤ high
+  pub unseen : (at low high : CodeOffset) (n : ℕ) (total : (Instruction → ℕ) → ℕ) (x y : State)
+      → low ≤ high
       → Path program words m at at n total x y
       → Path program words m low high n total x y
 
 -- ---- one turn
 
 -- A turn from a line of a method only moves.
-pub record MovesAtLine (program : Program) (words own at : ℕ) (w : Workspace) (others : List Frame)
-    (line : LinkedLine) (y : State) : Type 0 where
+pub record MovesAtLine (program : Program) (words own : ℕ) (at : CodeOffset) (w : Workspace)
+    (others : List Frame) (line : LinkedLine) (y : State) : Type 0 where
   pub line_is : line_at program own at ≡ Some line
   pub moves_to : turn program words (placed own at w others) ≡ moves y
 
 -- It is a path, which counts its instruction.
 pub record OneTurnIsPath (program : Program) (words m : ℕ) : Type 0 where
   -- it visits its offset in the method that runs
-  pub within : (at : ℕ) (w : Workspace) (others : List Frame) (line : LinkedLine) (y : State)
+  pub within : (at : CodeOffset) (w : Workspace) (others : List Frame) (line : LinkedLine)
+      (y : State)
       → MovesAtLine program words m at w others line y
       → Path program words m at (at + 1) 1 (λ weight. weight line.instruction)
       (placed m at w others) y
   -- and nothing in another one
-  pub elsewhere : (own low at : ℕ) (w : Workspace) (others : List Frame) (line : LinkedLine)
-      (y : State)
+  pub elsewhere : (own : ℕ) (low at : CodeOffset) (w : Workspace) (others : List Frame)
+      (line : LinkedLine) (y : State)
       → own ≢ m
       → MovesAtLine program words own at w others line y
       → Path program words m low low 1 (λ weight. weight line.instruction)
@@ -95,8 +102,8 @@ pub record OneTurnIsPath (program : Program) (words m : ℕ) : Type 0 where
 -- a turn that only moves, from a step of code that lies in a method, is a path that counts the step
 abbrev pub TurnsAtSteps : Type 0
 TurnsAtSteps =
-    (program : Program) (words m at i : ℕ) (code : List Step) (s : Step) (w : Workspace)
-    (others : List Frame) (y : State)
+    (program : Program) (words m : ℕ) (at : CodeOffset) (i : ℕ) (code : List Step) (s : Step)
+    (w : Workspace) (others : List Frame) (y : State)
     → LiesAt program m at code
     → slice_get code i ≡ Some s
     → turn program words (placed m (at + bytes_before code i) w others) ≡ moves y
@@ -106,8 +113,8 @@ TurnsAtSteps =
 -- so it is, seen from another method
 abbrev pub TurnsAtStepsElsewhere : Type 0
 TurnsAtStepsElsewhere =
-    (program : Program) (words own m low at i : ℕ) (code : List Step) (s : Step) (w : Workspace)
-    (others : List Frame) (y : State)
+    (program : Program) (words own m : ℕ) (low at : CodeOffset) (i : ℕ) (code : List Step)
+    (s : Step) (w : Workspace) (others : List Frame) (y : State)
     → own ≢ m
     → LiesAt program own at code
     → slice_get code i ≡ Some s
@@ -118,8 +125,8 @@ TurnsAtStepsElsewhere =
 -- ---- calls
 
 -- A call makes a frame, and a return takes it away: both only move.
-pub record CallsAreTurns (program : Program) (words own at h callee : ℕ) (caller : Workspace)
-    (others : List Frame) : Type 0 where
+pub record CallsAreTurns (program : Program) (words own : ℕ) (at : CodeOffset) (h callee : ℕ)
+    (caller : Workspace) (others : List Frame) : Type 0 where
   pub enters : (w : Workspace) (given : List Value)
       → LiesAt program own at (Does (Call h) ∷ [])
       → effect program words (Call h) w ≡ enters callee given caller
@@ -127,7 +134,8 @@ pub record CallsAreTurns (program : Program) (words own at h callee : ℕ) (call
       → turn program words (placed own at w others)
       ≡ moves (placed callee 0 (body_workspace given caller)
       (waiting_behind own at h caller ∷ others))
-  pub returns : (start j : ℕ) (code : List Step) (v back : Workspace) (result : Option Value)
+  pub returns : (start : CodeOffset) (j : ℕ) (code : List Step) (v back : Workspace)
+      (result : Option Value)
       → StopsAt program words callee start code (waiting_behind own at h caller ∷ others) j v
       (gives result back)
       → turn program words (placed callee (start + bytes_before code j) v
@@ -136,9 +144,9 @@ pub record CallsAreTurns (program : Program) (words own at h callee : ℕ) (call
 
 -- A call lies at an offset of a method and enters another one, with these arguments, where there is
 -- room for its frame. The paths over it are seen from method m.
-pub record EntersCode (program : Program) (words own m at h callee : ℕ) (w : Workspace)
-    (given : List Value) (caller : Workspace) (body : List Step) (others : List Frame)
-    : Type 0 where
+pub record EntersCode (program : Program) (words own m : ℕ) (at : CodeOffset) (h callee : ℕ)
+    (w : Workspace) (given : List Value) (caller : Workspace) (body : List Step)
+    (others : List Frame) : Type 0 where
   pub lies : LiesAt program own at (Does (Call h) ∷ [])
   pub calls : effect program words (Call h) w ≡ enters callee given caller
   -- the method that is called is another than m
@@ -151,7 +159,7 @@ pub record EntersCode (program : Program) (words own m at h callee : ℕ) (w : W
 -- more than all of the method's code. In the caller's method it visits the call alone.
 abbrev pub CallsArePaths : Type 0
 CallsArePaths =
-    (program : Program) (words m at h callee n j : ℕ) (body : List Step)
+    (program : Program) (words m : ℕ) (at : CodeOffset) (h callee n j : ℕ) (body : List Step)
     (w caller v back : Workspace) (given : List Value) (result : Option Value)
     (others : List Frame)
     → EntersCode program words m m at h callee w given caller body others
@@ -162,8 +170,8 @@ CallsArePaths =
 -- in a third one it visits nothing
 abbrev pub CallsArePathsElsewhere : Type 0
 CallsArePathsElsewhere =
-    (program : Program) (words own m low at h callee n j : ℕ) (body : List Step)
-    (w caller v back : Workspace) (given : List Value) (result : Option Value)
+    (program : Program) (words own m : ℕ) (low at : CodeOffset) (h callee n j : ℕ)
+    (body : List Step) (w caller v back : Workspace) (given : List Value) (result : Option Value)
     (others : List Frame)
     → own ≢ m
     → EntersCode program words own m at h callee w given caller body others
@@ -175,8 +183,8 @@ CallsArePathsElsewhere =
 
 -- A path, seen from method m, over a call to the step at which its method's code stops, with an
 -- effect: it counts the call, and what stands before the step.
-abbrev pub StopsInCall : Program → (words own m low high at h callee n j : ℕ) → List Step
-    → (w caller v : Workspace) → List Frame → Effect → Type 0
+abbrev pub StopsInCall : Program → (words own m : ℕ) (low high at : CodeOffset) (h callee n j : ℕ)
+    → List Step → (w caller v : Workspace) → List Frame → Effect → Type 0
 StopsInCall program words own m low high at h callee n j body w caller v others e =
     Path program words m low high (n + 1)
     (λ weight. weight (Call h) + weigh weight (take j body)) (placed own at w others)
@@ -187,8 +195,8 @@ StopsInCall program words own m low high at h callee n j body w caller v others 
 -- call alone in the caller's method
 abbrev pub CallsThatStop : Type 0
 CallsThatStop =
-    (program : Program) (words m at h callee n j : ℕ) (body : List Step) (w caller v : Workspace)
-    (given : List Value) (others : List Frame) (e : Effect)
+    (program : Program) (words m : ℕ) (at : CodeOffset) (h callee n j : ℕ) (body : List Step)
+    (w caller v : Workspace) (given : List Value) (others : List Frame) (e : Effect)
     → EntersCode program words m m at h callee w given caller body others
     → outcome program words body (body_workspace given caller) ≡ stopped n j v e
     → StopsInCall program words m m at (at + 1) at h callee n j body w caller v others e
@@ -196,8 +204,9 @@ CallsThatStop =
 -- so it is, seen from a third method
 abbrev pub CallsThatStopElsewhere : Type 0
 CallsThatStopElsewhere =
-    (program : Program) (words own m low at h callee n j : ℕ) (body : List Step)
-    (w caller v : Workspace) (given : List Value) (others : List Frame) (e : Effect)
+    (program : Program) (words own m : ℕ) (low at : CodeOffset) (h callee n j : ℕ)
+    (body : List Step) (w caller v : Workspace) (given : List Value) (others : List Frame)
+    (e : Effect)
     → own ≢ m
     → EntersCode program words own m at h callee w given caller body others
     → outcome program words body (body_workspace given caller) ≡ stopped n j v e
@@ -205,8 +214,8 @@ CallsThatStopElsewhere =
 
 -- the frames of two callers, of which the second waits behind the j-th step of the code that the
 -- first one called
-abbrev pub both_waiting : (own at h callee j g : ℕ) → List Step → (caller between : Workspace)
-    → List Frame → List Frame
+abbrev pub both_waiting : (own : ℕ) (at : CodeOffset) (h callee j g : ℕ) → List Step
+    → (caller between : Workspace) → List Frame → List Frame
 both_waiting own at h callee j g body caller between others =
     waiting_behind callee (bytes_before body j) g between ∷ waiting_behind own at h caller ∷ others
 
@@ -214,9 +223,9 @@ both_waiting own at h callee j g body caller between others =
 -- stops
 abbrev pub CallsInCallsThatStop : Type 0
 CallsInCallsThatStop =
-    (program : Program) (words m at h callee n j g deeper k i : ℕ) (body inner : List Step)
-    (w caller v between u : Workspace) (given passed : List Value) (others : List Frame)
-    (e : Effect)
+    (program : Program) (words m : ℕ) (at : CodeOffset) (h callee n j g deeper k i : ℕ)
+    (body inner : List Step) (w caller v between u : Workspace) (given passed : List Value)
+    (others : List Frame) (e : Effect)
     → EntersCode program words m m at h callee w given caller body others
     → outcome program words body (body_workspace given caller)
     ≡ stopped n j v (enters deeper passed between)
@@ -232,3 +241,14 @@ CallsInCallsThatStop =
     (both_waiting m at h callee j g body caller between others))
     × StopsAt program words deeper 0 inner
     (both_waiting m at h callee j g body caller between others) i u e
+
+-- ---- weights
+
+-- What is counted of a run of the classes looks at no target.
+pub record CountsLookAtNoTarget : Type 0 where
+  pub of_reads : LooksAtNoTarget reads
+  pub of_chars : LooksAtNoTarget chars
+  pub of_switches : LooksAtNoTarget switches
+  pub of_entries : (is_span : ℕ → Bool) → LooksAtNoTarget (entries is_span)
+  pub of_gets : (f : ℕ) → LooksAtNoTarget (gets f)
+  pub of_puts : (f : ℕ) → LooksAtNoTarget (puts f)

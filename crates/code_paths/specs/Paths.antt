@@ -13,6 +13,7 @@ use Rattle.jvm_program.specs.Step.{State, Frame, placed, turn}
 use Rattle.code_steps.specs.declared.step.Step.{Step}
 use Rattle.code_steps.specs.declared.step.Step.TheVariants.{Does, Skips, Leaves, Selects}
 use Rattle.code_steps.specs.Widths.{bytes_before, size}
+use Rattle.code_steps.specs.Offsets.{CodeOffset}
 use Rattle.code_steps.specs.Outcomes.{Outcome, ended, left, stopped}
 use Rattle.code_steps.specs.Placing.{placed_line}
 use Rattle.code_steps.specs.Leading.{StopsAt}
@@ -42,8 +43,8 @@ weigh weight (s ∷ code) = step_weight weight s + weigh weight code
 
 -- So many turns that only move lead from one state to another. Whatever the executed instructions weigh, it is at most this total, and
 -- the offsets of method m at which they stand rise from `low` and lie before `high`.
-pub record Path (program : Program) (words m low high n : ℕ) (total : (Instruction → ℕ) → ℕ)
-    (x y : State) : Type 0 where
+pub record Path (program : Program) (words m : ℕ) (low high : CodeOffset) (n : ℕ)
+    (total : (Instruction → ℕ) → ℕ) (x y : State) : Type 0 where
   pub comes : advanced (turn program words) n x ≡ Some y
   pub counts : (weight : Instruction → ℕ) → LooksAtNoTarget weight
       → sum_by (executed program weight) (moved (turn program words) n x) ≤ total weight
@@ -54,8 +55,9 @@ pub record Path (program : Program) (words m low high n : ℕ) (total : (Instruc
 -- A path, seen from method m, from the k-th step of code that lies at an offset of method `own` to where its outcome leads. It weighs no more
 -- than the steps between: those before the k-th, and those from the one on where the code stops, weigh nothing. `high` tells how high a path
 -- lies that has come to an offset of the code's method.
-abbrev pub PathTo : Program → (words own m low : ℕ) → (high : ℕ → ℕ) → (at k : ℕ) → List Step
-    → List Frame → State → Outcome → Type 0
+abbrev pub PathTo : Program → (words own m : ℕ) (low : CodeOffset)
+    → (high : CodeOffset → CodeOffset) → (at : CodeOffset) (k : ℕ) → List Step → List Frame → State
+    → Outcome → Type 0
 PathTo program words own m low high at k code others x (ended n w) =
     Path program words m low (high (at + size code)) n (λ weight. weigh weight (drop k code)) x
     (placed own (at + size code) w others)
@@ -69,19 +71,19 @@ PathTo program words own m low high at k code others x (stopped n i w e) =
     × StopsAt program words own at code others i w e
 
 -- seen from the code's own method: it rises from the k-th step, and lies before the code's end, or before the step where it stops
-abbrev pub PathWithin : Program → (words m at k : ℕ) → List Step → List Frame → State → Outcome
-    → Type 0
+abbrev pub PathWithin : Program → (words m : ℕ) (at : CodeOffset) (k : ℕ) → List Step → List Frame
+    → State → Outcome → Type 0
 PathWithin program words m at k code others x o =
     PathTo program words m m (at + bytes_before code k) (λ a. a) at k code others x o
 
 -- seen from another method: nothing is visited, so it lies at any offset
-abbrev pub PathElsewhere : Program → (words own m low at k : ℕ) → List Step → List Frame → State
-    → Outcome → Type 0
+abbrev pub PathElsewhere : Program → (words own m : ℕ) (low at : CodeOffset) (k : ℕ) → List Step
+    → List Frame → State → Outcome → Type 0
 PathElsewhere program words own m low at k code others x o =
     PathTo program words own m low (λ a. low) at k code others x o
 
 -- ---- calls
 
 -- the frame of a caller, behind a call that lies at an offset of its method
-abbrev pub waiting_behind : (own at h : ℕ) → Workspace → Frame
+abbrev pub waiting_behind : (own : ℕ) (at : CodeOffset) (h : ℕ) → Workspace → Frame
 waiting_behind own at h caller = waiting_frame own (placed_line at (Does (Call h)) []) caller

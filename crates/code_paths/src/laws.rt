@@ -1,6 +1,6 @@
 //! What holds of paths of the class machine. Each call here does nothing: its contract is the law.
 
-ghost use Rattle.std.specs.Prelude.{◌≡◌, ℕ, suc, ◌+◌, ◌++◌, ◌≤◌, Bool, List, [], ◌∷◌, slice_get, take, drop, Some};
+ghost use Rattle.std.specs.Prelude.{◌≡◌, ℕ, suc, ◌+◌, ◌++◌, ◌≤◌, List, [], ◌∷◌, slice_get, take, drop, Some};
 ghost use Rattle.jvm_program.specs.declared.instruction.Instruction.{Instruction};
 ghost use Rattle.jvm_program.specs.Program.{Program, line_at};
 ghost use Rattle.jvm_program.specs.Effect.{Workspace};
@@ -9,10 +9,9 @@ ghost use Rattle.code_steps.specs.declared.step.Step.{Step};
 ghost use Rattle.code_steps.specs.declared.step.Step.TheVariants.{Does};
 ghost use Rattle.code_steps.specs.Widths.{bytes_before};
 ghost use Rattle.code_steps.specs.Placing.{placed_line, LiesAt};
-ghost use Rattle.code_paths.specs.Classes.{reads, chars, switches, entries, gets, puts};
 ghost use Rattle.code_paths.specs.Fields.{FieldsAreLeft};
-ghost use Rattle.code_paths.specs.Paths.{LooksAtNoTarget, step_weight, weigh};
-ghost use Rattle.code_paths.specs.Laws.{CodeIsPath, CodeIsPathElsewhere, StopsByEffect, PathsJoin, OneTurnIsPath, TurnsAtSteps, TurnsAtStepsElsewhere, CallsAreTurns, CallsArePaths, CallsArePathsElsewhere, CallsThatStop, CallsThatStopElsewhere, CallsInCallsThatStop};
+ghost use Rattle.code_paths.specs.Paths.{step_weight, weigh};
+ghost use Rattle.code_paths.specs.Laws.{CodeIsPath, CodeIsPathElsewhere, StopsByEffect, PathsJoin, OneTurnIsPath, TurnsAtSteps, TurnsAtStepsElsewhere, CallsAreTurns, CallsArePaths, CallsArePathsElsewhere, CallsThatStop, CallsThatStopElsewhere, CallsInCallsThatStop, CountsLookAtNoTarget};
 
 use code_steps::laws::code_does_what_it_says;
 
@@ -104,12 +103,7 @@ pub fn weights()
         → weigh weight (drop k code) ≤ weigh weight code }
     ensures front { (weight : Instruction → ℕ) (k : ℕ) (code : List Step)
         → weigh weight (take k code) ≤ weigh weight code }
-    ensures reads { LooksAtNoTarget reads }
-    ensures chars { LooksAtNoTarget chars }
-    ensures switches { LooksAtNoTarget switches }
-    ensures entries { (is_span : ℕ → Bool) → LooksAtNoTarget (entries is_span) }
-    ensures gets { (f : ℕ) → LooksAtNoTarget (gets f) }
-    ensures puts { (f : ℕ) → LooksAtNoTarget (puts f) }
+    ensures targets { CountsLookAtNoTarget }
 {}
 
 /// A field is changed by writes of it alone: what weighs no write of a field leaves it as it was, and so does a call of the system.

@@ -6,6 +6,7 @@ use Rattle.jvm_program.specs.declared.instruction.Instruction.TheVariants as ins
 use Rattle.jvm_program.specs.declared.linked_method.LinkedMethod.{LinkedMethod}
 use Rattle.jvm_program.specs.Typing.{TypeFrame, entry_frame}
 use Rattle.code_steps.specs.declared.step.Step.{Step}
+use Rattle.code_steps.specs.Offsets.{CodeOffset}
 use Rattle.code_steps.specs.Widths.{width, bytes_before, size}
 use Rattle.code_steps.specs.Placing.{laid}
 use Rattle.code_types.specs.Flowing.{Ahead}
@@ -33,7 +34,7 @@ frame_in at (s ∷ code) (f ∷ frames) x = if at == x then Some f
 -- above the one that is owed there.
 pub record BodyTypes (rules : Rules) (code : List Step) (entry : TypeFrame) : Type 0 where
   pub body : TypesFrom rules code entry []
-  pub owed : (at : ℕ) (f : TypeFrame) → rules.owes at ≡ Some f
+  pub owed : (at : CodeOffset) (f : TypeFrame) → rules.owes at ≡ Some f
       → Meets f (frame_in 0 code body.frames at)
 
 -- A method whose body is code that is typed.
@@ -45,7 +46,8 @@ pub record HasBody (rules : Rules) (method : LinkedMethod) (code : List Step) : 
   pub types : BodyTypes rules code (entry_frame method)
 
 -- A frame is ahead at the step that stands at an offset: code that leaves to it comes with that frame.
-pub record IsAhead (code : List Step) (ahead : Ahead) (at : ℕ) (f : TypeFrame) : Type 0 where
+pub record IsAhead (code : List Step) (ahead : Ahead) (at : CodeOffset) (f : TypeFrame)
+    : Type 0 where
   pub step : ℕ
   pub offset : at ≡ bytes_before code step
   pub comes : slice_get ahead step ≡ Some (Some f)
@@ -53,7 +55,7 @@ pub record IsAhead (code : List Step) (ahead : Ahead) (at : ℕ) (f : TypeFrame)
 -- ---- bodies of parts
 
 -- Behind so many of the parts is an offset.
-pub record IsBetween (front : List Step) (part : ℕ → List Step) (parts : List ℕ) (at : ℕ)
+pub record IsBetween (front : List Step) (part : ℕ → List Step) (parts : List ℕ) (at : CodeOffset)
     : Type 0 where
   pub before : ℕ
   pub few : before ≤ length parts
@@ -67,5 +69,5 @@ pub record HasParts (rules : Rules) (front : List Step) (part : ℕ → List Ste
   pub begins : Leads rules front entry f
   pub between : All (λ k. Leads rules (part k) f f) parts
   pub ends : TypesFrom rules back f []
-  pub owed : (at : ℕ) (g : TypeFrame) → rules.owes at ≡ Some g → (g ≡ f)
+  pub owed : (at : CodeOffset) (g : TypeFrame) → rules.owes at ≡ Some g → (g ≡ f)
       × IsBetween front part parts at

@@ -10,12 +10,13 @@ use Rattle.jvm_program.specs.declared.linked_method.LinkedMethod.{LinkedMethod}
 use Rattle.jvm_program.specs.Program.{Program, targets_of, falls_through}
 use Rattle.jvm_program.specs.Typing.{TypeFrame, Below, branch_type, type_effect, applied, no_top, slots_of}
 use Rattle.code_steps.specs.declared.step.Step.{Step}
+use Rattle.code_steps.specs.Offsets.{CodeOffset}
 use Rattle.code_steps.specs.declared.step.Step.TheVariants.{Does, Skips, Leaves, Selects}
 
 -- The program whose fields and methods code names, and the types that are owed at the offsets to which it leaves.
 pub record Rules : Type 0 where
   pub program : Program
-  pub owes : ℕ → Option TypeFrame
+  pub owes : CodeOffset → Option TypeFrame
 
 -- the most operands of a method that is emitted, where a long is two
 abbrev pub most_operands : ℕ
@@ -34,7 +35,7 @@ typed_as (Leaves target) = Branch Goto 0
 typed_as (Selects s) = TableSwitch s
 
 -- the offsets to which a step goes
-abbrev pub offsets_of : Step → List ℕ
+abbrev pub offsets_of : Step → List CodeOffset
 offsets_of (Does instruction) = targets_of instruction
 offsets_of (Skips name k) = []
 offsets_of (Leaves target) = target ∷ []
@@ -111,7 +112,8 @@ is_no_switch s = true
 
 -- Where a frame is owed at an offset, one above is owed at the other offset.
 abbrev pub Carries : (ℕ → ℕ) → Rules → Rules → Type 0
-Carries to old new = (at : ℕ) (f : TypeFrame) → Meets f (old.owes at) → Meets f (new.owes (to at))
+Carries to old new =
+    (at : CodeOffset) (f : TypeFrame) → Meets f (old.owes at) → Meets f (new.owes (to at))
 
 -- Code without a switch that leaves to other offsets is typed, where above what was owed is owed
 -- there.

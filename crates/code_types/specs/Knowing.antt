@@ -3,6 +3,7 @@ use Rattle.std.specs.Prelude.{◌≡◌, ℕ, ◌==◌, ◌<◌, Bool, true, ◌
 use Rattle.mips_decode.specs.declared.inst.Inst.{Inst}
 use Rattle.delay_slots.specs.declared.unit.Unit.{Unit}
 use Rattle.delay_slots.specs.declared.unit.Unit.TheVariants as units
+use Rattle.delay_slots.specs.Places.{Address}
 use Rattle.block_builder.specs.Registers.{read_by, written_by, unit_writes}
 use Rattle.jvm_program.specs.declared.kind.Kind.{Kind}
 use Rattle.jvm_program.specs.declared.kind.Kind.TheVariants.{Top, Int}
@@ -40,7 +41,7 @@ HelperTypes program = (number : ℕ) → number < helper_count
 -- The code of an instruction is typed: what it reads is known before, and what it writes behind it. The goal of a branch is left alone.
 abbrev pub InstructionTyped : Inst → Type 0
 InstructionTyped i =
-    (rules : Rules) (bank : ℕ) (known : ℕ → Bool) (goal : Kind) (at : ℕ)
+    (rules : Rules) (bank : ℕ) (known : ℕ → Bool) (goal : Kind) (at : Address)
     → HelperTypes rules.program
     → AreKnown known (read_by i)
     → Leads rules (instruction_code bank i at) (knowing bank known goal)
@@ -58,7 +59,7 @@ goal_behind unit goal = goal
 -- The code of a unit is typed in the same way.
 abbrev pub UnitTyped : Unit → Type 0
 UnitTyped unit =
-    (rules : Rules) (bank : ℕ) (known : ℕ → Bool) (goal : Kind) (at : ℕ)
+    (rules : Rules) (bank : ℕ) (known : ℕ → Bool) (goal : Kind) (at : Address)
     → HelperTypes rules.program
     → IsLawful unit
     → KnownByUnit known unit
@@ -82,29 +83,30 @@ with_goal goal = record { locals = λ k. if k == 0 then goal else Top; stack = [
 
 -- the code of each word of a span may be gone to where nothing is known
 abbrev pub Opens : Rules → Extent → Type 0
-Opens rules span = (at : ℕ) → has span at ≡ true → Meets unknown (rules.owes at)
+Opens rules span = (at : Address) → has span at ≡ true → Meets unknown (rules.owes at)
 
 -- The code of a piece over local variables is typed, and so is that of a unit over fields alone.
 abbrev pub PieceTyped : List Unit → Type 0
 PieceTyped units =
-    (rules : Rules) (at : ℕ) → HelperTypes rules.program → All IsLawful units
+    (rules : Rules) (at : Address) → HelperTypes rules.program → All IsLawful units
     → Leads rules (warm_code units at) unknown (with_goal (goal_after units Top))
 
 abbrev pub WordTyped : Unit → Type 0
 WordTyped unit =
-    (rules : Rules) (at : ℕ) → HelperTypes rules.program → IsLawful unit
+    (rules : Rules) (at : Address) → HelperTypes rules.program → IsLawful unit
     → Leads rules (unit_code 0 unit at) unknown (with_goal (goal_behind unit Top))
 
 -- The exit behind a unit is typed.
 abbrev pub ExitTyped : Unit → Type 0
 ExitTyped unit =
-    (rules : Rules) (span : Extent) (behind : Option ℕ) (at : ℕ) (goal : Kind) → Opens rules span
+    (rules : Rules) (span : Extent) (behind : Option Address) (at : Address) (goal : Kind)
+    → Opens rules span
     → Leads rules (exit_code span behind unit at) (with_goal (goal_behind unit goal)) unknown
 
 -- A piece with the exit behind its last unit is typed, and so is a unit over fields alone with its exit: nothing is known before and behind.
 abbrev pub WarmPartTyped : List Unit → Unit → Type 0
 WarmPartTyped units last =
-    (rules : Rules) (at : ℕ) (span : Extent) (behind : Option ℕ) (place : ℕ)
+    (rules : Rules) (at : Address) (span : Extent) (behind : Option Address) (place : Address)
     → HelperTypes rules.program → All IsLawful (units ++ last ∷ [])
     → Opens rules span
     → Leads rules (warm_code (units ++ last ∷ []) at
@@ -112,6 +114,7 @@ WarmPartTyped units last =
 
 abbrev pub ColdPartTyped : Unit → Type 0
 ColdPartTyped unit =
-    (rules : Rules) (at : ℕ) (span : Extent) (behind : Option ℕ) → HelperTypes rules.program
+    (rules : Rules) (at : Address) (span : Extent) (behind : Option Address)
+    → HelperTypes rules.program
     → IsLawful unit → Opens rules span
     → Leads rules (unit_code 0 unit at ++ exit_code span behind unit at) unknown unknown

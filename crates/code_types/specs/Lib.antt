@@ -4,3 +4,4 @@ pub mod Bodies
 pub mod Knowing
 pub mod Methods
 pub mod Spans
+pub mod Laws

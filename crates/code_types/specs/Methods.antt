@@ -1,12 +1,14 @@
 -- The bodies of methods that are typed, by what they take.
 use Rattle.std.specs.Prelude.{◌≡◌, ℕ, ◌==◌, ◌<◌, ◌≤◌, true, false, if◌then◌else◌, List, [], ◌∷◌, length, Option, Some, None, All, slice_index_or}
 use Rattle.nv_words.specs.declared.order.Order.{Order}
+use Rattle.delay_slots.specs.Places.{Address}
 use Rattle.jvm_program.specs.declared.kind.Kind.{Kind}
 use Rattle.jvm_program.specs.declared.kind.Kind.TheVariants.{Top, Int, Ints, Text}
 use Rattle.jvm_program.specs.declared.linked_method.LinkedMethod.{LinkedMethod}
 use Rattle.jvm_program.specs.Program.{Program}
 use Rattle.jvm_program.specs.Typing.{TypeFrame, Typed, with_local_kind}
 use Rattle.code_steps.specs.declared.step.Step.{Step}
+use Rattle.code_steps.specs.Offsets.{CodeOffset}
 use Rattle.code_steps.specs.Placing.{laid}
 use Rattle.mem_helpers.specs.Methods.{helper_code}
 use Rattle.trampoline.specs.declared.start.Start.{Start}
@@ -27,24 +29,25 @@ abbrev pub taking : List Kind → TypeFrame
 taking parameters = record { locals = λ i. slice_index_or parameters i Top; stack = [] }
 
 -- A body with such parameters and so many local variables is typed, and leaves to offsets as is owed there.
-pub record IsBody (program : Program) (owes : ℕ → Option TypeFrame) (parameters : List Kind)
-    (locals : ℕ) (code : List Step) : Type 0 where
+pub record IsBody (program : Program) (owes : CodeOffset → Option TypeFrame)
+    (parameters : List Kind) (locals : ℕ) (code : List Step) : Type 0 where
   pub names : all_names_below locals code ≡ true
   pub types : BodyTypes (record { program = program; owes = owes }) code (taking parameters)
 
 -- a body that leaves to no offset
-abbrev pub owes_nothing : ℕ → Option TypeFrame
+abbrev pub owes_nothing : CodeOffset → Option TypeFrame
 owes_nothing at = None
 
 -- a body that is begun anew
-abbrev pub owes_beginning : ℕ → Option TypeFrame
+abbrev pub owes_beginning : CodeOffset → Option TypeFrame
 owes_beginning at = if at == 0 then Some (taking []) else None
 
 -- A method that is laid down from such a body, with room for its operands and parameters, has a
 -- typing.
 abbrev pub BodiesHaveTypings : Type 0
 BodiesHaveTypings =
-    (program : Program) (owes : ℕ → Option TypeFrame) (method : LinkedMethod) (code : List Step)
+    (program : Program) (owes : CodeOffset → Option TypeFrame) (method : LinkedMethod)
+    (code : List Step)
     → method.lines ≡ laid 0 code
     → length method.parameters ≤ method.locals → most_operands ≤ method.stack
     → IsBody program owes method.parameters method.locals code
@@ -71,7 +74,7 @@ MainChooserTyped program =
 
 abbrev pub ClassChooserTyped : Program → Type 0
 ClassChooserTyped program =
-    (starts : List Start) (first end : ℕ) → All (IsStart program) starts
+    (starts : List Start) (first end : Address) → All (IsStart program) starts
     → IsBody program owes_beginning [] 1 (class_chooser starts first end)
 
 -- ---- methods that make the memory
@@ -80,7 +83,7 @@ ClassChooserTyped program =
 abbrev pub in_words : TypeFrame
 in_words = with_local_kind (with_local_kind (taking (Ints ∷ Text ∷ [])) 2 Int []) 3 Int []
 
-abbrev pub owes_words : ℕ → Option TypeFrame
+abbrev pub owes_words : CodeOffset → Option TypeFrame
 owes_words at = if at == words_offset then Some in_words else None
 
 -- the loops over the runs of pages and over a run's pages
@@ -90,7 +93,7 @@ in_runs = with_local_kind (taking (Text ∷ [])) 1 Int []
 abbrev pub in_pages : TypeFrame
 in_pages = with_local_kind (with_local_kind (with_local_kind in_runs 2 Int []) 3 Int []) 4 Int []
 
-abbrev pub owes_pages : ℕ → Option TypeFrame
+abbrev pub owes_pages : CodeOffset → Option TypeFrame
 owes_pages at = if at == runs_offset then Some in_runs else if at == pages_offset then Some in_pages
     else None
 

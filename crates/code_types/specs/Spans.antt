@@ -6,6 +6,7 @@ use Rattle.delay_slots.specs.declared.unit.Unit.{Unit}
 use Rattle.delay_slots.specs.Units.{HasNoFloat, units_of}
 use Rattle.jvm_program.specs.Program.{Program}
 use Rattle.jvm_program.specs.Typing.{TypeFrame}
+use Rattle.code_steps.specs.Offsets.{CodeOffset}
 use Rattle.span_code.specs.declared.span_words.SpanWords.{SpanWords}
 use Rattle.span_code.specs.Laying.{targets_of, return_offset, span_code}
 use Rattle.span_code.specs.Locals.{locals_of}
@@ -13,11 +14,11 @@ use Rattle.code_types.specs.Knowing.{HelperTypes, unknown}
 use Rattle.code_types.specs.Methods.{IsBody}
 
 -- the offsets to which the switch of a span goes, and all code behind it: those of the codes of the words, and that of the return
-abbrev pub goals_of : List Unit → (ℕ → Bool) → SpanWords → List ℕ
+abbrev pub goals_of : List Unit → (ℕ → Bool) → SpanWords → List CodeOffset
 goals_of units leads span = return_offset units leads span ∷ targets_of units leads span
 
 -- at such offsets there are no operands, and nothing is known of local variables
-abbrev pub owes_unknown : List ℕ → ℕ → Option TypeFrame
+abbrev pub owes_unknown : List CodeOffset → CodeOffset → Option TypeFrame
 owes_unknown goals at = if list_any (λ goal. goal == at) goals then Some unknown else None
 
 -- The method of a span, of no parameters and with as many local variables as its code names, is typed.

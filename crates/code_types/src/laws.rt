@@ -1,10 +1,10 @@
 //! What holds of code that is typed. Each call here does nothing: its contract is the law.
 
-ghost use Rattle.std.specs.Prelude.{◌≡◌, List, false};
+ghost use Rattle.std.specs.Prelude.{◌≡◌, false};
 ghost use Rattle.mips_decode.specs.declared.inst.Inst.{Inst};
-ghost use Rattle.delay_slots.specs.declared.unit.Unit.{Unit};
 ghost use Rattle.delay_slots.specs.Units.{is_branch};
-ghost use Rattle.code_types.specs.Knowing.{ColdPartTyped, ExitTyped, InstructionTyped, PieceTyped, UnitTyped, WarmPartTyped, WordTyped};
+ghost use Rattle.code_types.specs.Knowing.{InstructionTyped};
+ghost use Rattle.code_types.specs.Laws.{ColdPartsAreTyped, ExitsAreTyped, PiecesAreTyped, UnitsAreTyped, WarmPartsAreTyped, WordsAreTyped};
 
 use lawful_units::laws::{
     gained_is_membership, is_in_is_membership, needed_is_known, units_are_lawful,
@@ -17,13 +17,13 @@ pub fn instructions_are_typed()
 
 /// The code of a unit is typed, a branch with the code of its delay slot too.
 pub fn units_are_typed()
-    ensures { (unit : Unit) → UnitTyped unit }
+    ensures { UnitsAreTyped }
 {}
 
 /// The code of a piece is typed, from where nothing is known of local variables to where no more than the goal is.
 pub fn pieces_are_typed()
-    ensures pieces { (units : List Unit) → PieceTyped units }
-    ensures words { (unit : Unit) → WordTyped unit }
+    ensures pieces { PiecesAreTyped }
+    ensures words { WordsAreTyped }
 {
     units_are_lawful();
     is_in_is_membership();
@@ -33,13 +33,13 @@ pub fn pieces_are_typed()
 
 /// The exit behind a unit is typed.
 pub fn exits_are_typed()
-    ensures { (unit : Unit) → ExitTyped unit }
+    ensures { ExitsAreTyped }
 {}
 
 /// The parts of a span are typed: pieces with their exits, and words over fields with theirs.
 pub fn parts_of_spans_are_typed()
-    ensures warm { (units : List Unit) (last : Unit) → WarmPartTyped units last }
-    ensures cold { (unit : Unit) → ColdPartTyped unit }
+    ensures warm { WarmPartsAreTyped }
+    ensures cold { ColdPartsAreTyped }
 {
     units_are_lawful();
     is_in_is_membership();

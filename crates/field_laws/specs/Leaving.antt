@@ -4,10 +4,12 @@ use Rattle.nv_words.specs.declared.order.Order.{Order}
 use Rattle.nv_events.specs.Turn.{Turn}
 use Rattle.mips_decode.specs.State.{State}
 use Rattle.delay_slots.specs.declared.unit.Unit.{Unit}
+use Rattle.delay_slots.specs.Places.{WordIndex}
 use Rattle.delay_slots.specs.Units.{units_of}
 use Rattle.delay_slots.specs.Turns.{unit_turns, turn_count, last_turn}
 use Rattle.block_builder.specs.Blocks.{unit_at}
 use Rattle.jvm_program.specs.declared.value.Value.{Value}
+use Rattle.code_steps.specs.Offsets.{CodeOffset}
 use Rattle.jvm_program.specs.Program.{Program}
 use Rattle.jvm_program.specs.Effect.{Workspace, gives}
 use Rattle.jvm_program.specs.Step as machine
@@ -47,8 +49,9 @@ LeavingInSpan f before Arrives y t = Arrives y t × (y.fields f ≡ before f)
 -- A helper that returns has left it alone.
 abbrev pub HelpersLeaveOthers : Type 0
 HelpersLeaveOthers =
-    (program : Program) (order : Order) (words m at number n j f : ℕ) (w caller v back : Workspace)
-    (given : List Value) (result : Option Value) (others : List machine.Frame)
+    (program : Program) (order : Order) (words m : ℕ) (at : CodeOffset) (number n j f : ℕ)
+    (w caller v back : Workspace) (given : List Value) (result : Option Value)
+    (others : List machine.Frame)
     → number < 20
     → layout_fields ≤ f
     → EntersCode program words m m at number number w given caller (helper_code order number) others
@@ -59,8 +62,8 @@ HelpersLeaveOthers =
 -- The code of a unit follows the unit's turns, and leaves it alone.
 abbrev pub UnitsLeaveOthers : Type 0
 UnitsLeaveOthers =
-    (unit : Unit) (site : Site) (order : Order) (bank : ℕ) (known : ℕ → Bool) (at f : ℕ)
-    (w : Workspace) (x : State)
+    (unit : Unit) (site : Site) (order : Order) (bank : ℕ) (known : ℕ → Bool) (at : CodeOffset)
+    (f : ℕ) (w : Workspace) (x : State)
     → IsLawful unit
     → layout_fields ≤ f
     → IsReady site order
@@ -76,7 +79,8 @@ UnitsLeaveOthers =
 -- So does that of a piece.
 abbrev pub PiecesLeaveOthers : Type 0
 PiecesLeaveOthers =
-    (piece : List Unit) (site : Site) (order : Order) (at f : ℕ) (w : Workspace) (x : State)
+    (piece : List Unit) (site : Site) (order : Order) (at : CodeOffset) (f : ℕ) (w : Workspace)
+    (x : State)
     → piece ≢ []
     → All IsLawful piece
     → AreStraight piece
@@ -92,8 +96,8 @@ PiecesLeaveOthers =
     (Leaving f w.fields (PieceArrives piece w)) (stands site at w) (piece_turns piece x).1
 
 -- In the method of a span, from the code of a word to where the classes go on, it is left alone while they follow so many turns of the guest.
-abbrev pub WordLeaves : ℕ → Site → Order → List Unit → (ℕ → Bool) → SpanWords → ℕ → Workspace
-    → (last_word : ℕ) → ℕ → Turn State → Type 0
+abbrev pub WordLeaves : ℕ → Site → Order → List Unit → (ℕ → Bool) → SpanWords → WordIndex
+    → Workspace → (last_word : WordIndex) → ℕ → Turn State → Type 0
 WordLeaves f site order units leads span k w last_word n last =
     FollowsInSpan site (entry_at units leads span k)
     (entry_at units leads span k + size (laid_part units leads span k)) n (264 * n)
@@ -105,7 +109,7 @@ WordLeaves f site order units leads span k w last_word n last =
 abbrev pub WordsLeaveOthers : Type 0
 WordsLeaveOthers =
     (site : Site) (order : Order) (words : List ℕ) (leads : ℕ → Bool) (span : SpanWords)
-    (k f : ℕ) (w : Workspace) (x : State)
+    (k : WordIndex) (f : ℕ) (w : Workspace) (x : State)
     → layout_fields ≤ f
     → HasSpan site words leads span → IsReady site order
     → StandsAt order span k w x
@@ -118,7 +122,7 @@ WordsLeaveOthers =
 abbrev pub SpanPiecesLeaveOthers : Type 0
 SpanPiecesLeaveOthers =
     (site : Site) (order : Order) (words : List ℕ) (leads : ℕ → Bool) (span : SpanWords)
-    (k f : ℕ) (w : Workspace) (x : State)
+    (k : WordIndex) (f : ℕ) (w : Workspace) (x : State)
     → layout_fields ≤ f
     → HasSpan site words leads span → IsReady site order
     → StandsAt order span k w x

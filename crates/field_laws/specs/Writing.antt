@@ -2,6 +2,7 @@
 use Rattle.std.specs.Prelude.{◌≡◌, ℕ, ◌<◌, ◌≤◌, All, Bool, true, List}
 use Rattle.nv_words.specs.declared.order.Order.{Order}
 use Rattle.delay_slots.specs.declared.unit.Unit.{Unit}
+use Rattle.delay_slots.specs.Places.{Address, WordIndex}
 use Rattle.code_steps.specs.declared.step.Step.{Step}
 use Rattle.guest_code.specs.Units.{unit_code}
 use Rattle.mem_helpers.specs.Methods.{helper_code}
@@ -44,21 +45,21 @@ HelpersWriteLayout =
 -- So does the code of a unit, wherever its registers are.
 abbrev pub UnitsWriteLayout : Type 0
 UnitsWriteLayout =
-    (order : Order) (bank at : ℕ) (unit : Unit)
+    (order : Order) (bank : ℕ) (at : Address) (unit : Unit)
     → IsLawful unit
     → AllWritesLayout order (unit_code bank unit at)
 
 -- So does that of a piece.
 abbrev pub PiecesWriteLayout : Type 0
 PiecesWriteLayout =
-    (order : Order) (at : ℕ) (piece : List Unit)
+    (order : Order) (at : Address) (piece : List Unit)
     → All IsLawful piece
     → AllWritesLayout order (warm_code piece at)
 
 -- So does that of a word in a span, with which a piece begins or none.
 abbrev pub PartsWriteLayout : Type 0
 PartsWriteLayout =
-    (order : Order) (k : ℕ) (units : List Unit) (leads : ℕ → Bool) (span : SpanWords)
+    (order : Order) (k : WordIndex) (units : List Unit) (leads : ℕ → Bool) (span : SpanWords)
     → All IsLawful units
     → AllWritesLayout order (warm_part units leads span k)
     × AllWritesLayout order (cold_part units leads span k)

@@ -10,6 +10,7 @@ use Rattle.delay_slots.specs.Turns.{unit_turns, turn_count, last_turn, skips}
 use Rattle.jvm_program.specs.declared.instruction.Instruction.{Instruction}
 use Rattle.jvm_program.specs.Effect.{Workspace}
 use Rattle.code_steps.specs.Widths.{size}
+use Rattle.code_steps.specs.Offsets.{CodeOffset}
 use Rattle.code_steps.specs.Placing.{LiesAt}
 use Rattle.guest_code.specs.Units.{unit_code}
 use Rattle.code_paths.specs.Classes.{reads, chars, switches, entries}
@@ -55,7 +56,7 @@ ReadsNoneToCall total _ = ⊤
 -- ---- the law
 
 -- The code of a unit follows the unit's turns, and counts no more reads than they make, and nothing else.
-pub record UnitCounts (site : Site) (bank : ℕ) (known : ℕ → Bool) (at : ℕ) (w : Workspace)
+pub record UnitCounts (site : Site) (bank : ℕ) (known : ℕ → Bool) (at : CodeOffset) (w : Workspace)
     (x : State) (unit : Unit) (is_span : ℕ → Bool) : Type 0 where
   pub total : (Instruction → ℕ) → ℕ
   pub counts : Counts is_span (unit_reads unit x) 0 total
@@ -67,7 +68,7 @@ pub record UnitCounts (site : Site) (bank : ℕ) (known : ℕ → Bool) (at : �
 -- so does the code of every lawful unit, wherever it lies, from each workspace that holds the state
 abbrev pub UnitsAreCounted : Type 0
 UnitsAreCounted =
-    (unit : Unit) (site : Site) (order : Order) (bank : ℕ) (known : ℕ → Bool) (at : ℕ)
+    (unit : Unit) (site : Site) (order : Order) (bank : ℕ) (known : ℕ → Bool) (at : CodeOffset)
     (w : Workspace) (x : State) (is_span : ℕ → Bool)
     → IsLawful unit
     → IsReady site order

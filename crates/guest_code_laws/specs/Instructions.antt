@@ -7,6 +7,7 @@ use Rattle.delay_slots.specs.Turns.{done}
 use Rattle.block_builder.specs.Registers.{read_by, written_by}
 use Rattle.jvm_program.specs.Effect.{Workspace}
 use Rattle.code_steps.specs.Widths.{size}
+use Rattle.code_steps.specs.Offsets.{CodeOffset}
 use Rattle.code_steps.specs.Placing.{LiesAt}
 use Rattle.guest_code.specs.Units.{instruction_code}
 use Rattle.lawful_units.specs.Knowing.{AreKnown, HasFields}
@@ -30,7 +31,8 @@ most_turns = 132
 -- state and knows what the instruction reads.
 abbrev pub InstructionFollows : Inst → Type 0
 InstructionFollows i =
-    (site : Site) (order : Order) (bank : ℕ) (known : ℕ → Bool) (at : ℕ) (w : Workspace) (s : State)
+    (site : Site) (order : Order) (bank : ℕ) (known : ℕ → Bool) (at : CodeOffset) (w : Workspace)
+    (s : State)
     → IsReady site order
     → s.order ≡ order
     → LiesAt site.program site.method at (instruction_code bank i s.pc)

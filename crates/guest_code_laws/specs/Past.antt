@@ -10,6 +10,7 @@ use Rattle.delay_slots.specs.Turns.{UnitTurns, turn_count, last_turn, unit_turns
 use Rattle.code_steps.specs.declared.step.Step.{Step}
 use Rattle.code_steps.specs.Placing.{LiesAt}
 use Rattle.code_steps.specs.Widths.{size}
+use Rattle.code_steps.specs.Offsets.{CodeOffset}
 use Rattle.guest_code.specs.Units.{instruction_code, next_address, unit_code}
 use Rattle.lawful_units.specs.Lawful.{IsLawful, KnownByUnit}
 use Rattle.guest_follows.specs.Holding.{HoldsOn}
@@ -18,7 +19,7 @@ use Rattle.guest_follows.specs.Following.{Follows}
 use Rattle.guest_code_laws.specs.Units.{UnitArrives}
 
 -- The code follows the turns, and nothing is counted of the slot's code that lies in it.
-pub record FollowsPast (site : Site) (order : Order) (at : ℕ) (code slot : List Step)
+pub record FollowsPast (site : Site) (order : Order) (at : CodeOffset) (code slot : List Step)
     (Arrives : Workspace → State → Type 0) (w : Workspace) (turns : UnitTurns) : Type 0 where
   pub total : (Instruction → ℕ) → ℕ
   pub weighs : (weight : Instruction → ℕ)
@@ -32,7 +33,7 @@ pub record FollowsPast (site : Site) (order : Order) (at : ℕ) (code slot : Lis
 -- that turn past the slot's code
 abbrev pub SlotsArePassedOver : Type 0
 SlotsArePassedOver =
-    (i slot : Inst) (site : Site) (order : Order) (bank : ℕ) (known : ℕ → Bool) (at : ℕ)
+    (i slot : Inst) (site : Site) (order : Order) (bank : ℕ) (known : ℕ → Bool) (at : CodeOffset)
     (w : Workspace) (x : State)
     → IsLawful (Branch i slot)
     → LiesAt site.program site.method at (unit_code bank (Branch i slot) x.pc)

@@ -10,6 +10,7 @@ use Rattle.block_builder.specs.Leaders.{is_plain}
 use Rattle.jvm_program.specs.declared.value.Value.TheVariants.{Int as int}
 use Rattle.jvm_program.specs.Effect.{Workspace}
 use Rattle.code_steps.specs.Widths.{size}
+use Rattle.code_steps.specs.Offsets.{CodeOffset}
 use Rattle.code_steps.specs.Placing.{LiesAt}
 use Rattle.guest_layout.specs.FieldNumbers.{pc_field}
 use Rattle.guest_code.specs.Access.{keeps}
@@ -70,7 +71,7 @@ pub record PieceArrives (piece : List Unit) (before after : Workspace) (t : Stat
 -- the guest, and at most 256 for each of them.
 abbrev pub PieceFollows : List Unit → Type 0
 PieceFollows piece =
-    (site : Site) (order : Order) (at : ℕ) (w : Workspace) (x : State)
+    (site : Site) (order : Order) (at : CodeOffset) (w : Workspace) (x : State)
     → IsReady site order
     → x.order ≡ order
     → x.pending ≡ None

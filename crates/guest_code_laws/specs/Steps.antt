@@ -7,6 +7,7 @@ use Rattle.run_laws.specs.Trail.{Step}
 use Rattle.mips_decode.specs.State.{State}
 use Rattle.delay_slots.specs.declared.unit.Unit.{Unit}
 use Rattle.delay_slots.specs.declared.unit.Unit.TheVariants.{Branch, SlotMissing, SlotIsBranch}
+use Rattle.delay_slots.specs.Places.{Address, WordIndex}
 use Rattle.delay_slots.specs.Units.{units_of}
 use Rattle.delay_slots.specs.Turns.{StandsAt, UnitTurns, last_turn, one_turn, two_turns, unit_turns}
 use Rattle.block_builder.specs.Blocks.{unit_at}
@@ -51,7 +52,7 @@ LeadsToWords (asks question next) = (answer : Answer) → IsWord (next answer).p
 -- its turns read as many words as is told of it
 abbrev pub UnitsReadAsTold : Type 0
 UnitsReadAsTold =
-    (x : State) (first : ℕ) (words : List ℕ) (i : ℕ) (to : Option State)
+    (x : State) (first : Address) (words : List ℕ) (i : WordIndex) (to : Option State)
     → StandsAt x first words i
     → partial (unit_trail x (unit_turns (unit_at (units_of words) i) x) to)
     ≡ unit_reads (unit_at (units_of words) i) x
@@ -59,7 +60,8 @@ UnitsReadAsTold =
 -- one that begins with JR or JALR crosses spans
 abbrev pub UnitsCrossSpans : Type 0
 UnitsCrossSpans =
-    (x : State) (first : ℕ) (words : List ℕ) (i : ℕ) (spans : List Span) (to : Option State)
+    (x : State) (first : Address) (words : List ℕ) (i : WordIndex) (spans : List Span)
+    (to : Option State)
     → StandsAt x first words i
     → begins_with_register_jump (unit_at (units_of words) i) ≡ true
     → 1 ≤ crossings spans (unit_trail x (unit_turns (unit_at (units_of words) i) x) to)
@@ -67,7 +69,7 @@ UnitsCrossSpans =
 -- the second of two turns is made in the delay slot
 abbrev pub UnitsPassSlots : Type 0
 UnitsPassSlots =
-    (x : State) (first : ℕ) (words : List ℕ) (i : ℕ)
+    (x : State) (first : Address) (words : List ℕ) (i : WordIndex)
     → StandsAt x first words i
     → GoesThroughSlot x (unit_turns (unit_at (units_of words) i) x)
 

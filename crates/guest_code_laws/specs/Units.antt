@@ -9,6 +9,7 @@ use Rattle.delay_slots.specs.Turns.{unit_turns, turn_count, last_turn}
 use Rattle.block_builder.specs.Registers.{unit_writes}
 use Rattle.jvm_program.specs.Effect.{Workspace}
 use Rattle.code_steps.specs.Widths.{size}
+use Rattle.code_steps.specs.Offsets.{CodeOffset}
 use Rattle.code_steps.specs.Placing.{LiesAt}
 use Rattle.guest_code.specs.Units.{unit_code}
 use Rattle.lawful_units.specs.Lawful.{IsInstruction, IsLawful, KnownByUnit}
@@ -38,7 +39,8 @@ AllFollow = (i : Inst) → IsInstruction i → InstructionFollows i
 -- the guest, and at most 132 for each of them.
 abbrev pub UnitFollows : Unit → Type 0
 UnitFollows unit =
-    (site : Site) (order : Order) (bank : ℕ) (known : ℕ → Bool) (at : ℕ) (w : Workspace) (x : State)
+    (site : Site) (order : Order) (bank : ℕ) (known : ℕ → Bool) (at : CodeOffset) (w : Workspace)
+    (x : State)
     → IsReady site order
     → x.order ≡ order
     → LiesAt site.program site.method at (unit_code bank unit x.pc)

@@ -8,12 +8,13 @@ use Rattle.mips_decode.specs.State as guest
 use Rattle.jvm_program.specs.declared.instruction.Instruction.{Instruction}
 use Rattle.jvm_program.specs.Effect.{Workspace}
 use Rattle.jvm_program.specs.Step.{State}
+use Rattle.code_steps.specs.Offsets.{CodeOffset}
 use Rattle.code_paths.specs.Classes.{place_in}
 use Rattle.guest_follows.specs.Sites.{Site, PathIn, stands, turn_in}
 
 -- A path of at least and at most so many turns leads from a state to an offset, and there the workspace is as said.
-pub record ComesToEnd (site : Site) (low high least most : ℕ) (total : (Instruction → ℕ) → ℕ)
-    (Arrives : Workspace → Type 0) (x : State) : Type 0 where
+pub record ComesToEnd (site : Site) (low high : CodeOffset) (least most : ℕ)
+    (total : (Instruction → ℕ) → ℕ) (Arrives : Workspace → Type 0) (x : State) : Type 0 where
   pub turns : ℕ
   pub after : Workspace
   pub path : PathIn site low high turns total x (stands site high after)
@@ -23,11 +24,12 @@ pub record ComesToEnd (site : Site) (low high least most : ℕ) (total : (Instru
 
 -- A path leads from a state to one whose turn is as said, by the number of turns up to it and by a place: where that turn is made in the
 -- site's method, it is made at this offset, behind the places of the path. It is below the code's end, so nothing behind the code runs.
-pub record ComesToTurn (site : Site) (low high least most : ℕ) (total : (Instruction → ℕ) → ℕ)
-    (Last : ℕ → ℕ → Turn State → Type 0) (x : State) : Type 0 where
+pub record ComesToTurn (site : Site) (low high : CodeOffset) (least most : ℕ)
+    (total : (Instruction → ℕ) → ℕ) (Last : ℕ → CodeOffset → Turn State → Type 0) (x : State)
+    : Type 0 where
   pub turns : ℕ
   pub before : State
-  pub place : ℕ
+  pub place : CodeOffset
   pub path : PathIn site low place turns total x before
   pub is_there : Rises place (visit (place_in site.method before) []) (place + 1)
   pub below : place < high
@@ -36,17 +38,17 @@ pub record ComesToTurn (site : Site) (low high least most : ℕ) (total : (Instr
   pub last : Last (turns + 1) place (turn_in site before)
 
 -- By each answer the classes come to the code's end, within what is left of so many turns.
-pub record ComesOn (site : Site) (low high used most : ℕ) (total : (Instruction → ℕ) → ℕ)
-    (Arrives : Workspace → Answer → Type 0) (q : Question) (then : Answer → State)
-    : Type 0 where
+pub record ComesOn (site : Site) (low high : CodeOffset) (used most : ℕ)
+    (total : (Instruction → ℕ) → ℕ) (Arrives : Workspace → Answer → Type 0) (q : Question)
+    (then : Answer → State) : Type 0 where
   pub left : ℕ
   pub in_time : used + left ≤ most
   pub comes : (a : Answer) → IsTrue (fits a q)
       → ComesToEnd site low high 0 left total (λ w. Arrives w a) (then a)
 
 -- Both end so, both leave so, or both ask the same and the classes come on.
-abbrev pub LastTurn : Site → ℕ → ℕ → ((Instruction → ℕ) → ℕ) → (Workspace → guest.State → Type 0)
-    → Turn guest.State → ℕ → ℕ → Turn State → Type 0
+abbrev pub LastTurn : Site → CodeOffset → ℕ → ((Instruction → ℕ) → ℕ)
+    → (Workspace → guest.State → Type 0) → Turn guest.State → ℕ → CodeOffset → Turn State → Type 0
 LastTurn site high most total Arrives (ends e) used place (ends f) = f ≡ e
 LastTurn site high most total Arrives (leaves q e) used place (leaves r f) = (r ≡ q) × (f ≡ e)
 LastTurn site high most total Arrives (asks q next) used place (asks r then) =
@@ -55,7 +57,7 @@ LastTurn site high most total Arrives _ used place _ = ⊥
 
 -- The classes follow so many turns of the guest, of which this is the last: where it moves, they come to the code's end; else to a turn that
 -- is like it.
-abbrev pub Follows : Site → (low high least most : ℕ) → ((Instruction → ℕ) → ℕ)
+abbrev pub Follows : Site → (low high : CodeOffset) (least most : ℕ) → ((Instruction → ℕ) → ℕ)
     → (Workspace → guest.State → Type 0) → State → Turn guest.State → Type 0
 Follows site low high least most total Arrives x (moves t) =
     ComesToEnd site low high least most total (λ w. Arrives w t) x

@@ -9,6 +9,7 @@ use Rattle.jvm_program.specs.Effect.{Workspace}
 use Rattle.jvm_program.specs.Step.{State, Frame, placed, turn}
 use Rattle.code_steps.specs.declared.step.Step.{Step}
 use Rattle.code_steps.specs.declared.step.Step.TheVariants.{Does}
+use Rattle.code_steps.specs.Offsets.{CodeOffset}
 use Rattle.code_paths.specs.Paths.{Path, step_weight, weigh}
 use Rattle.mem_helpers.specs.Methods.{helper_code}
 use Rattle.mem_helpers.specs.Loads.{read_fault_number}
@@ -25,11 +26,12 @@ pub record Site : Type 0 where
 abbrev pub turn_in : Site → State → Turn State
 turn_in site = turn site.program site.words
 
-abbrev pub stands : Site → ℕ → Workspace → State
+abbrev pub stands : Site → CodeOffset → Workspace → State
 stands site at w = placed site.method at w site.others
 
 -- a path whose places in the site's method lie between two offsets
-abbrev pub PathIn : Site → ℕ → ℕ → ℕ → ((Instruction → ℕ) → ℕ) → State → State → Type 0
+abbrev pub PathIn : Site → CodeOffset → CodeOffset → ℕ → ((Instruction → ℕ) → ℕ) → State → State
+    → Type 0
 PathIn site low high turns total x y =
     Path site.program site.words site.method low high turns total x y
 

@@ -11,6 +11,7 @@ use Rattle.jvm_program.specs.Effect.{Workspace, effect, enters, with_heap}
 use Rattle.jvm_program.specs.Step.{State, Frame, placed}
 use Rattle.jvm_program.specs.Stretch.{body_workspace}
 use Rattle.code_steps.specs.declared.step.Step.TheVariants.{Does}
+use Rattle.code_steps.specs.Offsets.{CodeOffset}
 use Rattle.code_steps.specs.Placing.{LiesAt}
 use Rattle.code_paths.specs.Paths.{Path, waiting_behind}
 
@@ -20,7 +21,7 @@ pub record Reaches (program : Program) (words m most : ℕ) (total : (Instructio
     (x y : State) : Type 0 where
   pub turns : ℕ
   pub in_time : turns ≤ most
-  pub path : (low : ℕ) → Path program words m low low turns total x y
+  pub path : (low : CodeOffset) → Path program words m low low turns total x y
 
 -- A method that begins above a caller's frame leads back to that frame, with the fields as they were and with these arrays.
 abbrev pub LeadsBack : Program → (words own m most : ℕ) → ((Instruction → ℕ) → ℕ) → Workspace
@@ -38,8 +39,9 @@ pub record IsMethod (program : Program) (number : ℕ) (parameters : List Kind) 
 -- A call of a method that leads back leads behind the call, with one turn more.
 abbrev pub CallsLeadBack : Type 0
 CallsLeadBack =
-    (program : Program) (words own m at h callee most : ℕ) (total : (Instruction → ℕ) → ℕ)
-    (w caller : Workspace) (given : List Value) (others : List Frame) (heap : Heap)
+    (program : Program) (words own m : ℕ) (at : CodeOffset) (h callee most : ℕ)
+    (total : (Instruction → ℕ) → ℕ) (w caller : Workspace) (given : List Value)
+    (others : List Frame) (heap : Heap)
     → own ≢ m → LiesAt program own at (Does (Call h) ∷ [])
     → effect program words (Call h) w ≡ enters callee given caller
     → length others < 63

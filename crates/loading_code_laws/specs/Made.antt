@@ -55,8 +55,8 @@ over locals operands fields heap = record {
 
 -- The code that makes memory has come to what stands behind it, and the tables hold the memory.
 pub record HasMade (program : Program) (words own m : ℕ) (is_span : ℕ → Bool) (most : ℕ)
-    (rest : List Step) (locals : ℕ → Value) (operands : List Value) (fields : ℕ → Value) (others : List Frame)
-    (memory : Memory) : Type 0 where
+    (rest : List Step) (locals : ℕ → Value) (operands : List Value) (fields : ℕ → Value)
+    (others : List Frame) (memory : Memory) : Type 0 where
   pub heap : Heap
   pub comes : ComesTo program words own m is_span most rest
       (placed own 0 (over locals operands fields no_arrays) others)
@@ -174,7 +174,8 @@ pub record IsCountedPair (I : Type 0) (program : Program) (words choose : ℕ)
 abbrev pub ProgramsLoadInRuns : Type 0 → Type 0
 ProgramsLoadInRuns I =
     (program : Program) (words own m choose : ℕ) (is_span : ℕ → Bool) (most limit : ℕ)
-    (s : guest.State) (p : Pair guest.State State I) (allowed : I → ℕ) (weight : I → Instruction → ℕ)
+    (s : guest.State) (p : Pair guest.State State I) (allowed : I → ℕ)
+    (weight : I → Instruction → ℕ)
     → IsCountedPair I program words choose p weight
     → s.begun ≡ false
     → Loads program words own m choose is_span most s

@@ -1,6 +1,7 @@
 -- Turns that read no word of an array, make no switch, and enter no span.
 use Rattle.std.specs.Prelude.{◌≡◌, ℕ, Bool, List}
 use Rattle.jvm_program.specs.declared.instruction.Instruction.{Instruction}
+use Rattle.code_steps.specs.Offsets.{CodeOffset}
 use Rattle.jvm_program.specs.Program.{Program}
 use Rattle.jvm_program.specs.Effect.{Workspace}
 use Rattle.jvm_program.specs.Step.{State, Frame, placed}
@@ -26,6 +27,6 @@ pub record Quietly (program : Program) (words m : ℕ) (is_span : ℕ → Bool) 
 -- The code of a method has come so to what stands behind it.
 pub record ComesTo (program : Program) (words own m : ℕ) (is_span : ℕ → Bool) (most : ℕ)
     (rest : List Step) (x : State) (w : Workspace) (others : List Frame) : Type 0 where
-  pub at : ℕ
+  pub at : CodeOffset
   pub lies : LiesAt program own at rest
   pub quietly : Quietly program words m is_span most x (placed own at w others)

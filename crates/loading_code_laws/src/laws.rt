@@ -12,7 +12,7 @@ use code_steps::laws::parts_lie_behind_each_other;
 use run_laws::Translation;
 
 /// The code that makes a program's memory makes the pages that the texts tell, with the words that the texts of the classes of data spell, in
-/// turns that only move, read no word and make no switch.
+/// turns that only move, read no word, make no switch and enter no span.
 pub fn memory_is_made()
     ensures { MemoryIsMade }
 {

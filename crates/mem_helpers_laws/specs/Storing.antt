@@ -6,13 +6,14 @@ use Rattle.nv_events.specs.Memory.{Memory}
 use Rattle.mips_decode.specs.Effect.{write_refused_fault, write_align_fault}
 use Rattle.mips_decode.specs.Loads.{store_aligned, store_allowed, stored}
 use Rattle.mips_decode.specs.declared.names.store_name.StoreName.{StoreName}
+use Rattle.mips_decode.specs.declared.names.store_name.StoreName.TheVariants.{Sw}
 use Rattle.jvm_program.specs.declared.value.Value.{Value}
 use Rattle.jvm_program.specs.declared.value.Value.TheVariants.{Int as int, Array as array}
 use Rattle.jvm_program.specs.Program.{Program}
 use Rattle.jvm_program.specs.Values.{Heap}
 use Rattle.jvm_program.specs.Effect.{Workspace}
 use Rattle.guest_layout.specs.FieldNumbers.{readable_field, writable_field}
-use Rattle.guest_code.specs.Helpers.{store_helper}
+use Rattle.guest_code.specs.Helpers.{store_helper, store_conditional_helper}
 use Rattle.mem_helpers.specs.Stores.{write_fault_number}
 use Rattle.mem_helpers.specs.Methods.{helper_code}
 use Rattle.guest_follows.specs.Match.{HoldsMemory}
@@ -68,6 +69,14 @@ pub record EndsFaultyStores (name : StoreName) (number : ℕ) : Type 0 where
       → store_aligned name a ≡ true
       → store_allowed name order memory a ≡ false
       → EndsStore program words order number (given_to_store value a pc) w write_refused_fault pc a
+
+-- So does the method of each store,
+abbrev pub FaultyStoresEnd : Type 0
+FaultyStoresEnd = (name : StoreName) → EndsFaultyStores name (store_helper name)
+
+-- and that of SC, which faults as SW.
+abbrev pub FaultyConditionalStoresEnd : Type 0
+FaultyConditionalStoresEnd = EndsFaultyStores Sw store_conditional_helper
 
 -- The address of a store is a word and aligned, and each byte there may be written.
 pub record MayStore (name : StoreName) (order : Order) (w : Workspace) (readable writable : ℕ)

@@ -1,17 +1,14 @@
 //! What the helper methods that store come to. Each call here does nothing: its contract is the law.
 
-ghost use Rattle.mips_decode.specs.declared.names.store_name.StoreName.{StoreName};
-ghost use Rattle.mips_decode.specs.declared.names.store_name.StoreName.TheVariants.{Sw};
-ghost use Rattle.guest_code.specs.Helpers.{store_helper, store_conditional_helper};
 ghost use Rattle.mem_helpers_laws.specs.Counting.{StoresRead};
 ghost use Rattle.mem_helpers_laws.specs.Linking.{StoresAreConcluded};
 ghost use Rattle.mem_helpers_laws.specs.Multiplying.{ProductsArePut, ProductsAreWords};
-ghost use Rattle.mem_helpers_laws.specs.Storing.{EndsFaultyStores, StoresAreDone};
+ghost use Rattle.mem_helpers_laws.specs.Storing.{FaultyConditionalStoresEnd, FaultyStoresEnd, StoresAreDone};
 
 /// A store at an address that is not aligned, and one at an aligned address where a byte may not be written, end the run with the
 /// instruction's fault.
 pub fn faulty_stores_end_the_run()
-    ensures { (name : StoreName) → EndsFaultyStores name (store_helper name) }
+    ensures { FaultyStoresEnd }
 {}
 
 /// Every other store is done: the memory is what the instruction leaves, and no field is changed.
@@ -22,7 +19,7 @@ pub fn stores_are_done()
 /// SC faults as SW. Else it stores as SW and gives 1 where its address is linked, and gives 0 and stores nothing where another or none
 /// is. No address is linked afterwards.
 pub fn conditional_stores_are_concluded()
-    ensures faulty { EndsFaultyStores Sw store_conditional_helper }
+    ensures faulty { FaultyConditionalStoresEnd }
     ensures concluded { StoresAreConcluded }
 {}
 

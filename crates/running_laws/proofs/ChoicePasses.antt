@@ -1,4 +1,5 @@
 pub mod Given
+pub mod Starts
 pub mod Going
 pub mod Choosing
 pub mod Ranges

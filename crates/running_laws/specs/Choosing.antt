@@ -5,6 +5,7 @@ use Rattle.nv_words.specs.declared.order.Order.{Order}
 use Rattle.nv_events.specs.Turn.{ends, «fault»}
 use Rattle.mips_decode.specs.State as guest
 use Rattle.mips_decode.specs.Step as guest_step
+use Rattle.delay_slots.specs.Places.{Address}
 use Rattle.jvm_program.specs.Program.{Program}
 use Rattle.jvm_program.specs.Step.{State}
 use Rattle.trampoline_laws.specs.Coming.{stray_fault}
@@ -24,7 +25,7 @@ ComesToWord program words order choose classes t y =
     (λ z. AtWord program words order classes choose z t) y
 
 -- They come to the fault of an address from which no word can be fetched, and count nothing.
-abbrev pub ComesToStray : Program → ℕ → List CodeClass → ℕ → State → Type 0
+abbrev pub ComesToStray : Program → ℕ → List CodeClass → Address → State → Type 0
 ComesToStray program words classes a y =
     ComesTo program words (is_span classes) 80 0 0 (λ z. EndsStray program words a z) y
 

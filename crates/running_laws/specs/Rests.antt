@@ -3,6 +3,7 @@ use Rattle.std.specs.Prelude.{◌≡◌, ℕ, ◌<◌, ◌≤◌, ◌⊎◌, Lis
 use Rattle.nv_words.specs.Words.{IsWord}
 use Rattle.nv_words.specs.declared.order.Order.{Order}
 use Rattle.mips_decode.specs.State as guest
+use Rattle.delay_slots.specs.Places.{WordIndex}
 use Rattle.delay_slots.specs.declared.unit.Unit.{Unit}
 use Rattle.delay_slots.specs.Units.{units_of}
 use Rattle.jvm_program.specs.Program.{Program}
@@ -23,7 +24,7 @@ pub record AtUnit (program : Program) (words : ℕ) (order : Order) (classes : L
   pub span_below : span < length class.spans
   pub others : List Frame
   pub below : IsBelow program words (is_span classes) choose class others
-  pub word : ℕ
+  pub word : WordIndex
   pub front : List Unit
   pub unit : Unit
   pub rest : List Unit

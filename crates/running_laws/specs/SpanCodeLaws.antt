@@ -4,6 +4,7 @@ pub use Rattle.span_code_laws.specs.GuestFollows.Following as Following
 pub use Rattle.span_code_laws.specs.GuestFollows.Helpers as Helpers
 pub use Rattle.span_code_laws.specs.GuestCodeLaws.Instructions as Instructions
 pub use Rattle.span_code_laws.specs.GuestFollows.Lawful as Lawful
+pub use Rattle.span_code_laws.specs.GuestFollows.LawfulUnits as LawfulUnits
 pub use Rattle.span_code_laws.specs.Made as Made
 pub use Rattle.span_code_laws.specs.GuestCodeLaws.Pieces as Pieces
 pub use Rattle.span_code_laws.specs.Registers as Registers

@@ -3,12 +3,14 @@ use Rattle.std.specs.Prelude.{◌≡◌, ◌≢◌, ℕ, ◌+◌, ◌%◌, ◌<�
 use Rattle.nv_words.specs.declared.order.Order.{Order}
 use Rattle.nv_events.specs.Turn.{ends, «fault»}
 use Rattle.mips_decode.specs.State as guest
+use Rattle.delay_slots.specs.Places.{Address, WordIndex}
 use Rattle.delay_slots.specs.Units.{units_of}
 use Rattle.jvm_program.specs.declared.value.Value.TheVariants.{Int as int}
 use Rattle.jvm_program.specs.Program.{Program}
 use Rattle.jvm_program.specs.Effect.{Workspace}
 use Rattle.jvm_program.specs.Step.{State, Frame, placed, turn}
 use Rattle.code_steps.specs.Placing.{LiesAt}
+use Rattle.code_steps.specs.Offsets.{CodeOffset}
 use Rattle.guest_layout.specs.FieldNumbers.{pc_field}
 use Rattle.word_emitter.specs.Exits.{returns}
 use Rattle.span_code.specs.Laying.{entry_at}
@@ -30,7 +32,7 @@ pub record IsGuest (order : Order) (code : ℕ → Option ℕ) (t : guest.State)
   pub code_is : t.code ≡ code
 
 -- no word can be fetched from an address
-abbrev pub IsStray : (ℕ → Option ℕ) → ℕ → Type 0
+abbrev pub IsStray : (ℕ → Option ℕ) → Address → Type 0
 IsStray code a = (a % 4 ≢ 0) ⊎ (code a ≡ None)
 
 -- ---- at the beginning of a method that chooses
@@ -81,7 +83,7 @@ span_site program words c j others = record {
 }
 
 -- the offset of the code of a word there
-abbrev pub word_entry : CodeClass → ℕ → ℕ → ℕ
+abbrev pub word_entry : CodeClass → ℕ → WordIndex → CodeOffset
 word_entry c j word = entry_at (units_of c.words) c.leads (span_words c j) word
 
 -- The classes stand at the code of the word at which the guest stands.
@@ -94,7 +96,7 @@ pub record AtWord (program : Program) (words : ℕ) (order : Order) (classes : L
   pub span_below : span < length class.spans
   pub others : List Frame
   pub below : IsBelow program words (is_span classes) choose class others
-  pub word : ℕ
+  pub word : WordIndex
   pub workspace : Workspace
   pub stands : StandsAt order (span_words class span) word workspace t
   pub is_there : y ≡ sites.stands (span_site program words class span others)
@@ -109,7 +111,7 @@ pub record AtReturn (program : Program) (words : ℕ) (classes : List CodeClass)
   pub span : ℕ
   pub others : List Frame
   pub below : IsBelow program words (is_span classes) choose class others
-  pub at : ℕ
+  pub at : CodeOffset
   pub lies : LiesAt program (class.first_method + span) at (returns ∷ [])
   pub workspace : Workspace
   pub held : HoldsAll workspace t
@@ -120,5 +122,5 @@ pub record AtReturn (program : Program) (words : ℕ) (classes : List CodeClass)
 -- ---- outside all code
 
 -- the next turn ends the run in the fault of an address from which no word can be fetched
-abbrev pub EndsStray : Program → ℕ → ℕ → State → Type 0
+abbrev pub EndsStray : Program → ℕ → Address → State → Type 0
 EndsStray program words a y = turn program words y ≡ ends («fault» (stray_fault a))

@@ -2,6 +2,7 @@
 use Rattle.std.specs.Prelude.{◌≡◌, ℕ, ◌<◌, ◌≤◌, Bool, true, false, List}
 use Rattle.nv_words.specs.declared.order.Order.{Order}
 use Rattle.delay_slots.specs.declared.unit.Unit.{Unit}
+use Rattle.delay_slots.specs.Places.{WordIndex}
 use Rattle.block_builder.specs.Blocks.{unit_at}
 use Rattle.jvm_names.specs.declared.branch_name.BranchName.{BranchName}
 use Rattle.jvm_names.specs.declared.return_name.ReturnName.{ReturnName}
@@ -40,7 +41,7 @@ pub record CountsSpareMoves : Type 0 where
 
 -- What the code of a word weighs by a weight, as it is laid down, with the methods that it calls.
 pub record PartWeighsItsUnits (order : Order) (weight : Instruction → ℕ) (units : List Unit)
-    (leads : ℕ → Bool) (span : SpanWords) (k : ℕ) : Type 0 where
+    (leads : ℕ → Bool) (span : SpanWords) (k : WordIndex) : Type 0 where
   -- where no piece begins with the word, what the code of its unit weighs
   pub word : begins leads span k ≡ false
       → whole_weight order (laid_part units leads span k) weight
@@ -55,6 +56,6 @@ pub record PartWeighsItsUnits (order : Order) (weight : Instruction → ℕ) (un
 abbrev pub PartsWeighTheirUnits : Type 0
 PartsWeighTheirUnits =
     (order : Order) (weight : Instruction → ℕ) (units : List Unit) (leads : ℕ → Bool)
-    (span : SpanWords) (k : ℕ)
+    (span : SpanWords) (k : WordIndex)
     → SparesMoves weight
     → PartWeighsItsUnits order weight units leads span k

@@ -2,9 +2,11 @@
 use Rattle.std.specs.Prelude.{◌≡◌, ℕ, ◌^◌, ◌<◌, ◌≤◌, Bool, false, List, [], ◌∷◌, ◌++◌}
 use Rattle.nv_words.specs.Words.{IsWord}
 use Rattle.delay_slots.specs.declared.unit.Unit.{Unit}
+use Rattle.delay_slots.specs.Places.{Address, WordIndex}
 use Rattle.jvm_program.specs.declared.value.Value.TheVariants.{Int as int}
 use Rattle.jvm_program.specs.Effect.{Workspace}
 use Rattle.code_steps.specs.declared.step.Step.{Step}
+use Rattle.code_steps.specs.Offsets.{CodeOffset}
 use Rattle.code_steps.specs.Placing.{LiesAt}
 use Rattle.guest_layout.specs.FieldNumbers.{pc_field}
 use Rattle.word_emitter.specs.Exits.{has, returns}
@@ -28,7 +30,7 @@ most_entering = 14
 
 -- That code leads to an offset of the method, and changes nothing. No other code of the method is passed.
 pub record IsEntered (site : Site) (units : List Unit) (leads : ℕ → Bool) (span : SpanWords)
-    (w : Workspace) (at : ℕ) : Type 0 where
+    (w : Workspace) (at : CodeOffset) : Type 0 where
   pub turns : ℕ
   pub in_time : turns ≤ most_entering
   pub path : PathIn site 0 (base span) turns (λ weight. weigh weight (entering units leads span))
@@ -38,12 +40,12 @@ pub record IsEntered (site : Site) (units : List Unit) (leads : ℕ → Bool) (s
 pub record EntersWords (site : Site) (units : List Unit) (leads : ℕ → Bool) (span : SpanWords)
     : Type 0 where
   -- from the address of a word of the span it goes to the code of that word
-  pub words : (k : ℕ) (w : Workspace)
+  pub words : (k : WordIndex) (w : Workspace)
       → span.first ≤ k → k < span.end
       → w.fields pc_field ≡ int (address span k)
       → IsEntered site units leads span w (entry_at units leads span k)
   -- from another address it goes to a return
-  pub others : (a : ℕ) (w : Workspace)
+  pub others : (a : Address) (w : Workspace)
       → span.first ≤ span.end
       → IsWord a → has (extent span) a ≡ false
       → w.fields pc_field ≡ int a

@@ -4,6 +4,7 @@ use Rattle.nv_words.specs.declared.order.Order.{Order}
 use Rattle.nv_events.specs.Turn.{Turn}
 use Rattle.mips_decode.specs.State.{State}
 use Rattle.delay_slots.specs.declared.unit.Unit.{Unit}
+use Rattle.delay_slots.specs.Places.{WordIndex}
 use Rattle.delay_slots.specs.Units.{units_of}
 use Rattle.delay_slots.specs.Turns.{unit_turns, turn_count, last_turn}
 use Rattle.block_builder.specs.Blocks.{unit_at}
@@ -11,6 +12,7 @@ use Rattle.block_builder.specs.Leaders.{is_plain}
 use Rattle.jvm_program.specs.declared.instruction.Instruction.{Instruction}
 use Rattle.jvm_program.specs.Effect.{Workspace}
 use Rattle.code_steps.specs.Widths.{size}
+use Rattle.code_steps.specs.Offsets.{CodeOffset}
 use Rattle.guest_code.specs.Units.{unit_code}
 use Rattle.word_emitter.specs.Pieces.{bank_of}
 use Rattle.span_code.specs.declared.span_words.SpanWords.{SpanWords}
@@ -25,8 +27,8 @@ use Rattle.span_code_laws.specs.Spans.{HasSpan, StandsAt}
 use Rattle.span_code_laws.specs.InPieces.{HasUnit, StandsInPiece, fetching, known_behind, offset_in, own_units}
 
 -- The code of a unit, at an offset and over a bank, follows the unit's turns by paths of such a total.
-abbrev pub UnitFollowsBy : Site → (bank : ℕ) → (ℕ → Bool) → (at : ℕ) → ((Instruction → ℕ) → ℕ)
-    → Unit → Workspace → State → Type 0
+abbrev pub UnitFollowsBy : Site → (bank : ℕ) → (ℕ → Bool) → (at : CodeOffset)
+    → ((Instruction → ℕ) → ℕ) → Unit → Workspace → State → Type 0
 UnitFollowsBy site bank known at total unit w x =
     Follows site at (at + size (unit_code bank unit x.pc)) (turn_count (unit_turns unit x))
     (132 * turn_count (unit_turns unit x)) total
@@ -35,9 +37,9 @@ UnitFollowsBy site bank known at total unit w x =
 -- From an offset the classes follow the turns of a unit to where they go on in the span, or to a return behind the unit, by paths that weigh no
 -- more than such a total where moves of values, branches and returns weigh nothing.
 pub record UnitGoesOn (site : Site) (units : List Unit) (leads : ℕ → Bool) (span : SpanWords)
-    (at least most : ℕ) (total : (Instruction → ℕ) → ℕ)
+    (at : CodeOffset) (least most : ℕ) (total : (Instruction → ℕ) → ℕ)
     (unit : Unit) (w : Workspace) (last : Turn State) : Type 0 where
-  pub high : ℕ
+  pub high : CodeOffset
   pub sum : (Instruction → ℕ) → ℕ
   pub spared : (weight : Instruction → ℕ) → SparesMoves weight → sum weight ≤ total weight
   pub follows : FollowsInSpan site at high least most sum (Resumes site units leads span unit)
@@ -45,7 +47,7 @@ pub record UnitGoesOn (site : Site) (units : List Unit) (leads : ℕ → Bool) (
 
 -- From the code of the word with which a piece begins the classes come to the piece's first unit, and only fetch what the piece needs.
 pub record EntersPiece (site : Site) (order : Order) (units : List Unit) (leads : ℕ → Bool)
-    (span : SpanWords) (k : ℕ) (w : Workspace) (x : State) : Type 0 where
+    (span : SpanWords) (k : WordIndex) (w : Workspace) (x : State) : Type 0 where
   pub unit : Unit
   pub rest : List Unit
   pub comes : ComesToEnd site (entry_at units leads span k) (offset_in units leads span k []) 0 62
@@ -57,7 +59,7 @@ pub record EntersPiece (site : Site) (order : Order) (units : List Unit) (leads 
 
 -- At such a word the code of its unit lies, over the fields of the registers.
 pub record WordAloneIsFollowed (site : Site) (units : List Unit) (leads : ℕ → Bool)
-    (span : SpanWords) (k : ℕ) (w : Workspace) (x : State) : Type 0 where
+    (span : SpanWords) (k : WordIndex) (w : Workspace) (x : State) : Type 0 where
   pub has : HasUnit site units span k 0 (λ r. true) (entry_at units leads span k)
       (unit_at units k) x
   -- if it follows the unit's turns, so do the classes, to where they go on
@@ -71,7 +73,7 @@ pub record WordAloneIsFollowed (site : Site) (units : List Unit) (leads : ℕ �
 abbrev pub WordsAloneAreFollowed : Type 0
 WordsAloneAreFollowed =
     (site : Site) (order : Order) (words : List ℕ) (leads : ℕ → Bool) (span : SpanWords)
-    (k : ℕ) (w : Workspace) (x : State)
+    (k : WordIndex) (w : Workspace) (x : State)
     → HasSpan site words leads span
     → StandsAt order span k w x
     → begins leads span k ≡ false
@@ -83,7 +85,7 @@ WordsAloneAreFollowed =
 abbrev pub PiecesAreEntered : Type 0
 PiecesAreEntered =
     (site : Site) (order : Order) (words : List ℕ) (leads : ℕ → Bool) (span : SpanWords)
-    (k : ℕ) (w : Workspace) (x : State)
+    (k : WordIndex) (w : Workspace) (x : State)
     → HasSpan site words leads span
     → StandsAt order span k w x
     → begins leads span k ≡ true
@@ -98,8 +100,8 @@ FetchingIsSpared =
 
 -- The code of a unit of the piece that begins with word k, behind the units that are done, follows
 -- the unit's turns by paths of such a total.
-abbrev pub FollowsInPiece : Site → List Unit → (ℕ → Bool) → SpanWords → ℕ → (front : List Unit)
-    → ((Instruction → ℕ) → ℕ) → Unit → Workspace → State → Type 0
+abbrev pub FollowsInPiece : Site → List Unit → (ℕ → Bool) → SpanWords → WordIndex
+    → (front : List Unit) → ((Instruction → ℕ) → ℕ) → Unit → Workspace → State → Type 0
 FollowsInPiece site units leads span k front total unit w x =
     UnitFollowsBy site (bank_of (own_units units leads span k))
     (known_behind (own_units units leads span k) front) (offset_in units leads span k front)
@@ -107,7 +109,7 @@ FollowsInPiece site units leads span k front total unit w x =
 
 -- A unit of a piece is Plain where another one follows it.
 pub record InnerUnitIsFollowed (site : Site) (order : Order) (units : List Unit) (leads : ℕ → Bool)
-    (span : SpanWords) (k : ℕ) (front : List Unit) (unit next : Unit) (rest : List Unit)
+    (span : SpanWords) (k : WordIndex) (front : List Unit) (unit next : Unit) (rest : List Unit)
     (w : Workspace) (x : State) : Type 0 where
   pub plain : is_plain unit ≡ true
   -- if its code follows its turn, the classes come to the next unit
@@ -122,7 +124,8 @@ pub record InnerUnitIsFollowed (site : Site) (order : Order) (units : List Unit)
 abbrev pub InnerUnitsAreFollowed : Type 0
 InnerUnitsAreFollowed =
     (site : Site) (order : Order) (words : List ℕ) (leads : ℕ → Bool) (span : SpanWords)
-    (k : ℕ) (front : List Unit) (unit next : Unit) (rest : List Unit) (w : Workspace) (x : State)
+    (k : WordIndex) (front : List Unit) (unit next : Unit) (rest : List Unit) (w : Workspace)
+    (x : State)
     → HasSpan site words leads span
     → StandsInPiece order (units_of words) leads span k front unit (next ∷ rest) w x
     → InnerUnitIsFollowed site order (units_of words) leads span k front unit next rest w x
@@ -132,7 +135,7 @@ InnerUnitsAreFollowed =
 abbrev pub LastUnitsAreFollowed : Type 0
 LastUnitsAreFollowed =
     (site : Site) (order : Order) (words : List ℕ) (leads : ℕ → Bool) (span : SpanWords)
-    (k : ℕ) (front : List Unit) (unit : Unit) (w : Workspace) (x : State)
+    (k : WordIndex) (front : List Unit) (unit : Unit) (w : Workspace) (x : State)
     (total : (Instruction → ℕ) → ℕ)
     → HasSpan site words leads span
     → StandsInPiece order (units_of words) leads span k front unit [] w x

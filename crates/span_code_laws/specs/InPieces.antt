@@ -4,12 +4,14 @@ use Rattle.std.specs.List.{flat_map}
 use Rattle.nv_words.specs.declared.order.Order.{Order}
 use Rattle.mips_decode.specs.State.{State}
 use Rattle.delay_slots.specs.declared.unit.Unit.{Unit}
+use Rattle.delay_slots.specs.Places.{Address, WordIndex}
 use Rattle.delay_slots.specs.Units.{units_of}
 use Rattle.block_builder.specs.Blocks.{unit_at}
 use Rattle.block_builder.specs.Registers.{unit_writes}
 use Rattle.jvm_program.specs.declared.value.Value.TheVariants.{Int as int}
 use Rattle.jvm_program.specs.Effect.{Workspace}
 use Rattle.code_steps.specs.declared.step.Step.{Step}
+use Rattle.code_steps.specs.Offsets.{CodeOffset}
 use Rattle.code_steps.specs.Widths.{size}
 use Rattle.code_steps.specs.Placing.{LiesAt}
 use Rattle.guest_layout.specs.FieldNumbers.{register_field}
@@ -33,7 +35,7 @@ abbrev pub fetching : List Unit → List Step
 fetching piece = for_registers (is_needed piece) fetched
 
 -- how far into the code of the piece: what is fetched, and the units that are done
-abbrev pub middle_of : List Unit → List Unit → ℕ → ℕ
+abbrev pub middle_of : List Unit → List Unit → Address → ℕ
 middle_of piece front a = size (fetching piece ++ units_code (bank_of piece) front a)
 
 -- the registers that are known there
@@ -51,18 +53,18 @@ pub record IsInPiece (piece front : List Unit) (w : Workspace) (t : State) : Typ
 -- ---- in a span
 
 -- the units of the piece that begins with a word
-abbrev pub own_units : List Unit → (ℕ → Bool) → SpanWords → ℕ → List Unit
+abbrev pub own_units : List Unit → (ℕ → Bool) → SpanWords → WordIndex → List Unit
 own_units units leads span k = piece_units units (piece_at units leads span k)
 
 -- the offset in its code behind some of them
-abbrev pub offset_in : List Unit → (ℕ → Bool) → SpanWords → ℕ → List Unit → ℕ
+abbrev pub offset_in : List Unit → (ℕ → Bool) → SpanWords → WordIndex → List Unit → CodeOffset
 offset_in units leads span k front =
     entry_at units leads span k + middle_of (own_units units leads span k) front (address span k)
 
 -- The guest stands at a unit of the piece that begins with word k, with no branch pending, and the classes hold its state there: the units before it
 -- are done, and the rest follows.
 pub record StandsInPiece (order : Order) (units : List Unit) (leads : ℕ → Bool) (span : SpanWords)
-    (k : ℕ) (front : List Unit) (unit : Unit)
+    (k : WordIndex) (front : List Unit) (unit : Unit)
     (rest : List Unit) (w : Workspace) (x : State) : Type 0 where
   pub above : span.first ≤ k
   pub below : k < span.end
@@ -76,8 +78,8 @@ pub record StandsInPiece (order : Order) (units : List Unit) (leads : ℕ → Bo
 -- ---- the code of a unit
 
 -- The code of a unit of the span, that of a word, lies at an offset, over a bank, and what it reads is known.
-pub record HasUnit (site : Site) (units : List Unit) (span : SpanWords) (word bank : ℕ)
-    (known : ℕ → Bool) (at : ℕ) (unit : Unit) (x : State) : Type 0 where
+pub record HasUnit (site : Site) (units : List Unit) (span : SpanWords) (word : WordIndex)
+    (bank : ℕ) (known : ℕ → Bool) (at : CodeOffset) (unit : Unit) (x : State) : Type 0 where
   pub above : span.first ≤ word
   pub below : word < span.end
   pub is_there : unit ≡ unit_at units word
@@ -87,7 +89,7 @@ pub record HasUnit (site : Site) (units : List Unit) (span : SpanWords) (word ba
 
 -- What is known of a unit of the piece that begins with word k, behind the units that are done.
 pub record HasUnitInPiece (site : Site) (units : List Unit) (leads : ℕ → Bool) (span : SpanWords)
-    (k : ℕ) (front : List Unit) (unit : Unit) (x : State) : Type 0 where
+    (k : WordIndex) (front : List Unit) (unit : Unit) (x : State) : Type 0 where
   -- its code lies there, over local variables, and finds known what it reads
   pub has : HasUnit site units span (k + length front)
       (bank_of (own_units units leads span k)) (known_behind (own_units units leads span k) front)
@@ -99,7 +101,7 @@ pub record HasUnitInPiece (site : Site) (units : List Unit) (leads : ℕ → Boo
 abbrev pub UnitsStandInPieces : Type 0
 UnitsStandInPieces =
     (site : Site) (order : Order) (words : List ℕ) (leads : ℕ → Bool) (span : SpanWords)
-    (k : ℕ) (front : List Unit) (unit : Unit) (rest : List Unit) (w : Workspace) (x : State)
+    (k : WordIndex) (front : List Unit) (unit : Unit) (rest : List Unit) (w : Workspace) (x : State)
     → HasSpan site words leads span
     → StandsInPiece order (units_of words) leads span k front unit rest w x
     → HasUnitInPiece site (units_of words) leads span k front unit x

@@ -6,6 +6,7 @@ use Rattle.run_laws.specs.Trail.{advanced}
 use Rattle.mips_decode.specs.State.{State}
 use Rattle.mips_decode.specs.Step.{turn}
 use Rattle.delay_slots.specs.Units.{HasNoFloat, units_of}
+use Rattle.delay_slots.specs.Places.{WordIndex}
 use Rattle.delay_slots.specs.Turns as guest
 use Rattle.span_code.specs.declared.span_words.SpanWords.{SpanWords}
 use Rattle.guest_code_laws.specs.Pieces.{piece_turns}
@@ -20,19 +21,19 @@ pub record AreTurns (x : State) (n : ℕ) (last : Turn State) : Type 0 where
   pub count : earlier + 1 ≡ n
 
 -- how many turns the units of the piece that begins with word k take from a state, and the last one
-abbrev pub own_turns : List ℕ → (ℕ → Bool) → SpanWords → ℕ → State → ℕ × Turn State
+abbrev pub own_turns : List ℕ → (ℕ → Bool) → SpanWords → WordIndex → State → ℕ × Turn State
 own_turns words leads span k x = piece_turns (own_units (units_of words) leads span k) x
 
 -- The guest machine makes the turns of that piece, and stands between units where they lead.
-pub record PieceIsMade (words : List ℕ) (leads : ℕ → Bool) (span : SpanWords) (k : ℕ) (x : State)
-    : Type 0 where
+pub record PieceIsMade (words : List ℕ) (leads : ℕ → Bool) (span : SpanWords) (k : WordIndex)
+    (x : State) : Type 0 where
   pub turns : AreTurns x (own_turns words leads span k x).0 (own_turns words leads span k x).1
   pub goes_on : guest.LeadsOn x (own_turns words leads span k x).1
 
 -- It is so from each state in which the guest stands at a word of the span.
 abbrev pub PiecesAreMade : Type 0
 PiecesAreMade =
-    (words : List ℕ) (leads : ℕ → Bool) (span : SpanWords) (k : ℕ) (x : State)
+    (words : List ℕ) (leads : ℕ → Bool) (span : SpanWords) (k : WordIndex) (x : State)
     → guest.StandsAt x span.start words k
     → All IsWord words → HasNoFloat words
     → k < span.end → span.end ≤ length words

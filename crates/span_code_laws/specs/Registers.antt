@@ -2,11 +2,13 @@
 use Rattle.std.specs.Prelude.{◌≡◌, ℕ, ◌+◌, ◌<◌, ◌≤◌, Bool, true, ◌&&◌, nat_le, nat_lt, List, [], ◌∷◌, filter, Some}
 use Rattle.std.specs.List.{sum_by}
 use Rattle.delay_slots.specs.declared.unit.Unit.{Unit}
+use Rattle.delay_slots.specs.Places.{WordIndex}
 use Rattle.jvm_program.specs.declared.linked_line.LinkedLine.{LinkedLine}
 use Rattle.jvm_program.specs.declared.instruction.Instruction.{Instruction}
 use Rattle.jvm_program.specs.declared.linked_method.LinkedMethod.{LinkedMethod}
 use Rattle.jvm_program.specs.Program.{LaidFrom, Program, line_at}
 use Rattle.code_steps.specs.declared.step.Step.{Step}
+use Rattle.code_steps.specs.Offsets.{CodeOffset}
 use Rattle.code_steps.specs.Widths.{size}
 use Rattle.code_steps.specs.Placing.{LiesAt, laid}
 use Rattle.guest_layout.specs.FieldNumbers.{register_field}
@@ -34,16 +36,16 @@ abbrev pub weigh_lines : (Instruction → ℕ) → List LinkedLine → ℕ
 weigh_lines weight lines = sum_by (λ (l : LinkedLine). weight l.instruction) lines
 
 -- the lines of a method from an offset up to another: each stands where the one before it ends
-abbrev pub AreLines : Program → (m from to : ℕ) → List LinkedLine → Type 0
+abbrev pub AreLines : Program → (m : ℕ) (from to : CodeOffset) → List LinkedLine → Type 0
 AreLines program m from to [] = from ≡ to
 AreLines program m from to (l ∷ lines) = (line_at program m from ≡ Some l)
     × AreLines program m l.next to lines
 
 -- those of some lines that stand at an offset or behind it, and before another one
-abbrev pub lies_between : ℕ → ℕ → LinkedLine → Bool
+abbrev pub lies_between : CodeOffset → CodeOffset → LinkedLine → Bool
 lies_between from to l = nat_le from l.at && nat_lt l.at to
 
-abbrev pub lines_between : ℕ → ℕ → List LinkedLine → List LinkedLine
+abbrev pub lines_between : CodeOffset → CodeOffset → List LinkedLine → List LinkedLine
 lines_between from to lines = filter (lies_between from to) lines
 
 -- Lines read the field of each of the registers at most once, and write it at most once.
@@ -54,7 +56,7 @@ pub record LinesTouchRegistersOnce (lines : List LinkedLine) : Type 0 where
 -- ---- the stretch of a piece's warm code in the method of a span
 
 -- The offsets that are told of it are those of the code of the word with which the piece begins.
-pub record IsOwnStretch (units : List Unit) (leads : ℕ → Bool) (span : SpanWords) (k : ℕ)
+pub record IsOwnStretch (units : List Unit) (leads : ℕ → Bool) (span : SpanWords) (k : WordIndex)
     : Type 0 where
   pub from_is : (stretch_at units leads span k).from ≡ entry_at units leads span k
   pub to_is : (stretch_at units leads span k).to
@@ -63,17 +65,18 @@ pub record IsOwnStretch (units : List Unit) (leads : ℕ → Bool) (span : SpanW
 -- So it is with each word with which a piece begins.
 abbrev pub StretchesAreOfPieces : Type 0
 StretchesAreOfPieces =
-    (units : List Unit) (leads : ℕ → Bool) (span : SpanWords) (k : ℕ)
+    (units : List Unit) (leads : ℕ → Bool) (span : SpanWords) (k : WordIndex)
     → begins leads span k ≡ true
     → IsOwnStretch units leads span k
 
 -- the lines of that code, where it lies at the first of these offsets
-abbrev pub stretch_lines : List Unit → (ℕ → Bool) → SpanWords → ℕ → List LinkedLine
+abbrev pub stretch_lines : List Unit → (ℕ → Bool) → SpanWords → WordIndex → List LinkedLine
 stretch_lines units leads span k =
     laid (stretch_at units leads span k).from (laid_part units leads span k)
 
 -- those of some lines that stand between these offsets
-abbrev pub in_stretch : List Unit → (ℕ → Bool) → SpanWords → ℕ → List LinkedLine → List LinkedLine
+abbrev pub in_stretch : List Unit → (ℕ → Bool) → SpanWords → WordIndex → List LinkedLine
+    → List LinkedLine
 in_stretch units leads span k lines =
     lines_between (stretch_at units leads span k).from (stretch_at units leads span k).to lines
 
@@ -81,7 +84,7 @@ in_stretch units leads span k lines =
 -- method up to the second one.
 abbrev pub StretchesAreLines : Type 0
 StretchesAreLines =
-    (site : Site) (units : List Unit) (leads : ℕ → Bool) (span : SpanWords) (k : ℕ)
+    (site : Site) (units : List Unit) (leads : ℕ → Bool) (span : SpanWords) (k : WordIndex)
     → begins leads span k ≡ true
     → LiesAt site.program site.method (stretch_at units leads span k).from
     (laid_part units leads span k)
@@ -92,7 +95,7 @@ StretchesAreLines =
 abbrev pub StretchesTouchRegistersOnce : Type 0
 StretchesTouchRegistersOnce =
     (site : Site) (method : LinkedMethod) (units : List Unit) (leads : ℕ → Bool)
-    (span : SpanWords) (k : ℕ)
+    (span : SpanWords) (k : WordIndex)
     → site.program.method site.method ≡ Some method → LaidFrom 0 method.lines
     → LiesAt site.program site.method 0 (span_code units leads span)
     → span.first ≤ k → k < span.end

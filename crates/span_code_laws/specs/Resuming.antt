@@ -6,11 +6,13 @@ use Rattle.nv_events.specs.Turn.{Turn, moves, ends, leaves, asks}
 use Rattle.mips_decode.specs.State.{State}
 use Rattle.delay_slots.specs.declared.unit.Unit.{Unit}
 use Rattle.delay_slots.specs.declared.unit.Unit.TheVariants.{Branch, SlotMissing, SlotIsBranch}
+use Rattle.delay_slots.specs.Places.{Address, WordIndex}
 use Rattle.jvm_program.specs.declared.value.Value.TheVariants.{Int as int}
 use Rattle.jvm_program.specs.declared.instruction.Instruction.{Instruction}
 use Rattle.jvm_program.specs.Effect.{Workspace}
 use Rattle.jvm_program.specs.Step as machine
 use Rattle.code_steps.specs.Placing.{LiesAt}
+use Rattle.code_steps.specs.Offsets.{CodeOffset}
 use Rattle.guest_layout.specs.FieldNumbers.{pc_field}
 use Rattle.word_emitter.specs.Exits.{returns}
 use Rattle.span_code.specs.declared.span_words.SpanWords.{SpanWords}
@@ -36,9 +38,9 @@ FieldsHoldAll =
     → HoldsAll w t → HoldsAll v t
 
 -- An offset is that of the code of the word of the span that stands at an address.
-pub record IsEntryOf (units : List Unit) (leads : ℕ → Bool) (span : SpanWords) (at a : ℕ)
-    : Type 0 where
-  pub word : ℕ
+pub record IsEntryOf (units : List Unit) (leads : ℕ → Bool) (span : SpanWords) (at : CodeOffset)
+    (a : Address) : Type 0 where
+  pub word : WordIndex
   pub above : span.first ≤ word
   pub below : word < span.end
   pub is_there : a ≡ address span word
@@ -47,7 +49,7 @@ pub record IsEntryOf (units : List Unit) (leads : ℕ → Bool) (span : SpanWord
 -- The classes stand at the code of the word at which the guest stands.
 pub record StandsAtWord (site : Site) (units : List Unit) (leads : ℕ → Bool) (span : SpanWords)
     (y : machine.State) (t : State) : Type 0 where
-  pub at : ℕ
+  pub at : CodeOffset
   pub workspace : Workspace
   pub rests : IsAtRest workspace t
   pub entry : IsEntryOf units leads span at t.pc
@@ -63,17 +65,17 @@ jumps_by_register (SlotIsBranch i word) = is_register_jump i
 jumps_by_register _ = false
 
 -- an address does not lie among those of the span
-abbrev pub IsOutside : SpanWords → ℕ → Type 0
+abbrev pub IsOutside : SpanWords → Address → Type 0
 IsOutside span a = (a < address span span.first) ⊎ (address span span.end ≤ a)
 
 -- A unit of a span whose words stand at addresses divisible by four goes where a register says, or to an address outside of the span.
-abbrev pub GoesOut : SpanWords → Unit → ℕ → Type 0
+abbrev pub GoesOut : SpanWords → Unit → Address → Type 0
 GoesOut span unit a = span.start % 4 ≡ 0 → (jumps_by_register unit ≡ true) ⊎ IsOutside span a
 
 -- They stand at a return behind a unit, and field pc says where the guest stands.
 pub record StandsAtReturn (site : Site) (span : SpanWords) (unit : Unit) (y : machine.State)
     (t : State) : Type 0 where
-  pub at : ℕ
+  pub at : CodeOffset
   pub workspace : Workspace
   pub rests : IsAtRest workspace t
   pub pc_is : workspace.fields pc_field ≡ int t.pc
@@ -90,16 +92,16 @@ Resumes site units leads span unit y t = StandsAtWord site units leads span y t
 -- A return gives back to the frame below.
 abbrev pub ReturnsGiveBack : Type 0
 ReturnsGiveBack =
-    (site : Site) (at : ℕ) (w : Workspace)
+    (site : Site) (at : CodeOffset) (w : Workspace)
     → LiesAt site.program site.method at (returns ∷ [])
     → turn_in site (stands site at w) ≡ machine.returned_to site.others None w
 
 -- ---- to there
 
 -- A path of at least and at most so many turns leads from a state to one of which something is said.
-pub record ComesTo (site : Site) (low high least most : ℕ) (total : (Instruction → ℕ) → ℕ)
-    (Arrives : machine.State
-    → Type 0) (x : machine.State) : Type 0 where
+pub record ComesTo (site : Site) (low high : CodeOffset) (least most : ℕ)
+    (total : (Instruction → ℕ) → ℕ) (Arrives : machine.State → Type 0) (x : machine.State)
+    : Type 0 where
   pub turns : ℕ
   pub after : machine.State
   pub path : PathIn site low high turns total x after
@@ -108,17 +110,17 @@ pub record ComesTo (site : Site) (low high least most : ℕ) (total : (Instructi
   pub arrives : Arrives after
 
 -- By each answer they come there, within what is left of so many turns.
-pub record ComesToByAnswers (site : Site) (low high used most : ℕ) (total : (Instruction → ℕ) → ℕ)
-    (Arrives : machine.State → Answer
-    → Type 0) (q : Question) (then : Answer → machine.State) : Type 0 where
+pub record ComesToByAnswers (site : Site) (low high : CodeOffset) (used most : ℕ)
+    (total : (Instruction → ℕ) → ℕ) (Arrives : machine.State → Answer → Type 0) (q : Question)
+    (then : Answer → machine.State) : Type 0 where
   pub left : ℕ
   pub in_time : used + left ≤ most
   pub comes : (a : Answer) → IsTrue (fits a q)
       → ComesTo site low high 0 left total (λ y. Arrives y a) (then a)
 
 -- Both end so, both leave so, or both ask the same and the classes come there.
-abbrev pub LastInSpan : Site → ℕ → ℕ → ((Instruction → ℕ) → ℕ) → (machine.State → State → Type 0)
-    → Turn State → ℕ → ℕ → Turn machine.State → Type 0
+abbrev pub LastInSpan : Site → CodeOffset → ℕ → ((Instruction → ℕ) → ℕ)
+    → (machine.State → State → Type 0) → Turn State → ℕ → CodeOffset → Turn machine.State → Type 0
 LastInSpan site high most total Arrives (ends e) used place (ends f) = f ≡ e
 LastInSpan site high most total Arrives (leaves q e) used place (leaves r f) = (r ≡ q) × (f ≡ e)
 LastInSpan site high most total Arrives (asks q next) used place (asks r then) =
@@ -127,7 +129,7 @@ LastInSpan site high most total Arrives (asks q next) used place (asks r then) =
 LastInSpan site high most total Arrives _ used place _ = ⊥
 
 -- The classes follow so many turns of the guest, of which this is the last, to where they go on.
-abbrev pub FollowsInSpan : Site → (low high least most : ℕ) → ((Instruction → ℕ) → ℕ)
+abbrev pub FollowsInSpan : Site → (low high : CodeOffset) (least most : ℕ) → ((Instruction → ℕ) → ℕ)
     → (machine.State → State → Type 0) → machine.State
     → Turn State → Type 0
 FollowsInSpan site low high least most total Arrives x (moves t) =

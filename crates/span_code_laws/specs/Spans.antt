@@ -5,6 +5,7 @@ use Rattle.nv_words.specs.Words.{IsWord}
 use Rattle.nv_events.specs.Turn.{Turn}
 use Rattle.mips_decode.specs.State.{State}
 use Rattle.delay_slots.specs.declared.unit.Unit.{Unit}
+use Rattle.delay_slots.specs.Places.{WordIndex}
 use Rattle.delay_slots.specs.Units.{HasNoFloat, units_of}
 use Rattle.delay_slots.specs.Turns.{unit_turns, turn_count, last_turn}
 use Rattle.block_builder.specs.Blocks.{unit_at}
@@ -32,7 +33,7 @@ pub record HasSpan (site : Site) (words : List ℕ) (leads : ℕ → Bool) (span
   pub below : span.start + 4 * length words < 2 ^ 32
 
 -- The guest stands at a word of the span, with no branch pending, and the classes hold its state.
-pub record StandsAt (order : Order) (span : SpanWords) (k : ℕ) (w : Workspace) (x : State)
+pub record StandsAt (order : Order) (span : SpanWords) (k : WordIndex) (w : Workspace) (x : State)
     : Type 0 where
   pub above : span.first ≤ k
   pub below : k < span.end
@@ -43,8 +44,8 @@ pub record StandsAt (order : Order) (span : SpanWords) (k : ℕ) (w : Workspace)
 
 -- From the code of a word they follow so many turns of the guest, the last of which is made by the unit of some word, with at least as many
 -- turns and at most 264 for each of them.
-abbrev pub WordFollows : Site → Order → List Unit → (ℕ → Bool) → SpanWords → ℕ → Workspace
-    → (last_word : ℕ) → ℕ → Turn State → Type 0
+abbrev pub WordFollows : Site → Order → List Unit → (ℕ → Bool) → SpanWords → WordIndex → Workspace
+    → (last_word : WordIndex) → ℕ → Turn State → Type 0
 WordFollows site order units leads span k w last_word n last =
     FollowsInSpan site (entry_at units leads span k)
     (entry_at units leads span k + size (laid_part units leads span k)) n (264 * n)
@@ -53,15 +54,15 @@ WordFollows site order units leads span k w last_word n last =
     (stands site (entry_at units leads span k) w) last
 
 -- by the turns of its unit
-abbrev pub FollowsUnit : Site → Order → List Unit → (ℕ → Bool) → SpanWords → ℕ → Workspace → State
-    → Type 0
+abbrev pub FollowsUnit : Site → Order → List Unit → (ℕ → Bool) → SpanWords → WordIndex → Workspace
+    → State → Type 0
 FollowsUnit site order units leads span k w x =
     WordFollows site order units leads span k w k (turn_count (unit_turns (unit_at units k) x))
     (last_turn (unit_turns (unit_at units k) x))
 
 -- by the turns of the units of its piece
-abbrev pub FollowsPiece : Site → Order → List Unit → (ℕ → Bool) → SpanWords → ℕ → Workspace → State
-    → Type 0
+abbrev pub FollowsPiece : Site → Order → List Unit → (ℕ → Bool) → SpanWords → WordIndex → Workspace
+    → State → Type 0
 FollowsPiece site order units leads span k w x =
     WordFollows site order units leads span k w
     (k + length (piece_units units (piece_at units leads span k)) - 1)
@@ -72,7 +73,7 @@ FollowsPiece site order units leads span k w x =
 abbrev pub SpanWordsFollow : Type 0
 SpanWordsFollow =
     (site : Site) (order : Order) (words : List ℕ) (leads : ℕ → Bool) (span : SpanWords)
-    (k : ℕ) (w : Workspace) (x : State)
+    (k : WordIndex) (w : Workspace) (x : State)
     → HasSpan site words leads span → IsReady site order
     → StandsAt order span k w x
     → begins leads span k ≡ false
@@ -82,7 +83,7 @@ SpanWordsFollow =
 abbrev pub SpanPiecesFollow : Type 0
 SpanPiecesFollow =
     (site : Site) (order : Order) (words : List ℕ) (leads : ℕ → Bool) (span : SpanWords)
-    (k : ℕ) (w : Workspace) (x : State)
+    (k : WordIndex) (w : Workspace) (x : State)
     → HasSpan site words leads span → IsReady site order
     → StandsAt order span k w x
     → begins leads span k ≡ true

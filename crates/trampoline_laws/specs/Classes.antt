@@ -2,6 +2,7 @@
 use Rattle.std.specs.Prelude.{◌≡◌, ℕ, ◌+◌, ◌*◌, ◌%◌, ◌^◌, ◌<◌, ◌≤◌, ◌==◌, ◌&&◌, nat_le, nat_lt, Bool, true, false, if◌then◌else◌, List, [], ◌∷◌, length, map, flat_map, slice_index_or, ⊤}
 use Rattle.std.specs.List.{All, list_any, range_with_len}
 use Rattle.nv_words.specs.Words.{IsWord}
+use Rattle.delay_slots.specs.Places.{Address, WordIndex}
 use Rattle.delay_slots.specs.Units.{HasNoFloat, units_of}
 use Rattle.jvm_program.specs.Program.{Program}
 use Rattle.code_steps.specs.Placing.{LiesAt}
@@ -19,19 +20,19 @@ use Rattle.trampoline_laws.specs.Choosing.{IsMethod, IsWithin, Rise}
 -- A class of code: the range from which its words are taken, with the words that lead blocks; its own words, so many from one on; their
 -- spans, by words counted from the class's first one; and the number of its first method.
 pub record CodeClass : Type 0 where
-  pub start : ℕ
+  pub start : Address
   pub words : List ℕ
   pub leads : ℕ → Bool
-  pub first : ℕ
+  pub first : WordIndex
   pub count : ℕ
   pub spans : List Span
   pub first_method : ℕ
 
 -- the address of a word of the class, and the address behind them all
-abbrev pub address : CodeClass → ℕ → ℕ
+abbrev pub address : CodeClass → ℕ → Address
 address c k = c.start + 4 * (c.first + k)
 
-abbrev pub end_of : CodeClass → ℕ
+abbrev pub end_of : CodeClass → Address
 end_of c = address c c.count
 
 -- the class has the last words of its range
@@ -85,7 +86,7 @@ pub record HasRisingSpans (c : CodeClass) : Type 0 where
 -- end, all below address 80000000 (hexadecimal).
 pub record FillsItsAddresses (c : CodeClass) : Type 0 where
   pub within : (k : ℕ) → k < c.count → IsWithin (address c 0) (end_of c) (address c k)
-  pub only : (x : ℕ) → IsWithin (address c 0) (end_of c) x
+  pub only : (x : Address) → IsWithin (address c 0) (end_of c) x
       → (k : ℕ) × (k < c.count) × (x ≡ address c k)
   pub first_low : address c 0 < 2 ^ 31
   pub end_low : end_of c < 2 ^ 31
@@ -95,6 +96,17 @@ pub record LiesInClass (c : CodeClass) (j : ℕ) : Type 0 where
   pub some : 1 ≤ (span_at c j).words
   pub within : (span_at c j).first + (span_at c j).words ≤ c.count
   pub in_range : (span_words c j).end ≤ length c.words
+
+-- so it is for every class
+abbrev pub SpansRise : Type 0
+SpansRise = (c : CodeClass) → IsClass c → HasRisingSpans c
+
+abbrev pub WordsFillClasses : Type 0
+WordsFillClasses = (c : CodeClass) → IsClass c → FillsItsAddresses c
+
+abbrev pub SpansLieInClasses : Type 0
+SpansLieInClasses =
+    (c : CodeClass) (j : ℕ) → IsClass c → j < length c.spans → LiesInClass c j
 
 -- ---- in a program
 

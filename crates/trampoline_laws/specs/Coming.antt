@@ -1,6 +1,7 @@
 -- What the code of choosers comes to.
 use Rattle.std.specs.Prelude.{◌≡◌, ℕ, suc, ◌+◌, ◌*◌, ◌%◌, ◌^◌, ◌==◌, ◌<◌, ◌≤◌, ◌⊎◌, if◌then◌else◌, List, [], ◌∷◌, length, slice_get, Some, None}
 use Rattle.nv_words.specs.Words.{IsWord}
+use Rattle.delay_slots.specs.Places.{Address}
 use Rattle.nv_events.specs.declared.fault.Fault.{Fault}
 use Rattle.jvm_program.specs.declared.value.Value.TheVariants.{Int as int}
 use Rattle.jvm_program.specs.declared.instruction.Instruction.{Instruction}
@@ -10,6 +11,7 @@ use Rattle.jvm_program.specs.Effect.{Workspace, Effect, enters, gives, faults, w
 use Rattle.jvm_program.specs.Step.{State, Frame, placed}
 use Rattle.mips_decode.specs.Effect.{fetch_fault, pc_align_fault}
 use Rattle.code_steps.specs.declared.step.Step.{Step}
+use Rattle.code_steps.specs.Offsets.{CodeOffset}
 use Rattle.code_steps.specs.declared.step.Step.TheVariants.{Does}
 use Rattle.code_steps.specs.Widths.{bytes_before}
 use Rattle.code_steps.specs.Outcomes.{Outcome, ended, outcome, outcome_from, left, stopped}
@@ -48,20 +50,20 @@ abbrev pub begins_anew : ℕ → Workspace → Outcome
 begins_anew n u = left n 0 u
 
 -- the address in local variable 0
-abbrev pub with_address : Workspace → ℕ → Workspace
+abbrev pub with_address : Workspace → Address → Workspace
 with_address w x = with_local w 0 (int x) w.operands
 
 -- ---- outside all code
 
 -- the kind of the fault of a guest that stands at an address there
-abbrev pub stray_kind : ℕ → ℕ
+abbrev pub stray_kind : Address → ℕ
 stray_kind x = if x % 4 == 0 then fetch_fault else pc_align_fault
 
-abbrev pub stray_fault : ℕ → Fault
+abbrev pub stray_fault : Address → Fault
 stray_fault x = record { kind = stray_kind x; pc = x; value = x }
 
 -- the kind, the pc and the value on the stack, where the address is in local variable 0
-abbrev pub with_stray : Workspace → ℕ → Workspace
+abbrev pub with_stray : Workspace → Address → Workspace
 with_stray w x = with_operands (with_address w x) (int x ∷ int x ∷ int (stray_kind x) ∷ w.operands)
 
 -- ---- trees
@@ -71,7 +73,7 @@ with_stray w x = with_operands (with_address w x) (int x ∷ int x ∷ int (stra
 -- a level.
 abbrev pub TreesChoose : Type 0
 TreesChoose =
-    (program : Program) (words levels x : ℕ) (starts : List Start) (w : Workspace)
+    (program : Program) (words levels : ℕ) (x : Address) (starts : List Start) (w : Workspace)
     → AreStarts program (2 ^ levels) starts
     → IsWord x → w.locals 0 ≡ int x
     → Calls program words (3 * levels) (tree starts) w w (chosen starts x) levels ended
@@ -82,7 +84,7 @@ TreesChoose =
 -- words, and is then begun anew.
 abbrev pub ClassChoosersCall : Type 0
 ClassChoosersCall =
-    (program : Program) (words first end x : ℕ) (starts : List Start) (w : Workspace)
+    (program : Program) (words : ℕ) (first end x : Address) (starts : List Start) (w : Workspace)
     → AreStarts program 2048 starts
     → end < 2 ^ 31
     → w.fields pc_field ≡ int x → IsWithin first end x
@@ -92,7 +94,7 @@ ClassChoosersCall =
 -- Else it returns.
 abbrev pub ClassChoosersReturn : Type 0
 ClassChoosersReturn =
-    (program : Program) (words first end x : ℕ) (starts : List Start) (w : Workspace)
+    (program : Program) (words : ℕ) (first end x : Address) (starts : List Start) (w : Workspace)
     → first < 2 ^ 31 → end < 2 ^ 31
     → IsWord x → w.fields pc_field ≡ int x → (IsWithin first end x → ⊥)
     → Stops program words 12 (class_chooser starts first end) w (with_address w x)
@@ -102,7 +104,7 @@ ClassChoosersReturn =
 -- address that is not below all starts, and is then begun anew.
 abbrev pub MainChoosersCall : Type 0
 MainChoosersCall =
-    (program : Program) (words missing x : ℕ) (starts : List Start) (w : Workspace)
+    (program : Program) (words missing : ℕ) (x : Address) (starts : List Start) (w : Workspace)
     → AreStarts program 2048 starts
     → w.fields pc_field ≡ int x → IsReached starts x
     → Calls program words 42 (main_chooser starts missing) w (with_address w x)
@@ -111,7 +113,7 @@ MainChoosersCall =
 -- Else it calls the method for addresses outside all code.
 abbrev pub MainChoosersStray : Type 0
 MainChoosersStray =
-    (program : Program) (words missing x : ℕ) (starts : List Start) (w : Workspace)
+    (program : Program) (words missing : ℕ) (x : Address) (starts : List Start) (w : Workspace)
     → 1 ≤ length starts → Rise starts
     → IsMethod program missing
     → IsWord x → w.fields pc_field ≡ int x → (IsReached starts x → ⊥)
@@ -120,14 +122,15 @@ MainChoosersStray =
 -- This method ends the run in the fault of the address.
 abbrev pub StraysFault : Type 0
 StraysFault =
-    (program : Program) (words x : ℕ) (w : Workspace)
+    (program : Program) (words : ℕ) (x : Address) (w : Workspace)
     → w.fields pc_field ≡ int x
     → Stops program words 10 missing_code w (with_stray w x) (faults (stray_fault x))
 
 -- ---- one round of a chooser
 
 -- That of a class makes one choice, and calls its method once, where the address is one of the class's words; else it makes none, and returns.
-abbrev pub ClassRound : Program → (words first end x : ℕ) → List Start → Workspace → Type 0
+abbrev pub ClassRound : Program → (words : ℕ) (first end x : Address) → List Start → Workspace
+    → Type 0
 ClassRound program words first end x starts w =
     (IsWithin first end x
     × Calls program words 45 (class_chooser starts first end) w (with_address w x)
@@ -138,7 +141,7 @@ ClassRound program words first end x starts w =
 
 -- That of the whole program makes one choice where the address is a word's that is not below all starts; else it makes none, and calls the method
 -- for addresses outside all code.
-abbrev pub MainRound : Program → (words missing x : ℕ) → List Start → Workspace → Type 0
+abbrev pub MainRound : Program → (words missing : ℕ) (x : Address) → List Start → Workspace → Type 0
 MainRound program words missing x starts w =
     (IsReached starts x
     × Calls program words 42 (main_chooser starts missing) w (with_address w x)
@@ -149,12 +152,14 @@ MainRound program words missing x starts w =
 
 -- Each round makes one choice or none, and which is told by the address in field pc. Until it calls, fields, arrays and operands are as they were.
 pub record ChoosersChooseOnce : Type 0 where
-  pub class : (program : Program) (words first end x : ℕ) (starts : List Start) (w : Workspace)
+  pub class : (program : Program) (words : ℕ) (first end x : Address) (starts : List Start)
+      (w : Workspace)
       → AreStarts program 2048 starts
       → first < 2 ^ 31 → end < 2 ^ 31
       → IsWord x → w.fields pc_field ≡ int x
       → ClassRound program words first end x starts w
-  pub main : (program : Program) (words missing x : ℕ) (starts : List Start) (w : Workspace)
+  pub main : (program : Program) (words missing : ℕ) (x : Address) (starts : List Start)
+      (w : Workspace)
       → AreStarts program 2048 starts
       → IsMethod program missing
       → IsWord x → w.fields pc_field ≡ int x
@@ -166,8 +171,9 @@ pub record ChoosersChooseOnce : Type 0 where
 -- calls.
 abbrev pub PathsMakeNoCalls : Type 0
 PathsMakeNoCalls =
-    (program : Program) (words own m low high at k n : ℕ) (total : (Instruction → ℕ) → ℕ)
-    (code : List Step) (w : Workspace) (others : List Frame) (y : State)
+    (program : Program) (words own m : ℕ) (low high at : CodeOffset) (k n : ℕ)
+    (total : (Instruction → ℕ) → ℕ) (code : List Step) (w : Workspace) (others : List Frame)
+    (y : State)
     → LiesAt program own at code
     → turns_of (outcome_from program words code k w) ≡ n
     → Path program words m low high n total (placed own (at + bytes_before code k) w others) y

@@ -2,6 +2,7 @@
 use Rattle.std.specs.Prelude.{◌≡◌, ℕ, ◌+◌, ◌<◌, ◌≤◌, true, false, List, length, slice_get, Option, Some, None}
 use Rattle.std.specs.List.{All}
 use Rattle.nv_words.specs.declared.order.Order.{Order}
+use Rattle.delay_slots.specs.Places.{Address}
 use Rattle.delay_slots.specs.Turns.{HasRange}
 use Rattle.jvm_program.specs.Program.{Program}
 use Rattle.code_steps.specs.Placing.{LiesAt}
@@ -12,7 +13,7 @@ use Rattle.trampoline_laws.specs.Choosing.{AreMethods, IsMethod, IsReached, Rise
 use Rattle.trampoline_laws.specs.Classes.{CodeClass, HasClass, AreNumbered, AreOrdered, address, counted_span, counted_spans, is_span, run_of, span_starts, starts_of}
 
 -- One of the words of classes stands at an address.
-pub record IsInClass (classes : List CodeClass) (a : ℕ) : Type 0 where
+pub record IsInClass (classes : List CodeClass) (a : Address) : Type 0 where
   pub number : ℕ
   pub class : CodeClass
   pub there : slice_get classes number ≡ Some class
@@ -23,7 +24,7 @@ pub record IsInClass (classes : List CodeClass) (a : ℕ) : Type 0 where
 -- The classes have all words of the code: their ranges are its ranges.
 pub record IsCode (classes : List CodeClass) (code : ℕ → Option ℕ) : Type 0 where
   pub ranges : All (λ (c : CodeClass). HasRange code c.start c.words) classes
-  pub only : (a word : ℕ) → code a ≡ Some word → IsInClass classes a
+  pub only : (a : Address) (word : ℕ) → code a ≡ Some word → IsInClass classes a
 
 -- In a program stand the helper methods, the method that chooses among classes, the one for addresses outside all code, and the methods of the
 -- classes, whose numbers are higher.
@@ -72,7 +73,7 @@ pub record IsChosen (missing : ℕ) (classes : List CodeClass) (c : CodeClass) (
 -- the method for addresses outside all code.
 abbrev pub LeavesStrays : ℕ → List CodeClass → (ℕ → Option ℕ) → Type 0
 LeavesStrays missing classes code =
-    (x : ℕ) → IsReached (starts_of missing classes) x → code x ≡ None
+    (x : Address) → IsReached (starts_of missing classes) x → code x ≡ None
     → chosen (starts_of missing classes) x ≡ missing
 
 -- Methods of spans are told by their numbers from all other methods.
@@ -89,9 +90,11 @@ pub record TellsSpans (low : ℕ) (classes : List CodeClass) : Type 0 where
 -- Where one of two addresses lies in a span of a class and the other one does not, they do not lie
 -- in one span of the program.
 pub record KeepsApart (classes : List CodeClass) (c : CodeClass) (j : ℕ) : Type 0 where
-  pub out : (a b : ℕ) → holds (counted_span c j) a ≡ true → holds (counted_span c j) b ≡ false
+  pub out : (a b : Address)
+      → holds (counted_span c j) a ≡ true → holds (counted_span c j) b ≡ false
       → in_one_span (counted_spans classes) a b ≡ false
-  pub into : (a b : ℕ) → holds (counted_span c j) a ≡ false → holds (counted_span c j) b ≡ true
+  pub into : (a b : Address)
+      → holds (counted_span c j) a ≡ false → holds (counted_span c j) b ≡ true
       → in_one_span (counted_spans classes) a b ≡ false
 
 -- A class stands in the program, and its range is one of the code's.

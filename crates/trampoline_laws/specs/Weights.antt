@@ -1,5 +1,6 @@
 -- What the code of choosers weighs.
 use Rattle.std.specs.Prelude.{◌≡◌, ℕ, ◌+◌, Bool, true, false, List}
+use Rattle.delay_slots.specs.Places.{Address}
 use Rattle.std.specs.List.{sum_by}
 use Rattle.jvm_program.specs.declared.instruction.Instruction.{Instruction}
 use Rattle.jvm_program.specs.declared.instruction.Instruction.TheVariants.{Push, Load, Store, Array, IntArithmetic, Branch, Get, Put, Call, FaultHost, Return, NewArray}
@@ -64,7 +65,7 @@ turns_of (stopped n i w e) = n
 -- By a weight, trees and choosers weigh what their calls weigh.
 pub record WeighTheirCalls (weight : Instruction → ℕ) : Type 0 where
   pub trees : (starts : List Start) → weigh weight (tree starts) ≡ calls_weight weight starts
-  pub class_choosers : (first end : ℕ) (starts : List Start)
+  pub class_choosers : (first end : Address) (starts : List Start)
       → weigh weight (class_chooser starts first end) ≡ calls_weight weight starts
   pub main_choosers : (missing : ℕ) (starts : List Start)
       → weigh weight (main_chooser starts missing)

@@ -1,29 +1,28 @@
 //! What method a translated program chooses for an address. Each call here does nothing: its contract is the law.
 
-ghost use Rattle.std.specs.Prelude.{ℕ, ◌<◌, length};
-ghost use Rattle.trampoline_laws.specs.Classes.{CodeClass, FillsItsAddresses, HasRisingSpans, IsClass, LiesInClass};
-ghost use Rattle.trampoline_laws.specs.Found.{FoundSpan};
+ghost use Rattle.trampoline_laws.specs.Classes.{SpansLieInClasses, SpansRise, WordsFillClasses};
+ghost use Rattle.trampoline_laws.specs.Found.{WordsAreInSpans};
 ghost use Rattle.trampoline_laws.specs.Programs.{ChosenAreMethods, ClassesRise, ClassesStand, SpansAreApart, SpansAreNumbered, StraysAreMissing, WordsAreChosen};
 
 /// The spans of a class begin at addresses that rise. There is at least one of them, and there are at most 2048.
 pub fn spans_rise()
-    ensures { (c : CodeClass) → IsClass c → HasRisingSpans c }
+    ensures { SpansRise }
 {}
 
 /// Each word of a class lies in one of its spans, and that span's method is chosen for the word's address.
 pub fn words_are_in_spans()
-    ensures { (c : CodeClass) (k : ℕ) → IsClass c → k < c.count → FoundSpan c k }
+    ensures { WordsAreInSpans }
 {}
 
 /// The addresses of the words of a class are the multiples of 4 from its first word's address to before its end. All are below address
 /// 80000000 (hexadecimal).
 pub fn words_fill_classes()
-    ensures { (c : CodeClass) → IsClass c → FillsItsAddresses c }
+    ensures { WordsFillClasses }
 {}
 
 /// Each span of a class has a word, and all its words are words of the class.
 pub fn spans_lie_in_classes()
-    ensures { (c : CodeClass) (j : ℕ) → IsClass c → j < length c.spans → LiesInClass c j }
+    ensures { SpansLieInClasses }
 {}
 
 /// The classes of a translated program begin at addresses that rise, and there is at least one of them.

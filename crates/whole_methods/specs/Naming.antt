@@ -3,6 +3,7 @@ use Rattle.std.specs.Prelude.{◌≡◌, ℕ, ◌<◌, All, Bool, true, false, �
 use Rattle.std.specs.List.{list_all}
 use Rattle.nv_words.specs.declared.order.Order.{Order}
 use Rattle.delay_slots.specs.declared.unit.Unit.{Unit}
+use Rattle.delay_slots.specs.Places.{Address, WordIndex}
 use Rattle.jvm_names.specs.declared.return_name.ReturnName.{ReturnName}
 use Rattle.jvm_names.specs.declared.return_name.ReturnName.TheVariants as returns
 use Rattle.jvm_program.specs.declared.constant.Constant.TheVariants.{Text}
@@ -15,6 +16,7 @@ use Rattle.code_steps.specs.declared.step.Step.{Step}
 use Rattle.code_steps.specs.declared.step.Step.TheVariants.{Does}
 use Rattle.guest_layout.specs.Fields.{field_descriptor}
 use Rattle.guest_layout.specs.Helpers.{helper_descriptor}
+use Rattle.guest_code.specs.Units.{unit_code}
 use Rattle.mem_helpers.specs.Methods.{helper_code}
 use Rattle.lawful_units.specs.Lawful.{IsLawful}
 use Rattle.span_code.specs.declared.span_words.SpanWords.{SpanWords}
@@ -80,17 +82,24 @@ HelpersNameWell =
     → all_well is_fault class (gives_int (helper_descriptor number)) (helper_code order number)
     ≡ true
 
+-- The code of a lawful unit calls helpers alone and has no return.
+abbrev pub UnitsNameWell : Type 0
+UnitsNameWell =
+    (class : ℕ) (gives : Bool) (bank : ℕ) (at : Address) (unit : Unit)
+    → IsLawful unit
+    → all_well is_helper class gives (unit_code bank unit at) ≡ true
+
 -- The pieces in the method of a span of lawful units call helpers alone.
 abbrev pub PiecesNameWell : Type 0
 PiecesNameWell =
-    (class k : ℕ) (units : List Unit) (leads : ℕ → Bool) (span : SpanWords)
+    (class : ℕ) (k : WordIndex) (units : List Unit) (leads : ℕ → Bool) (span : SpanWords)
     → All IsLawful units
     → all_well is_helper class false (warm_part units leads span k) ≡ true
 
 -- So do words alone.
 abbrev pub WordsNameWell : Type 0
 WordsNameWell =
-    (class k : ℕ) (units : List Unit) (leads : ℕ → Bool) (span : SpanWords)
+    (class : ℕ) (k : WordIndex) (units : List Unit) (leads : ℕ → Bool) (span : SpanWords)
     → All IsLawful units
     → all_well is_helper class false (cold_part units leads span k) ≡ true
 

@@ -1,6 +1,7 @@
 -- Code that can be the code of a method, and tables of what it names.
 use Rattle.std.specs.Prelude.{◌≡◌, ℕ, ◌<◌, ◌≤◌, ◌&&◌, All, Bool, true, List, length}
 use Rattle.nv_words.specs.Words.{IsWord}
+use Rattle.delay_slots.specs.Places.{Address}
 use Rattle.delay_slots.specs.Units.{HasNoFloat, units_of}
 use Rattle.code_steps.specs.declared.step.Step.{Step}
 use Rattle.code_steps.specs.Widths.{size}
@@ -43,7 +44,7 @@ SpansAreWhole =
 -- has.
 abbrev pub ClassChoosersAreWhole : Type 0
 ClassChoosersAreWhole =
-    (r : References) (starts : List Start) (first end : ℕ)
+    (r : References) (starts : List Start) (first end : Address)
     → length r.fields ≡ 38
     → length starts ≤ 2048 → MayCallStarts (has_method r) starts
     → CanBeMethod r (class_chooser starts first end)

@@ -3,7 +3,6 @@
 ghost use Rattle.std.specs.Prelude.{◌≡◌, ℕ, Bool, true, false, List, All, Option};
 ghost use Rattle.delay_slots.specs.declared.unit.Unit.{Unit};
 ghost use Rattle.code_steps.specs.declared.step.Step.{Step};
-ghost use Rattle.guest_code.specs.Units.{unit_code};
 ghost use Rattle.word_emitter.specs.declared.extent.Extent.{Extent};
 ghost use Rattle.word_emitter.specs.Pieces.{warm_code, units_code};
 ghost use Rattle.word_emitter.specs.Exits.{exit_code};
@@ -14,7 +13,7 @@ ghost use Rattle.loading_code.specs.declared.page_slot.PageSlot.{PageSlot};
 ghost use Rattle.loading_code.specs.Filling.{fill_code};
 ghost use Rattle.loading_code.specs.Pages.{pages_code};
 ghost use Rattle.loading_code.specs.Words.{words_code};
-ghost use Rattle.whole_methods.specs.Naming.{HelpersNameWell, MayCallStarts, PiecesNameWell, RunsNameWell, SpansNameWell, WordsNameWell, all_well, is_helper};
+ghost use Rattle.whole_methods.specs.Naming.{HelpersNameWell, MayCallStarts, PiecesNameWell, RunsNameWell, SpansNameWell, UnitsNameWell, WordsNameWell, all_well, is_helper};
 
 /// Helpers call none but the two that end the run for them, and return as their descriptors say.
 pub fn helpers_name_well()
@@ -24,9 +23,7 @@ pub fn helpers_name_well()
 /// The code of a lawful unit calls helpers alone and has no return, over any bank of registers, and so has the code of lawful units one after
 /// the other, and that of a piece.
 pub fn units_name_well()
-    ensures one { (class : ℕ) (gives : Bool) (bank at : ℕ) (unit : Unit)
-        → IsLawful unit
-        → all_well is_helper class gives (unit_code bank unit at) ≡ true }
+    ensures one { UnitsNameWell }
     ensures several { (class : ℕ) (gives : Bool) (bank at : ℕ) (units : List Unit)
         → All IsLawful units
         → all_well is_helper class gives (units_code bank units at) ≡ true }

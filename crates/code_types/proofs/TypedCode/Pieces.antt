@@ -16,9 +16,10 @@ use Rattle.jvm_program.specs.Typing.{Below, below, with_stack, moves_kind}
 use Rattle.guest_layout.specs.FieldNumbers.{register_field}
 use Rattle.guest_code.specs.Access.{keeps, put_field}
 use Rattle.guest_code.specs.Units.{unit_code}
-use Rattle.word_emitter.specs.Pieces.{is_needed, is_written, needs, fetched, put_back, for_registers, units_code, bank_of, warm_code}
+use Rattle.word_emitter.specs.Pieces.{is_needed, is_written, fetched, put_back, for_registers, units_code, bank_of, warm_code}
 use Rattle.lawful_units.specs.Knowing.{gaining, gained}
-use Rattle.lawful_units.specs.Lawful.{IsLawful, KnownByUnit, AreAllKnown}
+use Rattle.lawful_units.specs.Lawful.{IsLawful, AreAllKnown}
+use Rattle.lawful_units.specs.Laws.{FirstFindsItsNeeds, NeededIsKnown, OthersFindTheirNeeds}
 use Rattle.lawful_units.proofs.PieceSets.{SetLaws, are-lawful, written-kept, known-behind}
 use Rattle.code_types.specs.Judging.{Rules, Leads}
 use Rattle.code_types.specs.Flowing.{Flows}
@@ -166,10 +167,9 @@ gained_by (unit ∷ units) known = gained_by units (gained (unit_writes unit) kn
 
 -- what is said of which registers are known
 pub record Needing : Type 0 where
-  pub unit : (unit : Unit) (known : ℕ → Bool) → IsLawful unit → AreAllKnown (needs unit) known → KnownByUnit known unit
-  pub first : (unit : Unit) (units : List Unit) (known : ℕ → Bool) → AreAllKnown (is_needed (unit ∷ units)) known → AreAllKnown (needs unit) known
-  pub others : (unit : Unit) (units : List Unit) (known : ℕ → Bool) → IsLawful unit → AreAllKnown (is_needed (unit ∷ units)) known
-      → AreAllKnown (is_needed units) (gained (unit_writes unit) known)
+  pub unit : NeededIsKnown
+  pub first : FirstFindsItsNeeds
+  pub others : OthersFindTheirNeeds
 
 pub units-lead : (rules : Rules) (law : Needing) (helpers : HelperTypes rules.program) (bank : ℕ) (units : List Unit) (known : ℕ → Bool)
     (goal : Kind) (at : ℕ) → All IsLawful units → AreAllKnown (is_needed units) known

@@ -29,7 +29,8 @@ use Rattle.span_code.specs.Laying.{entry_of, laid_step}
 use Rattle.code_types.specs.Judging.{Rules, Carries, Leads, Meets, is_no_switch, redirected}
 use Rattle.code_types.proofs.TypedSteps.Joining.{code-redirected}
 use Rattle.code_types.proofs.TypedSteps.KindOrder.{same}
-use Rattle.code_types.specs.Knowing.{ColdPartTyped, HelperTypes, Opens, WarmPartTyped, unknown}
+use Rattle.code_types.specs.Knowing.{HelperTypes, Opens, unknown}
+use Rattle.code_types.specs.Laws.{ColdPartsAreTyped, WarmPartsAreTyped}
 use Rattle.code_types.specs.Spans.{owes_unknown}
 use Rattle.code_types.proofs.TypedSpans.Fronts.{going_to, goal-met}
 
@@ -148,8 +149,7 @@ some-words units leads span k below =
 
 -- ---- the codes of words
 
-module _ (program : Program) (helpers : HelperTypes program) (warm : (units : List Unit) (last : Unit) → WarmPartTyped units last)
-    (cold : (unit : Unit) → ColdPartTyped unit) (units : List Unit) (lawful : All IsLawful units) (leads : ℕ → Bool) (span : SpanWords)
+module _ (program : Program) (helpers : HelperTypes program) (warm : WarmPartsAreTyped) (cold : ColdPartsAreTyped) (units : List Unit) (lawful : All IsLawful units) (leads : ℕ → Bool) (span : SpanWords)
     (within : span.end ≤ length units) where
   unit-lawful : (k : ℕ) → IsLawful (unit_at units k)
   unit-lawful k = elim (cases_lt k (length units)) [

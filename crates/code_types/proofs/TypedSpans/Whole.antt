@@ -17,11 +17,13 @@ use Rattle.span_code.specs.Neighbours.{address, is_inner}
 use Rattle.span_code.specs.Parts.{extent, warm_part, cold_part}
 use Rattle.span_code.specs.Laying.{warm_before, cold_before, targets_of, return_offset, span_code}
 use Rattle.span_code.specs.Locals.{locals_of}
+use Rattle.span_code.specs.Laws.{WordsKeepToTheirSpan}
 use Rattle.code_types.specs.Judging.{Rules, Leads}
 use Rattle.code_types.specs.Bodies.{BodyTypes}
 use Rattle.code_types.proofs.TypedSteps.Assembling.{parts-body}
 use Rattle.code_types.proofs.TypedSteps.Flow.{flows-from}
-use Rattle.code_types.specs.Knowing.{ColdPartTyped, HelperTypes, WarmPartTyped, unknown}
+use Rattle.code_types.specs.Knowing.{HelperTypes, unknown}
+use Rattle.code_types.specs.Laws.{ColdPartsAreTyped, WarmPartsAreTyped}
 use Rattle.code_types.specs.Spans.{SpanTyped, goals_of}
 use Rattle.code_types.proofs.TypedSpans.Names.{names-within}
 use Rattle.code_types.proofs.TypedSpans.Places.{code-is, owed-between, front, part, warm_words, cold_words, warm-is, cold-is}
@@ -42,10 +44,9 @@ words-below span i d less =
 
 -- what the laws of lower crates say
 pub record PartLaws : Type 0 where
-  pub warm : (units : List Unit) (last : Unit) → WarmPartTyped units last
-  pub cold : (unit : Unit) → ColdPartTyped unit
-  pub keep : (units : List Unit) (leads : ℕ → Bool) (span : SpanWords)
-      → list_all (keeps_to (extent span)) (warm_before units leads span span.end ++ cold_before units leads span span.end) ≡ true
+  pub warm : WarmPartsAreTyped
+  pub cold : ColdPartsAreTyped
+  pub keep : WordsKeepToTheirSpan
 
 module _ (laws : PartLaws) (program : Program) (helpers : HelperTypes program) (units : List Unit) (lawful : All IsLawful units) (leads : ℕ → Bool)
     (span : SpanWords) (within : span.end ≤ length units) where

@@ -37,7 +37,7 @@ use Rattle.guest_follows.proofs.GuestFollows.Ends.{Ends}
 use Rattle.guest_follows.proofs.GuestFollows.CodeLaws.{CodeLaws}
 use Rattle.guest_follows.proofs.RegisterLaws.Beside.{Agrees, agree-but, other-field, beside, beside-held}
 use Rattle.mem_helpers_laws.specs.Linking.{ConcludesStore, IsLinked, StoresAreConcluded, unlinked, LeavesStored, LeavesUnlinked}
-use Rattle.mem_helpers_laws.specs.Storing.{EndsFaultyStores, given_to_store, store_turns}
+use Rattle.mem_helpers_laws.specs.Storing.{FaultyConditionalStoresEnd, given_to_store, store_turns}
 use Rattle.guest_code_laws.specs.Instructions.{IsReady, InstructionFollows}
 use Rattle.guest_code_laws.proofs.InstructionLaws.Results.{CodeFollows}
 use Rattle.guest_code_laws.proofs.AccessLaws.Arranging.{given_code}
@@ -47,7 +47,7 @@ use Rattle.guest_code_laws.proofs.AccessLaws.Orders.{FollowsInItsOrder, in-each-
 
 -- the laws of the method
 pub record ConditionalLaws : Type 0 where
-  pub faulty : EndsFaultyStores Sw store_conditional_helper
+  pub faulty : FaultyConditionalStoresEnd
   pub concluded : StoresAreConcluded
 
 unlinked-agree : (w : Workspace) → Agrees w.fields (unlinked w)

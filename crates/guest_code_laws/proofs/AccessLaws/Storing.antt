@@ -36,7 +36,7 @@ use Rattle.guest_follows.specs.Behind.{IsDone}
 use Rattle.guest_follows.proofs.GuestFollows.Ends.{Ends}
 use Rattle.guest_follows.proofs.GuestFollows.CodeLaws.{CodeLaws}
 use Rattle.guest_follows.proofs.RegisterLaws.Beside.{agree-but, agree-itself, beside, beside-held}
-use Rattle.mem_helpers_laws.specs.Storing.{EndsFaultyStores, StoresAreDone, HoldsTables, EndsStore, LeavesMemory, given_to_store, store_turns, store_fault_turns}
+use Rattle.mem_helpers_laws.specs.Storing.{FaultyStoresEnd, StoresAreDone, HoldsTables, EndsStore, LeavesMemory, given_to_store, store_turns, store_fault_turns}
 use Rattle.guest_code_laws.specs.Instructions.{IsReady, InstructionFollows}
 use Rattle.guest_code_laws.proofs.InstructionLaws.Results.{CodeFollows}
 use Rattle.guest_code_laws.proofs.AccessLaws.Arranging.{Brings, given_code, address-brought, register-brought, register-within, address-within, enters-with-three}
@@ -89,7 +89,7 @@ module _ (laws : CodeLaws) (site : Site) (bank : ℕ) (known : ℕ → Bool) (at
 -- ---- the laws of the methods that store
 
 pub record StoreLaws : Type 0 where
-  pub faulty : (name : StoreName) → EndsFaultyStores name (store_helper name)
+  pub faulty : FaultyStoresEnd
   pub stores : StoresAreDone
 
 pub tables : (bank : ℕ) (known : ℕ → Bool) (w : Workspace) (s : State) (h : HoldsOn bank known w s) → HoldsTables w h.readable h.writable s.memory

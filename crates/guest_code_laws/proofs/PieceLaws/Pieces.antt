@@ -5,6 +5,7 @@ use Rattle.nv_events.specs.Turn.{Turn, moves, ends, leaves, asks}
 use Rattle.mips_decode.specs.State.{State}
 use Rattle.delay_slots.specs.declared.unit.Unit.{Unit as Word}
 use Rattle.delay_slots.specs.Turns.{UnitTurns, one_turn, two_turns, unit_turns, turn_count, last_turn}
+use Rattle.block_builder.specs.Laws.{InstructionsChangeWhatTheyWrite}
 use Rattle.jvm_program.specs.Effect.{Workspace}
 use Rattle.code_steps.specs.declared.step.Step.{Step}
 use Rattle.code_steps.specs.Widths.{size}
@@ -24,7 +25,6 @@ use Rattle.guest_code_laws.proofs.PieceLaws.Behind.{three-parts}
 use Rattle.guest_code_laws.proofs.PieceLaws.Fetching.{each_code, fetched-within, fetches, puts-back}
 use Rattle.guest_code_laws.proofs.PieceLaws.Running.{HasRun, NeedLaws, units-follow}
 use Rattle.guest_code_laws.proofs.PieceLaws.Sets.{needed-first}
-use Rattle.guest_code_laws.proofs.PieceLaws.Turns.{ChangeWritten}
 use Rattle.guest_code_laws.proofs.PieceLaws.Within.{units-stay}
 
 -- a piece has a turn
@@ -39,7 +39,7 @@ some-more n (ends e) rest some = some
 some-more n (leaves q e) rest some = some
 some-more n (asks q next) rest some = some
 
-module _ (laws : PathLaws) (sets : SetLaws) (change : ChangeWritten) (need : NeedLaws)
+module _ (laws : PathLaws) (sets : SetLaws) (change : InstructionsChangeWhatTheyWrite) (need : NeedLaws)
     (unit_follows : (unit : Word) → IsLawful unit → UnitFollows unit) where
   module _ (unit : Word) (rest : List Word) (lawful : AreLawful (unit ∷ rest)) (straight : AreStraight (unit ∷ rest)) (site : Site) (order : Order)
       (at : ℕ) (w : Workspace) (x : State) (ready : IsReady site order) (order_is : x.order ≡ order) (free : x.pending ≡ None)

@@ -8,6 +8,7 @@ use Rattle.mips_decode.specs.State.{State}
 use Rattle.delay_slots.specs.declared.unit.Unit.{Unit as Word}
 use Rattle.delay_slots.specs.declared.unit.Unit.TheVariants as units
 use Rattle.delay_slots.specs.Turns.{done, unit_turns, turn_count, last_turn}
+use Rattle.block_builder.specs.Laws.{InstructionsChangeWhatTheyWrite}
 use Rattle.block_builder.specs.Registers.{unit_writes, written_by}
 use Rattle.jvm_program.specs.declared.instruction.Instruction.{Instruction}
 use Rattle.jvm_program.specs.Effect.{Workspace}
@@ -16,9 +17,10 @@ use Rattle.code_steps.specs.declared.step.Step.{Step}
 use Rattle.code_steps.specs.Widths.{size}
 use Rattle.code_steps.specs.Placing.{LiesAt}
 use Rattle.guest_code.specs.Units.{unit_code}
-use Rattle.word_emitter.specs.Pieces.{is_needed, is_written, needs, units_code}
+use Rattle.word_emitter.specs.Pieces.{is_needed, is_written, units_code}
 use Rattle.lawful_units.specs.Knowing.{gained}
 use Rattle.lawful_units.specs.Lawful.{AreAllKnown, IsLawful, KnownByUnit, has_register}
+use Rattle.lawful_units.specs.Laws.{FirstFindsItsNeeds, NeededIsKnown, OthersFindTheirNeeds}
 use Rattle.lawful_units.proofs.PieceSets.{AreLawful, SetLaws}
 use Rattle.code_paths.proofs.Joining.{no-turns, path-wider}
 use Rattle.guest_follows.specs.Holding.{HoldsOn, Keeps, KeepsGoal}
@@ -32,7 +34,7 @@ use Rattle.guest_code_laws.specs.Units.{UnitArrives, UnitFollows}
 use Rattle.guest_code_laws.proofs.UnitLaws.Joining.{Maps, follows-after}
 use Rattle.guest_code_laws.specs.Pieces.{AreStraight, PieceGoal, UnitGoal, piece_turns, then_turns}
 use Rattle.guest_code_laws.proofs.PieceLaws.Behind.{maps-all}
-use Rattle.guest_code_laws.proofs.PieceLaws.Turns.{ChangeWritten, GoesOrEnds, IsPast, LeavesOthers, Reaches, plain-past, unit-leaves}
+use Rattle.guest_code_laws.proofs.PieceLaws.Turns.{GoesOrEnds, IsPast, LeavesOthers, Reaches, plain-past, unit-leaves}
 use Rattle.guest_code_laws.proofs.PieceLaws.Within.{unit-stays}
 
 -- Where the code of units has come to its end, over a bank.
@@ -44,10 +46,9 @@ pub record HasRun (bank : ℕ) (known : ℕ → Bool) (piece : List Word) (x : S
 
 -- what lawful units need is known before them
 pub record NeedLaws : Type 0 where
-  pub unit_known : (unit : Word) (known : ℕ → Bool) → IsLawful unit → AreAllKnown (needs unit) known → KnownByUnit known unit
-  pub first_known : (unit : Word) (rest : List Word) (known : ℕ → Bool) → AreAllKnown (is_needed (unit ∷ rest)) known → AreAllKnown (needs unit) known
-  pub others_known : (unit : Word) (rest : List Word) (known : ℕ → Bool) → IsLawful unit → AreAllKnown (is_needed (unit ∷ rest)) known
-      → AreAllKnown (is_needed rest) (gained (unit_writes unit) known)
+  pub unit_known : NeededIsKnown
+  pub first_known : FirstFindsItsNeeds
+  pub others_known : OthersFindTheirNeeds
 
 -- ---- the last unit
 
@@ -196,7 +197,7 @@ run-more sets bank known i next rest x t s w u v is leaves_others done run = rec
     goal-more (units.Trap kind value) [] first goal = goal
     goal-more next (other ∷ rest) first goal = goal-more other rest first goal
 
-module _ (laws : PathLaws) (sets : SetLaws) (change : ChangeWritten) (need : NeedLaws)
+module _ (laws : PathLaws) (sets : SetLaws) (change : InstructionsChangeWhatTheyWrite) (need : NeedLaws)
     (unit_follows : (unit : Word) → IsLawful unit → UnitFollows unit) (site : Site) (order : Order) (bank : ℕ) (ready : IsReady site order) where
   abbrev RunsFrom : List Word → (ℕ → Bool) → ℕ → Workspace → State → ℕ → Type 0
   RunsFrom piece known at w x pc = Follows site at (at + size (units_code bank piece pc)) (piece_turns piece x).0 (132 * (piece_turns piece x).0)

@@ -24,6 +24,7 @@ use Rattle.delay_slots.specs.Turns.{UnitTurns, one_turn, two_turns, done, done_b
 use Rattle.delay_slots.specs.Units.{is_branch}
 use Rattle.block_builder.specs.Registers.{Register, general, special, written_by, unit_writes}
 use Rattle.block_builder.specs.Dependence.{ChangesOnly, KeepsOthers}
+use Rattle.block_builder.specs.Laws.{InstructionsChangeWhatTheyWrite}
 use Rattle.lawful_units.specs.Lawful.{has_own_unit, has_register, is_general}
 
 -- ---- a Plain unit goes on to the next word, or faults
@@ -192,11 +193,7 @@ left-by-turn changed s (ends e) a = tt
 left-by-turn changed s (leaves q e) a = tt
 left-by-turn changed s (asks q next) a = λ answer. others-left changed s (next answer) (a answer)
 
--- the law that an instruction changes only the registers that it writes
-abbrev pub ChangeWritten : Type 0
-ChangeWritten = (i : Inst) (s : State) → ChangesOnly (written_by i) s (done i s)
-
-unit-changes : ChangeWritten → (unit : Word) (x : State) → ChangesOnly (unit_writes unit) x (last_turn (unit_turns unit x))
+unit-changes : InstructionsChangeWhatTheyWrite → (unit : Word) (x : State) → ChangesOnly (unit_writes unit) x (last_turn (unit_turns unit x))
 unit-changes change (units.Plain i) x = change i x
 unit-changes change (units.Branch i slot) x = changes-slot (written_by i) (written_by slot) x (done i x) (done slot) (change i x) (change slot)
 unit-changes change (units.SlotMissing i) x =
@@ -220,11 +217,11 @@ past-by written x (ends e) next left = tt
 past-by written x (leaves q e) next left = absurd next
 past-by written x (asks q after) next left = absurd next
 
-pub plain-past : ChangeWritten → (i : Inst) (x : State) → x.pending ≡ None → is_branch i ≡ false → has_own_unit i ≡ false
+pub plain-past : InstructionsChangeWhatTheyWrite → (i : Inst) (x : State) → x.pending ≡ None → is_branch i ≡ false → has_own_unit i ≡ false
     → GoesOrEnds (IsPast (written_by i) x) (done i x)
 plain-past change i x free none own =
     past-by (written_by i) x (done i x) (plain-next i x free none own) (left-by-turn (written_by i) x (done i x) (change i x))
 
-pub unit-leaves : ChangeWritten → (unit : Word) (x : State)
+pub unit-leaves : InstructionsChangeWhatTheyWrite → (unit : Word) (x : State)
     → Reaches (LeavesOthers (has_register (unit_writes unit)) x) (last_turn (unit_turns unit x))
 unit-leaves change unit x = left-by-turn (unit_writes unit) x (last_turn (unit_turns unit x)) (unit-changes change unit x)

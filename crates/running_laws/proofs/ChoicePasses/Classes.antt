@@ -20,14 +20,15 @@ use Rattle.span_code_laws.specs.GuestFollows.Sites as sites
 use Rattle.span_code_laws.specs.GuestCodeLaws.Pieces.{HoldsAll}
 use Rattle.span_code_laws.specs.Entering.{entering, IsEntered}
 use Rattle.span_code_laws.specs.Resuming.{FieldsHoldAll}
-use Rattle.trampoline_laws.specs.Choosing.{chosen, IsWithin, IsReached}
+use Rattle.trampoline_laws.specs.Choosing.{AreStarts, chosen, IsWithin, IsReached}
 use Rattle.trampoline_laws.specs.Coming.{Calls, begins_anew, with_address}
 use Rattle.trampoline_laws.specs.Weights.{beside_calls}
 use Rattle.trampoline_laws.specs.Classes.{CodeClass, address, end_of, run_of, span_at, span_words, span_starts, starts_of, is_span}
-use Rattle.trampoline_laws.specs.Programs.{IsTranslated}
+use Rattle.trampoline_laws.specs.Programs.{IsTranslated, StandsInProgram}
 use Rattle.running_laws.specs.Going.{ComesTo, Waits, with_frame, work_of}
 use Rattle.running_laws.specs.Standing.{IsGuest, StandsChoosing, AtChoose, AtRun, AtWord, span_site, word_entry}
-use Rattle.running_laws.proofs.ChoicePasses.Given.{CodeLaws, ChooserLaws, SpanLaws, ClassFacts, ProgramFacts}
+use Rattle.running_laws.proofs.ChoicePasses.Given.{CodeLaws, ChooserLaws, SpanLaws, ClassLaws, ProgramLaws}
+use Rattle.running_laws.proofs.ChoicePasses.Starts.{class-starts, main-starts, stands-in}
 use Rattle.running_laws.proofs.ChoicePasses.Going.{Moves, Leads, moves-path, moves-so, leads-then, comes-so}
 use Rattle.running_laws.proofs.ChoicePasses.Choosing.{IsSilent, Entered, call-comes, return-comes}
 use Rattle.running_laws.proofs.ChoicePasses.Ranges.{within-or-not}
@@ -86,7 +87,7 @@ module _ (laws : CodeLaws) (choosers : ChooserLaws) (spans : SpanLaws) (program 
   abbrev numbers : ℕ → Bool
   numbers = is_span classes
 
-  module _ (number : ℕ) (c : CodeClass) (there : slice_get classes number ≡ Some c) (facts : ClassFacts program missing classes code c) (t : guest.State) where
+  module _ (class_laws : ClassLaws) (number : ℕ) (c : CodeClass) (there : slice_get classes number ≡ Some c) (stands : StandsInProgram program code c) (starts : AreStarts program 2048 (span_starts c)) (t : guest.State) where
     -- its method that chooses
     abbrev chooser : List Step
     chooser = class_chooser (span_starts c) (address c 0) (end_of c)
@@ -105,9 +106,9 @@ module _ (laws : CodeLaws) (choosers : ChooserLaws) (spans : SpanLaws) (program 
             let others = e.waiting ∷ below in
             let site = span_site program words c j others in
             let u = body_workspace [] v in
-            let has = facts.stands.has in
+            let has = stands.has in
             let is_class = has.is_class in
-            let high = (facts.span_lies j j_below).in_range in
+            let high = (class_laws.lie c j is_class j_below).in_range in
             let low = is_class.low in
             let enter : IsEntered site (units_of c.words) c.leads own_words u (word_entry c j (c.first + k)) = (spans.enters site (units_of c.words) c.leads own_words (has.spans_lie j j_below) (omega (arith, high, low))).words (c.first + k) u (omega (arith, from)) (omega (arith, to)) (pc_is ∙ ap int pc) in
             let units = units_of c.words in
@@ -148,23 +149,26 @@ module _ (laws : CodeLaws) (choosers : ChooserLaws) (spans : SpanLaws) (program 
       -- from the class's method that chooses
       pub run-enters : (order : Order) → IsGuest order code t → (k : ℕ) → k < c.count → t.pc ≡ address c k → (y : State) → StandsChoosing (run_of c) below y t → Leads program words numbers 60 1 1 (λ z. AtWord program words order classes choose z t) y
       run-enters order guest_is k less pc y s =
-          let found = facts.found k less in
+          let is_class = stands.has.is_class in
+          let found = class_laws.found c k is_class less in
+          let fills = class_laws.fill c is_class in
           let callee = c.first_method + found.number in
           let w = s.workspace in
           let v = with_address w t.pc in
-          let within : IsWithin (address c 0) (end_of c) t.pc = subst (IsWithin (address c 0) (end_of c)) (sym pc) (facts.fills.within k less) in
+          let within : IsWithin (address c 0) (end_of c) t.pc = subst (IsWithin (address c 0) (end_of c)) (sym pc) (fills.within k less) in
           let is_chosen : chosen (span_starts c) t.pc ≡ callee = ap (chosen (span_starts c)) pc ∙ found.chosen_is in
-          let call : Calls program words 45 chooser w v callee 12 begins_anew = subst (λ m. Calls program words 45 chooser w v m 12 begins_anew) is_chosen (choosers.class_calls program words (address c 0) (end_of c) t.pc (span_starts c) w facts.starts facts.fills.end_low s.pc_is within) in
+          let call : Calls program words 45 chooser w v callee 12 begins_anew = subst (λ m. Calls program words 45 chooser w v m 12 begins_anew) is_chosen (choosers.class_calls program words (address c 0) (end_of c) t.pc (span_starts c) w starts fills.end_low s.pc_is within) in
           let start = placed (run_of c) 0 w below in
           let Arrives : State → Type 0 = λ z. AtWord program words order classes choose z t in
           subst (λ (z : State). Leads program words numbers 60 1 1 Arrives z) (sym s.is_there)
           (leads-then program words numbers 46 14 0 1 1 0 (Entered program words numbers (run_of c) callee v below) Arrives start
-          (call-comes laws program words numbers (run_of c) chooser facts.stands.has.run_lies (class-silent choosers (address c 0) (end_of c) (span_starts c)) 45 12 callee 1 w v below (omega arith) s.no_operands (omega arith) (one-entry (numbers callee)) call)
+          (call-comes laws program words numbers (run_of c) chooser stands.has.run_lies (class-silent choosers (address c 0) (end_of c) (span_starts c)) 45 12 callee 1 w v below (omega arith) s.no_operands (omega arith) (one-entry (numbers callee)) call)
           (enters-word order guest_is found.number k found.below found.begins found.ends pc v (spans.held w v t refl refl s.held) s.pc_is))
 
       -- where its address is another class's, it returns, and the method that waits below it is begun anew
       pub run-returns : IsWord t.pc → (IsWithin (address c 0) (end_of c) t.pc → ⊥) → (y : State) → StandsChoosing (run_of c) below y t → Leads program words numbers 25 0 0 (λ z. StandsChoosing choose (at_start ∷ []) z t) y
       run-returns word outside y s =
+          let fills = class_laws.fill c stands.has.is_class in
           let w = s.workspace in
           let v = with_address w t.pc in
           let start = placed (run_of c) 0 w below in
@@ -172,36 +176,38 @@ module _ (laws : CodeLaws) (choosers : ChooserLaws) (spans : SpanLaws) (program 
           let Between : State → Type 0 = λ z. z ≡ with_frame in_main (at_start ∷ []) v.fields v.heap in
           subst (λ (z : State). Leads program words numbers 25 0 0 Arrives z) (sym s.is_there)
           (leads-then program words numbers 13 12 0 0 0 0 Between Arrives start
-          (return-comes laws program words numbers (run_of c) chooser facts.stands.has.run_lies (class-silent choosers (address c 0) (end_of c) (span_starts c)) 12 w v v in_main (at_start ∷ [])
-          (choosers.class_returns program words (address c 0) (end_of c) t.pc (span_starts c) w facts.fills.first_low facts.fills.end_low word s.pc_is outside))
+          (return-comes laws program words numbers (run_of c) chooser stands.has.run_lies (class-silent choosers (address c 0) (end_of c) (span_starts c)) 12 w v v in_main (at_start ∷ [])
+          (choosers.class_returns program words (address c 0) (end_of c) t.pc (span_starts c) w fills.first_low fills.end_low word s.pc_is outside))
           (λ z is. back-chooses program words numbers spans.held choose in_main (at_start ∷ []) t v z waits (spans.held w v t refl refl s.held) s.pc_is is))
 
   -- ---- the whole program
 
-  module _ (order : Order) (is_in : IsTranslated program order choose missing classes code) (facts : ProgramFacts program is_in.low missing classes code) (t : guest.State) (guest_is : IsGuest order code t) where
+  module _ (program_laws : ProgramLaws) (order : Order) (is_in : IsTranslated program order choose missing classes code) (t : guest.State) (guest_is : IsGuest order code t) where
     abbrev main : List Step
     main = main_chooser (starts_of missing classes) missing
 
     abbrev Words : State → Type 0
     Words z = AtWord program words order classes choose z t
 
+    abbrev class_laws : ClassLaws
+    class_laws = program_laws.classes
+
     -- from the method that chooses among classes
     pub choose-enters : (number : ℕ) (c : CodeClass) (there : slice_get classes number ≡ Some c) (k : ℕ) (at_start : Frame) (y : State) → k < c.count → t.pc ≡ address c k → StandsChoosing choose (at_start ∷ []) y t → Leads program words numbers 103 1 1 Words y
     choose-enters number c there k at_start y less pc s =
-        let class = facts.class number c there in
         let starts = starts_of missing classes in
         let callee = run_of c in
         let w = s.workspace in
         let v = with_address w t.pc in
-        let choice = class.is_chosen k less in
+        let choice = program_laws.chosen program order choose missing classes code is_in number c k there less in
         let reached : IsReached starts t.pc = subst (IsReached starts) (sym pc) choice.reached in
         let is_chosen : chosen starts t.pc ≡ callee = ap (chosen starts) pc ∙ choice.own in
-        let call : Calls program words 42 main w v callee 12 begins_anew = subst (λ m. Calls program words 42 main w v m 12 begins_anew) is_chosen (choosers.main_calls program words missing t.pc starts w facts.starts s.pc_is reached) in
+        let call : Calls program words 42 main w v callee 12 begins_anew = subst (λ m. Calls program words 42 main w v m 12 begins_anew) is_chosen (choosers.main_calls program words missing t.pc starts w (main-starts program_laws program order choose missing classes code is_in) s.pc_is reached) in
         let start = placed choose 0 w (at_start ∷ []) in
         subst (λ (z : State). Leads program words numbers 103 1 1 Words z) (sym s.is_there)
         (leads-then program words numbers 43 60 0 0 1 1 (Entered program words numbers choose callee v (at_start ∷ [])) Words start
-        (call-comes laws program words numbers choose main is_in.choose_lies (main-silent choosers missing starts) 42 12 callee 0 w v (at_start ∷ []) (omega arith) s.no_operands (omega arith) (no-entry (numbers callee) (facts.told.runs number c there)) call)
-        (λ z e. run-enters number c there class t e.waiting at_start e.waits order guest_is k less pc z
+        (call-comes laws program words numbers choose main is_in.choose_lies (main-silent choosers missing starts) 42 12 callee 0 w v (at_start ∷ []) (omega arith) s.no_operands (omega arith) (no-entry (numbers callee) ((program_laws.numbered program order choose missing classes code is_in).runs number c there)) call)
+        (λ z e. run-enters class_laws number c there (stands-in program_laws program order choose missing classes code is_in number c there) (class-starts program_laws program order choose missing classes code is_in number c there) t e.waiting at_start e.waits order guest_is k less pc z
         (record { workspace = body_workspace [] v; held = spans.held w (body_workspace [] v) t refl refl s.held; no_operands = refl; pc_is = s.pc_is; is_there = e.is_there })))
 
     module _ (word : ℕ) (found : code t.pc ≡ Some word) (y : State) where
@@ -216,15 +222,14 @@ module _ (laws : CodeLaws) (choosers : ChooserLaws) (spans : SpanLaws) (program 
         where
           by_case : IsWithin (address s.class 0) (end_of s.class) t.pc ⊎ (IsWithin (address s.class 0) (end_of s.class) t.pc → ⊥) → ComesTo program words numbers 150 0 1 Words y
           by_case (inl within) =
-              let class = facts.class s.number s.class s.there in
-              let k = class.fills.only t.pc within in
+              let stands = stands-in program_laws program order choose missing classes code is_in s.number s.class s.there in
+              let k = (class_laws.fill s.class stands.has.is_class).only t.pc within in
               comes-so program words numbers 60 150 1 Words y (omega arith)
-              (run-enters s.number s.class s.there class t s.in_main s.at_start s.main_waits order guest_is k.0 k.1 k.2 y s.stands)
+              (run-enters class_laws s.number s.class s.there stands (class-starts program_laws program order choose missing classes code is_in s.number s.class s.there) t s.in_main s.at_start s.main_waits order guest_is k.0 k.1 k.2 y s.stands)
           by_case (inr outside) =
-              let class = facts.class s.number s.class s.there in
               let a = is_in.code_is.only t.pc word found in
               let Between : State → Type 0 = λ z. StandsChoosing choose (s.at_start ∷ []) z t in
               comes-so program words numbers 128 150 1 Words y (omega arith)
               (leads-then program words numbers 25 103 0 0 1 1 Between Words y
-              (run-returns s.number s.class s.there class t s.in_main s.at_start s.main_waits low outside y s.stands)
+              (run-returns class_laws s.number s.class s.there (stands-in program_laws program order choose missing classes code is_in s.number s.class s.there) (class-starts program_laws program order choose missing classes code is_in s.number s.class s.there) t s.in_main s.at_start s.main_waits low outside y s.stands)
               (λ z h. choose-enters a.number a.class a.there a.word s.at_start z a.below a.is_there h))

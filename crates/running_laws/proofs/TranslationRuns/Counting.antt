@@ -33,10 +33,10 @@ credit-within classes Switches x = owed-few classes x.frames
 credit-within classes Entries x = owed-few classes x.frames
 
 pub looks-at-no-target : (laws : LoadingLaws) (classes : List CodeClass) (i : Counted) → LooksAtNoTarget (weight classes i)
-looks-at-no-target laws classes Reads = laws.look_reads
-looks-at-no-target laws classes Chars = laws.look_chars
-looks-at-no-target laws classes Switches = laws.look_switches
-looks-at-no-target laws classes Entries = laws.look_entries (is_span classes)
+looks-at-no-target laws classes Reads = laws.looks.of_reads
+looks-at-no-target laws classes Chars = laws.looks.of_chars
+looks-at-no-target laws classes Switches = laws.looks.of_switches
+looks-at-no-target laws classes Entries = laws.looks.of_entries (is_span classes)
 
 pub counts-nothing : (classes : List CodeClass) (choose : ℕ) → is_span classes choose ≡ false → (i : Counted) (total : (Instruction → ℕ) → ℕ) → CountNothing choose total → total (weight classes i) ≡ 0
 counts-nothing classes choose none Reads total c = c.no_reads

@@ -113,7 +113,7 @@ module _ (laws : LoadingLaws) (t : TranslatedProgram) (is : IsTranslatedProgram 
   pub none-entered : sum_by counted_entries (moved (turn t.program t.words) loads-to-rest.class_turns (start t.program)) ≡ 0
   unfolding loads-to-rest loads-to-begun rests-so loads-in-runs
   none-entered =
-      let counts = (loads.reaches.reaches.path 0).counts (entries (is_span t.classes)) (laws.look_entries (is_span t.classes)) in
+      let counts = (loads.reaches.reaches.path 0).counts (entries (is_span t.classes)) (laws.looks.of_entries (is_span t.classes)) in
       let none = loads.reaches.quiet.no_entries in
       omega (arith, counts, none)
 

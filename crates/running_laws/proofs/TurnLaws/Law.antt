@@ -11,15 +11,18 @@ use Rattle.jvm_program.specs.Program.{Program}
 use Rattle.jvm_program.specs.Step.{State, turn}
 use Rattle.trampoline_laws.specs.Coming.{stray_fault}
 use Rattle.trampoline_laws.specs.Classes.{CodeClass, is_span, run_of}
+use Rattle.trampoline_laws.specs.Programs.{IsTranslated, TellsSpans}
 use Rattle.running_laws.specs.Going.{ComesTo}
+use Rattle.running_laws.specs.Choosing.{ChoosesWords}
 use Rattle.running_laws.specs.Standing.{IsGuest, IsStray, AtChoose, AtRun, AtWord, EndsStray}
 use Rattle.running_laws.specs.Counted.{Counted, paid, credit, pair}
 use Rattle.running_laws.specs.Rests.{AtUnit, Rests, StandsSomewhere}
 use Rattle.running_laws.specs.Marks.{MarksPieces}
-use Rattle.running_laws.proofs.TurnLaws.Given.{UnitLaws, SpanLaws, ProgramFacts}
+use Rattle.running_laws.proofs.TurnLaws.Given.{UnitLaws, SpanLaws, ProgramLaws}
 use Rattle.running_laws.proofs.TurnLaws.Inner.{is_outer_turn}
 use Rattle.running_laws.proofs.TurnLaws.Turning.{HasTurns, IsLike, Walks, classes-pass, outer-follows, trail_to}
 use Rattle.running_laws.proofs.TurnLaws.Credits.{credit-choosing, credit-in-span, entry, goes-none, goes-one}
+use Rattle.running_laws.proofs.TurnLaws.Spans.{told}
 use Rattle.running_laws.proofs.TurnLaws.Units.{piece-follows, word-follows, word_limit}
 
 -- ---- a wider limit
@@ -68,7 +71,7 @@ module _ {G J I : Type 0} (p : Pair G J I) (Rest : G → J → Type 0) (limit wi
 abbrev pub turn_limit : ℕ → ℕ
 turn_limit n = 512 * n
 
-module _ (unit_laws : UnitLaws) (laws : SpanLaws) (program : Program) (words : ℕ) (order : Order) (choose : ℕ) (classes : List CodeClass) (code : ℕ → Option ℕ) (facts : ProgramFacts program words order choose classes code) (marked : guest.State → Bool) (marks : MarksPieces classes marked) where
+module _ (unit_laws : UnitLaws) (laws : SpanLaws) (program_laws : ProgramLaws) (program : Program) (words : ℕ) (order : Order) (choose missing : ℕ) (classes : List CodeClass) (code : ℕ → Option ℕ) (is_in : IsTranslated program order choose missing classes code) (marked : guest.State → Bool) (marks : MarksPieces classes marked) where
   abbrev Rest : guest.State → State → Type 0
   Rest t y = Rests program words order choose classes code t y
 
@@ -78,22 +81,28 @@ module _ (unit_laws : UnitLaws) (laws : SpanLaws) (program : Program) (words : �
   abbrev Words : guest.State → State → Type 0
   Words t z = AtWord program words order classes choose z t
 
+  spans-told : TellsSpans is_in.low classes
+  spans-told = told program_laws program order choose missing classes code is_in
+
+  leads : ChoosesWords program words order choose classes code
+  leads = program_laws.lead program words order choose missing classes code is_in
+
   -- ---- at the code of a word, or of a unit
 
   word-turn : (t : guest.State) (y : State) → IsGuest order code t → AtWord program words order classes choose y t → Follows machines Rest word_limit t y
   word-turn t y guest_is s =
       subst (Follows machines Rest word_limit t) (sym s.is_there)
-      (word-follows unit_laws laws program words order choose classes code facts marked marks s.number s.class s.there s.span s.span_below s.others s.below t guest_is s.word s.workspace s.stands)
+      (word-follows unit_laws laws program_laws program words order choose missing classes code is_in marked marks s.number s.class s.there s.span s.span_below s.others s.below t guest_is s.word s.workspace s.stands)
 
   unit-turn : (t : guest.State) (y : State) → IsGuest order code t → AtUnit program words order classes choose y t → Follows machines Rest (λ n. 132 * n + 83) t y
   unit-turn t y guest_is s =
       subst (Follows machines Rest (λ n. 132 * n + 83) t) (sym s.is_there)
-      (piece-follows unit_laws laws program words order choose classes code facts marked marks s.number s.class s.there s.span s.span_below s.others s.below t guest_is s.word s.front s.unit s.rest s.workspace s.held)
+      (piece-follows unit_laws laws program_laws program words order choose missing classes code is_in marked marks s.number s.class s.there s.span s.span_below s.others s.below t guest_is s.word s.front s.unit s.rest s.workspace s.held)
 
   word-credit : (i : Counted) (t : guest.State) (z : State) → Words t z → credit classes i z ≡ 0
   word-credit i t z s =
       let c = s.class in
-      credit-in-span classes i z (c.first_method + s.span) _ s.workspace s.others s.is_there (facts.told.spans s.number c s.span s.there s.span_below)
+      credit-in-span classes i z (c.first_method + s.span) _ s.workspace s.others s.is_there (spans-told.spans s.number c s.span s.there s.span_below)
 
   -- ---- where a span is chosen first
 
@@ -112,7 +121,7 @@ module _ (unit_laws : UnitLaws) (laws : SpanLaws) (program : Program) (words : �
   stray-turn t y guest_is stray c =
       let end = «fault» (stray_fault t.pc) in
       let last : Turn guest.State = ends end in
-      let made : HasTurns marked t last = record { earlier = 0; few = omega arith; before = t; comes = refl; last_is = facts.stray_guest order code t guest_is stray; hidden = λ some. absurd (omega (arith, some)) } in
+      let made : HasTurns marked t last = record { earlier = 0; few = omega arith; before = t; comes = refl; last_is = program_laws.stray order code t guest_is stray; hidden = λ some. absurd (omega (arith, some)) } in
       let walks : Walks program words classes (λ i. 0) c.turns y c.after = goes-none classes program words c.turns y c.after c.goes in
       let in_time = c.in_time in
       let is : turn program words c.after ≡ ends end = c.arrives in
@@ -131,20 +140,20 @@ module _ (unit_laws : UnitLaws) (laws : SpanLaws) (program : Program) (words : �
       follows-wider machines Rest (λ n. 132 * n + 295) turn_limit (λ n. omega arith) t y (chosen-turn t y guest_is one (enters w is))
 
   run-credit : (i : Counted) (t : guest.State) (y : State) → AtRun program words classes choose y t → credit classes i y ≡ entry i
-  run-credit i t y s = credit-choosing classes i y (run_of s.class) 0 s.stands.workspace (s.in_main ∷ s.at_start ∷ []) s.stands.is_there (facts.told.runs s.number s.class s.there)
+  run-credit i t y s = credit-choosing classes i y (run_of s.class) 0 s.stands.workspace (s.in_main ∷ s.at_start ∷ []) s.stands.is_there (spans-told.runs s.number s.class s.there)
 
   choose-credit : (i : Counted) (t : guest.State) (y : State) → AtChoose choose y t → credit classes i y ≡ entry i
-  choose-credit i t y s = credit-choosing classes i y choose 0 s.stands.workspace (s.at_start ∷ []) s.stands.is_there facts.chooses
+  choose-credit i t y s = credit-choosing classes i y choose 0 s.stands.workspace (s.at_start ∷ []) s.stands.is_there (spans-told.lower choose is_in.choose_low)
 
   rest-turn : (t : guest.State) (y : State) (r : Rest t y) → StandsSomewhere program words order classes choose y t → Turns t y
   rest-turn t y r (inl s) = follows-wider machines Rest word_limit turn_limit (λ n. omega arith) t y (word-turn t y r.guest_is s)
   rest-turn t y r (inr (inl s)) = follows-wider machines Rest (λ n. 132 * n + 83) turn_limit (λ n. omega arith) t y (unit-turn t y r.guest_is s)
   rest-turn t y r (inr (inr (inl s))) =
-      chooses-by t y r.guest_is (code t.pc) refl (λ i. run-credit i t y s) (λ w is. facts.leads.from_run t w y r.guest_is is r.pc_word s)
-      (λ stray. facts.leads.stray_run t y stray r.pc_word s)
+      chooses-by t y r.guest_is (code t.pc) refl (λ i. run-credit i t y s) (λ w is. leads.from_run t w y r.guest_is is r.pc_word s)
+      (λ stray. leads.stray_run t y stray r.pc_word s)
   rest-turn t y r (inr (inr (inr s))) =
-      chooses-by t y r.guest_is (code t.pc) refl (λ i. choose-credit i t y s) (λ w is. facts.leads.from_choose t w y r.guest_is is s)
-      (λ stray. facts.leads.stray_choose t y stray r.pc_word s)
+      chooses-by t y r.guest_is (code t.pc) refl (λ i. choose-credit i t y s) (λ w is. leads.from_choose t w y r.guest_is is s)
+      (λ stray. leads.stray_choose t y stray r.pc_word s)
 
   pub turns-followed : LawOfTurn machines Rest 512
   turns-followed t y r = rest-turn t y r r.stands

@@ -10,15 +10,17 @@ use Rattle.jvm_program.specs.Program.{Program}
 use Rattle.jvm_program.specs.Step.{State, turn}
 use Rattle.span_code_laws.specs.InPieces.{UnitsStandInPieces}
 use Rattle.trampoline_laws.specs.Classes.{CodeClass, is_span, span_words}
+use Rattle.trampoline_laws.specs.Programs.{IsTranslated}
 use Rattle.running_laws.specs.Going.{ComesTo}
+use Rattle.running_laws.specs.Choosing.{ChoosesWords}
 use Rattle.running_laws.specs.Standing.{AtWord, IsGuest, span_site}
 use Rattle.running_laws.specs.Counted.{pair}
 use Rattle.running_laws.specs.Rests.{AtUnit, Rests, StandsSomewhere}
 use Rattle.running_laws.specs.Marks.{AtPiece, MarksPieces}
-use Rattle.running_laws.proofs.TurnLaws.Given.{ProgramFacts}
-use Rattle.running_laws.proofs.TurnLaws.Spans.{has-span}
+use Rattle.running_laws.proofs.TurnLaws.Given.{ProgramLaws}
+use Rattle.running_laws.proofs.TurnLaws.Spans.{has-span, stands-in}
 
-module _ (in_pieces : UnitsStandInPieces) (program : Program) (words : ℕ) (order : Order) (choose : ℕ) (classes : List CodeClass) (code : ℕ → Option ℕ) (facts : ProgramFacts program words order choose classes code) (marked : guest.State → Bool) (marks : MarksPieces classes marked) where
+module _ (in_pieces : UnitsStandInPieces) (laws : ProgramLaws) (program : Program) (words : ℕ) (order : Order) (choose missing : ℕ) (classes : List CodeClass) (code : ℕ → Option ℕ) (is_in : IsTranslated program order choose missing classes code) (marked : guest.State → Bool) (marks : MarksPieces classes marked) where
   abbrev Rest : guest.State → State → Type 0
   Rest t y = Rests program words order choose classes code t y
 
@@ -30,6 +32,9 @@ module _ (in_pieces : UnitsStandInPieces) (program : Program) (words : ℕ) (ord
 
   abbrev Comes : guest.State → State → Type 0
   Comes t y = (n : ℕ) × (place : State) × (n ≤ 150) × (advanced (turn program words) n y ≡ Some place) × Marked t place
+
+  leads : ChoosesWords program words order choose classes code
+  leads = laws.lead program words order choose missing classes code is_in
 
   word-marked : (t : guest.State) (y : State) → IsGuest order code t → marked t ≡ true → Words t y → Marked t y
   word-marked t y guest_is is s = record {
@@ -45,7 +50,7 @@ module _ (in_pieces : UnitsStandInPieces) (program : Program) (words : ℕ) (ord
   marked-code : (t : guest.State) → marked t ≡ true → (w : ℕ) × (code t.pc ≡ Some w)
   marked-code t is =
       let at = marks.in_class t is in
-      let stands = facts.stands at.number at.class at.there in
+      let stands = stands-in laws program order choose missing classes code is_in at.number at.class at.there in
       let range = stands.range in
       let within = stands.has.is_class.within in
       let below = at.below in
@@ -59,7 +64,7 @@ module _ (in_pieces : UnitsStandInPieces) (program : Program) (words : ℕ) (ord
       let c = s.class in
       let own = span_words c s.span in
       let site = span_site program words c s.span s.others in
-      let has_span = has-span program words order choose classes code facts s.number c s.there s.span s.span_below s.others in
+      let has_span = has-span laws program order choose missing classes code is_in s.number c s.there words s.span s.span_below s.others in
       let here = in_pieces site order c.words c.leads own s.word s.front s.unit s.rest s.workspace t has_span s.held in
       let has = here.has in
       let inner = here.inner s.some_done in
@@ -69,8 +74,8 @@ module _ (in_pieces : UnitsStandInPieces) (program : Program) (words : ℕ) (ord
   rest-marked : (t : guest.State) (y : State) (r : Rest t y) → marked t ≡ true → StandsSomewhere program words order classes choose y t → Comes t y
   rest-marked t y r is (inl s) = (0, y, omega arith, refl, word-marked t y r.guest_is is s)
   rest-marked t y r is (inr (inl s)) = absurd (unit-marked t y is s)
-  rest-marked t y r is (inr (inr (inl s))) = let at = marked-code t is in chosen-marked t y r.guest_is is (facts.leads.from_run t at.0 y r.guest_is at.1 r.pc_word s)
-  rest-marked t y r is (inr (inr (inr s))) = let at = marked-code t is in chosen-marked t y r.guest_is is (facts.leads.from_choose t at.0 y r.guest_is at.1 s)
+  rest-marked t y r is (inr (inr (inl s))) = let at = marked-code t is in chosen-marked t y r.guest_is is (leads.from_run t at.0 y r.guest_is at.1 r.pc_word s)
+  rest-marked t y r is (inr (inr (inr s))) = let at = marked-code t is in chosen-marked t y r.guest_is is (leads.from_choose t at.0 y r.guest_is at.1 s)
 
   pub marks-reached : LawOfMarks (pair program words classes marked) Rest Marked 150
   marks-reached t y r is = rest-marked t y r is r.stands

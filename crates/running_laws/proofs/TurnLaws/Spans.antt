@@ -3,21 +3,46 @@ use Rattle.std.proofs.Common.{◌≡◌, ℕ, ◌<◌, List, length, slice_get, 
 use Rattle.nv_words.specs.declared.order.Order.{Order}
 use Rattle.jvm_program.specs.Program.{Program}
 use Rattle.jvm_program.specs.Step.{Frame}
+use Rattle.span_code_laws.specs.GuestCodeLaws.Counting.{SparesHelpers}
+use Rattle.span_code_laws.specs.GuestCodeLaws.Instructions.{IsReady}
 use Rattle.span_code_laws.specs.Spans.{HasSpan}
-use Rattle.trampoline_laws.specs.Classes.{CodeClass, span_words}
+use Rattle.trampoline_laws.specs.Classes.{CodeClass, LiesInClass, is_span, span_words}
+use Rattle.trampoline_laws.specs.Programs.{IsTranslated, StandsInProgram, TellsSpans}
 use Rattle.running_laws.specs.Standing.{span_site}
-use Rattle.running_laws.proofs.TurnLaws.Given.{ProgramFacts}
+use Rattle.running_laws.proofs.TurnLaws.Given.{ProgramLaws}
 
-module _ (program : Program) (words : ℕ) (order : Order) (choose : ℕ) (classes : List CodeClass) (code : ℕ → Option ℕ) (facts : ProgramFacts program words order choose classes code) (number : ℕ) (c : CodeClass) (there : slice_get classes number ≡ Some c) (j : ℕ) (j_below : j < length c.spans) (others : List Frame) where
-  pub has-span : HasSpan (span_site program words c j others) c.words c.leads (span_words c j)
-  has-span =
-      let class = (facts.stands number c there).has in
-      let is_class = class.is_class in
-      let low = is_class.low in
-      record {
-        lies = class.spans_lie j j_below;
-        are_words = is_class.are_words;
-        no_float = is_class.no_float;
-        within = (facts.lies number c j there j_below).in_range;
-        below = omega (arith, low);
+module _ (laws : ProgramLaws) (program : Program) (order : Order) (choose missing : ℕ) (classes : List CodeClass) (code : ℕ → Option ℕ)
+    (is_in : IsTranslated program order choose missing classes code) where
+  pub told : TellsSpans is_in.low classes
+  told = laws.numbered program order choose missing classes code is_in
+
+  pub spares-helpers : SparesHelpers (is_span classes)
+  spares-helpers h less = told.lower h (omega (arith, less, is_in.helpers_low))
+
+  module _ (number : ℕ) (c : CodeClass) (there : slice_get classes number ≡ Some c) where
+    pub stands-in : StandsInProgram program code c
+    stands-in = laws.stand program order choose missing classes code is_in number c there
+
+    module _ (words j : ℕ) (j_below : j < length c.spans) (others : List Frame) where
+      pub lies-in : LiesInClass c j
+      lies-in = laws.lie c j stands-in.has.is_class j_below
+
+      pub has-span : HasSpan (span_site program words c j others) c.words c.leads (span_words c j)
+      has-span =
+          let class = stands-in.has in
+          let is_class = class.is_class in
+          let low = is_class.low in
+          record {
+            lies = class.spans_lie j j_below;
+            are_words = is_class.are_words;
+            no_float = is_class.no_float;
+            within = lies-in.in_range;
+            below = omega (arith, low);
+          }
+
+      pub is-ready : length others < 62 → IsReady (span_site program words c j others) order
+      is-ready few = record {
+        helpers = is_in.helpers;
+        no_helper = let above = told.above number c there in omega (arith, above, is_in.helpers_low);
+        few = few;
       }

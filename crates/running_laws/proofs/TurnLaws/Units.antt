@@ -14,7 +14,7 @@ use Rattle.delay_slots.specs.declared.unit.Unit.{Unit}
 use Rattle.delay_slots.specs.declared.unit.Unit.TheVariants as units
 use Rattle.delay_slots.specs.Units.{units_of}
 use Rattle.delay_slots.specs.Turns as delay
-use Rattle.delay_slots.specs.Turns.{AreMade, HasRange, IsBetweenUnits, LeadsOn, unit_turns, turn_count, last_turn}
+use Rattle.delay_slots.specs.Turns.{HasRange, IsBetweenUnits, LeadsOn, unit_turns, turn_count, last_turn}
 use Rattle.block_builder.specs.Blocks.{unit_at}
 use Rattle.block_builder.specs.Leaders.{is_plain}
 use Rattle.jvm_program.specs.declared.instruction.Instruction.{Instruction}
@@ -25,7 +25,7 @@ use Rattle.word_emitter.specs.Pieces.{bank_of}
 use Rattle.span_code.specs.declared.span_words.SpanWords.{SpanWords}
 use Rattle.span_code.specs.Neighbours.{address}
 use Rattle.span_code.specs.Pieces.{begins}
-use Rattle.code_paths.specs.Guest.{Span, crossings, partial}
+use Rattle.code_paths.specs.Guest.{crossings, partial}
 use Rattle.span_code_laws.specs.GuestFollows.Holding.{HoldsOn}
 use Rattle.span_code_laws.specs.GuestFollows.Sites.{Site, stands, turn_in, whole_weight}
 use Rattle.span_code_laws.specs.GuestFollows.Following as unit_follows
@@ -35,12 +35,13 @@ use Rattle.span_code_laws.specs.GuestCodeLaws.Counting.{ReadsNoneToCall, UnitCou
 use Rattle.span_code_laws.specs.GuestCodeLaws.Steps.{GoesThroughSlot, LeadsToWords, begins_with_register_jump, unit_trail}
 use Rattle.span_code_laws.specs.InPieces.{HasUnit, StandsInPiece, fetching, known_behind, offset_in, own_units}
 use Rattle.trampoline_laws.specs.Classes.{CodeClass, is_span, span_words, counted_span, counted_spans}
+use Rattle.trampoline_laws.specs.Programs.{IsTranslated}
 use Rattle.running_laws.specs.Standing.{IsGuest, IsBelow, span_site, word_entry}
 use Rattle.running_laws.specs.Counted.{Counted, Reads, Chars, Switches, Entries, weight, paid, credit, pair}
 use Rattle.running_laws.specs.Rests.{Rests}
 use Rattle.running_laws.specs.Marks.{MarksPieces}
-use Rattle.running_laws.proofs.TurnLaws.Given.{UnitLaws, SpanLaws, ProgramFacts}
-use Rattle.running_laws.proofs.TurnLaws.Spans.{has-span}
+use Rattle.running_laws.proofs.TurnLaws.Given.{UnitLaws, SpanLaws, ProgramLaws}
+use Rattle.running_laws.proofs.TurnLaws.Spans.{has-span, is-ready, spares-helpers, stands-in, told}
 use Rattle.running_laws.proofs.TurnLaws.Turning.{HasTurns, Settles, classes-pass, trail_to}
 use Rattle.running_laws.proofs.TurnLaws.Guest.{UnitMade, either, unit-made, unit-crosses}
 use Rattle.running_laws.proofs.TurnLaws.Following.{ForEach, ReadsAlone, SilentToAsk, path-walks, paths-follow, spares, stays-walks}
@@ -48,33 +49,12 @@ use Rattle.running_laws.proofs.TurnLaws.Credits.{credit-few, credit-in-span, goe
 
 -- ---- the guest's side
 
--- What is known of the turns of a unit at which the guest stands.
-pub record GuestUnit (spans : List Span) (x : guest.State) (unit : Unit) : Type 0 where
-  pub made : AreMade x (unit_turns unit x)
-  pub leads : LeadsOn x (last_turn (unit_turns unit x))
-  pub slot : GoesThroughSlot x (unit_turns unit x)
-  pub reads : (to : Option guest.State) → partial (unit_trail x (unit_turns unit x) to) ≡ unit_reads unit x
-  pub jumps : (to : Option guest.State) → begins_with_register_jump unit ≡ true → 1 ≤ crossings spans (unit_trail x (unit_turns unit x) to)
-
 units-length : (words : List ℕ) → length (units_of words) ≡ length words
 units-length [] = refl
 units-length (word ∷ words) = ap suc (units-length words)
 
 unit-there : (words : List ℕ) (k : ℕ) → k < length words → slice_get (units_of words) k ≡ Some (unit_at (units_of words) k)
 unit-there words k less = slice_get-get_or (units_of words) k units.Call (let total = units-length words in omega (arith, total, less))
-
-guest-unit : UnitLaws → (spans : List Span) (x : guest.State) (first : ℕ) (words : List ℕ) (k : ℕ) (unit : Unit) → delay.StandsAt x first words k → unit ≡ unit_at (units_of words) k → GuestUnit spans x unit
-guest-unit laws spans x first words k unit s is =
-    let u = unit_at (units_of words) k in
-    let there = unit-there words k s.in_range in
-    let own : GuestUnit spans x u = record {
-      made = laws.made x first words k u s there;
-      leads = laws.leads x words k u s.begun there;
-      slot = laws.slots x first words k s;
-      reads = λ to. laws.reads x first words k to s;
-      jumps = λ to jump. laws.crossings x first words k spans to s jump;
-    } in
-    subst (GuestUnit spans x) (sym is) own
 
 each-of : (x : guest.State) (P : guest.State → Type 0) (last : Turn guest.State) → LeadsOn x last → LeadsToWords last → ((t : guest.State) → IsBetweenUnits x t → IsWord t.pc → P t) → ForEach P last
 each-of x P (moves t) leads words each = each t leads words
@@ -144,7 +124,7 @@ plain-once (units.Trap kind value) x is = absurd (true≢false (sym is))
 abbrev pub word_limit : ℕ → ℕ
 word_limit n = 132 * n + 145
 
-module _ (unit_laws : UnitLaws) (laws : SpanLaws) (program : Program) (words : ℕ) (order : Order) (choose : ℕ) (classes : List CodeClass) (code : ℕ → Option ℕ) (facts : ProgramFacts program words order choose classes code) (marked : guest.State → Bool) (marks : MarksPieces classes marked) where
+module _ (unit_laws : UnitLaws) (laws : SpanLaws) (program_laws : ProgramLaws) (program : Program) (words : ℕ) (order : Order) (choose missing : ℕ) (classes : List CodeClass) (code : ℕ → Option ℕ) (is_in : IsTranslated program order choose missing classes code) (marked : guest.State → Bool) (marks : MarksPieces classes marked) where
   abbrev Rest : guest.State → State → Type 0
   Rest t y = Rests program words order choose classes code t y
 
@@ -165,20 +145,20 @@ module _ (unit_laws : UnitLaws) (laws : SpanLaws) (program : Program) (words : �
     few-frames = let e = ap length below.others_are in omega (arith, e)
 
     has_span : HasSpan site c.words c.leads own
-    has_span = has-span program words order choose classes code facts number c there j j_below others
+    has_span = has-span program_laws program order choose missing classes code is_in number c there words j j_below others
 
     in-span : (i : Counted) (y : State) (at : ℕ) (w : Workspace) → y ≡ stands site at w → credit classes i y ≡ 0
-    in-span i y at w is = credit-in-span classes i y (c.first_method + j) at w others is (facts.told.spans number c j there j_below)
+    in-span i y at w is = credit-in-span classes i y (c.first_method + j) at w others is ((told program_laws program order choose missing classes code is_in).spans number c j there j_below)
 
     stands-there : (x : guest.State) → IsGuest order code x → (k : ℕ) → k < own.end → x.pc ≡ address own k → delay.StandsAt x c.start c.words k
     stands-there x guest_is k less pc =
-        let within = (facts.lies number c j there j_below).in_range in
+        let within = has_span.within in
         record {
           begun = guest_is.begun;
           pending = guest_is.pending;
           pc = pc;
           in_range = omega (arith, less, within);
-          range = subst (λ (f : ℕ → Option ℕ). HasRange f c.start c.words) (sym guest_is.code_is) (facts.stands number c there).range;
+          range = subst (λ (f : ℕ → Option ℕ). HasRange f c.start c.words) (sym guest_is.code_is) (stands-in program_laws program order choose missing classes code is_in number c there).range;
         }
 
     guest-next : (x t : guest.State) → IsGuest order code x → IsBetweenUnits x t → IsGuest order code t
@@ -192,14 +172,20 @@ module _ (unit_laws : UnitLaws) (laws : SpanLaws) (program : Program) (words : �
     -- ---- the turns of one unit, whatever its code is counted to weigh
 
     module _ (x : guest.State) (guest_is : IsGuest order code x) (k : ℕ) (above : own.first ≤ k) (less : k < own.end) (pc : x.pc ≡ address own k) (bank : ℕ) (known : ℕ → Bool) (at : ℕ) (w : Workspace) (unit : Unit) (held : HoldsOn bank known w x) (none : w.operands ≡ []) (has : HasUnit site all own k bank known at unit x) where
-      pub guest_side : GuestUnit (counted_spans classes) x unit
-      guest_side = guest-unit unit_laws (counted_spans classes) x c.start c.words k unit (stands-there x guest_is k less pc) has.is_there
+      abbrev stands-here : delay.StandsAt x c.start c.words k
+      stands-here = stands-there x guest_is k less pc
+
+      is-there : slice_get all k ≡ Some unit
+      is-there = unit-there c.words k stands-here.in_range ∙ ap (λ (u : Unit). Some u) (sym has.is_there)
+
+      passes-slot : GoesThroughSlot x (unit_turns unit x)
+      passes-slot = subst (λ (u : Unit). GoesThroughSlot x (unit_turns u x)) (sym has.is_there) (unit_laws.slots x c.start c.words k stands-here)
 
       pub unit_made : UnitMade marked x (unit_turns unit x)
-      unit_made = unit-made marked marks.between x (unit_turns unit x) guest_side.made guest_side.slot
+      unit_made = unit-made marked marks.between x (unit_turns unit x) (unit_laws.made x c.start c.words k unit stands-here is-there) passes-slot
 
       pub counted : UnitCounts site bank known at w x unit numbers
-      counted = unit_laws.counted unit site order bank known at w x numbers has.lawful (facts.ready number c j others there few-frames) guest_is.order_is has.lies has.knows held facts.spares
+      counted = unit_laws.counted unit site order bank known at w x numbers has.lawful (is-ready program_laws program order choose missing classes code is_in number c there words j j_below others few-frames) guest_is.order_is has.lies has.knows held (spares-helpers program_laws program order choose missing classes code is_in)
 
       abbrev own_made : HasTurns marked x (last_turn (unit_turns unit x))
       own_made = unit_made.made
@@ -208,9 +194,12 @@ module _ (unit_laws : UnitLaws) (laws : SpanLaws) (program : Program) (words : �
       own_trail to = trail_to own_made.earlier x own_made.before to
 
       -- the words that the unit reads are the guest's
+      reads-told : (to : Option guest.State) → partial (unit_trail x (unit_turns unit x) to) ≡ unit_reads unit x
+      reads-told to = subst (λ (u : Unit). partial (unit_trail x (unit_turns u x) to) ≡ unit_reads u x) (sym has.is_there) (unit_laws.reads x c.start c.words k to stands-here)
+
       reads-paid : (to : Option guest.State) → unit_reads unit x ≤ sum_by (paid classes Reads) (own_trail to)
       reads-paid to =
-          let e : partial (own_trail to) ≡ unit_reads unit x = ap partial (unit_made.trail to) ∙ guest_side.reads to in
+          let e : partial (own_trail to) ≡ unit_reads unit x = ap partial (unit_made.trail to) ∙ reads-told to in
           let same : sum_by (paid classes Reads) (own_trail to) ≡ unit_reads unit x = e in
           omega (arith, same)
 
@@ -248,7 +237,7 @@ module _ (unit_laws : UnitLaws) (laws : SpanLaws) (program : Program) (words : �
         unit-follows low high most extra Arrives limit follows settles room =
             let last = last_turn (unit_turns unit x) in
             let leads_to_words = unit_laws.words x unit has.lawful guest_is.pending held.register_word in
-            let each : ForEach (λ t. (y : State) → Arrives y t → SettlesOn extra t y) last = each-of x (λ t. (y : State) → Arrives y t → SettlesOn extra t y) last guest_side.leads leads_to_words settles in
+            let each : ForEach (λ t. (y : State) → Arrives y t → SettlesOn extra t y) last = each-of x (λ t. (y : State) → Arrives y t → SettlesOn extra t y) last (unit_laws.leads x c.words k unit guest_is.begun is-there) leads_to_words settles in
             let silent : SilentToAsk used last = silent-of classes counted.total sum last (spared Reads) counted.asking in
             let own_follows : FollowsInSpan site low high (own_made.earlier + 1) most sum Arrives (stands site at w) last = subst (λ (n : ℕ). FollowsInSpan site low high n most sum Arrives (stands site at w) last) (sym unit_made.count) follows in
             let own_room : most + extra ≤ limit (own_made.earlier + 1) = subst (λ (n : ℕ). most + extra ≤ limit n) (sym unit_made.count) room in
@@ -290,21 +279,26 @@ module _ (unit_laws : UnitLaws) (laws : SpanLaws) (program : Program) (words : �
           counted = paid-at-rest t 0 y (λ i. let e = in-span i y s.at s.workspace s.is_there in omega (arith, e)) (omega arith);
         }
 
+        jumps-across : (to : Option guest.State) → begins_with_register_jump unit ≡ true → 1 ≤ crossings (counted_spans classes) (unit_trail x (unit_turns unit x) to)
+        jumps-across to jump =
+            subst (λ (u : Unit). 1 ≤ crossings (counted_spans classes) (unit_trail x (unit_turns u x) to)) (sym has.is_there)
+            (unit_laws.crossings x c.start c.words k (counted_spans classes) to stands-here (subst (λ (u : Unit). begins_with_register_jump u ≡ true) has.is_there jump))
+
         crosses : (t : guest.State) (y : State) → StandsAtReturn site own unit y t → 1 ≤ crossings (counted_spans classes) (own_trail (Some t))
-        crosses t y s = by_reason (s.because (facts.stands number c there).has.is_class.aligned)
+        crosses t y s = by_reason (s.because (stands-in program_laws program order choose missing classes code is_in number c there).has.is_class.aligned)
           where
             same : crossings (counted_spans classes) (own_trail (Some t)) ≡ crossings (counted_spans classes) (unit_trail x (unit_turns unit x) (Some t))
             same = ap (crossings (counted_spans classes)) (unit_made.trail (Some t))
 
             by_reason : (jumps_by_register unit ≡ true) ⊎ IsOutside own t.pc → 1 ≤ crossings (counted_spans classes) (own_trail (Some t))
-            by_reason (inl jump) = let one = guest_side.jumps (Some t) (sym (same-jumps unit) ∙ jump) in omega (arith, one, same)
+            by_reason (inl jump) = let one = jumps-across (Some t) (sym (same-jumps unit) ∙ jump) in omega (arith, one, same)
             by_reason (inr outside) =
-                let one = unit-crosses (counted_spans classes) (counted_span c j) (facts.apart number c j there j_below).out x t (unit_turns unit x) guest_is.begun guest_side.slot (word-inside c j k x.pc above less pc) (other-outside c j t.pc outside) in
+                let one = unit-crosses (counted_spans classes) (counted_span c j) (program_laws.apart program order choose missing classes code is_in number c j there j_below).out x t (unit_turns unit x) guest_is.begun passes-slot (word-inside c j k x.pc above less pc) (other-outside c j t.pc outside) in
                 omega (arith, one, same)
 
         settles-at-return : (t : guest.State) → IsBetweenUnits x t → IsWord t.pc → (y : State) → StandsAtReturn site own unit y t → SettlesOn 13 t y
         settles-at-return t between pc_word y s =
-            let back = facts.comes_back program words classes choose t y (record {
+            let back = program_laws.come_back program words classes choose t y (record {
               number = number;
               class = c;
               there = there;

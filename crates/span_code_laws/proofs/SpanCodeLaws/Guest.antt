@@ -1,14 +1,16 @@
 -- The pieces of a span as turns of the guest; where the classes hold its state; and what a return does.
-use Rattle.std.proofs.Common.{◌≡◌, ℕ, ◌<◌, ◌==◌, ◌&&◌, nat_lt, Bool, true, false, if◌then◌else◌, List, [], ◌∷◌, All, drop, slice_get, None, Some, refl, ap, subst, sym, ◌∙◌, arith}
+use Rattle.std.proofs.Common.{◌≡◌, ℕ, ◌<◌, ◌==◌, ◌&&◌, nat_lt, Bool, true, false, if◌then◌else◌, List, [], ◌∷◌, All, drop, None, refl, ap, subst, sym, ◌∙◌, arith}
 use Rattle.std.proofs.lemmas.List.Elements.{All-take, All-drop}
 use Rattle.std.proofs.lemmas.Nat.Bits.{bit_at-zero}
 use Rattle.std.specs.Int.{bit_at}
 use Rattle.mips_decode.specs.State.{State}
 use Rattle.delay_slots.specs.declared.unit.Unit.{Unit as Word}
 use Rattle.delay_slots.specs.Units.{units_of}
-use Rattle.delay_slots.specs.Turns.{AreMade, LeadsOn, StandsAt, last_turn, unit_turns}
+use Rattle.delay_slots.specs.Laws.{UnitsAreMade, UnitsLeadOn}
+use Rattle.delay_slots.specs.Turns.{StandsAt}
 use Rattle.block_builder.specs.declared.block.Block.{Block}
 use Rattle.block_builder.specs.Blocks.{IsPiece}
+use Rattle.block_builder.specs.Laws.{InstructionsChangeWhatTheyWrite}
 use Rattle.jvm_program.specs.Effect.{Workspace}
 use Rattle.jvm_program.specs.Step as machine
 use Rattle.jvm_program.specs.declared.value.Value.{Value}
@@ -22,7 +24,6 @@ use Rattle.span_code.specs.declared.span_words.SpanWords.{SpanWords}
 use Rattle.span_code.specs.Pieces.{piece_at}
 use Rattle.guest_follows.specs.Holding.{Holds, reached}
 use Rattle.guest_follows.specs.Sites.{Site, stands, turn_in}
-use Rattle.guest_code_laws.proofs.PieceLaws.Turns.{ChangeWritten}
 use Rattle.guest_code_laws.specs.Pieces.{HoldsAll, piece_turns}
 use Rattle.span_code_laws.proofs.SpanCodeLaws.Made.{IsMade, are-at, list-made}
 use Rattle.span_code_laws.proofs.SpanCodeLaws.Straight.{are-lawful, are-straight, count, count-few, piece-some}
@@ -79,16 +80,12 @@ module _ (words : List ℕ) (leads : ℕ → Bool) (span : SpanWords) (k : ℕ) 
   abbrev own : List Word
   own = piece_units (units_of words) block
 
-  pub own-made : (change : ChangeWritten)
-      (turns_made : (x : State) (i : ℕ) (unit : Word) → StandsAt x span.start words i → slice_get (units_of words) i ≡ Some unit
-      → AreMade x (unit_turns unit x))
-      (leads_on : (x : State) (i : ℕ) (unit : Word) → x.begun ≡ true → slice_get (units_of words) i ≡ Some unit
-      → LeadsOn x (last_turn (unit_turns unit x)))
-      (x : State) → All IsLawful (units_of words) → StandsAt x span.start words k → IsMade x (piece_turns own x)
+  pub own-made : (change : InstructionsChangeWhatTheyWrite) (turns_made : UnitsAreMade) (leads_on : UnitsLeadOn) (x : State)
+      → All IsLawful (units_of words) → StandsAt x span.start words k → IsMade x (piece_turns own x)
   own-made change turns_made leads_on x lawful s =
       let few = count-few (units_of words) block piece in
       let within = piece.within in
-      list-made change span.start words turns_made leads_on own k x (piece-some (units_of words) leads span k below piece) s
+      list-made change turns_made leads_on span.start words own k x (piece-some (units_of words) leads span k below piece) s
       (are-at (units_of words) (count (units_of words) block piece) k (omega (arith, few, within)))
       (are-lawful own (All-take IsLawful (count (units_of words) block piece) (drop k (units_of words))
       (All-drop IsLawful k (units_of words) lawful)))

@@ -11,10 +11,12 @@ use Rattle.mips_decode.specs.Step.{turn}
 use Rattle.delay_slots.specs.declared.unit.Unit.{Unit as Word}
 use Rattle.delay_slots.specs.declared.unit.Unit.TheVariants as units
 use Rattle.delay_slots.specs.Units.{units_of}
+use Rattle.delay_slots.specs.Laws.{UnitsAreMade, UnitsLeadOn}
 use Rattle.delay_slots.specs.Turns.{UnitTurns, one_turn, two_turns, unit_turns, turn_count, last_turn, done, AreMade, HasRange, IsBetweenUnits, LeadsOn, StandsAt}
+use Rattle.block_builder.specs.Laws.{InstructionsChangeWhatTheyWrite}
 use Rattle.block_builder.specs.Registers.{written_by}
 use Rattle.guest_code_laws.specs.Pieces.{AreStraight, piece_turns, then_turns}
-use Rattle.guest_code_laws.proofs.PieceLaws.Turns.{ChangeWritten, GoesOrEnds, IsPast, plain-past}
+use Rattle.guest_code_laws.proofs.PieceLaws.Turns.{GoesOrEnds, IsPast, plain-past}
 use Rattle.span_code_laws.specs.Made.{AreTurns}
 use Rattle.span_code_laws.proofs.SpanCodeLaws.Straight.{AreLawful}
 use Rattle.span_code_laws.proofs.SpanCodeLaws.Words.{units-length}
@@ -99,11 +101,7 @@ more-made P x (ends e) rest is goes on later =
 more-made P x (leaves q e) rest is goes on later = absurd goes
 more-made P x (asks q next) rest is goes on later = absurd goes
 
-module _ (change : ChangeWritten) (first : ℕ) (words : List ℕ)
-    (turns_made : (x : State) (i : ℕ) (unit : Word) → StandsAt x first words i → slice_get (units_of words) i ≡ Some unit
-    → AreMade x (unit_turns unit x))
-    (leads_on : (x : State) (i : ℕ) (unit : Word) → x.begun ≡ true → slice_get (units_of words) i ≡ Some unit
-    → LeadsOn x (last_turn (unit_turns unit x))) where
+module _ (change : InstructionsChangeWhatTheyWrite) (turns_made : UnitsAreMade) (leads_on : UnitsLeadOn) (first : ℕ) (words : List ℕ) where
   stands-next : (k : ℕ) (x t : State) (next : Word) → StandsAt x first words k → t.pc ≡ (x.pc + 4) % 2 ^ 32 → IsBetweenUnits x t
       → slice_get (units_of words) (k + 1) ≡ Some next → StandsAt t first words (k + 1)
   stands-next k x t next s pc between there =
@@ -123,12 +121,12 @@ module _ (change : ChangeWritten) (first : ℕ) (words : List ℕ)
       → AreLawful (unit ∷ rest) → AreStraight (unit ∷ rest) → IsMade x (piece_turns (unit ∷ rest) x)
   piece-made [] unit k x s at lawful straight = record {
     made = alone-made x (turn_count (unit_turns unit x)) (last_turn (unit_turns unit x))
-        (unit-made x (unit_turns unit x) (turns_made x k unit s at.0));
-    leads = alone-leads x (turn_count (unit_turns unit x)) (last_turn (unit_turns unit x)) (leads_on x k unit s.begun at.0);
+        (unit-made x (unit_turns unit x) (turns_made x first words k unit s at.0));
+    leads = alone-leads x (turn_count (unit_turns unit x)) (last_turn (unit_turns unit x)) (leads_on x words k unit s.begun at.0);
   }
   piece-made (next ∷ rest) (units.Plain i) k x s at lawful straight =
-      more-made (IsPast (written_by i) x) x (done i x) (piece_turns (next ∷ rest)) (turns_made x k (units.Plain i) s at.0)
-      (plain-past change i x s.pending lawful.0.0.is_none lawful.0.1) (leads_on x k (units.Plain i) s.begun at.0)
+      more-made (IsPast (written_by i) x) x (done i x) (piece_turns (next ∷ rest)) (turns_made x first words k (units.Plain i) s at.0)
+      (plain-past change i x s.pending lawful.0.0.is_none lawful.0.1) (leads_on x words k (units.Plain i) s.begun at.0)
       (λ t past between.
       piece-made rest next (k + 1) t (stands-next k x t next s past.next.pc between at.1.0) at.1 lawful.1 straight.1)
   piece-made (next ∷ rest) (units.Branch i slot) k x s at lawful straight = absurd (true≢false (sym straight.0))

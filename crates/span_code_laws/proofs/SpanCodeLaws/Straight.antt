@@ -11,6 +11,7 @@ use Rattle.delay_slots.specs.Turns.{unit_turns, turn_count, last_turn}
 use Rattle.block_builder.specs.declared.block.Block.{Block}
 use Rattle.block_builder.specs.Blocks.{IsPiece, end_of, unit_at}
 use Rattle.block_builder.specs.Leaders.{is_plain, words_of}
+use Rattle.block_builder.specs.Laws.{InstructionsChangeWhatTheyWrite}
 use Rattle.block_builder.specs.Registers.{written_by}
 use Rattle.jvm_program.specs.Effect.{Workspace}
 use Rattle.word_emitter.specs.Pieces.{ends_with_slot, piece_units}
@@ -18,7 +19,7 @@ use Rattle.lawful_units.specs.Lawful.{IsLawful}
 use Rattle.span_code.specs.declared.span_words.SpanWords.{SpanWords}
 use Rattle.span_code.specs.Pieces.{piece_at}
 use Rattle.guest_code_laws.specs.Pieces.{AreStraight, PieceGoal, UnitGoal, piece_turns, then_turns}
-use Rattle.guest_code_laws.proofs.PieceLaws.Turns.{ChangeWritten, GoesOrEnds, IsPast, plain-past}
+use Rattle.guest_code_laws.proofs.PieceLaws.Turns.{GoesOrEnds, IsPast, plain-past}
 use Rattle.span_code_laws.proofs.SpanCodeLaws.Joining.{Reaches}
 use Rattle.span_code_laws.proofs.SpanCodeLaws.Leading.{LeadsTo, unit-leads}
 
@@ -59,7 +60,7 @@ pub are-lawful : (piece : List Word) → All IsLawful piece → AreLawful piece
 are-lawful [] all = tt
 are-lawful (unit ∷ piece) all = (all 0 units.Call (omega arith), are-lawful piece (λ k d below. all (suc k) d (omega (arith, below))))
 
-module _ (change : ChangeWritten) where
+module _ (change : InstructionsChangeWhatTheyWrite) where
   pub piece-leads : (rest : List Word) (unit : Word) (x : State) → AreLawful (unit ∷ rest) → AreStraight (unit ∷ rest) → x.pending ≡ None
       → x.pc + 4 * length (unit ∷ rest) < 2 ^ 32
       → Reaches (λ (t : State). LeadsTo (last_unit unit rest) (x.pc + 4 * length rest) t.pc) (piece_turns (unit ∷ rest) x).1

@@ -12,7 +12,8 @@ use Rattle.delay_slots.specs.declared.unit.Unit.TheVariants as units
 use Rattle.delay_slots.specs.Units.{units_of}
 use Rattle.delay_slots.specs.Turns.{unit_turns, turn_count, last_turn}
 use Rattle.block_builder.specs.declared.block.Block.{Block}
-use Rattle.block_builder.specs.Blocks.{AreUnits, IsPiece, unit_at}
+use Rattle.block_builder.specs.Blocks.{IsPiece, unit_at}
+use Rattle.block_builder.specs.Laws.{InstructionsChangeWhatTheyWrite}
 use Rattle.jvm_program.specs.declared.instruction.Instruction.{Instruction}
 use Rattle.jvm_program.specs.Effect.{Workspace}
 use Rattle.code_steps.specs.declared.step.Step.{Step}
@@ -28,6 +29,7 @@ use Rattle.span_code.specs.Pieces.{begins, piece_at}
 use Rattle.span_code.specs.Neighbours.{address, next_such}
 use Rattle.span_code.specs.Parts.{extent, exit_of, warm_part, cold_part}
 use Rattle.span_code.specs.Laying.{entry_at, targets_of, return_offset, laid_step, span_code}
+use Rattle.span_code.specs.Laws.{PiecesAreOfBlocks}
 use Rattle.span_code.specs.Standing.{laid_part}
 use Rattle.span_code.proofs.SizeLemmas.{size-laid}
 use Rattle.span_code.proofs.StandingLemmas.{word-stands}
@@ -37,7 +39,6 @@ use Rattle.guest_follows.specs.Following.{Follows}
 use Rattle.guest_follows.proofs.GuestFollows.Weights.{whole-both, size-both}
 use Rattle.guest_code_laws.specs.Instructions.{IsReady}
 use Rattle.guest_code_laws.specs.Pieces.{AllPiecesFollow, AreStraight, PieceArrives, UnitGoal, piece_turns, then_turns}
-use Rattle.guest_code_laws.proofs.PieceLaws.Turns.{ChangeWritten}
 use Rattle.guest_code_laws.proofs.PieceLaws.Within.{units-stay}
 use Rattle.span_code_laws.specs.Resuming.{IsEntryOf, Resumes, FollowsInSpan}
 use Rattle.span_code_laws.specs.Spans.{HasSpan, StandsAt, FollowsPiece}
@@ -109,7 +110,7 @@ record SaysEnd (piece : List Word) (last : Word) (a : ℕ) (w : Workspace) (x : 
   says : (u : Workspace) (t : State) → PieceArrives piece w u t → SaysGoal last u t
   leads_to : Reaches (λ (t : State). LeadsTo last a t.pc) (piece_turns piece x).1
 
-piece-says : ChangeWritten → (piece : List Word) (last : Word) (a : ℕ) (w : Workspace) (x : State) → 1 ≤ length piece
+piece-says : InstructionsChangeWhatTheyWrite → (piece : List Word) (last : Word) (a : ℕ) (w : Workspace) (x : State) → 1 ≤ length piece
     → get_or piece (length piece - 1) units.Call ≡ last → a ≡ x.pc + 4 * (length piece - 1) → All IsLawful piece → AreStraight piece
     → x.pending ≡ None → x.pc + 4 * length piece < 2 ^ 32 → SaysEnd piece last a w x
 piece-says change [] last a w x some is there lawful straight free below = absurd (omega (arith, some))
@@ -130,10 +131,9 @@ not-empty piece some none = let e : length piece ≡ 0 = ap length none in omega
 -- the laws of pieces that are needed
 pub record PieceLaws : Type 1 where
   pub units : UnitLaws
-  pub change : ChangeWritten
+  pub change : InstructionsChangeWhatTheyWrite
   pub follow : AllPiecesFollow
-  pub are_pieces : (units : List Word) (leads : ℕ → Bool) (span : SpanWords) (k : ℕ) → AreUnits units → k < span.end → span.end ≤ length units
-      → IsPiece units (piece_at units leads span k)
+  pub are_pieces : PiecesAreOfBlocks
 
 module _ (laws : PieceLaws) (site : Site) (words : List ℕ) (leads : ℕ → Bool) (span : SpanWords) (has : HasSpan site words leads span) (k : ℕ)
     (above : span.first ≤ k) (below : k < span.end) (begin : begins leads span k ≡ true) where

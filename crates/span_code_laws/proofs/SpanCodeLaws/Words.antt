@@ -1,13 +1,12 @@
 -- The code of a word with which no piece begins.
-use Rattle.std.proofs.Common.{◌≡◌, ℕ, suc, ◌+◌, ◌*◌, ◌≤◌, ◌==◌, Bool, true, false, if◌then◌else◌, List, [], ◌∷◌, ◌++◌, All, length, map, Option, append_assoc, refl, ap, subst, sym, ◌∙◌, arith}
+use Rattle.std.proofs.Common.{◌≡◌, ℕ, suc, ◌+◌, ◌*◌, ◌≤◌, ◌==◌, Bool, true, false, if◌then◌else◌, List, [], ◌∷◌, ◌++◌, length, map, Option, append_assoc, refl, ap, subst, sym, ◌∙◌, arith}
 use Rattle.std.proofs.lemmas.Bool.{or_right}
 use Rattle.std.proofs.lemmas.List.{map-append}
 use Rattle.nv_words.specs.declared.order.Order.{Order}
-use Rattle.nv_words.specs.Words.{IsWord}
 use Rattle.mips_decode.specs.State.{State}
 use Rattle.delay_slots.specs.declared.unit.Unit.{Unit as Word}
 use Rattle.delay_slots.specs.declared.unit.Unit.TheVariants as units
-use Rattle.delay_slots.specs.Units.{HasNoFloat, units_of}
+use Rattle.delay_slots.specs.Units.{units_of}
 use Rattle.delay_slots.specs.Turns.{UnitTurns, one_turn, two_turns, unit_turns, turn_count, last_turn}
 use Rattle.block_builder.specs.Blocks.{unit_at}
 use Rattle.block_builder.specs.Registers.{Register, general, special, unit_writes}
@@ -17,10 +16,10 @@ use Rattle.code_steps.specs.declared.step.Step.{Step}
 use Rattle.code_steps.specs.Widths.{size}
 use Rattle.code_steps.specs.Placing.{LiesAt}
 use Rattle.guest_code.specs.Units.{unit_code}
-use Rattle.word_emitter.specs.Pieces.{needs}
 use Rattle.word_emitter.specs.Exits.{follows}
 use Rattle.lawful_units.specs.Knowing.{gaining, gained}
-use Rattle.lawful_units.specs.Lawful.{AreAllKnown, IsLawful, KnownByUnit}
+use Rattle.lawful_units.specs.Lawful.{IsLawful, KnownByUnit}
+use Rattle.lawful_units.specs.Laws.{NeededIsKnown, UnitsAreLawful}
 use Rattle.span_code.specs.declared.span_words.SpanWords.{SpanWords}
 use Rattle.span_code.specs.Pieces.{begins}
 use Rattle.span_code.specs.Neighbours.{address, is_inner, next_such}
@@ -112,8 +111,8 @@ units-length (word ∷ words) = ap suc (units-length words)
 pub record UnitLaws : Type 1 where
   pub paths : PathLaws
   pub follow : AllUnitsFollow
-  pub lawful : (words : List ℕ) → All IsWord words → HasNoFloat words → All IsLawful (units_of words)
-  pub known : (unit : Word) (known : ℕ → Bool) → IsLawful unit → AreAllKnown (needs unit) known → KnownByUnit known unit
+  pub lawful : UnitsAreLawful
+  pub known : NeededIsKnown
 
 module _ (laws : UnitLaws) (site : Site) (order : Order) (words : List ℕ) (leads : ℕ → Bool) (span : SpanWords) (has : HasSpan site words leads span)
     (k : ℕ) (w : Workspace) (x : State) (s : StandsAt order span k w x) where

@@ -1,5 +1,5 @@
 -- The code of units and of pieces has operations.
-use Rattle.std.proofs.Common.{◌≡◌, ℕ, zero, suc, ◌+◌, ◌<◌, ◌≤◌, Bool, true, false, if◌then◌else◌, List, [], ◌∷◌, ◌++◌, All, refl, arith}
+use Rattle.std.proofs.Common.{ℕ, zero, suc, ◌+◌, ◌<◌, ◌≤◌, Bool, true, false, if◌then◌else◌, List, [], ◌∷◌, ◌++◌, All, refl, arith}
 use Rattle.std.specs.List.{flat_map, range_with_len}
 use Rattle.std.proofs.lemmas.Bool.{and_from}
 use Rattle.std.proofs.lemmas.List.Elements.{All-head, All-tail}
@@ -7,18 +7,18 @@ use Rattle.delay_slots.specs.declared.unit.Unit.{Unit}
 use Rattle.jvm_program.specs.declared.kind.Kind.TheVariants.{Int, Top}
 use Rattle.jvm_program.specs.declared.instruction.Instruction.TheVariants as instructions
 use Rattle.code_steps.specs.declared.step.Step.{Step}
-use Rattle.code_steps.specs.Widths.{size}
 use Rattle.guest_layout.specs.FieldNumbers.{register_field}
 use Rattle.guest_code.specs.Units.{unit_code}
 use Rattle.word_emitter.specs.Pieces.{is_needed, is_written, bank_of, units_code, fetched, put_back, for_registers, warm_code}
-use Rattle.lawful_units.specs.Lawful.{IsLawful, KnownByUnit}
+use Rattle.lawful_units.specs.Lawful.{IsLawful}
+use Rattle.lawful_units.specs.Laws.{NeededIsKnown}
 use Rattle.code_assembly.specs.declared.references.References.{References}
 use Rattle.code_assembly.specs.Assembling.{has_operation}
 use Rattle.code_types.specs.Judging.{Rules}
-use Rattle.code_types.specs.Knowing.{UnitTyped}
+use Rattle.code_types.specs.Laws.{UnitsAreTyped}
 use Rattle.code_types.specs.Methods.{owes_nothing}
-use Rattle.code_limits.specs.Weights.{unit_bytes}
-use Rattle.whole_methods.specs.Naming.{is_helper, all_well}
+use Rattle.code_limits.specs.Laws.{UnitsKeepToTheirBytes}
+use Rattle.whole_methods.specs.Naming.{UnitsNameWell, is_helper}
 use Rattle.whole_methods.specs.Whole.{HasHelpers}
 use Rattle.whole_methods.proofs.NamedCode.Steps.{field-is}
 use Rattle.whole_methods.proofs.WholeCode.Operations.{Operates, named, no-switches, operations, operates-append}
@@ -28,19 +28,19 @@ use Rattle.whole_methods.proofs.WholeCode.Sizes.{unit-small}
 
 -- what is known of the code of units
 pub record UnitLaws : Type 0 where
-  pub typed : (unit : Unit) → UnitTyped unit
-  pub known : (unit : Unit) → IsLawful unit → KnownByUnit (λ r. true) unit
-  pub well : (bank at : ℕ) (unit : Unit) → IsLawful unit → all_well is_helper 0 false (unit_code bank unit at) ≡ true
-  pub small : (bank : ℕ) (unit : Unit) (at : ℕ) → size (unit_code bank unit at) ≤ unit_bytes unit
+  pub typed : UnitsAreTyped
+  pub known : NeededIsKnown
+  pub well : UnitsNameWell
+  pub small : UnitsKeepToTheirBytes
 
 module _ (r : References) (has : HasHelpers r) (laws : UnitLaws) where
   pub unit-operates : (bank : ℕ) (unit : Unit) (at : ℕ) → IsLawful unit → Operates r (unit_code bank unit at)
   unit-operates bank unit at lawful =
       let rules : Rules = record { program = of_helpers; owes = owes_nothing } in
-      let t = laws.typed unit rules bank (λ r. true) Top at helper-types lawful (laws.known unit lawful) in
+      let t = laws.typed unit rules bank (λ r. true) Top at helper-types lawful (laws.known unit (λ d. true) lawful (λ d positive below is. refl)) in
       let small = laws.small bank unit at in
       operations r has.fields is_helper (helpers-called r has) 0 false rules (unit_code bank unit at) t.frames _ t.types (omega arith)
-      (omega (arith, small, unit-small unit)) (no-switches of_helpers (unit_code bank unit at) t.frames _ t.types) (laws.well bank at unit lawful)
+      (omega (arith, small, unit-small unit)) (no-switches of_helpers (unit_code bank unit at) t.frames _ t.types) (laws.well 0 false bank at unit lawful)
 
   units-operate : (bank : ℕ) (units : List Unit) (at : ℕ) → All IsLawful units → Operates r (units_code bank units at)
   units-operate bank [] at all = refl

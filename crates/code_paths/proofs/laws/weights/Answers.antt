@@ -1,3 +1,4 @@
+use Rattle.std.proofs.Common.{refl}
 use Rattle.code_paths.proofs.Weighing.{weigh-both, weigh-more, weigh-front, weigh-back}
 use Rattle.code_paths.proofs.laws.weights.Goals as goal
 
@@ -12,3 +13,13 @@ returns-clause-front c = weigh-front
 
 pub returns-clause-back : goal.returns-clause-back
 returns-clause-back c = weigh-back
+
+pub returns-clause-targets : goal.returns-clause-targets
+returns-clause-targets c = record {
+  of_reads = λ name t u. refl;
+  of_chars = λ name t u. refl;
+  of_switches = λ name t u. refl;
+  of_entries = λ is_span name t u. refl;
+  of_gets = λ f name t u. refl;
+  of_puts = λ f name t u. refl;
+}

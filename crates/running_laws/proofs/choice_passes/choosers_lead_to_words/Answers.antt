@@ -1,4 +1,4 @@
-use Rattle.running_laws.proofs.ChoicePasses.Given.{CodeLaws, ChooserLaws, SpanLaws, FactsLaw}
+use Rattle.running_laws.proofs.ChoicePasses.Given.{CodeLaws, ChooserLaws, SpanLaws, ProgramLaws}
 use Rattle.running_laws.proofs.ChoicePasses.Classes.{choose-words, run-words}
 use Rattle.running_laws.proofs.ChoicePasses.Strays.{choose-faults, run-faults}
 use Rattle.running_laws.proofs.choice_passes.choosers_lead_to_words.Goals as goal
@@ -27,35 +27,28 @@ returns c =
       counts = c.spans_are_entered.ensures.counts;
       held = c.fields_hold_all.ensures;
     } in
-    let facts : FactsLaw = λ program order choose missing classes code is_in.
-    let rising = c.classes_rise.ensures program order choose missing classes code is_in in
-    let methods = c.chosen_are_methods.ensures program order choose missing classes code is_in in
-    record {
-      class = λ number d there.
-          let stands = c.classes_stand.ensures program order choose missing classes code is_in number d there in
-          let is_class = stands.has.is_class in
-          let spans_rising = c.spans_rise.ensures d is_class in
-          record {
-            stands = stands;
-            starts = record { some = spans_rising.some; few = spans_rising.few; rise = spans_rising.rise; methods = methods.of_spans number d there };
-            fills = c.words_fill_classes.ensures d is_class;
-            found = λ k less. c.words_are_in_spans.ensures d k is_class less;
-            span_lies = λ j less. c.spans_lie_in_classes.ensures d j is_class less;
-            is_chosen = λ k less. c.words_are_chosen.ensures program order choose missing classes code is_in number d k there less;
-          };
-      starts = record { some = rising.some; few = is_in.few; rise = rising.rise; methods = methods.of_classes };
-      told = c.spans_are_numbered.ensures program order choose missing classes code is_in;
-      strays = c.strays_are_missing.ensures program order choose missing classes code is_in;
+    let program_laws : ProgramLaws = record {
+      classes = record {
+        rise = c.spans_rise.ensures;
+        fill = c.words_fill_classes.ensures;
+        found = c.words_are_in_spans.ensures;
+        lie = c.spans_lie_in_classes.ensures;
+      };
+      rise = c.classes_rise.ensures;
+      methods = c.chosen_are_methods.ensures;
+      stand = c.classes_stand.ensures;
+      numbered = c.spans_are_numbered.ensures;
+      chosen = c.words_are_chosen.ensures;
+      strays = c.strays_are_missing.ensures;
     } in
     λ program words order choose missing classes code is_in.
-    let own_facts = facts program order choose missing classes code is_in in
     record {
       from_choose = λ t word y guest_is found s.
-          choose-words laws choosers spans program words classes choose missing code order is_in own_facts t guest_is word found y s;
+          choose-words laws choosers spans program words classes choose missing code program_laws order is_in t guest_is word found y s;
       from_run = λ t word y guest_is found low s.
-          run-words laws choosers spans program words classes choose missing code order is_in own_facts t guest_is word found y low s;
+          run-words laws choosers spans program words classes choose missing code program_laws order is_in t guest_is word found y low s;
       stray_choose = λ t y stray low s.
-          choose-faults laws choosers spans program words order classes choose missing code is_in own_facts t low stray y s;
+          choose-faults laws choosers spans program_laws program words order classes choose missing code is_in t low stray y s;
       stray_run = λ t y stray low s.
-          run-faults laws choosers spans program words order classes choose missing code is_in own_facts t low stray y s;
+          run-faults laws choosers spans program_laws program words order classes choose missing code is_in t low stray y s;
     }

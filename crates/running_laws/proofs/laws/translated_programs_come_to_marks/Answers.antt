@@ -8,9 +8,6 @@ returns c t extra marked is within marks n answers one goes is_marked =
       loads = c.programs_load.ensures;
       chooses = c.begun_programs_choose.ensures;
       numbered = c.spans_are_numbered.ensures;
-      look_reads = c.weights.ensures.reads;
-      look_chars = c.weights.ensures.chars;
-      look_switches = c.weights.ensures.switches;
-      look_entries = c.weights.ensures.entries;
+      looks = c.weights.ensures.targets;
     } in
     comes-to-marks laws c.turns_are_followed.ensures t is c.marks_are_reached.ensures marked marks extra within n answers one goes is_marked

@@ -8,10 +8,7 @@ returns c t is =
       loads = c.programs_load.ensures;
       chooses = c.begun_programs_choose.ensures;
       numbered = c.spans_are_numbered.ensures;
-      look_reads = c.weights.ensures.reads;
-      look_chars = c.weights.ensures.chars;
-      look_switches = c.weights.ensures.switches;
-      look_entries = c.weights.ensures.entries;
+      looks = c.weights.ensures.targets;
     } in
     let turns = c.turns_are_followed.ensures in
     record {

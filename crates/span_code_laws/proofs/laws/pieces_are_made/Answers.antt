@@ -10,6 +10,6 @@ returns c words leads span k x s are no_float below within =
     let own = own-made words leads span k below
     (c.pieces_are_of_blocks.ensures (units_of words) leads span k (record { words = words; are = refl }) below (omega (arith, total, within)))
     c.instructions_keep_to_their_registers.ensures.writes
-    (λ y i unit stands there. c.unit_is_its_steps.ensures.turns y span.start words i unit stands there)
-    (λ y i unit begun there. c.unit_leads_on.ensures y words i unit begun there) x (c.units_are_lawful.ensures.all words are no_float) s in
+    c.unit_is_its_steps.ensures.turns
+    c.unit_leads_on.ensures x (c.units_are_lawful.ensures.all words are no_float) s in
     record { turns = own.made; goes_on = own.leads }

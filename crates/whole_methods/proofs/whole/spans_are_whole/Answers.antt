@@ -1,5 +1,3 @@
-use Rattle.std.proofs.Common.{refl}
-use Rattle.std.specs.Prelude.{true, false}
 use Rattle.delay_slots.specs.Units.{units_of}
 use Rattle.whole_methods.proofs.WholeCode.Programs.{of_helpers, helper-types}
 use Rattle.whole_methods.proofs.WholeCode.Units.{UnitLaws}
@@ -10,8 +8,8 @@ pub returns : goal.returns
 returns c r words leads span has are_words no_float within some small =
     let laws : UnitLaws = record {
       typed = c.units_are_typed.ensures;
-      known = λ unit lawful. c.needed_is_known.ensures.unit unit (λ d. true) lawful (λ d positive below is. refl);
-      well = λ bank at unit lawful. c.units_name_well.ensures.one 0 false bank at unit lawful;
+      known = c.needed_is_known.ensures.unit;
+      well = c.units_name_well.ensures.one;
       small = c.unit_code_keeps_to_its_bytes.ensures;
     } in
     let units = units_of words in
