@@ -1,5 +1,6 @@
 -- Classes of code: a method for each span of the class's words, and behind them the method that chooses among these.
 use Rattle.std.specs.Prelude.{◌≡◌, ℕ, ◌+◌, ◌*◌, List, [], ◌∷◌, ◌++◌, map, length, codes, slice_index_or}
+use Rattle.delay_slots.specs.Places.{Address}
 use Rattle.std.specs.List.{range_with_len, AllZip}
 use Rattle.jvm_code.specs.declared.class.Class.{Class}
 use Rattle.class_file.specs.ClassFile.{Spells}
@@ -47,7 +48,7 @@ span_plans part spans references count =
 -- ---- the method that chooses among them
 
 -- the address of a word of the part
-abbrev pub address : Part → ℕ → ℕ
+abbrev pub address : Part → ℕ → Address
 address part k = part.start + 4 * (part.first + k)
 
 -- where the method of a span begins, whose number in the program follows that of the span before

@@ -1,5 +1,5 @@
 -- The pages of a class of data.
-use Rattle.std.specs.Prelude.{◌≡◌, ℕ, List}
+use Rattle.std.specs.Prelude.{◌≡◌, List}
 use Rattle.image_parts.specs.Pages.{Page}
 use Rattle.constant_pool.specs.declared.entry.Entry.{Entry}
 use Rattle.loading_code.specs.declared.page_slot.PageSlot.{PageSlot}

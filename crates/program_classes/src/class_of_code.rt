@@ -1,18 +1,18 @@
 //! Classes of code.
 ghost use Rattle.std.specs.Prelude.{◌≡◌, ◌+◌, ◌≤◌, ◌<◌, ◌^◌, All, IfOk, OnOk, length, sum_by};
-ghost use Rattle.command_values.specs.Names.{IsClassName};
 ghost use Rattle.code_steps.specs.Widths.{size};
-ghost use Rattle.program_classes.specs.Parts.{IsCode, IsPart, IsSpan};
+ghost use Rattle.program_classes.specs.Parts.{IsCode, IsSpan};
 ghost use Rattle.program_classes.specs.Code.{IsCodeClass, code_of_span};
 ghost use Rattle.program_classes.specs.Blocks.{pieces_of_class};
 
 use crate::NoMemory;
 use crate::code_naming::named_class;
+use crate::other_class::OtherClass;
 use crate::part::Part;
 use crate::piece::Piece;
 use crate::running::add_run;
 use crate::spans::add_spans;
-use guest_layout::code_class_name;
+use command_values::ClassName;
 use jvm_names::Sequence;
 use method_splitter::Span;
 use std::alloc::Global;
@@ -31,15 +31,13 @@ pub struct CodeClass {
 /// NoMemory alone.
 pub fn code_class(
     alloc: Global,
-    main: &str,
+    main: &ClassName,
     number: u32,
     part: &Part,
     spans: &[Span],
     first_method: u32,
 ) -> Result<CodeClass, NoMemory>
-    requires name { IsClassName main.now }
     requires number { number < 2 ^ 15 }
-    requires part { IsPart part.now }
     requires code { IsCode part.now.units.now }
     requires spans { All (IsSpan part.now.words) spans.now }
     requires some { 1 ≤ length spans.now }
@@ -53,7 +51,7 @@ pub fn code_class(
     ensures pieces_within { IfOk result (λ made.
         All (λ p. p.span < length spans.now) made.pieces.items) }
 {
-    let name = code_class_name(alloc, main, number)?;
+    let name = OtherClass::Code.name(alloc, main, number)?;
     let named = named_class(alloc, name.as_str(), main, spans.len() as u32)?;
     let mut class = named.class;
     let mut references = named.names.with_methods(0, named.helpers);

@@ -1,14 +1,14 @@
 //! A class of data.
 ghost use Rattle.std.specs.Prelude.{◌≤◌, ◌<◌, ◌^◌, All, IfOk, length, map};
-ghost use Rattle.command_values.specs.Names.{IsClassName};
 ghost use Rattle.program_classes.specs.Pages.{page_of};
 ghost use Rattle.program_classes.specs.Data.{IsDataClass};
 
 use crate::NoMemory;
 use crate::data_naming::named_class;
 use crate::filling::{add_fill, add_words};
+use crate::other_class::OtherClass;
 use crate::page_data::PageData;
-use guest_layout::data_class_name;
+use command_values::ClassName;
 use std::alloc::Global;
 
 /// The class of data of this number as a class file: the text of each of its pages, `words([ILjava/lang/String;)V`, which puts a text's
@@ -19,20 +19,19 @@ use std::alloc::Global;
 /// NoMemory alone.
 pub fn data_class(
     alloc: Global,
-    main: &str,
+    main: &ClassName,
     number: u32,
     class: u16,
     first_method: u32,
     pages: &[PageData],
 ) -> Result<Vec<u8>, NoMemory>
-    requires name { IsClassName main.now }
     requires number { number < 2 ^ 15 }
     requires pages { length pages.now ≤ 1024 }
     requires words { All (λ p. length p.words.now ≤ 1024) pages.now }
     ensures { IfOk result (λ bytes. IsDataClass main.now number class first_method
         (map page_of pages.now) bytes.items) }
 {
-    let name = data_class_name(alloc, main, number)?;
+    let name = OtherClass::Data.name(alloc, main, number)?;
     let named = named_class(alloc, name.as_str(), main, pages)?;
     let mut made = named.class;
     let mut methods = Vec::new(alloc);

@@ -1,6 +1,5 @@
 //! The main class.
 ghost use Rattle.std.specs.Prelude.{IfOk};
-ghost use Rattle.command_values.specs.Names.{IsClassName};
 ghost use Rattle.program_classes.specs.Content.{IsMain};
 ghost use Rattle.program_classes.specs.Main.{IsMainClass};
 
@@ -8,6 +7,7 @@ use crate::NoMemory;
 use crate::content::MainClass;
 use crate::main_naming::named_class;
 use crate::methods::{add_helpers, add_others};
+use command_values::ClassName;
 use std::alloc::Global;
 
 /// The main class of this name as a class file: the fields, the helper methods, `run()V`, `choose()V`, `pages(Ljava/lang/String;)V` and
@@ -15,8 +15,7 @@ use std::alloc::Global;
 ///
 /// # Errors
 /// NoMemory alone.
-pub fn main_class(alloc: Global, name: &str, main: &MainClass) -> Result<Vec<u8>, NoMemory>
-    requires name { IsClassName name.now }
+pub fn main_class(alloc: Global, name: &ClassName, main: &MainClass) -> Result<Vec<u8>, NoMemory>
     requires main { IsMain main.now }
     ensures { IfOk result (λ bytes. IsMainClass name.now main.now bytes.items) }
 {

@@ -7,13 +7,14 @@ ghost use Rattle.class_builder.specs.Mentioned.{MentionsOf, method_mention};
 ghost use Rattle.class_builder.specs.Named.{IsMethodAt};
 ghost use Rattle.program_classes.specs.Making.{nothing};
 ghost use Rattle.program_classes.specs.CodeNaming.{AreSpanMethods, IsNamedClass, span_mentions};
-ghost use Rattle.program_classes.specs.Room.{can_name_class, is_own_name};
+ghost use Rattle.program_classes.specs.Room.{is_own_name};
 
 use crate::NoMemory;
 use crate::building::{class_reference, method_reference, new_class};
 use crate::known_helpers::helper_references;
 use crate::names::Names;
 use class_builder::ClassBuilder;
+use command_values::ClassName;
 use guest_layout::span_name;
 use std::alloc::Global;
 
@@ -34,11 +35,10 @@ pub struct NamedClass {
 pub fn named_class(
     alloc: Global,
     name: &str,
-    main: &str,
+    main: &ClassName,
     spans: u32,
 ) -> Result<NamedClass, NoMemory>
     requires name { is_own_name name.now ≡ true }
-    requires main { can_name_class main.now ≡ true }
     requires few { spans ≤ 2048 }
     ensures names { IfOk result (IsNamedClass name.now main.now spans) }
     ensures few { IfOk result (λ n. length n.class.pool ≤ 263 + 4 * spans) }

@@ -4,13 +4,14 @@ ghost use Rattle.std.specs.List.{AllZip};
 ghost use Rattle.program_classes.specs.Making.{AddsMethods};
 ghost use Rattle.program_classes.specs.Pages.{IsPageSlot, page_of};
 ghost use Rattle.program_classes.specs.DataNaming.{IsNamedClass};
-ghost use Rattle.program_classes.specs.Room.{can_name_class, is_own_name};
+ghost use Rattle.program_classes.specs.Room.{is_own_name};
 
 use crate::building::{class_reference, method_reference, new_class};
 use crate::names::Names;
 use crate::page_data::PageData;
 use crate::{NoMemory, building};
 use class_builder::ClassBuilder;
+use command_values::ClassName;
 use data_strings::page_text;
 use loading_code::PageSlot;
 use std::alloc::Global;
@@ -32,11 +33,10 @@ pub struct NamedClass {
 pub fn named_class(
     alloc: Global,
     name: &str,
-    main: &str,
+    main: &ClassName,
     pages: &[PageData],
 ) -> Result<NamedClass, NoMemory>
     requires name { is_own_name name.now ≡ true }
-    requires main { can_name_class main.now ≡ true }
     requires pages { length pages.now ≤ 1024 }
     requires words { All (λ p. length p.words.now ≤ 1024) pages.now }
     ensures names { IfOk result (IsNamedClass name.now main.now (map page_of pages.now)) }

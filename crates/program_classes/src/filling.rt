@@ -25,7 +25,8 @@ pub fn add_words(
     requires few { length class.old.methods < 65535 }
     requires room { length class.old.pool + 10 ≤ 65534 }
     ensures few { OnOk result (length class.new.pool ≤ length class.old.pool + 10) }
-    ensures method { OnOk result (AddsMethods class.old class.new (words_plan references.now ∷ [])) }
+    ensures method { OnOk result
+        (AddsMethods class.old class.new (words_plan references.now ∷ [])) }
 {
     let mut code = Vec::new(alloc);
     append_words(&mut code)?;

@@ -1,6 +1,5 @@
 //! What the main class names.
 ghost use Rattle.std.specs.Prelude.{◌≡◌, ◌≤◌, ◌++◌, IfOk, length};
-ghost use Rattle.command_values.specs.Names.{IsClassName};
 ghost use Rattle.guest_layout.specs.Numbers.{main_methods};
 ghost use Rattle.program_classes.specs.Content.{IsMain, behind};
 ghost use Rattle.program_classes.specs.MainNaming.{IsNamedClass};
@@ -13,6 +12,7 @@ use crate::names::Names;
 use crate::references::method_references;
 use crate::texts::text_slots;
 use class_builder::ClassBuilder;
+use command_values::ClassName;
 use std::alloc::Global;
 
 /// The main class without methods, with the slots of all that its methods name.
@@ -27,15 +27,18 @@ pub struct NamedClass {
 }
 
 /// The main class of this name, with its fields.
-pub fn named_class(alloc: Global, name: &str, main: &MainClass) -> Result<NamedClass, NoMemory>
-    requires name { IsClassName name.now }
+pub fn named_class(
+    alloc: Global,
+    name: &ClassName,
+    main: &MainClass,
+) -> Result<NamedClass, NoMemory>
     requires main { IsMain main.now }
     ensures names { IfOk result (IsNamedClass name.now main.now) }
     ensures count { IfOk result (λ n. length n.methods.items
         ≡ behind main_methods (main.now.code.now ++ main.now.data.now)) }
     ensures few { IfOk result (λ n. length n.class.pool ≤ 30000) }
 {
-    let mut class = new_class(alloc, name)?;
+    let mut class = new_class(alloc, name.as_str())?;
     add_fields(alloc, &mut class)?;
     let names = Names::new(alloc, &mut class, name)?;
     let methods = method_references(alloc, &mut class, name, names.main, main)?;

@@ -37,7 +37,8 @@ pub fn add_helpers(
     requires references { HasHelpers references.now }
     requires none { class.old.methods ≡ [] }
     requires room { length class.old.pool + 120 ≤ 65534 }
-    ensures methods { OnOk result (AddsMethods class.old class.new (helper_plans order references.now 20)) }
+    ensures methods { OnOk result
+        (AddsMethods class.old class.new (helper_plans order references.now 20)) }
     ensures few { OnOk result (length class.new.pool ≤ length class.old.pool + 120) }
 {
     for number in 0..HELPERS {
@@ -184,7 +185,8 @@ fn add_pages(
     requires few { length class.old.methods < 65535 }
     requires room { length class.old.pool + 10 ≤ 65534 }
     ensures few { OnOk result (length class.new.pool ≤ length class.old.pool + 10) }
-    ensures method { OnOk result (AddsMethods class.old class.new (pages_plan references.now ∷ [])) }
+    ensures method { OnOk result
+        (AddsMethods class.old class.new (pages_plan references.now ∷ [])) }
 {
     let mut code = Vec::new(alloc);
     append_pages(&mut code)?;

@@ -1,8 +1,10 @@
 //! The classes beside the main class, of which it calls one method each.
-ghost use Rattle.std.specs.Prelude.{◌≡◌, IfOk, string_bytes};
+ghost use Rattle.std.specs.Prelude.{◌≡◌, ◌<◌, ◌^◌, true, IfOk, string_bytes};
 ghost use Rattle.program_classes.specs.Called as called;
+ghost use Rattle.program_classes.specs.Room.{is_own_name};
 
 use crate::NoMemory;
+use command_values::ClassName;
 use guest_layout::{code_class_name, data_class_name};
 use std::alloc::Global;
 
@@ -15,9 +17,13 @@ pub enum OtherClass {
 
 impl OtherClass {
     /// The name of the class of this kind and number, of the program whose main class is called `main`.
-    pub fn name(self, alloc: Global, main: &str, i: u32) -> Result<String, NoMemory>
-        ensures { IfOk result (λ text. string_bytes text ≡ called.class_name self main.now i) }
+    pub fn name(self, alloc: Global, main: &ClassName, i: u32) -> Result<String, NoMemory>
+        requires { i < 2 ^ 15 }
+        ensures value { IfOk result (λ text. string_bytes text
+            ≡ called.class_name self main.now i) }
+        ensures own { IfOk result (λ text. is_own_name (string_bytes text) ≡ true) }
     {
+        let main = main.as_str();
         match self {
             OtherClass::Code => code_class_name(alloc, main, i),
             OtherClass::Data => data_class_name(alloc, main, i),

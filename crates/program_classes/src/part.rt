@@ -1,6 +1,8 @@
+ghost use Rattle.std.specs.Prelude.{◌≡◌, ◌+◌, ◌*◌, ◌^◌, ◌<◌, ◌≤◌, length};
+
 use delay_slots::Unit;
 
-/// Words of a range of code that go into one class.
+/// Words of a range of code that go into one class. The range ends below address 80000000 (hexadecimal).
 #[derive(Clone, Copy)]
 pub struct Part<'a> {
     /// The units of the whole range, one for each word.
@@ -13,4 +15,7 @@ pub struct Part<'a> {
     pub first: u32,
     /// How many words the class has.
     pub words: u32,
+    pub ghost same_len: { length leads.now ≡ length units.now },
+    pub ghost low: { start + 4 * length units.now < 2 ^ 31 },
+    pub ghost within: { first + words ≤ length units.now },
 }

@@ -1,6 +1,5 @@
 //! The methods that the main class calls.
 ghost use Rattle.std.specs.Prelude.{◌≡◌, ℕ, ◌+◌, ◌*◌, ◌≤◌, ◌<◌, true, ◌++◌, List, IfOk, OnOk, length};
-ghost use Rattle.command_values.specs.Names.{IsClassName};
 ghost use Rattle.guest_layout.specs.Numbers.{main_methods};
 ghost use Rattle.class_builder.specs.Lawful.{has_class};
 ghost use Rattle.class_builder.specs.Named.{IsClassAt};
@@ -15,18 +14,18 @@ use crate::content::MainClass;
 use crate::known_helpers::helper_references;
 use crate::other_class::OtherClass;
 use class_builder::ClassBuilder;
+use command_values::ClassName;
 use std::alloc::Global;
 
 /// The slots of all methods that are called, by their numbers in the program, and 0 for the others. `own` is the slot of the main class.
 pub fn method_references(
     alloc: Global,
     class: &mut ClassBuilder,
-    name: &str,
+    name: &ClassName,
     own: u16,
     main: &MainClass,
 ) -> Result<Vec<u16>, NoMemory>
     requires main { IsMain main.now }
-    requires name { IsClassName name.now }
     requires owner { has_class class.old.pool own ≡ true }
     requires room { length class.old.pool
         + (92 + 6 * length main.now.code.now + 6 * length main.now.data.now) ≤ 65534 }
@@ -71,12 +70,11 @@ fn own_references(alloc: Global, class: &mut ClassBuilder, own: u16) -> Result<V
 fn add_references(
     alloc: Global,
     class: &mut ClassBuilder,
-    name: &str,
+    name: &ClassName,
     kind: OtherClass,
     numbers: &[u32],
     slots: &mut Vec<u16>,
 ) -> Result<(), NoMemory>
-    requires name { IsClassName name.now }
     requires few { length numbers.now ≤ 2048 }
     requires room { length class.old.pool + 6 * length numbers.now ≤ 65534 }
     requires rise { RiseFrom (length slots.old.items) numbers.now }
@@ -100,13 +98,12 @@ fn add_references(
 fn add_reference(
     alloc: Global,
     class: &mut ClassBuilder,
-    name: &str,
+    name: &ClassName,
     kind: OtherClass,
     i: u32,
     number: u32,
     slots: &mut Vec<u16>,
 ) -> Result<(), NoMemory>
-    requires name { IsClassName name.now }
     requires within { i < 2048 }
     requires room { length class.old.pool + 6 ≤ 65534 }
     requires number { length slots.old.items ≤ number }

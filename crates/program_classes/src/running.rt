@@ -1,6 +1,6 @@
 //! The method `run()V` of a class of code.
 ghost use Rattle.std.specs.Prelude.{◌≡◌, ◌+◌, ◌≤◌, ◌<◌, ◌^◌, ◌∷◌, [], All, IfOk, OnOk, length};
-ghost use Rattle.program_classes.specs.Parts.{IsPart, IsSpan};
+ghost use Rattle.program_classes.specs.Parts.{IsSpan};
 ghost use Rattle.program_classes.specs.Making.{AddsMethods};
 ghost use Rattle.program_classes.specs.Code.{address, run_plan, start_at, starts_of};
 
@@ -24,7 +24,6 @@ pub fn add_run(
     spans: &[Span],
     references: &References,
 ) -> Result<(), NoMemory>
-    requires part { IsPart part.now }
     requires spans { All (IsSpan part.now.words) spans.now }
     requires some { 1 ≤ length spans.now }
     requires few { length spans.now ≤ 2048 }
@@ -58,7 +57,6 @@ fn starts_of(
     spans: &[Span],
     first_method: u32,
 ) -> Result<Vec<Start>, NoMemory>
-    requires part { IsPart part.now }
     requires spans { All (IsSpan part.now.words) spans.now }
     requires few { length spans.now ≤ 2048 }
     requires methods { first_method + length spans.now < 2 ^ 32 }
@@ -74,7 +72,6 @@ fn starts_of(
 }
 
 fn start_at(part: &Part, spans: &[Span], k: u32, first_method: u32) -> Start
-    requires part { IsPart part.now }
     requires spans { All (IsSpan part.now.words) spans.now }
     requires within { k < length spans.now }
     requires methods { first_method + length spans.now < 2 ^ 32 }
@@ -88,7 +85,6 @@ fn start_at(part: &Part, spans: &[Span], k: u32, first_method: u32) -> Start
 
 // The address of a word of the part, or of the one behind the last.
 fn address(part: &Part, k: u32) -> u32
-    requires part { IsPart part.now }
     requires within { k ≤ part.now.words }
     ensures { result ≡ address part.now k }
 {

@@ -5,7 +5,7 @@ ghost use Rattle.span_code.specs.Locals.{locals_of};
 ghost use Rattle.span_code.specs.Pieces.{flagged, pieces_of, span_of};
 ghost use Rattle.span_code.specs.Laying.{stretches_of};
 ghost use Rattle.whole_methods.specs.Whole.{HasHelpers};
-ghost use Rattle.program_classes.specs.Parts.{IsCode, IsPart, IsSpan};
+ghost use Rattle.program_classes.specs.Parts.{IsCode, IsSpan};
 ghost use Rattle.program_classes.specs.Making.{AddsMethods};
 ghost use Rattle.program_classes.specs.Code.{code_of_span, span_at, span_plan, span_plans};
 ghost use Rattle.program_classes.specs.Blocks.{first_pieces, is_slot, is_told, placed, span_words, told_pieces};
@@ -35,7 +35,6 @@ pub fn add_spans(
     spans: &[Span],
     references: &References,
 ) -> Result<Vec<Piece>, NoMemory>
-    requires part { IsPart part.now }
     requires spans { All (IsSpan part.now.words) spans.now }
     requires few { length spans.now ≤ 2048 }
     requires code { IsCode part.now.units.now }
@@ -68,7 +67,6 @@ fn add_span(
     k: u32,
     references: &References,
 ) -> Result<SpanMethod, NoMemory>
-    requires part { IsPart part.now }
     requires spans { All (IsSpan part.now.words) spans.now }
     requires within { k < length spans.now }
     requires small { k < 2048 }
@@ -108,7 +106,6 @@ fn add_span(
 }
 
 fn method_of(alloc: Global, part: &Part, span: &Span) -> Result<SpanMethod, NoMemory>
-    requires part { IsPart part.now }
     requires span { IsSpan part.now.words span.now }
     requires size { size (code_of_span part.now span.now) ≤ 65535 }
     ensures code { IfOk result (λ m. m.code.items ≡ code_of_span part.now span.now) }
@@ -135,7 +132,6 @@ fn append_pieces(
     method: &SpanMethod,
     pieces: &mut Vec<Piece>,
 ) -> Result<(), NoMemory>
-    requires part { IsPart part.now }
     requires within { All (λ p. p.first < length part.now.units.now) method.now.pieces.items }
     ensures { OnOk result (pieces.new.items ≡ pieces.old.items
         ++ told_pieces part.now k (zip method.now.pieces.items method.now.stretches.items)) }
@@ -153,7 +149,6 @@ fn append_piece(
     stretch: &Stretch,
     pieces: &mut Vec<Piece>,
 ) -> Result<(), NoMemory>
-    requires part { IsPart part.now }
     requires within { piece.now.first < length part.now.units.now }
     ensures { OnOk result (pieces.new.items ≡ pieces.old.items
         ++ told_pieces part.now k ((piece.now, stretch.now) ∷ [])) }
@@ -166,7 +161,6 @@ fn append_piece(
 
 // Whether a word is the delay slot of the branch before it, and no block begins with it.
 fn is_slot(part: &Part, word: u32) -> bool
-    requires part { IsPart part.now }
     requires within { word < length part.now.units.now }
     ensures { result ≡ is_slot part.now.units.now (flagged part.now.leads.now) word }
 {
@@ -175,7 +169,6 @@ fn is_slot(part: &Part, word: u32) -> bool
 }
 
 fn placed(part: &Part, k: u32, piece: &Block, stretch: &Stretch) -> Piece
-    requires part { IsPart part.now }
     requires within { piece.now.first < length part.now.units.now }
     ensures { result ≡ placed part.now k (piece.now, stretch.now) }
 {

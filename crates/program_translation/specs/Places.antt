@@ -1,5 +1,6 @@
 -- Which words of a program's code each class of code has.
 use Rattle.std.specs.Prelude.{◌≡◌, ℕ, ◌+◌, ◌*◌, List, map, flat_map, Option}
+use Rattle.delay_slots.specs.Places.{Address, WordIndex}
 use Rattle.std.specs.List.{range_with_len}
 use Rattle.elf_reader.specs.declared.range.Range.{Range}
 use Rattle.image_parts.specs.Ranges.{IsRangeCode}
@@ -32,14 +33,14 @@ places_of ranges = flat_map places_in ranges
 
 -- ---- words by their addresses
 
-abbrev pub word_at : Range → ℕ → ℕ
+abbrev pub word_at : Range → WordIndex → Address
 word_at range k = range.first + 4 * k
 
 -- those of a range, and those at a place
-abbrev pub words_in : Range → List ℕ
+abbrev pub words_in : Range → List Address
 words_in range = map (word_at range) (range_with_len 0 range.words)
 
-abbrev pub words_at : Place → List ℕ
+abbrev pub words_at : Place → List Address
 words_at p = map (word_at p.range) (range_with_len p.share.first p.share.count)
 
 -- ---- parts

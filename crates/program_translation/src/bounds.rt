@@ -1,12 +1,20 @@
 ghost use Rattle.std.specs.Prelude.{◌≡◌, ◌≤◌, ◌^◌};
+ghost use Rattle.elf_image.specs.Start.{image_of};
 ghost use Rattle.program_translation.specs.Bounds.{need, allow};
 
-/// How many words of the region the classes of a program with so many mapped pages take: two tables of all pages, an array for
-/// each mapped page, and some for the texts of pages.
-pub fn need(mapped: u32) -> u64
-    ensures { result ≡ need mapped }
+use command_values::RegionWords;
+use elf_image::Image;
+
+/// How many words of the region the classes of an image take: two tables of all pages, an array for each mapped page, and some for the
+/// texts of pages.
+pub fn need(image: &Image) -> RegionWords
+    ensures { result ≡ need (image_of image.now).mapped }
 {
-    2 * 524_290 + 1026 * u64::from(mapped) + 64
+    image.laws();
+    match RegionWords::new(2 * 524_290 + 1026 * image.mapped() + 64) {
+        Some(words) => words,
+        None => unreachable!(),
+    }
 }
 
 /// How many instructions the classes of a program with so many mapped pages, at most 65,536, make at most while the program

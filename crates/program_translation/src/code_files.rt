@@ -1,11 +1,9 @@
 //! The classes of code.
 ghost use Rattle.std.specs.Prelude.{◌≡◌, ◌+◌, ◌≤◌, ◌<◌, ◌^◌, ◌++◌, ◌∷◌, [], All, List, IfOk, OnOk, length, map};
-ghost use Rattle.command_values.specs.MethodBytes.{AreMethodBytes};
-ghost use Rattle.command_values.specs.Names.{IsClassName};
 ghost use Rattle.elf_image.specs.Start.{image_of};
 ghost use Rattle.elf_image.specs.Whole.{IsWholeRange};
 ghost use Rattle.method_splitter.specs.Shares.{share_count};
-ghost use Rattle.program_classes.specs.Parts.{IsCode, IsPart};
+ghost use Rattle.program_classes.specs.Parts.{IsCode};
 ghost use Rattle.program_translation.specs.Places.{Place, class_words, places_in};
 ghost use Rattle.program_translation.specs.Classes.{starts_at};
 ghost use Rattle.program_translation.specs.Blocks.{block_of};
@@ -18,6 +16,7 @@ use crate::coding::{FileOfCode, code_file};
 use crate::named_file::NamedFile;
 use crate::parts::{part_at, part_count};
 use crate::span_info::SpanInfo;
+use command_values::{ClassName, MethodBytes};
 use elf_image::Image;
 use elf_reader::Range;
 use guest_layout::METHODS;
@@ -48,11 +47,9 @@ pub struct Code {
 pub fn code_of(
     alloc: Global,
     image: &Image,
-    name: &str,
-    method_bytes: u32,
+    name: &ClassName,
+    method_bytes: MethodBytes,
 ) -> Result<Code, NoMemory>
-    requires name { IsClassName name.now }
-    requires bytes { AreMethodBytes method_bytes }
     ensures code { IfOk result (IsCodeOf image.now name.now method_bytes) }
     ensures some { IfOk result (λ code. 1 ≤ length code.files.items) }
     ensures few { IfOk result (λ code. length code.files.items ≤ 235) }
@@ -79,12 +76,10 @@ fn add_range(
     code: &mut Code,
     image: &Image,
     range: Range,
-    name: &str,
-    method_bytes: u32,
+    name: &ClassName,
+    method_bytes: MethodBytes,
 ) -> Result<(), NoMemory>
     requires range { IsWholeRange (image_of image.now).code range }
-    requires name { IsClassName name.now }
-    requires bytes { AreMethodBytes method_bytes }
     requires classes { length code.old.files.items + share_count class_words range.words ≤ 235 }
     requires few { HasFew code.old }
     ensures few { OnOk result (HasFew code.new) }
@@ -106,15 +101,12 @@ fn add_class(
     alloc: Global,
     code: &mut Code,
     part: &Part,
-    name: &str,
-    method_bytes: u32,
+    name: &ClassName,
+    method_bytes: MethodBytes,
 ) -> Result<(), NoMemory>
-    requires name { IsClassName name.now }
-    requires part { IsPart part.now }
     requires code { IsCode part.now.units.now }
     requires some { 1 ≤ part.now.words }
     requires few_words { part.now.words ≤ 6144 }
-    requires bytes { AreMethodBytes method_bytes }
     requires classes { length code.old.files.items < 235 }
     requires few { HasFew code.old }
     ensures added { OnOk result (AddsClass name.now method_bytes part.now code.old code.new) }
@@ -134,7 +126,6 @@ fn add_class(
 
 // A class behind the others.
 fn add_file(code: &mut Code, part: &Part, file: FileOfCode) -> Result<(), NoMemory>
-    requires part { IsPart part.now }
     requires run { file.run + 1 < 2 ^ 32 }
     requires before { length code.old.spans.items < 2 ^ 31 }
     requires pieces { All (λ p. p.span < 2048) file.pieces.items }

@@ -1,6 +1,5 @@
 //! Where the words of classes stand.
 ghost use Rattle.std.specs.Prelude.{◌≡◌, ◌+◌, ◌<◌, ◌^◌, ◌++◌, All, OnOk, map};
-ghost use Rattle.program_classes.specs.Parts.{IsPart};
 ghost use Rattle.program_translation.specs.Blocks.{block_of};
 ghost use Rattle.program_translation.specs.Classes.{starts_at};
 
@@ -35,7 +34,6 @@ pub fn add_blocks(
 
 /// Where a class begins, with the number of its method `run()V`, and where its range ends, if it has the last words of this.
 pub fn add_starts(starts: &mut Vec<Start>, part: &Part, run: u32) -> Result<(), NoMemory>
-    requires { IsPart part.now }
     ensures { OnOk result (starts.new.items ≡ starts.old.items ++ starts_at part.now run) }
 {
     starts.push(Start {

@@ -1,8 +1,6 @@
 //! One class of code as a file.
 ghost use Rattle.std.specs.Prelude.{◌≡◌, ◌+◌, ◌≤◌, ◌<◌, ◌^◌, All, IfOk, length};
-ghost use Rattle.command_values.specs.MethodBytes.{AreMethodBytes};
-ghost use Rattle.command_values.specs.Names.{IsClassName};
-ghost use Rattle.program_classes.specs.Parts.{IsCode, IsPart, IsSpan};
+ghost use Rattle.program_classes.specs.Parts.{IsCode, IsSpan};
 ghost use Rattle.program_translation.specs.Adding.{IsFileOfCode};
 ghost use Rattle.program_translation.specs.Classes.{span_info, span_infos};
 
@@ -10,6 +8,7 @@ use crate::NoMemory;
 use crate::named_file::NamedFile;
 use crate::span_info::SpanInfo;
 use crate::spans::spans_of;
+use command_values::{ClassName, MethodBytes};
 use guest_layout::{code_class_name, file_name};
 use method_splitter::Span;
 use program_classes::{Part, Piece, code_class};
@@ -30,17 +29,14 @@ pub struct FileOfCode {
 pub fn code_file(
     alloc: Global,
     part: &Part,
-    name: &str,
+    name: &ClassName,
     classes: usize,
     first_method: u32,
-    method_bytes: u32,
+    method_bytes: MethodBytes,
 ) -> Result<FileOfCode, NoMemory>
-    requires name { IsClassName name.now }
-    requires part { IsPart part.now }
     requires code { IsCode part.now.units.now }
     requires some { 1 ≤ part.now.words }
     requires few { part.now.words ≤ 6144 }
-    requires bytes { AreMethodBytes method_bytes }
     requires classes { classes < 2 ^ 15 }
     requires methods { first_method < 2 ^ 31 }
     ensures value { IfOk result (IsFileOfCode name.now method_bytes classes first_method part.now) }
@@ -53,7 +49,7 @@ pub fn code_file(
     let run = first_method + spans.as_slice().len() as u32;
     let made = code_class(alloc, name, number, part, spans.as_slice(), first_method)?;
     let infos = span_infos(alloc, part, number, spans.as_slice())?;
-    let class_name = code_class_name(alloc, name, number)?;
+    let class_name = code_class_name(alloc, name.as_str(), number)?;
     let file_name = file_name(alloc, class_name.as_str())?;
     Ok(FileOfCode {
         file: NamedFile {
@@ -72,7 +68,6 @@ fn span_infos(
     class: u32,
     spans: &[Span],
 ) -> Result<Vec<SpanInfo>, NoMemory>
-    requires part { IsPart part.now }
     requires spans { All (IsSpan part.now.words) spans.now }
     requires few { length spans.now ≤ 2048 }
     ensures { IfOk result (λ infos. infos.items
@@ -86,7 +81,6 @@ fn span_infos(
 }
 
 fn span_info(part: &Part, class: u32, spans: &[Span], k: u32) -> SpanInfo
-    requires part { IsPart part.now }
     requires spans { All (IsSpan part.now.words) spans.now }
     requires within { k < length spans.now }
     ensures { result ≡ span_info class part.now spans.now k }

@@ -1,6 +1,5 @@
 //! The classes of data.
 ghost use Rattle.std.specs.Prelude.{◌≤◌, ◌<◌, ◌^◌, All, IfOk, OnOk, length, map};
-ghost use Rattle.command_values.specs.Names.{IsClassName};
 ghost use Rattle.program_classes.specs.Pages.{page_of};
 ghost use Rattle.program_translation.specs.DataFiles.{AddsFile, IsDataOf};
 
@@ -8,6 +7,7 @@ use crate::NoMemory;
 use crate::named_file::NamedFile;
 use crate::one_file::data_file;
 use crate::pages::filled_pages;
+use command_values::ClassName;
 use elf_image::Image;
 use method_splitter::{share_at, share_count, shared};
 use program_classes::PageData;
@@ -32,11 +32,10 @@ pub struct Data {
 pub fn data_of(
     alloc: Global,
     image: &Image,
-    name: &str,
+    name: &ClassName,
     code_classes: usize,
     methods: u32,
 ) -> Result<Data, NoMemory>
-    requires name { IsClassName name.now }
     requires classes { code_classes < 2 ^ 15 }
     requires methods { methods < 2 ^ 31 }
     ensures { IfOk result (IsDataOf image.now name.now code_classes methods) }
@@ -57,13 +56,12 @@ pub fn data_of(
 fn add_class(
     alloc: Global,
     made: &mut Data,
-    name: &str,
+    name: &ClassName,
     code_classes: usize,
     methods: u32,
     k: usize,
     pages: &[PageData],
 ) -> Result<(), NoMemory>
-    requires name { IsClassName name.now }
     requires classes { code_classes < 2 ^ 15 }
     requires methods { methods < 2 ^ 31 }
     requires number { k < 2 ^ 15 }

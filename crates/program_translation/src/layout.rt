@@ -1,5 +1,6 @@
 use crate::block_info::BlockInfo;
 use crate::span_info::SpanInfo;
+use command_values::RegionWords;
 
 /// Where the words of a program stand in its classes, and how much memory a run of them takes.
 #[derive(Debug, Drop)]
@@ -9,5 +10,5 @@ pub struct Layout {
     /// The blocks, by span and offset.
     pub blocks: Vec<BlockInfo>,
     /// The words of the region in which the classes run.
-    pub need: u64,
+    pub need: RegionWords,
 }

@@ -1,6 +1,5 @@
 //! The main class as a file.
 ghost use Rattle.std.specs.Prelude.{◌≡◌, ◌<◌, ◌≤◌, ◌++◌, All, IfOk, length};
-ghost use Rattle.command_values.specs.Names.{IsClassName};
 ghost use Rattle.guest_layout.specs.Numbers.{main_methods};
 ghost use Rattle.program_classes.specs.Content.{RiseFrom, behind};
 ghost use Rattle.program_translation.specs.MainFile.{IsMainFile, beginning_of};
@@ -9,6 +8,7 @@ use crate::NoMemory;
 use crate::code_files::Code;
 use crate::data_files::Data;
 use crate::named_file::NamedFile;
+use command_values::ClassName;
 use elf_image::Image;
 use guest_layout::file_name;
 use image_parts::page_runs;
@@ -21,11 +21,10 @@ use std::alloc::Global;
 pub fn main_file(
     alloc: Global,
     image: &Image,
-    name: &str,
+    name: &ClassName,
     code: &Code,
     stored: &Data,
 ) -> Result<NamedFile, NoMemory>
-    requires name { IsClassName name.now }
     requires some { 1 ≤ length code.now.starts.items }
     requires few { length code.now.starts.items ≤ 1200 }
     requires few_code { length code.now.runs.items ≤ 2048 }
@@ -47,7 +46,7 @@ pub fn main_file(
     };
     let bytes = main_class(alloc, name, &main)?;
     Ok(NamedFile {
-        name: file_name(alloc, name)?,
+        name: file_name(alloc, name.as_str())?,
         bytes,
     })
 }

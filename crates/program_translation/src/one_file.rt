@@ -1,11 +1,11 @@
 //! One class of data as a file.
 ghost use Rattle.std.specs.Prelude.{◌≤◌, ◌<◌, ◌^◌, All, IfOk, length, map};
-ghost use Rattle.command_values.specs.Names.{IsClassName};
 ghost use Rattle.program_classes.specs.Pages.{page_of};
 ghost use Rattle.program_translation.specs.DataFiles.{IsFileOfPages};
 
 use crate::NoMemory;
 use crate::named_file::NamedFile;
+use command_values::ClassName;
 use guest_layout::{data_class_name, file_name};
 use program_classes::{PageData, data_class};
 use std::alloc::Global;
@@ -14,20 +14,20 @@ use std::alloc::Global;
 /// method.
 pub fn data_file(
     alloc: Global,
-    name: &str,
+    name: &ClassName,
     number: u16,
     class: u16,
     first_method: u32,
     pages: &[PageData],
 ) -> Result<NamedFile, NoMemory>
-    requires name { IsClassName name.now }
     requires number { number < 2 ^ 15 }
     requires pages { length pages.now ≤ 1024 }
     requires words { All (λ p. length p.words.now ≤ 1024) pages.now }
-    ensures { IfOk result (IsFileOfPages name.now number class first_method (map page_of pages.now)) }
+    ensures { IfOk result
+        (IsFileOfPages name.now number class first_method (map page_of pages.now)) }
 {
     let bytes = data_class(alloc, name, u32::from(number), class, first_method, pages)?;
-    let class_name = data_class_name(alloc, name, u32::from(number))?;
+    let class_name = data_class_name(alloc, name.as_str(), u32::from(number))?;
     Ok(NamedFile {
         name: file_name(alloc, class_name.as_str())?,
         bytes,

@@ -1,7 +1,6 @@
 //! Which words of a range each class of code has.
 ghost use Rattle.std.specs.Prelude.{◌≡◌, ◌<◌, ◌≤◌};
 ghost use Rattle.method_splitter.specs.Shares.{share_count};
-ghost use Rattle.program_classes.specs.Parts.{IsPart};
 ghost use Rattle.program_translation.specs.Parts.{IsLow, IsPartOf};
 ghost use Rattle.program_translation.specs.Places.{class_words};
 
@@ -24,7 +23,6 @@ pub fn part_at(range: &RangeCode, words: u32, k: usize) -> Part<'_>
     requires low { IsLow range.now words }
     requires within { k < share_count class_words words }
     ensures value { IsPartOf range.now words k result }
-    ensures part { IsPart result }
     ensures some { 1 ≤ result.words }
     ensures few { result.words ≤ 6144 }
 {

@@ -1,14 +1,14 @@
 //! The spans of a part of the code.
 ghost use Rattle.std.specs.Prelude.{◌≡◌, ◌≤◌, ◌<◌, All, IfOk, length, sum_by};
-ghost use Rattle.command_values.specs.MethodBytes.{AreMethodBytes};
 ghost use Rattle.code_steps.specs.Widths.{size};
 ghost use Rattle.program_classes.specs.Code.{code_of_span};
-ghost use Rattle.program_classes.specs.Parts.{IsPart, IsSpan};
+ghost use Rattle.program_classes.specs.Parts.{IsSpan};
 ghost use Rattle.program_translation.specs.Spans.{AreSpans, weight_at, weights_of};
 
 use crate::NoMemory;
 use code_limits::size_laws::divided_words_keep_to_the_limit;
 use code_limits::weight;
+use command_values::MethodBytes;
 use method_splitter::{Span, cut};
 use program_classes::Part;
 use std::alloc::Global;
@@ -18,11 +18,13 @@ use std::alloc::Global;
 ///
 /// # Errors
 /// Want of memory for the spans.
-pub fn spans_of(alloc: Global, part: &Part, method_bytes: u32) -> Result<Vec<Span>, NoMemory>
-    requires part { IsPart part.now }
+pub fn spans_of(
+    alloc: Global,
+    part: &Part,
+    method_bytes: MethodBytes,
+) -> Result<Vec<Span>, NoMemory>
     requires some { 1 ≤ part.now.words }
     requires few { part.now.words ≤ 6144 }
-    requires bytes { AreMethodBytes method_bytes }
     ensures value { IfOk result (λ spans. AreSpans part.now method_bytes spans.items) }
     ensures within { IfOk result (λ spans. All (IsSpan part.now.words) spans.items) }
     ensures some { IfOk result (λ spans. 1 ≤ length spans.items) }
@@ -33,13 +35,12 @@ pub fn spans_of(alloc: Global, part: &Part, method_bytes: u32) -> Result<Vec<Spa
 {
     divided_words_keep_to_the_limit();
     let weights = weights_of(alloc, part)?;
-    let spans = cut(alloc, weights.as_slice(), method_bytes)?;
+    let spans = cut(alloc, weights.as_slice(), method_bytes.get())?;
     Ok(spans)
 }
 
 // The weights of the words of a part.
 fn weights_of(alloc: Global, part: &Part) -> Result<Vec<u32>, NoMemory>
-    requires { IsPart part.now }
     ensures value { IfOk result (λ weights. weights.items ≡ weights_of part.now part.now.words) }
     ensures count { IfOk result (λ weights. length weights.items ≡ part.now.words) }
     ensures bound { IfOk result (λ weights. All (λ w. w ≤ 412) weights.items) }
@@ -52,7 +53,6 @@ fn weights_of(alloc: Global, part: &Part) -> Result<Vec<u32>, NoMemory>
 }
 
 fn weight_at(part: &Part, k: u32) -> u32
-    requires part { IsPart part.now }
     requires within { k < part.now.words }
     ensures value { result ≡ weight_at part.now k }
     ensures bound { result ≤ 412 }

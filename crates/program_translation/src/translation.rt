@@ -1,6 +1,4 @@
 ghost use Rattle.std.specs.Prelude.{◌≡◌, ◌∷◌, ◌++◌, IfOk};
-ghost use Rattle.command_values.specs.MethodBytes.{AreMethodBytes};
-ghost use Rattle.command_values.specs.Names.{IsClassName};
 ghost use Rattle.program_translation.specs.Translation.{IsTranslation};
 
 use crate::NoMemory;
@@ -11,25 +9,23 @@ use crate::data_files::data_of;
 use crate::layout::Layout;
 use crate::main_file::main_file;
 use crate::named_file::NamedFile;
+use command_values::{ClassName, MethodBytes};
 use elf_image::Image;
 use std::alloc::Global;
 
 /// The classes of a program, as files.
 ///
-/// The main class has the name `name`: a letter, then letters and digits, in ASCII, 64 at most. The classes of code have this name
-/// with `_0` and on, those of data with `_D0` and on. The code of each span's method has at most `method_bytes` bytes, which is
-/// 4,096 to 65,535.
+/// The main class has the name `name`. The classes of code have this name with `_0` and on, those of data with `_D0` and on. The code of
+/// each span's method has at most `method_bytes` bytes.
 ///
 /// # Errors
 /// Want of memory for the classes.
 pub fn translate(
     alloc: Global,
     image: &Image,
-    name: &str,
-    method_bytes: u32,
+    name: &ClassName,
+    method_bytes: MethodBytes,
 ) -> Result<Built, NoMemory>
-    requires name { IsClassName name.now }
-    requires method_bytes { AreMethodBytes method_bytes }
     ensures { IfOk result (IsTranslation image.now name.now method_bytes) }
 {
     let code = code_of(alloc, image, name, method_bytes)?;
@@ -40,7 +36,7 @@ pub fn translate(
         layout: Layout {
             spans: code.spans,
             blocks: code.blocks,
-            need: need(image.mapped()),
+            need: need(image),
         },
     })
 }

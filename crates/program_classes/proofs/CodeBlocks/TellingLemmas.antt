@@ -12,7 +12,7 @@ use Rattle.span_code.specs.Pieces.{flagged, all_words, begins, piece_at, pieces_
 use Rattle.span_code.specs.Laying.{stretch_at, stretches_of}
 use Rattle.program_classes.specs.declared.part.Part.{Part}
 use Rattle.program_classes.specs.declared.piece.Piece.{Piece}
-use Rattle.program_classes.specs.Parts.{IsPart, IsSpan}
+use Rattle.program_classes.specs.Parts.{IsSpan}
 use Rattle.program_classes.specs.Code.{span_at}
 use Rattle.program_classes.specs.Blocks.{is_slot, span_words, piece_of, pieces_of_span, first_pieces, placed, is_told, told_pieces}
 use Rattle.program_classes.proofs.ClassMaking.ZipLemmas.{range-more}
@@ -70,9 +70,9 @@ pieces-next part spans k ps ss old new pieces stretches before after =
     ∙ sym (pieces-more part spans k)
 
 -- pieces begin with words of the range
-pub pieces-within : (part : Part) (spans : List Span) (j : ℕ) → IsPart part → IsSpan part.words (span_at spans j)
+pub pieces-within : (part : Part) (spans : List Span) (j : ℕ) → IsSpan part.words (span_at spans j)
     → All (λ (p : Block). p.first < length part.units.now) (pieces_of part.units.now (flagged part.leads.now) (span_words part spans j))
-pieces-within part spans j is own =
+pieces-within part spans j own =
     let units = part.units.now in
     let leads = flagged part.leads.now in
     let span = span_words part spans j in
@@ -80,4 +80,4 @@ pieces-within part spans j is own =
     All-map (λ (p : Block). p.first < length units) (piece_at units leads span) (filter (begins leads span) words)
     (All-filter (begins leads span) (λ k. k < length units) words
     (All-weaker (λ k. (span.first ≤ k) × (k < span.first + (span.end - span.first))) (λ k. k < length units)
-    (λ k within. omega (arith, within.1, is.within, own.within)) words (range-all span.first (span.end - span.first))))
+    (λ k within. omega (arith, within.1, part.within, own.within)) words (range-all span.first (span.end - span.first))))

@@ -1,10 +1,10 @@
 -- The code of a span is that of a method, and takes few slots.
-use Rattle.std.proofs.Common.{◌≡◌, ℕ, suc, ◌+◌, ◌-◌, ◌*◌, ◌<◌, ◌≤◌, Bool, true, false, List, [], ◌∷◌, length, All, refl, ap, sym, arith, subst}
-use Rattle.nv_words.specs.Words.{IsWord}
+use Rattle.std.proofs.Common.{◌≡◌, ℕ, suc, ◌+◌, ◌*◌, ◌<◌, ◌≤◌, Bool, true, false, List, [], ◌∷◌, length, All, refl, ap, sym, arith, subst}
 use Rattle.delay_slots.specs.declared.unit.Unit.{Unit}
-use Rattle.delay_slots.specs.Units.{units_of, HasNoFloat}
+use Rattle.delay_slots.specs.Units.{units_of}
 use Rattle.constant_pool.specs.declared.entry.Entry.{Entry}
 use Rattle.code_steps.specs.Widths.{size}
+use Rattle.lawful_units.specs.Laws.{UnitsAreLawful}
 use Rattle.lawful_units.specs.Lawful.{IsLawful}
 use Rattle.method_splitter.specs.declared.span.Span.{Span}
 use Rattle.span_code.specs.declared.span_words.SpanWords.{SpanWords}
@@ -13,20 +13,13 @@ use Rattle.span_code.specs.Laying.{span_code}
 use Rattle.code_assembly.specs.declared.references.References.{References}
 use Rattle.code_assembly.specs.Assembling.{slots_of}
 use Rattle.class_builder.specs.Code.{is_code}
+use Rattle.code_limits.specs.Laws.{SpansTakeFewSlots}
 use Rattle.whole_methods.specs.Naming.{SpansNameWell, is_helper}
 use Rattle.whole_methods.specs.Whole.{CanBeMethod, HasHelpers, SpansAreWhole}
 use Rattle.program_classes.specs.declared.part.Part.{Part}
-use Rattle.program_classes.specs.Parts.{IsCode, IsPart, IsSpan}
+use Rattle.program_classes.specs.Parts.{IsCode, IsSpan}
 use Rattle.program_classes.specs.Code.{code_of_span}
 use Rattle.program_classes.proofs.Rooms.CodeLemmas.{no-texts, whole-code}
-
--- the laws of spans
-abbrev pub AllLawful : Type 0
-AllLawful = (words : List ℕ) → All IsWord words → HasNoFloat words → All IsLawful (units_of words)
-
-abbrev pub AllFew : Type 0
-AllFew =
-    (units : List Unit) (leads : ℕ → Bool) (span : SpanWords) → slots_of (span_code units leads span) ≤ 2 + 9 * (span.end - span.first)
 
 units-length : (words : List ℕ) → length (units_of words) ≡ length words
 units-length [] = refl
@@ -40,19 +33,19 @@ span-whole whole r units leads span helpers code within some small =
     (omega (arith, within, ap length code.units_are, units-length code.words)) some
     (subst (λ u. size (span_code u leads span) ≤ 65535) code.units_are small))
 
-pub span-is-code : AllLawful → SpansNameWell → SpansAreWhole → (r : References) (pool : List Entry) (part : Part) (s : Span) → HasHelpers r
-    → IsPart part → IsCode part.units.now → IsSpan part.words s → size (code_of_span part s) ≤ 65535
+pub span-is-code : UnitsAreLawful → SpansNameWell → SpansAreWhole → (r : References) (pool : List Entry) (part : Part) (s : Span) → HasHelpers r
+    → IsCode part.units.now → IsSpan part.words s → size (code_of_span part s) ≤ 65535
     → is_code r pool (code_of_span part s) ≡ true
-span-is-code lawful well whole r pool part s helpers is code own small =
+span-is-code lawful well whole r pool part s helpers code own small =
     let units = part.units.now in
     let leads = flagged part.leads.now in
     let span = span_of part.start (part.first + s.first) s.words in
     let all = subst (All IsLawful) (sym code.units_are) (lawful code.words code.are_words code.no_float) in
     whole-code r pool (code_of_span part s)
-    (span-whole whole r units leads span helpers code (omega (arith, is.within, own.within)) (omega (arith, own.some)) small)
+    (span-whole whole r units leads span helpers code (omega (arith, part.within, own.within)) (omega (arith, own.some)) small)
     (no-texts pool is_helper false (code_of_span part s) (well 0 units leads span all) (well 1 units leads span all))
 
-pub span-slots : AllFew → (part : Part) (s : Span) → slots_of (code_of_span part s) ≤ 2 + 9 * s.words
+pub span-slots : SpansTakeFewSlots → (part : Part) (s : Span) → slots_of (code_of_span part s) ≤ 2 + 9 * s.words
 span-slots few part s =
     let span = span_of part.start (part.first + s.first) s.words in
     omega (arith, few part.units.now (flagged part.leads.now) span)

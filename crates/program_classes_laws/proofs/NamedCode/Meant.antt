@@ -7,25 +7,16 @@ use Rattle.constant_pool.specs.declared.entry.Entry.{Entry}
 use Rattle.constant_pool.specs.declared.entry.Entry.TheVariants.{MethodRef}
 use Rattle.constant_pool.specs.Names.{same_text}
 use Rattle.jvm_code.specs.declared.class.Class.{Class}
-use Rattle.jvm_code.specs.declared.names.pool_name.PoolName.TheVariants.{Invokestatic}
-use Rattle.name_resolution.specs.Names.{signature, reference, host_name, method_number}
-use Rattle.jvm_link.specs.Linking.{pool_instruction}
+use Rattle.name_resolution.specs.Names.{host_name}
 use Rattle.code_assembly.specs.declared.references.References.{References}
 use Rattle.code_assembly.specs.Assembling.{Extends, has_method}
-use Rattle.class_builder.specs.Named.{IsClassAt, IsMethodAt}
+use Rattle.class_builder.specs.Laws.{MethodsAreMeant}
+use Rattle.class_builder.specs.Named.{IsClassAt}
 use Rattle.whole_methods.specs.Naming.{is_helper}
 use Rattle.program_classes.specs.Named.{AreMembers}
 use Rattle.program_classes_laws.specs.Meaning.{AreCalled, HaveMethodNumbers, IsMethodNumber}
 
--- the law of the slot of a method
-abbrev pub SlotLaw : Type 0
-SlotLaw =
-    (classes : List Class) (number : ℕ) (c : Class) (pool : List Entry) (slot class n : ℕ) (owner name descriptor : List ℕ)
-    → Extends pool c.pool → IsClassAt pool class owner → IsMethodAt pool slot class name descriptor
-    → same_text owner host_name ≡ false → method_number classes (reference owner (signature name descriptor)) ≡ Some n
-    → pool_instruction classes number c Invokestatic slot ≡ instructions.Call n
-
-module _ (law : SlotLaw) (r : References) (classes : List Class) (number : ℕ) (c : Class) (pool : List Entry) (goes_on : Extends pool c.pool) where
+module _ (law : MethodsAreMeant) (r : References) (classes : List Class) (number : ℕ) (c : Class) (pool : List Entry) (goes_on : Extends pool c.pool) where
   pub numbered-called : (calls : ℕ → Bool)
       → ((m : ℕ) → calls m ≡ true → IsMethodNumber classes pool (slice_index r.methods (m - r.first_method)) m)
       → AreCalled r classes number c calls

@@ -15,7 +15,6 @@ use Rattle.program_classes.specs.Code.{span_plans, run_plan, span_plan}
 use Rattle.program_classes.proofs.ClassMaking.MakingLemmas.{adds-more, made-all, adds-fields, adds-name}
 use Rattle.program_classes.proofs.CodeBlocks.RisingLemmas.{pieces-numbered}
 use Rattle.program_classes.specs.Room.{is_own_name}
-use Rattle.program_classes.proofs.LawfulNames.CharacterLemmas.{code-own, main-named}
 use Rattle.program_classes.proofs.Rooms.CountLemmas.{adds-count, plans-count}
 use Rattle.program_classes.proofs.class_of_code.code_class.Goals as goal
 
@@ -40,7 +39,7 @@ returns-clause-class c =
     let run_added : AddsMethods middle final last =
     subst (λ r. AddsMethods middle final (run_plan part spans c.args.first_method r ∷ [])) other c.in_ok-add_run.ensures in
     let all = adds-more named.class middle final before last spans_added run_added in
-    let name_is = c.as_str.ensures.value ∙ c.in_ok-name.ensures in
+    let name_is = c.as_str.ensures.value ∙ c.in_ok-name.ensures.value in
     record {
       class = final;
       spells = c.in_ok-bytes.ensures.spelled;
@@ -69,11 +68,7 @@ returns-clause-pieces_within c =
 
 pub named_class-requires-clause-name : goal.named_class-requires-clause-name
 named_class-requires-clause-name c =
-    subst (λ name. is_own_name name ≡ true) (sym (c.as_str.ensures.value ∙ c.in_ok-name.ensures))
-    (code-own c.args.main.now c.args.number c.requires.name c.requires.number)
-
-pub named_class-requires-clause-main : goal.named_class-requires-clause-main
-named_class-requires-clause-main c = main-named c.args.main.now c.requires.name
+    subst (λ name. is_own_name name ≡ true) (sym c.as_str.ensures.value) c.in_ok-name.ensures.own
 
 pub add_spans-requires-clause-references : goal.add_spans-requires-clause-references
 add_spans-requires-clause-references c =

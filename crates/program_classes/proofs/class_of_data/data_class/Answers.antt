@@ -16,7 +16,6 @@ use Rattle.loading_code.specs.declared.page_slot.PageSlot.{PageSlot}
 use Rattle.program_classes.specs.Room.{is_own_name}
 use Rattle.program_classes.specs.Pages.{IsPageSlot}
 use Rattle.program_classes.proofs.DataClasses.NameLemmas.{slots-later}
-use Rattle.program_classes.proofs.LawfulNames.CharacterLemmas.{data-own, main-named}
 use Rattle.program_classes.proofs.Rooms.CountLemmas.{adds-count, has-numbered, pages-there, zip-length}
 use Rattle.std.proofs.lemmas.List.{length-map}
 use Rattle.program_classes.proofs.class_of_data.data_class.Goals as goal
@@ -42,7 +41,7 @@ returns c =
     let all : AddsMethods named.class final plans =
     adds-more named.class middle final (words_plan references ∷ []) (fill_plan named.texts.items number words references ∷ [])
     first_added second_added in
-    let name_is = c.as_str.ensures.value ∙ c.in_ok-name.ensures in
+    let name_is = c.as_str.ensures.value ∙ c.in_ok-name.ensures.value in
     record {
       class = final;
       spells = c.in_ok-finish.ensures.spelled;
@@ -65,11 +64,7 @@ returns c =
 
 pub named_class-requires-clause-name : goal.named_class-requires-clause-name
 named_class-requires-clause-name c =
-    subst (λ name. is_own_name name ≡ true) (sym (c.as_str.ensures.value ∙ c.in_ok-name.ensures))
-    (data-own c.args.main.now c.args.number c.requires.name c.requires.number)
-
-pub named_class-requires-clause-main : goal.named_class-requires-clause-main
-named_class-requires-clause-main c = main-named c.args.main.now c.requires.name
+    subst (λ name. is_own_name name ≡ true) (sym c.as_str.ensures.value) c.in_ok-name.ensures.own
 
 pub add_words-requires-clause-fields : goal.add_words-requires-clause-fields
 add_words-requires-clause-fields c =

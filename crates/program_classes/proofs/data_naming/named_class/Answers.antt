@@ -48,8 +48,8 @@ returns-clause-names c =
 pub class_reference-requires-clause-name : goal.class_reference-requires-clause-name
 class_reference-requires-clause-name c = own-named c.args.name.now c.requires.name
 
-pub new-requires-clause-room : goal.new-requires-clause-room
-new-requires-clause-room c = omega (arith, c.in_ok-class.ensures.few, c.in_ok-own.ensures.grown.pool.few)
+pub new-requires : goal.new-requires
+new-requires c = omega (arith, c.in_ok-class.ensures.few, c.in_ok-own.ensures.grown.pool.few)
 
 pub method_reference-requires-clause-room : goal.method_reference-requires-clause-room
 method_reference-requires-clause-room c =

@@ -1,4 +1,7 @@
-use Rattle.std.proofs.Common.{◌++◌, sym, ◌∙◌, subst, length, arith}
+use Rattle.std.proofs.Common.{◌≡◌, [], ◌∷◌, ◌++◌, sym, ◌∙◌, subst, length, true, arith}
+use Rattle.name_resolution.specs.Names.{object_name}
+use Rattle.class_builder.specs.Named.{IsClassAt}
+use Rattle.class_builder.specs.Mentioned.{Mentions, OfClass}
 use Rattle.class_builder.proofs.Mentions.{mentions-still}
 use Rattle.program_classes.proofs.ClassMaking.NamingLemmas.{names-slots, names-more, names-still, names-all, named-methods, named-fields, named-name}
 use Rattle.program_classes.specs.Mentioned.{names_mentions}
@@ -7,8 +10,9 @@ use Rattle.program_classes.specs.Fields.{AreFields}
 use Rattle.program_classes.specs.MainMentioned.{called_mentions}
 use Rattle.program_classes.proofs.MainClasses.FieldLemmas.{fields-later, fields-made, fields-keep-methods, fields-keep-name}
 use Rattle.program_classes.proofs.MainClasses.CalledLemmas.{methods-later}
+use Rattle.program_classes.specs.Room.{is_own_name}
 use Rattle.program_classes.proofs.Rooms.CountLemmas.{class-there}
-use Rattle.program_classes.proofs.LawfulNames.CharacterLemmas.{main-own, main-named}
+use Rattle.program_classes.proofs.LawfulNames.CharacterLemmas.{main-own}
 use Rattle.program_classes.proofs.LawfulNames.TextLemmas.{few-shares}
 use Rattle.program_classes.proofs.main_naming.named_class.Goals as goal
 
@@ -32,23 +36,26 @@ returns-clause-names c =
       fields_are =
           subst (λ l. AreFields fourth.pool l 38) (sym (named-fields first fourth more all))
           (fields-later first.pool fourth.pool all.pool first.fields 38 (fields-made begun first 38 fields c.in_ok-class.ensures.fields));
-      named = named-name first fourth more _ all (fields-keep-name begun first 38 _ fields c.in_ok-class.ensures.named);
+      named =
+          named-name first fourth more _ all
+          (fields-keep-name begun first 38 _ fields (subst (IsClassAt begun.pool begun.this_class) c.as_str.ensures.value c.in_ok-class.ensures.named));
       names = record {
         names_are = names-later second.pool fourth.pool from_second.pool _ c.in_ok-names.names c.in_ok-names.ensures.there;
         methods_are = methods-later third.pool fourth.pool from_third.pool _ _ _ c.in_ok-methods.methods.items c.in_ok-methods.ensures.there;
         texts_are = c.in_ok-texts.ensures.there;
       };
-      mentions = names-all first fourth _ more (mentions-still begun.pool first.pool _ c.in_ok-class.ensures.mentions fields.mentions) all;
+      mentions =
+          names-all first fourth _ more
+          (mentions-still begun.pool first.pool _
+          (subst (λ name. Mentions begun.pool (OfClass name ∷ OfClass object_name ∷ [])) c.as_str.ensures.value c.in_ok-class.ensures.mentions)
+          fields.mentions) all;
     }
 
 pub new_class-requires : goal.new_class-requires
-new_class-requires c = main-own c.args.name.now c.requires.name
+new_class-requires c = subst (λ name. is_own_name name ≡ true) (sym c.as_str.ensures.value) (main-own c.args.name.now c.as_str.ensures.lawful)
 
-pub new-requires-clause-room : goal.new-requires-clause-room
-new-requires-clause-room c = omega (arith, c.in_ok-class.ensures.few, c.in_ok-add_fields.ensures.few)
-
-pub new-requires-clause-main : goal.new-requires-clause-main
-new-requires-clause-main c = main-named c.args.name.now c.requires.name
+pub new-requires : goal.new-requires
+new-requires c = omega (arith, c.in_ok-class.ensures.few, c.in_ok-add_fields.ensures.few)
 
 pub method_references-requires-clause-owner : goal.method_references-requires-clause-owner
 method_references-requires-clause-owner c = class-there c.new.new.class.pool c.in_ok-names.names.main _ c.in_ok-names.ensures.there.main_is

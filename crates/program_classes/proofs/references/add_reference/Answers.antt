@@ -1,4 +1,4 @@
-use Rattle.std.proofs.Common.{◌≡◌, ◌+◌, [], ◌∷◌, ◌++◌, length, ap, sym, ◌∙◌, arith, subst, true}
+use Rattle.std.proofs.Common.{◌≡◌, ◌+◌, [], ◌∷◌, ◌++◌, length, ap, sym, ◌∙◌, arith, subst, true, string_bytes}
 use Rattle.std.proofs.lemmas.List.{length_push, get_or_push}
 use Rattle.class_builder.specs.Named.{IsClassAt, IsMethodAt}
 use Rattle.class_builder.specs.Mentioned.{OfClass, method_mention, mentioned, Mentions}
@@ -9,7 +9,8 @@ use Rattle.program_classes.specs.Called.{BeginsWith, class_name, method_name, sl
 use Rattle.program_classes.proofs.MainClasses.CalledLemmas.{begins-more}
 use Rattle.program_classes.proofs.Rooms.CountLemmas.{class-there}
 use Rattle.program_classes.specs.Room.{can_name_class, can_name_method}
-use Rattle.program_classes.proofs.LawfulNames.OtherLemmas.{other-named, called-named}
+use Rattle.program_classes.proofs.LawfulNames.CharacterLemmas.{own-named}
+use Rattle.program_classes.proofs.LawfulNames.OtherLemmas.{called-named}
 use Rattle.program_classes.proofs.references.add_reference.Goals as goal
 
 pub returns : goal.returns
@@ -20,7 +21,7 @@ returns c =
     let slot = c.in_ok-slot.slot in
     let pushed = c.in_ok-push.ensures.items in
     let count = c.in_ok-fill_up.ensures.count in
-    let name_is = c.as_str.ensures.value ∙ c.in_ok-other.ensures in
+    let name_is = c.as_str.ensures.value ∙ c.in_ok-other.ensures.value in
     let grown = c.in_ok-slot.ensures.grown in
     let start = c.args.class.now in
     let of = class_name c.args.kind c.args.name.now c.args.i in
@@ -56,8 +57,7 @@ returns c =
 
 pub class_reference-requires-clause-name : goal.class_reference-requires-clause-name
 class_reference-requires-clause-name c =
-    subst (λ name. can_name_class name ≡ true) (sym (c.as_str.ensures.value ∙ c.in_ok-other.ensures))
-    (other-named c.args.kind c.args.name.now c.args.i c.requires.name c.requires.within)
+    subst (λ name. can_name_class name ≡ true) (sym c.as_str.ensures.value) (own-named (string_bytes c.in_ok-other.other) c.in_ok-other.ensures.own)
 
 pub method_reference-requires-clause-room : goal.method_reference-requires-clause-room
 method_reference-requires-clause-room c = omega (arith, c.requires.room, c.in_ok-owner.ensures.grown.pool.few)

@@ -11,12 +11,14 @@ use Rattle.program_classes.specs.Code.{span_plans}
 use Rattle.program_classes.proofs.Rooms.CountLemmas.{adds-count, plans-count}
 use Rattle.program_classes.proofs.spans.add_spans.Goals as goal
 
-pub append_pieces-requires-clause-within : goal.append_pieces-requires-clause-within
-append_pieces-requires-clause-within c =
+pub append_pieces-requires : goal.append_pieces-requires
+append_pieces-requires c =
     let part = c.args.part.now in
     let own = c.requires.spans c.loop-k.k (record { first = 0; words = 0 }) c.loop-k-test.true in
-    subst (All (λ (p : Block). p.first < length part.units.now)) (sym c.in_ok-method.ensures.pieces)
-    (pieces-within part c.args.spans.now c.loop-k.k c.requires.part own)
+    record {
+      within = subst (All (λ (p : Block). p.first < length part.units.now)) (sym c.in_ok-method.ensures.pieces)
+          (pieces-within part c.args.spans.now c.loop-k.k own);
+    }
 
 pub loop-k-preserved : goal.loop-k-preserved
 loop-k-preserved c =

@@ -1,6 +1,7 @@
-use Rattle.std.proofs.Common.{◌≡◌, ◌<◌, ◌++◌, All, length, flat_map, ap, sym, subst, arith}
+use Rattle.std.proofs.Common.{◌≡◌, ◌<◌, ◌++◌, All, length, flat_map, ap, sym, ◌∙◌, subst, arith}
 use Rattle.elf_image.specs.Start.{readable, writable}
 use Rattle.image_parts.specs.Runs.{IsRun, pages_of, pages_below, run_pages}
+use Rattle.guest_layout.specs.ClassNames.{file_name}
 use Rattle.guest_layout.specs.Numbers.{main_methods}
 use Rattle.trampoline.specs.declared.start.Start.{Start}
 use Rattle.program_classes.specs.declared.content.MainClass.{MainClass}
@@ -8,26 +9,28 @@ use Rattle.program_classes.specs.Content.{RiseFrom, behind}
 use Rattle.program_translation.proofs.Counts.PageLemmas.{runs-few}
 use Rattle.program_translation.proofs.main_file.main_file.Goals as goal
 
-pub main_class-requires-clause-main : goal.main_class-requires-clause-main
-main_class-requires-clause-main c =
+pub main_class-requires : goal.main_class-requires
+main_class-requires c =
     let source = c.args.image.now in
     let starts = c.as_slice-2.ensures.value in
     let code = c.as_slice-3.ensures.value in
     let most =
     runs-few (readable source) (writable source) pages_below c.in_ok-runs.runs.items c.in_ok-runs.ensures.sound c.in_ok-runs.ensures.pages in
     record {
-      some = omega (arith, ap length starts, c.requires.some);
-      few = omega (arith, ap length starts, c.requires.few);
-      few_code = omega (arith, ap length code, c.requires.few_code);
-      few_data = omega (arith, ap length c.as_slice-4.ensures.value, c.requires.few_data);
-      few_runs = omega (arith, ap length c.as_slice.ensures.value, most);
-      runs = subst (All IsRun) (sym c.as_slice.ensures.value) c.in_ok-runs.ensures.sound;
-      rise =
-          subst (λ code. RiseFrom main_methods (code ++ c.as_slice-4.result.now)) (sym code)
-          (subst (λ fills. RiseFrom main_methods (c.args.code.now.runs.items ++ fills)) (sym c.as_slice-4.ensures.value) c.requires.rise);
-      known =
-          subst (λ code. All (λ (s : Start). s.method < behind main_methods code) c.as_slice-2.result.now) (sym code)
-          (subst (λ starts. All (λ (s : Start). s.method < behind main_methods c.args.code.now.runs.items) starts) (sym starts) c.requires.known);
+      main = record {
+        some = omega (arith, ap length starts, c.requires.some);
+        few = omega (arith, ap length starts, c.requires.few);
+        few_code = omega (arith, ap length code, c.requires.few_code);
+        few_data = omega (arith, ap length c.as_slice-4.ensures.value, c.requires.few_data);
+        few_runs = omega (arith, ap length c.as_slice.ensures.value, most);
+        runs = subst (All IsRun) (sym c.as_slice.ensures.value) c.in_ok-runs.ensures.sound;
+        rise =
+            subst (λ code. RiseFrom main_methods (code ++ c.as_slice-4.result.now)) (sym code)
+            (subst (λ fills. RiseFrom main_methods (c.args.code.now.runs.items ++ fills)) (sym c.as_slice-4.ensures.value) c.requires.rise);
+        known =
+            subst (λ code. All (λ (s : Start). s.method < behind main_methods code) c.as_slice-2.result.now) (sym code)
+            (subst (λ starts. All (λ (s : Start). s.method < behind main_methods c.args.code.now.runs.items) starts) (sym starts) c.requires.known);
+      };
     }
 
 pub returns : goal.returns
@@ -41,7 +44,7 @@ returns c =
       «data» = c.as_slice-4.result;
     } in
     record {
-      named = c.in_ok-file_name.ensures;
+      named = c.in_ok-file_name.ensures ∙ ap file_name c.as_str.ensures.value;
       main = main;
       content = record {
         beginning_is = c.beginning_of.ensures;

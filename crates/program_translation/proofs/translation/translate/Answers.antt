@@ -7,7 +7,6 @@ use Rattle.trampoline.specs.declared.start.Start.{Start}
 use Rattle.program_classes.specs.Content.{RiseFrom, behind}
 use Rattle.program_translation.specs.Classes.{IsCodeFile, run_of}
 use Rattle.program_translation.specs.DataFiles.{AreDataFiles, class_count, filled_pages, fill_of, fills_of}
-use Rattle.program_translation.specs.Bounds.{need}
 use Rattle.program_translation.specs.MainFile.{IsMainFile}
 use Rattle.program_translation.specs.Translation.{code_methods, fills_behind}
 use Rattle.program_translation.proofs.Counts.PageLemmas.{data-few}
@@ -26,7 +25,6 @@ main_file-requires c =
     let long = AllZip-long (IsCodeFile name) classes c.in_ok-code.code.files.items told.files_are in
     let rise = rise-calls 0 classes count follow in
     record {
-      name = c.requires.name;
       some = omega (arith, ap length told.starts_are, starts-some classes (omega (arith, long, coded.some)));
       few = omega (arith, ap length told.starts_are, starts-few classes, long, coded.few);
       few_code = omega (arith, ap length told.runs_are, length-map classes run_of, long, coded.few);
@@ -82,5 +80,5 @@ returns c =
           (subst (λ m. AreDataFiles name c.len.result m pages count data_files) methods stored.files_are);
       spans_are = coded.told.spans_are;
       blocks_are = coded.told.blocks_are;
-      need_is = c.need.ensures ∙ ap need c.mapped.ensures.sum;
+      need_is = c.need.ensures;
     }

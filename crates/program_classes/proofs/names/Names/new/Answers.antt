@@ -1,10 +1,14 @@
-use Rattle.std.proofs.Common.{arith}
+use Rattle.std.proofs.Common.{◌≡◌, ◌++◌, true, sym, subst, arith}
+use Rattle.class_builder.specs.Named.{IsClassAt}
+use Rattle.class_builder.specs.Mentioned.{Mentions, mentioned}
 use Rattle.constant_pool.specs.declared.entry.Entry.TheVariants.{FieldRef}
 use Rattle.guest_layout.specs.Fields.{field_name, field_descriptor}
 use Rattle.code_assembly.proofs.Pools.{extends-further}
 use Rattle.program_classes.proofs.ProgramNames.NamedLemmas.{class-later, members-later, host-later, strings-later, grown-further}
-use Rattle.program_classes.specs.Mentioned.{field_mentions, host_mentions, string_mentions}
+use Rattle.program_classes.specs.Mentioned.{field_mentions, host_mentions, names_mentions, string_mentions}
 use Rattle.program_classes.proofs.ProgramNames.MentionLemmas.{mentions-all}
+use Rattle.program_classes.specs.Room.{can_name_class}
+use Rattle.program_classes.proofs.LawfulNames.CharacterLemmas.{main-named}
 use Rattle.program_classes.proofs.Rooms.CountLemmas.{class-there}
 use Rattle.program_classes.proofs.names.Names.new.Goals as goal
 
@@ -20,7 +24,9 @@ returns-clause-there c =
     let from_second = extends-further second.pool third.pool fifth.pool c.in_ok-host.ensures.grown.pool.kept from_third in
     let from_first = extends-further first.pool second.pool fifth.pool c.in_ok-fields.ensures.grown.pool.kept from_second in
     record {
-      main_is = class-later first.pool fifth.pool from_first c.in_ok-main.main _ c.in_ok-main.ensures.there;
+      main_is =
+          subst (IsClassAt fifth.pool c.in_ok-main.main) c.as_str.ensures.value
+          (class-later first.pool fifth.pool from_first c.in_ok-main.main _ c.in_ok-main.ensures.there);
       fields_are = members-later second.pool fifth.pool from_second FieldRef field_name field_descriptor c.in_ok-main.main c.in_ok-fields.fields.items 38 c.in_ok-fields.ensures.there;
       host_is = host-later third.pool fifth.pool from_third c.in_ok-host.host c.in_ok-host.ensures.there;
       strings_are = strings-later fourth.pool fifth.pool from_fourth c.in_ok-strings.strings c.in_ok-strings.ensures.there;
@@ -45,10 +51,16 @@ returns-clause-grown c =
 
 pub returns-clause-mentions : goal.returns-clause-mentions
 returns-clause-mentions c =
-    mentions-all c.args.class.now.pool c.class_reference.new.class.pool c.field_references.new.class.pool c.host_slots.new.class.pool
-    c.string_slots.new.class.pool c.class_reference-2.new.class.pool c.in_ok-main.main _ _ (λ owner. field_mentions owner 38) host_mentions
+    let fifth = c.class_reference-2.new.class in
+    subst (λ name. Mentions fifth.pool (mentioned c.args.class.now.pool ++ names_mentions name)) c.as_str.ensures.value
+    (mentions-all c.args.class.now.pool c.class_reference.new.class.pool c.field_references.new.class.pool c.host_slots.new.class.pool
+    c.string_slots.new.class.pool fifth.pool c.in_ok-main.main _ _ (λ owner. field_mentions owner 38) host_mentions
     string_mentions _ c.in_ok-main.ensures.mentions c.in_ok-main.ensures.there c.in_ok-fields.ensures.mentions
-    c.in_ok-host.ensures.mentions c.in_ok-strings.ensures.mentions c.in_ok-ints.ensures.mentions
+    c.in_ok-host.ensures.mentions c.in_ok-strings.ensures.mentions c.in_ok-ints.ensures.mentions)
+
+pub class_reference-requires-clause-name : goal.class_reference-requires-clause-name
+class_reference-requires-clause-name c =
+    subst (λ name. can_name_class name ≡ true) (sym c.as_str.ensures.value) (main-named c.args.main.now c.as_str.ensures.lawful)
 
 pub field_references-requires-clause-room : goal.field_references-requires-clause-room
 field_references-requires-clause-room c = omega (arith, c.requires.room, c.in_ok-main.ensures.grown.pool.few)
