@@ -15,3 +15,5 @@ pub mod Staying
 pub mod Warm
 pub mod Sizes
 pub mod Ends
+pub mod Again
+pub mod Entered

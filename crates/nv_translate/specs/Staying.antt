@@ -5,6 +5,7 @@ use Rattle.nv_events.specs.Answer.{Answer, fits}
 use Rattle.nv_events.specs.Turn.{Turn, moves, ends, leaves, asks}
 use Rattle.run_laws.specs.Trail.{advanced}
 use Rattle.mips_decode.specs.State as guest
+use Rattle.code_steps.specs.Offsets.{CodeOffset}
 use Rattle.jvm_program.specs.declared.instruction.Instruction.{Instruction}
 use Rattle.jvm_program.specs.Step.{State, Frame}
 use Rattle.running_laws.specs.SpanCodeLaws.Helpers.{helper_count}
@@ -22,9 +23,9 @@ StaysInside site n x = (i : ℕ) (z : State) → i ≤ n → advanced (turn_in s
     → RunsInside site z.frames
 
 -- behind a question too, by each answer
-abbrev pub StaysAnswered : (site : Site) (high most : ℕ) (total : (Instruction → ℕ) → ℕ)
-    (Arrives : State → guest.State → Type 0) (q : Question)
-    (next : Answer → guest.State) (used place : ℕ) (own : Turn State)
+abbrev pub StaysAnswered : (site : Site) (high : CodeOffset) (most : ℕ)
+    (total : (Instruction → ℕ) → ℕ) (Arrives : State → guest.State → Type 0) (q : Question)
+    (next : Answer → guest.State) (used : ℕ) (place : CodeOffset) (own : Turn State)
     → LastInSpan site high most total Arrives (asks q next) used place own → Type 0
 StaysAnswered site high most total Arrives q next used place (asks r then) like =
     (a : Answer) (fit : IsTrue (fits a q)) → StaysInside site (like.1.comes a fit).turns (then a)
@@ -33,8 +34,8 @@ StaysAnswered site high most total Arrives q next used place (ends e) like = ⊤
 StaysAnswered site high most total Arrives q next used place (leaves r e) like = ⊤
 
 -- While the classes follow turns of the guest, it is so.
-abbrev pub Stays : (site : Site) (low high least most : ℕ) (total : (Instruction → ℕ) → ℕ)
-    (Arrives : State → guest.State → Type 0) (x : State)
+abbrev pub Stays : (site : Site) (low high : CodeOffset) (least most : ℕ)
+    (total : (Instruction → ℕ) → ℕ) (Arrives : State → guest.State → Type 0) (x : State)
     (last : Turn guest.State) → FollowsInSpan site low high least most total Arrives x last → Type 0
 Stays site low high least most total Arrives x (moves t) f = StaysInside site f.turns x
 Stays site low high least most total Arrives x (ends e) f = StaysInside site f.turns x

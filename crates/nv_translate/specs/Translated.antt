@@ -8,8 +8,10 @@ use Rattle.class_set.specs.ClassSets.{class_set}
 use Rattle.class_set.specs.declared.loaded.Loaded.TheVariants.{Classes}
 use Rattle.program_translation.specs.declared.built.Built.{Built}
 use Rattle.program_translation.specs.Translation.{IsTranslation}
+use Rattle.nv_translate.specs.Again.{RunsAgain}
 use Rattle.nv_translate.specs.Counts.{CountsAlike}
 use Rattle.nv_translate.specs.Ends.{EndsAlike}
+use Rattle.nv_translate.specs.Entered.{GoesOnAlike}
 use Rattle.nv_translate.specs.Linked.{IsLinked}
 use Rattle.nv_translate.specs.Running.{RunsAlike}
 use Rattle.nv_translate.specs.Sizes.{AreLeast, AreSized}
@@ -34,6 +36,10 @@ pub record Translated (source : Source) (name : Text) (method_bytes : ℕ) (buil
   pub runs : RunsAlike source (program_of linked.classes)
   -- So over the system of the commands: they end as the program does, with the same files and the same output, and only where it does.
   pub ends : EndsAlike source linked.classes
+  -- They run so again and again, once the fields of the main class are 0 and null again, whatever runs before have left.
+  pub again : RunsAgain source (program_of linked.classes)
+  -- And they go on so where the host has put the program and enters `choose()V`.
+  pub entered : GoesOnAlike source (program_of linked.classes)
   -- It reads at most as many words of memory as the program makes accesses for which one is read, no character, and enters spans at most once for
   -- each time that the program goes from one to another, and once more. These are sums over whole runs.
   pub counts : CountsAlike source built.layout (program_of linked.classes)

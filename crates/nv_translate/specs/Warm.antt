@@ -7,6 +7,7 @@ use Rattle.nv_events.specs.Turn.{Turn, moves, ends, leaves, asks}
 use Rattle.nv_events.specs.declared.outcome.Outcome.TheVariants.{Going}
 use Rattle.run_laws.specs.Runs.{ComesBy}
 use Rattle.mips_decode.specs.State as guest
+use Rattle.delay_slots.specs.Places.{WordIndex}
 use Rattle.mips_decode.specs.Step as guest_step
 use Rattle.delay_slots.specs.declared.unit.Unit.{Unit}
 use Rattle.delay_slots.specs.Units.{units_of}
@@ -72,7 +73,7 @@ pub record IsPieceOf (classes : List CodeClass) (layout : Layout) (b : BlockInfo
   -- the number of the span's method in the program
   pub method_is : class.first_method + span ≡ span_number b.span (told_span number class span)
   -- its first word, by its number in the range: a word of the span with which a piece begins
-  pub word : ℕ
+  pub word : WordIndex
   pub above : (span_words class span).first ≤ word
   pub below : word < (span_words class span).end
   pub begin : begins class.leads (span_words class span) word ≡ true
@@ -87,8 +88,8 @@ pub record IsPieceOf (classes : List CodeClass) (layout : Layout) (b : BlockInfo
   pub to_is : b.to ≡ (stretch_at (units_of class.words) class.leads (span_words class span) word).to
 
 -- The piece of a span that begins with a word has a block.
-pub record HasBlock (classes : List CodeClass) (layout : Layout) (number span word : ℕ)
-    : Type 0 where
+pub record HasBlock (classes : List CodeClass) (layout : Layout) (number span : ℕ)
+    (word : WordIndex) : Type 0 where
   -- the block, by its place in the layout
   pub place : ℕ
   pub block : BlockInfo

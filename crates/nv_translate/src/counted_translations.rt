@@ -8,9 +8,9 @@ use crate::translated_methods::translations_stand;
 use running_laws::images_are_pages;
 use running_laws::laws::translated_programs_count_alike;
 
-/// The classes of a translation read at most as many words of memory as the program makes accesses for which one is read, and no character. They
-/// enter spans of the layout, and switch, at most once for each crossing of the program between these, and once more: for every list of answers of the
-/// system and every number of turns.
+/// Behind their first call the classes of a translation read at most as many words of memory as the program makes accesses for which one is read,
+/// and no character. They switch there, and enter spans of the layout in their whole run, at most once for each crossing of the program between
+/// these, and once more: for every list of answers of the system and every number of turns.
 pub fn translations_count_alike()
     ensures { OfTranslations CountsAlike }
 {

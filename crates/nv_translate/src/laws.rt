@@ -12,7 +12,9 @@ ghost use Rattle.nv_translate.specs.Translated.{Translated};
 use crate::accepted_translations::{translations_are_accepted, translations_are_sets};
 use crate::counted_translations::translations_count_alike;
 use crate::ended_translations::runs_end_alike;
+use crate::entered_translations::translations_go_on;
 use crate::linked_translations::translations_link;
+use crate::repeated_translations::translations_run_again;
 use crate::sized_translations::{translated_spans_are_least, translated_spans_keep_to_the_limit};
 use crate::translated_loading::{others_do_not_load, translations_load};
 use crate::translated_methods::translations_stand;
@@ -49,6 +51,8 @@ pub fn images_are_translated(image: &Image)
     translated_spans_are_least();
     translations_run_alike();
     runs_end_alike();
+    translations_run_again();
+    translations_go_on();
     translations_count_alike();
     translations_are_warm();
 }

@@ -5,9 +5,11 @@
 pub mod accepted_translations;
 pub mod counted_translations;
 pub mod ended_translations;
+pub mod entered_translations;
 pub mod laws;
 mod layouts;
 pub mod linked_translations;
+pub mod repeated_translations;
 pub mod sized_translations;
 pub mod translated_loading;
 pub mod translated_methods;

@@ -1,18 +1,16 @@
 ghost use Rattle.std.specs.Prelude.{IfOk};
-ghost use Rattle.command_values.specs.MethodBytes.{AreMethodBytes};
-ghost use Rattle.command_values.specs.Names.{IsClassName};
 ghost use Rattle.nv_translate.specs.Translated.{Translated};
 
 use crate::laws::images_are_translated;
+use command_values::{ClassName, MethodBytes};
 use elf_image::Image;
 use program_translation::{Built, NoMemory};
 use std::alloc::Global;
 
 /// Translates a program to class files.
 ///
-/// The main class has the name `name`: a letter, then letters and digits, in ASCII, 64 at most. The classes of code have this name
-/// with `_0` and on, those of data with `_D0` and on. The code of each span's method has at most `method_bytes` bytes, which is
-/// 4,096 to 65,535.
+/// The main class has the name `name`. The classes of code have this name with `_0` and on, those of data with `_D0` and on. The code of
+/// each span's method has at most `method_bytes` bytes.
 ///
 /// These classes link, each method of theirs is typed, and they run as the program that was translated: they make the same calls of the
 /// system, with the same bytes, and end in the same way, for all answers of the system and every bound.
@@ -22,13 +20,13 @@ use std::alloc::Global;
 pub fn translate(
     alloc: Global,
     image: &Image,
-    name: &str,
-    method_bytes: u32,
+    name: &ClassName,
+    method_bytes: MethodBytes,
 ) -> Result<Built, NoMemory>
-    requires name { IsClassName name.now }
-    requires method_bytes { AreMethodBytes method_bytes }
     ensures { IfOk result (Translated image.now name.now method_bytes) }
 {
     images_are_translated(image);
+    name.laws();
+    method_bytes.laws();
     program_translation::translate(alloc, image, name, method_bytes)
 }

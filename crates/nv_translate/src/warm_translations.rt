@@ -16,7 +16,7 @@ use running_laws::{
 /// The blocks of a translation's layout are the pieces of its code, each once and in the order of their addresses. What runs of each is its code over
 /// local variables: from the address of its first word the span's method goes there; from there the classes follow the program through the piece, to
 /// the next block or out of the span, while nothing else runs; and the code reads and writes the field of each register at most once. Wherever the
-/// program comes to the first word of a block, the classes come to its code.
+/// program comes to the first word of a block between units, the classes come to its code, and what they have there matches the program's state.
 pub fn translations_are_warm()
     ensures { OfTranslations IsWarm }
 {

@@ -12,9 +12,9 @@ use Rattle.class_builder.proofs.Meant.{call-meant}
 use Rattle.program_classes_laws.specs.Before.{methods_before}
 use Rattle.program_classes_laws.proofs.LinkedNumbers.Numbers.{method-number, own-unknown}
 use Rattle.program_classes_laws.specs.Meaning.{HaveFieldNumbers, HaveMethodNumbers}
-use Rattle.program_classes_laws.proofs.NamedCode.Meant.{SlotLaw}
+use Rattle.class_builder.specs.Laws.{MethodsAreMeant}
 
-pub slot-law : SlotLaw
+pub slot-law : MethodsAreMeant
 slot-law classes number c pool slot class n owner name descriptor goes_on of is other numbered =
     call-meant c pool goes_on classes slot class n owner name descriptor of is other numbered
 

@@ -6,7 +6,7 @@ use Rattle.std.specs.Cmp.Derive.{both_true}
 use Rattle.std.proofs.lemmas.Option.{slice_get_within, get_or_from_slice_get}
 use Rattle.nv_words.specs.Words.{IsWord}
 use Rattle.mips_decode.specs.Table.{is_float}
-use Rattle.delay_slots.specs.Units.{HasNoFloat, units_of}
+use Rattle.delay_slots.specs.Units.{HasNoFloat}
 use Rattle.delay_slots.specs.declared.unit.Unit.{Unit}
 use Rattle.elf_reader.specs.declared.range.Range.{Range}
 use Rattle.elf_image.specs.Start.{Source, image_of}
@@ -14,14 +14,11 @@ use Rattle.elf_image.specs.Whole.{IsPlainWord, IsWholeRange}
 use Rattle.image_parts.specs.Ranges.{IsRangeCode}
 use Rattle.method_splitter.specs.Shares.{share_count}
 use Rattle.running_laws.specs.SpanCodeLaws.Lawful.{IsLawful}
+use Rattle.running_laws.specs.SpanCodeLaws.LawfulUnits.{UnitsAreLawful}
 use Rattle.program_translation.specs.Classes.{Placed, IsPlaced, AreCodeClasses}
 use Rattle.program_translation.specs.Places.{Place, class_words, place_at, places_in, places_of}
 use Rattle.nv_translate.specs.WholeCode.{HasWholeCode}
 use Rattle.nv_translate.proofs.LinkedTranslations.Lists.{mapped-from, get-either, zip-second, all-got}
-
--- the law of units of words
-abbrev pub LawfulLaw : Type 0
-LawfulLaw = (words : List ℕ) → All IsWord words → HasNoFloat words → All IsLawful (units_of words)
 
 all-pass : {A : Type 0} (test : A → Bool) (xs : List A) → ((k : ℕ) (x : A) → slice_get xs k ≡ Some x → test x ≡ true) → list_all test xs ≡ true
 all-pass test [] each = refl
@@ -36,7 +33,7 @@ range-of P (r ∷ ranges) all k p e = elim (get-either (places_in r) (places_of 
   | inr behind ↦ range-of P ranges (λ j d h. all (suc j) d (omega (arith, h))) behind.0 p behind.2
 ]
 
-module _ (law : LawfulLaw) (code : ℕ → Option ℕ) (range : Range) (units : List Unit) (leads : List Bool) (whole : IsWholeRange code range)
+module _ (law : UnitsAreLawful) (code : ℕ → Option ℕ) (range : Range) (units : List Unit) (leads : List Bool) (whole : IsWholeRange code range)
     (is : IsRangeCode code range units leads) where
   plain-word : (k w : ℕ) → slice_get is.words k ≡ Some w → IsWord w × (is_float w ≡ false)
   plain-word k w e =
@@ -50,7 +47,7 @@ module _ (law : LawfulLaw) (code : ℕ → Option ℕ) (range : Range) (units : 
       let plain : HasNoFloat is.words = all-pass (λ w. not (is_float w)) is.words (λ k w e. ap not (plain-word k w e).1) in
       subst (All IsLawful) (sym is.units_are) (law is.words fit plain)
 
-pub code-lawful : LawfulLaw → (source : Source) (method_bytes : ℕ) (code : List Placed) → HasWholeCode source → AreCodeClasses source method_bytes code
+pub code-lawful : UnitsAreLawful → (source : Source) (method_bytes : ℕ) (code : List Placed) → HasWholeCode source → AreCodeClasses source method_bytes code
     → (i : ℕ) (c : Placed) → slice_get code i ≡ Some c → All IsLawful c.part.units.now
 code-lawful law source method_bytes code whole are i c at =
     let words = (image_of source).code in

@@ -9,6 +9,7 @@ use Rattle.elf_image.specs.Start.{Source}
 use Rattle.jvm_code.specs.declared.class.Class.{Class}
 use Rattle.name_resolution.specs.Faults.{twice_fault}
 use Rattle.jvm_link.specs.Linking.{program_of}
+use Rattle.running_laws.specs.SpanCodeLaws.LawfulUnits.{UnitsAreLawful}
 use Rattle.guest_layout.specs.ClassNames.{code_class_name, data_class_name}
 use Rattle.guest_layout.specs.Numbers.{main_methods, missing_number}
 use Rattle.trampoline.specs.declared.start.Start.{Start}
@@ -24,7 +25,7 @@ use Rattle.nv_translate.specs.WholeCode.{HasWholeCode}
 use Rattle.nv_translate.specs.Linked.{IsLinked, HasCodeClass, HasDataClass}
 use Rattle.nv_translate.proofs.LinkedTranslations.Lists.{mapped-get, mapped-length, get-either, get-one}
 use Rattle.nv_translate.proofs.LinkedTranslations.Knowing.{HasMain, owner-no-host}
-use Rattle.nv_translate.proofs.LinkedTranslations.Lawful.{LawfulLaw, code-lawful}
+use Rattle.nv_translate.proofs.LinkedTranslations.Lawful.{code-lawful}
 use Rattle.nv_translate.proofs.LinkedTranslations.CodeMethods.{has-code, run-number}
 use Rattle.nv_translate.proofs.LinkedTranslations.DataMethods.{has-data, fill-number}
 use Rattle.nv_translate.proofs.LinkedTranslations.MainMethods.{has_number, HasNumber, HasOthers, has-main, fields-are, no-more-fields, first-is, texts-are, main-planned}
@@ -62,7 +63,7 @@ there-is (c ∷ code) (suc i) below = there-is code i (omega (arith, below))
 
 -- ---- the whole
 
-module _ (names-law : NamesAreMeant) (lawful-law : LawfulLaw) (source : Source) (name : Text) (method_bytes : ℕ) (built : Built) (whole : HasWholeCode source)
+module _ (names-law : NamesAreMeant) (lawful-law : UnitsAreLawful) (source : Source) (name : Text) (method_bytes : ℕ) (built : Built) (whole : HasWholeCode source)
     (class_name : IsClassName name) (t : IsTranslation source name method_bytes built) where
   abbrev main : MainClass
   main = t.main_is.main

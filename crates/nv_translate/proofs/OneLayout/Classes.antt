@@ -23,7 +23,7 @@ record AreSame (c d : Placed) : Type 0 where
 placed_spans : (method_bytes : ℕ) (c d : Placed) → AreAlike c.part d.part → AreSpans c.part method_bytes c.spans
     → AreSpans d.part method_bytes d.spans → c.spans ≡ d.spans
 placed_spans method_bytes c d alike are are' =
-    let weights : weights_of c.part c.part.words ≡ weights_of d.part d.part.words = alike_at (λ p. weights_of p p.words) c.part d.part alike in
+    let weights : weights_of c.part c.part.words ≡ weights_of d.part d.part.words = alike_at (λ p. weights_of p p.words) c.part d.part alike (λ same_len low within. refl) in
     spans_one 0 (weights_of c.part c.part.words) method_bytes c.spans d.spans are.cuts are.fills
     (subst (λ w. Cuts 0 w method_bytes d.spans) (sym weights) are'.cuts)
     (subst (λ w. Fills w method_bytes d.spans) (sym weights) are'.fills)
@@ -54,7 +54,7 @@ classes_same code method_bytes (place ∷ places) number first (c ∷ a) (d ∷ 
 infos_same : (c d : Placed) → AreSame c d → spans_of_class c ≡ spans_of_class d
 infos_same c d same =
     let parts : span_infos d.number c.part d.spans (length d.spans) ≡ span_infos d.number d.part d.spans (length d.spans) =
-    alike_at (λ p. span_infos d.number p d.spans (length d.spans)) c.part d.part same.parts in
+    alike_at (λ p. span_infos d.number p d.spans (length d.spans)) c.part d.part same.parts (λ same_len low within. refl) in
     ap (λ n. span_infos n c.part c.spans (length c.spans)) same.number
     ∙ ap (λ l. span_infos d.number c.part l (length l)) same.spans
     ∙ parts
@@ -62,7 +62,7 @@ infos_same c d same =
 pieces_same : (c d : Placed) → AreSame c d → pieces_of_class c.part c.spans ≡ pieces_of_class d.part d.spans
 pieces_same c d same =
     let parts : pieces_of_class c.part d.spans ≡ pieces_of_class d.part d.spans =
-    alike_at (λ p. pieces_of_class p d.spans) c.part d.part same.parts in
+    alike_at (λ p. pieces_of_class p d.spans) c.part d.part same.parts (λ same_len low within. refl) in
     ap (pieces_of_class c.part) same.spans ∙ parts
 
 all_infos : (a b : List Placed) → AllZip AreSame a b → spans_of a ≡ spans_of b

@@ -1,5 +1,5 @@
 -- A place has one part of the code, wherever its units and leaders are kept.
-use Rattle.std.proofs.Common.{◌≡◌, ℕ, Bool, List, Option, ap, sym, ◌∙◌}
+use Rattle.std.proofs.Common.{◌≡◌, ℕ, ◌+◌, ◌*◌, ◌^◌, ◌<◌, ◌≤◌, Bool, List, Option, length, sym, ◌∙◌, subst}
 use Rattle.delay_slots.specs.declared.unit.Unit.{Unit}
 use Rattle.program_classes.specs.declared.part.Part.{Part}
 use Rattle.program_translation.specs.Places.{Place, IsPartAt}
@@ -14,23 +14,35 @@ pub record AreAlike (p q : Part) : Type 0 where
   pub words : p.words ≡ q.words
 
 -- a part with other words, kept where its own are
-abbrev pub kept_at : Part → List Unit → List Bool → ℕ → ℕ → ℕ → Part
-kept_at p units leads start first words = record {
+abbrev pub kept_at : Part → (units : List Unit) (leads : List Bool) (start first words : ℕ) → length leads ≡ length units
+    → start + 4 * length units < 2 ^ 31 → first + words ≤ length units → Part
+kept_at p units leads start first words same_len low within = record {
   units = record p.units { now = units };
   leads = record p.leads { now = leads };
   start = start;
   first = first;
   words = words;
+  same_len = same_len;
+  low = low;
+  within = within;
 }
 
+-- what is told of a part with other words is x
+abbrev pub Comes : {X : Type 0} → (Part → X) → Part → X → List Unit → List Bool → ℕ → ℕ → ℕ → Type 0
+Comes f p x units leads start first words =
+    (same_len : length leads ≡ length units) (low : start + 4 * length units < 2 ^ 31) (within : first + words ≤ length units)
+    → f (kept_at p units leads start first words same_len low within) ≡ x
+
+-- what is told of parts by their words is the same of parts that are alike
 pub alike_at : {X : Type 0} (f : Part → X) (p q : Part) → AreAlike p q
-    → f p ≡ f (kept_at p q.units.now q.leads.now q.start q.first q.words)
-alike_at f p q same =
-    ap (λ units. f (kept_at p units p.leads.now p.start p.first p.words)) same.units
-    ∙ ap (λ leads. f (kept_at p q.units.now leads p.start p.first p.words)) same.leads
-    ∙ ap (λ start. f (kept_at p q.units.now q.leads.now start p.first p.words)) same.start
-    ∙ ap (λ first. f (kept_at p q.units.now q.leads.now q.start first p.words)) same.first
-    ∙ ap (λ words. f (kept_at p q.units.now q.leads.now q.start q.first words)) same.words
+    → Comes f p (f q) q.units.now q.leads.now q.start q.first q.words → f p ≡ f q
+alike_at f p q same comes =
+    (subst (λ units. Comes f p (f q) units p.leads.now p.start p.first p.words) (sym same.units)
+    (subst (λ leads. Comes f p (f q) q.units.now leads p.start p.first p.words) (sym same.leads)
+    (subst (λ start. Comes f p (f q) q.units.now q.leads.now start p.first p.words) (sym same.start)
+    (subst (λ first. Comes f p (f q) q.units.now q.leads.now q.start first p.words) (sym same.first)
+    (subst (λ words. Comes f p (f q) q.units.now q.leads.now q.start q.first words) (sym same.words) comes)))))
+    p.same_len p.low p.within
 
 pub parts_alike : (code : ℕ → Option ℕ) (place : Place) (p q : Part) → IsPartAt code place p → IsPartAt code place q → AreAlike p q
 parts_alike code place p q is is' = record {

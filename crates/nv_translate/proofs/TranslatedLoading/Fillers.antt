@@ -7,7 +7,8 @@ use Rattle.elf_image.specs.Start.{Source}
 use Rattle.image_parts.specs.Pages.{Page, page_words}
 use Rattle.jvm_program.specs.declared.kind.Kind.TheVariants as kinds
 use Rattle.jvm_program.specs.Program.{Program}
-use Rattle.method_splitter.specs.Shares.{share_at, share_count, shared, shares}
+use Rattle.method_splitter.specs.Shares.{share_at, share_count, shared}
+use Rattle.method_splitter.specs.Laws.{SharesAreAll}
 use Rattle.running_laws.specs.LoadingCodeLaws.Loaded.{Filler, FillsApart, IsFiller, HasSlots, numbers_of, slots_of}
 use Rattle.program_classes.specs.Making.{Plan}
 use Rattle.program_classes.specs.Data.{words_plan, fill_plan}
@@ -146,8 +147,7 @@ module _ (program : Program) (source : Source) (code_classes methods : ℕ) (dat
   pub all-numbers : numbers_of fillers ≡ fills_of methods count
   all-numbers = numbers-are 0 count fits-all
 
-  pub all-slots : ((size : ℕ) (things : List ℕ) → 1 ≤ size → flat_map (shared things) (shares size (length things)) ≡ things)
-      → pages_of_slots (slots_of fillers) ≡ numbers_of_pages pages
+  pub all-slots : SharesAreAll → pages_of_slots (slots_of fillers) ≡ numbers_of_pages pages
   all-slots joined =
       slots-are 0 count fits-all
       ∙ ap (λ long. flat_map (shared (numbers_of_pages pages)) (map (share_at class_pages (length (numbers_of_pages pages))) (range_with_len 0 (share_count class_pages long))))

@@ -1,11 +1,11 @@
 -- The laws by which a program of classes runs warm, as the contracts of the crates below have them.
 use Rattle.running_laws.specs.SpanCodeLaws.Entering.{SpansAreEntered}
+use Rattle.running_laws.specs.SpanCodeLaws.LawfulUnits.{UnitsAreLawful}
 use Rattle.running_laws.specs.SpanCodeLaws.Made.{PiecesAreMade}
 use Rattle.running_laws.specs.SpanCodeLaws.Registers.{StretchesAreOfPieces, StretchesTouchRegistersOnce}
 use Rattle.running_laws.specs.SpanCodeLaws.Spans.{SpanPiecesFollow}
 use Rattle.running_laws.specs.TrampolineLaws.Programs.{SpansAreNumbered}
 use Rattle.program_classes_laws.specs.Naming.{HelpersNameWell, PiecesNameWell}
-use Rattle.nv_translate.proofs.LinkedTranslations.Lawful.{LawfulLaw}
 
 pub record WarmLaws : Type 0 where
   -- spans
@@ -15,7 +15,7 @@ pub record WarmLaws : Type 0 where
   pub made : PiecesAreMade
   pub once : StretchesTouchRegistersOnce
   -- what they call
-  pub lawful : LawfulLaw
+  pub lawful : UnitsAreLawful
   pub pieces_call : PiecesNameWell
   pub helpers_call : HelpersNameWell
   -- methods

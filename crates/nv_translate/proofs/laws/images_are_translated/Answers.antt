@@ -1,7 +1,7 @@
 use Rattle.std.proofs.Common.{sym, subst, ◌∙◌}
 use Rattle.nv_words.specs.Words.{IsWord}
 use Rattle.elf_image.specs.Start.{Source}
-use Rattle.jvm_link.specs.Linking.{program_of}
+use Rattle.jvm_link.specs.Linking.{Accepted, program_of}
 use Rattle.nv_translate.specs.WholeCode.{HasWholeCode}
 use Rattle.nv_translate.specs.Linked.{IsLinked}
 use Rattle.nv_translate.specs.Running.{RunsAlike}
@@ -24,15 +24,18 @@ returns c name method_bytes built lawful large is =
     } in
     let linked : IsLinked source name method_bytes built = c.translations_link.ensures source name method_bytes built whole lawful is in
     let alike : RunsAlike source (program_of linked.classes) = c.translations_run_alike.ensures source name method_bytes built image large linked in
+    let accepted : Accepted linked.classes = (c.translations_are_accepted.ensures source name method_bytes built code lawful is).all linked in
     record {
       is = is;
       linked = linked;
-      accepted = (c.translations_are_accepted.ensures source name method_bytes built code lawful is).all linked;
+      accepted = accepted;
       stored = λ files stored. c.translations_are_sets.ensures source name method_bytes built files code lawful is linked stored;
       sized = c.translated_spans_keep_to_the_limit.ensures source name method_bytes built linked;
       least = c.translated_spans_are_least.ensures source method_bytes linked.code linked.code_is;
       runs = alike;
       ends = c.runs_end_alike.ensures source linked.classes alike;
+      again = c.translations_run_again.ensures source linked.classes accepted alike;
+      entered = c.translations_go_on.ensures source name method_bytes built image large linked;
       counts = c.translations_count_alike.ensures source name method_bytes built image large linked;
       warm = c.translations_are_warm.ensures source name method_bytes built image large linked;
     }

@@ -9,7 +9,6 @@ use Rattle.jvm_link.specs.Linking.{program_of}
 use Rattle.code_steps.specs.declared.step.Step.{Step}
 use Rattle.code_steps.specs.Placing.{laid, placed_line}
 use Rattle.code_steps.specs.Widths.{size, width}
-use Rattle.method_splitter.specs.declared.span.Span.{Span}
 use Rattle.span_code.specs.Pieces.{flagged}
 use Rattle.program_classes.specs.Code.{code_of_span, run_plan, span_at, span_plan, span_plans}
 use Rattle.program_classes.specs.Making.{Plan}

@@ -11,5 +11,5 @@ if-made P Q map (Err e) p = tt
 pub returns : goal.returns
 returns c =
     if-made (IsTranslation c.args.image.now c.args.name.now c.args.method_bytes) (Translated c.args.image.now c.args.name.now c.args.method_bytes)
-    (λ built t. c.images_are_translated.ensures c.args.name.now c.args.method_bytes built c.requires.name c.requires.method_bytes.0 t)
+    (λ built t. c.images_are_translated.ensures c.args.name.now c.args.method_bytes built c.laws.ensures c.laws-2.ensures.0 t)
     c.translate.result c.translate.ensures
