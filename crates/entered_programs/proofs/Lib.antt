@@ -1,0 +1,2 @@
+pub mod GuestEnds
+pub mod GoingOn
