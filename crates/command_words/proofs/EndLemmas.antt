@@ -8,7 +8,7 @@ use Rattle.std.proofs.lemmas.List.{take-map, length-map}
 use Rattle.command_values.specs.Names.{Text}
 use Rattle.command_words.specs.Word.{is_end, texts}
 use Rattle.command_words.specs.Given.{Form, given_in, value_in}
-use Rattle.command_words.specs.Meaning.{Value, after_end, before_end, command_after, form_of, has_end, made, maker_of, Maker, takes_arguments}
+use Rattle.command_words.specs.Meaning.{Value, after_end, before_end, form_of, has_end, made, maker_of, Maker}
 use Rattle.command_words.specs.Answers.{Reads}
 use Rattle.command_words.specs.declared.command.Command.{Command}
 use Rattle.command_words.specs.declared.command_name.CommandName.{CommandName}
@@ -63,19 +63,16 @@ is_some_of false n = refl
 pub end_found : (words : List (String Global)) → is_some (position ends words) ≡ has_end (texts words)
 end_found words = is_some_of (nat_lt (position_or_len ends words) (length words)) (position_or_len ends words) ∙ sym (any_position ends words) ∙ sym (any_of_map is_end string_bytes words)
 
-made_from : (form : Form) (maker : Maker) (before after : List Text) (value : Value) → is_some (given_in form before) ≡ true → value ≡ value_in form before
-    → made form maker before after ≡ maker before value after
-made_from form maker before after value some same =
-    ap (λ b. cond b (maker before (value_in form before) after) None) some ∙ ap (λ v. maker before v after) (sym same)
+made_from : (form : Form) (maker : Maker) (words formed arguments : List Text) (value : Value) → is_some (given_in form formed) ≡ true → value ≡ value_in form formed
+    → made form maker words formed arguments ≡ maker words value arguments
+made_from form maker words formed arguments value some same =
+    ap (λ b. cond b (maker words (value_in form formed) arguments) None) some ∙ ap (λ v. maker words v arguments) (sym same)
 
--- what the words after COMMAND mean, by their parts
-pub made_is : (name : CommandName) (words before after : List Text) (form : Form) (value : Value) (r : Result Command WordsError)
-    → (has_end words && not (takes_arguments name)) ≡ false → before ≡ before_end words → after ≡ after_end words → form ≡ form_of name
-    → (is_some (given_in form before) ≡ true) × (value ≡ value_in form before) → Reads (maker_of name before value after) r → Reads (command_after name words) r
-made_is name words before after form value r takes first second same given reads =
-    let is : command_after name words ≡ maker_of name before value after =
-    ap (λ b. cond b None (made (form_of name) (maker_of name) (before_end words) (after_end words))) takes
-    ∙ ap₂ (λ b a. made (form_of name) (maker_of name) b a) (sym first) (sym second)
-    ∙ ap (λ f. made f (maker_of name) before after) (sym same)
-    ∙ made_from form (maker_of name) before after value given.0 given.1 in
+-- what words mean whose form was read
+pub formed_is : (name : CommandName) (words formed arguments : List Text) (form : Form) (value : Value) (r : Result Command WordsError) → form ≡ form_of name
+    → (is_some (given_in form formed) ≡ true) × (value ≡ value_in form formed) → Reads (maker_of name words value arguments) r
+    → Reads (made (form_of name) (maker_of name) words formed arguments) r
+formed_is name words formed arguments form value r same given reads =
+    let is : made (form_of name) (maker_of name) words formed arguments ≡ maker_of name words value arguments =
+    ap (λ f. made f (maker_of name) words formed arguments) (sym same) ∙ made_from form (maker_of name) words formed arguments value given.0 given.1 in
     subst (λ o. Reads o r) (sym is) reads

@@ -1,23 +1,23 @@
 -- The limits that the definition keeps.
-use Rattle.std.proofs.Common.{◌≡◌, ◌∙◌, ◌≤◌, ◌&&◌, ℕ, Bool, cond, true, false, not, refl, sym, ap, subst, arith, List, [], ◌∷◌, length, codes, Option, Some, None, is_some, option_map, Result, Ok, Err, IfOk}
+use Rattle.std.proofs.Common.{◌≡◌, ◌≤◌, ◌&&◌, ℕ, Bool, cond, true, false, not, refl, sym, subst, arith, List, [], ◌∷◌, length, codes, Option, Some, None, is_some, option_map, Result, Ok, Err, IfOk}
 use Rattle.std.specs.Prelude.{IfSome, option_and_then, ⊤, nat_le}
 use Rattle.std.specs.List.{All, list_all}
-use Rattle.std.specs.Option.{option_map_or}
 use Rattle.std.proofs.lemmas.List.Elements.{All-cons, All-nil}
 use Rattle.std.proofs.lemmas.Bool.Decides.{nat_tests}
 use Rattle.std.specs.Str.Parse.{digits_value}
-use Rattle.command_values.specs.Names.{Text, is_class_name, lies_in, IsClassName}
-use Rattle.command_values.specs.MethodBytes.{AreMethodBytes}
-use Rattle.command_words.specs.Given.{Form, given_in, value_in}
-use Rattle.command_words.specs.Values.{all_different, are_arguments, are_file_names, has_zero, is_file_name, is_number, names_in, names_of, number_in, number_or}
-use Rattle.command_words.specs.Meaning.{Maker, Value, arguments_in, class_in, class_steps, command_after, command_of, disk_in, go_from, guest_steps, has_end, input_in, interp_from, lawful_name, made, make_from, maker_of, method_bytes_in, name_in, name_list_in, named_command, name_of, pages_in, region_words_in, run_from, session_in, stack_in, heap_in, steps_in, takes_arguments, translate_from, verify_from, asm_from, list_from, form_of, before_end, after_end}
+use Rattle.command_values.specs.Ranges.{lies_in}
+use Rattle.command_values.specs.Names.{Text}
+use Rattle.command_words.specs.Given.{given_in, value_in}
+use Rattle.command_words.specs.Values.{all_different, are_arguments, are_file_names, has_zero, is_file_name, is_symbol_name, is_number, names_in, names_of, number_in, number_or}
+use Rattle.command_words.specs.Meaning.{Value, entry_in, formed_words, inputs_in, linked_from, plain_words, symbol_name, arguments_in, class_in, class_steps, command_after, disk_in, guest_steps, has_end, input_in, made, maker_of, method_bytes_in, name_in, name_list_in, pages_in, region_words_in, session_in, stack_in, heap_in, steps_in, takes_arguments, form_of, before_end, after_end}
 use Rattle.command_words.specs.Answers.{Reads}
+use Rattle.std.specs.Option.{option_map_or}
+use Rattle.command_words.specs.declared.named.Named.{Named}
 use Rattle.command_words.specs.declared.words_error.WordsError.{WordsError}
-use Rattle.command_words.specs.Limits.{AreFileNames, ArePages, IsFileName, IsSession, IsWithinLimits}
+use Rattle.command_words.specs.Limits.{AreFileNames, AreInputs, ArePages, IsFileName, IsSession, IsWithinLimits}
 use Rattle.command_words.specs.declared.command.Command.{Command}
 use Rattle.command_words.specs.declared.command_name.CommandName.{CommandName}
 use Rattle.command_words.specs.declared.command_name.CommandName.TheVariants as name
-use Rattle.command_words.specs.declared.named.Named.{Named}
 use Rattle.command_words.proofs.FormWalk.{and_first, and_second}
 
 -- what holds of a first value leads to what holds of the second
@@ -53,16 +53,6 @@ pages_limits value =
     through (heap_in value) (λ heap. option_map (λ stack. record { heap = heap; stack = stack }) (stack_in value)) (λ n. (0 ≤ n) × (n ≤ 32768)) ArePages (option_limits 0 32768 256 (value (codes "heap")) (omega arith) (omega arith))
     (λ heap h. mapped (stack_in value) (λ stack. record { heap = heap; stack = stack }) (λ n. (1 ≤ n) × (n ≤ 32768)) ArePages (option_limits 1 32768 64 (value (codes "stack")) (omega arith) (omega arith))
     (λ stack s. record { heap = h.1; some_stack = s.0; stack = s.1 }))
-
-bytes_limits : (value : Value) → IfSome (method_bytes_in value) AreMethodBytes
-bytes_limits value = option_limits 4096 65535 65535 (value (codes "method-bytes")) (omega arith) (omega arith)
-
-name_limits : (value : Value) → IfSome (name_in value) IsClassName
-name_limits value = go (value (codes "name"))
-  where
-    go : (o : Option Text) → IfSome (option_map_or lawful_name o (Some (codes "Main"))) IsClassName
-    go None = refl
-    go (Some text) = if_some (is_class_name text) text IsClassName (λ e. e)
 
 file_limits : (name : Text) → is_file_name name ≡ true → IsFileName name
 file_limits name e =
@@ -113,50 +103,48 @@ session_limits most words value arguments =
     mapped (arguments_in arguments) _ (λ a. All (λ t. has_zero t ≡ false) a) (IsSession most) (arguments_limits arguments) (λ lawful a.
     record { steps = s.1; disk = d.1; with = w; keep = k; arguments = a })))))
 
-input_text : (words : List Text) (name text : Text) (value : Value) → value name ≡ Some text → IfSome (input_in words name value) (λ n. n.text ≡ text)
-input_text words name text value e = go (value name) e
-  where
-    go : (o : Option Text) → o ≡ Some text → IfSome (option_map (λ t. record { word = Rattle.command_words.specs.Meaning.word_number (Rattle.command_words.specs.Given.word_place false words); text = t }) o) (λ (n : Named). n.text ≡ text)
-    go None h = tt
-    go (Some t) h = cc
+symbol_limits : (text : Text) → IfSome (symbol_name text) IsFileName
+symbol_limits text = if_some (is_symbol_name text) text IsFileName (file_limits text)
 
-class_limits : (words : List Text) (value : Value) → IfSome (class_in words value) (λ n. IsClassName n.text)
-class_limits words value = go (value (codes "NAME")) refl
+entry_limits : (value : Value) → IfSome (entry_in value) IsFileName
+entry_limits value = go (value (codes "entry"))
   where
-    named : (text : Text) → value (codes "NAME") ≡ Some text → (b : Bool) → is_class_name text ≡ b → IfSome (cond b (input_in words (codes "NAME") value) None) (λ n. IsClassName n.text)
-    named text e true lawful = weaker (input_in words (codes "NAME") value) (λ (n : Named). n.text ≡ text) (λ n. IsClassName n.text) (input_text words (codes "NAME") text value e) (λ n same. ap is_class_name same ∙ lawful)
-      where
-        weaker : {A : Type 0} (o : Option A) (P Q : A → Type 0) → IfSome o P → ((x : A) → P x → Q x) → IfSome o Q
-        weaker None P Q p h = tt
-        weaker (Some x) P Q p h = h x p
-    named text e false lawful = tt
+    go : (o : Option Text) → IfSome (option_map_or symbol_name o (Some (codes "__start"))) IsFileName
+    go None = symbol_limits (codes "__start")
+    go (Some text) = symbol_limits text
 
-    go : (o : Option Text) → value (codes "NAME") ≡ o → IfSome (option_and_then (λ text. cond (is_class_name text) (input_in words (codes "NAME") value) None) o) (λ n. IsClassName n.text)
-    go None e = tt
-    go (Some text) e = named text e (is_class_name text) refl
+inputs_limits : (inputs : List Named) → IfSome (inputs_in inputs) AreInputs
+inputs_limits inputs = if_some (lies_in 1 256 (length inputs)) inputs AreInputs
+    (λ e. let bounds = in_range 1 256 (length inputs) e in record { some = bounds.0; few = bounds.1 })
+
+linked_limits : (value : Value) (words : List Named) → IfSome (linked_from value words) IsWithinLimits
+linked_limits value [] = tt
+linked_limits value (output ∷ inputs) =
+    through (inputs_in inputs) _ AreInputs IsWithinLimits (inputs_limits inputs) (λ files f.
+    mapped (entry_in value) _ IsFileName IsWithinLimits (entry_limits value) (λ entry e. (f, e)))
 
 maker_limits : (command : CommandName) (words : List Text) (value : Value) (arguments : List Text) → IfSome (maker_of command words value arguments) IsWithinLimits
 maker_limits name.Go words value arguments =
     through (input_in words (codes "IN") value) _ (λ _. ⊤) IsWithinLimits (always _) (λ input _.
-    through (name_in value) _ IsClassName IsWithinLimits (name_limits value) (λ text n.
+    through (name_in value) _ (λ _. ⊤) IsWithinLimits (always _) (λ text _.
     through (pages_in value) _ ArePages IsWithinLimits (pages_limits value) (λ pages p.
-    through (method_bytes_in value) _ AreMethodBytes IsWithinLimits (bytes_limits value) (λ bytes b.
-    mapped (session_in guest_steps words value arguments) _ (IsSession guest_steps) IsWithinLimits (session_limits guest_steps words value arguments) (λ session s. (n, p, b, s))))))
+    through (method_bytes_in value) _ (λ _. ⊤) IsWithinLimits (always _) (λ bytes _.
+    mapped (session_in guest_steps words value arguments) _ (IsSession guest_steps) IsWithinLimits (session_limits guest_steps words value arguments) (λ session s. (p, s))))))
 maker_limits name.Translate words value arguments =
     through (input_in words (codes "IN") value) _ (λ _. ⊤) IsWithinLimits (always _) (λ input _.
-    through (name_in value) _ IsClassName IsWithinLimits (name_limits value) (λ text n.
+    through (name_in value) _ (λ _. ⊤) IsWithinLimits (always _) (λ text _.
     through (pages_in value) _ ArePages IsWithinLimits (pages_limits value) (λ pages p.
-    mapped (method_bytes_in value) _ AreMethodBytes IsWithinLimits (bytes_limits value) (λ bytes b. (n, p, b)))))
+    mapped (method_bytes_in value) _ (λ _. ⊤) IsWithinLimits (always _) (λ bytes _. p))))
 maker_limits name.Interp words value arguments =
     through (input_in words (codes "IN") value) _ (λ _. ⊤) IsWithinLimits (always _) (λ input _.
-    through (name_in value) _ IsClassName IsWithinLimits (name_limits value) (λ text n.
+    through (name_in value) _ (λ _. ⊤) IsWithinLimits (always _) (λ text _.
     through (pages_in value) _ ArePages IsWithinLimits (pages_limits value) (λ pages p.
-    mapped (session_in guest_steps words value arguments) _ (IsSession guest_steps) IsWithinLimits (session_limits guest_steps words value arguments) (λ session s. (n, p, s)))))
+    mapped (session_in guest_steps words value arguments) _ (IsSession guest_steps) IsWithinLimits (session_limits guest_steps words value arguments) (λ session s. (p, s)))))
 maker_limits name.Run words value arguments =
-    through (class_in words value) _ (λ n. IsClassName n.text) IsWithinLimits (class_limits words value) (λ name n.
-    through (region_words_in value) _ (λ k. (1 ≤ k) × (k ≤ 68288580)) IsWithinLimits (option_limits 1 68288580 4194304 (value (codes "words")) (omega arith) (omega arith)) (λ region r.
-    mapped (session_in class_steps words value arguments) _ (IsSession class_steps) IsWithinLimits (session_limits class_steps words value arguments) (λ session s. (n, r.0, r.1, s))))
-maker_limits name.Verify words value arguments = mapped (class_in words value) _ (λ n. IsClassName n.text) IsWithinLimits (class_limits words value) (λ name n. n)
+    through (class_in words value) _ (λ _. ⊤) IsWithinLimits (always _) (λ class _.
+    through (region_words_in value) _ (λ _. ⊤) IsWithinLimits (always _) (λ region _.
+    mapped (session_in class_steps words value arguments) _ (IsSession class_steps) IsWithinLimits (session_limits class_steps words value arguments) (λ session s. s)))
+maker_limits name.Verify words value arguments = mapped (class_in words value) _ (λ _. ⊤) IsWithinLimits (always _) (λ class _. tt)
 maker_limits name.Asm words value arguments =
     through (input_in words (codes "IN") value) _ (λ _. ⊤) IsWithinLimits (always _) (λ input _.
     mapped (value (codes "OUT")) _ (λ _. ⊤) IsWithinLimits (always _) (λ output _. tt))
@@ -164,19 +152,20 @@ maker_limits name.List words value arguments = mapped (input_in words (codes "IN
 maker_limits name.Make words value arguments =
     through (option_and_then (number_in 1 65536) (value (codes "N"))) _ (λ n. (1 ≤ n) × (n ≤ 65536)) IsWithinLimits
     (through (value (codes "N")) (number_in 1 65536) (λ _. ⊤) (λ n. (1 ≤ n) × (n ≤ 65536)) (always _) (λ text _. number_limits 1 65536 text)) (λ count c.
-    mapped (method_bytes_in value) _ AreMethodBytes IsWithinLimits (bytes_limits value) (λ bytes b. (c.0, c.1, b)))
+    mapped (method_bytes_in value) _ (λ _. ⊤) IsWithinLimits (always _) (λ bytes _. c))
+maker_limits name.Link words value arguments = linked_limits value (plain_words false 0 words)
 
 -- a command that words mean is within the limits
 pub within_limits : (name : CommandName) (words : List Text) (command : Command) → command_after name words ≡ Some command → IsWithinLimits command
 within_limits name words command is = subst (λ o. IfSome o IsWithinLimits) is (go (has_end words && not (takes_arguments name)))
   where
-    taken : (b : Bool) → IfSome (cond b (maker_of name (before_end words) (value_in (form_of name) (before_end words)) (after_end words)) None) IsWithinLimits
-    taken true = maker_limits name (before_end words) (value_in (form_of name) (before_end words)) (after_end words)
+    taken : (b : Bool) → IfSome (cond b (maker_of name (before_end words) (value_in (form_of name) (formed_words name (before_end words))) (after_end words)) None) IsWithinLimits
+    taken true = maker_limits name (before_end words) (value_in (form_of name) (formed_words name (before_end words))) (after_end words)
     taken false = tt
 
-    go : (b : Bool) → IfSome (cond b None (made (form_of name) (maker_of name) (before_end words) (after_end words))) IsWithinLimits
+    go : (b : Bool) → IfSome (cond b None (made (form_of name) (maker_of name) (before_end words) (formed_words name (before_end words)) (after_end words))) IsWithinLimits
     go true = tt
-    go false = taken (is_some (given_in (form_of name) (before_end words)))
+    go false = taken (is_some (given_in (form_of name) (formed_words name (before_end words))))
 
 pub read_within : (name : CommandName) (words : List Text) (r : Result Command WordsError) → Reads (command_after name words) r → IfOk r IsWithinLimits
 read_within name words (Ok command) reads = within_limits name words command reads

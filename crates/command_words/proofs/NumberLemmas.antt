@@ -5,7 +5,8 @@ use Rattle.std.specs.Char.{digit_value}
 use Rattle.std.specs.Str.Parse.{AllDigits, IsNumeral, digits_value, without_leading_plus}
 use Rattle.std.proofs.lemmas.Bool.{cases_lt}
 use Rattle.std.proofs.lemmas.Bool.Decides.{nat_tests}
-use Rattle.command_values.specs.Names.{Text, is_digit, lies_in}
+use Rattle.command_values.specs.Ranges.{lies_in}
+use Rattle.command_values.specs.Names.{Text, is_digit}
 use Rattle.command_words.specs.Values.{is_number, number_in}
 use Rattle.command_words.proofs.FormWalk.{and_first, and_second}
 use Rattle.command_words.proofs.FormRules.{differs}

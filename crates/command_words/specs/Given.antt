@@ -91,6 +91,13 @@ word_place true (word ∷ rest) = word_place false rest + 1
 word_place false (word ∷ rest) = if is_plain word then 0
     else word_place (waits_for_value word) rest + 1
 
+-- The options with their values, where the plain words are left out; `follows` says that the first word is such a value.
+abbrev pub option_words : Bool → List Text → List Text
+option_words follows [] = []
+option_words true (word ∷ rest) = word ∷ option_words false rest
+option_words false (word ∷ rest) = if is_plain word then option_words false rest
+    else word ∷ option_words (waits_for_value word) rest
+
 -- how many words stand before the one that holds the option's value
 abbrev pub value_place : Text → List Text → ℕ
 value_place name [] = 0

@@ -1,12 +1,12 @@
--- What holds of every command that words mean.
+-- What holds of every command that words mean, besides what its types say.
 use Rattle.std.specs.Prelude.{◌≡◌, ◌≤◌, ℕ, true, false, List, length}
 use Rattle.std.specs.List.{All}
-use Rattle.command_values.specs.Names.{Text, is_class_name, IsClassName}
-use Rattle.command_values.specs.MethodBytes.{AreMethodBytes}
+use Rattle.command_values.specs.Names.{Text}
 use Rattle.command_words.specs.Values.{all_different, has_zero}
 use Rattle.command_words.specs.Meaning.{class_steps, guest_steps}
 use Rattle.command_words.specs.declared.command.Command.{Command}
-use Rattle.command_words.specs.declared.command.Command.TheVariants.{Go, Translate, Interp, Run, Verify, Asm, List as ListIn, Make}
+use Rattle.command_words.specs.declared.command.Command.TheVariants.{Go, Translate, Interp, Run, Verify, Asm, List as ListIn, Make, Link}
+use Rattle.command_words.specs.declared.named.Named.{Named}
 use Rattle.command_words.specs.declared.pages.Pages.{Pages}
 use Rattle.command_words.specs.declared.session.Session.{Session}
 
@@ -33,17 +33,20 @@ pub record IsSession (most : ℕ) (session : Session) : Type 0 where
   pub keep : AreFileNames session.keep.names
   pub arguments : All (λ a. has_zero a ≡ false) session.arguments
 
+-- files that are linked
+pub record AreInputs (inputs : List Named) : Type 0 where
+  pub some : 1 ≤ length inputs
+  pub few : length inputs ≤ 256
+
 abbrev pub IsWithinLimits : Command → Type 0
 IsWithinLimits (Go input name pages method_bytes session) =
-    IsClassName name × ArePages pages × AreMethodBytes method_bytes × IsSession guest_steps session
-IsWithinLimits (Translate input name pages method_bytes) =
-    IsClassName name × ArePages pages × AreMethodBytes method_bytes
+    ArePages pages × IsSession guest_steps session
+IsWithinLimits (Translate input name pages method_bytes) = ArePages pages
 IsWithinLimits (Interp input name pages session) =
-    IsClassName name × ArePages pages × IsSession guest_steps session
-IsWithinLimits (Run name words session) = IsClassName name.text × (1 ≤ words) × (words ≤ 68288580)
-    × IsSession class_steps session
-IsWithinLimits (Verify name) = IsClassName name.text
+    ArePages pages × IsSession guest_steps session
+IsWithinLimits (Run class words session) = IsSession class_steps session
+IsWithinLimits (Verify class) = Unit {0}
 IsWithinLimits (Asm input output) = Unit {0}
 IsWithinLimits (ListIn input) = Unit {0}
 IsWithinLimits (Make count method_bytes) = (1 ≤ count) × (count ≤ 65536)
-    × AreMethodBytes method_bytes
+IsWithinLimits (Link output inputs entry) = AreInputs inputs × IsFileName entry

@@ -1,17 +1,21 @@
 -- The command that lawful words mean.
-use Rattle.std.specs.Prelude.{ℕ, ◌+◌, ◌^◌, ◌-◌, Bool, true, false, not, ◌&&◌, if◌then◌else◌, List, [], ◌∷◌, Option, Some, None, Result, Err, codes, is_some, min, option_and_then, option_map}
+use Rattle.std.specs.Prelude.{ℕ, ◌+◌, ◌^◌, ◌-◌, Bool, true, false, not, ◌&&◌, if◌then◌else◌, List, [], ◌∷◌, Option, Some, None, Result, Err, codes, is_some, length, min, option_and_then, option_map}
 use Rattle.std.specs.Option.{ok_or, option_map_or}
 use Rattle.std.specs.List.{list_any, before_first, after_first}
 use Rattle.std.specs.Str.{bytes_eq}
-use Rattle.command_values.specs.Names.{Text, is_class_name}
-use Rattle.command_words.specs.Word.{is_end}
-use Rattle.command_words.specs.Given.{Form, given_in, value_in, value_place, word_place}
-use Rattle.command_words.specs.Values.{are_arguments, names_in, number_in, number_or}
+use Rattle.command_values.specs.Names.{Text, lawful_name}
+use Rattle.command_values.specs.MethodBytes.{least_method_bytes, most_method_bytes}
+use Rattle.command_values.specs.RegionWords.{least_region_words, most_region_words}
+use Rattle.command_values.specs.Ranges.{lies_in}
+use Rattle.command_words.specs.Word.{is_end, is_plain, waits_for_value}
+use Rattle.command_words.specs.Given.{Form, given_in, option_words, value_in, value_place, word_place}
+use Rattle.command_words.specs.Values.{are_arguments, is_symbol_name, names_in, number_in, number_or}
 use Rattle.command_words.specs.declared.command.Command.{Command}
-use Rattle.command_words.specs.declared.command.Command.TheVariants.{Go, Translate, Interp, Run, Verify, Asm, List as ListIn, Make}
+use Rattle.command_words.specs.declared.command.Command.TheVariants.{Go, Translate, Interp, Run, Verify, Asm, List as ListIn, Make, Link}
 use Rattle.command_words.specs.declared.command_name.CommandName.{CommandName}
 use Rattle.command_words.specs.declared.command_name.CommandName.TheVariants as name
 use Rattle.command_words.specs.declared.named.Named.{Named}
+use Rattle.command_words.specs.declared.named_class.NamedClass.{NamedClass}
 use Rattle.command_words.specs.declared.name_list.NameList.{NameList}
 use Rattle.command_words.specs.declared.pages.Pages.{Pages}
 use Rattle.command_words.specs.declared.session.Session.{Session}
@@ -31,7 +35,8 @@ abbrev pub stack_in : Value → Option ℕ
 stack_in value = number_or 1 32768 64 (value (codes "stack"))
 
 abbrev pub method_bytes_in : Value → Option ℕ
-method_bytes_in value = number_or 4096 65535 65535 (value (codes "method-bytes"))
+method_bytes_in value =
+    number_or least_method_bytes most_method_bytes most_method_bytes (value (codes "method-bytes"))
 
 -- of a guest's instructions, and of a class machine's
 abbrev pub guest_steps : ℕ
@@ -44,13 +49,11 @@ abbrev pub steps_in : ℕ → Value → Option ℕ
 steps_in most value = number_or 0 most most (value (codes "steps"))
 
 abbrev pub region_words_in : Value → Option ℕ
-region_words_in value = number_or 1 68288580 4194304 (value (codes "words"))
+region_words_in value =
+    number_or least_region_words most_region_words 4194304 (value (codes "words"))
 
 abbrev pub disk_in : Value → Option ℕ
 disk_in value = number_or 0 65536 1024 (value (codes "disk"))
-
-abbrev pub lawful_name : Text → Option Text
-lawful_name text = if is_class_name text then Some text else None
 
 abbrev pub name_in : Value → Option Text
 name_in value = option_map_or lawful_name (value (codes "name")) (Some (codes "Main"))
@@ -66,9 +69,22 @@ input_in words name value =
     option_map (λ text. record { word = word_number (word_place false words); text = text })
     (value name)
 
-abbrev pub class_in : List Text → Value → Option Named
-class_in words value = option_and_then (λ text. if is_class_name text
-    then input_in words (codes "NAME") value else None) (value (codes "NAME"))
+abbrev pub class_in : List Text → Value → Option NamedClass
+class_in words value =
+    option_map (λ name. record { word = word_number (word_place false words); name = name })
+    (option_and_then lawful_name (value (codes "NAME")))
+
+abbrev pub named : ℕ → Text → Named
+named place text = record { word = word_number place; text = text }
+
+-- The plain words where they repeat, given how many words stand before these; `follows` says that the first word is an
+-- option's value.
+abbrev pub plain_words : Bool → ℕ → List Text → List Named
+plain_words follows place [] = []
+plain_words true place (word ∷ rest) = plain_words false (place + 1) rest
+plain_words false place (word ∷ rest) =
+    if is_plain word then named place word ∷ plain_words false (place + 1) rest
+    else plain_words (waits_for_value word) (place + 1) rest
 
 -- the names of an option, which no word holds where it is left out
 abbrev pub name_list_in : List Text → Text → Value → Option NameList
@@ -102,6 +118,17 @@ session_in most words value arguments =
     (name_list_in words (codes "keep") value)) (name_list_in words (codes "with") value))
     (disk_in value)) (steps_in most value)
 
+-- the files that are linked
+abbrev pub inputs_in : List Named → Option (List Named)
+inputs_in inputs = if lies_in 1 256 (length inputs) then Some inputs else None
+
+abbrev pub symbol_name : Text → Option Text
+symbol_name text = if is_symbol_name text then Some text else None
+
+-- the symbol at which a linked program begins
+abbrev pub entry_in : Value → Option Text
+entry_in value = option_map_or symbol_name (value (codes "entry")) (Some (codes "__start"))
+
 -- ---- what each command makes of its words
 
 abbrev pub name_of : Text → Option CommandName
@@ -114,6 +141,7 @@ name_of word =
     else if bytes_eq word (codes "asm") then Some name.Asm
     else if bytes_eq word (codes "list") then Some name.List
     else if bytes_eq word (codes "make") then Some name.Make
+    else if bytes_eq word (codes "link") then Some name.Link
     else None
 
 abbrev pub go_options : List Text
@@ -158,12 +186,12 @@ interp_from words value arguments =
 
 abbrev pub run_from : Maker
 run_from words value arguments =
-    option_and_then (λ name. option_and_then (λ region.
-    option_map (λ session. Run name region session)
+    option_and_then (λ class. option_and_then (λ region.
+    option_map (λ session. Run class region session)
     (session_in class_steps words value arguments)) (region_words_in value)) (class_in words value)
 
 abbrev pub verify_from : Maker
-verify_from words value arguments = option_map (λ name. Verify name) (class_in words value)
+verify_from words value arguments = option_map (λ class. Verify class) (class_in words value)
 
 abbrev pub asm_from : Maker
 asm_from words value arguments =
@@ -180,6 +208,16 @@ make_from words value arguments =
     (method_bytes_in value))
     (option_and_then (number_in 1 65536) (value (codes "N")))
 
+-- the first plain word is the program's file, and the others are linked
+abbrev pub linked_from : Value → List Named → Option Command
+linked_from value [] = None
+linked_from value (output ∷ inputs) =
+    option_and_then (λ files. option_map (λ entry. Link output.text files entry) (entry_in value))
+    (inputs_in inputs)
+
+abbrev pub link_from : Maker
+link_from words value arguments = linked_from value (plain_words false 0 words)
+
 -- ---- the forms
 
 abbrev pub form_of : CommandName → Form
@@ -191,6 +229,16 @@ form_of name.Verify = record { words = codes "NAME" ∷ []; options = [] }
 form_of name.Asm = record { words = codes "IN" ∷ codes "OUT" ∷ []; options = [] }
 form_of name.List = record { words = codes "IN" ∷ []; options = [] }
 form_of name.Make = record { words = codes "N" ∷ []; options = codes "method-bytes" ∷ [] }
+form_of name.Link = record { words = []; options = codes "entry" ∷ [] }
+
+-- the plain words of the command repeat, so that its form has none
+abbrev pub repeats : CommandName → Bool
+repeats name.Link = true
+repeats other = false
+
+-- the words that the form of a command is read from
+abbrev pub formed_words : CommandName → List Text → List Text
+formed_words name words = if repeats name then option_words false words else words
 
 -- the command may have ARGS
 abbrev pub takes_arguments : CommandName → Bool
@@ -202,6 +250,7 @@ takes_arguments name.Verify = false
 takes_arguments name.Asm = false
 takes_arguments name.List = false
 takes_arguments name.Make = false
+takes_arguments name.Link = false
 
 abbrev pub maker_of : CommandName → Maker
 maker_of name.Go = go_from
@@ -212,6 +261,7 @@ maker_of name.Verify = verify_from
 maker_of name.Asm = asm_from
 maker_of name.List = list_from
 maker_of name.Make = make_from
+maker_of name.Link = link_from
 
 -- ---- all the words
 
@@ -225,15 +275,16 @@ after_end words = after_first is_end words
 abbrev pub has_end : List Text → Bool
 has_end words = list_any is_end words
 
--- what the words before `--` mean with those after it, where they break no rule of the form
-abbrev pub made : Form → Maker → List Text → List Text → Option Command
-made form maker words arguments =
-    if is_some (given_in form words) then maker words (value_in form words) arguments else None
+-- What the words before `--` mean with those after it, where those of them that the form is read from break no rule of it.
+abbrev pub made : Form → Maker → List Text → List Text → List Text → Option Command
+made form maker words formed arguments =
+    if is_some (given_in form formed) then maker words (value_in form formed) arguments else None
 
 -- what the words after COMMAND mean
 abbrev pub command_after : CommandName → List Text → Option Command
 command_after name words = if has_end words && not (takes_arguments name) then None
-    else made (form_of name) (maker_of name) (before_end words) (after_end words)
+    else made (form_of name) (maker_of name) (before_end words)
+    (formed_words name (before_end words)) (after_end words)
 
 abbrev pub named_command : Option CommandName → List Text → Result Command Usage
 named_command None words = Err NoCommand

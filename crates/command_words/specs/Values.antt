@@ -1,9 +1,10 @@
 -- What the value of an option or a plain word may be.
-use Rattle.std.specs.Prelude.{ℕ, Bool, true, false, not, ◌==◌, ◌&&◌, ◌||◌, if◌then◌else◌, List, [], ◌∷◌, Option, Some, None, length, nat_le, nat_lt}
+use Rattle.std.specs.Prelude.{ℕ, Bool, true, not, ◌==◌, ◌&&◌, if◌then◌else◌, List, [], ◌∷◌, Option, Some, None, length, nat_le}
 use Rattle.std.specs.List.{list_all, list_any, slice_split}
 use Rattle.std.specs.Str.{bytes_eq}
 use Rattle.std.specs.Str.Parse.{digits_value}
-use Rattle.command_values.specs.Names.{Text, lies_in, is_digit}
+use Rattle.command_values.specs.Ranges.{lies_in}
+use Rattle.command_values.specs.Names.{Text, is_digit}
 
 -- 1 to 20 decimal digits
 abbrev pub is_number : Text → Bool
@@ -25,6 +26,10 @@ has_zero text = list_any (λ b. b == 0) text
 -- a guest's file: 1 to 255 bytes, none of them 0
 abbrev pub is_file_name : Text → Bool
 is_file_name text = lies_in 1 255 (length text) && not (has_zero text)
+
+-- a symbol of an object, within the same bounds
+abbrev pub is_symbol_name : Text → Bool
+is_symbol_name text = is_file_name text
 
 abbrev pub all_different : List Text → Bool
 all_different [] = true

@@ -1,45 +1,46 @@
+use crate::inputs::Inputs;
 use crate::name_list::NameList;
 use crate::named::Named;
+use crate::named_class::NamedClass;
 use crate::pages::Pages;
 use crate::session::Session;
 use crate::text::Text;
+use command_values::{ClassName, MethodBytes, RegionWords};
 
 /// A command, with its words and options.
-///
-/// `method_bytes` is 4,096 to 65,535. A NAME is a letter, then letters and digits, in ASCII, 64 at most.
 #[derive(Debug, Drop)]
 pub enum Command {
     /// `go IN`: translates a program and runs its classes.
     Go {
         input: Named,
-        name: Text,
+        name: ClassName,
         pages: Pages,
-        method_bytes: u32,
+        method_bytes: MethodBytes,
         session: Session,
     },
     /// `translate IN`: translates a program.
     Translate {
         input: Named,
-        name: Text,
+        name: ClassName,
         pages: Pages,
-        method_bytes: u32,
+        method_bytes: MethodBytes,
     },
     /// `interp IN`: runs a program on the reference machine.
     Interp {
         input: Named,
-        name: Text,
+        name: ClassName,
         pages: Pages,
         session: Session,
     },
-    /// `run NAME`: runs a class. The region has `words` words, 1 to 68,288,580.
+    /// `run NAME`: runs a class, with so many words for arrays.
     Run {
-        name: Named,
-        words: u32,
+        class: NamedClass,
+        words: RegionWords,
         session: Session,
     },
     /// `verify NAME`: verifies a class.
     Verify {
-        name: Named,
+        class: NamedClass,
     },
     /// `asm IN OUT`: assembles a text.
     Asm {
@@ -53,6 +54,12 @@ pub enum Command {
     /// `make N`: makes a program that counts, with N of 1 to 65,536.
     Make {
         count: u32,
-        method_bytes: u32,
+        method_bytes: MethodBytes,
+    },
+    /// `link OUT IN..`: links 1 to 256 objects to a program that begins at a symbol, of 1 to 255 bytes and none of these 0.
+    Link {
+        output: Text,
+        inputs: Inputs,
+        entry: Text,
     },
 }

@@ -1,5 +1,5 @@
 ghost use Rattle.std.specs.Prelude.{◌≡◌};
-ghost use Rattle.command_words.specs.Meaning.{form_of, name_of, takes_arguments};
+ghost use Rattle.command_words.specs.Meaning.{form_of, name_of, repeats, takes_arguments};
 ghost use Rattle.command_words.specs.Answers.{shown};
 
 /// The first word.
@@ -13,6 +13,7 @@ pub(crate) enum CommandName {
     Asm,
     List,
     Make,
+    Link,
 }
 
 impl CommandName {
@@ -29,11 +30,12 @@ impl CommandName {
             "asm" => Some(CommandName::Asm),
             "list" => Some(CommandName::List),
             "make" => Some(CommandName::Make),
+            "link" => Some(CommandName::Link),
             _ => None,
         }
     }
 
-    /// The names of its plain words.
+    /// The names of its plain words, none where they repeat.
     pub(crate) fn words(self) -> &'static [&'static str]
         ensures { shown result.now ≡ (form_of self).words }
     {
@@ -44,7 +46,15 @@ impl CommandName {
             CommandName::Run | CommandName::Verify => &["NAME"],
             CommandName::Asm => &["IN", "OUT"],
             CommandName::Make => &["N"],
+            CommandName::Link => &[],
         }
+    }
+
+    /// Whether its plain words repeat.
+    pub(crate) fn repeats(self) -> bool
+        ensures { result ≡ repeats self }
+    {
+        matches!(self, CommandName::Link)
     }
 
     /// The names of its options.
@@ -66,6 +76,7 @@ impl CommandName {
             CommandName::Interp => &["name", "heap", "stack", "steps", "disk", "with", "keep"],
             CommandName::Run => &["words", "steps", "disk", "with", "keep"],
             CommandName::Make => &["method-bytes"],
+            CommandName::Link => &["entry"],
             CommandName::Verify | CommandName::Asm | CommandName::List => &[],
         }
     }

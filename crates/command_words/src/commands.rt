@@ -6,10 +6,10 @@ ghost use Rattle.command_words.specs.Word.{texts};
 
 use crate::command::Command;
 use crate::command_name::CommandName;
+use crate::linking::link;
 use crate::number::small_number_in;
 use crate::read::{class, input, method_bytes, name, pages, region_words, session};
 use crate::text::Text;
-use crate::usage::Usage;
 use crate::words_error::WordsError;
 use clap::ArgMatches;
 use std::alloc::Global;
@@ -40,6 +40,7 @@ pub(crate) fn make(
         CommandName::Asm => asm(alloc, words, matches),
         CommandName::List => list(alloc, words, matches),
         CommandName::Make => counter(matches),
+        CommandName::Link => link(alloc, words, matches),
     }
 }
 
@@ -54,12 +55,8 @@ fn go(
 {
     let input = input(alloc, words, matches, "IN")?;
     let name = name(alloc, matches)?;
-    let Some(pages) = pages(matches) else {
-        return Err(WordsError::Usage(Usage::NotLawful));
-    };
-    let Some(method_bytes) = method_bytes(matches) else {
-        return Err(WordsError::Usage(Usage::NotLawful));
-    };
+    let pages = pages(matches).ok_or(WordsError::NOT_LAWFUL)?;
+    let method_bytes = method_bytes(matches).ok_or(WordsError::NOT_LAWFUL)?;
     let session = session(alloc, GUEST_STEPS, words, matches, arguments)?;
     Ok(Command::Go {
         input,
@@ -80,12 +77,8 @@ fn translate(
 {
     let input = input(alloc, words, matches, "IN")?;
     let name = name(alloc, matches)?;
-    let Some(pages) = pages(matches) else {
-        return Err(WordsError::Usage(Usage::NotLawful));
-    };
-    let Some(method_bytes) = method_bytes(matches) else {
-        return Err(WordsError::Usage(Usage::NotLawful));
-    };
+    let pages = pages(matches).ok_or(WordsError::NOT_LAWFUL)?;
+    let method_bytes = method_bytes(matches).ok_or(WordsError::NOT_LAWFUL)?;
     Ok(Command::Translate {
         input,
         name,
@@ -105,9 +98,7 @@ fn interp(
 {
     let input = input(alloc, words, matches, "IN")?;
     let name = name(alloc, matches)?;
-    let Some(pages) = pages(matches) else {
-        return Err(WordsError::Usage(Usage::NotLawful));
-    };
+    let pages = pages(matches).ok_or(WordsError::NOT_LAWFUL)?;
     let session = session(alloc, GUEST_STEPS, words, matches, arguments)?;
     Ok(Command::Interp {
         input,
@@ -126,13 +117,11 @@ fn run(
     ensures { Reads (run_from (texts words.now) (first_value (found_of matches.now))
         (texts arguments.now)) result }
 {
-    let name = class(alloc, words, matches)?;
-    let Some(region) = region_words(matches) else {
-        return Err(WordsError::Usage(Usage::NotLawful));
-    };
+    let class = class(alloc, words, matches)?;
+    let region = region_words(matches).ok_or(WordsError::NOT_LAWFUL)?;
     let session = session(alloc, CLASS_STEPS, words, matches, arguments)?;
     Ok(Command::Run {
-        name,
+        class,
         words: region,
         session,
     })
@@ -141,17 +130,15 @@ fn run(
 fn verify(alloc: Global, words: &[String], matches: &ArgMatches<'_>) -> Result<Command, WordsError>
     ensures { Reads (verify_from (texts words.now) (first_value (found_of matches.now)) []) result }
 {
-    let name = class(alloc, words, matches)?;
-    Ok(Command::Verify { name })
+    let class = class(alloc, words, matches)?;
+    Ok(Command::Verify { class })
 }
 
 fn asm(alloc: Global, words: &[String], matches: &ArgMatches<'_>) -> Result<Command, WordsError>
     ensures { Reads (asm_from (texts words.now) (first_value (found_of matches.now)) []) result }
 {
     let input = input(alloc, words, matches, "IN")?;
-    let Some(output) = matches.get_str("OUT") else {
-        return Err(WordsError::Usage(Usage::NotLawful));
-    };
+    let output = matches.get_str("OUT").ok_or(WordsError::NOT_LAWFUL)?;
     let output = Text::new(String::from_str(alloc, output)?);
     Ok(Command::Asm { input, output })
 }
@@ -166,15 +153,9 @@ fn list(alloc: Global, words: &[String], matches: &ArgMatches<'_>) -> Result<Com
 fn counter(matches: &ArgMatches<'_>) -> Result<Command, WordsError>
     ensures { Reads (make_from [] (first_value (found_of matches.now)) []) result }
 {
-    let Some(count) = matches.get_str("N") else {
-        return Err(WordsError::Usage(Usage::NotLawful));
-    };
-    let Some(count) = small_number_in(count, 1, 65_536) else {
-        return Err(WordsError::Usage(Usage::NotLawful));
-    };
-    let Some(method_bytes) = method_bytes(matches) else {
-        return Err(WordsError::Usage(Usage::NotLawful));
-    };
+    let count = matches.get_str("N").ok_or(WordsError::NOT_LAWFUL)?;
+    let count = small_number_in(count, 1, 65_536).ok_or(WordsError::NOT_LAWFUL)?;
+    let method_bytes = method_bytes(matches).ok_or(WordsError::NOT_LAWFUL)?;
     Ok(Command::Make {
         count,
         method_bytes,

@@ -7,13 +7,17 @@
 mod command;
 mod command_name;
 mod commands;
+mod inputs;
+mod linking;
 mod matching;
 mod name_list;
 mod named;
+mod named_class;
 mod names;
 mod number;
 mod pages;
 mod place;
+mod plain;
 mod read;
 mod session;
 mod text;
@@ -24,8 +28,10 @@ mod words;
 mod words_error;
 
 pub use command::Command;
+pub use inputs::Inputs;
 pub use name_list::NameList;
 pub use named::Named;
+pub use named_class::NamedClass;
 pub use pages::Pages;
 pub use session::Session;
 pub use text::Text;

@@ -1,16 +1,14 @@
 ghost use Rattle.std.specs.Prelude.{◌≡◌, ◌≤◌, IfOk, length, map, string_bytes};
 ghost use Rattle.std.specs.List.{list_all};
-ghost use Rattle.clap.specs.Words.{app_of, kind_of};
-ghost use Rattle.command_words.specs.Answers.{MatchesForm, shown, words_error_of};
+ghost use Rattle.clap.specs.Words.{app_of};
+ghost use Rattle.command_words.specs.Answers.{MatchesForm, shown};
 ghost use Rattle.command_words.specs.Builder.{bare_app, form_app, option_rule, with_rules, word_rules};
 ghost use Rattle.command_words.specs.Given.{form_from};
 ghost use Rattle.command_words.specs.Word.{is_formed, texts};
 
-use crate::usage::Usage;
 use crate::word::is_formed;
 use crate::words_error::WordsError;
-use clap::error::ErrorKind;
-use clap::{Arg, ArgMatches, Command as Parser, Error};
+use clap::{Arg, ArgMatches, Command as Parser};
 use std::alloc::{AllocError, Global};
 
 /// Reads the words before `--` by the names of a command's plain words and options.
@@ -24,13 +22,11 @@ pub(crate) fn match_words<'a>(
     ensures { MatchesForm (form_from names.now options.now) (texts words.entry.now) result }
 {
     if !are_formed(words) {
-        return Err(WordsError::Usage(Usage::NotLawful));
+        return Err(WordsError::NOT_LAWFUL);
     }
     let parser = parser_of(alloc, names, options)?;
-    match parser.try_get_matches_from(words) {
-        Ok(matches) => Ok(matches),
-        Err(error) => Err(words_error(&error)),
-    }
+    let matches = parser.try_get_matches_from(words)?;
+    Ok(matches)
 }
 
 /// Whether each word is a plain word or an option.
@@ -38,16 +34,6 @@ fn are_formed(words: &[String]) -> bool
     ensures { result ≡ list_all (λ w. is_formed (string_bytes w)) words.now }
 {
     words.iter().all(|word| is_formed(word.as_bytes()))
-}
-
-/// What the error says of the words.
-fn words_error(error: &Error) -> WordsError
-    ensures { result ≡ words_error_of (kind_of error.now) }
-{
-    match error.kind() {
-        ErrorKind::OutOfMemory => WordsError::NoMemory,
-        _ => WordsError::Usage(Usage::NotLawful),
-    }
 }
 
 /// The parser of a command's words.

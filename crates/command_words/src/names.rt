@@ -1,43 +1,12 @@
 ghost use Rattle.std.specs.Prelude.{◌≡◌, IfOk, map, string_bytes, option_map, bytes_eq, not, Some};
 ghost use Rattle.std.specs.List.{list_any, list_all};
-ghost use Rattle.command_values.specs.Names.{is_class_name, is_letter, is_letter_or_digit};
 ghost use Rattle.command_words.specs.Answers.{Reads, shown};
 ghost use Rattle.command_words.specs.Values.{all_different, are_arguments, are_file_names, has_zero, is_file_name, names_in, names_of};
 ghost use Rattle.command_words.specs.Word.{texts};
 
-use crate::number::is_digit;
 use crate::texts::Texts;
-use crate::usage::Usage;
 use crate::words_error::WordsError;
 use std::alloc::{AllocError, Global};
-
-/// Whether the text is a NAME: a letter, then letters and digits, in ASCII, 64 at most.
-pub(crate) fn is_class_name(text: &[u8]) -> bool
-    ensures { result ≡ is_class_name text.now }
-{
-    match text.split_first() {
-        Some((first, rest)) => is_letter(*first) && all_letters_or_digits(rest) && rest.len() < 64,
-        None => false,
-    }
-}
-
-fn all_letters_or_digits(text: &[u8]) -> bool
-    ensures { result ≡ list_all is_letter_or_digit text.now }
-{
-    text.iter().all(|b| is_letter_or_digit(*b))
-}
-
-fn is_letter(b: u8) -> bool
-    ensures { result ≡ is_letter b }
-{
-    (65 <= b && b <= 90) || (97 <= b && b <= 122)
-}
-
-fn is_letter_or_digit(b: u8) -> bool
-    ensures { result ≡ is_letter_or_digit b }
-{
-    is_letter(b) || is_digit(b)
-}
 
 /// Whether no argument has a byte 0.
 pub(crate) fn are_arguments(arguments: &[String]) -> bool
@@ -62,7 +31,7 @@ fn file_names(alloc: Global, text: &str) -> Result<Texts, WordsError>
 {
     let names = split_names(alloc, text)?;
     if !are_file_names(&names) {
-        return Err(WordsError::Usage(Usage::NotLawful));
+        return Err(WordsError::NOT_LAWFUL);
     }
     let names = copied(alloc, &names)?;
     Ok(Texts::new(names))
@@ -95,7 +64,8 @@ fn all_file_names(names: &[&str]) -> bool
     names.iter().all(|name| is_file_name(name.as_bytes()))
 }
 
-fn is_file_name(name: &[u8]) -> bool
+/// Whether the text has 1 to 255 bytes, and none of them is 0.
+pub(crate) fn is_file_name(name: &[u8]) -> bool
     ensures { result ≡ is_file_name name.now }
 {
     1 <= name.len() && name.len() <= 255 && !has_zero(name)

@@ -1,7 +1,10 @@
 ghost use Rattle.std.specs.Prelude.{◌≡◌, ◌≤◌, option_map};
 ghost use Rattle.std.specs.List.{list_all};
-ghost use Rattle.command_values.specs.Names.{is_digit, lies_in};
+ghost use Rattle.command_values.specs.Names.{is_digit};
+ghost use Rattle.command_values.specs.Ranges.{lies_in};
 ghost use Rattle.command_words.specs.Values.{is_number, number_in, number_or};
+
+use command_values::is_digit;
 
 /// The number that 1 to 20 decimal digits write, where it is in the range.
 pub(crate) fn number_in(text: &str, least: u64, most: u64) -> Option<u64>
@@ -45,10 +48,8 @@ pub(crate) fn small_number_or(
 pub(crate) fn small_number_in(text: &str, least: u32, most: u32) -> Option<u32>
     ensures { result ≡ number_in least most text.now }
 {
-    match number_in(text, u64::from(least), u64::from(most)) {
-        Some(number) => u32::try_from(number).ok(),
-        None => None,
-    }
+    let number = number_in(text, u64::from(least), u64::from(most))?;
+    u32::try_from(number).ok()
 }
 
 /// Whether the text is 1 to 20 decimal digits.
@@ -62,11 +63,4 @@ fn all_digits(text: &[u8]) -> bool
     ensures { result ≡ list_all is_digit text.now }
 {
     text.iter().all(|b| is_digit(*b))
-}
-
-/// Whether the byte is a decimal digit.
-pub(crate) fn is_digit(b: u8) -> bool
-    ensures { result ≡ is_digit b }
-{
-    48 <= b && b <= 57
 }

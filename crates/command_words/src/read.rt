@@ -1,23 +1,28 @@
 ghost use Rattle.std.specs.Prelude.{◌≡◌, if◌then◌else◌};
 ghost use Rattle.command_words.specs.Given.{value_place};
 ghost use Rattle.clap.specs.Words.{first_value, found_of};
+ghost use Rattle.command_values.specs.Names.{lawful_name};
 ghost use Rattle.command_words.specs.Answers.{Reads};
 ghost use Rattle.command_words.specs.Meaning.{arguments_in, class_in, disk_in, heap_in, input_in, method_bytes_in, name_in, name_list_in, pages_in, region_words_in, session_in, stack_in, steps_in, word_number};
 ghost use Rattle.command_words.specs.Word.{texts};
 
 use crate::name_list::NameList;
 use crate::named::Named;
-use crate::names::{are_arguments, copied_words, is_class_name, names_in};
+use crate::named_class::NamedClass;
+use crate::names::{are_arguments, copied_words, names_in};
 use crate::number::{number_or, small_number_or};
 use crate::pages::Pages;
 use crate::place::{value_place, word_number, word_place};
 use crate::session::Session;
 use crate::text::Text;
 use crate::texts::Texts;
-use crate::usage::Usage;
 use crate::words_error::WordsError;
 use clap::ArgMatches;
+use command_values::{ClassName, MethodBytes, RegionWords};
 use std::alloc::{AllocError, Global};
+
+/// The words of a region where the option is left out.
+const REGION_WORDS: u32 = 4_194_304;
 
 /// The file that the first plain word names.
 pub(crate) fn input(
@@ -29,16 +34,12 @@ pub(crate) fn input(
     ensures { Reads (input_in (texts words.now) name.now (first_value (found_of matches.now)))
         result }
 {
-    match matches.get_str(name) {
-        Some(text) => {
-            let text = Text::new(String::from_str(alloc, text)?);
-            Ok(Named {
-                word: word_number(word_place(words)),
-                text,
-            })
-        }
-        None => Err(WordsError::Usage(Usage::NotLawful)),
-    }
+    let text = matches.get_str(name).ok_or(WordsError::NOT_LAWFUL)?;
+    let text = Text::new(String::from_str(alloc, text)?);
+    Ok(Named {
+        word: word_number(word_place(words)),
+        text,
+    })
 }
 
 /// The class that the first plain word names.
@@ -46,35 +47,29 @@ pub(crate) fn class(
     alloc: Global,
     words: &[String],
     matches: &ArgMatches<'_>,
-) -> Result<Named, WordsError>
+) -> Result<NamedClass, WordsError>
     ensures { Reads (class_in (texts words.now) (first_value (found_of matches.now))) result }
 {
-    match matches.get_str("NAME") {
-        Some(text) => {
-            if is_class_name(text.as_bytes()) {
-                input(alloc, words, matches, "NAME")
-            } else {
-                Err(WordsError::Usage(Usage::NotLawful))
-            }
-        }
-        None => Err(WordsError::Usage(Usage::NotLawful)),
-    }
+    let text = matches.get_str("NAME").ok_or(WordsError::NOT_LAWFUL)?;
+    let name = lawful_name(alloc, text)?;
+    Ok(NamedClass {
+        word: word_number(word_place(words)),
+        name,
+    })
 }
 
 /// The name of the classes, `Main` where the option is left out.
-pub(crate) fn name(alloc: Global, matches: &ArgMatches<'_>) -> Result<Text, WordsError>
+pub(crate) fn name(alloc: Global, matches: &ArgMatches<'_>) -> Result<ClassName, WordsError>
     ensures { Reads (name_in (first_value (found_of matches.now))) result }
 {
-    match matches.get_str("name") {
-        Some(text) => {
-            if is_class_name(text.as_bytes()) {
-                Ok(Text::new(String::from_str(alloc, text)?))
-            } else {
-                Err(WordsError::Usage(Usage::NotLawful))
-            }
-        }
-        None => Ok(Text::new(String::from_str(alloc, "Main")?)),
-    }
+    lawful_name(alloc, matches.get_str("name").unwrap_or("Main"))
+}
+
+/// The class of a name.
+fn lawful_name(alloc: Global, text: &str) -> Result<ClassName, WordsError>
+    ensures { Reads (lawful_name text.now) result }
+{
+    ClassName::new(String::from_str(alloc, text)?).ok_or(WordsError::NOT_LAWFUL)
 }
 
 /// The names that an option gives, with the number of its word.
@@ -115,17 +110,24 @@ pub(crate) fn pages(matches: &ArgMatches<'_>) -> Option<Pages>
 }
 
 /// The greatest length of a method.
-pub(crate) fn method_bytes(matches: &ArgMatches<'_>) -> Option<u32>
+pub(crate) fn method_bytes(matches: &ArgMatches<'_>) -> Option<MethodBytes>
     ensures { result ≡ method_bytes_in (first_value (found_of matches.now)) }
 {
-    small_number_or(matches.get_str("method-bytes"), 4_096, 65_535, 65_535)
+    let count = small_number_or(
+        matches.get_str("method-bytes"),
+        0,
+        u32::MAX,
+        MethodBytes::MOST,
+    )?;
+    MethodBytes::new(count)
 }
 
 /// The words of the class machine's region.
-pub(crate) fn region_words(matches: &ArgMatches<'_>) -> Option<u32>
+pub(crate) fn region_words(matches: &ArgMatches<'_>) -> Option<RegionWords>
     ensures { result ≡ region_words_in (first_value (found_of matches.now)) }
 {
-    small_number_or(matches.get_str("words"), 1, 68_288_580, 4_194_304)
+    let count = small_number_or(matches.get_str("words"), 0, u32::MAX, REGION_WORDS)?;
+    RegionWords::new(count)
 }
 
 /// The steps, of which `most` are the greatest number and the default.
@@ -153,12 +155,8 @@ pub(crate) fn session(
     ensures { Reads (session_in most (texts words.now) (first_value (found_of matches.now))
         (texts arguments.now)) result }
 {
-    let Some(steps) = steps(matches, most) else {
-        return Err(WordsError::Usage(Usage::NotLawful));
-    };
-    let Some(disk) = disk(matches) else {
-        return Err(WordsError::Usage(Usage::NotLawful));
-    };
+    let steps = steps(matches, most).ok_or(WordsError::NOT_LAWFUL)?;
+    let disk = disk(matches).ok_or(WordsError::NOT_LAWFUL)?;
     let with = name_list(alloc, words, matches, "with")?;
     let keep = name_list(alloc, words, matches, "keep")?;
     let arguments = arguments_in(alloc, arguments)?;
@@ -176,7 +174,7 @@ fn arguments_in(alloc: Global, arguments: &[String]) -> Result<Texts, WordsError
     ensures { Reads (arguments_in (texts arguments.now)) result }
 {
     if !are_arguments(arguments) {
-        return Err(WordsError::Usage(Usage::NotLawful));
+        return Err(WordsError::NOT_LAWFUL);
     }
     let texts = copied_words(alloc, arguments)?;
     Ok(Texts::new(texts))

@@ -1,7 +1,7 @@
 ghost use Rattle.std.specs.Prelude.{◌≡◌, IfOk, Ok, Err, ◌&&◌, not, position, string_bytes};
 ghost use Rattle.command_words.specs.Answers.{Reads};
 ghost use Rattle.command_words.specs.Limits.{IsWithinLimits};
-ghost use Rattle.command_words.specs.Meaning.{after_end, before_end, command_after, command_of, has_end, takes_arguments};
+ghost use Rattle.command_words.specs.Meaning.{after_end, before_end, command_after, command_of, form_of, has_end, made, maker_of, takes_arguments};
 ghost use Rattle.command_words.specs.Word.{is_end, texts};
 ghost use Rattle.command_words.specs.declared.usage.Usage.{Usage};
 
@@ -9,6 +9,7 @@ use crate::command::Command;
 use crate::command_name::CommandName;
 use crate::commands::make;
 use crate::matching::match_words;
+use crate::plain::option_words;
 use crate::usage::Usage;
 use crate::word::is_end;
 use crate::words_error::WordsError;
@@ -38,11 +39,30 @@ fn read_command(alloc: Global, name: CommandName, words: &[String]) -> Result<Co
     ensures { Reads (command_after name (texts words.now)) result }
 {
     if refuses_end(name, words) {
-        return Err(WordsError::Usage(Usage::NotLawful));
+        return Err(WordsError::NOT_LAWFUL);
     }
     let (before, arguments) = cut(words);
-    let matches = match_words(alloc, before, name.words(), name.options())?;
-    make(alloc, name, before, &matches, arguments)
+    if name.repeats() {
+        let options = option_words(alloc, before)?;
+        read_formed(alloc, name, before, options.as_slice(), arguments)
+    } else {
+        read_formed(alloc, name, before, before, arguments)
+    }
+}
+
+/// The command that words and arguments mean. `formed` are the words that the form of the command is read from.
+fn read_formed(
+    alloc: Global,
+    name: CommandName,
+    words: &[String],
+    formed: &[String],
+    arguments: &[String],
+) -> Result<Command, WordsError>
+    ensures { Reads (made (form_of name) (maker_of name) (texts words.now) (texts formed.now)
+        (texts arguments.now)) result }
+{
+    let matches = match_words(alloc, formed, name.words(), name.options())?;
+    make(alloc, name, words, &matches, arguments)
 }
 
 /// Whether there is a `--` that the command does not take.

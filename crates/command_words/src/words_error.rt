@@ -1,4 +1,6 @@
 use crate::usage::Usage;
+use clap::Error;
+use clap::error::ErrorKind;
 use std::alloc::AllocError;
 
 /// Why no command was read.
@@ -10,6 +12,11 @@ pub enum WordsError {
     NoMemory,
 }
 
+impl WordsError {
+    /// The words after the command's name break its rules.
+    pub(crate) const NOT_LAWFUL: WordsError = WordsError::Usage(Usage::NotLawful);
+}
+
 impl From<AllocError> for WordsError {
     ghost use Rattle.std.specs.Prelude.{◌≡◌};
     ghost use Rattle.command_words.specs.declared.words_error.WordsError.TheVariants.{NoMemory};
@@ -18,5 +25,20 @@ impl From<AllocError> for WordsError {
 
     fn from(_error: AllocError) -> WordsError {
         WordsError::NoMemory
+    }
+}
+
+impl From<Error> for WordsError {
+    ghost use Rattle.std.specs.Prelude.{◌≡◌};
+    ghost use Rattle.clap.specs.Words.{kind_of};
+    ghost use Rattle.command_words.specs.Answers.{words_error_of};
+
+    ghost from_gives = { λ error e. e ≡ words_error_of (kind_of error) };
+
+    fn from(error: Error) -> WordsError {
+        match error.kind() {
+            ErrorKind::OutOfMemory => WordsError::NoMemory,
+            _ => WordsError::NOT_LAWFUL,
+        }
     }
 }
