@@ -37,6 +37,7 @@ is_stop (done.ImageRefused f) = false
 is_stop (done.ArgsTooLong n) = false
 is_stop (done.FilesTooLarge n) = false
 is_stop (done.AsmRefused f) = false
+is_stop (done.ObjRefused f) = false
 is_stop (done.ClassRefused class kind at) = false
 is_stop (done.LinkRefused f) = false
 is_stop (done.VerifyRefused f) = false

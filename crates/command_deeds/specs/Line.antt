@@ -6,11 +6,12 @@ use Rattle.nv_faults.specs.declared.elf_fault.ElfFault.{ElfFault}
 use Rattle.nv_faults.specs.declared.image_fault.ImageFault.{ImageFault}
 use Rattle.nv_faults.specs.declared.link_fault.LinkFault.{LinkFault}
 use Rattle.nv_faults.specs.declared.asm_fault.AsmFault.{AsmFault}
+use Rattle.nv_faults.specs.declared.obj_fault.ObjFault.{ObjFault}
 use Rattle.nv_faults.specs.declared.verify_fault.VerifyFault.{VerifyFault}
 use Rattle.command_deeds.specs.declared.status.TheConstants as status
 use Rattle.command_deeds.specs.declared.done.Done.{Done}
 use Rattle.command_deeds.specs.declared.done.Done.TheVariants.{Good, Exited, Faulted, Usage, NoInput, ElfRefused, ImageRefused, ArgsTooLong}
-use Rattle.command_deeds.specs.declared.done.Done.TheVariants.{FilesTooLarge, AsmRefused, ClassRefused, LinkRefused, VerifyRefused, Trapped}
+use Rattle.command_deeds.specs.declared.done.Done.TheVariants.{FilesTooLarge, AsmRefused, ObjRefused, ClassRefused, LinkRefused, VerifyRefused, Trapped}
 use Rattle.command_deeds.specs.declared.done.Done.TheVariants.{Spent, ReadFault, WriteFault, ShelfFault, NoMemory}
 
 -- the statuses of sysexits.h where one fits, and the program's own status modulo 256
@@ -25,6 +26,7 @@ status_of (ImageRefused f) = status.IMAGE_REFUSED
 status_of (ArgsTooLong n) = status.ARGS_TOO_LONG
 status_of (FilesTooLarge n) = status.FILES_TOO_LARGE
 status_of (AsmRefused f) = status.ASM_REFUSED
+status_of (ObjRefused f) = status.OBJ_REFUSED
 status_of (ClassRefused class kind at) = status.CLASS_REFUSED
 status_of (LinkRefused f) = status.LINK_REFUSED
 status_of (VerifyRefused f) = status.VERIFY_REFUSED
@@ -82,6 +84,9 @@ abbrev pub asm_line : AsmFault → List ℕ
 asm_line f = joined (codes "nested: asm " ∷ decimal f.line ∷ codes " " ∷ decimal f.kind ∷ codes "\n"
     ∷ [])
 
+abbrev pub object_line : ObjFault → List ℕ
+object_line f = numbers_line (codes "nested: object ") f.object f.kind f.at
+
 -- the line of an answer, with its end, where this name was asked for
 abbrev pub line_of : List ℕ → Done → List ℕ
 line_of name Good = []
@@ -94,6 +99,7 @@ line_of name (ImageRefused f) = image_line f
 line_of name (ArgsTooLong n) = number_line (codes "nested: arguments ") n
 line_of name (FilesTooLarge n) = number_line (codes "nested: files ") n
 line_of name (AsmRefused f) = asm_line f
+line_of name (ObjRefused f) = object_line f
 line_of name (ClassRefused class kind at) = numbers_line (codes "nested: class ") class kind at
 line_of name (LinkRefused f) = link_line f
 line_of name (VerifyRefused f) = verify_line f

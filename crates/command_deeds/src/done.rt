@@ -1,6 +1,6 @@
 use crate::status;
 use nv_events::Fault;
-use nv_faults::{AsmFault, ElfFault, ImageFault, LinkFault, VerifyFault};
+use nv_faults::{AsmFault, ElfFault, ImageFault, LinkFault, ObjFault, VerifyFault};
 
 /// How a call of the program ended.
 ///
@@ -27,6 +27,8 @@ pub enum Done {
     FilesTooLarge(u64),
     /// The assembly text is faulty: its first faulty line.
     AsmRefused(AsmFault),
+    /// The objects do not link: the first check that they fail.
+    ObjRefused(ObjFault),
     /// The bytes of a class of the set spell none.
     ClassRefused {
         /// The number of the class in the set, from 0.
@@ -79,6 +81,7 @@ impl Done {
             Done::ArgsTooLong(_) => status::ARGS_TOO_LONG,
             Done::FilesTooLarge(_) => status::FILES_TOO_LARGE,
             Done::AsmRefused(_) => status::ASM_REFUSED,
+            Done::ObjRefused(_) => status::OBJ_REFUSED,
             Done::ClassRefused { .. } => status::CLASS_REFUSED,
             Done::LinkRefused(_) => status::LINK_REFUSED,
             Done::VerifyRefused(_) => status::VERIFY_REFUSED,

@@ -1,10 +1,11 @@
+use command_values::ClassName;
 use command_words::Session;
 
 /// How a machine is started on the system.
 #[derive(Debug, Drop)]
 pub struct Launch<'a> {
     /// The name that is its first argument.
-    pub name: &'a str,
+    pub name: &'a ClassName,
     /// Its steps, disk, files and other arguments.
     pub session: &'a Session,
     /// The time in seconds since 1970.
@@ -15,7 +16,7 @@ impl<'a> Launch<'a> {
     ghost use Rattle.std.specs.Prelude.{◌≡◌};
 
     /// The start of a machine under this name, with these options, at this moment.
-    pub fn new(name: &'a str, session: &'a Session, moment: u64) -> Self
+    pub fn new(name: &'a ClassName, session: &'a Session, moment: u64) -> Self
         ensures name { result.name.now ≡ name.now }
         ensures session { result.session.now ≡ session.now }
         ensures moment { result.moment ≡ moment }

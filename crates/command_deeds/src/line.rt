@@ -23,6 +23,9 @@ pub fn write_line<E: Sink>(err: &mut E, name: &str, done: &Done) -> Result<(), F
         Done::ArgsTooLong(bytes) => write_number(err, b"nested: arguments ", bytes),
         Done::FilesTooLarge(blocks) => write_number(err, b"nested: files ", blocks),
         Done::AsmRefused(fault) => write_asm_fault(err, fault),
+        Done::ObjRefused(fault) => {
+            write_numbers(err, b"nested: object ", fault.object, fault.kind, fault.at)
+        }
         Done::Spent => write_text(err, b"nested: spent\n"),
         Done::NoInput(_) => write_pieces(err, &[b"nested: no file ", name.as_bytes(), b"\n"]),
         Done::Faulted(fault) => write_fault(err, fault),

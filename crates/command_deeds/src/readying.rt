@@ -24,7 +24,11 @@ pub fn ready<H: Shelf>(alloc: Global, launch: &Launch<'_>, shelf: &mut H) -> Res
 {
     let session = launch.session;
     let mut unix = Unix::new(alloc, session.disk, launch.moment)?;
-    add_arguments(&mut unix, launch.name, session.arguments.as_slice())?;
+    add_arguments(
+        &mut unix,
+        launch.name.as_str(),
+        session.arguments.as_slice(),
+    )?;
     let names = session.with.names.as_slice();
     add_files(alloc, session.with.word, names, shelf, &mut unix)?;
     Ok(unix)

@@ -37,3 +37,5 @@ pub const SPENT: u8 = 78;
 pub const FAULTED: u8 = 79;
 /// The class machine ended in a trap.
 pub const TRAPPED: u8 = 80;
+/// The objects do not link.
+pub const OBJ_REFUSED: u8 = 84;

@@ -10,7 +10,7 @@ pub returns-in-FilesTooLarge : goal.returns-in-FilesTooLarge
 returns-in-FilesTooLarge g c = rw c.in-FilesTooLarge.is c.write_number-in-FilesTooLarge.ensures
 
 pub returns-in-ElfRefused : goal.returns-in-ElfRefused
-returns-in-ElfRefused g c = rw c.in-ElfRefused.is c.write_numbers.ensures
+returns-in-ElfRefused g c = rw c.in-ElfRefused.is c.write_numbers-in-ElfRefused.ensures
 
 pub returns-in-ClassRefused : goal.returns-in-ClassRefused
 returns-in-ClassRefused g c = rw c.in-ClassRefused.is c.write_numbers-in-ClassRefused.ensures
