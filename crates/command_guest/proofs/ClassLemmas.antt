@@ -2,7 +2,7 @@
 use Rattle.std.proofs.Common.{◌≡◌, ◌∙◌, ℕ, List, Option, Some, None, Result, Ok, Err, refl, sym, ap, subst}
 use Rattle.nv_outside.specs.Files.{Files, SameFiles}
 use Rattle.nv_faults.specs.declared.link_fault.LinkFault.{LinkFault}
-use Rattle.command_words.specs.declared.named.Named.{Named}
+use Rattle.command_words.specs.declared.named_class.NamedClass.{NamedClass}
 use Rattle.jvm_program.specs.Typing.{AllTyped}
 use Rattle.jvm_code.specs.declared.class.Class.{Class}
 use Rattle.name_resolution.specs.Faults.{link_fault}
@@ -40,19 +40,19 @@ linked_makes classes linked result is makes =
     (subst (λ found. Behind (unless found LinkRefused linked.classes) IsTypeChecked (classes_of check)) (sym linked.faultless) h)) makes
 
 -- the classes of a set that was loaded
-pub classes_make : (name : Named) (set : Loaded) (classes these : List Class) (result : Result Verified Ending) → set ≡ Classes classes → these ≡ classes
-    → Makes (λ check. IsAccepted these (classes_of check)) result → Makes (λ check. IsAcceptedLoaded name set (classes_of check)) result
-classes_make name set classes these result is same makes =
-    makes_as (λ check. IsAccepted these (classes_of check)) (λ check. IsAcceptedLoaded name set (classes_of check)) result
-    (λ check h. subst (λ s. IsAcceptedLoaded name s (classes_of check)) (sym is) (subst (λ cs. IsAccepted cs (classes_of check)) same h)) makes
+pub classes_make : (named : NamedClass) (set : Loaded) (classes these : List Class) (result : Result Verified Ending) → set ≡ Classes classes → these ≡ classes
+    → Makes (λ check. IsAccepted these (classes_of check)) result → Makes (λ check. IsAcceptedLoaded named set (classes_of check)) result
+classes_make named set classes these result is same makes =
+    makes_as (λ check. IsAccepted these (classes_of check)) (λ check. IsAcceptedLoaded named set (classes_of check)) result
+    (λ check h. subst (λ s. IsAcceptedLoaded named s (classes_of check)) (sym is) (subst (λ cs. IsAccepted cs (classes_of check)) same h)) makes
 
 -- a set that was loaded is that of its name
-pub set_gives : (name : Named) (text : List ℕ) (shelf now : Seen Files) (set : Loaded) (result : Result Verified Ending) → text ≡ name.text
+pub set_gives : (named : NamedClass) (text : List ℕ) (shelf now : Seen Files) (set : Loaded) (result : Result Verified Ending) → text ≡ named.name
     → IsLoaded shelf.told text set → SameFiles shelf.told now.told → now.faults ≡ shelf.faults
-    → Makes (λ check. IsAcceptedLoaded name set (classes_of check)) result
-    → Gives (λ files check. IsAcceptedSet name files (classes_of check)) shelf now result
-set_gives name text shelf now set result is l same sound makes =
-    makes_over (λ files. set ≡ class_set files name.text) (λ check. IsAcceptedLoaded name set (classes_of check))
-    (λ files check. IsAcceptedSet name files (classes_of check)) shelf now result
+    → Makes (λ check. IsAcceptedLoaded named set (classes_of check)) result
+    → Gives (λ files check. IsAcceptedSet named files (classes_of check)) shelf now result
+set_gives named text shelf now set result is l same sound makes =
+    makes_over (λ files. set ≡ class_set files named.name) (λ check. IsAcceptedLoaded named set (classes_of check))
+    (λ files check. IsAcceptedSet named files (classes_of check)) shelf now result
     (record { files = l.files; agree = l.agree; same = (same, sound); is = l.is ∙ ap (class_set l.files) is })
-    (λ files check e h. subst (λ s. IsAcceptedLoaded name s (classes_of check)) e h) makes
+    (λ files check e h. subst (λ s. IsAcceptedLoaded named s (classes_of check)) e h) makes

@@ -4,6 +4,7 @@ use Rattle.std.specs.Prelude.{IfErr, IfOk}
 use Rattle.nv_outside.specs.Files.{AgreeWith, Files, SameFiles}
 use Rattle.nv_outside.proofs.FilesLemmas.{agree_before}
 use Rattle.command_words.specs.declared.named.Named.{Named}
+use Rattle.command_words.specs.declared.named_class.NamedClass.{NamedClass}
 use Rattle.command_words.specs.declared.pages.Pages.{Pages}
 use Rattle.elf_reader.specs.Area.{area}
 use Rattle.elf_reader.specs.Fault.{IsRunsOf}
@@ -121,15 +122,15 @@ asm_due input output w files program due agree h refused done = record {
 
 -- ---- `verify`
 
-pub verify_due : (name : Named) (w : World) (files : Files) (classes : Check (List Class)) (due : Due) → AgreeWith w.shelf.told files
-    → IsAcceptedSet name files classes → IfErr classes (λ answer. due ≡ answers answer) → IfOk classes (λ accepted. due ≡ counted accepted)
-    → IsDueOfVerify name w due
-verify_due name w files classes due agree h refused done = record {
+pub verify_due : (class : NamedClass) (w : World) (files : Files) (classes : Check (List Class)) (due : Due) → AgreeWith w.shelf.told files
+    → IsAcceptedSet class files classes → IfErr classes (λ answer. due ≡ answers answer) → IfOk classes (λ accepted. due ≡ counted accepted)
+    → IsDueOfVerify class w due
+verify_due class w files classes due agree h refused done = record {
   files = files;
   agree = agree;
-  set = set_named files name;
+  set = set_named files class;
   set_is = refl;
-  linked = after (set_named files name) link_checked;
+  linked = after (set_named files class) link_checked;
   linked_is = refl;
   classes = classes;
   classes_are = h;
@@ -139,16 +140,16 @@ verify_due name w files classes due agree h refused done = record {
 
 -- ---- `run`
 
-pub run_refused : (name : Named) (words : ℕ) (plan : Plan) (w : World) (files : Files) (answer : CommandAnswer) → AgreeWith w.shelf.told files
-    → IsAcceptedSet name files (Err answer) → IsDueOfRun name words plan w (answers answer)
-run_refused name words plan w files answer agree h = record {
+pub run_refused : (class : NamedClass) (words : ℕ) (plan : Plan) (w : World) (files : Files) (answer : CommandAnswer) → AgreeWith w.shelf.told files
+    → IsAcceptedSet class files (Err answer) → IsDueOfRun class words plan w (answers answer)
+run_refused class words plan w files answer agree h = record {
   files = files;
   agree = agree;
   with_files = files;
   with_agree = agree;
-  set = set_named files name;
+  set = set_named files class;
   set_is = refl;
-  linked = after (set_named files name) link_checked;
+  linked = after (set_named files class) link_checked;
   linked_is = refl;
   classes = Err answer;
   classes_are = h;
@@ -159,17 +160,17 @@ run_refused name words plan w files answer agree h = record {
   done = tt;
 }
 
-pub run_due : (name : Named) (words : ℕ) (plan : Plan) (w : World) (now : Seen Files) (files : Files) (classes : List Class) (due : Due)
-    → SameFiles w.shelf.told now.told → AgreeWith w.shelf.told files → IsAcceptedSet name files (Ok classes)
-    → IsDueOfPlay loaded_turn (loaded (program_of classes) words) plan (world now w.input w.out w.err) due → IsDueOfRun name words plan w due
-run_due name words plan w now files classes due same agree h play = record {
+pub run_due : (class : NamedClass) (words : ℕ) (plan : Plan) (w : World) (now : Seen Files) (files : Files) (classes : List Class) (due : Due)
+    → SameFiles w.shelf.told now.told → AgreeWith w.shelf.told files → IsAcceptedSet class files (Ok classes)
+    → IsDueOfPlay loaded_turn (loaded (program_of classes) words) plan (world now w.input w.out w.err) due → IsDueOfRun class words plan w due
+run_due class words plan w now files classes due same agree h play = record {
   files = files;
   agree = agree;
   with_files = play.files;
   with_agree = agree_before w.shelf.told now.told play.files same play.agree;
-  set = set_named files name;
+  set = set_named files class;
   set_is = refl;
-  linked = after (set_named files name) link_checked;
+  linked = after (set_named files class) link_checked;
   linked_is = refl;
   classes = Ok classes;
   classes_are = h;

@@ -2,7 +2,7 @@
 use Rattle.std.specs.Prelude.{◌≡◌, ℕ, List, [], ◌∷◌, length, codes, decimal, Some, IfErr, IfOk, Ok, Err}
 use Rattle.nv_outside.specs.Files.{AgreeWith, Files}
 use Rattle.nv_faults.specs.declared.verify_fault.VerifyFault.{VerifyFault}
-use Rattle.command_words.specs.declared.named.Named.{Named}
+use Rattle.command_words.specs.declared.named_class.NamedClass.{NamedClass}
 use Rattle.jvm_program.specs.Step.{loaded, loaded_turn}
 use Rattle.jvm_program.specs.Typing.{AllTyped}
 use Rattle.jvm_code.specs.declared.class.Class.{Class}
@@ -25,13 +25,13 @@ use Rattle.command_deeds.specs.Runs.{GivenFile, Plan, found_for, session_run}
 -- ---- the checks of a set
 
 -- the classes of a set whose first class the words name, or why it was not loaded
-abbrev pub set_loaded : Named → Loaded → Check (List Class)
-set_loaded name NoFile = Err (lacks name.word (file_of name.text))
-set_loaded name (Faulty number fault) = Err (says (ClassRefused number fault.kind fault.at))
-set_loaded name (Classes classes) = Ok classes
+abbrev pub set_loaded : NamedClass → Loaded → Check (List Class)
+set_loaded class NoFile = Err (lacks class.word (file_of class.name))
+set_loaded class (Faulty number fault) = Err (says (ClassRefused number fault.kind fault.at))
+set_loaded class (Classes classes) = Ok classes
 
-abbrev pub set_named : Files → Named → Check (List Class)
-set_named files name = set_loaded name (class_set files name.text)
+abbrev pub set_named : Files → NamedClass → Check (List Class)
+set_named files class = set_loaded class (class_set files class.name)
 
 -- classes link, or this is their first fault
 abbrev pub link_checked : List Class → Check (List Class)
@@ -50,12 +50,12 @@ abbrev pub IsAccepted : List Class → Check (List Class) → Type 0
 IsAccepted classes check = Behind (link_checked classes) IsTypeChecked check
 
 -- the same of what loading a set came to, and of the set of a name
-abbrev pub IsAcceptedLoaded : Named → Loaded → Check (List Class) → Type 0
-IsAcceptedLoaded name set check =
-    Behind (after (set_loaded name set) link_checked) IsTypeChecked check
+abbrev pub IsAcceptedLoaded : NamedClass → Loaded → Check (List Class) → Type 0
+IsAcceptedLoaded class set check =
+    Behind (after (set_loaded class set) link_checked) IsTypeChecked check
 
-abbrev pub IsAcceptedSet : Named → Files → Check (List Class) → Type 0
-IsAcceptedSet name files check = IsAcceptedLoaded name (class_set files name.text) check
+abbrev pub IsAcceptedSet : NamedClass → Files → Check (List Class) → Type 0
+IsAcceptedSet class files check = IsAcceptedLoaded class (class_set files class.name) check
 
 -- the classes of what was verified
 abbrev pub classes_of : Check Verified → Check (List Class)
@@ -73,13 +73,13 @@ abbrev pub counted : List Class → Due
 counted classes = record { deeds = prints (counts_line classes) ∷ []; answer = Some (says Good) }
 
 -- What `verify` is to do with the set of a class.
-pub record IsDueOfVerify (name : Named) (w : World) (due : Due) : Type 0 where
+pub record IsDueOfVerify (class : NamedClass) (w : World) (due : Due) : Type 0 where
   -- the files: those of the shelf, where it tells them
   pub files : Files
   pub agree : AgreeWith w.shelf.told files
   -- the set of the class is loaded
   pub set : Check (List Class)
-  pub set_is : set ≡ set_named files name
+  pub set_is : set ≡ set_named files class
   -- it links
   pub linked : Check (List Class)
   pub linked_is : linked ≡ after set link_checked
@@ -94,7 +94,7 @@ pub record IsDueOfVerify (name : Named) (w : World) (due : Due) : Type 0 where
 -- ---- `run`
 
 -- What `run` is to do with the set of a class, in a region of so many words.
-pub record IsDueOfRun (name : Named) (words : ℕ) (plan : Plan) (w : World) (due : Due)
+pub record IsDueOfRun (class : NamedClass) (words : ℕ) (plan : Plan) (w : World) (due : Due)
     : Type 0 where
   -- the files as the set is loaded: those of the shelf, where it tells them
   pub files : Files
@@ -104,7 +104,7 @@ pub record IsDueOfRun (name : Named) (words : ℕ) (plan : Plan) (w : World) (du
   pub with_agree : AgreeWith w.shelf.told with_files
   -- the set of the class is loaded
   pub set : Check (List Class)
-  pub set_is : set ≡ set_named files name
+  pub set_is : set ≡ set_named files class
   -- it links
   pub linked : Check (List Class)
   pub linked_is : linked ≡ after set link_checked

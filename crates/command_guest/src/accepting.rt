@@ -7,7 +7,7 @@ ghost use Rattle.command_guest.specs.Classes.{IsAccepted, IsAcceptedLoaded, IsAc
 
 use class_set::{Loaded, class_file, load_set};
 use command_deeds::{Done, Ending, Stop};
-use command_words::Named;
+use command_words::NamedClass;
 use jvm_code::Class;
 use jvm_link::{LinkError, Linked, link};
 use nv_outside::Shelf;
@@ -15,23 +15,27 @@ use std::alloc::Global;
 use type_verifier::{Verified, VerifyError, verify};
 
 /// Loads the set of a class, links it and verifies it.
-pub fn accept<H: Shelf>(alloc: Global, name: &Named, shelf: &mut H) -> Result<Verified, Ending>
-    ensures gives { Gives (λ files check. IsAcceptedSet name.now files (classes_of check))
+pub fn accept<H: Shelf>(
+    alloc: Global,
+    class: &NamedClass,
+    shelf: &mut H,
+) -> Result<Verified, Ending>
+    ensures gives { Gives (λ files check. IsAcceptedSet class.now files (classes_of check))
         (shelf_seen H.Shelf shelf.old) (shelf_seen H.Shelf shelf.new) result }
 {
-    let loaded = load_set(alloc, shelf, name.text.as_str())?;
-    accept_loaded(alloc, name, loaded)
+    let loaded = load_set(alloc, shelf, class.name.as_str())?;
+    accept_loaded(alloc, class, loaded)
 }
 
 /// Links and verifies a set that was loaded, if it was.
-fn accept_loaded(alloc: Global, name: &Named, loaded: Loaded) -> Result<Verified, Ending>
+fn accept_loaded(alloc: Global, named: &NamedClass, loaded: Loaded) -> Result<Verified, Ending>
     requires kept { IsKeptSet loaded }
-    ensures makes { Makes (λ check. IsAcceptedLoaded name.now loaded (classes_of check)) result }
+    ensures makes { Makes (λ check. IsAcceptedLoaded named.now loaded (classes_of check)) result }
 {
     match loaded {
         Loaded::NoFile => Err(Ending::NoFile {
-            word: name.word,
-            name: class_file(alloc, name.text.as_str())?,
+            word: named.word,
+            name: class_file(alloc, named.name.as_str())?,
         }),
         Loaded::Faulty { class, fault } => Err(Ending::Refused(Done::ClassRefused {
             class,

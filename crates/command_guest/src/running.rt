@@ -6,7 +6,8 @@ ghost use Rattle.command_guest.specs.Classes.{IsDueOfRun};
 
 use crate::accepting::accept;
 use command_deeds::{Done, Ending, Launch, Outside, play_session};
-use command_words::Named;
+use command_values::RegionWords;
+use command_words::NamedClass;
 use jvm_machine::Jvm;
 use nv_outside::{Shelf, Sink, Source};
 use std::alloc::Global;
@@ -14,19 +15,17 @@ use std::alloc::Global;
 /// Loads the set of a class, links it and verifies it, runs it in a region of so many words, and keeps files.
 pub fn run<H: Shelf, S: Source, O: Sink, E: Sink>(
     alloc: Global,
-    name: &Named,
-    words: u32,
+    class: &NamedClass,
+    words: RegionWords,
     launch: &Launch<'_>,
     outside: &mut Outside<'_, H, S, O, E>,
 ) -> Result<Done, Ending>
-    requires some { 1 ≤ words }
-    requires few { words ≤ 68288580 }
     requires disk { launch.now.session.now.disk ≤ 65536 }
     requires names { AreFileNames launch.now.session.now.with.names }
     ensures ends { Ends H.Shelf S.Source O.Sink E.Sink
-        (IsDueOfRun name.now words (plan_of launch.now)) outside.old outside.new result }
+        (IsDueOfRun class.now words (plan_of launch.now)) outside.old outside.new result }
 {
-    let verified = accept(alloc, name, outside.shelf)?;
-    let jvm = Jvm::load(alloc, verified, u64::from(words))?;
+    let verified = accept(alloc, class, outside.shelf)?;
+    let jvm = Jvm::load(alloc, verified, words)?;
     play_session(alloc, launch, jvm, outside)
 }

@@ -4,7 +4,7 @@ ghost use Rattle.command_guest.specs.Classes.{IsDueOfVerify, counts_line};
 
 use crate::accepting::accept;
 use command_deeds::{Done, Ending, Outside, decimal_long, write_pieces};
-use command_words::Named;
+use command_words::NamedClass;
 use itoa::Buffer;
 use jvm_link::Linked;
 use nv_outside::{Failed, Shelf, Sink, Source};
@@ -13,13 +13,13 @@ use std::alloc::Global;
 /// Loads the set of a class, links it and verifies it, and writes how many classes and methods it has.
 pub fn verify<H: Shelf, S: Source, O: Sink, E: Sink>(
     alloc: Global,
-    name: &Named,
+    class: &NamedClass,
     outside: &mut Outside<'_, H, S, O, E>,
 ) -> Result<Done, Ending>
-    ensures ends { Ends H.Shelf S.Source O.Sink E.Sink (IsDueOfVerify name.now)
+    ensures ends { Ends H.Shelf S.Source O.Sink E.Sink (IsDueOfVerify class.now)
         outside.old outside.new result }
 {
-    let verified = accept(alloc, name, outside.shelf)?;
+    let verified = accept(alloc, class, outside.shelf)?;
     write_counts(&verified.linked, outside.out)?;
     Ok(Done::Good)
 }

@@ -1,10 +1,10 @@
 //! The runs of a program on systems of their own, in both machines.
 ghost use Rattle.std.specs.Prelude.{◌≡◌, ◌≤◌, ◌^◌, IfOk, Some};
-ghost use Rattle.command_values.specs.MethodBytes.{AreMethodBytes};
-ghost use Rattle.command_translate.specs.Make.{IsEndOfTranslation, interp_end};
+ghost use Rattle.command_translate.specs.Make.{IsEndOfTranslation, interp_end, made_name};
 
 use crate::classes::machine_of;
 use command_deeds::{Done, play_alone};
+use command_values::{ClassName, MethodBytes};
 use elf_image::Image;
 use mips_machine::Mips;
 use nv_translate::{allow, translate};
@@ -25,17 +25,27 @@ pub fn run_image(alloc: Global, image: &Image, steps: u64, moment: u64) -> Resul
 pub fn run_translated(
     alloc: Global,
     image: &Image,
-    method_bytes: u32,
+    method_bytes: MethodBytes,
     steps: u64,
     moment: u64,
 ) -> Result<Done, AllocError>
-    requires method_bytes { AreMethodBytes method_bytes }
     requires steps { steps ≤ 2 ^ 40 }
     ensures { IfOk result (IsEndOfTranslation steps moment image.now method_bytes) }
 {
-    let built = translate(alloc, image, NAME, method_bytes)?;
+    let name = class_name(alloc)?;
+    let built = translate(alloc, image, &name, method_bytes)?;
     let jvm = machine_of(alloc, image, built.files.as_slice())?;
     image.laws();
     let bound = allow(image.mapped(), steps);
     play_alone(alloc, NAME, moment, jvm, bound)
+}
+
+/// The name of the program, as that of its main class.
+fn class_name(alloc: Global) -> Result<ClassName, AllocError>
+    ensures { IfOk result (λ name. name ≡ made_name) }
+{
+    match ClassName::new(String::from_str(alloc, NAME)?) {
+        Some(name) => Ok(name),
+        None => unreachable!(),
+    }
 }

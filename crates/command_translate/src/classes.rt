@@ -28,9 +28,7 @@ pub fn machine_of(alloc: Global, image: &Image, files: &[NamedFile]) -> Result<J
     ensures going { IfOk result (λ jvm. has_ended jvm ≡ false) }
 {
     let verified = verified_files(alloc, files)?;
-    image.laws();
-    let mapped = image.mapped();
-    let jvm = Jvm::load(alloc, verified, need(mapped))?;
+    let jvm = Jvm::load(alloc, verified, need(image))?;
     Ok(jvm)
 }
 

@@ -1,6 +1,4 @@
 ghost use Rattle.std.specs.Prelude.{◌≤◌, ◌^◌};
-ghost use Rattle.command_values.specs.MethodBytes.{AreMethodBytes};
-ghost use Rattle.command_values.specs.Names.{IsClassName};
 ghost use Rattle.command_words.specs.Limits.{AreFileNames, ArePages};
 ghost use Rattle.command_deeds.specs.Ends.{Ends};
 ghost use Rattle.command_deeds.specs.Runs.{plan_of};
@@ -10,6 +8,7 @@ use crate::classes::machine_of;
 use crate::storing::store_files;
 use command_deeds::{Done, Ending, Outside, play_for, ready};
 use command_guest::{Guest, load_image};
+use command_values::MethodBytes;
 use nv_outside::{Shelf, Sink, Source};
 use nv_translate::{allow, translate};
 use std::alloc::Global;
@@ -19,12 +18,10 @@ use unix_calls::laws::begins_at_start;
 pub fn go<H: Shelf, S: Source, O: Sink, E: Sink>(
     alloc: Global,
     guest: &Guest<'_>,
-    method_bytes: u32,
+    method_bytes: MethodBytes,
     outside: &mut Outside<'_, H, S, O, E>,
 ) -> Result<Done, Ending>
-    requires name { IsClassName guest.now.launch.name.now }
     requires pages { ArePages guest.now.pages }
-    requires method_bytes { AreMethodBytes method_bytes }
     requires steps { guest.now.launch.session.now.steps ≤ 2 ^ 40 }
     requires disk { guest.now.launch.session.now.disk ≤ 65536 }
     requires names { AreFileNames guest.now.launch.session.now.with.names }

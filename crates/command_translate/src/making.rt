@@ -1,5 +1,4 @@
 ghost use Rattle.std.specs.Prelude.{◌≤◌, false};
-ghost use Rattle.command_values.specs.MethodBytes.{AreMethodBytes};
 ghost use Rattle.command_deeds.specs.Ends.{Comes, ended};
 ghost use Rattle.command_deeds.specs.World.{SameParts, Writes, output_seen, seen};
 ghost use Rattle.command_translate.specs.Make.{IsDueOfMake, made_lines};
@@ -8,6 +7,7 @@ use crate::alone_runs::{run_image, run_translated};
 use crate::statuses::Statuses;
 use command_deeds::{Done, Ending, Outside, decimal_long, write_pieces};
 use command_guest::{DEFAULT_PAGES, image_of_file};
+use command_values::MethodBytes;
 use itoa::Buffer;
 use made_program::laws::{made_files_are_accepted, made_programs_end};
 use made_program::made_file;
@@ -19,12 +19,11 @@ use std::alloc::Global;
 pub fn make<H: Shelf, S: Source, O: Sink, E: Sink>(
     alloc: Global,
     count: u32,
-    method_bytes: u32,
+    method_bytes: MethodBytes,
     moment: u64,
     outside: &mut Outside<'_, H, S, O, E>,
 ) -> Result<Done, Ending>
     requires count { count ≤ 65536 }
-    requires method_bytes { AreMethodBytes method_bytes }
     ensures same { SameParts outside.old outside.new }
     ensures comes { Comes false (λ w. IsDueOfMake count method_bytes moment)
         (seen H.Shelf S.Source O.Sink E.Sink outside.old)

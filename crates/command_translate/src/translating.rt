@@ -1,5 +1,3 @@
-ghost use Rattle.command_values.specs.MethodBytes.{AreMethodBytes};
-ghost use Rattle.command_values.specs.Names.{IsClassName};
 ghost use Rattle.command_words.specs.Limits.{ArePages};
 ghost use Rattle.command_deeds.specs.Ends.{Ends};
 ghost use Rattle.command_deeds.specs.World.{Writes, output_seen};
@@ -8,6 +6,7 @@ ghost use Rattle.command_translate.specs.Translate.{IsDueOfTranslate, counts_lin
 use crate::storing::store_files;
 use command_deeds::{Done, Ending, Outside, decimal_long, write_pieces};
 use command_guest::load_image;
+use command_values::{ClassName, MethodBytes};
 use command_words::{Named, Pages};
 use itoa::Buffer;
 use nv_outside::{Failed, Shelf, Sink, Source};
@@ -19,14 +18,12 @@ use std::alloc::Global;
 pub fn translate<H: Shelf, S: Source, O: Sink, E: Sink>(
     alloc: Global,
     input: &Named,
-    name: &str,
+    name: &ClassName,
     pages: Pages,
-    method_bytes: u32,
+    method_bytes: MethodBytes,
     outside: &mut Outside<'_, H, S, O, E>,
 ) -> Result<Done, Ending>
-    requires name { IsClassName name.now }
     requires pages { ArePages pages }
-    requires method_bytes { AreMethodBytes method_bytes }
     ensures ends { Ends H.Shelf S.Source O.Sink E.Sink
         (IsDueOfTranslate input.now name.now pages method_bytes)
         outside.old outside.new result }
@@ -45,6 +42,6 @@ fn write_counts<O: Sink>(built: &Built, out: &mut O) -> Result<(), Failed>
 {
     let (mut file_digits, mut need_digits) = (Buffer::new(), Buffer::new());
     let files = decimal_long(&mut file_digits, built.files.as_slice().len() as u64);
-    let need = decimal_long(&mut need_digits, built.layout.need);
+    let need = decimal_long(&mut need_digits, u64::from(built.layout.need.get()));
     write_pieces(out, &[b"classes ", files, b" need ", need, b"\n"])
 }

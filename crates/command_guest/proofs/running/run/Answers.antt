@@ -1,4 +1,4 @@
-use Rattle.std.proofs.Common.{true, ◌∙◌, Ok, Err, ap, refl, subst}
+use Rattle.std.proofs.Common.{true, Ok, Err, refl, subst}
 use Rattle.std.proofs.lemmas.Result.{err_from_is_err_and}
 use Rattle.jvm_program.specs.Step.{loaded, loaded_turn}
 use Rattle.jvm_link.specs.Linking.{program_of}
@@ -13,7 +13,7 @@ use Rattle.command_guest.proofs.running.run.Goals as goal
 pub returns-in_err-verified : goal.returns-in_err-verified
 returns-in_err-verified g c =
     let p = err_from_is_err_and c.from_residual.result c.from_residual.ensures.1 in
-    let name = c.args.name.now in
+    let class = c.args.class.now in
     let words = c.args.words in
     let plan = plan_of c.args.launch.now in
     let w = seen g.H.Shelf g.S.Source g.O.Sink g.E.Sink c.args.outside.now in
@@ -21,15 +21,15 @@ returns-in_err-verified g c =
     record {
       ends = (
         (refl, refl, refl, refl),
-        rw (p.1, p.2) (gives_ends (IsDueOfRun name words plan) (λ files answer. IsAcceptedSet name files (Err answer)) w v
+        rw (p.1, p.2) (gives_ends (IsDueOfRun class words plan) (λ files answer. IsAcceptedSet class files (Err answer)) w v
             (end_of c.in_err-verified.field-0.0) c.in_err-verified.ensures.gives (refl, refl, refl)
-            (λ files answer agree h. run_refused name words plan w files answer agree h)),
+            (λ files answer agree h. run_refused class words plan w files answer agree h)),
       );
     }
 
 pub returns : goal.returns
 returns g c =
-    let name = c.args.name.now in
+    let class = c.args.class.now in
     let words = c.args.words in
     let plan = plan_of c.args.launch.now in
     let classes = c.in_ok-verified.verified.linked.classes in
@@ -41,10 +41,10 @@ returns g c =
     record {
       ends = (
         c.play_session.ensures.ends.0,
-        gives_then (IsDueOfRun name words plan) (IsDueOfPlay loaded_turn (loaded (program_of classes) words) plan)
-            (λ files. IsAcceptedSet name files (Ok classes)) w u v (ended c.play_session.result) over (refl, refl, refl)
-            (λ files due agree h later. run_due name words plan w now files classes due over.same.0 agree h later)
+        gives_then (IsDueOfRun class words plan) (IsDueOfPlay loaded_turn (loaded (program_of classes) words) plan)
+            (λ files. IsAcceptedSet class files (Ok classes)) w u v (ended c.play_session.result) over (refl, refl, refl)
+            (λ files due agree h later. run_due class words plan w now files classes due over.same.0 agree h later)
             (subst (λ s. Comes true (IsDueOfPlay loaded_turn s plan) u v (ended c.play_session.result))
-            (c.in_ok-jvm.ensures.state ∙ ap (loaded (program_of classes)) c.from.ensures) c.play_session.ensures.ends.1),
+            c.in_ok-jvm.ensures.state c.play_session.ensures.ends.1),
       );
     }

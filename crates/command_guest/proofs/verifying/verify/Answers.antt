@@ -12,22 +12,22 @@ use Rattle.command_guest.proofs.verifying.verify.Goals as goal
 pub returns-in_err-verified : goal.returns-in_err-verified
 returns-in_err-verified g c =
     let p = err_from_is_err_and c.from_residual.result c.from_residual.ensures.1 in
-    let name = c.args.name.now in
+    let class = c.args.class.now in
     let w = seen g.H.Shelf g.S.Source g.O.Sink g.E.Sink c.args.outside.now in
     let v = world (shelf_seen g.H.Shelf c.accept.new.shelf) w.input w.out w.err in
     record {
       ends = (
         (refl, refl, refl, refl),
-        rw (p.1, p.2) (gives_ends (IsDueOfVerify name) (λ files answer. IsAcceptedSet name files (Err answer)) w v
+        rw (p.1, p.2) (gives_ends (IsDueOfVerify class) (λ files answer. IsAcceptedSet class files (Err answer)) w v
             (end_of c.in_err-verified.field-0.0) c.in_err-verified.ensures.gives (refl, refl, refl)
-            (λ files answer agree h. verify_due name w files (Err answer) (answers answer) agree h refl tt)),
+            (λ files answer agree h. verify_due class w files (Err answer) (answers answer) agree h refl tt)),
       );
     }
 
 pub returns-in_err-write_counts : goal.returns-in_err-write_counts
 returns-in_err-write_counts g c =
     let p = err_from_is_err_and c.from_residual-in_err-write_counts.result c.from_residual-in_err-write_counts.ensures.1 in
-    let name = c.args.name.now in
+    let class = c.args.class.now in
     let classes = c.in_ok-verified.verified.linked.classes in
     let due = counted classes in
     let w = seen g.H.Shelf g.S.Source g.O.Sink g.E.Sink c.args.outside.now in
@@ -36,16 +36,16 @@ returns-in_err-write_counts g c =
     record {
       ends = (
         (refl, refl, refl, refl),
-        rw (p.1, p.2) (gives_then (IsDueOfVerify name) (λ x d. d ≡ due) (λ files. IsAcceptedSet name files (Ok classes)) w u v
+        rw (p.1, p.2) (gives_then (IsDueOfVerify class) (λ x d. d ≡ due) (λ files. IsAcceptedSet class files (Ok classes)) w u v
             (Err WriteFault) c.in_ok-verified.ensures.gives (refl, refl, refl)
-            (λ files d agree h later. verify_due name w files (Ok classes) d agree h tt later)
+            (λ files d agree h later. verify_due class w files (Ok classes) d agree h tt later)
             (inr (due, refl, inl (c.in_err-write_counts.ensures.writes, (same_shelf u.shelf, refl, refl))))),
       );
     }
 
 pub returns : goal.returns
 returns g c =
-    let name = c.args.name.now in
+    let class = c.args.class.now in
     let classes = c.in_ok-verified.verified.linked.classes in
     let due = counted classes in
     let w = seen g.H.Shelf g.S.Source g.O.Sink g.E.Sink c.args.outside.now in
@@ -54,9 +54,9 @@ returns g c =
     record {
       ends = (
         (refl, refl, refl, refl),
-        gives_then (IsDueOfVerify name) (λ x d. d ≡ due) (λ files. IsAcceptedSet name files (Ok classes)) w u v (Ok (says Good))
+        gives_then (IsDueOfVerify class) (λ x d. d ≡ due) (λ files. IsAcceptedSet class files (Ok classes)) w u v (Ok (says Good))
             c.in_ok-verified.ensures.gives (refl, refl, refl)
-            (λ files d agree h later. verify_due name w files (Ok classes) d agree h tt later)
+            (λ files d agree h later. verify_due class w files (Ok classes) d agree h tt later)
             (inr (
               due,
               refl,

@@ -1,10 +1,11 @@
-use Rattle.std.proofs.Common.{◌≡◌, ◌∙◌, Some, ap, sym}
+use Rattle.std.proofs.Common.{◌≡◌, ◌∙◌, Some, ap, subst, sym}
 use Rattle.std.proofs.lemmas.Result.{IfOk-weaker}
 use Rattle.elf_image.specs.Start.{image_of}
 use Rattle.jvm_program.specs.Step.{loaded, loaded_turn}
 use Rattle.jvm_link.specs.Linking.{program_of}
 use Rattle.jvm_machine.specs.Machine.{state_of}
 use Rattle.program_translation.specs.Bounds.{allow, need}
+use Rattle.nv_translate.specs.Translated.{Translated}
 use Rattle.command_deeds.specs.declared.done.Done.{Done}
 use Rattle.command_deeds.specs.Runs.{answer_of, run_alone}
 use Rattle.command_translate.proofs.TranslationLemmas.{spell_classes}
@@ -15,7 +16,7 @@ pub returns : goal.returns
 returns c =
     let image = c.args.image.now in
     let mapped = (image_of image).mapped in
-    let t = c.in_ok-built.ensures in
+    let t : Translated image made_name c.args.method_bytes c.in_ok-built.built = subst (λ name. Translated image name c.args.method_bytes c.in_ok-built.built) c.in_ok-name.ensures c.in_ok-built.ensures in
     let classes = t.linked.classes in
     let state = c.in_ok-jvm.ensures.state classes (spell_classes image made_name c.args.method_bytes c.in_ok-built.built c.as_slice.result.now t
     c.as_slice.ensures.value) in

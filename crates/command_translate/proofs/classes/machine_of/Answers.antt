@@ -1,7 +1,6 @@
 use Rattle.std.proofs.Common.{◌∙◌, ap}
 use Rattle.jvm_link.specs.Linking.{program_of}
 use Rattle.jvm_program.specs.Step.{loaded}
-use Rattle.program_translation.specs.Bounds.{need}
 use Rattle.command_translate.proofs.FileLemmas.{same_classes}
 use Rattle.command_translate.proofs.classes.machine_of.Goals as goal
 
@@ -10,4 +9,4 @@ returns-clause-state c = λ classes spelled.
     c.in_ok-jvm.ensures.state
     ∙ ap (λ cs. loaded (program_of cs) c.need.result) (same_classes c.args.files.now classes c.in_ok-verified.verified.linked.classes spelled
     c.in_ok-verified.ensures)
-    ∙ ap (loaded (program_of classes)) (c.need.ensures ∙ ap need c.mapped-mapped.ensures.sum)
+    ∙ ap (loaded (program_of classes)) c.need.ensures
