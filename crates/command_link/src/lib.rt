@@ -1,0 +1,7 @@
+//! The command `link`: objects of a compiler become a program.
+#![tactic(auto)]
+
+mod linking;
+mod loading;
+
+pub use linking::link;
