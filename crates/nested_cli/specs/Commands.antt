@@ -16,6 +16,7 @@ use Rattle.command_guest.specs.Assembly.{IsDueOfAsm}
 use Rattle.command_guest.specs.Interp.{IsDueOfInterp}
 use Rattle.command_guest.specs.Listing.{IsDueOfList}
 use Rattle.command_guest.specs.Classes.{IsDueOfRun, IsDueOfVerify}
+use Rattle.command_link.specs.Linking.{IsDueOfLink}
 use Rattle.command_translate.specs.Go.{IsDueOfGo}
 use Rattle.command_translate.specs.Make.{IsDueOfMake}
 use Rattle.command_translate.specs.Translate.{IsDueOfTranslate}
@@ -37,10 +38,11 @@ IsDueOf (command.Interp input name pages session) moment w due =
     IsDueOfInterp input pages (plan name session moment) w due
 IsDueOf (command.Asm input output) moment w due = IsDueOfAsm input output w due
 IsDueOf (command.List input) moment w due = IsDueOfList input w due
-IsDueOf (command.Run name words session) moment w due =
-    IsDueOfRun name words (plan name.text session moment) w due
-IsDueOf (command.Verify name) moment w due = IsDueOfVerify name w due
+IsDueOf (command.Run class words session) moment w due =
+    IsDueOfRun class words (plan class.name session moment) w due
+IsDueOf (command.Verify class) moment w due = IsDueOfVerify class w due
 IsDueOf (command.Make count method_bytes) moment w due = IsDueOfMake count method_bytes moment due
+IsDueOf (command.Link output inputs entry) moment w due = IsDueOfLink output inputs entry w due
 
 -- all but `make` load files
 abbrev pub loads : Command → Bool

@@ -2,3 +2,4 @@ pub mod Usage
 pub mod Faults
 pub mod Line
 pub mod Commands
+pub mod Laws

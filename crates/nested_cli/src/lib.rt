@@ -1,7 +1,9 @@
 //! The commands of `nested`, over any shelf of files, source of input and sinks of output.
 #![tactic(auto)]
 
+mod laws;
 mod program;
 
 pub use command_deeds::{Done, status};
+pub use laws::{go_is_complete, refusals_leave_all, runs_take_no_memory};
 pub use program::nested;

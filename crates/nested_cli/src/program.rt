@@ -13,6 +13,7 @@ ghost use Rattle.nested_cli.specs.Usage.{Misuses};
 
 use command_deeds::{Done, Ending, Launch, Outside, write_line};
 use command_guest::{Guest, asm, interp, list, run, verify};
+use command_link::link;
 use command_translate::{go, make, translate};
 use command_words::{Command, read_words};
 use nv_outside::{Failed, Shelf, Sink, Source};
@@ -130,7 +131,7 @@ fn perform_command<H: Shelf, S: Source, O: Sink, E: Sink>(
             let guest = Guest {
                 input: file,
                 pages: *pages,
-                launch: Launch::new(name.as_str(), session, moment),
+                launch: Launch::new(name, session, moment),
             };
             go(alloc, &guest, *method_bytes, outside)
         }
@@ -139,7 +140,7 @@ fn perform_command<H: Shelf, S: Source, O: Sink, E: Sink>(
             name,
             pages,
             method_bytes,
-        } => translate(alloc, file, name.as_str(), *pages, *method_bytes, outside),
+        } => translate(alloc, file, name, *pages, *method_bytes, outside),
         Command::Interp {
             input: file,
             name,
@@ -149,7 +150,7 @@ fn perform_command<H: Shelf, S: Source, O: Sink, E: Sink>(
             let guest = Guest {
                 input: file,
                 pages: *pages,
-                launch: Launch::new(name.as_str(), session, moment),
+                launch: Launch::new(name, session, moment),
             };
             interp(alloc, &guest, outside)
         }
@@ -159,17 +160,28 @@ fn perform_command<H: Shelf, S: Source, O: Sink, E: Sink>(
         } => asm(alloc, file, output.as_str(), outside),
         Command::List { input: file } => list(alloc, file, outside),
         Command::Run {
-            name,
+            class,
             words,
             session,
         } => {
-            let launch = Launch::new(name.text.as_str(), session, moment);
-            run(alloc, name, *words, &launch, outside)
+            let launch = Launch::new(&class.name, session, moment);
+            run(alloc, class, *words, &launch, outside)
         }
-        Command::Verify { name } => verify(alloc, name, outside),
+        Command::Verify { class } => verify(alloc, class, outside),
         Command::Make {
             count,
             method_bytes,
         } => make(alloc, *count, *method_bytes, moment, outside),
+        Command::Link {
+            output,
+            inputs,
+            entry,
+        } => link(
+            alloc,
+            output.as_str(),
+            inputs.as_slice(),
+            entry.as_str(),
+            outside,
+        ),
     }
 }

@@ -9,6 +9,7 @@ const HELP: &str = "nested: runs MIPS programs without native code
     nested go IN [options] [-- ARGS]          translates it, stores its classes, and runs them
     nested list IN                            prints the code of a program, a line a word
     nested asm IN OUT                         assembles the text in IN into the program OUT
+    nested link OUT IN.. [options]            links the objects IN (1 to 256) to the program OUT
     nested verify NAME                        loads, links and verifies the class NAME and those that it names
     nested run NAME [options] [-- ARGS]       verifies them, and runs them
     nested make N [options]                   makes a program of N blocks (1 to 65536), and runs it and its classes
@@ -21,6 +22,7 @@ const HELP: &str = "nested: runs MIPS programs without native code
     --steps N           of go, interp, run: the most instructions, 0 to 2^40, of run 2^50 (the most)
     --words N           of run: words for arrays, 1 to 68288580 (4194304)
     --disk N            of go, interp, run: blocks of 4096 bytes for files, 0 to 65536 (1024)
+    --entry SYMBOL      of link: where the program begins (__start)
     --with NAMES        of go, interp, run: files that the program finds, a list with commas (none)
     --keep NAMES        of go, interp, run: files that are stored when it ends, a list with commas (none)
 

@@ -1,0 +1,160 @@
+-- That `go` is complete.
+use Rattle.std.proofs.Common.{◌≡◌, ◌≢◌, ◌⊎◌, ◌<◌, ◌≤◌, ◌+◌, ◌-◌, ◌^◌, ℕ, Bool, true, false, List, [], Option, Some, None, option_map, Result, Ok, Err, IfErr, IfOk, min, refl, sym, ◌∙◌, ap, subst, inl, inr, arith}
+use Rattle.std.proofs.lemmas.Option.{same_Some}
+use Rattle.nv_outside.specs.Faults.{CountsFailure, one_more}
+use Rattle.nv_outside.specs.Files.{AgreeWith, Files}
+use Rattle.nv_events.specs.Run.{Run}
+use Rattle.mips_decode.specs.State.{State}
+use Rattle.nv_events.specs.declared.outcome.Outcome.{Outcome}
+use Rattle.nv_events.specs.declared.outcome.Outcome.TheVariants.{Exited, Faulted, Trapped, Waiting, Going}
+use Rattle.command_values.specs.Names.{Text}
+use Rattle.command_words.specs.declared.named.Named.{Named}
+use Rattle.command_words.specs.declared.pages.Pages.{Pages}
+use Rattle.elf_reader.specs.Area.{area}
+use Rattle.elf_reader.specs.Fault.{elf_fault, IsRunsOf}
+use Rattle.elf_reader.specs.declared.range.Range.{Range}
+use Rattle.elf_image.specs.Refusals.{image_fault}
+use Rattle.elf_image.specs.Start.{Source}
+use Rattle.jvm_program.specs.Step.{Loaded}
+use Rattle.unix_system.specs.System.{System}
+use Rattle.nv_translate.specs.Ends.{EndsAs}
+use Rattle.command_deeds.specs.Checks.{Behind, Check, after, file_named, there, unless}
+use Rattle.command_deeds.specs.Ends.{CommandAnswer, Comes, Due, done_of_stop, final, is_stop, says}
+use Rattle.command_deeds.specs.Line.{line_of}
+use Rattle.command_deeds.specs.Runs.{GivenFile, Plan, answer_of, found_for}
+use Rattle.command_deeds.specs.World.{Seen, World}
+use Rattle.command_deeds.specs.declared.done.Done.{Done}
+use Rattle.command_deeds.specs.declared.done.Done.TheVariants as done
+use Rattle.command_deeds.specs.declared.stop.Stop.{Stop}
+use Rattle.command_deeds.specs.declared.stop.Stop.TheVariants.{ReadFault, WriteFault, ShelfFault, NoMemory}
+use Rattle.command_guest.specs.Imaging.{IsImageChecked, IsImaged, elf_checked, source_of}
+use Rattle.command_translate.specs.Go.{IsDueOfGo, IsDueOfTranslated, allowed, classes_for, program_for}
+use Rattle.nested_cli.specs.Commands.{Does, plan}
+use Rattle.nested_cli.specs.Faults.{ErrFailed, Failed, OutFailed}
+use Rattle.nested_cli.specs.Laws.{AnswersAs, GoIsComplete, GoesAhead, NoCountRose, Sound, own_bound, own_run}
+use Rattle.nested_cli.proofs.CheckLemmas.{not-told}
+
+-- ---- the checks pass
+
+file-passes : (w : World) (files : Files) (input : Named) (file : List ℕ) (told : Option Files) → told ≡ Some files → (there-are : Files)
+    → AgreeWith told there-are → files input.text ≡ Some file → file_named there-are input ≡ Ok file
+file-passes w files input file told e there-are agree has =
+    let same : there-are ≡ files = subst (λ t. AgreeWith t there-are) e agree in
+    ap (there input.word input.text) (ap (λ (f : Files). f input.text) same ∙ has)
+
+image-passes : (source : Source) (check : Check Source)
+    → ((runs : List Range) → IsRunsOf (area source.file) runs → image_fault source.file runs source.heap source.stack ≡ None)
+    → IsImageChecked source check → check ≡ Ok source
+image-passes source check fits c = c.is ∙ ap (λ fault. unless fault done.ImageRefused source) (fits c.runs c.are_runs)
+
+source-passes : (pages : Pages) (file : List ℕ) (named : Check (List ℕ)) (check : Check Source) → named ≡ Ok file → elf_fault file ≡ None
+    → ((runs : List Range) → IsRunsOf (area file) runs → image_fault file runs pages.heap pages.stack ≡ None)
+    → Behind named (IsImaged pages) check → check ≡ Ok (source_of pages file)
+source-passes pages file named check e sound fits behind =
+    let read : IsImaged pages file check = subst (λ n. Behind n (IsImaged pages) check) e behind in
+    let passed : elf_checked (source_of pages file) ≡ Ok (source_of pages file) =
+    ap (λ fault. unless fault done.ElfRefused (source_of pages file)) sound in
+    image-passes (source_of pages file) check fits (subst (λ c. Behind c IsImageChecked check) passed read)
+
+found-passes : (p : Plan) (source : Source) (files : Files) (given : List GivenFile) (check : Check Source) (found : Check (List GivenFile)) (told : Option Files)
+    → told ≡ Some files → (there-are : Files) → AgreeWith told there-are → check ≡ Ok source → found_for p files ≡ Ok given
+    → found ≡ after check (λ image. found_for p there-are) → found ≡ Ok given
+found-passes p source files given check found told e there-are agree passed fit is =
+    let same : there-are ≡ files = subst (λ t. AgreeWith t there-are) e agree in
+    is ∙ ap (λ c. after c (λ image. found_for p there-are)) passed ∙ ap (λ (f : Files). found_for p f) same ∙ fit
+
+-- ---- the answer is that of the run
+
+told-answer : (end : Option Done) (answer : CommandAnswer) → option_map says end ≡ Some answer → end ≡ Some answer.done
+told-answer (Some d) answer e = ap (λ (a : CommandAnswer). Some a.done) (same_Some (says d) answer e)
+told-answer None answer e = cc
+
+going-or-not : (outcome : Outcome) → (outcome ≡ Going) ⊎ (outcome ≢ Going)
+going-or-not (Exited status) = inr (λ e. cc)
+going-or-not (Faulted f) = inr (λ e. cc)
+going-or-not (Trapped k) = inr (λ e. cc)
+going-or-not Waiting = inr (λ e. cc)
+going-or-not Going = inl refl
+
+answers-as : (run : ℕ → Run State System) (ran : Run Loaded System) (steps more : ℕ) (said : Done) → answer_of ran.outcome ≡ Some said
+    → ((run steps).outcome ≢ Going → EndsAs (run steps) ran) → (ran.outcome ≢ Going → EndsAs ran (run more)) → AnswersAs run steps more said
+answers-as run ran steps more said is forth back = record {
+  ends = λ over. ap answer_of (sym (forth over).outcome) ∙ is;
+  goes_on = λ going. by (going-or-not ran.outcome);
+}
+  where
+    by : (ran.outcome ≡ Going) ⊎ (ran.outcome ≢ Going) → (said ≡ done.Spent) ⊎ (answer_of (run more).outcome ≡ Some said)
+    by (inl going) = inl (same_Some said done.Spent (sym is ∙ ap answer_of going))
+    by (inr over) = inr (ap answer_of (back over).outcome ∙ is)
+
+translated-answers : (p : Plan) (method_bytes : ℕ) (source : Source) (given : List GivenFile) (bytes : List ℕ) (due : Due) (answer : CommandAnswer)
+    → IsDueOfTranslated p method_bytes source given (Some bytes) due → due.answer ≡ Some answer
+    → AnswersAs (program_for p source given (Some bytes) []) p.session.steps (allowed p source) answer.done
+translated-answers p method_bytes source given bytes due answer t is =
+    let ran = classes_for p source given t.translated.linked.classes (Some bytes) t.pieces (allowed p source) in
+    answers-as (program_for p source given (Some bytes) []) ran p.session.steps (allowed p source) answer.done
+    (told-answer (answer_of ran.outcome) answer (sym (ap (λ (d : Due). d.answer) t.is) ∙ is)) t.as_program t.as_classes
+
+work-answers : (words : List Text) (moment : ℕ) (w : World) (g : GoesAhead words moment w) (due : Due) (answer : CommandAnswer)
+    → IsDueOfGo g.input g.pages g.method_bytes (plan g.name g.session moment) w due → due.answer ≡ Some answer
+    → AnswersAs (own_run g) g.session.steps (own_bound g) answer.done
+work-answers words moment w g due answer d is =
+    let p : Plan = plan g.name g.session moment in
+    let source : Source = source_of g.pages g.file in
+    let file : d.file ≡ Ok g.file = d.file_is ∙ file-passes w g.files g.input g.file w.shelf.told g.files_told d.files d.agree g.there in
+    let passed : d.source ≡ Ok source = source-passes g.pages g.file d.file d.source file g.is_program g.has_image d.source_is in
+    let found : d.found ≡ Ok g.given = found-passes p source g.files g.given d.source d.found w.shelf.told g.files_told d.with_files d.with_agree passed g.fit d.found_is in
+    let behind : IfOk d.found (λ given. IsDueOfTranslated p g.method_bytes source given w.input.told due) =
+    subst (λ (c : Check Source). IfOk c (λ image. IfOk d.found (λ given. IsDueOfTranslated p g.method_bytes image given w.input.told due))) passed d.done in
+    let t : IsDueOfTranslated p g.method_bytes source g.given w.input.told due =
+    subst (λ (c : Check (List GivenFile)). IfOk c (λ given. IsDueOfTranslated p g.method_bytes source given w.input.told due)) found behind in
+    translated-answers p g.method_bytes source g.given g.bytes due answer
+    (subst (λ told. IsDueOfTranslated p g.method_bytes source g.given told due) g.bytes_told t) is
+
+-- ---- no call failed
+
+counts-none : (a b : ℕ) {A : Type 0} → b ≡ a → a < 2 ^ 64 - 1 → b ≡ one_more a → A
+counts-none a b same low rose =
+    let no : ⊥ = omega (arith, same, low, rose) in
+    absurd no
+
+rose-none : {B : Type 0} (old new : Seen B) {A : Type 0} → Sound old new → CountsFailure true old.faults new.faults → A
+rose-none old new sound count = counts-none old.faults new.faults sound.0 sound.1 (count.rises refl)
+
+err-rose : (w v : World) {A : Type 0} → NoCountRose w v → ErrFailed w v → A
+err-rose w v none (inl failed) = rose-none w.err v.err none.err failed.err_count
+err-rose w v none (inr (inl failed)) = rose-none w.err v.err none.err failed.err_count
+err-rose w v none (inr (inr failed)) = rose-none w.err v.err none.err failed.err_count
+
+write-rose : (w v : World) {A : Type 0} → NoCountRose w v → OutFailed w v ⊎ ErrFailed w v → A
+write-rose w v none (inl failed) = rose-none w.out v.out none.out failed.out_count
+write-rose w v none (inr failed) = err-rose w v none failed
+
+-- ---- the whole call
+
+abbrev Completes : {words : List Text} {moment : ℕ} {w : World} → GoesAhead words moment w → Done → Type 0
+Completes g said = (said ≡ done.NoMemory) ⊎ AnswersAs (own_run g) g.session.steps (own_bound g) said
+
+go-completes : (words : List Text) (moment : ℕ) (w v : World) (said : Done) (g : GoesAhead words moment w) → Does words moment w v said
+    → NoCountRose w v → Completes g said
+go-completes words moment w v said g does none = by does.end refl (does.due _ g.means)
+  where
+    is : said ≡ (final does.end).done
+    is = not-told (line_of (final does.end).name (final does.end).done) does.worked.err v.err (final does.end).done said
+        (λ e. write-rose w v none (does.faults.write e)) does.line.3
+
+    stopped : (stop : Stop) → said ≡ done_of_stop stop → Completes g said
+    stopped ReadFault e = rose-none w.input v.input none.input (does.faults.read e).input_count
+    stopped WriteFault e = write-rose w v none (does.faults.write e)
+    stopped ShelfFault e = rose-none w.shelf v.shelf none.shelf (does.faults.shelf e).shelf_count
+    stopped NoMemory e = inl e
+
+    by : (end : Result CommandAnswer Stop) → does.end ≡ end
+        → Comes true (λ u due. IsDueOfGo g.input g.pages g.method_bytes (plan g.name g.session moment) u due) w does.worked end → Completes g said
+    by (Err stop) e comes = stopped stop (is ∙ ap (λ x. (final x).done) e)
+    by (Ok answer) e (inl early) = absurd early
+    by (Ok answer) e (inr work) = inr (subst (AnswersAs (own_run g) g.session.steps (own_bound g)) (sym (is ∙ ap (λ x. (final x).done) e))
+        (work-answers words moment w g work.0 answer work.1 work.2.0))
+
+pub completes : GoIsComplete
+completes words moment w v said g does none = go-completes words moment w v said g does none

@@ -1,0 +1,21 @@
+//! What follows of every call of the program. Each call here does nothing: its contract is the law.
+
+ghost use Rattle.nested_cli.specs.Laws.{GoIsComplete, RefusalsLeaveAll, RunsTakeNoMemory};
+
+/// What refuses does so before anything is stored, read or written, but for the answer's line.
+pub fn refusals_leave_all()
+    ensures { RefusalsLeaveAll }
+{}
+
+/// Where the program's file is there and passes its checks, arguments and files fit, and no call of the outside fails, `go` answers as
+/// the program itself ends on the reference machine: it exits and faults only where that does, and its steps are spent only where that
+/// has not ended within as many. Or memory runs out.
+pub fn go_is_complete()
+    ensures { GoIsComplete }
+{}
+
+/// Where memory runs out in `go`, `interp` or `run`, nothing was read or written yet; or files are to be kept, and the run was made to
+/// its end.
+pub fn runs_take_no_memory()
+    ensures { RunsTakeNoMemory }
+{}
