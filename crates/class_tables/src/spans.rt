@@ -1,0 +1,33 @@
+//! Code that is cut into methods.
+ghost use Rattle.std.specs.Prelude.{◌≡◌, ◌+◌, ◌≤◌, All, true};
+
+use anyhow::{Result, ensure};
+use method_splitter::cut;
+use std::alloc::Global;
+use std::fmt::Write;
+
+/// How many spans there are, and each as `FIRST+WORDS`, of words with these weights where a method has so many bytes.
+pub fn cut_row(alloc: Global, limit: u32, words: &[&str]) -> Result<String> {
+    let mut weights = Vec::new(alloc);
+    for word in words {
+        weights.push(word.parse::<u32>()?)?;
+    }
+    ensure!(weights.len() <= 12_288, "there are too many words");
+    ensure!(each_fits(weights.as_slice(), limit), "a word is too heavy");
+    let spans = cut(alloc, weights.as_slice(), limit)?;
+    let count = spans.len();
+    let mut text = format!(in alloc; "{count}:")?;
+    for span in spans {
+        let (first, words) = (span.first, span.words);
+        write!(text, " {first}+{words}")?;
+    }
+    Ok(text)
+}
+
+fn each_fits(weights: &[u32], limit: u32) -> bool
+    ensures { result ≡ true → All (λ w. 100 + w ≤ limit) weights.now }
+{
+    weights
+        .iter()
+        .all(|weight| 100 + u64::from(*weight) <= u64::from(limit))
+}
