@@ -1,4 +1,5 @@
 //! Arrays in one block of memory.
+use command_values::RegionWords;
 use int_region::{Full, Place, Region};
 use std::test::Fail;
 
@@ -6,15 +7,20 @@ use std::test::Fail;
 fn an_array_uses_two_words_more_than_its_values(rt: HostRuntime) -> Result<(), Fail> {
     // The words, the lengths of two arrays, and what the second one comes to. The largest region holds one array.
     for (words, first, second, expected) in [
-        (10u64, 3u32, 3u32, Ok(Place(5))),
-        (68288580, 68288578, 0, Err(Full)),
+        (10u32, 3u32, 3u32, Ok(Place(5))),
+        (RegionWords::MOST, RegionWords::MOST - 2, 0, Err(Full)),
     ] {
-        assert!(rt; 1 <= words && words <= 68288580);
-        let mut region = Region::new(rt.alloc(), words)?;
+        let Some(all) = RegionWords::new(words) else {
+            return Err(Fail::from("a region can have the words"));
+        };
+        let mut region = Region::new(rt.alloc(), all)?;
         let mark = region.mark();
         assert_eq!(rt; region.array(0, first), Ok(Place(0)));
         assert_eq!(rt; region.array(1, second), expected);
-        assert_eq!(rt; (region.used(), region.size()), (words, words));
+        assert_eq!(rt;
+            (region.used(), region.size()),
+            (u64::from(words), u64::from(words))
+        );
         assert_eq!(rt; region.array(0, 0), Err(Full));
         region.release(mark);
         assert_eq!(rt; region.array(1, first), Ok(Place(0)));
@@ -24,7 +30,7 @@ fn an_array_uses_two_words_more_than_its_values(rt: HostRuntime) -> Result<(), F
 
 #[test]
 fn an_array_in_words_that_were_released_has_zeros(rt: HostRuntime) -> Result<(), Fail> {
-    let mut region = Region::new(rt.alloc(), 9)?;
+    let mut region = Region::new(rt.alloc(), RegionWords::new(9).unwrap())?;
     let ints = region.array(0, 2)?;
     let mark = region.mark();
     let references = region.array(1, 3)?;
