@@ -1,0 +1,7 @@
+//! Classes with pruned code and the entries that tables of frames name.
+#![tactic(auto)]
+
+mod classes;
+mod methods;
+
+pub use classes::pruned_classes;

@@ -1,0 +1,164 @@
+//! The code of a method, with a return for each byte that no reached instruction holds.
+ghost use Rattle.std.specs.Prelude.{◌≡◌, ◌+◌, ◌≤◌, ◌++◌, ℕ, List, [], ◌∷◌, if◌then◌else◌, None, IfOk, OnOk, option_map};
+ghost use Rattle.jvm_code.specs.declared.line.Line.{Line};
+ghost use Rattle.jvm_code.specs.Code.{Lines, code_fault};
+ghost use Rattle.jvm_code.specs.Writing.{AreLaid, size_at};
+ghost use Rattle.type_verifier.specs.Typings.{RisesFrom};
+ghost use Rattle.pruned_code.specs.Code as code;
+ghost use Rattle.pruned_code.specs.Listing as listing;
+ghost use Rattle.pruned_code.specs.Pruned as pruned;
+
+use jvm_code::{Line, Method, Op, decode_ops, encode_ops, size};
+use jvm_names::{ReturnName, Sequence};
+use std::alloc::{AllocError, Global};
+use type_inference::Frame;
+
+/// A method in which each byte of code that no reached instruction holds is a return. The frames are those at the offsets that are
+/// reached. Where a return that gives an int is put in, there is room for an operand.
+pub fn pruned_method(
+    alloc: Global,
+    method: &Method,
+    gives_int: bool,
+    reached: &[(u32, Frame)],
+) -> Result<Method, AllocError>
+    requires sound { code_fault method.now.code ≡ None }
+    requires rises { RisesFrom 0 reached.now }
+    requires closed { (lines : List Line) → Lines method.now.code lines
+        → code.KeepsTargets (code.is_listed reached.now) lines }
+    ensures pruned { IfOk result (code.IsPrunedMethod (code.is_listed reached.now) gives_int
+        method.now) }
+    ensures sound { IfOk result (λ m. code_fault m.code ≡ None) }
+{
+    let Ok(lines) = decode_ops(alloc, method.code.as_slice()) else {
+        return Err(AllocError);
+    };
+    let dead = has_dead(&lines, reached);
+    let pruned = pruned_lines(alloc, lines, return_of(gives_int), reached)?;
+    let code = encode_ops(alloc, &pruned)?;
+    Ok(Method {
+        name: method.name,
+        desc: method.desc,
+        attr: method.attr,
+        stack: raised(gives_int, dead, method.stack),
+        locals: method.locals,
+        code: Sequence::new(code),
+    })
+}
+
+/// The return of a method that gives an int or nothing.
+pub fn return_of(gives_int: bool) -> ReturnName
+    ensures { result ≡ pruned.return_of gives_int }
+{
+    if gives_int {
+        ReturnName::Ireturn
+    } else {
+        ReturnName::Return
+    }
+}
+
+fn raised(gives_int: bool, dead: bool, stack: u16) -> u16
+    ensures { result ≡ code.raised gives_int dead stack }
+{
+    if gives_int && dead && stack == 0 {
+        1
+    } else {
+        stack
+    }
+}
+
+fn has_dead(lines: &[Line], reached: &[(u32, Frame)]) -> bool
+    requires { RisesFrom 0 reached.now }
+    ensures { result ≡ code.has_dead (code.is_listed reached.now) lines.now }
+{
+    let mut rest = lines;
+    while let Some((line, others)) = rest.split_first() {
+        if !is_listed(reached, line.at) {
+            return true;
+        }
+        rest = others;
+    }
+    false
+}
+
+fn pruned_lines(
+    alloc: Global,
+    lines: Vec<Line>,
+    name: ReturnName,
+    reached: &[(u32, Frame)],
+) -> Result<Vec<Line>, AllocError>
+    requires rises { RisesFrom 0 reached.now }
+    requires laid { AreLaid 0 lines.items }
+    ensures { IfOk result (λ v. v.items
+        ≡ code.pruned_lines (code.is_listed reached.now) name lines.items) }
+{
+    let mut pruned = Vec::new(alloc);
+    for line in lines {
+        let kept = is_listed(reached, line.at);
+        push_line(&mut pruned, name, kept, line)?;
+    }
+    Ok(pruned)
+}
+
+// Adds a line that stays, or returns in its place.
+fn push_line(
+    lines: &mut Vec<Line>,
+    name: ReturnName,
+    kept: bool,
+    line: Line,
+) -> Result<(), AllocError>
+    requires { line.at + size_at line.at line.op ≤ 65535 }
+    ensures { OnOk result (lines.new.items ≡ lines.old.items ++ (if kept then line ∷ []
+        else code.returns_at name line.at (size_at line.at line.op))) }
+{
+    if kept {
+        Ok(lines.push(line)?)
+    } else {
+        push_returns(lines, name, line.at, size(&line.op, line.at))
+    }
+}
+
+// Adds a return for each of so many bytes.
+fn push_returns(
+    lines: &mut Vec<Line>,
+    name: ReturnName,
+    at: u32,
+    size: u32,
+) -> Result<(), AllocError>
+    requires { at + size ≤ 65535 }
+    ensures { OnOk result (lines.new.items ≡ lines.old.items ++ code.returns_at name at size) }
+{
+    for i in 0..size {
+        lines.push(Line {
+            at: at + i,
+            op: Op::Give(name),
+        })?;
+    }
+    Ok(())
+}
+
+/// Whether a frame is listed for an offset.
+pub fn is_listed(listed: &[(u32, Frame)], at: u32) -> bool
+    requires { RisesFrom 0 listed.now }
+    ensures { result ≡ code.is_listed listed.now at }
+{
+    listed_at(listed, at).is_some()
+}
+
+/// The frame that is listed for an offset. The offsets rise, and the time is that of a search by halves.
+pub fn listed_at(listed: &[(u32, Frame)], at: u32) -> Option<&Frame>
+    requires { RisesFrom 0 listed.now }
+    ensures { option_map (λ f. f.now) result ≡ listing.frame_in listed.now at }
+{
+    let mut rest = listed;
+    while !rest.is_empty() {
+        let (below, above) = rest.split_at(rest.len() / 2);
+        let Some((middle, others)) = above.split_first() else {
+            return None;
+        };
+        if middle.0 == at {
+            return Some(&middle.1);
+        }
+        rest = if middle.0 < at { others } else { below };
+    }
+    None
+}
