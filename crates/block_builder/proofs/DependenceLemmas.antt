@@ -2,7 +2,7 @@
 use Rattle.std.proofs.Common.{◌≡◌, ◌≢◌, ℕ, ◌*◌, ◌^◌, ◌==◌, nat_lt, Bool, true, false, not, ◌&&◌, ◌||◌, if◌then◌else◌, is_none, List, [], ◌∷◌, Option, Some, None, refl, sym, ap, subst, ◌∙◌, inl, inr, arith}
 use Rattle.std.specs.List.{AllByRecursion}
 use Rattle.std.proofs.lemmas.Bool.{cases_eq, eq-eqb, ne_eqb, lt-ltb, and_from, and_right}
-use Rattle.nv_words.specs.Words.{signed_of}
+use Rattle.nv_words.specs.Words.{signed_of, wrapped}
 use Rattle.nv_events.specs.declared.call.Call.{Call}
 use Rattle.nv_events.specs.Question.{asked}
 use Rattle.nv_events.specs.Answer.{answered}
@@ -12,7 +12,7 @@ use Rattle.mips_decode.specs.Memory.{with_byte}
 use Rattle.mips_decode.specs.State.{State, register, with_register}
 use Rattle.mips_decode.specs.Encoding.{word_of}
 use Rattle.mips_decode.specs.Effect.{Effect, goes_on, branches, skips_slot, faults, read_align_fault, read_unmapped_fault, write_align_fault, write_refused_fault}
-use Rattle.mips_decode.specs.Arithmetic.{wrapped, arithmetic_result, arithmetic_immediate_result, logical_immediate_result, shifted, variable_shifted, product_hi, product_lo}
+use Rattle.mips_decode.specs.Arithmetic.{arithmetic_result, arithmetic_immediate_result, logical_immediate_result, shifted, variable_shifted, product_hi, product_lo}
 use Rattle.mips_decode.specs.Branches.{after_slot, linked, taken_or_not, branch_effect, equal_likely, equal_taken, zero_likely, zero_taken, sign_likely, sign_linked, sign_taken}
 use Rattle.mips_decode.specs.Targets.{jump_target}
 use Rattle.mips_decode.specs.Loads.{address_of, is_linked, load_aligned, loaded, store_aligned, store_allowed, stored}

@@ -1,7 +1,6 @@
 pub mod FileLemmas
 pub mod StoreLemmas
 pub mod TranslationLemmas
-pub mod GuestEnds
 pub mod RunLemmas
 pub mod GoLemmas
 pub mod MakeLemmas

@@ -25,7 +25,7 @@ use Rattle.command_deeds.specs.declared.done.Done.{Done}
 use Rattle.command_deeds.specs.declared.done.Done.TheVariants as done
 use Rattle.command_deeds.proofs.PlayLemmas.{IsDueOfSteps}
 use Rattle.command_deeds.specs.Runs.{GivenFile, Plan, answer_of, arguments_of, of_runs, run_alone}
-use Rattle.command_translate.proofs.GuestEnds.{never_trapped}
+use Rattle.mips_decode.proofs.GuestEnds.{guest-untrapped}
 use Rattle.command_translate.specs.Go.{IsDueOfTranslated, classes_for, program_for}
 use Rattle.command_translate.specs.Make.{classes_end, interp_end, made_name}
 use Rattle.command_translate.specs.Stores.{after_stores}
@@ -108,8 +108,8 @@ module _ (plan : Plan) (method_bytes : ℕ) (source : Source) (built : Built) (t
       m enough over)
 
   program_traps_not : (input : Option (List ℕ)) (m k : ℕ) → (program_for plan source found input pieces m).outcome ≢ Trapped k
-  program_traps_not (Some input) m k = never_trapped reply m (start_of (image_of source)) (system input) k
-  program_traps_not None m k = never_trapped reply_arriving m (start_of (image_of source)) (arriving (system []) pieces) k
+  program_traps_not (Some input) m k = guest-untrapped reply m k (start_of (image_of source)) (system input)
+  program_traps_not None m k = guest-untrapped reply_arriving m k (start_of (image_of source)) (arriving (system []) pieces)
 
   no_trap : (input : Option (List ℕ)) (due : Due)
       → due ≡ of_runs loaded_turn (allow mapped plan.session.steps) (classes_for plan source found t.linked.classes input pieces) plan.session.keep.names

@@ -24,7 +24,7 @@ use Rattle.running_laws.specs.Standing.{AtChoose}
 use Rattle.running_laws.specs.Rests.{Rests}
 use Rattle.running_laws.specs.Turning.{TurnsAreFollowed}
 use Rattle.entered_programs.specs.Entered.{entered_over, work_over, HoldsGuest, EnteredProgramsGoOn}
-use Rattle.entered_programs.proofs.GuestEnds.{guest-untrapped}
+use Rattle.mips_decode.proofs.GuestEnds.{guest-untrapped}
 
 -- where no state is marked
 abbrev unmarked : guest.State → Bool

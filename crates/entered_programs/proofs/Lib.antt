@@ -1,2 +1,1 @@
-pub mod GuestEnds
 pub mod GoingOn

@@ -2,7 +2,7 @@
 use Rattle.std.proofs.Common.{◌≡◌, ℕ, ◌+◌, ◌==◌, nat_lt, Bool, true, false, if◌then◌else◌, List, [], ◌∷◌, map, length, slice_get, Option, Some, None, option_map, refl, ap, ◌∙◌}
 use Rattle.std.proofs.Math.ListN.{get_or-map}
 use Rattle.std.proofs.lemmas.List.{length-map}
-use Rattle.nv_words.specs.Words.{signed_of}
+use Rattle.nv_words.specs.Words.{signed_of, wrapped}
 use Rattle.nv_events.specs.declared.call.Call.{Call}
 use Rattle.nv_events.specs.Question.{Question}
 use Rattle.nv_events.specs.Answer.{Answer}
@@ -11,7 +11,6 @@ use Rattle.jvm_program.specs.declared.linked_line.LinkedLine.{LinkedLine}
 use Rattle.jvm_program.specs.declared.value.Value.{Value}
 use Rattle.jvm_program.specs.declared.value.Value.TheVariants.{Unset as unset, Int as int}
 use Rattle.jvm_program.specs.Values.{Heap}
-use Rattle.jvm_program.specs.Words.{wrapped}
 use Rattle.jvm_program.specs.HostMemory.{HostMemory}
 use Rattle.jvm_program.specs.Program.{Program, line_at, targets_of}
 use Rattle.jvm_program.specs.Effect.{Workspace, Effect, goes_on, jumps, enters, gives, asks_host, faults, traps, wrong, frames_trap, effect, with_heap}

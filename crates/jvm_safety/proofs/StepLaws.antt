@@ -2,7 +2,7 @@
 use Rattle.std.proofs.Common.{◌≡◌, ◌≢◌, ℕ, suc, ◌<◌, ◌≤◌, ◌==◌, nat_lt, Bool, true, false, if◌then◌else◌, List, [], ◌∷◌, ◌++◌, length, All, get_or, Option, Some, None, option_and_then, slice_get, slice_index_or, refl, sym, ap, subst, ◌∙◌, true≢false, arith}
 use Rattle.std.proofs.lemmas.Bool.Decides.{nat_tests}
 use Rattle.std.proofs.lemmas.Option.{slice_get-get_or}
-use Rattle.nv_words.specs.Words.{signed_of}
+use Rattle.nv_words.specs.Words.{signed_of, wrapped}
 use Rattle.nv_events.specs.declared.call.Call.{Call}
 use Rattle.nv_events.specs.Question.{Question}
 use Rattle.nv_events.specs.Answer.{Answer, answered, room_place}
@@ -14,7 +14,6 @@ use Rattle.jvm_program.specs.declared.linked_method.LinkedMethod.{LinkedMethod}
 use Rattle.jvm_program.specs.Values.{Heap, no_arrays, zero_of, conforms}
 use Rattle.jvm_program.specs.declared.value.Value.{Value}
 use Rattle.jvm_program.specs.declared.value.Value.TheVariants.{Unset as unset, Int as int}
-use Rattle.jvm_program.specs.Words.{wrapped}
 use Rattle.jvm_program.specs.HostMemory.{HostMemory, with_byte}
 use Rattle.jvm_program.specs.Program.{Program, line_in, line_at, targets_of, falls_through, successors}
 use Rattle.jvm_program.specs.Effect.{Workspace, Effect, goes_on, jumps, enters, gives, asks_host, faults, traps, wrong, frames_trap, effect}

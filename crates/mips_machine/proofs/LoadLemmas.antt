@@ -5,7 +5,7 @@ use Rattle.std.proofs.lemmas.Bool.{eqb-true, eqb-false, lt-ltb, le-ltb, ltb-true
 use Rattle.nv_words.specs.Words.{lane_of_word}
 use Rattle.nv_events.specs.Memory.{Memory}
 use Rattle.guest_memory.specs.Pages.{no_memory, with_page}
-use Rattle.mips_machine.specs.Loading.{pages_below, ArePageWords}
+use Rattle.mips_machine.specs.Loading.{memory_below, ArePageWords}
 
 -- memories are equal where their bytes are, and what may be written
 same_memory : (m k : Memory) → ((a : ℕ) → m.byte a ≡ k.byte a) → ((a : ℕ) → m.writable a ≡ k.writable a) → m ≡ k
@@ -13,16 +13,16 @@ same_memory m k bytes writes =
     ap (λ (f : ℕ → Option ℕ). record m { byte = f }) (λ i a. bytes a i)
     ∙ ap (λ (g : ℕ → Bool). record k { writable = g }) (λ i a. writes a i)
 
-pub below_none : (m : Memory) → no_memory ≡ pages_below m 0
-unfolding pages_below
+pub below_none : (m : Memory) → no_memory ≡ memory_below m 0
+unfolding memory_below
 below_none m =
-    same_memory no_memory (pages_below m 0)
+    same_memory no_memory (memory_below m 0)
     (λ a. ap (λ t. if t then m.byte a else None) (sym (le-ltb (a / 4096) 0 (omega arith))))
     (λ a. ap (λ t. t && m.writable a) (sym (le-ltb (a / 4096) 0 (omega arith))))
 
 -- the page after those is not there yet
-pub below_fresh : (m : Memory) (page : ℕ) → (pages_below m page).byte (page * 4096) ≡ None
-unfolding pages_below
+pub below_fresh : (m : Memory) (page : ℕ) → (memory_below m page).byte (page * 4096) ≡ None
+unfolding memory_below
 below_fresh m page = ap (λ t. if t then m.byte (page * 4096) else None) (le-ltb (page * 4096 / 4096) page (omega arith))
 
 other_page : (x n : ℕ) (t : Bool) → nat_lt x n ≡ t → (x ≡ n → ⊥) → nat_lt x (n + 1) ≡ nat_lt x n
@@ -37,37 +37,37 @@ module _ (m : Memory) (n : ℕ) where
   earlier_page a t = other_page (a / 4096) n (nat_lt (a / 4096) n) refl (eqb-false (a / 4096) n t)
 
   mapped_byte : (words : List ℕ) → ArePageWords m n words → (a : ℕ) (same : Bool) → (a / 4096 == n) ≡ same
-      → (if same then Some (lane_of_word (slice_index words (a / 4 % 1024)) (a % 4)) else (pages_below m n).byte a) ≡ (pages_below m (n + 1)).byte a
-  unfolding pages_below
+      → (if same then Some (lane_of_word (slice_index words (a / 4 % 1024)) (a % 4)) else (memory_below m n).byte a) ≡ (memory_below m (n + 1)).byte a
+  unfolding memory_below
   mapped_byte words are a true t =
       sym (are.bytes a (eqb-true (a / 4096) n t)) ∙ ap (λ b. if b then m.byte a else None) (sym (this_page a t))
   mapped_byte words are a false t = ap (λ b. if b then m.byte a else None) (sym (earlier_page a t))
 
   mapped_writable : (writable : Bool) → ((a : ℕ) → a / 4096 ≡ n → m.writable a ≡ writable) → (a : ℕ) (same : Bool) → (a / 4096 == n) ≡ same
-      → (if same then writable else (pages_below m n).writable a) ≡ (pages_below m (n + 1)).writable a
-  unfolding pages_below
+      → (if same then writable else (memory_below m n).writable a) ≡ (memory_below m (n + 1)).writable a
+  unfolding memory_below
   mapped_writable writable are a true t =
       sym (are a (eqb-true (a / 4096) n t)) ∙ ap (λ b. b && m.writable a) (sym (this_page a t))
   mapped_writable writable are a false t = ap (λ b. b && m.writable a) (sym (earlier_page a t))
 
   -- a page more, as the memory has it
   pub below_mapped : (words : List ℕ) (writable : Bool) → ArePageWords m n words → ((a : ℕ) → a / 4096 ≡ n → m.writable a ≡ writable)
-      → with_page (pages_below m n) n writable words ≡ pages_below m (n + 1)
+      → with_page (memory_below m n) n writable words ≡ memory_below m (n + 1)
   below_mapped words writable are writes =
-      same_memory (with_page (pages_below m n) n writable words) (pages_below m (n + 1))
+      same_memory (with_page (memory_below m n) n writable words) (memory_below m (n + 1))
       (λ a. mapped_byte words are a (a / 4096 == n) refl)
       (λ a. mapped_writable writable writes a (a / 4096 == n) refl)
 
-  absent_byte : ((a : ℕ) → a / 4096 ≡ n → m.byte a ≡ None) → (a : ℕ) (same : Bool) → (a / 4096 == n) ≡ same → (pages_below m n).byte a ≡ (pages_below m (n + 1)).byte a
-  unfolding pages_below
+  absent_byte : ((a : ℕ) → a / 4096 ≡ n → m.byte a ≡ None) → (a : ℕ) (same : Bool) → (a / 4096 == n) ≡ same → (memory_below m n).byte a ≡ (memory_below m (n + 1)).byte a
+  unfolding memory_below
   absent_byte absent a true t =
       let e = eqb-true (a / 4096) n t in
       ap (λ b. if b then m.byte a else None) (le-ltb (a / 4096) n (omega arith))
       ∙ sym (absent a e) ∙ ap (λ b. if b then m.byte a else None) (sym (this_page a t))
   absent_byte absent a false t = ap (λ b. if b then m.byte a else None) (sym (earlier_page a t))
 
-  absent_writable : ((a : ℕ) → a / 4096 ≡ n → m.writable a ≡ false) → (a : ℕ) (same : Bool) → (a / 4096 == n) ≡ same → (pages_below m n).writable a ≡ (pages_below m (n + 1)).writable a
-  unfolding pages_below
+  absent_writable : ((a : ℕ) → a / 4096 ≡ n → m.writable a ≡ false) → (a : ℕ) (same : Bool) → (a / 4096 == n) ≡ same → (memory_below m n).writable a ≡ (memory_below m (n + 1)).writable a
+  unfolding memory_below
   absent_writable absent a true t =
       let e = eqb-true (a / 4096) n t in
       ap (λ b. b && m.writable a) (le-ltb (a / 4096) n (omega arith))
@@ -75,25 +75,25 @@ module _ (m : Memory) (n : ℕ) where
   absent_writable absent a false t = ap (λ b. b && m.writable a) (sym (earlier_page a t))
 
   -- a page that the memory does not have
-  pub below_absent : ((a : ℕ) → a / 4096 ≡ n → m.byte a ≡ None) → ((a : ℕ) → a / 4096 ≡ n → m.writable a ≡ false) → pages_below m n ≡ pages_below m (n + 1)
+  pub below_absent : ((a : ℕ) → a / 4096 ≡ n → m.byte a ≡ None) → ((a : ℕ) → a / 4096 ≡ n → m.writable a ≡ false) → memory_below m n ≡ memory_below m (n + 1)
   below_absent bytes writes =
-      same_memory (pages_below m n) (pages_below m (n + 1))
+      same_memory (memory_below m n) (memory_below m (n + 1))
       (λ a. absent_byte bytes a (a / 4096 == n) refl)
       (λ a. absent_writable writes a (a / 4096 == n) refl)
 
-  last_byte : ((a : ℕ) → n ≤ a / 4096 → m.byte a ≡ None) → (a : ℕ) (low : Bool) → nat_lt (a / 4096) n ≡ low → (pages_below m n).byte a ≡ m.byte a
-  unfolding pages_below
+  last_byte : ((a : ℕ) → n ≤ a / 4096 → m.byte a ≡ None) → (a : ℕ) (low : Bool) → nat_lt (a / 4096) n ≡ low → (memory_below m n).byte a ≡ m.byte a
+  unfolding memory_below
   last_byte none a true t = ap (λ b. if b then m.byte a else None) t
   last_byte none a false t = ap (λ b. if b then m.byte a else None) t ∙ sym (none a (ltb-false (a / 4096) n t))
 
-  last_writable : ((a : ℕ) → n ≤ a / 4096 → m.writable a ≡ false) → (a : ℕ) (low : Bool) → nat_lt (a / 4096) n ≡ low → (pages_below m n).writable a ≡ m.writable a
-  unfolding pages_below
+  last_writable : ((a : ℕ) → n ≤ a / 4096 → m.writable a ≡ false) → (a : ℕ) (low : Bool) → nat_lt (a / 4096) n ≡ low → (memory_below m n).writable a ≡ m.writable a
+  unfolding memory_below
   last_writable none a true t = ap (λ b. b && m.writable a) t
   last_writable none a false t = ap (λ b. b && m.writable a) t ∙ sym (none a (ltb-false (a / 4096) n t))
 
   -- all pages that the memory has
-  pub below_all : ((a : ℕ) → n ≤ a / 4096 → m.byte a ≡ None) → ((a : ℕ) → n ≤ a / 4096 → m.writable a ≡ false) → pages_below m n ≡ m
+  pub below_all : ((a : ℕ) → n ≤ a / 4096 → m.byte a ≡ None) → ((a : ℕ) → n ≤ a / 4096 → m.writable a ≡ false) → memory_below m n ≡ m
   below_all bytes writes =
-      same_memory (pages_below m n) m
+      same_memory (memory_below m n) m
       (λ a. last_byte bytes a (nat_lt (a / 4096) n) refl)
       (λ a. last_writable writes a (nat_lt (a / 4096) n) refl)

@@ -2,7 +2,7 @@
 ghost use Rattle.std.specs.Prelude.{◌≡◌, ℕ, ◌+◌, ◌<◌, true, IfOk, OnOk, length, slice_index};
 ghost use Rattle.elf_image.specs.Start.{image_of, readable};
 ghost use Rattle.guest_memory.specs.Pages.{memory_of};
-ghost use Rattle.mips_machine.specs.Loading.{pages_below, AreZeros, ArePageWords};
+ghost use Rattle.mips_machine.specs.Loading.{memory_below, AreZeros, ArePageWords};
 
 use elf_image::Image;
 use guest_memory::{GuestMemory, NoMemory};
@@ -35,10 +35,10 @@ fn add_page(
     zeros: &[u32],
 ) -> Result<(), NoMemory>
     requires low { page < 524288 }
-    requires earlier { memory_of memory.old ≡ pages_below (image_of image.now).memory page }
+    requires earlier { memory_of memory.old ≡ memory_below (image_of image.now).memory page }
     requires zeros { AreZeros zeros.now }
     ensures { OnOk result (memory_of memory.new
-        ≡ pages_below (image_of image.now).memory (page + 1)) }
+        ≡ memory_below (image_of image.now).memory (page + 1)) }
 {
     if !image.readable(page) {
         return Ok(());

@@ -16,6 +16,11 @@ abbrev pub unsigned_of : ℤ → ℕ
 unsigned_of (pos n) = n
 unsigned_of (negsuc n) = 2 ^ 32 - suc n
 
+-- the number modulo 2^32, as a word
+abbrev pub wrapped : ℤ → ℕ
+wrapped (pos n) = n % 2 ^ 32
+wrapped (negsuc n) = 2 ^ 32 - suc (n % 2 ^ 32)
+
 -- lane i of a word, for i below 4: one of its four bytes, lane 0 the most significant
 abbrev pub lane_of_word : ℕ → ℕ → ℕ
 lane_of_word w i = w / 2 ^ (24 - 8 * i) % 2 ^ 8

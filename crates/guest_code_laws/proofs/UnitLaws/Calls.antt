@@ -1,12 +1,12 @@
 -- SYSCALL.
-use Rattle.std.proofs.Common.{◌≡◌, ℕ, ◌+◌, ◌==◌, ◌<◌, ℤ, pos, negsuc, Bool, true, false, if◌then◌else◌, List, [], ◌∷◌, Some, None, IsTrue, refl, ap, subst, sym, ◌∙◌, arith, lit<, lit≤}
+use Rattle.std.proofs.Common.{◌≡◌, ℕ, ◌+◌, ◌==◌, ◌<◌, Bool, true, false, if◌then◌else◌, List, [], ◌∷◌, Some, None, IsTrue, refl, ap, subst, sym, ◌∙◌, arith, lit<, lit≤}
 use Rattle.std.proofs.lemmas.Grind.{common_steps}
-use Rattle.nv_words.specs.Words.{IsWord, signed_of}
+use Rattle.nv_words.specs.Words.{IsWord, signed_of, wrapped}
+use Rattle.nv_words.proofs.WrapLemmas.{wrapped-word}
 use Rattle.nv_words.specs.declared.order.Order.{Order}
 use Rattle.nv_events.specs.Question.{asked, places_of}
 use Rattle.nv_events.specs.Answer.{Answer, fits, answered}
 use Rattle.nv_events.specs.Turn.{Turn, leaves, asks, exit}
-use Rattle.mips_decode.specs.Arithmetic.{wrapped}
 use Rattle.mips_decode.specs.Memory.{with_byte}
 use Rattle.mips_decode.specs.State.{State, register, with_register}
 use Rattle.mips_decode.specs.Step.{call_of, question_of, after_call, called}
@@ -15,7 +15,6 @@ use Rattle.jvm_program.specs.declared.instruction.Instruction.TheVariants.{CallH
 use Rattle.jvm_program.specs.declared.value.Value.{Value}
 use Rattle.jvm_program.specs.declared.value.Value.TheVariants.{Int as int}
 use Rattle.jvm_program.specs.Values.{Heap}
-use Rattle.jvm_program.specs.Words as machine_words
 use Rattle.jvm_program.specs.HostMemory as host
 use Rattle.jvm_program.specs.HostMemory.{HostMemory}
 use Rattle.jvm_program.specs.Effect.{Workspace, asks_host, effect, with_operands, with_heap, with_field}
@@ -43,14 +42,6 @@ use Rattle.guest_follows.specs.Following.{ComesToEnd, LastTurn, Follows}
 use Rattle.guest_follows.specs.Behind.{IsDone}
 use Rattle.guest_follows.proofs.GuestFollows.CodeLaws.{CodeLaws}
 use Rattle.guest_code_laws.specs.Instructions.{most_turns}
-
-wrapped-same : (z : ℤ) → machine_words.wrapped z ≡ wrapped z
-wrapped-same (pos n) = refl
-wrapped-same (negsuc n) = refl
-
-wrapped-word : (z : ℤ) → IsWord (wrapped z)
-wrapped-word (pos n) = omega arith
-wrapped-word (negsuc n) = omega arith
 
 -- ---- what is held, with another memory, and without a link
 
@@ -136,7 +127,7 @@ module _ (laws : CodeLaws) (site : Site) (order : Order) (bank : ℕ) (known : �
 
   module _ (answer : Answer) (fit : IsTrue (fits answer (question_of s))) where
     abbrev value : ℕ
-    value = machine_words.wrapped answer.value
+    value = wrapped answer.value
 
     abbrev heap : Heap
     heap = (answered host.with_byte memory (host_question (call_of s) memory) answer.patch).heap
@@ -165,13 +156,12 @@ module _ (laws : CodeLaws) (site : Site) (order : Order) (bank : ℕ) (known : �
     middle = record s { memory = answered with_byte s.memory (question_of s) answer.patch }
 
     word : IsWord value
-    word = subst IsWord (sym (wrapped-same answer.value)) (wrapped-word answer.value)
+    word = wrapped-word answer.value
 
     final-held : HoldsOn bank (gaining known 2) final (after_call s answer)
     final-held =
-        subst (λ v. HoldsOn bank (gaining known 2) final (record (with_register middle 2 v) { load_link = None })) (wrapped-same answer.value)
-        (unlinked-held bank (gaining known 2) stored (with_register middle 2 value) stored.operands
-        (register-held bank 2 value known changed middle w.operands (lit< tt) word (memory-held bank known w s middle heap h refl memory-after)))
+        unlinked-held bank (gaining known 2) stored (with_register middle 2 value) stored.operands
+        (register-held bank 2 value known changed middle w.operands (lit< tt) word (memory-held bank known w s middle heap h refl memory-after))
 
     final-kept : Keeps bank w final
     final-kept =

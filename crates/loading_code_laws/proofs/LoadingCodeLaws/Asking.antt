@@ -1,14 +1,14 @@
 -- The loader's call, and what follows an answer.
-use Rattle.std.proofs.Common.{◌≡◌, ◌≢◌, ℕ, ◌+◌, ◌<◌, ◌==◌, nat_lt, ◌&&◌, pos, negsuc, ℤ, Bool, true, false, if◌then◌else◌, IsTrue, ◌⊎◌, inl, inr, List, [], ◌∷◌, take, drop, Option, Some, refl, ap, sym, subst, ◌∙◌, arith}
+use Rattle.std.proofs.Common.{◌≡◌, ◌≢◌, ℕ, ◌+◌, ◌<◌, ◌==◌, nat_lt, ◌&&◌, Bool, true, false, if◌then◌else◌, IsTrue, ◌⊎◌, inl, inr, List, [], ◌∷◌, take, drop, Option, Some, refl, ap, sym, subst, ◌∙◌, arith}
 use Rattle.std.proofs.lemmas.Bool.{ne_eqb, cases_eq}
 use Rattle.std.proofs.lemmas.Nat.Bits.{bit_at-zero}
-use Rattle.nv_words.specs.Words.{IsWord}
+use Rattle.nv_words.specs.Words.{IsWord, wrapped}
+use Rattle.nv_words.proofs.WrapLemmas.{wrapped-word}
 use Rattle.nv_events.specs.Memory.{Memory}
 use Rattle.nv_events.specs.Question.{asked, places_of}
 use Rattle.nv_events.specs.Answer.{Answer, fits, answered}
 use Rattle.nv_events.specs.Turn.{asks}
 use Rattle.nv_events.specs.declared.call.Call.{Call}
-use Rattle.mips_decode.specs.Arithmetic.{wrapped}
 use Rattle.mips_decode.specs.Memory.{with_byte}
 use Rattle.mips_decode.specs.State as guest
 use Rattle.mips_decode.specs.State.{argument_page, stack_start}
@@ -19,7 +19,6 @@ use Rattle.jvm_program.specs.declared.value.Value.{Value}
 use Rattle.jvm_program.specs.declared.value.Value.TheVariants.{Int as int, Array as array}
 use Rattle.jvm_program.specs.Program.{Program}
 use Rattle.jvm_program.specs.Values.{Heap}
-use Rattle.jvm_program.specs.Words as machine_words
 use Rattle.jvm_program.specs.HostMemory as host
 use Rattle.jvm_program.specs.HostMemory.{HostMemory, memory_of}
 use Rattle.jvm_program.specs.Effect.{Workspace, asks_host, enters, effect}
@@ -49,14 +48,6 @@ use Rattle.loading_code_laws.specs.Quiet.{Quietly}
 use Rattle.loading_code_laws.specs.Made.{readable_place, writable_place, with_tables, over, start_of, CountNothing, Begins}
 use Rattle.loading_code_laws.proofs.LoadingCodeLaws.Texts.{plus-none}
 use Rattle.loading_code_laws.proofs.LoadingCodeLaws.Fills.{called}
-
-wrapped-same : (z : ℤ) → machine_words.wrapped z ≡ wrapped z
-wrapped-same (pos n) = refl
-wrapped-same (negsuc n) = refl
-
-wrapped-word : (z : ℤ) → IsWord (machine_words.wrapped z)
-wrapped-word (pos n) = omega arith
-wrapped-word (negsuc n) = omega arith
 
 -- the fields when an answer was given and the guest stands at the entry
 abbrev answered_fields : (ℕ → Value) → ℕ → ℕ → ℕ → Value
@@ -183,7 +174,7 @@ module _ (paths : CodeIsPathElsewhere) (program : Program) (words own m : ℕ) (
 
   module _ (a : Answer) (fit : IsTrue (fits a (loader_question s))) where
     abbrev value : ℕ
-    value = machine_words.wrapped a.value
+    value = wrapped a.value
 
     abbrev heap_after : Heap
     heap_after = (answered host.with_byte seen (host_question c seen) a.patch).heap
@@ -260,7 +251,7 @@ module _ (paths : CodeIsPathElsewhere) (program : Program) (words own m : ℕ) (
     middle = after_loader s a
 
     holds-it : HoldsOn 0 (λ r. true) inside (after_loader s a)
-    holds-it = subst (λ v. HoldsOn 0 (λ r. true) inside (record s { begun = true; registers = answered_registers v; memory = memory_after })) (wrapped-same a.value) (record {
+    holds-it = record {
       register_is = λ r above under is. ap (λ t. if t then inside.locals r else inside.fields (register_field r)) (none-kept r) ∙ register-is given_fields value b.entry r (λ f low. zeros-with f (omega (arith, low))) above under;
       register_word = λ r above under. register-word value r (wrapped-word a.value);
       hi_is = zeros-with hi_field (omega arith);
@@ -275,7 +266,7 @@ module _ (paths : CodeIsPathElsewhere) (program : Program) (words own m : ℕ) (
       writable = writable_place;
       writable_is = refl;
       memory_held = held-after;
-    })
+    }
 
     pub begins : Begins program words own m choose 8 (next a) (after_loader s a)
     begins = record {

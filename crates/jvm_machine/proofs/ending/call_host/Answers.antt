@@ -8,7 +8,8 @@ use Rattle.jvm_heap.specs.Regions.{heap_of}
 use Rattle.jvm_machine.specs.declared.working.Working.{Working}
 use Rattle.jvm_machine.specs.Hosting.{host_tests}
 use Rattle.jvm_machine.proofs.Taking.{still_roomy}
-use Rattle.jvm_machine.proofs.Hosts.{words_found, host_found, host_tables, host_asks, host_exits, host_answers, host_waits, host_falls, served_of, served_size, held_size, held_roomy, held_going, tests_within, wrapped_is, answered_working, Answered}
+use Rattle.nv_words.proofs.WrapLemmas.{wrapped-fits}
+use Rattle.jvm_machine.proofs.Hosts.{words_found, host_found, host_tables, host_asks, host_exits, host_answers, host_waits, host_falls, served_of, served_size, held_size, held_roomy, held_going, tests_within, answered_working, Answered}
 use Rattle.jvm_machine.proofs.ending.call_host.Given.{Over}
 use Rattle.jvm_machine.proofs.ending.call_host.Goals as goal
 
@@ -46,7 +47,7 @@ answered g c =
     let fits : FitsSigned w32 c.in-Ok-Some.value = search rules in
     let is_some : c.in-Ok-Some.field-0 ≡ Some c.in-Ok-Some.value = rw c.in-Ok-Some.is at c.in-Ok-Some.field-0-is in
     let served = served_of g.V.Server.goes g.V.Server.held g.V.Server.fell c.args.working.now c.of-words.result c.args.server.now c.serve-answer.new.self c.open.new.self c.serve-answer.new.view c.serve-answer.result (Ok (Some c.in-Ok-Some.value)) c.open.ensures (c.in-Ok-Some.is ∙ ap Ok is_some) c.serve-answer.ensures.served in
-    let word = c.unsigned.ensures.value ∙ ap unsigned_of (to_z-of_z w32 c.in-Ok-Some.value fits) ∙ wrapped_is c.in-Ok-Some.value fits in
+    let word = c.unsigned.ensures.value ∙ ap unsigned_of (to_z-of_z w32 c.in-Ok-Some.value fits) ∙ wrapped-fits c.in-Ok-Some.value fits in
     let answer = host_answers g.V.Server.goes g.V.Server.held g.V.Server.fell c.args.program.now.classes c.args.program.now.code c.args.working.now c.requires.going c.requires.here c.of-words.result c.of-words.ensures.words c.if-words-eq1.false c.args.server.now c.serve-answer.new.self c.close.new.self c.serve-answer.new.view (ap (λ (h : Held). h.region) c.close.ensures) c.in-Ok-Some.value c.unsigned.result word served in
     let is = answered_working c.args.working.now c.go_on.new.working c.push.new.self c.drop_words.new.operands c.close.new.self c.unsigned.result c.drop_words.ensures.dropped c.drop_words.ensures.limit c.push.ensures c.go_on.ensures in
     subst (λ (x : Working). Answered g.V.Server.goes g.V.Server.held g.V.Server.fell c.args.program.now.classes c.args.program.now.code c.args.working.now c.requires.going c.requires.here c.of-words.result c.of-words.ensures.words x c.args.server.now c.serve-answer.new.self) (sym is) answer

@@ -1,6 +1,6 @@
 use Rattle.std.proofs.Common.{◌≡◌, ℕ, List, ap, sym, ◌∙◌, arith, subst}
 use Rattle.elf_image.specs.Start.{image_of}
-use Rattle.mips_machine.specs.Loading.{pages_below, AreZeros}
+use Rattle.mips_machine.specs.Loading.{memory_below, AreZeros}
 use Rattle.mips_machine.proofs.LoadLemmas.{below_none, below_all}
 use Rattle.mips_machine.proofs.ImageLemmas.{no_byte, no_writing}
 use Rattle.mips_machine.proofs.memory_loader.load_memory.Goals as goal
@@ -20,7 +20,7 @@ pub returns : goal.returns
 returns c =
     let last : c.loop-page.page ≡ 524288 = omega arith in
     c.loop-page.invariant
-    ∙ ap (pages_below (image_of c.args.image.now).memory) last
+    ∙ ap (memory_below (image_of c.args.image.now).memory) last
     ∙ below_all (image_of c.args.image.now).memory 524288
     (λ a high. no_byte c.args.image.now a (c.laws.ensures.pages _ high))
     (λ a high. no_writing c.args.image.now a (c.laws.ensures.pages _ high))
