@@ -4,7 +4,8 @@ use Rattle.mips_decode.specs.Step.{order_number}
 use Rattle.guest_layout.specs.FieldNumbers.{readable_field, writable_field}
 use Rattle.loading_code.specs.declared.beginning.Beginning.{Beginning}
 use Rattle.loading_code.specs.declared.page_slot.PageSlot.{PageSlot}
-use Rattle.loading_code.specs.Parts.{call, returns}
+use Rattle.code_steps.specs.Returning.{returns}
+use Rattle.loading_code.specs.Parts.{call}
 use Rattle.loading_code.specs.Pages.{pages_code}
 use Rattle.loading_code.specs.Words.{words_code}
 use Rattle.loading_code.specs.Filling.{filled_code, fill_code}

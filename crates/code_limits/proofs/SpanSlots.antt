@@ -16,7 +16,7 @@ use Rattle.code_steps.specs.Widths.{size}
 use Rattle.guest_code.specs.Units.{unit_code}
 use Rattle.word_emitter.specs.declared.extent.Extent.{Extent}
 use Rattle.word_emitter.specs.Pieces.{ends_with_slot, piece_units, is_needed, is_written, bank_of, units_code, fetched, put_back, for_registers, warm_code}
-use Rattle.word_emitter.specs.Exits.{returns}
+use Rattle.code_steps.specs.Returning.{returns}
 use Rattle.span_code.specs.declared.span_words.SpanWords.{SpanWords}
 use Rattle.span_code.specs.Pieces.{all_words, begins, piece_at}
 use Rattle.span_code.specs.Neighbours.{address, is_inner, next_such}

@@ -30,7 +30,8 @@ use Rattle.guest_code.proofs.InstructionForms.{fault_form, instruction_form}
 use Rattle.guest_code.proofs.UnitForms.{transfer_form, unit_form, unit-weighs}
 use Rattle.word_emitter.specs.declared.extent.Extent.{Extent}
 use Rattle.word_emitter.specs.Pieces.{is_likely}
-use Rattle.word_emitter.specs.Exits.{has, follows, returns, arrive, last_way, two_ways, branch_exit, passing_exit, next_exit, exit_code}
+use Rattle.code_steps.specs.Returning.{returns}
+use Rattle.word_emitter.specs.Exits.{has, follows, arrive, last_way, two_ways, branch_exit, passing_exit, next_exit, exit_code}
 use Rattle.code_limits.specs.Weights.{instruction_bytes, unit_bytes, exit_bytes, branch_exit_bytes}
 use Rattle.code_limits.proofs.StepSizes.{word-bytes, sizes}
 

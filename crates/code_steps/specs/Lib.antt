@@ -5,3 +5,4 @@ pub mod Placing
 pub mod Leading
 pub mod Switches
 pub mod Laws
+pub mod Returning

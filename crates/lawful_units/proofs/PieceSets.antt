@@ -13,7 +13,7 @@ use Rattle.guest_code.specs.Access.{keeps}
 use Rattle.word_emitter.specs.Pieces.{bank_of, is_written}
 use Rattle.lawful_units.specs.Knowing.{AreNumbers, gained}
 use Rattle.lawful_units.specs.Lawful.{IsLawful, has_register, is_general}
-use Rattle.lawful_units.specs.Laws.{GainsFollowEachOther, ListedAreGained, SetsHaveWhatIsListed, UnitsWriteNumbers}
+use Rattle.lawful_units.specs.Laws.{GainsFollowEachOther, ListedAreGained, SetsHaveWhatIsListed, UnitsWriteNumbers, NeededIsKnown, FirstFindsItsNeeds, OthersFindTheirNeeds}
 
 -- each unit of a piece is lawful
 abbrev pub AreLawful : List Word → Type 0
@@ -29,6 +29,12 @@ pub record SetLaws : Type 0 where
   pub gained_is : ListedAreGained
   pub gained_joined : GainsFollowEachOther
   pub writes_numbers : UnitsWriteNumbers
+
+-- what lawful units need is known before them
+pub record NeedLaws : Type 0 where
+  pub unit_known : NeededIsKnown
+  pub first_known : FirstFindsItsNeeds
+  pub others_known : OthersFindTheirNeeds
 
 numbers-append : (first second : List Register) → AreNumbers first → AreNumbers second → AreNumbers (first ++ second)
 numbers-append [] second a b = b

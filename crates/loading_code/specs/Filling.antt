@@ -8,7 +8,8 @@ use Rattle.code_steps.specs.declared.step.Step.{Step}
 use Rattle.code_steps.specs.declared.step.Step.TheVariants.{Does}
 use Rattle.guest_code.specs.Access.{push_word}
 use Rattle.loading_code.specs.declared.page_slot.PageSlot.{PageSlot}
-use Rattle.loading_code.specs.Parts.{call, returns, readable_table}
+use Rattle.code_steps.specs.Returning.{returns}
+use Rattle.loading_code.specs.Parts.{call, readable_table}
 
 -- the text in a slot of a class
 abbrev pub push_text : ℕ → ℕ → Step

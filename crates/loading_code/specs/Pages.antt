@@ -11,7 +11,8 @@ use Rattle.code_steps.specs.Offsets.{CodeOffset}
 use Rattle.code_steps.specs.declared.step.Step.TheVariants.{Does, Skips, Leaves}
 use Rattle.code_steps.specs.Widths.{size}
 use Rattle.guest_code.specs.Access.{push_word, arithmetic}
-use Rattle.loading_code.specs.Parts.{load, store, shift_left, returns, readable_table, writable_table, next_character, ended_code}
+use Rattle.code_steps.specs.Returning.{returns}
+use Rattle.loading_code.specs.Parts.{load, store, shift_left, readable_table, writable_table, next_character, ended_code}
 
 -- ---- Local variables: 0 the text, 1 the place in it, 2 a run's first character, 3 a page of the run, 4 its last page.
 

@@ -2,7 +2,6 @@
 use Rattle.std.specs.Prelude.{ℕ, List, [], ◌∷◌}
 use Rattle.jvm_names.specs.declared.branch_name.BranchName.TheVariants.{IfIcmpge}
 use Rattle.jvm_names.specs.declared.int_shift.IntShift.TheVariants.{Ishl}
-use Rattle.jvm_names.specs.declared.return_name.ReturnName.TheVariants as return_names
 use Rattle.jvm_program.specs.declared.kind.Kind.TheVariants as kinds
 use Rattle.jvm_program.specs.declared.local_kind.LocalKind.TheVariants as local_kinds
 use Rattle.jvm_program.specs.declared.instruction.Instruction.TheVariants as instructions
@@ -25,9 +24,6 @@ shift_left = Does (instructions.IntShift Ishl)
 
 abbrev pub call : ℕ → Step
 call m = Does (instructions.Call m)
-
-abbrev pub returns : Step
-returns = Does (instructions.Return return_names.Return)
 
 -- the tables of the pages that can be read, and that can be written
 abbrev pub readable_table : Step

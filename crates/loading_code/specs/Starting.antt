@@ -12,7 +12,8 @@ use Rattle.code_steps.specs.declared.step.Step.TheVariants.{Does}
 use Rattle.guest_layout.specs.FieldNumbers.{register_field, pc_field, readable_field, writable_field, page_count}
 use Rattle.guest_code.specs.Access.{push_word, put_field}
 use Rattle.loading_code.specs.declared.beginning.Beginning.{Beginning}
-use Rattle.loading_code.specs.Parts.{call, returns, readable_table, writable_table}
+use Rattle.code_steps.specs.Returning.{returns}
+use Rattle.loading_code.specs.Parts.{call, readable_table, writable_table}
 use Rattle.loading_code.specs.Filling.{push_text}
 
 -- ---- memory

@@ -10,7 +10,8 @@ use Rattle.code_steps.specs.Offsets.{CodeOffset}
 use Rattle.code_steps.specs.declared.step.Step.TheVariants.{Does, Skips, Leaves}
 use Rattle.code_steps.specs.Widths.{size}
 use Rattle.guest_code.specs.Access.{push_word, arithmetic}
-use Rattle.loading_code.specs.Parts.{load, store, load_reference, shift_left, returns, next_character, ended_code}
+use Rattle.code_steps.specs.Returning.{returns}
+use Rattle.loading_code.specs.Parts.{load, store, load_reference, shift_left, next_character, ended_code}
 
 -- ---- Local variables: 0 the array, 1 the text, 2 the word's number, 3 the place in the text.
 

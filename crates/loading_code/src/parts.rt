@@ -1,5 +1,6 @@
 //! Parts of the code that makes a program's memory.
 ghost use Rattle.std.specs.Prelude.{◌≡◌, ◌++◌, OnOk};
+ghost use Rattle.code_steps.specs.Returning.{returns};
 ghost use Rattle.loading_code.specs.Parts as emitted;
 
 use crate::NoMemory;
@@ -43,7 +44,7 @@ pub fn call(method: u32) -> Step
 }
 
 pub fn returns() -> Step
-    ensures { result ≡ emitted.returns }
+    ensures { result ≡ returns }
 {
     Step::Does(Instruction::Return(ReturnName::Return))
 }

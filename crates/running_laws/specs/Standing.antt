@@ -12,7 +12,7 @@ use Rattle.jvm_program.specs.Step.{State, Frame, placed, turn}
 use Rattle.code_steps.specs.Placing.{LiesAt}
 use Rattle.code_steps.specs.Offsets.{CodeOffset}
 use Rattle.guest_layout.specs.FieldNumbers.{pc_field}
-use Rattle.word_emitter.specs.Exits.{returns}
+use Rattle.code_steps.specs.Returning.{returns}
 use Rattle.span_code.specs.Laying.{entry_at}
 use Rattle.span_code_laws.specs.GuestFollows.Sites as sites
 use Rattle.span_code_laws.specs.GuestFollows.Sites.{Site}

@@ -9,7 +9,7 @@ use Rattle.delay_slots.specs.declared.unit.Unit.{Unit}
 use Rattle.code_steps.specs.declared.step.Step.{Step}
 use Rattle.code_steps.specs.Widths.{size}
 use Rattle.word_emitter.specs.declared.extent.Extent.{Extent}
-use Rattle.word_emitter.specs.Exits.{returns}
+use Rattle.code_steps.specs.Returning.{returns}
 use Rattle.span_code.specs.declared.span_words.SpanWords.{SpanWords}
 use Rattle.span_code.specs.Pieces.{words_before, all_words, begins}
 use Rattle.span_code.specs.Neighbours.{is_inner}

@@ -8,7 +8,8 @@ use Rattle.code_steps.specs.declared.step.Step.TheVariants.{Does, Skips, Leaves,
 use Rattle.code_steps.specs.Widths.{size}
 use Rattle.code_steps.specs.Offsets.{CodeOffset}
 use Rattle.word_emitter.specs.declared.extent.Extent.{Extent}
-use Rattle.word_emitter.specs.Exits.{has, returns}
+use Rattle.code_steps.specs.Returning.{returns}
+use Rattle.word_emitter.specs.Exits.{has}
 use Rattle.span_code.specs.declared.span_words.SpanWords.{SpanWords}
 use Rattle.span_code.specs.declared.stretch.Stretch.{Stretch}
 use Rattle.span_code.specs.Pieces.{words_before, all_words, begins}

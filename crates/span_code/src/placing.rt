@@ -1,6 +1,6 @@
 //! Steps that leave to addresses, laid down so that they leave to offsets.
 ghost use Rattle.std.specs.Prelude.{◌≡◌, ◌/◌, [], ◌∷◌, ◌++◌, map, IfOk, OnOk, slice_index_or};
-ghost use Rattle.word_emitter.specs.Exits.{returns};
+ghost use Rattle.code_steps.specs.Returning.{returns};
 ghost use Rattle.span_code.specs.Laying as laying;
 
 use crate::NoMemory;

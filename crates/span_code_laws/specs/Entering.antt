@@ -9,7 +9,8 @@ use Rattle.code_steps.specs.declared.step.Step.{Step}
 use Rattle.code_steps.specs.Offsets.{CodeOffset}
 use Rattle.code_steps.specs.Placing.{LiesAt}
 use Rattle.guest_layout.specs.FieldNumbers.{pc_field}
-use Rattle.word_emitter.specs.Exits.{has, returns}
+use Rattle.code_steps.specs.Returning.{returns}
+use Rattle.word_emitter.specs.Exits.{has}
 use Rattle.code_paths.specs.Classes.{reads, chars, switches, entries}
 use Rattle.code_paths.specs.Paths.{weigh}
 use Rattle.guest_follows.specs.Sites.{Site, PathIn, stands}

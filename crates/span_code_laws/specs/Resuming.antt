@@ -14,7 +14,7 @@ use Rattle.jvm_program.specs.Step as machine
 use Rattle.code_steps.specs.Placing.{LiesAt}
 use Rattle.code_steps.specs.Offsets.{CodeOffset}
 use Rattle.guest_layout.specs.FieldNumbers.{pc_field}
-use Rattle.word_emitter.specs.Exits.{returns}
+use Rattle.code_steps.specs.Returning.{returns}
 use Rattle.span_code.specs.declared.span_words.SpanWords.{SpanWords}
 use Rattle.span_code.specs.Neighbours.{address}
 use Rattle.span_code.specs.Laying.{entry_at}

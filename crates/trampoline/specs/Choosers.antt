@@ -5,10 +5,10 @@ use Rattle.mips_decode.specs.Effect.{fetch_fault, pc_align_fault}
 use Rattle.delay_slots.specs.Places.{Address}
 use Rattle.jvm_names.specs.declared.branch_name.BranchName.TheVariants.{Ifne, IfIcmplt, Goto}
 use Rattle.jvm_names.specs.declared.int_arithmetic.IntArithmetic.TheVariants.{Iand}
-use Rattle.jvm_names.specs.declared.return_name.ReturnName.TheVariants as return_names
 use Rattle.jvm_program.specs.declared.local_kind.LocalKind.TheVariants as local_kinds
 use Rattle.jvm_program.specs.declared.instruction.Instruction.TheVariants as instructions
 use Rattle.jvm_program.specs.declared.instruction.Instruction.TheVariants.{Load, Store, Call, FaultHost}
+use Rattle.code_steps.specs.Returning.{returns}
 use Rattle.code_steps.specs.declared.step.Step.{Step}
 use Rattle.code_steps.specs.declared.step.Step.TheVariants.{Does, Skips, Leaves}
 use Rattle.guest_layout.specs.FieldNumbers.{pc_field}
@@ -20,9 +20,6 @@ use Rattle.trampoline.specs.Trees.{reached_code, first_of, tree}
 
 abbrev pub load_address : Step
 load_address = Does (Load local_kinds.Int 0)
-
-abbrev pub returns : Step
-returns = Does (instructions.Return return_names.Return)
 
 -- the guest's address is put into local variable 0
 abbrev pub address_code : List Step

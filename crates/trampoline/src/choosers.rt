@@ -1,5 +1,6 @@
 //! The methods that choose by the address at which the guest stands.
 ghost use Rattle.std.specs.Prelude.{◌≡◌, ◌++◌, ◌≤◌, OnOk, length};
+ghost use Rattle.code_steps.specs.Returning.{returns};
 ghost use Rattle.trampoline.specs.Choosers as emitted;
 ghost use Rattle.trampoline.specs.Trees.{tree, first_of};
 
@@ -87,7 +88,7 @@ fn load_address() -> Step
 }
 
 fn returns() -> Step
-    ensures { result ≡ emitted.returns }
+    ensures { result ≡ returns }
 {
     Step::Does(Instruction::Return(ReturnName::Return))
 }

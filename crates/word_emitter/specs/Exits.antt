@@ -8,9 +8,9 @@ use Rattle.delay_slots.specs.declared.unit.Unit.{Unit}
 use Rattle.delay_slots.specs.declared.unit.Unit.TheVariants.{Plain, Branch, SlotMissing, SlotIsBranch, Call, Trap}
 use Rattle.delay_slots.specs.Places.{Address}
 use Rattle.jvm_names.specs.declared.branch_name.BranchName.TheVariants.{IfIcmpne}
-use Rattle.jvm_names.specs.declared.return_name.ReturnName.TheVariants as return_names
 use Rattle.jvm_program.specs.declared.local_kind.LocalKind.TheVariants as local_kinds
 use Rattle.jvm_program.specs.declared.instruction.Instruction.TheVariants as instructions
+use Rattle.code_steps.specs.Returning.{returns}
 use Rattle.code_steps.specs.declared.step.Step.{Step}
 use Rattle.code_steps.specs.declared.step.Step.TheVariants.{Does, Skips, Leaves}
 use Rattle.guest_layout.specs.FieldNumbers.{pc_field}
@@ -29,10 +29,6 @@ has span address = nat_le span.first address && nat_lt address span.end
 abbrev pub follows : Option Address → Address → Bool
 follows None address = false
 follows (Some next) address = next == address
-
--- the method ends, and field pc says where the guest goes
-abbrev pub returns : Step
-returns = Does (instructions.Return return_names.Return)
 
 -- ---- ways from a branch: local variable 0 and field pc have the goal
 

@@ -1,5 +1,6 @@
 //! Where code goes behind a unit.
 ghost use Rattle.std.specs.Prelude.{◌≡◌, ◌++◌, OnOk};
+ghost use Rattle.code_steps.specs.Returning.{returns};
 ghost use Rattle.word_emitter.specs.Exits as emitted;
 
 use crate::NoMemory;
@@ -140,7 +141,7 @@ fn append_next(
 
 // The method ends, and field pc says where the guest goes.
 fn returns() -> Step
-    ensures { result ≡ emitted.returns }
+    ensures { result ≡ returns }
 {
     Step::Does(Instruction::Return(ReturnName::Return))
 }

@@ -19,7 +19,8 @@ use Rattle.guest_code.specs.Branching.{behind_slot}
 use Rattle.guest_code.specs.Units.{next_address}
 use Rattle.word_emitter.specs.declared.extent.Extent.{Extent}
 use Rattle.word_emitter.specs.Pieces.{is_likely}
-use Rattle.word_emitter.specs.Exits.{has, follows, returns, arrive, last_way, two_ways, branch_exit, passing_exit, next_exit, exit_code}
+use Rattle.code_steps.specs.Returning.{returns}
+use Rattle.word_emitter.specs.Exits.{has, follows, arrive, last_way, two_ways, branch_exit, passing_exit, next_exit, exit_code}
 use Rattle.code_types.specs.Judging.{Rules, Leads, Meets}
 use Rattle.code_types.specs.Flowing.{Ahead, Flows, FlowsOver}
 use Rattle.code_types.proofs.TypedSteps.Flow.{flows-from}

@@ -19,8 +19,7 @@ use Rattle.guest_code.specs.Units.{unit_code}
 use Rattle.word_emitter.specs.Pieces.{is_needed, is_written, fetched, put_back, for_registers, units_code, bank_of, warm_code}
 use Rattle.lawful_units.specs.Knowing.{gaining, gained}
 use Rattle.lawful_units.specs.Lawful.{IsLawful, AreAllKnown}
-use Rattle.lawful_units.specs.Laws.{FirstFindsItsNeeds, NeededIsKnown, OthersFindTheirNeeds}
-use Rattle.lawful_units.proofs.PieceSets.{SetLaws, are-lawful, written-kept, known-behind}
+use Rattle.lawful_units.proofs.PieceSets.{SetLaws, are-lawful, written-kept, known-behind, NeedLaws}
 use Rattle.code_types.specs.Judging.{Rules, Leads}
 use Rattle.code_types.specs.Flowing.{Flows}
 use Rattle.code_types.proofs.TypedSteps.Flow.{flows-from}
@@ -165,13 +164,7 @@ abbrev pub gained_by : List Unit → (ℕ → Bool) → ℕ → Bool
 gained_by [] known = known
 gained_by (unit ∷ units) known = gained_by units (gained (unit_writes unit) known)
 
--- what is said of which registers are known
-pub record Needing : Type 0 where
-  pub unit : NeededIsKnown
-  pub first : FirstFindsItsNeeds
-  pub others : OthersFindTheirNeeds
-
-pub units-lead : (rules : Rules) (law : Needing) (helpers : HelperTypes rules.program) (bank : ℕ) (units : List Unit) (known : ℕ → Bool)
+pub units-lead : (rules : Rules) (law : NeedLaws) (helpers : HelperTypes rules.program) (bank : ℕ) (units : List Unit) (known : ℕ → Bool)
     (goal : Kind) (at : ℕ) → All IsLawful units → AreAllKnown (is_needed units) known
     → Leads rules (units_code bank units at) (knowing bank known goal) (knowing bank (gained_by units known) (goal_after units goal))
 units-lead rules law helpers bank [] known goal at lawful all = nothing-leads rules (knowing bank known goal)
@@ -180,19 +173,19 @@ units-lead rules law helpers bank (unit ∷ units) known goal at lawful all =
     codes-lead rules (unit_code bank unit at) (units_code bank units (at + 4)) (knowing bank known goal)
     (knowing bank (gained (unit_writes unit) known) (goal_behind unit goal))
     (knowing bank (gained_by units (gained (unit_writes unit) known)) (goal_after units (goal_behind unit goal)) ∷ [])
-    (unit-typed unit rules bank known goal at helpers own (law.unit unit known own (law.first unit units known all)))
+    (unit-typed unit rules bank known goal at helpers own (law.unit_known unit known own (law.first_known unit units known all)))
     (units-lead rules law helpers bank units (gained (unit_writes unit) known) (goal_behind unit goal) (at + 4)
-    (All-tail IsLawful unit units lawful) (law.others unit units known own all))
+    (All-tail IsLawful unit units lawful) (law.others_known unit units known own all))
 
 -- the code of a unit over fields alone
-pub cold-lead : (rules : Rules) (law : Needing) (helpers : HelperTypes rules.program) (unit : Unit) (at : ℕ) → IsLawful unit
+pub cold-lead : (rules : Rules) (law : NeedLaws) (helpers : HelperTypes rules.program) (unit : Unit) (at : ℕ) → IsLawful unit
     → Leads rules (unit_code 0 unit at) unknown (with_goal (goal_behind unit Top))
 cold-lead rules law helpers unit at lawful =
     entered-below rules (unit_code 0 unit at) unknown (knowing 0 (λ r. true) Top) (with_goal (goal_behind unit Top) ∷ []) cold-below
     (left-above rules (unit_code 0 unit at) (knowing 0 (λ r. true) Top)
     (knowing 0 (gained (unit_writes unit) (λ r. true)) (goal_behind unit Top)) (with_goal (goal_behind unit Top))
     (knowing-forgotten 0 (gained (unit_writes unit) (λ r. true)) (goal_behind unit Top))
-    (unit-typed unit rules 0 (λ r. true) Top at helpers lawful (law.unit unit (λ r. true) lawful (λ r positive below is. refl))))
+    (unit-typed unit rules 0 (λ r. true) Top at helpers lawful (law.unit_known unit (λ r. true) lawful (λ r positive below is. refl))))
   where
     no-bit : (b : Bool) (n : ℕ) (z : Bool) → n ≡ 0 → below Top (if z then Top else if (b && n == 1) && true then Int else Top) ≡ true
     no-bit true n true is = refl
@@ -210,7 +203,7 @@ gained-by-is laws [] known = refl
 gained-by-is laws (unit ∷ units) known =
     gained-by-is laws units (gained (unit_writes unit) known) ∙ sym (laws.gained_joined (unit_writes unit) (flat_map unit_writes units) known)
 
-pub warm-lead : (rules : Rules) (law : Needing) (laws : SetLaws) (helpers : HelperTypes rules.program) (units : List Unit) (at : ℕ)
+pub warm-lead : (rules : Rules) (law : NeedLaws) (laws : SetLaws) (helpers : HelperTypes rules.program) (units : List Unit) (at : ℕ)
     → All IsLawful units → Leads rules (warm_code units at) unknown (with_goal (goal_after units Top))
 warm-lead rules law laws helpers units at lawful =
     let bank = bank_of units in

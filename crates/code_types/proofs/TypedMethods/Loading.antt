@@ -10,7 +10,8 @@ use Rattle.jvm_program.specs.Typing.{TypeFrame, with_stack, with_local_kind}
 use Rattle.guest_layout.specs.FieldNumbers.{readable_field, writable_field}
 use Rattle.loading_code.specs.declared.beginning.Beginning.{Beginning}
 use Rattle.loading_code.specs.declared.page_slot.PageSlot.{PageSlot}
-use Rattle.loading_code.specs.Parts.{call, returns}
+use Rattle.code_steps.specs.Returning.{returns}
+use Rattle.loading_code.specs.Parts.{call}
 use Rattle.loading_code.specs.Words.{words_code, words_offset}
 use Rattle.loading_code.specs.Pages.{pages_code, runs_offset, pages_offset}
 use Rattle.loading_code.specs.Filling.{page_code, filled_code, fill_code}

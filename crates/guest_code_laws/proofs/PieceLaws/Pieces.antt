@@ -12,7 +12,7 @@ use Rattle.code_steps.specs.Widths.{size}
 use Rattle.code_steps.specs.Placing.{LiesAt}
 use Rattle.word_emitter.specs.Pieces.{bank_of, fetched, is_needed, is_written, put_back, units_code}
 use Rattle.lawful_units.specs.Lawful.{IsLawful}
-use Rattle.lawful_units.proofs.PieceSets.{AreLawful, SetLaws, are-lawful}
+use Rattle.lawful_units.proofs.PieceSets.{AreLawful, SetLaws, are-lawful, NeedLaws}
 use Rattle.guest_follows.specs.Sites.{Site, stands, whole_weight}
 use Rattle.guest_follows.specs.Following.{Follows}
 use Rattle.guest_follows.specs.Laws.{PathLaws}
@@ -23,7 +23,7 @@ use Rattle.guest_code_laws.specs.Pieces.{AreStraight, HoldsAll, PieceArrives, Pi
 use Rattle.guest_code_laws.proofs.PieceLaws.Arriving.{HasBegun, all-in-fields, arrived, begun, written-there}
 use Rattle.guest_code_laws.proofs.PieceLaws.Behind.{three-parts}
 use Rattle.guest_code_laws.proofs.PieceLaws.Fetching.{each_code, fetched-within, fetches, puts-back}
-use Rattle.guest_code_laws.proofs.PieceLaws.Running.{HasRun, NeedLaws, units-follow}
+use Rattle.guest_code_laws.proofs.PieceLaws.Running.{HasRun, units-follow}
 use Rattle.guest_code_laws.proofs.PieceLaws.Sets.{needed-first}
 use Rattle.guest_code_laws.proofs.PieceLaws.Within.{units-stay}
 

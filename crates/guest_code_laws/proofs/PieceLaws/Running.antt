@@ -20,8 +20,7 @@ use Rattle.guest_code.specs.Units.{unit_code}
 use Rattle.word_emitter.specs.Pieces.{is_needed, is_written, units_code}
 use Rattle.lawful_units.specs.Knowing.{gained}
 use Rattle.lawful_units.specs.Lawful.{AreAllKnown, IsLawful, KnownByUnit, has_register}
-use Rattle.lawful_units.specs.Laws.{FirstFindsItsNeeds, NeededIsKnown, OthersFindTheirNeeds}
-use Rattle.lawful_units.proofs.PieceSets.{AreLawful, SetLaws}
+use Rattle.lawful_units.proofs.PieceSets.{AreLawful, SetLaws, NeedLaws}
 use Rattle.code_paths.proofs.Joining.{no-turns, path-wider}
 use Rattle.guest_follows.specs.Holding.{HoldsOn, Keeps, KeepsGoal}
 use Rattle.guest_follows.specs.Sites.{Site, stands, turn_in, whole_weight}
@@ -43,12 +42,6 @@ pub record HasRun (bank : ℕ) (known : ℕ → Bool) (piece : List Word) (x : S
   pub kept : Keeps bank before after
   pub left : LeavesOthers (is_written piece) x t
   pub goal : PieceGoal piece before after t
-
--- what lawful units need is known before them
-pub record NeedLaws : Type 0 where
-  pub unit_known : NeededIsKnown
-  pub first_known : FirstFindsItsNeeds
-  pub others_known : OthersFindTheirNeeds
 
 -- ---- the last unit
 

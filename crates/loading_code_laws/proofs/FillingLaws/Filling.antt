@@ -27,7 +27,8 @@ use Rattle.code_paths.specs.Laws.{CodeIsPathElsewhere}
 use Rattle.guest_layout.specs.FieldNumbers.{page_count, readable_field}
 use Rattle.guest_code.specs.Access.{push_word}
 use Rattle.loading_code.specs.declared.page_slot.PageSlot.{PageSlot}
-use Rattle.loading_code.specs.Parts.{call, readable_table, returns}
+use Rattle.code_steps.specs.Returning.{returns}
+use Rattle.loading_code.specs.Parts.{call, readable_table}
 use Rattle.loading_code.specs.Words.{words_code}
 use Rattle.loading_code.specs.Filling.{push_text, filled_code, fill_code}
 use Rattle.code_paths.proofs.Joining.{path-wider}

@@ -13,7 +13,8 @@ use Rattle.code_steps.specs.declared.step.Step.TheVariants.{Leaves}
 use Rattle.code_steps.specs.Outcomes.{Outcome, left, beyond}
 use Rattle.guest_layout.specs.FieldNumbers.{page_count, readable_field, writable_field}
 use Rattle.guest_code.specs.Access.{push_word, arithmetic}
-use Rattle.loading_code.specs.Parts.{load, store, shift_left, returns, next_character}
+use Rattle.code_steps.specs.Returning.{returns}
+use Rattle.loading_code.specs.Parts.{load, store, shift_left, next_character}
 use Rattle.loading_code.specs.Pages.{first_page_code, last_page_code, run_code, made_code, writable_code, next_code, runs_offset, pages_offset}
 use Rattle.loading_code_laws.specs.MadePages.{HasTables, with_new_page}
 use Rattle.loading_code_laws.proofs.FillingLaws.Reading.{laters, over_all, with_int_in, run, next-read}

@@ -13,7 +13,8 @@ use Rattle.jvm_program.specs.Effect.{gives}
 use Rattle.code_steps.specs.declared.step.Step.{Step}
 use Rattle.code_steps.specs.Outcomes.{Outcome, left, stopped, outcome}
 use Rattle.guest_code.specs.Access.{arithmetic}
-use Rattle.loading_code.specs.Parts.{load, load_reference, ended_code, returns}
+use Rattle.code_steps.specs.Returning.{returns}
+use Rattle.loading_code.specs.Parts.{load, load_reference, ended_code}
 use Rattle.loading_code.specs.Words.{joined_code, word_code, put_code, words_body, words_code}
 use Rattle.loading_code_laws.specs.Texts.{joined, int_of_five}
 use Rattle.loading_code_laws.proofs.FillingLaws.Reading.{laters, over_all, with_int_in, run, next-read, goes-on, has-ended}

@@ -21,7 +21,8 @@ use Rattle.code_steps.specs.Placing.{LiesAt}
 use Rattle.code_steps.specs.Laws.{PartsLie}
 use Rattle.code_paths.specs.Laws.{CodeIsPathElsewhere}
 use Rattle.guest_layout.specs.FieldNumbers.{page_count, readable_field, writable_field}
-use Rattle.loading_code.specs.Parts.{returns, ended_code}
+use Rattle.code_steps.specs.Returning.{returns}
+use Rattle.loading_code.specs.Parts.{ended_code}
 use Rattle.loading_code.specs.Pages.{begun_code, run_code, runs_body, next_code, writable_code, pages_code, pages_offset, runs_offset}
 use Rattle.code_paths.specs.Paths.{weigh}
 use Rattle.code_paths.proofs.Joining.{path-wider}

@@ -12,7 +12,8 @@ use Rattle.code_steps.specs.declared.step.Step.TheVariants.{Does}
 use Rattle.guest_layout.specs.FieldNumbers.{readable_field, writable_field}
 use Rattle.loading_code.specs.declared.page_slot.PageSlot.{PageSlot}
 use Rattle.loading_code.specs.declared.beginning.Beginning.{Beginning}
-use Rattle.loading_code.specs.Parts.{call, returns}
+use Rattle.code_steps.specs.Returning.{returns}
+use Rattle.loading_code.specs.Parts.{call}
 use Rattle.loading_code.specs.Filling.{page_code, filled_code, fill_code}
 use Rattle.loading_code.specs.Starting.{page_text_code, page_texts_code, table_code, memory_code, begun_code, run_code}
 use Rattle.code_assembly.specs.declared.references.References.{References}

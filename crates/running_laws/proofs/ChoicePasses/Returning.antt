@@ -6,7 +6,7 @@ use Rattle.jvm_program.specs.Program.{Program}
 use Rattle.jvm_program.specs.Effect.{Workspace}
 use Rattle.jvm_program.specs.Step.{State, Frame, returned_to}
 use Rattle.code_steps.specs.Placing.{placed_line, LiesAt}
-use Rattle.word_emitter.specs.Exits.{returns}
+use Rattle.code_steps.specs.Returning.{returns}
 use Rattle.code_paths.proofs.Joining.{turn-path, turn-weighs, seen-within}
 use Rattle.span_code_laws.specs.GuestFollows.Sites.{Site, stands, turn_in}
 use Rattle.span_code_laws.specs.Resuming.{FieldsHoldAll, ReturnsGiveBack}

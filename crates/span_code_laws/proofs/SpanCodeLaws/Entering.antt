@@ -16,7 +16,8 @@ use Rattle.code_steps.specs.Outcomes.{Outcome, left, later, after_instruction, o
 use Rattle.code_steps.specs.Placing.{LiesAt}
 use Rattle.guest_layout.specs.FieldNumbers.{pc_field}
 use Rattle.guest_code.specs.Access.{push_word, arithmetic}
-use Rattle.word_emitter.specs.Exits.{has, returns}
+use Rattle.code_steps.specs.Returning.{returns}
+use Rattle.word_emitter.specs.Exits.{has}
 use Rattle.span_code.specs.declared.span_words.SpanWords.{SpanWords}
 use Rattle.span_code.specs.Neighbours.{address}
 use Rattle.span_code.specs.Parts.{extent}

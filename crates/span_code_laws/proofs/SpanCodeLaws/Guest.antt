@@ -18,7 +18,7 @@ use Rattle.code_steps.specs.Placing.{LiesAt}
 use Rattle.guest_layout.specs.FieldNumbers.{register_field}
 use Rattle.guest_code.specs.Access.{keeps}
 use Rattle.word_emitter.specs.Pieces.{piece_units}
-use Rattle.word_emitter.specs.Exits.{returns}
+use Rattle.code_steps.specs.Returning.{returns}
 use Rattle.lawful_units.specs.Lawful.{IsLawful}
 use Rattle.span_code.specs.declared.span_words.SpanWords.{SpanWords}
 use Rattle.span_code.specs.Pieces.{piece_at}

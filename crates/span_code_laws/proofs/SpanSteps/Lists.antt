@@ -10,9 +10,8 @@ use Rattle.guest_code.specs.Units.{unit_code}
 use Rattle.word_emitter.specs.Pieces.{is_needed, units_code}
 use Rattle.lawful_units.specs.Knowing.{gained}
 use Rattle.lawful_units.specs.Lawful.{AreAllKnown}
-use Rattle.lawful_units.proofs.PieceSets.{AreLawful, SetLaws}
+use Rattle.lawful_units.proofs.PieceSets.{AreLawful, SetLaws, NeedLaws}
 use Rattle.guest_code_laws.specs.Pieces.{AreStraight}
-use Rattle.guest_code_laws.proofs.PieceLaws.Running.{NeedLaws}
 
 -- their code
 pub code-both : (bank : ℕ) (front more : List Word) (a : ℕ)

@@ -15,7 +15,7 @@ use Rattle.code_steps.specs.Placing.{LiesAt}
 use Rattle.guest_code.specs.Units.{unit_code}
 use Rattle.word_emitter.specs.Pieces.{bank_of, for_registers, is_needed, is_written, put_back, units_code}
 use Rattle.lawful_units.specs.Lawful.{AreAllKnown, IsLawful, KnownByUnit}
-use Rattle.lawful_units.proofs.PieceSets.{AreLawful, SetLaws, are-lawful}
+use Rattle.lawful_units.proofs.PieceSets.{AreLawful, SetLaws, are-lawful, NeedLaws}
 use Rattle.span_code.specs.declared.span_words.SpanWords.{SpanWords}
 use Rattle.span_code.specs.Pieces.{piece_at, begins}
 use Rattle.span_code.specs.Neighbours.{address, next_such}
@@ -25,7 +25,6 @@ use Rattle.span_code.proofs.StandingLemmas.{word-stands}
 use Rattle.guest_follows.specs.Sites.{Site}
 use Rattle.guest_code_laws.specs.Pieces.{known_first}
 use Rattle.guest_code_laws.proofs.PieceLaws.Fetching.{fetched-within}
-use Rattle.guest_code_laws.proofs.PieceLaws.Running.{NeedLaws}
 use Rattle.guest_code_laws.proofs.PieceLaws.Sets.{needed-first}
 use Rattle.guest_code_laws.proofs.PieceLaws.Within.{unit-stays, units-stay}
 use Rattle.span_code_laws.specs.Spans.{HasSpan}

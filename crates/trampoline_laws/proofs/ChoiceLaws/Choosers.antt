@@ -16,7 +16,8 @@ use Rattle.guest_layout.specs.FieldNumbers.{pc_field}
 use Rattle.guest_code.specs.Access.{push_word}
 use Rattle.trampoline.specs.declared.start.Start.{Start}
 use Rattle.trampoline.specs.Trees.{reached_code, first_of, tree}
-use Rattle.trampoline.specs.Choosers.{load_address, returns, address_code, unaligned_code, below_code, chosen_code, class_chooser, main_chooser, missing_code}
+use Rattle.code_steps.specs.Returning.{returns}
+use Rattle.trampoline.specs.Choosers.{load_address, address_code, unaligned_code, below_code, chosen_code, class_chooser, main_chooser, missing_code}
 use Rattle.trampoline_laws.specs.Choosing.{is_below, chosen, Rise, IsMethod, AreMethods, IsWithin, IsReached}
 use Rattle.trampoline_laws.specs.Coming.{Stops, Calls, begins_anew, with_address, stray_fault, with_stray}
 use Rattle.trampoline_laws.proofs.ChoiceLaws.Tests.{below-low, high-below, reached, below, unaligned}

@@ -18,7 +18,8 @@ use Rattle.guest_code.specs.Branching.{behind_slot}
 use Rattle.guest_code.specs.Units.{next_address}
 use Rattle.word_emitter.specs.declared.extent.Extent.{Extent}
 use Rattle.word_emitter.specs.Pieces.{is_likely}
-use Rattle.word_emitter.specs.Exits.{has, follows, returns, arrive, last_way, two_ways, branch_exit, passing_exit, next_exit, exit_code}
+use Rattle.code_steps.specs.Returning.{returns}
+use Rattle.word_emitter.specs.Exits.{has, follows, arrive, last_way, two_ways, branch_exit, passing_exit, next_exit, exit_code}
 use Rattle.code_assembly.specs.declared.references.References.{References}
 use Rattle.code_assembly.specs.Assembling.{reaches, step_has_operation, have_operations}
 use Rattle.whole_methods.proofs.WholeCode.Operations.{Operates, operates-either, reaches-from}

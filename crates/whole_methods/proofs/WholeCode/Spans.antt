@@ -18,7 +18,7 @@ use Rattle.code_steps.specs.Widths.{size}
 use Rattle.code_steps.specs.Switches.{switches_are_placed}
 use Rattle.guest_code.specs.Units.{unit_code}
 use Rattle.word_emitter.specs.Pieces.{ends_with_slot, piece_units, warm_code}
-use Rattle.word_emitter.specs.Exits.{returns}
+use Rattle.code_steps.specs.Returning.{returns}
 use Rattle.lawful_units.specs.Lawful.{IsLawful}
 use Rattle.span_code.specs.declared.span_words.SpanWords.{SpanWords}
 use Rattle.span_code.specs.Pieces.{begins, piece_at}

@@ -1,14 +1,13 @@
-use Rattle.lawful_units.proofs.PieceSets.{SetLaws}
-use Rattle.code_types.proofs.TypedCode.Pieces.{Needing}
+use Rattle.lawful_units.proofs.PieceSets.{SetLaws, NeedLaws}
 use Rattle.code_types.proofs.TypedCode.Parts.{warm-part-leads, cold-part-leads}
 use Rattle.code_types.proofs.laws.parts_of_spans_are_typed.Goals as goal
 
 pub returns-clause-warm : goal.returns-clause-warm
 returns-clause-warm c units last rules at span behind place helpers lawful opens =
-    let needing : Needing = record {
-      unit = c.needed_is_known.ensures.unit;
-      first = c.needed_is_known.ensures.first;
-      others = c.needed_is_known.ensures.others;
+    let needing : NeedLaws = record {
+      unit_known = c.needed_is_known.ensures.unit;
+      first_known = c.needed_is_known.ensures.first;
+      others_known = c.needed_is_known.ensures.others;
     } in
     let laws : SetLaws = record {
       is_membership = c.is_in_is_membership.ensures;
@@ -20,9 +19,9 @@ returns-clause-warm c units last rules at span behind place helpers lawful opens
 
 pub returns-clause-cold : goal.returns-clause-cold
 returns-clause-cold c unit rules at span behind helpers lawful opens =
-    let needing : Needing = record {
-      unit = c.needed_is_known.ensures.unit;
-      first = c.needed_is_known.ensures.first;
-      others = c.needed_is_known.ensures.others;
+    let needing : NeedLaws = record {
+      unit_known = c.needed_is_known.ensures.unit;
+      first_known = c.needed_is_known.ensures.first;
+      others_known = c.needed_is_known.ensures.others;
     } in
     cold-part-leads rules needing helpers unit at span behind lawful opens

@@ -1,14 +1,13 @@
-use Rattle.lawful_units.proofs.PieceSets.{SetLaws}
-use Rattle.code_types.proofs.TypedCode.Pieces.{Needing, warm-lead, cold-lead}
+use Rattle.lawful_units.proofs.PieceSets.{SetLaws, NeedLaws}
+use Rattle.code_types.proofs.TypedCode.Pieces.{warm-lead, cold-lead}
 use Rattle.code_types.proofs.laws.pieces_are_typed.Goals as goal
 
 pub returns-clause-pieces : goal.returns-clause-pieces
 returns-clause-pieces c units rules at helpers lawful =
-    let needing : Needing = record {
-      unit = c.needed_is_known.ensures.unit;
-      first = c.needed_is_known.ensures.first;
-      others =
-          c.needed_is_known.ensures.others;
+    let needing : NeedLaws = record {
+      unit_known = c.needed_is_known.ensures.unit;
+      first_known = c.needed_is_known.ensures.first;
+      others_known = c.needed_is_known.ensures.others;
     } in
     let laws : SetLaws = record {
       is_membership = c.is_in_is_membership.ensures;
@@ -20,10 +19,9 @@ returns-clause-pieces c units rules at helpers lawful =
 
 pub returns-clause-words : goal.returns-clause-words
 returns-clause-words c unit rules at helpers lawful =
-    let needing : Needing = record {
-      unit = c.needed_is_known.ensures.unit;
-      first = c.needed_is_known.ensures.first;
-      others =
-          c.needed_is_known.ensures.others;
+    let needing : NeedLaws = record {
+      unit_known = c.needed_is_known.ensures.unit;
+      first_known = c.needed_is_known.ensures.first;
+      others_known = c.needed_is_known.ensures.others;
     } in
     cold-lead rules needing helpers unit at lawful
