@@ -2,10 +2,6 @@
 use Rattle.std.specs.Prelude.{◌≡◌, ℕ, zero, suc, true, ◌+◌, ◌-◌, ◌/◌, ◌%◌, ◌^◌, ◌<◌, ◌≤◌, Bool, if◌then◌else◌, List, [], ◌∷◌, ◌++◌, flat_map}
 use Rattle.image_parts.specs.declared.page_run.PageRun.{PageRun}
 
--- the number of pages below 80000000 (hexadecimal)
-abbrev pub pages_below : ℕ
-pages_below = 2 ^ 19
-
 -- the pages below a number that can be read, in rising order, each with whether it can be written
 unfoldable pub pages_of : (ℕ → Bool) → (ℕ → Bool) → ℕ → List (ℕ × Bool)
 pages_of readable writable zero = []

@@ -1,7 +1,8 @@
 //! Runs of pages.
 ghost use Rattle.std.specs.Prelude.{◌≡◌, ◌<◌, ◌^◌, true, All, IfOk, IsTrue, flat_map};
 ghost use Rattle.elf_image.specs.Start as start;
-ghost use Rattle.image_parts.specs.Runs.{AreAlike, IsRun, pages_of, pages_below, run_pages};
+ghost use Rattle.elf_image.specs.Pages.{pages_below};
+ghost use Rattle.image_parts.specs.Runs.{AreAlike, IsRun, pages_of, run_pages};
 
 use crate::NoMemory;
 use crate::page_run::PageRun;

@@ -2,7 +2,8 @@
 use Rattle.std.specs.Prelude.{◌≡◌, ℕ, List, flat_map, All}
 use Rattle.command_values.specs.Names.{Text}
 use Rattle.elf_image.specs.Start.{Source, image_of, readable, writable}
-use Rattle.image_parts.specs.Runs.{IsRun, pages_of, pages_below, run_pages}
+use Rattle.elf_image.specs.Pages.{pages_below}
+use Rattle.image_parts.specs.Runs.{IsRun, pages_of, run_pages}
 use Rattle.guest_layout.specs.ClassNames.{file_name}
 use Rattle.trampoline.specs.declared.start.Start.{Start}
 use Rattle.loading_code.specs.declared.beginning.Beginning.{Beginning}

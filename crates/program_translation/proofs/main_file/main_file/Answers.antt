@@ -1,6 +1,7 @@
 use Rattle.std.proofs.Common.{◌≡◌, ◌<◌, ◌++◌, All, length, flat_map, ap, sym, ◌∙◌, subst, arith}
 use Rattle.elf_image.specs.Start.{readable, writable}
-use Rattle.image_parts.specs.Runs.{IsRun, pages_of, pages_below, run_pages}
+use Rattle.elf_image.specs.Pages.{pages_below}
+use Rattle.image_parts.specs.Runs.{IsRun, pages_of, run_pages}
 use Rattle.guest_layout.specs.ClassNames.{file_name}
 use Rattle.guest_layout.specs.Numbers.{main_methods}
 use Rattle.trampoline.specs.declared.start.Start.{Start}
