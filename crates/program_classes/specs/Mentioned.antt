@@ -25,13 +25,16 @@ helper_mentions main count = member_mentions Method helper_name helper_descripto
 abbrev pub called : List ℕ → Signature → Mention
 called owner method = OfMember Method (reference owner method)
 
+-- a class and two of its methods
+abbrev pub two_mentions : List ℕ → Signature → Signature → List Mention
+two_mentions owner first second =
+    OfClass owner ∷ called owner first ∷ called owner second ∷ []
+
 abbrev pub host_mentions : List Mention
-host_mentions = OfClass host_name ∷ called host_name host_call_signature
-    ∷ called host_name host_fault_signature ∷ []
+host_mentions = two_mentions host_name host_call_signature host_fault_signature
 
 abbrev pub string_mentions : List Mention
-string_mentions = OfClass string_name ∷ called string_name length_signature
-    ∷ called string_name char_at_signature ∷ []
+string_mentions = two_mentions string_name length_signature char_at_signature
 
 -- the main class with its fields, the host, strings, and the type of arrays of ints
 abbrev pub names_mentions : List ℕ → List Mention

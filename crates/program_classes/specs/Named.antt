@@ -6,8 +6,7 @@ use Rattle.name_resolution.specs.Names.{Signature, string_name, host_name, lengt
 use Rattle.guest_layout.specs.Fields.{field_name, field_descriptor}
 use Rattle.guest_layout.specs.Helpers.{helper_name, helper_descriptor}
 use Rattle.class_builder.specs.Named.{IsClassAt, IsMemberAt, IsMethodAt}
-use Rattle.program_classes.specs.declared.host.HostSlots.{HostSlots}
-use Rattle.program_classes.specs.declared.strings.StringSlots.{StringSlots}
+use Rattle.program_classes.specs.declared.two_methods.TwoMethods.{TwoMethods}
 use Rattle.program_classes.specs.declared.names.Names.{Names}
 
 -- slots of the first members of the class in a slot, by their names and descriptors
@@ -31,15 +30,18 @@ AreHelpers pool main slots count =
 abbrev pub IsCalled : List Entry → ℕ → ℕ → Signature → Type 0
 IsCalled pool slot class s = IsMethodAt pool slot class s.name s.descriptor
 
-pub record IsHost (pool : List Entry) (host : HostSlots) : Type 0 where
-  pub class_is : IsClassAt pool host.class host_name
-  pub call_is : IsCalled pool host.call host.class host_call_signature
-  pub fault_is : IsCalled pool host.fault host.class host_fault_signature
+-- a class and two of its methods
+pub record AreTwoMethods (pool : List Entry) (owner : List ℕ) (first second : Signature)
+    (slots : TwoMethods) : Type 0 where
+  pub class_is : IsClassAt pool slots.class owner
+  pub first_is : IsCalled pool slots.first slots.class first
+  pub second_is : IsCalled pool slots.second slots.class second
 
-pub record AreStrings (pool : List Entry) (strings : StringSlots) : Type 0 where
-  pub class_is : IsClassAt pool strings.class string_name
-  pub length_is : IsCalled pool strings.length strings.class length_signature
-  pub char_at_is : IsCalled pool strings.char_at strings.class char_at_signature
+abbrev pub IsHost : List Entry → TwoMethods → Type 0
+IsHost pool host = AreTwoMethods pool host_name host_call_signature host_fault_signature host
+
+abbrev pub AreStrings : List Entry → TwoMethods → Type 0
+AreStrings pool strings = AreTwoMethods pool string_name length_signature char_at_signature strings
 
 pub record AreNames (pool : List Entry) (main : List ℕ) (names : Names) : Type 0 where
   pub main_is : IsClassAt pool names.main main

@@ -9,9 +9,9 @@ references_of names first methods = record {
   fields = names.fields.items;
   first_method = first;
   methods = methods;
-  host_call = names.host.call;
-  host_fault = names.host.fault;
-  string_length = names.strings.length;
-  string_char_at = names.strings.char_at;
+  host_call = names.host.first;
+  host_fault = names.host.second;
+  string_length = names.strings.first;
+  string_char_at = names.strings.second;
   ints_class = names.ints;
 }

@@ -10,7 +10,6 @@ mod code_naming;
 mod content;
 mod data_naming;
 mod filling;
-mod host;
 mod known_fields;
 mod known_helpers;
 mod main_fields;
@@ -24,9 +23,9 @@ mod piece;
 mod references;
 mod running;
 mod spans;
-mod strings;
 mod tables;
 mod texts;
+mod two_methods;
 
 pub use class_of_code::{CodeClass, code_class};
 pub use class_of_data::data_class;

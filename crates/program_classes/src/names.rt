@@ -7,9 +7,8 @@ ghost use Rattle.program_classes.specs.Named.{AreNames};
 
 use crate::NoMemory;
 use crate::building::class_reference;
-use crate::host::{HostSlots, host_slots};
 use crate::known_fields::field_references;
-use crate::strings::{StringSlots, string_slots};
+use crate::two_methods::{TwoMethods, two_methods};
 use class_builder::ClassBuilder;
 use command_values::ClassName;
 use std::alloc::Global;
@@ -21,8 +20,10 @@ pub struct Names {
     pub main: u16,
     /// The fields of the main class, by their numbers.
     pub fields: Vec<u16>,
-    pub host: HostSlots,
-    pub strings: StringSlots,
+    /// The class `nestedvm/Host` with its methods `call` and `fault`.
+    pub host: TwoMethods,
+    /// The class `java/lang/String` with its methods `length` and `charAt`.
+    pub strings: TwoMethods,
     /// The class `[I`.
     pub ints: u16,
 }
@@ -38,8 +39,20 @@ impl Names {
     {
         let main = class_reference(alloc, class, main.as_str())?;
         let fields = field_references(alloc, class, main)?;
-        let host = host_slots(alloc, class)?;
-        let strings = string_slots(alloc, class)?;
+        let host = two_methods(
+            alloc,
+            class,
+            "nestedvm/Host",
+            ("call", "([[I[[IIIIII)I"),
+            ("fault", "(III)V"),
+        )?;
+        let strings = two_methods(
+            alloc,
+            class,
+            "java/lang/String",
+            ("length", "()I"),
+            ("charAt", "(I)C"),
+        )?;
         let ints = class_reference(alloc, class, "[I")?;
         Ok(Names {
             main,

@@ -15,10 +15,10 @@ impl Names {
             fields: Sequence::new(self.fields),
             first_method,
             methods: Sequence::new(methods),
-            host_call: self.host.call,
-            host_fault: self.host.fault,
-            string_length: self.strings.length,
-            string_char_at: self.strings.char_at,
+            host_call: self.host.first,
+            host_fault: self.host.second,
+            string_length: self.strings.first,
+            string_char_at: self.strings.second,
             ints_class: self.ints,
         }
     }

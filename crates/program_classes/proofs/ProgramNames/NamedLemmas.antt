@@ -5,7 +5,7 @@ use Rattle.std.proofs.lemmas.List.{get_or_push, get_or_append_left, length_push}
 use Rattle.constant_pool.specs.declared.entry.Entry.{Entry}
 use Rattle.constant_pool.specs.declared.entry.Entry.TheVariants.{FieldRef, MethodRef}
 use Rattle.jvm_code.specs.declared.class.Class.{Class}
-use Rattle.name_resolution.specs.Names.{host_name, string_name}
+use Rattle.name_resolution.specs.Names.{Signature}
 use Rattle.guest_layout.specs.Fields.{field_name, field_descriptor}
 use Rattle.code_assembly.specs.Assembling.{Extends}
 use Rattle.code_assembly.proofs.Pools.{extends-itself, extends-further}
@@ -13,10 +13,9 @@ use Rattle.class_builder.specs.Built.{GrowsPool}
 use Rattle.class_builder.specs.Named.{IsClassAt, IsMemberAt}
 use Rattle.class_builder.proofs.Growing.{stays-behind}
 use Rattle.class_builder.proofs.Stays.{class-stays, member-stays}
-use Rattle.program_classes.specs.Named.{AreMembers, IsHost, AreStrings, AreNames}
+use Rattle.program_classes.specs.Named.{AreMembers, AreTwoMethods, AreNames}
 use Rattle.program_classes.specs.declared.names.Names.{Names}
-use Rattle.program_classes.specs.declared.host.HostSlots.{HostSlots}
-use Rattle.program_classes.specs.declared.strings.StringSlots.{StringSlots}
+use Rattle.program_classes.specs.declared.two_methods.TwoMethods.{TwoMethods}
 
 pub grown-not : (c : Class) → GrowsPool c c 0
 grown-not c = record {
@@ -49,18 +48,12 @@ module _ (old new : List Entry) (kept : Extends old new) where
     each = λ k less. member-later kind (slice_index_or slots k 0) class (name k) (descriptor k) (are.each k less);
   }
 
-  pub host-later : (host : HostSlots) → IsHost old host → IsHost new host
-  host-later host is = record {
-    class_is = class-later host.class host_name is.class_is;
-    call_is = member-later MethodRef host.call host.class _ _ is.call_is;
-    fault_is = member-later MethodRef host.fault host.class _ _ is.fault_is;
-  }
-
-  pub strings-later : (strings : StringSlots) → AreStrings old strings → AreStrings new strings
-  strings-later strings is = record {
-    class_is = class-later strings.class string_name is.class_is;
-    length_is = member-later MethodRef strings.length strings.class _ _ is.length_is;
-    char_at_is = member-later MethodRef strings.char_at strings.class _ _ is.char_at_is;
+  pub two-later : (owner : List ℕ) (first second : Signature) (slots : TwoMethods) → AreTwoMethods old owner first second slots
+      → AreTwoMethods new owner first second slots
+  two-later owner first second slots is = record {
+    class_is = class-later slots.class owner is.class_is;
+    first_is = member-later MethodRef slots.first slots.class _ _ is.first_is;
+    second_is = member-later MethodRef slots.second slots.class _ _ is.second_is;
   }
 
   -- one member more
@@ -90,7 +83,7 @@ pub names-later : (old new : List Entry) → Extends old new → (main : List �
 names-later old new kept main names are = record {
   main_is = class-later old new kept names.main main are.main_is;
   fields_are = members-later old new kept FieldRef field_name field_descriptor names.main names.fields.items 38 are.fields_are;
-  host_is = host-later old new kept names.host are.host_is;
-  strings_are = strings-later old new kept names.strings are.strings_are;
+  host_is = two-later old new kept _ _ _ names.host are.host_is;
+  strings_are = two-later old new kept _ _ _ names.strings are.strings_are;
   ints_is = class-later old new kept names.ints _ are.ints_is;
 }

@@ -4,11 +4,12 @@ use Rattle.class_builder.specs.Mentioned.{Mentions, mentioned}
 use Rattle.constant_pool.specs.declared.entry.Entry.TheVariants.{FieldRef}
 use Rattle.guest_layout.specs.Fields.{field_name, field_descriptor}
 use Rattle.code_assembly.proofs.Pools.{extends-further}
-use Rattle.program_classes.proofs.ProgramNames.NamedLemmas.{class-later, members-later, host-later, strings-later, grown-further}
+use Rattle.program_classes.proofs.ProgramNames.NamedLemmas.{class-later, members-later, two-later, grown-further}
 use Rattle.program_classes.specs.Mentioned.{field_mentions, host_mentions, names_mentions, string_mentions}
 use Rattle.program_classes.proofs.ProgramNames.MentionLemmas.{mentions-all}
 use Rattle.program_classes.specs.Room.{can_name_class}
 use Rattle.program_classes.proofs.LawfulNames.CharacterLemmas.{main-named}
+use Rattle.program_classes.proofs.LawfulNames.MemberLemmas.{call-named, fault-named, length-named, character-named}
 use Rattle.program_classes.proofs.Rooms.CountLemmas.{class-there}
 use Rattle.program_classes.proofs.names.Names.new.Goals as goal
 
@@ -16,8 +17,8 @@ pub returns-clause-there : goal.returns-clause-there
 returns-clause-there c =
     let first = c.class_reference.new.class in
     let second = c.field_references.new.class in
-    let third = c.host_slots.new.class in
-    let fourth = c.string_slots.new.class in
+    let third = c.two_methods.new.class in
+    let fourth = c.two_methods-2.new.class in
     let fifth = c.class_reference-2.new.class in
     let from_fourth = c.in_ok-ints.ensures.grown.pool.kept in
     let from_third = extends-further third.pool fourth.pool fifth.pool c.in_ok-strings.ensures.grown.pool.kept from_fourth in
@@ -28,8 +29,8 @@ returns-clause-there c =
           subst (IsClassAt fifth.pool c.in_ok-main.main) c.as_str.ensures.value
           (class-later first.pool fifth.pool from_first c.in_ok-main.main _ c.in_ok-main.ensures.there);
       fields_are = members-later second.pool fifth.pool from_second FieldRef field_name field_descriptor c.in_ok-main.main c.in_ok-fields.fields.items 38 c.in_ok-fields.ensures.there;
-      host_is = host-later third.pool fifth.pool from_third c.in_ok-host.host c.in_ok-host.ensures.there;
-      strings_are = strings-later fourth.pool fifth.pool from_fourth c.in_ok-strings.strings c.in_ok-strings.ensures.there;
+      host_is = two-later third.pool fifth.pool from_third _ _ _ c.in_ok-host.host c.in_ok-host.ensures.there;
+      strings_are = two-later fourth.pool fifth.pool from_fourth _ _ _ c.in_ok-strings.strings c.in_ok-strings.ensures.there;
       ints_is = c.in_ok-ints.ensures.there;
     }
 
@@ -38,8 +39,8 @@ returns-clause-grown c =
     let start = c.args.class.now in
     let first = c.class_reference.new.class in
     let second = c.field_references.new.class in
-    let third = c.host_slots.new.class in
-    let fourth = c.string_slots.new.class in
+    let third = c.two_methods.new.class in
+    let fourth = c.two_methods-2.new.class in
     let fifth = c.class_reference-2.new.class in
     grown-further start fourth fifth 174 2
     (grown-further start third fourth 164 10
@@ -53,8 +54,8 @@ pub returns-clause-mentions : goal.returns-clause-mentions
 returns-clause-mentions c =
     let fifth = c.class_reference-2.new.class in
     subst (λ name. Mentions fifth.pool (mentioned c.args.class.now.pool ++ names_mentions name)) c.as_str.ensures.value
-    (mentions-all c.args.class.now.pool c.class_reference.new.class.pool c.field_references.new.class.pool c.host_slots.new.class.pool
-    c.string_slots.new.class.pool fifth.pool c.in_ok-main.main _ _ (λ owner. field_mentions owner 38) host_mentions
+    (mentions-all c.args.class.now.pool c.class_reference.new.class.pool c.field_references.new.class.pool c.two_methods.new.class.pool
+    c.two_methods-2.new.class.pool fifth.pool c.in_ok-main.main _ _ (λ owner. field_mentions owner 38) host_mentions
     string_mentions _ c.in_ok-main.ensures.mentions c.in_ok-main.ensures.there c.in_ok-fields.ensures.mentions
     c.in_ok-host.ensures.mentions c.in_ok-strings.ensures.mentions c.in_ok-ints.ensures.mentions)
 
@@ -68,12 +69,24 @@ field_references-requires-clause-room c = omega (arith, c.requires.room, c.in_ok
 pub field_references-requires-clause-owner : goal.field_references-requires-clause-owner
 field_references-requires-clause-owner c = class-there c.class_reference.new.class.pool c.in_ok-main.main _ c.in_ok-main.ensures.there
 
-pub host_slots-requires : goal.host_slots-requires
-host_slots-requires c =
+pub two_methods-requires-clause-room : goal.two_methods-requires-clause-room
+two_methods-requires-clause-room c =
     omega (arith, c.requires.room, c.in_ok-main.ensures.grown.pool.few, c.in_ok-fields.ensures.grown.pool.few)
 
-pub string_slots-requires : goal.string_slots-requires
-string_slots-requires c =
+pub two_methods-requires-clause-first : goal.two_methods-requires-clause-first
+two_methods-requires-clause-first c = call-named
+
+pub two_methods-requires-clause-second : goal.two_methods-requires-clause-second
+two_methods-requires-clause-second c = fault-named
+
+pub two_methods-requires-2-clause-first : goal.two_methods-requires-2-clause-first
+two_methods-requires-2-clause-first c = length-named
+
+pub two_methods-requires-2-clause-second : goal.two_methods-requires-2-clause-second
+two_methods-requires-2-clause-second c = character-named
+
+pub two_methods-requires-2-clause-room : goal.two_methods-requires-2-clause-room
+two_methods-requires-2-clause-room c =
     omega (
       arith,
       c.requires.room,
