@@ -11,7 +11,7 @@ use mips_decode::{LoadName, StoreName};
 
 impl Processor {
     /// LB to LWR.
-    #[inline]
+    #[inline(always)]
     #[tactic(auto, unfolding(crate::specs::Processor::processor_state))]
     pub(crate) fn load(&mut self, name: LoadName, rs: u8, rt: u8, imm: u16) -> Executed
         requires rs { rs < 32 }
@@ -40,7 +40,7 @@ impl Processor {
     }
 
     /// SB to SWR.
-    #[inline]
+    #[inline(always)]
     #[tactic(auto, unfolding(crate::specs::Processor::processor_state))]
     pub(crate) fn store(&mut self, name: StoreName, rs: u8, rt: u8, imm: u16) -> Executed
         requires rs { rs < 32 }
@@ -68,7 +68,7 @@ impl Processor {
     }
 
     /// The address of an access.
-    #[inline]
+    #[inline(always)]
     pub(crate) fn address(&self, rs: u8, imm: u16) -> u32
         requires { rs < 32 }
         ensures { result ≡ address_of (processor_state self.now) rs imm }
@@ -78,7 +78,7 @@ impl Processor {
 }
 
 /// Whether a load may be from an address.
-#[inline]
+#[inline(always)]
 pub(crate) fn is_load_aligned(name: LoadName, at: u32) -> bool
     ensures { result ≡ load_aligned name at }
 {
@@ -90,7 +90,7 @@ pub(crate) fn is_load_aligned(name: LoadName, at: u32) -> bool
 }
 
 /// Whether a store may be to an address.
-#[inline]
+#[inline(always)]
 pub(crate) fn is_store_aligned(name: StoreName, at: u32) -> bool
     ensures { result ≡ store_aligned name at }
 {

@@ -9,7 +9,7 @@ use mips_decode::{
 use nv_words::{signed, unsigned};
 
 /// The result of rs and rt, or None on signed overflow.
-#[inline]
+#[inline(always)]
 pub(crate) fn arithmetic(name: ArithmeticName, a: u32, b: u32) -> Option<u32>
     ensures { result ≡ manual.arithmetic_result name a b }
 {
@@ -27,7 +27,7 @@ pub(crate) fn arithmetic(name: ArithmeticName, a: u32, b: u32) -> Option<u32>
     }
 }
 
-#[inline]
+#[inline(always)]
 fn sum(a: u32, b: u32) -> Option<u32>
     ensures { result ≡ manual.arithmetic_result ArithmeticName.Add a b }
 {
@@ -37,7 +37,7 @@ fn sum(a: u32, b: u32) -> Option<u32>
     }
 }
 
-#[inline]
+#[inline(always)]
 fn difference(a: u32, b: u32) -> Option<u32>
     ensures { result ≡ manual.arithmetic_result ArithmeticName.Sub a b }
 {
@@ -48,7 +48,7 @@ fn difference(a: u32, b: u32) -> Option<u32>
 }
 
 /// The immediate, extended by its sign.
-#[inline]
+#[inline(always)]
 pub(crate) fn extended(imm: u16) -> u32
     ensures { result ≡ manual.sign_extended 16 imm }
 {
@@ -60,7 +60,7 @@ pub(crate) fn extended(imm: u16) -> u32
 }
 
 /// The result of rs and the signed immediate, or None on signed overflow.
-#[inline]
+#[inline(always)]
 pub(crate) fn arithmetic_immediate(name: ArithmeticImmediateName, a: u32, imm: u16) -> Option<u32>
     ensures { result ≡ manual.arithmetic_immediate_result name a imm }
 {
@@ -74,7 +74,7 @@ pub(crate) fn arithmetic_immediate(name: ArithmeticImmediateName, a: u32, imm: u
 }
 
 /// The result of rs and the unsigned immediate.
-#[inline]
+#[inline(always)]
 pub(crate) fn logical_immediate(name: LogicalImmediateName, a: u32, imm: u16) -> u32
     ensures { result ≡ manual.logical_immediate_result name a imm }
 {
@@ -86,7 +86,7 @@ pub(crate) fn logical_immediate(name: LogicalImmediateName, a: u32, imm: u16) ->
 }
 
 /// A word shifted by an amount.
-#[inline]
+#[inline(always)]
 pub(crate) fn shift(name: ShiftName, w: u32, amount: u32) -> u32
     requires { amount < 32 }
     ensures { result ≡ manual.shifted name w amount }
@@ -99,7 +99,7 @@ pub(crate) fn shift(name: ShiftName, w: u32, amount: u32) -> u32
 }
 
 /// A word shifted by the low five bits of another.
-#[inline]
+#[inline(always)]
 pub(crate) fn variable_shift(name: VariableShiftName, w: u32, by: u32) -> u32
     ensures { result ≡ manual.variable_shifted name w by }
 {
@@ -111,7 +111,7 @@ pub(crate) fn variable_shift(name: VariableShiftName, w: u32, by: u32) -> u32
 }
 
 /// HI and LO of a product, or of a quotient and its remainder.
-#[inline]
+#[inline(always)]
 pub(crate) fn product(name: ProductName, a: u32, b: u32) -> (u32, u32)
     ensures hi { result.0 ≡ manual.product_hi name a b }
     ensures lo { result.1 ≡ manual.product_lo name a b }
@@ -129,7 +129,7 @@ pub(crate) fn product(name: ProductName, a: u32, b: u32) -> (u32, u32)
 }
 
 /// The upper and the lower half.
-#[inline]
+#[inline(always)]
 fn halves(n: u64) -> (u32, u32)
     ensures upper { result.0 ≡ n / 2 ^ 32 }
     ensures lower { result.1 ≡ n % 2 ^ 32 }
@@ -138,7 +138,7 @@ fn halves(n: u64) -> (u32, u32)
 }
 
 /// The remainder and the quotient, truncated toward zero.
-#[inline]
+#[inline(always)]
 fn signed_quotient(a: u32, b: u32) -> (u32, u32)
     requires { 0 < b }
     ensures hi { result.0 ≡ manual.product_hi ProductName.Div a b }

@@ -12,7 +12,7 @@ use nv_words::signed;
 
 impl Processor {
     /// BEQ to BNEL.
-    #[inline]
+    #[inline(always)]
     pub(crate) fn branch_equal(&self, name: BranchEqualName, rs: u8, rt: u8, imm: u16) -> Executed
         requires rs { rs < 32 }
         requires rt { rt < 32 }
@@ -30,7 +30,7 @@ impl Processor {
     }
 
     /// BLEZ to BGTZL.
-    #[inline]
+    #[inline(always)]
     pub(crate) fn branch_zero(&self, name: BranchZeroName, rs: u8, imm: u16) -> Executed
         requires { rs < 32 }
         ensures effect { effect_of result (processor_state self.now)
@@ -47,7 +47,7 @@ impl Processor {
     }
 
     /// BLTZ to BGEZALL.
-    #[inline]
+    #[inline(always)]
     pub(crate) fn branch_sign(&self, name: BranchSignName, rs: u8, imm: u16) -> Executed
         requires { rs < 32 }
         ensures effect { effect_of result (processor_state self.now)
@@ -68,7 +68,7 @@ impl Processor {
     }
 
     /// J, JAL.
-    #[inline]
+    #[inline(always)]
     pub(crate) fn jump(&self, name: JumpName, index: u32) -> Executed
         requires { index < 2 ^ 26 }
         ensures effect { effect_of result (processor_state self.now)
@@ -84,7 +84,7 @@ impl Processor {
     }
 
     /// JR.
-    #[inline]
+    #[inline(always)]
     pub(crate) fn jump_register(&self, rs: u8) -> Executed
         requires { rs < 32 }
         ensures effect { effect_of result (processor_state self.now)
@@ -96,7 +96,7 @@ impl Processor {
     }
 
     /// JALR.
-    #[inline]
+    #[inline(always)]
     pub(crate) fn jump_and_link_register(&self, rs: u8, rd: u8) -> Executed
         requires rs { rs < 32 }
         requires rd { rd < 32 }
@@ -110,7 +110,7 @@ impl Processor {
     }
 
     /// A branch to its target where it is taken, and else past its slot.
-    #[inline]
+    #[inline(always)]
     fn branch(&self, taken: bool, imm: u16, link: Option<u8>) -> Executed
         ensures { result
             ≡ Executed.Branch (manual.taken_or_not (processor_state self.now) taken imm) link }
@@ -124,7 +124,7 @@ impl Processor {
     }
 
     /// A likely branch to its target where it is taken, and else past its slot, which is not done.
-    #[inline]
+    #[inline(always)]
     fn branch_likely(&self, taken: bool, imm: u16, link: Option<u8>) -> Executed
         requires { IsRegister link }
         ensures effect { effect_of result (processor_state self.now)
@@ -141,7 +141,7 @@ impl Processor {
     }
 
     /// The address of the instruction.
-    #[inline]
+    #[inline(always)]
     #[tactic(auto, unfolding(crate::specs::Processor::processor_state))]
     pub(crate) fn pc(&self) -> u32
         ensures { result ≡ (processor_state self.now).pc }

@@ -17,7 +17,7 @@ use mips_decode::{
 
 impl Processor {
     /// ADD to SLTU.
-    #[inline]
+    #[inline(always)]
     pub(crate) fn arithmetic(
         &mut self,
         name: ArithmeticName,
@@ -40,7 +40,7 @@ impl Processor {
     }
 
     /// ADDI to SLTIU.
-    #[inline]
+    #[inline(always)]
     pub(crate) fn arithmetic_immediate(
         &mut self,
         name: ArithmeticImmediateName,
@@ -62,7 +62,7 @@ impl Processor {
     }
 
     /// ANDI, ORI, XORI.
-    #[inline]
+    #[inline(always)]
     pub(crate) fn logical_immediate(
         &mut self,
         name: LogicalImmediateName,
@@ -83,7 +83,7 @@ impl Processor {
     }
 
     /// LUI.
-    #[inline]
+    #[inline(always)]
     pub(crate) fn load_upper(&mut self, rt: u8, imm: u16) -> Executed
         requires { rt < 32 }
         ensures effect { effect_of result (processor_state self.new)
@@ -95,7 +95,7 @@ impl Processor {
     }
 
     /// SLL, SRL, SRA.
-    #[inline]
+    #[inline(always)]
     pub(crate) fn shift(&mut self, name: ShiftName, rt: u8, rd: u8, sa: u8) -> Executed
         requires rt { rt < 32 }
         requires rd { rd < 32 }
@@ -111,7 +111,7 @@ impl Processor {
     }
 
     /// SLLV, SRLV, SRAV.
-    #[inline]
+    #[inline(always)]
     pub(crate) fn variable_shift(
         &mut self,
         name: VariableShiftName,
@@ -134,7 +134,7 @@ impl Processor {
     }
 
     /// MULT to DIVU.
-    #[inline]
+    #[inline(always)]
     #[tactic(auto, unfolding(crate::specs::Processor::processor_state))]
     pub(crate) fn product(&mut self, name: ProductName, rs: u8, rt: u8) -> Executed
         requires rs { rs < 32 }
@@ -156,7 +156,7 @@ impl Processor {
     }
 
     /// MFHI, MFLO.
-    #[inline]
+    #[inline(always)]
     #[tactic(auto, unfolding(crate::specs::Processor::processor_state))]
     pub(crate) fn move_from(&mut self, name: HiLo, rd: u8) -> Executed
         requires { rd < 32 }
@@ -172,7 +172,7 @@ impl Processor {
     }
 
     /// MTHI, MTLO.
-    #[inline]
+    #[inline(always)]
     #[tactic(auto, unfolding(crate::specs::Processor::processor_state))]
     pub(crate) fn move_to(&mut self, name: HiLo, rs: u8) -> Executed
         requires { rs < 32 }
@@ -189,7 +189,7 @@ impl Processor {
     }
 
     /// A result goes to a register, and want of one is an overflow.
-    #[inline]
+    #[inline(always)]
     fn take(&mut self, r: u8, computed: Option<u32>, word: u32) -> Executed
         requires { r < 32 }
         ensures effect { effect_of result (processor_state self.new)

@@ -11,7 +11,7 @@ use mips_decode::fault_kinds::{BREAK, RESERVED};
 
 impl Processor {
     /// Executes an instruction, which stands in the given word.
-    #[inline]
+    #[inline(always)]
     pub(crate) fn execute(&mut self, inst: Inst, word: u32) -> Executed
         requires { HasFields inst }
         ensures effect { effect_of result (processor_state self.new)
