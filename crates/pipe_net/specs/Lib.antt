@@ -1,0 +1,10 @@
+pub mod Ports
+pub mod Executing
+pub mod Settling
+pub mod Views
+pub mod Moving
+pub mod Adding
+pub mod Showing
+pub mod Turning
+pub mod Histories
+pub mod Laws
