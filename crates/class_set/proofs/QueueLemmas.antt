@@ -9,7 +9,7 @@ use Rattle.indexmap.specs.IndexSet.{insert_key}
 use Rattle.nv_outside.specs.Files.{Files}
 use Rattle.constant_pool.specs.declared.entry.Entry.{Entry}
 use Rattle.class_set.specs.ClassSets.{asked_in, file_of, is_among, Found, found_or, next}
-use Rattle.class_set.specs.Waiting.{fresh, texts, Queue, queue, IsOnce, file_found}
+use Rattle.class_set.specs.Waiting.{fresh, texts, last_of, Queue, queue, IsOnce, file_found}
 use Rattle.class_set.proofs.WaitingLemmas.{fresh-append, fresh-fresh, fresh-head, next-first, next-none}
 
 abbrev Names : Type 0
@@ -29,6 +29,17 @@ splits names i name at =
       front = take_more names i [] lt ∙ ap (λ n. take i names ++ n ∷ []) here;
       behind = drop_more names i [] lt ∙ ap (λ n. n ∷ drop (i + 1) names) here;
     }
+
+-- the last name that was asked for
+last-push : (names : Names) (name : List ℕ) → last_of (names ++ name ∷ []) ≡ name
+last-push [] name = refl
+last-push (n ∷ []) name = refl
+last-push (n ∷ m ∷ names) name = last-push (m ∷ names) name
+
+pub last_asked_is : (names : List (String Global)) (i : ℕ) (name : String Global) → slice_get names i ≡ Some name → last_of (take (i + 1) (texts names)) ≡ string_bytes name
+last_asked_is names i name at =
+    ap last_of (splits (texts names) i (string_bytes name) (slice_get-map string_bytes names i ∙ ap (option_map string_bytes) at)).front
+    ∙ last-push (take i (texts names)) (string_bytes name)
 
 pub once_more : (names : Names) (i : ℕ) (name : List ℕ) → slice_get names i ≡ Some name → IsOnce (queue i names) → (is_among (take i names) name ≡ false) × IsOnce (queue (i + 1) names)
 once_more names i name at once =

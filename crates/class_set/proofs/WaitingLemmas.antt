@@ -57,10 +57,10 @@ fresh-head known n ns = by (is_among known n)
 
 -- ---- the next file
 
-abbrev refreshed : Found → Found
+abbrev pub refreshed : Found → Found
 refreshed f = record f { waiting = fresh f.asked f.waiting }
 
-next-fresh : (files : Files) (asked ns : Names) → next files asked (fresh asked ns) ≡ option_map refreshed (next files asked ns)
+pub next-fresh : (files : Files) (asked ns : Names) → next files asked (fresh asked ns) ≡ option_map refreshed (next files asked ns)
 unfolding next
 next-fresh files asked [] = refl
 next-fresh files asked (n ∷ ns) = by (next-fresh files asked ns) (next-fresh files (asked ++ n ∷ []) ns) (is_among asked n) refl
@@ -81,7 +81,7 @@ next-fresh files asked (n ∷ ns) = by (next-fresh files asked ns) (next-fresh f
 
 -- ---- the set
 
-fresh-more : (asked ns ms : Names) → fresh asked (fresh asked ns ++ ms) ≡ fresh asked (ns ++ ms)
+pub fresh-more : (asked ns ms : Names) → fresh asked (fresh asked ns ++ ms) ≡ fresh asked (ns ++ ms)
 fresh-more asked ns ms =
     fresh-append asked (fresh asked ns) ms ∙ ap (λ l. l ++ fresh (asked ++ l) ms) (fresh-fresh asked ns) ∙ sym (fresh-append asked ns ms)
 

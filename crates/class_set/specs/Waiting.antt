@@ -22,6 +22,12 @@ texts names = map string_bytes names
 abbrev pub queue : ℕ → List (List ℕ) → Queue
 queue n names = record { asked = take n names; waiting = drop n names }
 
+-- the last of names: of those that were asked for, the one by which a file was found
+abbrev pub last_of : List (List ℕ) → List ℕ
+last_of [] = []
+last_of (name ∷ []) = name
+last_of (name ∷ other ∷ names) = last_of (other ∷ names)
+
 -- no name that waits was asked for, or waits twice
 abbrev pub IsOnce : Queue → Type 0
 IsOnce q = fresh q.asked q.waiting ≡ q.waiting

@@ -10,4 +10,5 @@ mod reading;
 
 pub use load::load_set;
 pub use loaded::Loaded;
+pub use names::Names;
 pub use reading::class_file;

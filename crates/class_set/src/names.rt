@@ -3,7 +3,7 @@ ghost use Rattle.nv_outside.specs.Faults.{CountsFailure, shelf_failed};
 ghost use Rattle.nv_outside.specs.Files.{SameFiles};
 ghost use Rattle.name_resolution.specs.Kept.{IsClass};
 ghost use Rattle.class_set.specs.ClassSets.{names_asked};
-ghost use Rattle.class_set.specs.Waiting.{fresh, GivesFile, IsOnce};
+ghost use Rattle.class_set.specs.Waiting.{fresh, GivesFile, IsOnce, last_of};
 
 use crate::asked::{asked_name, plain_text};
 use crate::reading::load_file;
@@ -66,6 +66,17 @@ impl Names {
             }
         }
         Ok(None)
+    }
+
+    /// The last name that was asked for: after [`next_file`](Names::next_file) found a file, that by which it was found. It is empty
+    /// where none was asked for.
+    pub fn last_asked(&self) -> &str
+        ensures { result.now ≡ last_of self.now.asked }
+    {
+        match self.asked.checked_sub(1) {
+            Some(last) => self.names[last].as_str(),
+            None => "",
+        }
     }
 
     /// Puts the names that a class asks for behind the others, where they are not there.

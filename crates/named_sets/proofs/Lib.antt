@@ -1,0 +1,4 @@
+pub mod ReadLemmas
+pub mod SetLemmas
+pub mod PlainLaws
+pub mod KeptLaws

@@ -1,0 +1,3 @@
+pub mod NamedSets
+pub mod Plain
+pub mod Kept
