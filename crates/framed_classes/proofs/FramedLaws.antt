@@ -23,7 +23,9 @@ use Rattle.jvm_program.specs.declared.linked_method.LinkedMethod.{LinkedMethod}
 use Rattle.jvm_program.specs.Program.{LaidFrom, line_in}
 use Rattle.jvm_program.specs.Typing.{AllTyped}
 use Rattle.jvm_link.specs.Linking.{gives_int, linked_method, methods_from, linked_methods, program_of}
+use Rattle.type_inference.specs.declared.frame.Frame.{Frame}
 use Rattle.type_verifier.specs.Refusal.{methods_before}
+use Rattle.type_verifier.specs.Typings.{IsListed}
 use Rattle.frame_maps.specs.Checked.{IsTyped, HaveTables, AreTyped}
 use Rattle.alike_programs.specs.Alike.{IsAlike}
 use Rattle.class_builder.proofs.Classes.{class-parts, fit_all}
@@ -161,7 +163,7 @@ tables-at cs ds number [] (y ∷ ys) ts h k d is = absurd h
 tables-at cs ds number (x ∷ xs) [] ts h k d is = absurd h
 tables-at cs ds number (x ∷ xs) (y ∷ ys) [] h k d is = absurd h
 
-table-count : (cs ds : List Class) (number : ℕ) (c d : Class) (ms ns : List Method) (ts : List (List ℕ)) → AreTablesFor cs ds number c d ms ns ts → length ts ≡ length ns
+pub table-count : (cs ds : List Class) (number : ℕ) (c d : Class) (ms ns : List Method) (ts : List (List ℕ)) → AreTablesFor cs ds number c d ms ns ts → length ts ≡ length ns
 table-count cs ds number c d (m ∷ ms) (n ∷ ns) (t ∷ ts) h = ap suc (table-count cs ds number c d ms ns ts h.1)
 table-count cs ds number c d [] [] [] h = refl
 table-count cs ds number c d [] [] (t ∷ ts) h = absurd h
@@ -169,7 +171,7 @@ table-count cs ds number c d [] (n ∷ ns) ts h = absurd h
 table-count cs ds number c d (m ∷ ms) [] ts h = absurd h
 table-count cs ds number c d (m ∷ ms) (n ∷ ns) [] h = absurd h
 
-lists-count : (cs ds : List Class) (number : ℕ) (xs ys : List Class) (ts : List (List (List ℕ))) → AreTablesFrom cs ds number xs ys ts → length ts ≡ length ys
+pub lists-count : (cs ds : List Class) (number : ℕ) (xs ys : List Class) (ts : List (List (List ℕ))) → AreTablesFrom cs ds number xs ys ts → length ts ≡ length ys
 lists-count cs ds number (x ∷ xs) (y ∷ ys) (t ∷ ts) h = ap suc (lists-count cs ds (suc number) xs ys ts h.1)
 lists-count cs ds number [] [] [] h = refl
 lists-count cs ds number [] [] (t ∷ ts) h = absurd h
@@ -178,7 +180,7 @@ lists-count cs ds number (x ∷ xs) [] ts h = absurd h
 lists-count cs ds number (x ∷ xs) (y ∷ ys) [] h = absurd h
 
 -- the class at a place is framed
-framed-at : (cs : List Class) (number : ℕ) (xs ys : List Class) → AreFramedFrom cs number xs ys → (k : ℕ) (c d : Class) → slice_get xs k ≡ Some c → slice_get ys k ≡ Some d → IsFramed cs (number + k) c d
+pub framed-at : (cs : List Class) (number : ℕ) (xs ys : List Class) → AreFramedFrom cs number xs ys → (k : ℕ) (c d : Class) → slice_get xs k ≡ Some c → slice_get ys k ≡ Some d → IsFramed cs (number + k) c d
 framed-at cs number [] ys f k c d is there = absurd (none-some c is)
 framed-at cs number (x ∷ xs) [] f k c d is there = absurd f
 framed-at cs number (x ∷ xs) (y ∷ ys) f zero c d is there =
@@ -197,16 +199,37 @@ linked-at cs ds all number c d (x ∷ ms) (y ∷ ns) z zero m n is there =
     (subst (λ b. AreLinked cs ds all (linked_method cs number c x) (linked_method ds number d b)) (same_Some y n there) z.0)
 linked-at cs ds all number c d (x ∷ ms) (y ∷ ns) z (suc k) m n is there = linked-at cs ds all number c d ms ns z.1 k m n is there
 
-get-of : {A : Type 0} (xs : List A) (k : ℕ) → k < length xs → (x : A) × (slice_get xs k ≡ Some x)
+pub get-of : {A : Type 0} (xs : List A) (k : ℕ) → k < length xs → (x : A) × (slice_get xs k ≡ Some x)
 get-of [] k h = absurd (omega (arith, h))
 get-of (x ∷ xs) zero h = (x, refl)
 get-of (x ∷ xs) (suc k) h = get-of xs k (omega (arith, h))
 
-like-get : (xs ys : List Class) → AreLike xs ys → (k : ℕ) (c d : Class) → slice_get xs k ≡ Some c → slice_get ys k ≡ Some d → IsLike c d
+pub like-get : (xs ys : List Class) → AreLike xs ys → (k : ℕ) (c d : Class) → slice_get xs k ≡ Some c → slice_get ys k ≡ Some d → IsLike c d
 like-get [] ys l k c d is there = absurd (none-some c is)
 like-get (x ∷ xs) [] l k c d is there = absurd l
 like-get (x ∷ xs) (y ∷ ys) l zero c d is there = subst (λ a. IsLike a d) (same_Some x c is) (subst (IsLike x) (same_Some y d there) l.0)
 like-get (x ∷ xs) (y ∷ ys) l (suc k) c d is there = like-get xs ys l.1 k c d is there
+
+-- a method and what became of it, and the frames of its least typing
+pub method-ready : (cs ds : List Class) → AllFit cs → AreFramed cs ds → (number : ℕ) (c d : Class) → slice_get cs number ≡ Some c → IsLike c d → IsFramed cs number c d → (i : ℕ) (m n : Method) → slice_get c.methods i ≡ Some m → slice_get d.methods i ≡ Some n → (reached : List (ℕ × Frame)) → IsListed (program_of cs) (linked_method cs number c m) reached → IsReady (program_of cs) (program_of ds) (linked_method cs number c m) (linked_method ds number d n) reached
+method-ready cs ds kept f number c d is lk fr i m n m-is n-is reached listed =
+    let l = like cs ds kept f in
+    let z = zipped cs ds kept f in
+    let pairs = class-zip cs ds l number c d is lk c.methods d.methods fr.methods (class-parts c lk.fits).methods_fit in
+    let pair = linked-at cs ds l number c d c.methods d.methods pairs i m n m-is n-is in
+    let old = linked_method cs number c m in
+    let new = linked_method ds number d n in
+    let ready = linked-ready cs ds l z old new pair in
+    record {
+      listed = listed;
+      laid = subst (λ x. LaidFrom 0 x.lines) (sym pair.before_is) ready.laid;
+      is = subst (λ x. IsPruned x (linked_method ds number d n)) (sym pair.before_is) (subst (IsPruned (linked_method cs pair.number pair.class pair.method)) (sym pair.after_is) ready.is);
+      effects = ready.effects;
+      parameters = ap (λ x. has_no_long x.parameters) pair.before_is ∙ ready.parameters;
+      near = λ at line e. ready.near at line (ap (λ x. line_in x.lines at) (sym pair.after_is) ∙ e);
+      few_locals = omega (arith, ready.few_locals, ap (λ x. x.locals) pair.after_is);
+      few_stack = omega (arith, ready.few_stack, ap (λ x. x.stack) pair.after_is);
+    }
 
 module _ (cs ds : List Class) (kept : AllFit cs) (f : AreFramed cs ds) (ts : List (List (List ℕ))) (tables : AreTables cs ds ts) where
   pub have-tables : HaveTables ds ts
@@ -222,27 +245,12 @@ module _ (cs ds : List Class) (kept : AllFit cs) (f : AreFramed cs ds) (ts : Lis
       let zero-plus : 0 + k ≡ k = omega arith in
       let n = get-of d.methods m inside in
       let t = table-at cs ds (0 + k) c d c.methods d.methods (get_or ts k []) r.2 m n.0 n.1 in
-      let l = like cs ds kept f in
-      let z = zipped cs ds kept f in
       let fr = framed-at cs 0 cs ds f k c d r.1 is in
-      let lk = like-get cs ds l k c d r.1 is in
-      let pairs = class-zip cs ds l (0 + k) c d (ap (slice_get cs) zero-plus ∙ r.1) lk c.methods d.methods fr.methods (class-parts c lk.fits).methods_fit in
-      let pair = linked-at cs ds l (0 + k) c d c.methods d.methods pairs m t.0 n.0 t.1 n.1 in
-      let old = linked_method cs (0 + k) c t.0 in
+      let lk = like-get cs ds (like cs ds kept f) k c d r.1 is in
       let new = linked_method ds (0 + k) d n.0 in
-      let ready = linked-ready cs ds l z old new pair in
       let place : slice_get (linked_methods ds) (methods_before ds k + m) ≡ Some (linked_method ds (0 + k) d n.0) = place-from ds 0 ds k d m n.0 is n.1 in
       let same : linked_method ds (0 + k) d n.0 ≡ method = same_Some new method (sym place ∙ method-is) in
-      let own : IsReady (program_of cs) (program_of ds) (linked_method cs (0 + k) c t.0) (linked_method ds (0 + k) d n.0) t.2.reached = record {
-        listed = t.2.listed;
-        laid = subst (λ x. LaidFrom 0 x.lines) (sym pair.before_is) ready.laid;
-        is = subst (λ x. IsPruned x (linked_method ds (0 + k) d n.0)) (sym pair.before_is) (subst (IsPruned (linked_method cs pair.number pair.class pair.method)) (sym pair.after_is) ready.is);
-        effects = ready.effects;
-        parameters = ap (λ x. has_no_long x.parameters) pair.before_is ∙ ready.parameters;
-        near = λ at line e. ready.near at line (ap (λ x. line_in x.lines at) (sym pair.after_is) ∙ e);
-        few_locals = omega (arith, ready.few_locals, ap (λ x. x.locals) pair.after_is);
-        few_stack = omega (arith, ready.few_stack, ap (λ x. x.stack) pair.after_is);
-      } in
+      let own = method-ready cs ds kept f (0 + k) c d (ap (slice_get cs) zero-plus ∙ r.1) lk fr m t.0 n.0 t.1 n.1 t.2.reached t.2.listed in
       subst (λ x. IsTyped (program_of ds) d.pool x (get_or (get_or ts k []) m [])) same
       (ready-typed (program_of cs) (program_of ds) (linked_method cs (0 + k) c t.0) (linked_method ds (0 + k) d n.0) t.2.reached own d.pool (get_or (get_or ts k []) m []) t.2.is)
 

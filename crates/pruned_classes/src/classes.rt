@@ -47,8 +47,8 @@ fn add(classes: &mut Vec<Class>, class: Class) -> Result<(), AllocError>
     Ok(())
 }
 
-// The number of the method behind those of a class, the first of which has a number.
-fn behind(first: usize, class: &Class, count: usize) -> usize
+/// The number of the method behind those of a class, the first of which has a number.
+pub fn behind(first: usize, class: &Class, count: usize) -> usize
     requires { first + length class.now.methods ≤ count }
     ensures { result ≡ first + length class.now.methods }
 {

@@ -4,4 +4,5 @@
 mod classes;
 mod methods;
 
-pub use classes::pruned_classes;
+pub use classes::{behind, pruned_classes};
+pub use methods::number_of;

@@ -1,0 +1,40 @@
+-- Why classes have no tables: a pool has too few slots, or a file is too large.
+use Rattle.std.specs.Prelude.{◌≡◌, ℕ, List, map}
+use Rattle.jvm_code.specs.declared.class.Class.{Class}
+use Rattle.framed_class_file.specs.declared.framed_class.FramedClass.{FramedClass}
+use Rattle.framed_class_file.specs.FramedClassFile.{IsTabled}
+use Rattle.name_resolution.specs.Kept.{IsClass}
+use Rattle.frame_maps.specs.declared.frame_error.FrameError.{FrameError}
+use Rattle.frame_maps.specs.declared.frame_error.FrameError.TheVariants.{Refused, TooLarge, NoMemory}
+use Rattle.pruned_classes.specs.Full.{IsFull}
+use Rattle.framed_classes.specs.Framed.{AreFramed, AreTables}
+use Rattle.framing.specs.Sizes.{IsFirstLarge}
+
+abbrev pub class_of : FramedClass → Class
+class_of f = f.class
+
+abbrev pub tables_of : FramedClass → List (List ℕ)
+tables_of f = f.tables
+
+-- classes with their tables
+pub record AreWithTables (classes : List Class) (framed : List FramedClass) : Type 0 where
+  pub are : AreFramed classes (map class_of framed)
+  pub tabled : AreTables classes (map class_of framed) (map tables_of framed)
+
+-- such a class can be written
+pub record IsWritable (f : FramedClass) : Type 0 where
+  pub class : IsClass f.class
+  pub tabled : IsTabled f
+
+-- the file of a class with its tables is too large, and that of none before it
+pub record IsTooLarge (classes : List Class) (class bytes : ℕ) : Type 0 where
+  pub framed : List FramedClass
+  pub are : AreWithTables classes framed
+  pub large : IsFirstLarge framed class bytes
+
+-- want of memory may come anywhere
+abbrev pub IsRefusal : List Class → FrameError → Type 0
+IsRefusal classes (Refused fault) = (fault.kind ≡ 3) × (fault.method ≡ 0)
+    × IsFull classes fault.class
+IsRefusal classes (TooLarge class bytes) = IsTooLarge classes class bytes
+IsRefusal classes NoMemory = Unit {0}
