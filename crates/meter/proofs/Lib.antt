@@ -1,0 +1,2 @@
+pub mod GuardForms
+pub mod GuardSizes

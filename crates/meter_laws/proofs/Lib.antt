@@ -1,0 +1,3 @@
+pub mod CountedCode
+pub mod UnitGuards
+pub mod GuardCounts
