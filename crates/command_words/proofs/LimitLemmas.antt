@@ -9,12 +9,13 @@ use Rattle.command_values.specs.Ranges.{lies_in}
 use Rattle.command_values.specs.Names.{Text}
 use Rattle.command_words.specs.Given.{given_in, value_in}
 use Rattle.command_words.specs.Values.{all_different, are_arguments, are_file_names, has_zero, is_file_name, is_symbol_name, is_number, names_in, names_of, number_in, number_or}
-use Rattle.command_words.specs.Meaning.{Value, entry_in, formed_words, inputs_in, linked_from, plain_words, symbol_name, arguments_in, class_in, class_steps, command_after, disk_in, guest_steps, has_end, input_in, made, maker_of, method_bytes_in, name_in, name_list_in, pages_in, region_words_in, session_in, stack_in, heap_in, steps_in, takes_arguments, form_of, before_end, after_end}
+use Rattle.command_words.specs.Meaning.{Value, class_of, classes_in, classes_of, entry_in, formed_words, inputs_in, linked_from, plain_words, symbol_name, arguments_in, class_in, class_steps, command_after, disk_in, guest_steps, has_end, input_in, made, maker_of, method_bytes_in, name_in, name_list_in, pages_in, pipe_bytes_in, region_words_in, session_in, stack_in, heap_in, steps_in, takes_arguments, form_of, before_end, after_end}
 use Rattle.command_words.specs.Answers.{Reads}
 use Rattle.std.specs.Option.{option_map_or}
 use Rattle.command_words.specs.declared.named.Named.{Named}
+use Rattle.command_words.specs.declared.named_class.NamedClass.{NamedClass}
 use Rattle.command_words.specs.declared.words_error.WordsError.{WordsError}
-use Rattle.command_words.specs.Limits.{AreFileNames, AreInputs, ArePages, IsFileName, IsSession, IsWithinLimits}
+use Rattle.command_words.specs.Limits.{AreFileNames, AreInputs, ArePages, AreStages, IsFileName, IsSession, IsWithinLimits}
 use Rattle.command_words.specs.declared.command.Command.{Command}
 use Rattle.command_words.specs.declared.command_name.CommandName.{CommandName}
 use Rattle.command_words.specs.declared.command_name.CommandName.TheVariants as name
@@ -28,6 +29,10 @@ through (Some x) f P Q p h = h x p
 mapped : {A B : Type 0} (o : Option A) (f : A → B) (P : A → Type 0) (Q : B → Type 0) → IfSome o P → ((x : A) → P x → Q (f x)) → IfSome (option_map f o) Q
 mapped None f P Q p h = tt
 mapped (Some x) f P Q p h = h x p
+
+held : {A : Type 0} (o : Option A) (P Q : A → Type 0) → IfSome o P → ((x : A) → P x → Q x) → IfSome o Q
+held None P Q p h = tt
+held (Some x) P Q p h = h x p
 
 always : {A : Type 0} (o : Option A) → IfSome o (λ _. ⊤)
 always None = tt
@@ -123,6 +128,23 @@ linked_limits value (output ∷ inputs) =
     through (inputs_in inputs) _ AreInputs IsWithinLimits (inputs_limits inputs) (λ files f.
     mapped (entry_in value) _ IsFileName IsWithinLimits (entry_limits value) (λ entry e. (f, e)))
 
+-- all words that name classes do so, each one
+classes_count : (words : List Named) → IfSome (classes_of words) (λ classes. length classes ≡ length words)
+classes_count [] = refl
+classes_count (word ∷ others) =
+    through (class_of word) _ (λ _. ⊤) (λ classes. length classes ≡ length (word ∷ others)) (always _) (λ class _.
+    mapped (classes_of others) _ (λ classes. length classes ≡ length others) (λ classes. length classes ≡ length (word ∷ others)) (classes_count others) (λ classes e. omega (arith, e)))
+
+stages_limits : (words : List Named) → IfSome (classes_in words) AreStages
+stages_limits words = go (lies_in 2 8 (length words)) refl
+  where
+    go : (b : Bool) → lies_in 2 8 (length words) ≡ b → IfSome (cond b (classes_of words) None) AreStages
+    go true e =
+        let bounds = in_range 2 8 (length words) e in
+        held (classes_of words) (λ classes. length classes ≡ length words) AreStages (classes_count words)
+        (λ classes count. record { several = omega (arith, count, bounds.0); few = omega (arith, count, bounds.1) })
+    go false e = tt
+
 maker_limits : (command : CommandName) (words : List Text) (value : Value) (arguments : List Text) → IfSome (maker_of command words value arguments) IsWithinLimits
 maker_limits name.Go words value arguments =
     through (input_in words (codes "IN") value) _ (λ _. ⊤) IsWithinLimits (always _) (λ input _.
@@ -145,6 +167,8 @@ maker_limits name.Run words value arguments =
     through (region_words_in value) _ (λ _. ⊤) IsWithinLimits (always _) (λ region _.
     mapped (session_in class_steps words value arguments) _ (IsSession class_steps) IsWithinLimits (session_limits class_steps words value arguments) (λ session s. s)))
 maker_limits name.Verify words value arguments = mapped (class_in words value) _ (λ _. ⊤) IsWithinLimits (always _) (λ class _. tt)
+maker_limits name.Frames words value arguments = mapped (class_in words value) _ (λ _. ⊤) IsWithinLimits (always _) (λ class _. tt)
+maker_limits name.Check words value arguments = mapped (class_in words value) _ (λ _. ⊤) IsWithinLimits (always _) (λ class _. tt)
 maker_limits name.Asm words value arguments =
     through (input_in words (codes "IN") value) _ (λ _. ⊤) IsWithinLimits (always _) (λ input _.
     mapped (value (codes "OUT")) _ (λ _. ⊤) IsWithinLimits (always _) (λ output _. tt))
@@ -154,6 +178,12 @@ maker_limits name.Make words value arguments =
     (through (value (codes "N")) (number_in 1 65536) (λ _. ⊤) (λ n. (1 ≤ n) × (n ≤ 65536)) (always _) (λ text _. number_limits 1 65536 text)) (λ count c.
     mapped (method_bytes_in value) _ (λ _. ⊤) IsWithinLimits (always _) (λ bytes _. c))
 maker_limits name.Link words value arguments = linked_limits value (plain_words false 0 words)
+maker_limits name.Pipe words value arguments =
+    through (classes_in (plain_words false 0 words)) _ AreStages IsWithinLimits (stages_limits (plain_words false 0 words)) (λ classes c.
+    through (region_words_in value) _ (λ _. ⊤) IsWithinLimits (always _) (λ region _.
+    through (steps_in class_steps value) _ (λ n. (0 ≤ n) × (n ≤ class_steps)) IsWithinLimits (option_limits 0 class_steps class_steps (value (codes "steps")) (omega arith) (omega arith)) (λ steps s.
+    through (disk_in value) _ (λ n. (0 ≤ n) × (n ≤ 65536)) IsWithinLimits (option_limits 0 65536 1024 (value (codes "disk")) (omega arith) (omega arith)) (λ disk d.
+    mapped (pipe_bytes_in value) _ (λ _. ⊤) IsWithinLimits (always _) (λ bytes _. (c, s.1, d.1))))))
 
 -- a command that words mean is within the limits
 pub within_limits : (name : CommandName) (words : List Text) (command : Command) → command_after name words ≡ Some command → IsWithinLimits command

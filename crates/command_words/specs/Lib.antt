@@ -1,4 +1,5 @@
 pub mod Word
+pub mod PipeBytes
 pub mod Given
 pub mod Values
 pub mod Meaning

@@ -5,8 +5,9 @@ use Rattle.command_values.specs.Names.{Text}
 use Rattle.command_words.specs.Values.{all_different, has_zero}
 use Rattle.command_words.specs.Meaning.{class_steps, guest_steps}
 use Rattle.command_words.specs.declared.command.Command.{Command}
-use Rattle.command_words.specs.declared.command.Command.TheVariants.{Go, Translate, Interp, Run, Verify, Asm, List as ListIn, Make, Link}
+use Rattle.command_words.specs.declared.command.Command.TheVariants.{Go, Translate, Interp, Run, Verify, Frames, Check, Asm, List as ListIn, Make, Link, Pipe}
 use Rattle.command_words.specs.declared.named.Named.{Named}
+use Rattle.command_words.specs.declared.named_class.NamedClass.{NamedClass}
 use Rattle.command_words.specs.declared.pages.Pages.{Pages}
 use Rattle.command_words.specs.declared.session.Session.{Session}
 
@@ -38,6 +39,11 @@ pub record AreInputs (inputs : List Named) : Type 0 where
   pub some : 1 ≤ length inputs
   pub few : length inputs ≤ 256
 
+-- classes of a pipeline
+pub record AreStages (classes : List NamedClass) : Type 0 where
+  pub several : 2 ≤ length classes
+  pub few : length classes ≤ 8
+
 abbrev pub IsWithinLimits : Command → Type 0
 IsWithinLimits (Go input name pages method_bytes session) =
     ArePages pages × IsSession guest_steps session
@@ -46,7 +52,11 @@ IsWithinLimits (Interp input name pages session) =
     ArePages pages × IsSession guest_steps session
 IsWithinLimits (Run class words session) = IsSession class_steps session
 IsWithinLimits (Verify class) = Unit {0}
+IsWithinLimits (Frames class) = Unit {0}
+IsWithinLimits (Check class) = Unit {0}
 IsWithinLimits (Asm input output) = Unit {0}
 IsWithinLimits (ListIn input) = Unit {0}
 IsWithinLimits (Make count method_bytes) = (1 ≤ count) × (count ≤ 65536)
 IsWithinLimits (Link output inputs entry) = AreInputs inputs × IsFileName entry
+IsWithinLimits (Pipe classes words steps disk bytes) =
+    AreStages classes × (steps ≤ class_steps) × (disk ≤ 65536)

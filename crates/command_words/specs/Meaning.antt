@@ -5,13 +5,14 @@ use Rattle.std.specs.List.{list_any, before_first, after_first}
 use Rattle.std.specs.Str.{bytes_eq}
 use Rattle.command_values.specs.Names.{Text, lawful_name}
 use Rattle.command_values.specs.MethodBytes.{least_method_bytes, most_method_bytes}
+use Rattle.command_words.specs.PipeBytes.{least_pipe_bytes, most_pipe_bytes}
 use Rattle.command_values.specs.RegionWords.{least_region_words, most_region_words}
 use Rattle.command_values.specs.Ranges.{lies_in}
 use Rattle.command_words.specs.Word.{is_end, is_plain, waits_for_value}
 use Rattle.command_words.specs.Given.{Form, given_in, option_words, value_in, value_place, word_place}
 use Rattle.command_words.specs.Values.{are_arguments, is_symbol_name, names_in, number_in, number_or}
 use Rattle.command_words.specs.declared.command.Command.{Command}
-use Rattle.command_words.specs.declared.command.Command.TheVariants.{Go, Translate, Interp, Run, Verify, Asm, List as ListIn, Make, Link}
+use Rattle.command_words.specs.declared.command.Command.TheVariants.{Go, Translate, Interp, Run, Verify, Frames, Check, Asm, List as ListIn, Make, Link, Pipe}
 use Rattle.command_words.specs.declared.command_name.CommandName.{CommandName}
 use Rattle.command_words.specs.declared.command_name.CommandName.TheVariants as name
 use Rattle.command_words.specs.declared.named.Named.{Named}
@@ -54,6 +55,9 @@ region_words_in value =
 
 abbrev pub disk_in : Value → Option ℕ
 disk_in value = number_or 0 65536 1024 (value (codes "disk"))
+
+abbrev pub pipe_bytes_in : Value → Option ℕ
+pipe_bytes_in value = number_or least_pipe_bytes most_pipe_bytes 4096 (value (codes "pipe"))
 
 abbrev pub name_in : Value → Option Text
 name_in value = option_map_or lawful_name (value (codes "name")) (Some (codes "Main"))
@@ -125,6 +129,22 @@ inputs_in inputs = if lies_in 1 256 (length inputs) then Some inputs else None
 abbrev pub symbol_name : Text → Option Text
 symbol_name text = if is_symbol_name text then Some text else None
 
+-- the class that a word names
+abbrev pub class_of : Named → Option NamedClass
+class_of named =
+    option_map (λ name. record { word = named.word; name = name }) (lawful_name named.text)
+
+-- the classes that all these words name
+abbrev pub classes_of : List Named → Option (List NamedClass)
+classes_of [] = Some []
+classes_of (named ∷ others) =
+    option_and_then (λ class. option_map (λ classes. class ∷ classes) (classes_of others))
+    (class_of named)
+
+-- the classes of a pipeline
+abbrev pub classes_in : List Named → Option (List NamedClass)
+classes_in words = if lies_in 2 8 (length words) then classes_of words else None
+
 -- the symbol at which a linked program begins
 abbrev pub entry_in : Value → Option Text
 entry_in value = option_map_or symbol_name (value (codes "entry")) (Some (codes "__start"))
@@ -138,10 +158,13 @@ name_of word =
     else if bytes_eq word (codes "interp") then Some name.Interp
     else if bytes_eq word (codes "run") then Some name.Run
     else if bytes_eq word (codes "verify") then Some name.Verify
+    else if bytes_eq word (codes "frames") then Some name.Frames
+    else if bytes_eq word (codes "check") then Some name.Check
     else if bytes_eq word (codes "asm") then Some name.Asm
     else if bytes_eq word (codes "list") then Some name.List
     else if bytes_eq word (codes "make") then Some name.Make
     else if bytes_eq word (codes "link") then Some name.Link
+    else if bytes_eq word (codes "pipe") then Some name.Pipe
     else None
 
 abbrev pub go_options : List Text
@@ -157,6 +180,9 @@ interp_options = codes "name" ∷ codes "heap" ∷ codes "stack" ∷ codes "step
 
 abbrev pub run_options : List Text
 run_options = codes "words" ∷ codes "steps" ∷ codes "disk" ∷ codes "with" ∷ codes "keep" ∷ []
+
+abbrev pub pipe_options : List Text
+pipe_options = codes "words" ∷ codes "steps" ∷ codes "disk" ∷ codes "pipe" ∷ []
 
 -- what a command makes of its words before `--`, the values that they give, and the words after `--`
 abbrev pub Maker : Type 0
@@ -193,6 +219,12 @@ run_from words value arguments =
 abbrev pub verify_from : Maker
 verify_from words value arguments = option_map (λ class. Verify class) (class_in words value)
 
+abbrev pub frames_from : Maker
+frames_from words value arguments = option_map (λ class. Frames class) (class_in words value)
+
+abbrev pub check_from : Maker
+check_from words value arguments = option_map (λ class. Check class) (class_in words value)
+
 abbrev pub asm_from : Maker
 asm_from words value arguments =
     option_and_then (λ input. option_map (λ output. Asm input output) (value (codes "OUT")))
@@ -218,6 +250,13 @@ linked_from value (output ∷ inputs) =
 abbrev pub link_from : Maker
 link_from words value arguments = linked_from value (plain_words false 0 words)
 
+abbrev pub pipe_from : Maker
+pipe_from words value arguments =
+    option_and_then (λ classes. option_and_then (λ region. option_and_then (λ steps.
+    option_and_then (λ disk. option_map (λ bytes. Pipe classes region steps disk bytes)
+    (pipe_bytes_in value)) (disk_in value)) (steps_in class_steps value))
+    (region_words_in value)) (classes_in (plain_words false 0 words))
+
 -- ---- the forms
 
 abbrev pub form_of : CommandName → Form
@@ -226,14 +265,18 @@ form_of name.Translate = record { words = codes "IN" ∷ []; options = translate
 form_of name.Interp = record { words = codes "IN" ∷ []; options = interp_options }
 form_of name.Run = record { words = codes "NAME" ∷ []; options = run_options }
 form_of name.Verify = record { words = codes "NAME" ∷ []; options = [] }
+form_of name.Frames = record { words = codes "NAME" ∷ []; options = [] }
+form_of name.Check = record { words = codes "NAME" ∷ []; options = [] }
 form_of name.Asm = record { words = codes "IN" ∷ codes "OUT" ∷ []; options = [] }
 form_of name.List = record { words = codes "IN" ∷ []; options = [] }
 form_of name.Make = record { words = codes "N" ∷ []; options = codes "method-bytes" ∷ [] }
 form_of name.Link = record { words = []; options = codes "entry" ∷ [] }
+form_of name.Pipe = record { words = []; options = pipe_options }
 
 -- the plain words of the command repeat, so that its form has none
 abbrev pub repeats : CommandName → Bool
 repeats name.Link = true
+repeats name.Pipe = true
 repeats other = false
 
 -- the words that the form of a command is read from
@@ -247,10 +290,13 @@ takes_arguments name.Interp = true
 takes_arguments name.Run = true
 takes_arguments name.Translate = false
 takes_arguments name.Verify = false
+takes_arguments name.Frames = false
+takes_arguments name.Check = false
 takes_arguments name.Asm = false
 takes_arguments name.List = false
 takes_arguments name.Make = false
 takes_arguments name.Link = false
+takes_arguments name.Pipe = false
 
 abbrev pub maker_of : CommandName → Maker
 maker_of name.Go = go_from
@@ -258,10 +304,13 @@ maker_of name.Translate = translate_from
 maker_of name.Interp = interp_from
 maker_of name.Run = run_from
 maker_of name.Verify = verify_from
+maker_of name.Frames = frames_from
+maker_of name.Check = check_from
 maker_of name.Asm = asm_from
 maker_of name.List = list_from
 maker_of name.Make = make_from
 maker_of name.Link = link_from
+maker_of name.Pipe = pipe_from
 
 -- ---- all the words
 

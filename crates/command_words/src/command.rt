@@ -2,7 +2,9 @@ use crate::inputs::Inputs;
 use crate::name_list::NameList;
 use crate::named::Named;
 use crate::named_class::NamedClass;
+use crate::named_classes::NamedClasses;
 use crate::pages::Pages;
+use crate::pipe_bytes::PipeBytes;
 use crate::session::Session;
 use crate::text::Text;
 use command_values::{ClassName, MethodBytes, RegionWords};
@@ -42,6 +44,14 @@ pub enum Command {
     Verify {
         class: NamedClass,
     },
+    /// `frames NAME`: gives classes their tables of frames.
+    Frames {
+        class: NamedClass,
+    },
+    /// `check NAME`: checks classes by their tables of frames.
+    Check {
+        class: NamedClass,
+    },
     /// `asm IN OUT`: assembles a text.
     Asm {
         input: Named,
@@ -61,5 +71,14 @@ pub enum Command {
         output: Text,
         inputs: Inputs,
         entry: Text,
+    },
+    /// `pipe NAME NAME ..`: runs 2 to 8 classes with a pipe between each two, each in at most 1,125,899,906,842,624 steps and with a
+    /// disk of 0 to 65,536 blocks.
+    Pipe {
+        classes: NamedClasses,
+        words: RegionWords,
+        steps: u64,
+        disk: u32,
+        pipe: PipeBytes,
     },
 }

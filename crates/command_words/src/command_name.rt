@@ -10,10 +10,13 @@ pub(crate) enum CommandName {
     Interp,
     Run,
     Verify,
+    Frames,
+    Check,
     Asm,
     List,
     Make,
     Link,
+    Pipe,
 }
 
 impl CommandName {
@@ -27,10 +30,13 @@ impl CommandName {
             "interp" => Some(CommandName::Interp),
             "run" => Some(CommandName::Run),
             "verify" => Some(CommandName::Verify),
+            "frames" => Some(CommandName::Frames),
+            "check" => Some(CommandName::Check),
             "asm" => Some(CommandName::Asm),
             "list" => Some(CommandName::List),
             "make" => Some(CommandName::Make),
             "link" => Some(CommandName::Link),
+            "pipe" => Some(CommandName::Pipe),
             _ => None,
         }
     }
@@ -43,10 +49,12 @@ impl CommandName {
             CommandName::Go | CommandName::Translate | CommandName::Interp | CommandName::List => &[
                 "IN",
             ],
-            CommandName::Run | CommandName::Verify => &["NAME"],
+            CommandName::Run | CommandName::Verify | CommandName::Frames | CommandName::Check => &[
+                "NAME",
+            ],
             CommandName::Asm => &["IN", "OUT"],
             CommandName::Make => &["N"],
-            CommandName::Link => &[],
+            CommandName::Link | CommandName::Pipe => &[],
         }
     }
 
@@ -54,7 +62,7 @@ impl CommandName {
     pub(crate) fn repeats(self) -> bool
         ensures { result ≡ repeats self }
     {
-        matches!(self, CommandName::Link)
+        matches!(self, CommandName::Link | CommandName::Pipe)
     }
 
     /// The names of its options.
@@ -77,7 +85,12 @@ impl CommandName {
             CommandName::Run => &["words", "steps", "disk", "with", "keep"],
             CommandName::Make => &["method-bytes"],
             CommandName::Link => &["entry"],
-            CommandName::Verify | CommandName::Asm | CommandName::List => &[],
+            CommandName::Pipe => &["words", "steps", "disk", "pipe"],
+            CommandName::Verify
+            | CommandName::Frames
+            | CommandName::Check
+            | CommandName::Asm
+            | CommandName::List => &[],
         }
     }
 

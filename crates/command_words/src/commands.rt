@@ -1,14 +1,18 @@
 ghost use Rattle.std.specs.Prelude.{[]};
 ghost use Rattle.clap.specs.Words.{first_value, found_of};
 ghost use Rattle.command_words.specs.Answers.{Reads};
-ghost use Rattle.command_words.specs.Meaning.{asm_from, go_from, interp_from, list_from, make_from, maker_of, run_from, translate_from, verify_from};
+ghost use Rattle.command_words.specs.Meaning.{asm_from, check_from, frames_from, go_from, interp_from, list_from, make_from, maker_of, pipe_from, run_from, translate_from, verify_from};
 ghost use Rattle.command_words.specs.Word.{texts};
 
+use crate::classes::classes;
 use crate::command::Command;
 use crate::command_name::CommandName;
 use crate::linking::link;
 use crate::number::small_number_in;
-use crate::read::{class, input, method_bytes, name, pages, region_words, session};
+use crate::plain::plain_words;
+use crate::read::{
+    class, disk, input, method_bytes, name, pages, pipe_bytes, region_words, session, steps,
+};
 use crate::text::Text;
 use crate::words_error::WordsError;
 use clap::ArgMatches;
@@ -37,10 +41,13 @@ pub(crate) fn make(
         CommandName::Interp => interp(alloc, words, matches, arguments),
         CommandName::Run => run(alloc, words, matches, arguments),
         CommandName::Verify => verify(alloc, words, matches),
+        CommandName::Frames => frames(alloc, words, matches),
+        CommandName::Check => check(alloc, words, matches),
         CommandName::Asm => asm(alloc, words, matches),
         CommandName::List => list(alloc, words, matches),
         CommandName::Make => counter(matches),
         CommandName::Link => link(alloc, words, matches),
+        CommandName::Pipe => pipe(alloc, words, matches),
     }
 }
 
@@ -134,6 +141,20 @@ fn verify(alloc: Global, words: &[String], matches: &ArgMatches<'_>) -> Result<C
     Ok(Command::Verify { class })
 }
 
+fn frames(alloc: Global, words: &[String], matches: &ArgMatches<'_>) -> Result<Command, WordsError>
+    ensures { Reads (frames_from (texts words.now) (first_value (found_of matches.now)) []) result }
+{
+    let class = class(alloc, words, matches)?;
+    Ok(Command::Frames { class })
+}
+
+fn check(alloc: Global, words: &[String], matches: &ArgMatches<'_>) -> Result<Command, WordsError>
+    ensures { Reads (check_from (texts words.now) (first_value (found_of matches.now)) []) result }
+{
+    let class = class(alloc, words, matches)?;
+    Ok(Command::Check { class })
+}
+
 fn asm(alloc: Global, words: &[String], matches: &ArgMatches<'_>) -> Result<Command, WordsError>
     ensures { Reads (asm_from (texts words.now) (first_value (found_of matches.now)) []) result }
 {
@@ -159,5 +180,23 @@ fn counter(matches: &ArgMatches<'_>) -> Result<Command, WordsError>
     Ok(Command::Make {
         count,
         method_bytes,
+    })
+}
+
+fn pipe(alloc: Global, words: &[String], matches: &ArgMatches<'_>) -> Result<Command, WordsError>
+    ensures { Reads (pipe_from (texts words.now) (first_value (found_of matches.now)) []) result }
+{
+    let named = plain_words(alloc, words)?;
+    let classes = classes(alloc, named.as_slice())?;
+    let region = region_words(matches).ok_or(WordsError::NOT_LAWFUL)?;
+    let steps = steps(matches, CLASS_STEPS).ok_or(WordsError::NOT_LAWFUL)?;
+    let disk = disk(matches).ok_or(WordsError::NOT_LAWFUL)?;
+    let pipe = pipe_bytes(matches).ok_or(WordsError::NOT_LAWFUL)?;
+    Ok(Command::Pipe {
+        classes,
+        words: region,
+        steps,
+        disk,
+        pipe,
     })
 }

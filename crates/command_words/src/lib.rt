@@ -4,6 +4,7 @@
 //! options are read with `clap`, as one simple command for each command.
 #![tactic(auto)]
 
+mod classes;
 mod command;
 mod command_name;
 mod commands;
@@ -13,9 +14,11 @@ mod matching;
 mod name_list;
 mod named;
 mod named_class;
+mod named_classes;
 mod names;
 mod number;
 mod pages;
+mod pipe_bytes;
 mod place;
 mod plain;
 mod read;
@@ -32,7 +35,9 @@ pub use inputs::Inputs;
 pub use name_list::NameList;
 pub use named::Named;
 pub use named_class::NamedClass;
+pub use named_classes::NamedClasses;
 pub use pages::Pages;
+pub use pipe_bytes::PipeBytes;
 pub use session::Session;
 pub use text::Text;
 pub use texts::Texts;

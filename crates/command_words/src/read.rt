@@ -3,7 +3,7 @@ ghost use Rattle.command_words.specs.Given.{value_place};
 ghost use Rattle.clap.specs.Words.{first_value, found_of};
 ghost use Rattle.command_values.specs.Names.{lawful_name};
 ghost use Rattle.command_words.specs.Answers.{Reads};
-ghost use Rattle.command_words.specs.Meaning.{arguments_in, class_in, disk_in, heap_in, input_in, method_bytes_in, name_in, name_list_in, pages_in, region_words_in, session_in, stack_in, steps_in, word_number};
+ghost use Rattle.command_words.specs.Meaning.{arguments_in, class_in, disk_in, heap_in, input_in, method_bytes_in, name_in, name_list_in, pages_in, pipe_bytes_in, region_words_in, session_in, stack_in, steps_in, word_number};
 ghost use Rattle.command_words.specs.Word.{texts};
 
 use crate::name_list::NameList;
@@ -12,6 +12,7 @@ use crate::named_class::NamedClass;
 use crate::names::{are_arguments, copied_words, names_in};
 use crate::number::{number_or, small_number_or};
 use crate::pages::Pages;
+use crate::pipe_bytes::PipeBytes;
 use crate::place::{value_place, word_number, word_place};
 use crate::session::Session;
 use crate::text::Text;
@@ -23,6 +24,9 @@ use std::alloc::{AllocError, Global};
 
 /// The words of a region where the option is left out.
 const REGION_WORDS: u32 = 4_194_304;
+
+/// The bytes that make a pipe full where the option is left out.
+const PIPE_BYTES: u32 = 4_096;
 
 /// The file that the first plain word names.
 pub(crate) fn input(
@@ -66,7 +70,7 @@ pub(crate) fn name(alloc: Global, matches: &ArgMatches<'_>) -> Result<ClassName,
 }
 
 /// The class of a name.
-fn lawful_name(alloc: Global, text: &str) -> Result<ClassName, WordsError>
+pub(crate) fn lawful_name(alloc: Global, text: &str) -> Result<ClassName, WordsError>
     ensures { Reads (lawful_name text.now) result }
 {
     ClassName::new(String::from_str(alloc, text)?).ok_or(WordsError::NOT_LAWFUL)
@@ -131,17 +135,25 @@ pub(crate) fn region_words(matches: &ArgMatches<'_>) -> Option<RegionWords>
 }
 
 /// The steps, of which `most` are the greatest number and the default.
-fn steps(matches: &ArgMatches<'_>, most: u64) -> Option<u64>
+pub(crate) fn steps(matches: &ArgMatches<'_>, most: u64) -> Option<u64>
     ensures { result ≡ steps_in most (first_value (found_of matches.now)) }
 {
     number_or(matches.get_str("steps"), 0, most, most)
 }
 
 /// The blocks of the disk.
-fn disk(matches: &ArgMatches<'_>) -> Option<u32>
+pub(crate) fn disk(matches: &ArgMatches<'_>) -> Option<u32>
     ensures { result ≡ disk_in (first_value (found_of matches.now)) }
 {
     small_number_or(matches.get_str("disk"), 0, 65_536, 1_024)
+}
+
+/// The bytes that make a pipe full.
+pub(crate) fn pipe_bytes(matches: &ArgMatches<'_>) -> Option<PipeBytes>
+    ensures { result ≡ pipe_bytes_in (first_value (found_of matches.now)) }
+{
+    let count = small_number_or(matches.get_str("pipe"), 0, u32::MAX, PIPE_BYTES)?;
+    PipeBytes::new(count)
 }
 
 /// How a guest or a class is run, in at most `most` steps.
