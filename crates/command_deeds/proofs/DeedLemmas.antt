@@ -1,21 +1,22 @@
 -- How deeds follow one another.
 use Rattle.std.proofs.Common.{◌≡◌, ℕ, Bool, true, false, List, [], ◌∷◌, ◌++◌, Option, Some}
 use Rattle.std.proofs.Common.{None, Result, Ok, Err, Vec, Global, option_map, refl, sym, ◌∙◌, ap, subst, inl, inr}
+use Rattle.std.specs.Io.KnownBytes.{Appends, Consumes}
 use Rattle.nv_outside.specs.Faults.{CountsFailure, shelf_failed}
 use Rattle.nv_outside.specs.Files.{AgreeWith, Files, Finds, OthersStay, SameFiles, SetsFile, Stores}
-use Rattle.unix_calls.specs.Stages.{ComesTo, StopsRun}
+use Rattle.unix_calls.specs.Stages.{ComesTo, LosesRead, StopsRun}
 use Rattle.nv_outside.specs.declared.shelf_error.ShelfError.{ShelfError}
 use Rattle.nv_outside.specs.declared.shelf_error.ShelfError.TheVariants as shelf
 use Rattle.command_deeds.specs.declared.stop.Stop.{Stop}
 use Rattle.command_deeds.specs.declared.stop.Stop.TheVariants.{ReadFault, WriteFault, ShelfFault, NoMemory}
-use Rattle.command_deeds.specs.Deeds.{Deed, prepares, stores, prints, plays, DoesDeed, StopsDeed, DoesAll, StopsIn}
+use Rattle.command_deeds.specs.Deeds.{Deed, prepares, stores, prints, plays, pipes, tells, CountsStop, DoesDeed, StopsDeed, StopsPipes, DoesAll, StopsIn}
 use Rattle.command_words.specs.declared.named.Named.{Named}
 use Rattle.command_deeds.specs.declared.ending.Ending.{Ending}
 use Rattle.command_deeds.specs.Checks.{Check, file_at, file_named, there}
 use Rattle.command_deeds.specs.Ends.{CommandAnswer, Comes, DoesOrStops, Due, Gives, GivesEnd}
 use Rattle.command_deeds.specs.Ends.{Makes, MakesEnd, Over, Works, answers, end_of, is_stop, lacks}
 use Rattle.command_deeds.specs.Stops.{shelf_stop}
-use Rattle.command_deeds.specs.World.{OnlyOut, OnlyShelf, Rises, SameShelf, Seen, Sets, Stays}
+use Rattle.command_deeds.specs.World.{FailsIn, OnlyErr, OnlyOut, OnlyShelf, Rises, SameShelf, Seen, Sets, Stays}
 use Rattle.command_deeds.specs.World.{StopsLoad, StopsPrint, StopsStore, Takes, World, streams_of, world}
 use Rattle.nv_outside.proofs.FilesLemmas.{agree_before, same_then_same, told_agree, told_has, told_or}
 
@@ -75,6 +76,20 @@ stays_then w u v p q = (same_then_shelf w.shelf u.shelf v.shelf p.0 q.0, only_th
 only_out_then : (w u v : World) → Stays w u → OnlyOut u v → OnlyOut w v
 only_out_then w u v p q = (same_then_shelf w.shelf u.shelf v.shelf p.0 q.0, q.1 ∙ p.1.0, q.2 ∙ p.1.2)
 
+only_err_then : (w u v : World) → Stays w u → OnlyErr u v → OnlyErr w v
+only_err_then w u v p q = (same_then_shelf w.shelf u.shelf v.shelf p.0 q.0, q.1 ∙ p.1.0, q.2 ∙ p.1.1)
+
+stays_then_pipes : (output : List ℕ) (w u v : World) (stop : Stop) → OnlyShelf w u → StopsPipes output u v stop → StopsPipes output w v stop
+stays_then_pipes output w u v stop p q = record {
+  counts = subst (λ o. CountsStop stop w.input v.input o v.out) p.1 (subst (λ i. CountsStop stop i v.input u.out v.out) p.0 q.counts);
+  got = q.got;
+  lost = subst (λ i. Consumes i.told v.input.told q.got) p.0 q.lost;
+  part = q.part;
+  rest = q.rest;
+  is_part = q.is_part;
+  took = subst (λ o. Appends o.told v.out.told q.part) p.1 q.took;
+}
+
 same_streams : (w u : World) → OnlyShelf w u → streams_of u ≡ streams_of w
 same_streams w u only = λ i. record { input = only.0 i; out = only.1 i; err = only.2 i }
 
@@ -84,6 +99,13 @@ stays_then_deed (stores name bytes) w u v p q = (same_then_sets w.shelf u.shelf 
 stays_then_deed (prints text) w u v p q = (subst (λ o. Takes o v.out text) p.1.1 q.0, only_out_then w u v p q.1)
 stays_then_deed (plays turns stage) w u v p q =
     (same_then_shelf w.shelf u.shelf v.shelf p.0 q.0, subst (λ s. ComesTo (stage turns) s (streams_of v)) (same_streams w u p.1) q.1)
+stays_then_deed (pipes left output) w u v p q = (
+  same_then_shelf w.shelf u.shelf v.shelf p.0 q.0,
+  subst (λ i. LosesRead i v.input left) p.1.0 q.1,
+  subst (λ o. Takes o v.out output) p.1.1 q.2,
+  q.3 ∙ p.1.2,
+)
+stays_then_deed (tells text) w u v p q = (subst (λ e. Takes e v.err text) p.1.2 q.0, only_err_then w u v p q.1)
 
 stays_then_stop : (deed : Deed) (w u v : World) (stop : Stop) → Stays w u → StopsDeed deed u v stop → StopsDeed deed w v stop
 stays_then_stop prepares w u v stop p q = (q.0, stays_then w u v p q.1)
@@ -93,6 +115,9 @@ stays_then_stop (plays turns stage) w u v stop p q = (
   same_then_shelf w.shelf u.shelf v.shelf p.0 q.0,
   (q.1.0, q.1.1, subst (λ s. StopsRun turns stage q.1.0 s (streams_of v)) (same_streams w u p.1) q.1.2),
 )
+stays_then_stop (pipes left output) w u v stop p q =
+    (same_then_shelf w.shelf u.shelf v.shelf p.0 q.0, q.1 ∙ p.1.2, stays_then_pipes output w u v stop p.1 q.2)
+stays_then_stop (tells text) w u v stop p q = (q.0, subst (λ e. FailsIn e v.err text) p.1.2 q.1, only_err_then w u v p q.2)
 
 pub stays_then_all : (deeds : List Deed) (w u v : World) → Stays w u → DoesAll deeds u v → DoesAll deeds w v
 stays_then_all [] w u v p q = stays_then w u v p q

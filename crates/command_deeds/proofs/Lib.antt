@@ -2,3 +2,4 @@ pub mod DeedLemmas
 pub mod PieceLemmas
 pub mod PlayLemmas
 pub mod ReadyLemmas
+mod StageLemmas

@@ -1,8 +1,12 @@
--- The status of an answer, and its line on error output.
-use Rattle.std.specs.Prelude.{ℕ, ◌+◌, ◌/◌, ◌%◌, ◌^◌, ◌++◌, List, [], ◌∷◌, codes, decimal, if◌then◌else◌, nat_lt}
+-- The status of an answer, and its line on error output, or its lines.
+use Rattle.std.specs.Prelude.{ℕ, ◌+◌, ◌/◌, ◌%◌, ◌^◌, ◌++◌, List, [], ◌∷◌, Option, Some, None, codes, decimal, if◌then◌else◌, nat_lt}
+use Rattle.std.specs.Fmt.{signed_decimal}
 use Rattle.std.specs.Int.{cast_unsigned, w32}
 use Rattle.nv_events.specs.declared.fault.Fault.{Fault}
+use Rattle.nv_events.specs.declared.outcome.Outcome.{Outcome}
+use Rattle.nv_events.specs.declared.outcome.Outcome.TheVariants as outcome
 use Rattle.nv_faults.specs.declared.elf_fault.ElfFault.{ElfFault}
+use Rattle.nv_faults.specs.declared.frame_fault.FrameFault.{FrameFault}
 use Rattle.nv_faults.specs.declared.image_fault.ImageFault.{ImageFault}
 use Rattle.nv_faults.specs.declared.link_fault.LinkFault.{LinkFault}
 use Rattle.nv_faults.specs.declared.asm_fault.AsmFault.{AsmFault}
@@ -11,8 +15,31 @@ use Rattle.nv_faults.specs.declared.verify_fault.VerifyFault.{VerifyFault}
 use Rattle.command_deeds.specs.declared.status.TheConstants as status
 use Rattle.command_deeds.specs.declared.done.Done.{Done}
 use Rattle.command_deeds.specs.declared.done.Done.TheVariants.{Good, Exited, Faulted, Usage, NoInput, ElfRefused, ImageRefused, ArgsTooLong}
-use Rattle.command_deeds.specs.declared.done.Done.TheVariants.{FilesTooLarge, AsmRefused, ObjRefused, ClassRefused, LinkRefused, VerifyRefused, Trapped}
+use Rattle.command_deeds.specs.declared.done.Done.TheVariants.{FilesTooLarge, AsmRefused, ObjRefused, ClassRefused, LinkRefused, VerifyRefused, FrameRefused, FramesTooLarge, Piped, Trapped}
 use Rattle.command_deeds.specs.declared.done.Done.TheVariants.{Spent, ReadFault, WriteFault, ShelfFault, NoMemory}
+
+-- ---- the stages of a pipeline
+
+-- how they ended: what stands in front of the first None
+abbrev pub stages_of : List (Option Outcome) → List Outcome
+stages_of [] = []
+stages_of (None ∷ more) = []
+stages_of (Some ended ∷ more) = ended ∷ stages_of more
+
+-- the status of a stage is that of a run that ended so; no stage waits
+abbrev pub stage_status : Outcome → ℕ
+stage_status (outcome.Exited status) = cast_unsigned w32 status % 256
+stage_status (outcome.Faulted f) = status.FAULTED
+stage_status (outcome.Trapped k) = status.TRAPPED
+stage_status outcome.Waiting = status.SPENT
+stage_status outcome.Going = status.SPENT
+
+-- that of the last one, or this where there is none
+abbrev pub last_status : ℕ → List Outcome → ℕ
+last_status before [] = before
+last_status before (ended ∷ later) = last_status (stage_status ended) later
+
+-- ---- statuses
 
 -- the statuses of sysexits.h where one fits, and the program's own status modulo 256
 abbrev pub status_of : Done → ℕ
@@ -30,12 +57,17 @@ status_of (ObjRefused f) = status.OBJ_REFUSED
 status_of (ClassRefused class kind at) = status.CLASS_REFUSED
 status_of (LinkRefused f) = status.LINK_REFUSED
 status_of (VerifyRefused f) = status.VERIFY_REFUSED
+status_of (FrameRefused f) = status.FRAME_REFUSED
+status_of (FramesTooLarge class bytes) = status.FRAMES_TOO_LARGE
+status_of (Piped stages) = last_status status.GOOD (stages_of stages.stages)
 status_of (Trapped k) = status.TRAPPED
 status_of Spent = status.SPENT
 status_of ReadFault = status.READ_FAULT
 status_of WriteFault = status.WRITE_FAULT
 status_of ShelfFault = status.SHELF_FAULT
 status_of NoMemory = status.NO_MEMORY
+
+-- ---- lines
 
 -- an upper-case hexadecimal digit
 abbrev pub hex_digit : ℕ → ℕ
@@ -72,6 +104,13 @@ link_line f = numbers_line (codes "nested: link ") f.kind f.class f.slot
 abbrev pub verify_line : VerifyFault → List ℕ
 verify_line f = numbers_line (codes "nested: verify ") f.class f.method f.at
 
+abbrev pub frames_line : FrameFault → List ℕ
+frames_line f = numbers_line (codes "nested: frames ") f.class f.method f.kind
+
+abbrev pub tables_line : ℕ → ℕ → List ℕ
+tables_line class bytes = joined (codes "nested: tables " ∷ decimal class ∷ codes " " ∷ decimal bytes
+    ∷ codes "\n" ∷ [])
+
 abbrev pub image_line : ImageFault → List ℕ
 image_line f = joined (codes "nested: image " ∷ decimal f.kind ∷ codes " " ∷ decimal f.number
     ∷ codes " " ∷ hex_word f.word ∷ codes "\n" ∷ [])
@@ -86,6 +125,25 @@ asm_line f = joined (codes "nested: asm " ∷ decimal f.line ∷ codes " " ∷ d
 
 abbrev pub object_line : ObjFault → List ℕ
 object_line f = numbers_line (codes "nested: object ") f.object f.kind f.at
+
+-- the line of a stage, where the stages are numbered from 0
+abbrev pub stage_line : ℕ → Outcome → List ℕ
+stage_line i (outcome.Exited status) =
+    joined (codes "nested: stage " ∷ decimal i ∷ codes " exited " ∷ signed_decimal status
+    ∷ codes "\n" ∷ [])
+stage_line i (outcome.Faulted f) =
+    joined (codes "nested: stage " ∷ decimal i ∷ codes " fault " ∷ decimal f.kind ∷ codes " pc "
+    ∷ hex_word f.pc ∷ codes " value " ∷ hex_word f.value ∷ codes "\n" ∷ [])
+stage_line i (outcome.Trapped k) =
+    joined (codes "nested: stage " ∷ decimal i ∷ codes " trap " ∷ decimal k ∷ codes "\n" ∷ [])
+stage_line i outcome.Waiting =
+    joined (codes "nested: stage " ∷ decimal i ∷ codes " spent\n" ∷ [])
+stage_line i outcome.Going = joined (codes "nested: stage " ∷ decimal i ∷ codes " spent\n" ∷ [])
+
+-- the lines of stages, the first of which has this number
+abbrev pub stage_lines : ℕ → List Outcome → List ℕ
+stage_lines i [] = []
+stage_lines i (ended ∷ later) = stage_line i ended ++ stage_lines (i + 1) later
 
 -- the line of an answer, with its end, where this name was asked for
 abbrev pub line_of : List ℕ → Done → List ℕ
@@ -103,6 +161,9 @@ line_of name (ObjRefused f) = object_line f
 line_of name (ClassRefused class kind at) = numbers_line (codes "nested: class ") class kind at
 line_of name (LinkRefused f) = link_line f
 line_of name (VerifyRefused f) = verify_line f
+line_of name (FrameRefused f) = frames_line f
+line_of name (FramesTooLarge class bytes) = tables_line class bytes
+line_of name (Piped stages) = stage_lines 0 (stages_of stages.stages)
 line_of name (Trapped k) = number_line (codes "nested: trap ") k
 line_of name Spent = codes "nested: spent\n"
 line_of name ReadFault = codes "nested: read fault\n"

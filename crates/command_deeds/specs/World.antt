@@ -85,12 +85,15 @@ Prints old new text result =
 
 -- ---- what stays
 
--- nothing but the shelf, and nothing but output, may have changed
+-- nothing but the shelf, nothing but output, and nothing but error output, may have changed
 abbrev pub OnlyShelf : World → World → Type 0
 OnlyShelf w v = (v.input ≡ w.input) × (v.out ≡ w.out) × (v.err ≡ w.err)
 
 abbrev pub OnlyOut : World → World → Type 0
 OnlyOut w v = SameShelf w.shelf v.shelf × (v.input ≡ w.input) × (v.err ≡ w.err)
+
+abbrev pub OnlyErr : World → World → Type 0
+OnlyErr w v = SameShelf w.shelf v.shelf × (v.input ≡ w.input) × (v.out ≡ w.out)
 
 abbrev pub Stays : World → World → Type 0
 Stays w v = SameShelf w.shelf v.shelf × OnlyShelf w v

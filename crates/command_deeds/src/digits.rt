@@ -1,5 +1,6 @@
 //! Numbers in digits, without taking memory.
 ghost use Rattle.std.specs.Prelude.{◌≡◌, ◌<◌, decimal};
+ghost use Rattle.std.specs.Fmt.{signed_decimal};
 ghost use Rattle.command_deeds.specs.Line.{hex_digit, hex_word};
 
 use itoa::Buffer;
@@ -14,6 +15,13 @@ pub fn decimal(digits: &mut Buffer, n: u32) -> &[u8]
 /// A number of 64 bits in decimal digits.
 pub fn decimal_long(digits: &mut Buffer, n: u64) -> &[u8]
     ensures { result.now ≡ decimal n }
+{
+    digits.format(n).as_bytes()
+}
+
+/// A number with its sign in decimal digits.
+pub(crate) fn decimal_signed(digits: &mut Buffer, n: i32) -> &[u8]
+    ensures { result.now ≡ signed_decimal n }
 {
     digits.format(n).as_bytes()
 }

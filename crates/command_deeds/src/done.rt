@@ -1,10 +1,12 @@
+use crate::stage_outcomes::StageOutcomes;
 use crate::status;
 use nv_events::Fault;
-use nv_faults::{AsmFault, ElfFault, ImageFault, LinkFault, ObjFault, VerifyFault};
+use nv_faults::{AsmFault, ElfFault, FrameFault, ImageFault, LinkFault, ObjFault, VerifyFault};
 
 /// How a call of the program ended.
 ///
-/// Each answer has a status and, but for `Good`, `Exited` and `WriteFault`, a line that is written to error output last.
+/// Each answer has a status and, but for `Good`, `Exited` and `WriteFault`, a line that is written to error output last; `Piped` has one
+/// for each stage.
 #[derive(Clone, Copy, Debug, PartialEq, Eq)]
 pub enum Done {
     /// The command did all its work.
@@ -42,6 +44,17 @@ pub enum Done {
     LinkRefused(LinkFault),
     /// A method has no typing: the first one.
     VerifyRefused(VerifyFault),
+    /// A method is not typed by the frames that its table lists, or a pool has too few slots for what tables name: the first one.
+    FrameRefused(FrameFault),
+    /// A class's file would be too large with its tables: the first one.
+    FramesTooLarge {
+        /// The number of the class in the set, from 0.
+        class: u32,
+        /// The size that its file would have, in bytes.
+        bytes: u64,
+    },
+    /// All stages of a pipeline ended so.
+    Piped(StageOutcomes),
     /// The class machine ended in this trap.
     Trapped(u32),
     /// The run made as many steps as it may, without an end.
@@ -85,6 +98,9 @@ impl Done {
             Done::ClassRefused { .. } => status::CLASS_REFUSED,
             Done::LinkRefused(_) => status::LINK_REFUSED,
             Done::VerifyRefused(_) => status::VERIFY_REFUSED,
+            Done::FrameRefused(_) => status::FRAME_REFUSED,
+            Done::FramesTooLarge { .. } => status::FRAMES_TOO_LARGE,
+            Done::Piped(stages) => stages.status(),
             Done::Trapped(_) => status::TRAPPED,
             Done::Spent => status::SPENT,
             Done::ReadFault => status::READ_FAULT,

@@ -17,6 +17,7 @@ mod outcomes;
 mod outside;
 mod playing;
 mod readying;
+mod stage_outcomes;
 pub mod status;
 mod stop;
 
@@ -26,8 +27,9 @@ pub use done::Done;
 pub use ending::Ending;
 pub use files::{load, store};
 pub use launch::Launch;
-pub use line::{write_line, write_number, write_pieces};
+pub use line::{write_line, write_number, write_pieces, write_text};
 pub use outside::Outside;
 pub use playing::{play_for, play_session};
 pub use readying::ready;
+pub use stage_outcomes::StageOutcomes;
 pub use stop::Stop;

@@ -1,15 +1,15 @@
-ghost use Rattle.std.specs.Prelude.{map};
-ghost use Rattle.command_deeds.specs.Line.{asm_line, fault_line, image_line, joined, line_of, number_line, numbers_line};
+ghost use Rattle.std.specs.Prelude.{◌+◌, ◌≤◌, length, map};
+ghost use Rattle.command_deeds.specs.Line.{asm_line, fault_line, image_line, joined, line_of, number_line, numbers_line, stage_line, stage_lines, stages_of, tables_line};
 ghost use Rattle.command_deeds.specs.World.{Writes, output_seen};
 
-use crate::digits::{decimal, decimal_long, hexadecimal};
+use crate::digits::{decimal, decimal_long, decimal_signed, hexadecimal};
 use crate::done::Done;
 use itoa::Buffer;
-use nv_events::Fault;
+use nv_events::{Fault, Outcome};
 use nv_faults::{AsmFault, ImageFault};
 use nv_outside::{Failed, Sink, write_all};
 
-/// Writes the line of an answer, where this name was asked for. Takes no memory.
+/// Writes the line of an answer, or its lines, where this name was asked for. Takes no memory.
 pub fn write_line<E: Sink>(err: &mut E, name: &str, done: &Done) -> Result<(), Failed>
     ensures writes { Writes (output_seen E.Sink err.old) (output_seen E.Sink err.new)
         (line_of name.now done.now) result }
@@ -42,6 +42,17 @@ pub fn write_line<E: Sink>(err: &mut E, name: &str, done: &Done) -> Result<(), F
         Done::VerifyRefused(fault) => {
             write_numbers(err, b"nested: verify ", fault.class, fault.method, fault.at)
         }
+        Done::FrameRefused(fault) => {
+            write_numbers(
+                err,
+                b"nested: frames ",
+                fault.class,
+                fault.method,
+                fault.kind,
+            )
+        }
+        Done::FramesTooLarge { class, bytes } => write_size(err, class, bytes),
+        Done::Piped(stages) => write_stages(err, 0, &stages.stages),
         Done::Trapped(kind) => write_number(err, b"nested: trap ", u64::from(kind)),
     }
 }
@@ -87,6 +98,84 @@ fn write_numbers<E: Sink>(
     write_pieces(err, &[text, a, b" ", b, b" ", c, b"\n"])
 }
 
+/// Writes the line of a class that would be too large with its tables.
+fn write_size<E: Sink>(err: &mut E, class: u32, bytes: u64) -> Result<(), Failed>
+    ensures writes { Writes (output_seen E.Sink err.old) (output_seen E.Sink err.new)
+        (tables_line class bytes) result }
+{
+    let (mut classes, mut sizes) = (Buffer::new(), Buffer::new());
+    let class = decimal(&mut classes, class);
+    let bytes = decimal_long(&mut sizes, bytes);
+    write_pieces(err, &[b"nested: tables ", class, b" ", bytes, b"\n"])
+}
+
+/// Writes a line for each of these stages, of which the first has this number.
+fn write_stages<E: Sink>(err: &mut E, number: u32, stages: &[Option<Outcome>]) -> Result<(), Failed>
+    requires few { number + length stages.now ≤ 8 }
+    ensures writes { Writes (output_seen E.Sink err.old) (output_seen E.Sink err.new)
+        (stage_lines number (stages_of stages.now)) result }
+{
+    match stages.split_first() {
+        Some((stage, later)) => match stage {
+            Some(ended) => {
+                write_stage(err, number, *ended)?;
+                write_stages(err, number + 1, later)
+            }
+            None => Ok(()),
+        },
+        None => Ok(()),
+    }
+}
+
+/// Writes the line of a stage that ended so.
+fn write_stage<E: Sink>(err: &mut E, number: u32, ended: Outcome) -> Result<(), Failed>
+    ensures writes { Writes (output_seen E.Sink err.old) (output_seen E.Sink err.new)
+        (stage_line number ended) result }
+{
+    let (mut numbers, mut digits) = (Buffer::new(), Buffer::new());
+    let stage = decimal(&mut numbers, number);
+    match ended {
+        Outcome::Exited(status) => {
+            let status = decimal_signed(&mut digits, status);
+            write_pieces(err, &[b"nested: stage ", stage, b" exited ", status, b"\n"])
+        }
+        Outcome::Faulted(fault) => write_stage_fault(err, number, fault),
+        Outcome::Trapped(kind) => {
+            let kind = decimal(&mut digits, kind);
+            write_pieces(err, &[b"nested: stage ", stage, b" trap ", kind, b"\n"])
+        }
+        Outcome::Waiting | Outcome::Going => {
+            write_pieces(err, &[b"nested: stage ", stage, b" spent\n"])
+        }
+    }
+}
+
+/// Writes the line of a stage that ended in this fault.
+fn write_stage_fault<E: Sink>(err: &mut E, number: u32, fault: Fault) -> Result<(), Failed>
+    ensures writes { Writes (output_seen E.Sink err.old) (output_seen E.Sink err.new)
+        (stage_line number (Outcome.Faulted fault)) result }
+{
+    let (mut numbers, mut digits) = (Buffer::new(), Buffer::new());
+    let stage = decimal(&mut numbers, number);
+    let kind = decimal(&mut digits, fault.kind);
+    let pc = hexadecimal(fault.pc);
+    let value = hexadecimal(fault.value);
+    write_pieces(
+        err,
+        &[
+            b"nested: stage ",
+            stage,
+            b" fault ",
+            kind,
+            b" pc ",
+            &pc,
+            b" value ",
+            &value,
+            b"\n",
+        ],
+    )
+}
+
 /// Writes the line of a check that the program's image failed.
 fn write_image_fault<E: Sink>(err: &mut E, fault: ImageFault) -> Result<(), Failed>
     ensures writes { Writes (output_seen E.Sink err.old) (output_seen E.Sink err.new)
@@ -123,7 +212,7 @@ pub fn write_number<E: Sink>(sink: &mut E, text: &[u8], number: u64) -> Result<(
 }
 
 /// Writes a text. After a failure the sink has taken a front part of it.
-fn write_text<E: Sink>(sink: &mut E, text: &[u8]) -> Result<(), Failed>
+pub fn write_text<E: Sink>(sink: &mut E, text: &[u8]) -> Result<(), Failed>
     ensures writes { Writes (output_seen E.Sink sink.old) (output_seen E.Sink sink.new)
         text.now result }
 {

@@ -37,5 +37,9 @@ pub const SPENT: u8 = 78;
 pub const FAULTED: u8 = 79;
 /// The class machine ended in a trap.
 pub const TRAPPED: u8 = 80;
+/// A method is not typed by its table of frames, or there is no room to name what tables do.
+pub const FRAME_REFUSED: u8 = 82;
+/// A class would be too large with its tables of frames.
+pub const FRAMES_TOO_LARGE: u8 = 83;
 /// The objects do not link.
 pub const OBJ_REFUSED: u8 = 84;

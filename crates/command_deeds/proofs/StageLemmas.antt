@@ -1,0 +1,20 @@
+-- The lines of the stages of a pipeline, one behind the other.
+use Rattle.std.proofs.Common.{◌≡◌, ℕ, List, [], ◌∷◌, ◌++◌, Result, Ok, Err, ap, codes, decimal, inl, inr}
+use Rattle.std.specs.Prelude.{◌⊎◌}
+use Rattle.nv_events.specs.declared.outcome.Outcome.{Outcome}
+use Rattle.nv_events.specs.declared.outcome.Outcome.TheVariants.{Waiting, Going}
+use Rattle.nv_outside.proofs.SeenLemmas.{fails-behind, takes-both}
+use Rattle.command_deeds.specs.Line.{joined, stage_line}
+use Rattle.command_deeds.specs.World.{Seen, Takes, Writes}
+
+-- the line of a stage that did not end
+pub spent-line : (i : ℕ) (ended : Outcome) → (ended ≡ Waiting) ⊎ (ended ≡ Going)
+    → stage_line i ended ≡ joined (codes "nested: stage " ∷ decimal i ∷ codes " spent\n" ∷ [])
+spent-line i ended (inl is) = ap (stage_line i) is
+spent-line i ended (inr is) = ap (stage_line i) is
+
+-- a text was taken, and one behind it written, or not
+pub writes-behind : {E : Type 0} (old mid new : Seen (List ℕ)) (xs ys : List ℕ) (result : Result (Unit {0}) E) → Takes old mid xs
+    → Writes mid new ys result → Writes old new (xs ++ ys) result
+writes-behind old mid new xs ys (Ok done) took writes = takes-both old mid new xs ys took writes
+writes-behind old mid new xs ys (Err failed) took fails = fails-behind old mid new xs ys took fails
