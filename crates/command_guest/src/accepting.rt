@@ -28,7 +28,7 @@ pub fn accept<H: Shelf>(
 }
 
 /// Links and verifies a set that was loaded, if it was.
-fn accept_loaded(alloc: Global, named: &NamedClass, loaded: Loaded) -> Result<Verified, Ending>
+pub fn accept_loaded(alloc: Global, named: &NamedClass, loaded: Loaded) -> Result<Verified, Ending>
     requires kept { IsKeptSet loaded }
     ensures makes { Makes (λ check. IsAcceptedLoaded named.now loaded (classes_of check)) result }
 {

@@ -11,11 +11,11 @@ mod listing;
 mod running;
 mod verifying;
 
-pub use accepting::accept_classes;
+pub use accepting::{accept, accept_classes, accept_loaded};
 pub use assembly::asm;
 pub use guest::Guest;
 pub use imaging::{DEFAULT_PAGES, image_of_file, load_image};
 pub use interpreting::interp;
 pub use listing::list;
 pub use running::run;
-pub use verifying::verify;
+pub use verifying::{verify, write_counts};

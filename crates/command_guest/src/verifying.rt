@@ -25,7 +25,7 @@ pub fn verify<H: Shelf, S: Source, O: Sink, E: Sink>(
 }
 
 /// Writes how many classes and methods there are. Takes no memory.
-fn write_counts<O: Sink>(linked: &Linked, out: &mut O) -> Result<(), Failed>
+pub fn write_counts<O: Sink>(linked: &Linked, out: &mut O) -> Result<(), Failed>
     ensures writes { Writes (output_seen O.Sink out.old) (output_seen O.Sink out.new)
         (counts_line linked.now.classes) result }
 {
