@@ -1,0 +1,4 @@
+pub mod FramesLemmas
+pub mod CheckLemmas
+pub mod StoreLemmas
+pub mod WriteLemmas

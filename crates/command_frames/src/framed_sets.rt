@@ -1,0 +1,95 @@
+//! The command `frames`.
+ghost use Rattle.std.specs.Prelude.{◌≡◌, All, IfOk};
+ghost use Rattle.named_sets.specs.Kept.{IsKeptSet};
+ghost use Rattle.named_sets.specs.Plain.{loaded_of, names_of};
+ghost use Rattle.named_sets.specs.declared.version.Version.TheVariants.{V48};
+ghost use Rattle.framing.specs.Refusals.{IsWritable};
+ghost use Rattle.command_deeds.specs.Ends.{Ends, Gives, Makes};
+ghost use Rattle.command_deeds.specs.World.{shelf_seen};
+ghost use Rattle.command_frames.specs.Frames.{AreFilesOfSet, AreFilesOf, IsDueOfFrames, IsFramedTo, deeds_of, framed_of};
+
+use crate::stored_class::StoredClass;
+use crate::storing::store_classes;
+use crate::writing::write_classes;
+use class_set::Loaded;
+use command_deeds::{Done, Ending, Outside, Stop, write_number};
+use command_guest::accept_loaded;
+use command_words::NamedClass;
+use frame_maps::FrameError;
+use framed_class_file::FramedClass;
+use jvm_names::Sequence;
+use named_sets::{Name, NamedSet, Version, load_named_set};
+use nv_outside::{Shelf, Sink, Source};
+use std::alloc::Global;
+use type_verifier::Verified;
+
+/// Loads the set of a class, links it and verifies it, stores its classes with tables of frames under the names by which they were
+/// loaded, and writes how many they are.
+pub fn frames<H: Shelf, S: Source, O: Sink, E: Sink>(
+    alloc: Global,
+    class: &NamedClass,
+    outside: &mut Outside<'_, H, S, O, E>,
+) -> Result<Done, Ending>
+    ensures ends { Ends H.Shelf S.Source O.Sink E.Sink (IsDueOfFrames class.now)
+        outside.old outside.new result }
+{
+    let classes = framed_classes(alloc, class, outside.shelf)?;
+    store_classes(&classes, outside.shelf)?;
+    write_number(outside.out, b"classes ", classes.as_slice().len() as u64)?;
+    Ok(Done::Good)
+}
+
+/// Loads the set of a class, links it and verifies it, and gives its classes tables of frames.
+fn framed_classes<H: Shelf>(
+    alloc: Global,
+    class: &NamedClass,
+    shelf: &mut H,
+) -> Result<Vec<StoredClass>, Ending>
+    ensures gives { Gives (λ files check. AreFilesOf class.now files (deeds_of check))
+        (shelf_seen H.Shelf shelf.old) (shelf_seen H.Shelf shelf.new) result }
+{
+    let set = load_named_set(alloc, shelf, Version::V48, class.name.as_str())?;
+    framed_set(alloc, class, set)
+}
+
+fn framed_set(alloc: Global, named: &NamedClass, set: NamedSet) -> Result<Vec<StoredClass>, Ending>
+    requires kept { IsKeptSet V48 set }
+    ensures makes { Makes (λ check. AreFilesOfSet named.now set (deeds_of check)) result }
+{
+    let (names, loaded) = apart(alloc, set);
+    let verified = accept_loaded(alloc, named, loaded)?;
+    let framed = with_tables(alloc, &verified)?;
+    Ok(write_classes(alloc, names.as_slice(), &framed)?)
+}
+
+/// The names of a set, and the set without them.
+fn apart(alloc: Global, set: NamedSet) -> (Sequence<Name>, Loaded)
+    ensures names { result.0 ≡ names_of set }
+    ensures loaded { result.1 ≡ loaded_of set }
+{
+    match set {
+        NamedSet::NoFile => (Sequence::new(Vec::new(alloc)), Loaded::NoFile),
+        NamedSet::Faulty { class, fault } => {
+            (
+                Sequence::new(Vec::new(alloc)),
+                Loaded::Faulty { class, fault },
+            )
+        }
+        NamedSet::Classes(members) => (members.names, Loaded::Classes(members.classes)),
+    }
+}
+
+/// Verified classes with their tables.
+fn with_tables(alloc: Global, verified: &Verified) -> Result<Vec<FramedClass>, Ending>
+    ensures makes { Makes (λ check. IsFramedTo verified.now.linked.classes (framed_of check)) result }
+    ensures writable { IfOk result (λ framed. All IsWritable framed.items) }
+{
+    match framing::frames(alloc, verified) {
+        Ok(framed) => Ok(framed),
+        Err(FrameError::Refused(fault)) => Err(Ending::Refused(Done::FrameRefused(fault))),
+        Err(FrameError::TooLarge { class, bytes }) => {
+            Err(Ending::Refused(Done::FramesTooLarge { class, bytes }))
+        }
+        Err(FrameError::NoMemory) => Err(Ending::Stopped(Stop::NoMemory)),
+    }
+}

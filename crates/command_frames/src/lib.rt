@@ -1,0 +1,12 @@
+//! The commands `frames` and `check`: sets of classes get tables of frames, and are checked by them (JVM Specification, Java SE 7
+//! edition, 4.10.1).
+#![tactic(auto)]
+
+mod checking;
+mod framed_sets;
+mod stored_class;
+mod storing;
+mod writing;
+
+pub use checking::check;
+pub use framed_sets::frames;
