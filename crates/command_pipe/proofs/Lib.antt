@@ -1,0 +1,4 @@
+pub mod SetLemmas
+pub mod StageLemmas
+pub mod ListLemmas
+pub mod DueLemmas
