@@ -19,7 +19,7 @@ use Rattle.mips_machine.specs.Loading.{start_of}
 use Rattle.jvm_program.specs.Step.{Loaded, loaded, loaded_turn}
 use Rattle.jvm_link.specs.Linking.{program_of}
 use Rattle.program_translation.specs.declared.named_file.NamedFile.{NamedFile}
-use Rattle.command_deeds.specs.Deeds.{Deed, DoesDeed, StopsDeed, StopsIn, plays, prepares, prints, stores}
+use Rattle.command_deeds.specs.Deeds.{Deed, DoesDeed, StopsDeed, StopsIn, pipes, plays, prepares, prints, stores, tells}
 use Rattle.command_deeds.specs.Ends.{CommandAnswer, Comes, Due, StopsEarly, answers, done_of_stop, final, is_stop}
 use Rattle.command_deeds.specs.Line.{line_of}
 use Rattle.command_deeds.specs.Runs.{GivenFile, Plan, found_for, keeps, kept, run_for, session_run}
@@ -42,6 +42,8 @@ is_quiet prepares = true
 is_quiet (stores name bytes) = true
 is_quiet (prints text) = false
 is_quiet (plays turns stage) = false
+is_quiet (pipes left output) = false
+is_quiet (tells text) = false
 
 only-then : (w u v : World) → OnlyShelf w u → OnlyShelf u v → OnlyShelf w v
 only-then w u v p q = (q.0 ∙ p.0, q.1 ∙ p.1, q.2 ∙ p.2)
@@ -51,12 +53,16 @@ quiet-does prepares w v h p = p.1
 quiet-does (stores name bytes) w v h p = p.1
 quiet-does (prints text) w v h p = cc
 quiet-does (plays turns stage) w v h p = cc
+quiet-does (pipes left output) w v h p = cc
+quiet-does (tells text) w v h p = cc
 
 quiet-stops : (deed : Deed) (w v : World) (stop : Stop) → is_quiet deed ≡ true → StopsDeed deed w v stop → OnlyShelf w v
 quiet-stops prepares w v stop h p = p.1.1
 quiet-stops (stores name bytes) w v stop h p = p.1
 quiet-stops (prints text) w v stop h p = cc
 quiet-stops (plays turns stage) w v stop h p = cc
+quiet-stops (pipes left output) w v stop h p = cc
+quiet-stops (tells text) w v stop h p = cc
 
 and-parts : (a b : Bool) → (a && b) ≡ true → (a ≡ true) × (b ≡ true)
 and-parts true b h = (refl, h)
@@ -162,10 +168,13 @@ runs-once (command.Run class words session) moment w due names is d =
     (λ accepted given. running loaded_turn (loaded (program_of accepted) words) made given w.input.told d.pieces due))
 runs-once (command.Translate input name pages method_bytes) moment w due names is d = cc
 runs-once (command.Verify class) moment w due names is d = cc
+runs-once (command.Frames class) moment w due names is d = cc
+runs-once (command.Check class) moment w due names is d = cc
 runs-once (command.Asm input output) moment w due names is d = cc
 runs-once (command.List input) moment w due names is d = cc
 runs-once (command.Make count method_bytes) moment w due names is d = cc
 runs-once (command.Link output inputs entry) moment w due names is d = cc
+runs-once (command.Pipe classes words steps disk pipe) moment w due names is d = cc
 
 -- ---- want of memory
 

@@ -1,6 +1,7 @@
 -- That what refuses leaves all as it was.
-use Rattle.std.proofs.Common.{◌≡◌, ℕ, Bool, true, false, List, [], ◌∷◌, ◌++◌, Option, Some, None, option_map, Result, Ok, Err, IfErr, IfOk, refl, sym, ◌∙◌, ap, subst, inl, inr}
+use Rattle.std.proofs.Common.{◌≡◌, ℕ, Bool, true, false, List, [], ◌∷◌, ◌++◌, Option, Some, None, option_map, length, Result, Ok, Err, IfErr, IfOk, refl, sym, ◌∙◌, ap, subst, inl, inr}
 use Rattle.std.proofs.lemmas.Option.{same_Some}
+use Rattle.nv_events.specs.Run.{Run}
 use Rattle.nv_events.specs.declared.outcome.Outcome.{Outcome}
 use Rattle.nv_events.specs.declared.outcome.Outcome.TheVariants.{Exited, Faulted, Trapped, Waiting, Going}
 use Rattle.command_values.specs.Names.{Text}
@@ -12,9 +13,13 @@ use Rattle.command_words.specs.declared.named_class.NamedClass.{NamedClass}
 use Rattle.command_words.specs.declared.pages.Pages.{Pages}
 use Rattle.command_words.specs.declared.usage.Usage.{Usage}
 use Rattle.mips_decode.specs.Step.{turn}
+use Rattle.unix_system.specs.System.{System}
+use Rattle.pipe_laws.specs.Pipelines.{Pipeline}
+use Rattle.pipe_laws.specs.Alone.{run_alone_of}
+use Rattle.pipe_net.specs.Histories.{first_run_over}
 use Rattle.elf_image.specs.Start.{Source, image_of}
 use Rattle.mips_machine.specs.Loading.{start_of}
-use Rattle.jvm_program.specs.Step.{loaded, loaded_turn}
+use Rattle.jvm_program.specs.Step.{Loaded, loaded, loaded_turn}
 use Rattle.jvm_link.specs.Linking.{program_of}
 use Rattle.command_deeds.proofs.DeedLemmas.{same_then_shelf}
 use Rattle.command_deeds.specs.Checks.{Check}
@@ -31,11 +36,14 @@ use Rattle.command_guest.specs.Assembly.{IsDueOfAsm, assembled}
 use Rattle.command_guest.specs.Classes as classes
 use Rattle.command_guest.specs.Interp.{IsDueOfInterp}
 use Rattle.command_guest.specs.Listing.{IsDueOfList, listed}
+use Rattle.command_frames.specs.Frames as frames
 use Rattle.command_link.specs.Linking.{linked}
+use Rattle.command_pipe.specs.Pipe.{IsDueOfPipe, each, ended_so, of_stages, piped, pipeline_for}
+use Rattle.command_pipe.specs.declared.launch.PipeLaunch.{PipeLaunch}
 use Rattle.command_translate.specs.Go.{IsDueOfGo, IsDueOfTranslated, allowed, classes_for}
 use Rattle.command_translate.specs.Make.{IsDueOfMake, told}
 use Rattle.command_translate.specs.Translate.{IsDueOfImage, IsDueOfTranslate}
-use Rattle.nested_cli.specs.Commands.{Does, IsDueOf, loads, plan}
+use Rattle.nested_cli.specs.Commands.{Does, IsDueOf, loads, plan, pipe_launch}
 use Rattle.nested_cli.specs.Laws.{RefusalsLeaveAll, is_refusal}
 use Rattle.nested_cli.specs.Usage.{Misuses}
 use Rattle.nested_cli.proofs.CheckLemmas.{checked, checked-twice, not-told, passing}
@@ -124,6 +132,19 @@ translate-leaves input name pages method_bytes w due d =
     checked (LeavesAll due) due d.source (refusing due) d.refused (passing (λ image. IsDueOfImage image name method_bytes due) (λ image. LeavesAll due) d.source
     (λ image t. accepting due done.Good (ap (λ (e : Due). e.answer) t.is) refl) d.done)
 
+-- where all stages of a pipeline ended
+staged : (due : Due) (count : ℕ) (run : ℕ → Run Loaded System) → due ≡ of_stages count run → LeavesAll due
+staged due count run is =
+    accepting due (done.Piped (ended_so (each (λ i. (run i).outcome) count))) (due-answer due (of_stages count run) is) refl
+
+pipe-leaves : (stages : List NamedClass) (launch : PipeLaunch) (w : World) (due : Due) → IsDueOfPipe stages launch w due → LeavesAll due
+pipe-leaves stages launch w due d =
+    checked (LeavesAll due) due d.sets (refusing due) d.refused
+    (passing (λ sets. due ≡ piped launch stages sets w.input.told d.pieces) (λ sets. LeavesAll due) d.sets
+    (λ sets is.
+    let p : Pipeline Loaded = pipeline_for launch stages sets w.input.told in
+    staged due (length stages) (run_alone_of p (first_run_over p w.input.told d.pieces)) is) d.done)
+
 leaves : (c : Command) (moment : ℕ) (w : World) (due : Due) → IsDueOf c moment w due → LeavesAll due
 leaves (command.Go input name pages method_bytes session) moment w due d = go-leaves input pages method_bytes (plan name session moment) w due d
 leaves (command.Translate input name pages method_bytes) moment w due d = translate-leaves input name pages method_bytes w due d
@@ -133,6 +154,10 @@ leaves (command.List input) moment w due d =
     checked-good due (λ image. listed (image_of image).code d.runs) d.source (λ image. refl) d.refused d.done
 leaves (command.Run class words session) moment w due d = run-leaves class words (plan class.name session moment) w due d
 leaves (command.Verify class) moment w due d = checked-good due classes.counted d.classes (λ accepted. refl) d.refused d.done
+leaves (command.Frames class) moment w due d = checked-good due frames.counted d.deeds (λ stored. refl) d.refused d.done
+leaves (command.Check class) moment w due d = checked-good due classes.counted d.classes (λ accepted. refl) d.refused d.done
+leaves (command.Pipe stages words steps disk pipe) moment w due d =
+    pipe-leaves stages (pipe_launch words steps disk pipe moment) w due d
 leaves (command.Link output inputs entry) moment w due d = checked-good due (linked output) d.program (λ bytes. refl) d.refused d.done
 leaves (command.Make count method_bytes) moment w due d = good due (told count d.status d.status) refl d.done
 

@@ -16,7 +16,11 @@ use Rattle.command_guest.specs.Assembly.{IsDueOfAsm}
 use Rattle.command_guest.specs.Interp.{IsDueOfInterp}
 use Rattle.command_guest.specs.Listing.{IsDueOfList}
 use Rattle.command_guest.specs.Classes.{IsDueOfRun, IsDueOfVerify}
+use Rattle.command_frames.specs.Frames.{IsDueOfFrames}
+use Rattle.command_frames.specs.Check.{IsDueOfCheck}
 use Rattle.command_link.specs.Linking.{IsDueOfLink}
+use Rattle.command_pipe.specs.Pipe.{IsDueOfPipe}
+use Rattle.command_pipe.specs.declared.launch.PipeLaunch.{PipeLaunch}
 use Rattle.command_translate.specs.Go.{IsDueOfGo}
 use Rattle.command_translate.specs.Make.{IsDueOfMake}
 use Rattle.command_translate.specs.Translate.{IsDueOfTranslate}
@@ -26,6 +30,11 @@ use Rattle.nested_cli.specs.Usage.{Misuses}
 
 abbrev pub plan : Text → Session → ℕ → Plan
 plan name session moment = record { name = name; session = session; moment = moment }
+
+-- how the stages of a pipeline are started
+abbrev pub pipe_launch : ℕ → ℕ → ℕ → ℕ → ℕ → PipeLaunch
+pipe_launch words steps disk pipe moment =
+    record { words = words; steps = steps; disk = disk; size = pipe; moment = moment }
 
 -- What a command is to do in a world: by its words, and by files and input that are those that are
 -- told, where any are.
@@ -41,8 +50,12 @@ IsDueOf (command.List input) moment w due = IsDueOfList input w due
 IsDueOf (command.Run class words session) moment w due =
     IsDueOfRun class words (plan class.name session moment) w due
 IsDueOf (command.Verify class) moment w due = IsDueOfVerify class w due
+IsDueOf (command.Frames class) moment w due = IsDueOfFrames class w due
+IsDueOf (command.Check class) moment w due = IsDueOfCheck class w due
 IsDueOf (command.Make count method_bytes) moment w due = IsDueOfMake count method_bytes moment due
 IsDueOf (command.Link output inputs entry) moment w due = IsDueOfLink output inputs entry w due
+IsDueOf (command.Pipe classes words steps disk pipe) moment w due =
+    IsDueOfPipe classes (pipe_launch words steps disk pipe moment) w due
 
 -- all but `make` load files
 abbrev pub loads : Command → Bool

@@ -47,6 +47,9 @@ is_refusal (done.ClassRefused class kind at) = true
 is_refusal (done.LinkRefused f) = true
 is_refusal (done.VerifyRefused f) = true
 is_refusal (done.ObjRefused f) = true
+is_refusal (done.FrameRefused f) = true
+is_refusal (done.FramesTooLarge class bytes) = true
+is_refusal (done.Piped stages) = false
 is_refusal (done.Trapped k) = false
 is_refusal done.Spent = false
 is_refusal done.ReadFault = false
@@ -133,10 +136,13 @@ kept_by (command.Interp input name pages session) = Some session.keep.names
 kept_by (command.Run class words session) = Some session.keep.names
 kept_by (command.Translate input name pages method_bytes) = None
 kept_by (command.Verify class) = None
+kept_by (command.Frames class) = None
+kept_by (command.Check class) = None
 kept_by (command.Asm input output) = None
 kept_by (command.List input) = None
 kept_by (command.Make count method_bytes) = None
 kept_by (command.Link output inputs entry) = None
+kept_by (command.Pipe classes words steps disk pipe) = None
 
 -- The whole run of a command was made: input lost what it read, and output took what it wrote.
 pub record RanWhole (c : Command) (moment : ℕ) (w v : World) : Type 0 where

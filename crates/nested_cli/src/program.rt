@@ -12,8 +12,10 @@ ghost use Rattle.nested_cli.specs.Line.{Tells};
 ghost use Rattle.nested_cli.specs.Usage.{Misuses};
 
 use command_deeds::{Done, Ending, Launch, Outside, write_line};
+use command_frames::{check, frames};
 use command_guest::{Guest, asm, interp, list, run, verify};
 use command_link::link;
+use command_pipe::{PipeLaunch, pipe};
 use command_translate::{go, make, translate};
 use command_words::{Command, read_words};
 use nv_outside::{Failed, Shelf, Sink, Source};
@@ -168,10 +170,28 @@ fn perform_command<H: Shelf, S: Source, O: Sink, E: Sink>(
             run(alloc, class, *words, &launch, outside)
         }
         Command::Verify { class } => verify(alloc, class, outside),
+        Command::Frames { class } => frames(alloc, class, outside),
+        Command::Check { class } => check(alloc, class, outside),
         Command::Make {
             count,
             method_bytes,
         } => make(alloc, *count, *method_bytes, moment, outside),
+        Command::Pipe {
+            classes,
+            words,
+            steps,
+            disk,
+            pipe: size,
+        } => {
+            let launch = PipeLaunch {
+                words: *words,
+                steps: *steps,
+                disk: *disk,
+                size: *size,
+                moment,
+            };
+            pipe(alloc, classes.as_slice(), &launch, outside)
+        }
         Command::Link {
             output,
             inputs,

@@ -12,6 +12,9 @@ const HELP: &str = "nested: runs MIPS programs without native code
     nested link OUT IN.. [options]            links the objects IN (1 to 256) to the program OUT
     nested verify NAME                        loads, links and verifies the class NAME and those that it names
     nested run NAME [options] [-- ARGS]       verifies them, and runs them
+    nested pipe A B .. [options]              runs 2 to 8 classes, each with the output of the one before as its input
+    nested frames NAME                        stores them in version 51 with tables of frames (StackMapTable)
+    nested check NAME                         loads classes of version 51, links them, and checks them by their tables
     nested make N [options]                   makes a program of N blocks (1 to 65536), and runs it and its classes
     nested --help, nested --version           print this text, and the version
 
@@ -19,9 +22,10 @@ const HELP: &str = "nested: runs MIPS programs without native code
     --heap N            of go, translate, interp: pages of heap, 0 to 32768 (256)
     --stack N           of go, translate, interp: pages of stack, 1 to 32768 (64)
     --method-bytes N    of go, translate, make: the most bytes of a method, 4096 to 65535 (65535)
-    --steps N           of go, interp, run: the most instructions, 0 to 2^40, of run 2^50 (the most)
-    --words N           of run: words for arrays, 1 to 68288580 (4194304)
-    --disk N            of go, interp, run: blocks of 4096 bytes for files, 0 to 65536 (1024)
+    --steps N           of go, interp, run, pipe: the most instructions, 0 to 2^40, of run and pipe 2^50 (the most)
+    --words N           of run, pipe: words for arrays, 1 to 68288580 (4194304)
+    --disk N            of go, interp, run, pipe: blocks of 4096 bytes for files, 0 to 65536 (1024)
+    --pipe N            of pipe: the bytes that make a pipe full, 1 to 65536 (4096)
     --entry SYMBOL      of link: where the program begins (__start)
     --with NAMES        of go, interp, run: files that the program finds, a list with commas (none)
     --keep NAMES        of go, interp, run: files that are stored when it ends, a list with commas (none)
