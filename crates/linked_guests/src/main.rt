@@ -1,36 +1,50 @@
 //! Calls of the program one after the other, each a line of the input, so that the gate links objects and runs the programs. Behind
-//! what a call prints stands its status.
+//! what a call prints, and what it says of a fault, stands its status. The line `zeros NAME N` makes a file of N zeros.
 #![tactic(auto)]
 
+use anyhow::{Result, bail};
 use nested_cli::nested;
-use nv_outside::{FileShelf, MemSource, StdSink, write_all};
+use nv_outside::{FileShelf, MemSink, MemSource, Shelf, Sink, StdSink, write_all};
 use std::alloc::{AllocError, Global};
 use std::io;
 use std::path::PathBuf;
 
-fn main(rt: HostRuntime) -> anyhow::Result<()> {
+fn main(rt: HostRuntime) -> Result<()> {
     let alloc = rt.alloc();
-    let calls = io::read_to_string(alloc, rt.stdin())?;
+    let lines = io::read_to_string(alloc, rt.stdin())?;
     let mut out = StdSink::new(rt.stdout().lock());
-    let mut err = StdSink::new(rt.stderr().lock());
     let mut shelf = FileShelf::new(alloc, rt, PathBuf::from_str(alloc, "")?);
-    for call in calls.lines() {
-        let words = words_of(alloc, call)?;
-        let mut input = MemSource::new(Vec::new(alloc), Vec::new(alloc));
-        let done = nested(
-            alloc,
-            words.as_slice(),
-            0,
-            &mut shelf,
-            &mut input,
-            &mut out,
-            &mut err,
-        );
-        let status = done.status();
-        let line = format!(in alloc; "{call}: {status}\n")?;
-        if write_all(&mut out, line.as_str().as_bytes()).is_err() {
-            break;
+    for line in lines.lines() {
+        match line.strip_prefix("zeros ") {
+            Some(file) => store_zeros(alloc, file, &mut shelf)?,
+            None => call(alloc, line, &mut shelf, &mut out)?,
         }
+    }
+    Ok(())
+}
+
+/// Stores the file that a line names, with so many zeros as it says behind a blank.
+fn store_zeros<H: Shelf>(alloc: Global, file: &str, shelf: &mut H) -> Result<()> {
+    let Some((name, count)) = file.split_once(' ') else {
+        bail!("a name and a number are wanted");
+    };
+    let zeros = vec![in alloc; 0u8; count.parse()?]?;
+    if shelf.store(name, zeros.as_slice()).is_err() {
+        bail!("{name} is not stored");
+    }
+    Ok(())
+}
+
+/// Calls the program with the words of a line.
+fn call<H: Shelf, O: Sink>(alloc: Global, line: &str, shelf: &mut H, out: &mut O) -> Result<()> {
+    let words = words_of(alloc, line)?;
+    let mut input = MemSource::new(Vec::new(alloc), Vec::new(alloc));
+    let mut err = MemSink::new(alloc, 200, Vec::new(alloc))?;
+    let done = nested(alloc, words.as_slice(), 0, shelf, &mut input, out, &mut err);
+    let status = done.status();
+    let text = format!(in alloc; "{line}: {status}\n")?;
+    if write_all(out, err.bytes()).is_err() || write_all(out, text.as_str().as_bytes()).is_err() {
+        bail!("output fails");
     }
     Ok(())
 }
