@@ -56,6 +56,10 @@ with_tables_held held files opened heap = record held {
   heap = heap;
 }
 
+-- only the arguments differ
+abbrev pub with_args_held : Held → List (List ℕ) → Held
+with_args_held held args = record held { args = args }
+
 -- the program has begun, with this heap and this order of bytes
 abbrev pub with_begun_held : Held → Order → Heap → Held
 with_begun_held held order heap = record held { heap = heap; order = order }

@@ -2,7 +2,7 @@ ghost use Rattle.std.specs.Prelude.{◌-◌, ◌≡◌, ◌≤◌, ◌<◌, ◌+
 ghost use Rattle.unix_files.specs.Files.{blocks_for, bytes_at, node_named};
 ghost use Rattle.unix_system.specs.Calls.{block_length};
 ghost use Rattle.unix_system.specs.Unix.{blocks_needed};
-ghost use Rattle.unix_calls.specs.Held.{Held, limited};
+ghost use Rattle.unix_calls.specs.Held.{Held, limited, with_args_held};
 ghost use Rattle.unix_calls.specs.Sides.{console_of};
 ghost use Rattle.unix_calls.specs.Starting.{held_at_start, Begins, BeginsLimited, IsFresh, IsOpenToFiles};
 
@@ -173,6 +173,8 @@ impl Unix {
             (args : List (List ℕ)) → BeginsLimited most self.old blocks moment files args
             → OnOk result
             (BeginsLimited most self.new blocks moment files (args ++ text.now ∷ [])) }
+        ensures only_args { OnOk result
+            (self.new ≡ with_args_held self.old (self.old.args ++ text.now ∷ [])) }
         ensures unchanged { OnErr result (self.new ≡ self.old) }
         ensures fits { OnOk result (block_length (self.old.args ++ text.now ∷ []) ≤ 4096) }
         ensures too_long { (n : ℕ) → result ≡ Err (UnixError.ArgsTooLong n)
