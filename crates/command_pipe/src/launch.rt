@@ -1,5 +1,4 @@
-use command_values::RegionWords;
-use command_words::PipeBytes;
+use command_values::{PipeBytes, RegionWords};
 
 /// How the stages of a pipeline are started.
 #[derive(Debug, Drop)]

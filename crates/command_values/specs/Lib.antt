@@ -2,3 +2,4 @@ pub mod Ranges
 pub mod Names
 pub mod MethodBytes
 pub mod RegionWords
+pub mod PipeBytes

@@ -1,5 +1,5 @@
-//! The values that words of the command line give: names of classes, how many bytes a method may have, and how many words the arrays
-//! of a class machine.
+//! The values that words of the command line give: names of classes, how many bytes a method may have, how many a pipe holds, and how
+//! many words the arrays of a class machine.
 //!
 //! Each is made where it is read, by a call that is itself the test, so that what takes one need not ask.
 #![tactic(auto)]
@@ -7,9 +7,11 @@
 mod characters;
 mod class_name;
 mod method_bytes;
+mod pipe_bytes;
 mod region_words;
 
 pub use characters::is_digit;
 pub use class_name::ClassName;
 pub use method_bytes::MethodBytes;
+pub use pipe_bytes::PipeBytes;
 pub use region_words::RegionWords;

@@ -1,5 +1,4 @@
 pub mod Word
-pub mod PipeBytes
 pub mod Given
 pub mod Values
 pub mod Meaning

@@ -5,7 +5,7 @@ use Rattle.std.specs.List.{list_any, before_first, after_first}
 use Rattle.std.specs.Str.{bytes_eq}
 use Rattle.command_values.specs.Names.{Text, lawful_name}
 use Rattle.command_values.specs.MethodBytes.{least_method_bytes, most_method_bytes}
-use Rattle.command_words.specs.PipeBytes.{least_pipe_bytes, most_pipe_bytes}
+use Rattle.command_values.specs.PipeBytes.{least_pipe_bytes, most_pipe_bytes}
 use Rattle.command_values.specs.RegionWords.{least_region_words, most_region_words}
 use Rattle.command_values.specs.Ranges.{lies_in}
 use Rattle.command_words.specs.Word.{is_end, is_plain, waits_for_value}

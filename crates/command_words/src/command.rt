@@ -4,10 +4,9 @@ use crate::named::Named;
 use crate::named_class::NamedClass;
 use crate::named_classes::NamedClasses;
 use crate::pages::Pages;
-use crate::pipe_bytes::PipeBytes;
 use crate::session::Session;
 use crate::text::Text;
-use command_values::{ClassName, MethodBytes, RegionWords};
+use command_values::{ClassName, MethodBytes, PipeBytes, RegionWords};
 
 /// A command, with its words and options.
 #[derive(Debug, Drop)]

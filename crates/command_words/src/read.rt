@@ -12,14 +12,13 @@ use crate::named_class::NamedClass;
 use crate::names::{are_arguments, copied_words, names_in};
 use crate::number::{number_or, small_number_or};
 use crate::pages::Pages;
-use crate::pipe_bytes::PipeBytes;
 use crate::place::{value_place, word_number, word_place};
 use crate::session::Session;
 use crate::text::Text;
 use crate::texts::Texts;
 use crate::words_error::WordsError;
 use clap::ArgMatches;
-use command_values::{ClassName, MethodBytes, RegionWords};
+use command_values::{ClassName, MethodBytes, PipeBytes, RegionWords};
 use std::alloc::{AllocError, Global};
 
 /// The words of a region where the option is left out.

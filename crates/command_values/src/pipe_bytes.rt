@@ -1,5 +1,5 @@
 ghost use Rattle.std.specs.Prelude.{◌≡◌};
-ghost use Rattle.command_words.specs.PipeBytes.{ArePipeBytes, least_pipe_bytes, most_pipe_bytes};
+ghost use Rattle.command_values.specs.PipeBytes.{ArePipeBytes, least_pipe_bytes, most_pipe_bytes};
 ghost use Rattle.command_values.specs.Ranges.{in_range};
 
 use std::marker::Model;
@@ -12,7 +12,7 @@ pub struct PipeBytes {
 
 impl Model for PipeBytes {
     ghost use Rattle.std.specs.Prelude.{ℕ};
-    ghost use Rattle.command_words.specs.PipeBytes.{ArePipeBytes};
+    ghost use Rattle.command_values.specs.PipeBytes.{ArePipeBytes};
 
     ghost Value = { ℕ };
 
