@@ -5,10 +5,10 @@ use Rattle.nv_events.specs.declared.io_fault.IoFault.{IoFault}
 use Rattle.nv_events.specs.declared.io_fault.IoFault.TheVariants as io
 use Rattle.nv_outside.specs.declared.shelf_error.ShelfError.{ShelfError}
 use Rattle.nv_outside.specs.declared.shelf_error.ShelfError.TheVariants as shelf
-use Rattle.command_words.specs.declared.usage.Usage.{Usage}
-use Rattle.command_words.specs.declared.usage.Usage.TheVariants.{NoCommand, NotLawful}
-use Rattle.command_words.specs.declared.words_error.WordsError.{WordsError}
-use Rattle.command_words.specs.declared.words_error.WordsError.TheVariants as words
+use Rattle.command_forms.specs.declared.usage.Usage.{Usage}
+use Rattle.command_forms.specs.declared.usage.Usage.TheVariants.{NoCommand, NotLawful}
+use Rattle.command_forms.specs.declared.words_error.WordsError.{WordsError}
+use Rattle.command_forms.specs.declared.words_error.WordsError.TheVariants as words
 use Rattle.unix_calls.specs.declared.unix_error.UnixError.{UnixError}
 use Rattle.unix_calls.specs.declared.unix_error.UnixError.TheVariants as unix
 use Rattle.command_deeds.specs.declared.done.Done.TheVariants as done

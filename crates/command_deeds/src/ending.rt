@@ -6,7 +6,7 @@ ghost use Rattle.command_deeds.specs.declared.stop.Stop.TheVariants as stop;
 
 use crate::done::Done;
 use crate::stop::Stop;
-use command_words::{Usage, WordsError};
+use command_forms::{Usage, WordsError};
 use nv_events::IoFault;
 use nv_outside::{Failed, ShelfError};
 use std::alloc::AllocError;

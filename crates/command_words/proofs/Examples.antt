@@ -1,9 +1,9 @@
 -- The definition computed on words.
 use Rattle.std.proofs.Common.{◌≡◌, [], ◌∷◌, Ok, Err, codes, refl}
-use Rattle.command_words.specs.Given.{given_after}
+use Rattle.command_forms.specs.Given.{given_after}
 use Rattle.command_words.specs.Meaning.{command_of}
 use Rattle.command_words.specs.declared.command.Command.TheVariants.{Go, Asm}
-use Rattle.command_words.specs.declared.usage.Usage.TheVariants.{NoCommand, NotLawful}
+use Rattle.command_forms.specs.declared.usage.Usage.TheVariants.{NoCommand, NotLawful}
 
 no_words : command_of [] ≡ Err NoCommand
 no_words = refl

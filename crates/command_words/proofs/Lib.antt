@@ -1,10 +1,5 @@
 pub mod Examples
-pub mod FormRules
-pub mod FormWalk
-pub mod FormReads
-pub mod WordLemmas
-pub mod MatchLemmas
 pub mod NumberLemmas
 pub mod NameLemmas
-pub mod EndLemmas
+pub mod MadeLemmas
 pub mod LimitLemmas

@@ -7,19 +7,20 @@ use Rattle.std.proofs.lemmas.Bool.Decides.{nat_tests}
 use Rattle.std.specs.Str.Parse.{digits_value}
 use Rattle.command_values.specs.Ranges.{lies_in}
 use Rattle.command_values.specs.Names.{Text}
-use Rattle.command_words.specs.Given.{given_in, value_in}
+use Rattle.command_forms.specs.Given.{given_in, value_in}
 use Rattle.command_words.specs.Values.{all_different, are_arguments, are_file_names, has_zero, is_file_name, is_symbol_name, is_number, names_in, names_of, number_in, number_or}
-use Rattle.command_words.specs.Meaning.{Value, class_of, classes_in, classes_of, entry_in, formed_words, inputs_in, linked_from, plain_words, symbol_name, arguments_in, class_in, class_steps, command_after, disk_in, guest_steps, has_end, input_in, made, maker_of, method_bytes_in, name_in, name_list_in, pages_in, pipe_bytes_in, region_words_in, session_in, stack_in, heap_in, steps_in, takes_arguments, form_of, before_end, after_end}
+use Rattle.command_forms.specs.Forms.{formed_words, has_end, takes_arguments, form_of, before_end, after_end}
+use Rattle.command_words.specs.Meaning.{Value, class_of, classes_in, classes_of, entry_in, inputs_in, linked_from, plain_words, symbol_name, arguments_in, class_in, class_steps, command_after, disk_in, guest_steps, input_in, made, maker_of, method_bytes_in, name_in, name_list_in, pages_in, pipe_bytes_in, region_words_in, session_in, stack_in, heap_in, steps_in}
 use Rattle.command_words.specs.Answers.{Reads}
 use Rattle.std.specs.Option.{option_map_or}
 use Rattle.command_words.specs.declared.named.Named.{Named}
 use Rattle.command_words.specs.declared.named_class.NamedClass.{NamedClass}
-use Rattle.command_words.specs.declared.words_error.WordsError.{WordsError}
+use Rattle.command_forms.specs.declared.words_error.WordsError.{WordsError}
 use Rattle.command_words.specs.Limits.{AreFileNames, AreInputs, ArePages, AreStages, IsFileName, IsSession, IsWithinLimits}
 use Rattle.command_words.specs.declared.command.Command.{Command}
-use Rattle.command_words.specs.declared.command_name.CommandName.{CommandName}
-use Rattle.command_words.specs.declared.command_name.CommandName.TheVariants as name
-use Rattle.command_words.proofs.FormWalk.{and_first, and_second}
+use Rattle.command_forms.specs.declared.command_name.CommandName.{CommandName}
+use Rattle.command_forms.specs.declared.command_name.CommandName.TheVariants as name
+use Rattle.command_forms.proofs.FormWalk.{and_first, and_second}
 
 -- what holds of a first value leads to what holds of the second
 through : {A B : Type 0} (o : Option A) (f : A → Option B) (P : A → Type 0) (Q : B → Type 0) → IfSome o P → ((x : A) → P x → IfSome (f x) Q) → IfSome (option_and_then f o) Q

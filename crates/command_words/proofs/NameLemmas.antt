@@ -6,9 +6,9 @@ use Rattle.std.proofs.lemmas.List.{length-map}
 use Rattle.std.proofs.lemmas.List.Folds.{list_all-map}
 use Rattle.std.proofs.lemmas.Bool.Decides.{nat_tests}
 use Rattle.command_values.specs.Names.{Text}
-use Rattle.command_words.specs.Answers.{shown}
+use Rattle.command_forms.specs.Answers.{shown}
 use Rattle.command_words.specs.Values.{all_different, are_file_names, is_file_name}
-use Rattle.command_words.proofs.FormWalk.{and_no}
+use Rattle.command_forms.proofs.FormWalk.{and_no}
 use Rattle.clap.proofs.WalkLemmas.{list_any-map}
 
 step : (n : Bor Text) (others : List (Bor Text)) (b : Bool) → list_any (λ m. bytes_eq m.now n.now) others ≡ b

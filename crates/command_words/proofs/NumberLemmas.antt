@@ -8,8 +8,8 @@ use Rattle.std.proofs.lemmas.Bool.Decides.{nat_tests}
 use Rattle.command_values.specs.Ranges.{lies_in}
 use Rattle.command_values.specs.Names.{Text, is_digit}
 use Rattle.command_words.specs.Values.{is_number, number_in}
-use Rattle.command_words.proofs.FormWalk.{and_first, and_second}
-use Rattle.command_words.proofs.FormRules.{differs}
+use Rattle.command_forms.proofs.FormWalk.{and_first, and_second}
+use Rattle.command_forms.proofs.FormRules.{differs}
 
 digit_bounds : (b : ℕ) → is_digit b ≡ true → (48 ≤ b) × (b ≤ 57)
 digit_bounds b e = grind (arith, nat_tests)

@@ -1,27 +1,26 @@
 -- The command that lawful words mean.
 use Rattle.std.specs.Prelude.{ℕ, ◌+◌, ◌^◌, ◌-◌, Bool, true, false, not, ◌&&◌, if◌then◌else◌, List, [], ◌∷◌, Option, Some, None, Result, Err, codes, is_some, length, min, option_and_then, option_map}
 use Rattle.std.specs.Option.{ok_or, option_map_or}
-use Rattle.std.specs.List.{list_any, before_first, after_first}
-use Rattle.std.specs.Str.{bytes_eq}
 use Rattle.command_values.specs.Names.{Text, lawful_name}
 use Rattle.command_values.specs.MethodBytes.{least_method_bytes, most_method_bytes}
 use Rattle.command_values.specs.PipeBytes.{least_pipe_bytes, most_pipe_bytes}
 use Rattle.command_values.specs.RegionWords.{least_region_words, most_region_words}
 use Rattle.command_values.specs.Ranges.{lies_in}
-use Rattle.command_words.specs.Word.{is_end, is_plain, waits_for_value}
-use Rattle.command_words.specs.Given.{Form, given_in, option_words, value_in, value_place, word_place}
+use Rattle.command_forms.specs.Word.{is_plain, waits_for_value}
+use Rattle.command_forms.specs.Forms.{after_end, before_end, form_of, formed_words, has_end, name_of, takes_arguments}
+use Rattle.command_forms.specs.Given.{Form, given_in, value_in, value_place, word_place}
 use Rattle.command_words.specs.Values.{are_arguments, is_symbol_name, names_in, number_in, number_or}
 use Rattle.command_words.specs.declared.command.Command.{Command}
 use Rattle.command_words.specs.declared.command.Command.TheVariants.{Go, Translate, Interp, Run, Verify, Frames, Check, Asm, List as ListIn, Make, Link, Pipe}
-use Rattle.command_words.specs.declared.command_name.CommandName.{CommandName}
-use Rattle.command_words.specs.declared.command_name.CommandName.TheVariants as name
+use Rattle.command_forms.specs.declared.command_name.CommandName.{CommandName}
+use Rattle.command_forms.specs.declared.command_name.CommandName.TheVariants as name
 use Rattle.command_words.specs.declared.named.Named.{Named}
 use Rattle.command_words.specs.declared.named_class.NamedClass.{NamedClass}
 use Rattle.command_words.specs.declared.name_list.NameList.{NameList}
 use Rattle.command_words.specs.declared.pages.Pages.{Pages}
 use Rattle.command_words.specs.declared.session.Session.{Session}
-use Rattle.command_words.specs.declared.usage.Usage.{Usage}
-use Rattle.command_words.specs.declared.usage.Usage.TheVariants.{NoCommand, NotLawful}
+use Rattle.command_forms.specs.declared.usage.Usage.{Usage}
+use Rattle.command_forms.specs.declared.usage.Usage.TheVariants.{NoCommand, NotLawful}
 
 -- the value that the words give to a name
 abbrev pub Value : Type 0
@@ -151,39 +150,6 @@ entry_in value = option_map_or symbol_name (value (codes "entry")) (Some (codes 
 
 -- ---- what each command makes of its words
 
-abbrev pub name_of : Text → Option CommandName
-name_of word =
-    if bytes_eq word (codes "go") then Some name.Go
-    else if bytes_eq word (codes "translate") then Some name.Translate
-    else if bytes_eq word (codes "interp") then Some name.Interp
-    else if bytes_eq word (codes "run") then Some name.Run
-    else if bytes_eq word (codes "verify") then Some name.Verify
-    else if bytes_eq word (codes "frames") then Some name.Frames
-    else if bytes_eq word (codes "check") then Some name.Check
-    else if bytes_eq word (codes "asm") then Some name.Asm
-    else if bytes_eq word (codes "list") then Some name.List
-    else if bytes_eq word (codes "make") then Some name.Make
-    else if bytes_eq word (codes "link") then Some name.Link
-    else if bytes_eq word (codes "pipe") then Some name.Pipe
-    else None
-
-abbrev pub go_options : List Text
-go_options = codes "name" ∷ codes "heap" ∷ codes "stack" ∷ codes "method-bytes" ∷ codes "steps"
-    ∷ codes "disk" ∷ codes "with" ∷ codes "keep" ∷ []
-
-abbrev pub translate_options : List Text
-translate_options = codes "name" ∷ codes "heap" ∷ codes "stack" ∷ codes "method-bytes" ∷ []
-
-abbrev pub interp_options : List Text
-interp_options = codes "name" ∷ codes "heap" ∷ codes "stack" ∷ codes "steps" ∷ codes "disk"
-    ∷ codes "with" ∷ codes "keep" ∷ []
-
-abbrev pub run_options : List Text
-run_options = codes "words" ∷ codes "steps" ∷ codes "disk" ∷ codes "with" ∷ codes "keep" ∷ []
-
-abbrev pub pipe_options : List Text
-pipe_options = codes "words" ∷ codes "steps" ∷ codes "disk" ∷ codes "pipe" ∷ []
-
 -- what a command makes of its words before `--`, the values that they give, and the words after `--`
 abbrev pub Maker : Type 0
 Maker = List Text → Value → List Text → Option Command
@@ -257,47 +223,6 @@ pipe_from words value arguments =
     (pipe_bytes_in value)) (disk_in value)) (steps_in class_steps value))
     (region_words_in value)) (classes_in (plain_words false 0 words))
 
--- ---- the forms
-
-abbrev pub form_of : CommandName → Form
-form_of name.Go = record { words = codes "IN" ∷ []; options = go_options }
-form_of name.Translate = record { words = codes "IN" ∷ []; options = translate_options }
-form_of name.Interp = record { words = codes "IN" ∷ []; options = interp_options }
-form_of name.Run = record { words = codes "NAME" ∷ []; options = run_options }
-form_of name.Verify = record { words = codes "NAME" ∷ []; options = [] }
-form_of name.Frames = record { words = codes "NAME" ∷ []; options = [] }
-form_of name.Check = record { words = codes "NAME" ∷ []; options = [] }
-form_of name.Asm = record { words = codes "IN" ∷ codes "OUT" ∷ []; options = [] }
-form_of name.List = record { words = codes "IN" ∷ []; options = [] }
-form_of name.Make = record { words = codes "N" ∷ []; options = codes "method-bytes" ∷ [] }
-form_of name.Link = record { words = []; options = codes "entry" ∷ [] }
-form_of name.Pipe = record { words = []; options = pipe_options }
-
--- the plain words of the command repeat, so that its form has none
-abbrev pub repeats : CommandName → Bool
-repeats name.Link = true
-repeats name.Pipe = true
-repeats other = false
-
--- the words that the form of a command is read from
-abbrev pub formed_words : CommandName → List Text → List Text
-formed_words name words = if repeats name then option_words false words else words
-
--- the command may have ARGS
-abbrev pub takes_arguments : CommandName → Bool
-takes_arguments name.Go = true
-takes_arguments name.Interp = true
-takes_arguments name.Run = true
-takes_arguments name.Translate = false
-takes_arguments name.Verify = false
-takes_arguments name.Frames = false
-takes_arguments name.Check = false
-takes_arguments name.Asm = false
-takes_arguments name.List = false
-takes_arguments name.Make = false
-takes_arguments name.Link = false
-takes_arguments name.Pipe = false
-
 abbrev pub maker_of : CommandName → Maker
 maker_of name.Go = go_from
 maker_of name.Translate = translate_from
@@ -313,16 +238,6 @@ maker_of name.Link = link_from
 maker_of name.Pipe = pipe_from
 
 -- ---- all the words
-
--- the words before the first `--`, and those after it
-abbrev pub before_end : List Text → List Text
-before_end words = before_first is_end words
-
-abbrev pub after_end : List Text → List Text
-after_end words = after_first is_end words
-
-abbrev pub has_end : List Text → Bool
-has_end words = list_any is_end words
 
 -- What the words before `--` mean with those after it, where those of them that the form is read from break no rule of it.
 abbrev pub made : Form → Maker → List Text → List Text → List Text → Option Command

@@ -7,7 +7,7 @@ use crate::named::Named;
 use crate::named_class::NamedClass;
 use crate::named_classes::NamedClasses;
 use crate::read::lawful_name;
-use crate::words_error::WordsError;
+use command_forms::WordsError;
 use std::alloc::Global;
 
 /// The fewest classes of a pipeline, and the most.

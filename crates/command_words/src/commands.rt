@@ -2,11 +2,10 @@ ghost use Rattle.std.specs.Prelude.{[]};
 ghost use Rattle.clap.specs.Words.{first_value, found_of};
 ghost use Rattle.command_words.specs.Answers.{Reads};
 ghost use Rattle.command_words.specs.Meaning.{asm_from, check_from, frames_from, go_from, interp_from, list_from, make_from, maker_of, pipe_from, run_from, translate_from, verify_from};
-ghost use Rattle.command_words.specs.Word.{texts};
+ghost use Rattle.command_forms.specs.Word.{texts};
 
 use crate::classes::classes;
 use crate::command::Command;
-use crate::command_name::CommandName;
 use crate::linking::link;
 use crate::number::small_number_in;
 use crate::plain::plain_words;
@@ -14,8 +13,8 @@ use crate::read::{
     class, disk, input, method_bytes, name, pages, pipe_bytes, region_words, session, steps,
 };
 use crate::text::Text;
-use crate::words_error::WordsError;
 use clap::ArgMatches;
+use command_forms::{CommandName, WordsError};
 use std::alloc::Global;
 
 /// The most steps of a guest.

@@ -1,16 +1,14 @@
-//! The words of the command line: which are lawful, and the command that they mean.
+//! The command that the words of the command line mean.
 //!
-//! Lawful words are `COMMAND`, then its plain words and options in any order, and for some commands `--` and arguments. The
-//! options are read with `clap`, as one simple command for each command.
+//! Lawful words are `COMMAND`, then its plain words and options in any order, and for some commands `--` and arguments. They are
+//! read by the form of the command (`command_forms`).
 #![tactic(auto)]
 
 mod classes;
 mod command;
-mod command_name;
 mod commands;
 mod inputs;
 mod linking;
-mod matching;
 mod name_list;
 mod named;
 mod named_class;
@@ -24,10 +22,7 @@ mod read;
 mod session;
 mod text;
 mod texts;
-mod usage;
-mod word;
 mod words;
-mod words_error;
 
 pub use command::Command;
 pub use inputs::Inputs;
@@ -39,6 +34,4 @@ pub use pages::Pages;
 pub use session::Session;
 pub use text::Text;
 pub use texts::Texts;
-pub use usage::Usage;
 pub use words::read_words;
-pub use words_error::WordsError;

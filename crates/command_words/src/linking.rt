@@ -2,7 +2,7 @@ ghost use Rattle.std.specs.Prelude.{◌≡◌, []};
 ghost use Rattle.clap.specs.Words.{first_value, found_of};
 ghost use Rattle.command_words.specs.Answers.{Reads};
 ghost use Rattle.command_words.specs.Meaning.{entry_in, link_from, linked_from, symbol_name};
-ghost use Rattle.command_words.specs.Word.{texts};
+ghost use Rattle.command_forms.specs.Word.{texts};
 
 use crate::command::Command;
 use crate::inputs::Inputs;
@@ -10,8 +10,8 @@ use crate::named::Named;
 use crate::names::is_file_name;
 use crate::plain::plain_words;
 use crate::text::Text;
-use crate::words_error::WordsError;
 use clap::ArgMatches;
+use command_forms::WordsError;
 use std::alloc::Global;
 
 /// The most files that are linked.

@@ -1,11 +1,12 @@
 ghost use Rattle.std.specs.Prelude.{◌≡◌, IfOk, map, string_bytes, option_map, bytes_eq, not, Some};
 ghost use Rattle.std.specs.List.{list_any, list_all};
-ghost use Rattle.command_words.specs.Answers.{Reads, shown};
+ghost use Rattle.command_forms.specs.Answers.{shown};
+ghost use Rattle.command_words.specs.Answers.{Reads};
 ghost use Rattle.command_words.specs.Values.{all_different, are_arguments, are_file_names, has_zero, is_file_name, names_in, names_of};
-ghost use Rattle.command_words.specs.Word.{texts};
+ghost use Rattle.command_forms.specs.Word.{texts};
 
 use crate::texts::Texts;
-use crate::words_error::WordsError;
+use command_forms::WordsError;
 use std::alloc::{AllocError, Global};
 
 /// Whether no argument has a byte 0.

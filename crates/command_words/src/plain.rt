@@ -1,13 +1,12 @@
 //! Plain words and options apart, where the plain words repeat.
-ghost use Rattle.std.specs.Prelude.{◌≡◌, false, IfOk, map, string_bytes};
-ghost use Rattle.command_words.specs.Given.{option_words};
+ghost use Rattle.std.specs.Prelude.{◌≡◌, false, IfOk};
 ghost use Rattle.command_words.specs.Meaning.{named, plain_words};
-ghost use Rattle.command_words.specs.Word.{texts};
+ghost use Rattle.command_forms.specs.Word.{texts};
 
 use crate::named::Named;
 use crate::place::word_number;
 use crate::text::Text;
-use crate::word::{is_plain, waits_for_value};
+use command_forms::{is_plain, waits_for_value};
 use std::alloc::{AllocError, Global};
 
 /// The plain words that are no option's value, with their numbers.
@@ -40,24 +39,4 @@ fn named(alloc: Global, place: usize, word: &str) -> Result<Named, AllocError>
         word: word_number(place),
         text: Text::new(String::from_str(alloc, word)?),
     })
-}
-
-/// The options with their values.
-pub(crate) fn option_words(alloc: Global, words: &[String]) -> Result<Vec<String>, AllocError>
-    ensures { IfOk result (λ v. map string_bytes v.items ≡ option_words false (texts words.now)) }
-{
-    let mut options = Vec::new(alloc);
-    let mut rest = words;
-    let mut follows = false;
-    while let Some((word, others)) = rest.split_first() {
-        if follows {
-            follows = false;
-            options.push(word.clone()?)?;
-        } else if !is_plain(word.as_bytes()) {
-            follows = waits_for_value(word.as_bytes());
-            options.push(word.clone()?)?;
-        }
-        rest = others;
-    }
-    Ok(options)
 }

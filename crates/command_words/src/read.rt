@@ -1,10 +1,10 @@
 ghost use Rattle.std.specs.Prelude.{◌≡◌, if◌then◌else◌};
-ghost use Rattle.command_words.specs.Given.{value_place};
+ghost use Rattle.command_forms.specs.Given.{value_place};
 ghost use Rattle.clap.specs.Words.{first_value, found_of};
 ghost use Rattle.command_values.specs.Names.{lawful_name};
 ghost use Rattle.command_words.specs.Answers.{Reads};
 ghost use Rattle.command_words.specs.Meaning.{arguments_in, class_in, disk_in, heap_in, input_in, method_bytes_in, name_in, name_list_in, pages_in, pipe_bytes_in, region_words_in, session_in, stack_in, steps_in, word_number};
-ghost use Rattle.command_words.specs.Word.{texts};
+ghost use Rattle.command_forms.specs.Word.{texts};
 
 use crate::name_list::NameList;
 use crate::named::Named;
@@ -12,12 +12,12 @@ use crate::named_class::NamedClass;
 use crate::names::{are_arguments, copied_words, names_in};
 use crate::number::{number_or, small_number_or};
 use crate::pages::Pages;
-use crate::place::{value_place, word_number, word_place};
+use crate::place::word_number;
 use crate::session::Session;
 use crate::text::Text;
 use crate::texts::Texts;
-use crate::words_error::WordsError;
 use clap::ArgMatches;
+use command_forms::{WordsError, value_place, word_place};
 use command_values::{ClassName, MethodBytes, PipeBytes, RegionWords};
 use std::alloc::{AllocError, Global};
 

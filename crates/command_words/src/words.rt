@@ -1,18 +1,14 @@
-ghost use Rattle.std.specs.Prelude.{◌≡◌, IfOk, Ok, Err, ◌&&◌, not, position, string_bytes};
+ghost use Rattle.std.specs.Prelude.{◌≡◌, IfOk, Ok, Err};
 ghost use Rattle.command_words.specs.Answers.{Reads};
 ghost use Rattle.command_words.specs.Limits.{IsWithinLimits};
-ghost use Rattle.command_words.specs.Meaning.{after_end, before_end, command_after, command_of, form_of, has_end, made, maker_of, takes_arguments};
-ghost use Rattle.command_words.specs.Word.{is_end, texts};
-ghost use Rattle.command_words.specs.declared.usage.Usage.{Usage};
+ghost use Rattle.command_forms.specs.Forms.{form_of};
+ghost use Rattle.command_words.specs.Meaning.{command_after, command_of, made, maker_of};
+ghost use Rattle.command_forms.specs.Word.{texts};
+ghost use Rattle.command_forms.specs.declared.usage.Usage.{Usage};
 
 use crate::command::Command;
-use crate::command_name::CommandName;
 use crate::commands::make;
-use crate::matching::match_words;
-use crate::plain::option_words;
-use crate::usage::Usage;
-use crate::word::is_end;
-use crate::words_error::WordsError;
+use command_forms::{CommandName, Usage, WordsError, cut, match_words, option_words, refuses_end};
 use std::alloc::Global;
 
 /// The command that the words mean. `words` are those after the program's name.
@@ -63,40 +59,4 @@ fn read_formed(
 {
     let matches = match_words(alloc, formed, name.words(), name.options())?;
     make(alloc, name, words, &matches, arguments)
-}
-
-/// Whether there is a `--` that the command does not take.
-fn refuses_end(name: CommandName, words: &[String]) -> bool
-    ensures { result ≡ (has_end (texts words.now) && not (takes_arguments name)) }
-{
-    has_end(words) && !name.takes_arguments()
-}
-
-/// Whether there is a `--`.
-fn has_end(words: &[String]) -> bool
-    ensures { result ≡ has_end (texts words.now) }
-{
-    end_of(words).is_some()
-}
-
-/// The words before the first `--`, and those after it.
-fn cut(words: &[String]) -> (&[String], &[String])
-    ensures before { texts result.0.now ≡ before_end (texts words.now) }
-    ensures after { texts result.1.now ≡ after_end (texts words.now) }
-{
-    match end_of(words) {
-        Some(at) => {
-            let (before, _) = words.split_at(at);
-            let (_, after) = words.split_at(at + 1);
-            (before, after)
-        }
-        None => (words, &[]),
-    }
-}
-
-/// The place of the first `--`.
-fn end_of(words: &[String]) -> Option<usize>
-    ensures { result ≡ position (λ w. is_end (string_bytes w)) words.now }
-{
-    words.iter().position(|word| is_end(word.as_str()))
 }

@@ -2,10 +2,10 @@
 use Rattle.std.proofs.Common.{◌≡◌, ◌⊎◌, ℕ, Bool, true, false, List, [], ◌∷◌, ◌++◌, Result, Ok, Err, refl, sym, ◌∙◌, ap, subst, inl, inr}
 use Rattle.command_words.specs.Meaning.{command_of}
 use Rattle.command_words.specs.declared.command.Command.{Command}
-use Rattle.command_words.specs.declared.usage.Usage.{Usage}
+use Rattle.command_forms.specs.declared.usage.Usage.{Usage}
 use Rattle.command_deeds.specs.Ends.{CommandAnswer, Comes, Due, end_of, final, is_stop}
-use Rattle.command_words.specs.declared.words_error.WordsError.{WordsError}
-use Rattle.command_words.specs.declared.words_error.WordsError.TheVariants as words
+use Rattle.command_forms.specs.declared.words_error.WordsError.{WordsError}
+use Rattle.command_forms.specs.declared.words_error.WordsError.TheVariants as words
 use Rattle.command_deeds.proofs.DeedLemmas.{stays}
 use Rattle.command_deeds.specs.Line.{line_of}
 use Rattle.command_deeds.specs.Stops.{words_ending}

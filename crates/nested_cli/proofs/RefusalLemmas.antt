@@ -11,7 +11,7 @@ use Rattle.command_words.specs.declared.command.Command.TheVariants as command
 use Rattle.command_words.specs.declared.named.Named.{Named}
 use Rattle.command_words.specs.declared.named_class.NamedClass.{NamedClass}
 use Rattle.command_words.specs.declared.pages.Pages.{Pages}
-use Rattle.command_words.specs.declared.usage.Usage.{Usage}
+use Rattle.command_forms.specs.declared.usage.Usage.{Usage}
 use Rattle.mips_decode.specs.Step.{turn}
 use Rattle.unix_system.specs.System.{System}
 use Rattle.pipe_laws.specs.Pipelines.{Pipeline}

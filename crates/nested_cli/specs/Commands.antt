@@ -5,7 +5,7 @@ use Rattle.command_words.specs.Meaning.{command_of}
 use Rattle.command_words.specs.declared.command.Command.{Command}
 use Rattle.command_words.specs.declared.command.Command.TheVariants as command
 use Rattle.command_words.specs.declared.session.Session.{Session}
-use Rattle.command_words.specs.declared.usage.Usage.{Usage}
+use Rattle.command_forms.specs.declared.usage.Usage.{Usage}
 use Rattle.command_deeds.specs.Ends.{CommandAnswer, Comes, Due, final}
 use Rattle.command_deeds.specs.Line.{line_of}
 use Rattle.command_deeds.specs.World.{World}

@@ -1,6 +1,6 @@
 -- How a call of the program ends whose words are no command line.
 use Rattle.std.specs.Prelude.{◌≡◌, ◌⊎◌, Result, Ok, Err}
-use Rattle.command_words.specs.declared.usage.Usage.{Usage}
+use Rattle.command_forms.specs.declared.usage.Usage.{Usage}
 use Rattle.command_deeds.specs.Ends.{CommandAnswer, says}
 use Rattle.command_deeds.specs.Stops.{usage_number}
 use Rattle.command_deeds.specs.World.{Stays, World}

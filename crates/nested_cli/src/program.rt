@@ -1,9 +1,9 @@
 ghost use Rattle.std.specs.Prelude.{◌≡◌, Err, Ok};
 ghost use Rattle.command_words.specs.Limits.{IsWithinLimits};
 ghost use Rattle.command_words.specs.Meaning.{command_of};
-ghost use Rattle.command_words.specs.Word.{texts};
+ghost use Rattle.command_forms.specs.Word.{texts};
 ghost use Rattle.command_words.specs.declared.command.Command as meant;
-ghost use Rattle.command_words.specs.declared.usage.Usage as misuse;
+ghost use Rattle.command_forms.specs.declared.usage.Usage as misuse;
 ghost use Rattle.command_deeds.specs.Ends.{Comes, ended, final};
 ghost use Rattle.command_deeds.specs.Line.{line_of};
 ghost use Rattle.command_deeds.specs.World.{SameParts, input_seen, output_seen, seen, shelf_seen, world};

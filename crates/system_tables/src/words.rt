@@ -1,6 +1,7 @@
 //! The words of commands.
 use anyhow::Result;
-use command_words::{Command, WordsError, read_words};
+use command_forms::WordsError;
+use command_words::{Command, read_words};
 use std::alloc::Global;
 
 /// The command that words mean, or what is wrong with them. They have `|` between two; `\0` is the byte 0, and `\e` no letter. No text

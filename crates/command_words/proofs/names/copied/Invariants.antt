@@ -1,5 +1,5 @@
 use Rattle.std.proofs.Common.{◌≡◌, map, string_bytes, take}
-use Rattle.command_words.specs.Answers.{shown}
+use Rattle.command_forms.specs.Answers.{shown}
 use Rattle.command_words.proofs.names.copied.Given as goal
 
 abbrev pub invariant-loop-name : goal.invariant-loop-name

@@ -1,5 +1,5 @@
 use Rattle.std.proofs.Common.{◌≡◌, map, string_bytes, take}
-use Rattle.command_words.specs.Word.{texts}
+use Rattle.command_forms.specs.Word.{texts}
 use Rattle.command_words.proofs.names.copied_words.Given as goal
 
 abbrev pub invariant-loop-word : goal.invariant-loop-word

@@ -1,5 +1,5 @@
 use Rattle.std.proofs.Common.{◌≡◌, ◌+◌, ◌++◌, length, false}
-use Rattle.command_words.specs.Word.{texts}
+use Rattle.command_forms.specs.Word.{texts}
 use Rattle.command_words.specs.Meaning.{plain_words}
 use Rattle.command_words.proofs.plain.plain_words.Given as goal
 

@@ -1,7 +1,7 @@
 use Rattle.std.proofs.Common.{◌≡◌, ◌∙◌, rules, sym, ap, true, false, cond, Some, None, string_bytes, not}
 use Rattle.std.specs.List.{list_all}
 use Rattle.std.proofs.lemmas.List.Folds.{list_all-map}
-use Rattle.command_words.specs.Word.{texts}
+use Rattle.command_forms.specs.Word.{texts}
 use Rattle.command_words.specs.Values.{has_zero}
 use Rattle.command_words.proofs.read.arguments_in.Goals as goal
 

@@ -1,9 +1,9 @@
 use Rattle.std.proofs.Common.{◌≡◌, ap₂}
 use Rattle.clap.specs.Words.{first_value, found_of}
-use Rattle.command_words.specs.Word.{texts}
-use Rattle.command_words.specs.Given.{form_from}
-use Rattle.command_words.specs.Meaning.{form_of}
-use Rattle.command_words.proofs.EndLemmas.{formed_is}
+use Rattle.command_forms.specs.Word.{texts}
+use Rattle.command_forms.specs.Given.{form_from}
+use Rattle.command_forms.specs.Forms.{form_of}
+use Rattle.command_words.proofs.MadeLemmas.{formed_is}
 use Rattle.command_words.proofs.words.read_formed.Goals as goal
 
 pub returns : goal.returns

@@ -1,4 +1,4 @@
-use Rattle.command_words.specs.Word.{texts}
+use Rattle.command_forms.specs.Word.{texts}
 use Rattle.command_words.proofs.LimitLemmas.{read_within}
 use Rattle.command_words.proofs.words.read_words.Goals as goal
 

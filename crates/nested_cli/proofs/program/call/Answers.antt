@@ -1,4 +1,4 @@
-use Rattle.command_words.specs.Word.{texts}
+use Rattle.command_forms.specs.Word.{texts}
 use Rattle.std.proofs.Common.{List, refl, subst, ℕ}
 use Rattle.command_deeds.proofs.DeedLemmas.{same_shelf}
 use Rattle.command_deeds.specs.Ends.{ended, final}

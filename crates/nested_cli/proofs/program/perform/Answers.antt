@@ -1,8 +1,8 @@
 use Rattle.std.proofs.Common.{Err, ap}
 use Rattle.std.proofs.lemmas.Result.{err_from_is_err_and}
 use Rattle.command_words.specs.Meaning.{command_of}
-use Rattle.command_words.specs.Word.{texts}
-use Rattle.command_words.specs.declared.words_error.WordsError.{WordsError}
+use Rattle.command_forms.specs.Word.{texts}
+use Rattle.command_forms.specs.declared.words_error.WordsError.{WordsError}
 use Rattle.command_deeds.specs.World.{seen}
 use Rattle.nested_cli.specs.Commands.{IsDueOf}
 use Rattle.nested_cli.proofs.AnswerLemmas.{refused_due}

@@ -1,8 +1,0 @@
-use Rattle.std.proofs.Common.{◌≡◌, map, take}
-use Rattle.clap.specs.Words.{app_of}
-use Rattle.command_words.specs.Answers.{shown}
-use Rattle.command_words.specs.Builder.{option_rule, with_rules}
-use Rattle.command_words.proofs.matching.with_options.Given as goal
-
-abbrev pub invariant-loop-name : goal.invariant-loop-name
-invariant-loop-name l = app_of l.parser ≡ with_rules (map option_rule (shown (take l.name-index l.options))) (app_of l.initial.parser)
