@@ -1,5 +1,5 @@
 -- How far a writing of several pieces has come.
-use Rattle.std.proofs.Common.{◌≡◌, ℕ, ◌+◌, ◌<◌, List, ◌∷◌, ◌++◌, length, map, drop, get_or}
+use Rattle.std.proofs.Common.{◌≡◌, ℕ, ◌+◌, ◌<◌, List, [], ◌∷◌, ◌++◌, length, map, drop, get_or}
 use Rattle.std.proofs.Common.{Bor, sym, ◌∙◌, append_assoc, add-one, ap, drop-cons, subst}
 use Rattle.std.proofs.Common.{Option, Result, Ok, Err, refl}
 use Rattle.std.specs.Prelude.{OnErr, OnOk, is_err}
@@ -34,6 +34,11 @@ Joins-part old mid new all later piece j fails =
 pub later_split : (pieces : List (Bor (List ℕ))) (i : ℕ) (d : Bor (List ℕ)) → i < length pieces
     → map (λ p. p.now) (drop i pieces) ≡ (get_or pieces i d).now ∷ map (λ p. p.now) (drop (i + 1) pieces)
 later_split pieces i d h = rw add-one (ap (map (λ p. p.now)) (drop-cons pieces i d h))
+
+-- pieces in front of others
+pub joined-append : (front back : List (List ℕ)) → joined (front ++ back) ≡ joined front ++ joined back
+joined-append [] back = refl
+joined-append (piece ∷ front) back = ap (λ z. piece ++ z) (joined-append front back) ∙ sym (append_assoc piece (joined front) (joined back))
 
 -- what a sink did with a text, by what it says
 pub writes-all : (old new : Seen (List ℕ)) (text : List ℕ) (result : Result (Unit {0}) Failed) → OnOk result (Appends old.told new.told text)

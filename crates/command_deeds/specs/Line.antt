@@ -85,9 +85,13 @@ abbrev pub joined : List (List ℕ) → List ℕ
 joined [] = []
 joined (piece ∷ pieces) = piece ++ joined pieces
 
+-- a text and a fault of the guest, as the pieces that end a line
+abbrev pub fault_pieces : List ℕ → Fault → List (List ℕ)
+fault_pieces text f = text ∷ decimal f.kind ∷ codes " pc " ∷ hex_word f.pc ∷ codes " value "
+    ∷ hex_word f.value ∷ codes "\n" ∷ []
+
 abbrev pub fault_line : Fault → List ℕ
-fault_line f = joined (codes "nested: fault " ∷ decimal f.kind ∷ codes " pc " ∷ hex_word f.pc
-    ∷ codes " value " ∷ hex_word f.value ∷ codes "\n" ∷ [])
+fault_line f = joined (fault_pieces (codes "nested: fault ") f)
 
 -- a text and three numbers, as a line
 abbrev pub numbers_line : List ℕ → ℕ → ℕ → ℕ → List ℕ
@@ -132,8 +136,7 @@ stage_line i (outcome.Exited status) =
     joined (codes "nested: stage " ∷ decimal i ∷ codes " exited " ∷ signed_decimal status
     ∷ codes "\n" ∷ [])
 stage_line i (outcome.Faulted f) =
-    joined (codes "nested: stage " ∷ decimal i ∷ codes " fault " ∷ decimal f.kind ∷ codes " pc "
-    ∷ hex_word f.pc ∷ codes " value " ∷ hex_word f.value ∷ codes "\n" ∷ [])
+    joined (codes "nested: stage " ∷ decimal i ∷ fault_pieces (codes " fault ") f)
 stage_line i (outcome.Trapped k) =
     joined (codes "nested: stage " ∷ decimal i ∷ codes " trap " ∷ decimal k ∷ codes "\n" ∷ [])
 stage_line i outcome.Waiting =

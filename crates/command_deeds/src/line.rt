@@ -1,5 +1,5 @@
 ghost use Rattle.std.specs.Prelude.{◌+◌, ◌≤◌, length, map};
-ghost use Rattle.command_deeds.specs.Line.{asm_line, fault_line, image_line, joined, line_of, number_line, numbers_line, stage_line, stage_lines, stages_of, tables_line};
+ghost use Rattle.command_deeds.specs.Line.{asm_line, fault_line, fault_pieces, image_line, joined, line_of, number_line, numbers_line, stage_line, stage_lines, stages_of, tables_line};
 ghost use Rattle.command_deeds.specs.World.{Writes, output_seen};
 
 use crate::digits::{decimal, decimal_long, decimal_signed, hexadecimal};
@@ -62,22 +62,19 @@ fn write_fault<E: Sink>(err: &mut E, fault: Fault) -> Result<(), Failed>
     ensures writes { Writes (output_seen E.Sink err.old) (output_seen E.Sink err.new)
         (fault_line fault) result }
 {
+    write_fault_end(err, b"nested: fault ", fault)
+}
+
+/// Writes a text and a fault of the guest, as the end of a line.
+fn write_fault_end<E: Sink>(err: &mut E, text: &[u8], fault: Fault) -> Result<(), Failed>
+    ensures writes { Writes (output_seen E.Sink err.old) (output_seen E.Sink err.new)
+        (joined (fault_pieces text.now fault)) result }
+{
     let mut digits = Buffer::new();
     let kind = decimal(&mut digits, fault.kind);
     let pc = hexadecimal(fault.pc);
     let value = hexadecimal(fault.value);
-    write_pieces(
-        err,
-        &[
-            b"nested: fault ",
-            kind,
-            b" pc ",
-            &pc,
-            b" value ",
-            &value,
-            b"\n",
-        ],
-    )
+    write_pieces(err, &[text, kind, b" pc ", &pc, b" value ", &value, b"\n"])
 }
 
 /// Writes a text and three numbers, as a line.
@@ -155,25 +152,9 @@ fn write_stage_fault<E: Sink>(err: &mut E, number: u32, fault: Fault) -> Result<
     ensures writes { Writes (output_seen E.Sink err.old) (output_seen E.Sink err.new)
         (stage_line number (Outcome.Faulted fault)) result }
 {
-    let (mut numbers, mut digits) = (Buffer::new(), Buffer::new());
-    let stage = decimal(&mut numbers, number);
-    let kind = decimal(&mut digits, fault.kind);
-    let pc = hexadecimal(fault.pc);
-    let value = hexadecimal(fault.value);
-    write_pieces(
-        err,
-        &[
-            b"nested: stage ",
-            stage,
-            b" fault ",
-            kind,
-            b" pc ",
-            &pc,
-            b" value ",
-            &value,
-            b"\n",
-        ],
-    )
+    let mut numbers = Buffer::new();
+    write_pieces(err, &[b"nested: stage ", decimal(&mut numbers, number)])?;
+    write_fault_end(err, b" fault ", fault)
 }
 
 /// Writes the line of a check that the program's image failed.
