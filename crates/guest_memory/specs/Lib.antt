@@ -1,4 +1,5 @@
 pub mod Pages
 pub mod OneWord
 pub mod ViewLaws
+pub mod Ops
 pub mod CodePages

@@ -2,12 +2,15 @@
 #![tactic(auto)]
 
 mod code;
+mod forms;
 mod lanes;
 mod line;
 mod memory;
+mod op;
 mod page;
 mod paging;
 
 pub use code::Code;
 pub use line::Line;
 pub use memory::{GuestMemory, NoMemory};
+pub use op::Op;
