@@ -1,4 +1,4 @@
 pub mod TableSteps
 pub mod Together
 pub mod Kept
-pub mod SizeLemmas
+pub mod Bounds

@@ -53,7 +53,7 @@ pruned-count cs number c [] (y ∷ ns) p = absurd p
 pruned-count cs number c (x ∷ ms) [] p = absurd p
 pruned-count cs number c (x ∷ ms) (y ∷ ns) p = ap suc (pruned-count cs number c ms ns p.1)
 
-framed-count : (cs : List Class) (number : ℕ) (xs ys : List Class) → AreFramedFrom cs number xs ys → length ys ≡ length xs
+pub framed-count : (cs : List Class) (number : ℕ) (xs ys : List Class) → AreFramedFrom cs number xs ys → length ys ≡ length xs
 framed-count cs number [] [] f = refl
 framed-count cs number [] (y ∷ ys) f = absurd f
 framed-count cs number (x ∷ xs) [] f = absurd f

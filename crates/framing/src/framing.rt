@@ -1,5 +1,6 @@
 //! Classes of version 51.0 for classes that were verified.
-ghost use Rattle.std.specs.Prelude.{◌≤◌, IfOk, IfErr, All};
+ghost use Rattle.std.specs.Prelude.{◌≡◌, ◌≤◌, IfOk, IfErr, All};
+ghost use Rattle.framed_classes.specs.Framed.{AreFramed};
 ghost use Rattle.framing.specs.Refusals as refusals;
 ghost use Rattle.framing.specs.Sizes as sizes;
 
@@ -7,9 +8,10 @@ use crate::sizes::first_too_large;
 use crate::tables::with_tables;
 use frame_maps::FrameError;
 use framed_class_file::FramedClass;
-use jvm_link::link;
+use jvm_code::Class;
+use jvm_link::{LinkError, Linked, link};
 use pruned_classes::pruned_classes;
-use std::alloc::Global;
+use std::alloc::{AllocError, Global};
 use type_verifier::Verified;
 
 /// The classes with tables of frames, which can be verified in one pass. Each byte of code that no reached instruction holds becomes a
@@ -30,12 +32,22 @@ pub fn frames(alloc: Global, v: &Verified) -> Result<Vec<FramedClass>, FrameErro
     ensures refused { IfErr result (refusals.IsRefusal v.now.linked.classes) }
 {
     let classes = pruned_classes(alloc, v)?;
-    let Ok(linked) = link(alloc, classes) else {
-        return Err(FrameError::NoMemory);
-    };
+    let linked = linked_of(alloc, v, classes)?;
     let framed = with_tables(alloc, v, linked)?;
-    match first_too_large(&framed)? {
+    match first_too_large(&framed) {
         Some((class, bytes)) => Err(FrameError::TooLarge { class, bytes }),
         None => Ok(framed),
+    }
+}
+
+// Pruned classes, which link as those before do.
+fn linked_of(alloc: Global, v: &Verified, classes: Vec<Class>) -> Result<Linked, AllocError>
+    requires { AreFramed v.now.linked.classes classes.items }
+    ensures { IfOk result (λ linked. linked.classes ≡ classes.items) }
+{
+    match link(alloc, classes) {
+        Ok(linked) => Ok(linked),
+        Err(LinkError::Refused(_)) => unreachable!(),
+        Err(LinkError::NoMemory) => Err(AllocError),
     }
 }

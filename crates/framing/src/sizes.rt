@@ -1,5 +1,5 @@
 //! How many bytes the files of classes with their tables have.
-ghost use Rattle.std.specs.Prelude.{◌≡◌, ◌+◌, ◌*◌, ◌≤◌, IfOk, MatchOption, All};
+ghost use Rattle.std.specs.Prelude.{◌≡◌, ◌<◌, ◌≤◌, ◌^◌, MatchOption, All, length};
 ghost use Rattle.constant_pool.specs.Checks.{slot_size};
 ghost use Rattle.framed_class_file.specs.Tables.{table_size};
 ghost use Rattle.framing.specs.Sizes as sizes;
@@ -8,60 +8,49 @@ use constant_pool::{Entry, text_size};
 use framed_class_file::FramedClass;
 use jvm_code::Method;
 use jvm_names::Sequence;
-use pruned_classes::number_of;
-use std::alloc::AllocError;
 
 /// The greatest number of bytes of a file.
 const MOST: u64 = 67_108_864;
 
-/// The first class whose file is too large, and how many bytes it has. AllocError where a file has more bytes than can be counted,
-/// as it would have with classes of which no memory has room.
-pub fn first_too_large(framed: &[FramedClass]) -> Result<Option<(u32, u64)>, AllocError>
-    ensures { IfOk result (λ o. MatchOption o
+/// The first class whose file is too large, and how many bytes it has.
+pub fn first_too_large(framed: &[FramedClass]) -> Option<(u32, u64)>
+    requires few { length framed.now < 2 ^ 32 }
+    requires counted { All (λ f. sizes.file_size f < 2 ^ 64) framed.now }
+    ensures { MatchOption result
         (All (λ f. sizes.file_size f ≤ sizes.most) framed.now)
-        (λ found. sizes.IsFirstLarge framed.now found.0 found.1)) }
+        (λ found. sizes.IsFirstLarge framed.now found.0 found.1) }
 {
     for number in 0..framed.len() {
-        let bytes = file_size(&framed[number])?;
+        let bytes = file_size(&framed[number]);
         if MOST < bytes {
-            return Ok(Some((number_of(number)?, bytes)));
+            return Some((number as u32, bytes));
         }
     }
-    Ok(None)
+    None
 }
 
-fn file_size(framed: &FramedClass) -> Result<u64, AllocError>
-    ensures { IfOk result (λ n. n ≡ sizes.file_size framed.now) }
+fn file_size(framed: &FramedClass) -> u64
+    requires { sizes.file_size framed.now < 2 ^ 64 }
+    ensures { result ≡ sizes.file_size framed.now }
 {
     let class = &framed.class;
-    let pool = pool_size(class.pool.as_slice())?;
-    let fields = fields_size(class.fields.as_slice().len())?;
-    let methods = methods_size(class.methods.as_slice(), framed.tables.as_slice())?;
-    sum(sum(sum(24, pool)?, fields)?, methods)
+    let pool = pool_size(class.pool.as_slice());
+    let fields = 8 * class.fields.as_slice().len() as u64;
+    let methods = methods_size(class.methods.as_slice(), framed.tables.as_slice());
+    24 + pool + fields + methods
 }
 
-fn sum(size: u64, more: u64) -> Result<u64, AllocError>
-    ensures { IfOk result (λ n. n ≡ size + more) }
-{
-    size.checked_add(more).ok_or(AllocError)
-}
-
-fn fields_size(count: usize) -> Result<u64, AllocError>
-    ensures { IfOk result (λ n. n ≡ 8 * count) }
-{
-    8_u64.checked_mul(count as u64).ok_or(AllocError)
-}
-
-fn pool_size(entries: &[Entry]) -> Result<u64, AllocError>
-    ensures { IfOk result (λ n. n ≡ sizes.pool_size entries.now) }
+fn pool_size(entries: &[Entry]) -> u64
+    requires { sizes.pool_size entries.now < 2 ^ 64 }
+    ensures { result ≡ sizes.pool_size entries.now }
 {
     let mut size = 0;
     let mut rest = entries;
     while let Some((entry, others)) = rest.split_first() {
-        size = sum(size, slot_size(entry))?;
+        size += slot_size(entry);
         rest = others;
     }
-    Ok(size)
+    size
 }
 
 fn slot_size(entry: &Entry) -> u64
@@ -77,37 +66,38 @@ fn slot_size(entry: &Entry) -> u64
     }
 }
 
-fn methods_size(methods: &[Method], tables: &[Sequence<u8>]) -> Result<u64, AllocError>
-    ensures { IfOk result (λ n. n ≡ sizes.methods_size methods.now tables.now) }
+fn methods_size(methods: &[Method], tables: &[Sequence<u8>]) -> u64
+    requires { sizes.methods_size methods.now tables.now < 2 ^ 64 }
+    ensures { result ≡ sizes.methods_size methods.now tables.now }
 {
     let mut size = 0;
     let mut rest = methods;
     let mut others = tables;
     while let Some((method, behind)) = rest.split_first() {
         let Some((table, more)) = others.split_first() else {
-            return Ok(size);
+            return size;
         };
-        size = sum(size, method_size(method, table.as_slice())?)?;
+        size += method_size(method, table.as_slice());
         rest = behind;
         others = more;
     }
-    Ok(size)
+    size
 }
 
-fn method_size(method: &Method, table: &[u8]) -> Result<u64, AllocError>
-    ensures { IfOk result (λ n. n ≡ sizes.method_size method.now table.now) }
+fn method_size(method: &Method, table: &[u8]) -> u64
+    requires { sizes.method_size method.now table.now < 2 ^ 64 }
+    ensures { result ≡ sizes.method_size method.now table.now }
 {
-    let code = method.code.as_slice().len() as u64;
-    sum(sum(26, code)?, table_size(table)?)
+    26 + method.code.as_slice().len() as u64 + table_size(table)
 }
 
 // By how many bytes a table makes its method longer.
-fn table_size(table: &[u8]) -> Result<u64, AllocError>
-    ensures { IfOk result (λ n. n ≡ table_size table.now) }
+fn table_size(table: &[u8]) -> u64
+    ensures { result ≡ table_size table.now }
 {
     if table.is_empty() {
-        Ok(0)
+        0
     } else {
-        sum(table.len() as u64, 6)
+        table.len() as u64 + 6
     }
 }
