@@ -1,0 +1,7 @@
+pub mod AskedLaws
+pub mod NextLaws
+pub mod GrowthLaws
+pub mod ReadLaws
+pub mod ApartLaws
+pub mod AloneLaws
+pub mod SetLaws
