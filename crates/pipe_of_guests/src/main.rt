@@ -1,4 +1,5 @@
-//! The program once more, so that the gate runs it on a pipeline of two classes that were made by hand: `Hello` and `Shout` of `data`.
+//! The program once more, so that the gate runs it on a pipeline of two guests in C: a compressor and its inverse, whose classes are those
+//! of `data`. What is packed is their own source.
 #![tactic(auto)]
 
 use nested_main::perform;
