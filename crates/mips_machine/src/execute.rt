@@ -17,7 +17,6 @@ use mips_decode::{
 
 impl Processor {
     /// Executes an instruction, which stands in the given word.
-    #[inline(always)]
     pub(crate) fn execute(&mut self, op: Op, word: u32) -> Executed
         requires { HasFields (inst_of op) }
         ensures effect { effect_of result (processor_state self.new)

@@ -8,6 +8,7 @@ mod code_loader;
 mod computing;
 mod execute;
 mod executed;
+mod frequent;
 mod linking;
 mod memory_loader;
 mod mips;
