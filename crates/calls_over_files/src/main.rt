@@ -1,5 +1,7 @@
-//! Calls of the program one after the other, each a line of the input, so that the gate links objects and runs the programs. Behind
-//! what a call prints, and what it says of a fault, stands its status. The line `zeros NAME N` makes a file of N zeros.
+//! Calls of the program one after the other, each a line of the input, over the files of `data`: so that the gate runs a class that was made
+//! by hand, guests in C of both orders of bytes, a pipeline of two of them, and what it links of objects. Behind what a call prints, and
+//! what it says of a fault, stands its status. A line may name its input, as in `run Hello < FILE`. The line `zeros NAME N` makes a file
+//! of N zeros.
 #![tactic(auto)]
 
 use anyhow::{Result, bail};
@@ -37,8 +39,12 @@ fn store_zeros<H: Shelf>(alloc: Global, file: &str, shelf: &mut H) -> Result<()>
 
 /// Calls the program with the words of a line.
 fn call<H: Shelf, O: Sink>(alloc: Global, line: &str, shelf: &mut H, out: &mut O) -> Result<()> {
-    let words = words_of(alloc, line)?;
-    let mut input = MemSource::new(Vec::new(alloc), Vec::new(alloc));
+    let (text, bytes) = match line.split_once(" < ") {
+        Some((text, file)) => (text, contents(alloc, file, shelf)?),
+        None => (line, Vec::new(alloc)),
+    };
+    let words = words_of(alloc, text)?;
+    let mut input = MemSource::new(bytes, Vec::new(alloc));
     let mut err = MemSink::new(alloc, 200, Vec::new(alloc))?;
     let done = nested(alloc, words.as_slice(), 0, shelf, &mut input, out, &mut err);
     let status = done.status();
@@ -47,6 +53,14 @@ fn call<H: Shelf, O: Sink>(alloc: Global, line: &str, shelf: &mut H, out: &mut O
         bail!("output fails");
     }
     Ok(())
+}
+
+/// What a file holds.
+fn contents<H: Shelf>(alloc: Global, file: &str, shelf: &mut H) -> Result<Vec<u8>> {
+    match shelf.load(alloc, file) {
+        Ok(Some(bytes)) => Ok(bytes),
+        _ => bail!("{file} is not there"),
+    }
 }
 
 /// The words of a line, with a blank between two.
