@@ -3,3 +3,4 @@ pub mod Names
 pub mod MethodBytes
 pub mod RegionWords
 pub mod PipeBytes
+pub mod MeterTurns
