@@ -25,11 +25,12 @@ name_of word =
     else None
 
 abbrev pub go_options : List Text
-go_options = codes "name" ∷ codes "heap" ∷ codes "stack" ∷ codes "method-bytes" ∷ codes "steps"
-    ∷ codes "disk" ∷ codes "with" ∷ codes "keep" ∷ []
+go_options = codes "name" ∷ codes "heap" ∷ codes "stack" ∷ codes "method-bytes" ∷ codes "meter"
+    ∷ codes "steps" ∷ codes "disk" ∷ codes "with" ∷ codes "keep" ∷ []
 
 abbrev pub translate_options : List Text
-translate_options = codes "name" ∷ codes "heap" ∷ codes "stack" ∷ codes "method-bytes" ∷ []
+translate_options = codes "name" ∷ codes "heap" ∷ codes "stack" ∷ codes "method-bytes"
+    ∷ codes "meter" ∷ []
 
 abbrev pub interp_options : List Text
 interp_options = codes "name" ∷ codes "heap" ∷ codes "stack" ∷ codes "steps" ∷ codes "disk"
