@@ -10,7 +10,7 @@ use Rattle.command_values.specs.Names.{Text}
 use Rattle.command_forms.specs.Given.{given_in, value_in}
 use Rattle.command_words.specs.Values.{all_different, are_arguments, are_file_names, has_zero, is_file_name, is_symbol_name, is_number, names_in, names_of, number_in, number_or}
 use Rattle.command_forms.specs.Forms.{formed_words, has_end, takes_arguments, form_of, before_end, after_end}
-use Rattle.command_words.specs.Meaning.{Value, class_of, classes_in, classes_of, entry_in, inputs_in, linked_from, plain_words, symbol_name, arguments_in, class_in, class_steps, command_after, disk_in, guest_steps, input_in, made, maker_of, method_bytes_in, name_in, name_list_in, pages_in, pipe_bytes_in, region_words_in, session_in, stack_in, heap_in, steps_in}
+use Rattle.command_words.specs.Meaning.{Value, class_of, classes_in, classes_of, entry_in, inputs_in, linked_from, plain_words, symbol_name, arguments_in, class_in, class_steps, command_after, disk_in, guest_steps, input_in, made, maker_of, meter_in, method_bytes_in, name_in, name_list_in, pages_in, pipe_bytes_in, region_words_in, session_in, stack_in, heap_in, steps_in}
 use Rattle.command_words.specs.Answers.{Reads}
 use Rattle.std.specs.Option.{option_map_or}
 use Rattle.command_words.specs.declared.named.Named.{Named}
@@ -152,12 +152,14 @@ maker_limits name.Go words value arguments =
     through (name_in value) _ (λ _. ⊤) IsWithinLimits (always _) (λ text _.
     through (pages_in value) _ ArePages IsWithinLimits (pages_limits value) (λ pages p.
     through (method_bytes_in value) _ (λ _. ⊤) IsWithinLimits (always _) (λ bytes _.
-    mapped (session_in guest_steps words value arguments) _ (IsSession guest_steps) IsWithinLimits (session_limits guest_steps words value arguments) (λ session s. (p, s))))))
+    through (meter_in value) _ (λ _. ⊤) IsWithinLimits (always _) (λ meter _.
+    mapped (session_in guest_steps words value arguments) _ (IsSession guest_steps) IsWithinLimits (session_limits guest_steps words value arguments) (λ session s. (p, s)))))))
 maker_limits name.Translate words value arguments =
     through (input_in words (codes "IN") value) _ (λ _. ⊤) IsWithinLimits (always _) (λ input _.
     through (name_in value) _ (λ _. ⊤) IsWithinLimits (always _) (λ text _.
     through (pages_in value) _ ArePages IsWithinLimits (pages_limits value) (λ pages p.
-    mapped (method_bytes_in value) _ (λ _. ⊤) IsWithinLimits (always _) (λ bytes _. p))))
+    through (method_bytes_in value) _ (λ _. ⊤) IsWithinLimits (always _) (λ bytes _.
+    mapped (meter_in value) _ (λ _. ⊤) IsWithinLimits (always _) (λ meter _. p)))))
 maker_limits name.Interp words value arguments =
     through (input_in words (codes "IN") value) _ (λ _. ⊤) IsWithinLimits (always _) (λ input _.
     through (name_in value) _ (λ _. ⊤) IsWithinLimits (always _) (λ text _.

@@ -45,9 +45,9 @@ pub record AreStages (classes : List NamedClass) : Type 0 where
   pub few : length classes ≤ 8
 
 abbrev pub IsWithinLimits : Command → Type 0
-IsWithinLimits (Go input name pages method_bytes session) =
+IsWithinLimits (Go input name pages method_bytes meter session) =
     ArePages pages × IsSession guest_steps session
-IsWithinLimits (Translate input name pages method_bytes) = ArePages pages
+IsWithinLimits (Translate input name pages method_bytes meter) = ArePages pages
 IsWithinLimits (Interp input name pages session) =
     ArePages pages × IsSession guest_steps session
 IsWithinLimits (Run class words session) = IsSession class_steps session

@@ -2,6 +2,7 @@
 use Rattle.std.specs.Prelude.{ℕ, ◌+◌, ◌^◌, ◌-◌, Bool, true, false, not, ◌&&◌, if◌then◌else◌, List, [], ◌∷◌, Option, Some, None, Result, Err, codes, is_some, length, min, option_and_then, option_map}
 use Rattle.std.specs.Option.{ok_or, option_map_or}
 use Rattle.command_values.specs.Names.{Text, lawful_name}
+use Rattle.command_values.specs.MeterTurns.{least_meter_turns, most_meter_turns}
 use Rattle.command_values.specs.MethodBytes.{least_method_bytes, most_method_bytes}
 use Rattle.command_values.specs.PipeBytes.{least_pipe_bytes, most_pipe_bytes}
 use Rattle.command_values.specs.RegionWords.{least_region_words, most_region_words}
@@ -37,6 +38,17 @@ stack_in value = number_or 1 32768 64 (value (codes "stack"))
 abbrev pub method_bytes_in : Value → Option ℕ
 method_bytes_in value =
     number_or least_method_bytes most_method_bytes most_method_bytes (value (codes "method-bytes"))
+
+-- A meter stands in place of `--steps`: with both, the words mean nothing.
+abbrev pub meter_beside : Bool → Text → Option (Option ℕ)
+meter_beside has_steps text = if has_steps then None
+    else option_map (λ turns. Some turns) (number_in least_meter_turns most_meter_turns text)
+
+-- how many instructions a meter allows, and None as what is meant where there is no meter
+abbrev pub meter_in : Value → Option (Option ℕ)
+meter_in value =
+    option_map_or (meter_beside (is_some (value (codes "steps")))) (value (codes "meter"))
+    (Some None)
 
 -- of a guest's instructions, and of a class machine's
 abbrev pub guest_steps : ℕ
@@ -157,16 +169,17 @@ Maker = List Text → Value → List Text → Option Command
 abbrev pub go_from : Maker
 go_from words value arguments =
     option_and_then (λ input. option_and_then (λ name.
-    option_and_then (λ pages. option_and_then (λ method_bytes.
-    option_map (λ session. Go input name pages method_bytes session)
-    (session_in guest_steps words value arguments)) (method_bytes_in value)) (pages_in value))
-    (name_in value))
+    option_and_then (λ pages. option_and_then (λ method_bytes. option_and_then (λ meter.
+    option_map (λ session. Go input name pages method_bytes meter session)
+    (session_in guest_steps words value arguments)) (meter_in value)) (method_bytes_in value))
+    (pages_in value)) (name_in value))
     (input_in words (codes "IN") value)
 
 abbrev pub translate_from : Maker
 translate_from words value arguments =
     option_and_then (λ input. option_and_then (λ name. option_and_then (λ pages.
-    option_map (λ method_bytes. Translate input name pages method_bytes)
+    option_and_then (λ method_bytes.
+    option_map (λ meter. Translate input name pages method_bytes meter) (meter_in value))
     (method_bytes_in value)) (pages_in value)) (name_in value)) (input_in words (codes "IN") value)
 
 abbrev pub interp_from : Maker

@@ -6,25 +6,27 @@ use crate::named_classes::NamedClasses;
 use crate::pages::Pages;
 use crate::session::Session;
 use crate::text::Text;
-use command_values::{ClassName, MethodBytes, PipeBytes, RegionWords};
+use command_values::{ClassName, MeterTurns, MethodBytes, PipeBytes, RegionWords};
 
 /// A command, with its words and options.
 #[derive(Debug, Drop)]
 pub enum Command {
-    /// `go IN`: translates a program and runs its classes.
+    /// `go IN`: translates a program and runs its classes, which may have a meter.
     Go {
         input: Named,
         name: ClassName,
         pages: Pages,
         method_bytes: MethodBytes,
+        meter: Option<MeterTurns>,
         session: Session,
     },
-    /// `translate IN`: translates a program.
+    /// `translate IN`: translates a program to classes, which may have a meter.
     Translate {
         input: Named,
         name: ClassName,
         pages: Pages,
         method_bytes: MethodBytes,
+        meter: Option<MeterTurns>,
     },
     /// `interp IN`: runs a program on the reference machine.
     Interp {

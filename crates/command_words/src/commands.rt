@@ -10,7 +10,7 @@ use crate::linking::link;
 use crate::number::small_number_in;
 use crate::plain::plain_words;
 use crate::read::{
-    class, disk, input, method_bytes, name, pages, pipe_bytes, region_words, session, steps,
+    class, disk, input, meter, method_bytes, name, pages, pipe_bytes, region_words, session, steps,
 };
 use crate::text::Text;
 use clap::ArgMatches;
@@ -63,12 +63,14 @@ fn go(
     let name = name(alloc, matches)?;
     let pages = pages(matches).ok_or(WordsError::NOT_LAWFUL)?;
     let method_bytes = method_bytes(matches).ok_or(WordsError::NOT_LAWFUL)?;
+    let meter = meter(matches)?;
     let session = session(alloc, GUEST_STEPS, words, matches, arguments)?;
     Ok(Command::Go {
         input,
         name,
         pages,
         method_bytes,
+        meter,
         session,
     })
 }
@@ -85,11 +87,13 @@ fn translate(
     let name = name(alloc, matches)?;
     let pages = pages(matches).ok_or(WordsError::NOT_LAWFUL)?;
     let method_bytes = method_bytes(matches).ok_or(WordsError::NOT_LAWFUL)?;
+    let meter = meter(matches)?;
     Ok(Command::Translate {
         input,
         name,
         pages,
         method_bytes,
+        meter,
     })
 }
 

@@ -1,16 +1,18 @@
 ghost use Rattle.std.specs.Prelude.{◌≡◌, if◌then◌else◌};
 ghost use Rattle.command_forms.specs.Given.{value_place};
 ghost use Rattle.clap.specs.Words.{first_value, found_of};
+ghost use Rattle.command_values.specs.MeterTurns.{least_meter_turns, most_meter_turns};
 ghost use Rattle.command_values.specs.Names.{lawful_name};
 ghost use Rattle.command_words.specs.Answers.{Reads};
-ghost use Rattle.command_words.specs.Meaning.{arguments_in, class_in, disk_in, heap_in, input_in, method_bytes_in, name_in, name_list_in, pages_in, pipe_bytes_in, region_words_in, session_in, stack_in, steps_in, word_number};
+ghost use Rattle.command_words.specs.Meaning.{arguments_in, class_in, disk_in, heap_in, input_in, meter_in, method_bytes_in, name_in, name_list_in, pages_in, pipe_bytes_in, region_words_in, session_in, stack_in, steps_in, word_number};
+ghost use Rattle.command_words.specs.Values.{number_in};
 ghost use Rattle.command_forms.specs.Word.{texts};
 
 use crate::name_list::NameList;
 use crate::named::Named;
 use crate::named_class::NamedClass;
 use crate::names::{are_arguments, copied_words, names_in};
-use crate::number::{number_or, small_number_or};
+use crate::number::{number_or, small_number_in, small_number_or};
 use crate::pages::Pages;
 use crate::place::word_number;
 use crate::session::Session;
@@ -18,7 +20,7 @@ use crate::text::Text;
 use crate::texts::Texts;
 use clap::ArgMatches;
 use command_forms::{WordsError, value_place, word_place};
-use command_values::{ClassName, MethodBytes, PipeBytes, RegionWords};
+use command_values::{ClassName, MeterTurns, MethodBytes, PipeBytes, RegionWords};
 use std::alloc::{AllocError, Global};
 
 /// The words of a region where the option is left out.
@@ -123,6 +125,28 @@ pub(crate) fn method_bytes(matches: &ArgMatches<'_>) -> Option<MethodBytes>
         MethodBytes::MOST,
     )?;
     MethodBytes::new(count)
+}
+
+/// How many instructions a meter allows, None where there is no meter. With a meter there is no bound of steps.
+pub(crate) fn meter(matches: &ArgMatches<'_>) -> Result<Option<MeterTurns>, WordsError>
+    ensures { Reads (meter_in (first_value (found_of matches.now))) result }
+{
+    let Some(text) = matches.get_str("meter") else {
+        return Ok(None);
+    };
+    if matches.get_str("steps").is_some() {
+        return Err(WordsError::NOT_LAWFUL);
+    }
+    let turns = meter_turns(text).ok_or(WordsError::NOT_LAWFUL)?;
+    Ok(Some(turns))
+}
+
+/// The number of instructions that the text writes.
+fn meter_turns(text: &str) -> Option<MeterTurns>
+    ensures { result ≡ number_in least_meter_turns most_meter_turns text.now }
+{
+    let count = small_number_in(text, 0, u32::MAX)?;
+    MeterTurns::new(count)
 }
 
 /// The words of the class machine's region.
