@@ -6,3 +6,4 @@ pub mod LoadLemmas
 pub mod CodeLoading
 pub mod ImageLemmas
 pub mod LinkLemmas
+pub mod MoveLemmas

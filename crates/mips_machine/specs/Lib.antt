@@ -3,6 +3,7 @@ pub mod Registers
 pub mod Processor
 pub mod Settling
 pub mod Steps
+pub mod Moving
 pub mod Guest
 pub mod GuestLaws
 pub mod Loading

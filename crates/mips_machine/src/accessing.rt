@@ -1,6 +1,7 @@
 //! Loads and stores.
 ghost use Rattle.std.specs.Prelude.{◌≡◌, ℕ, ◌<◌};
 ghost use Rattle.mips_decode.specs.Loads.{load_aligned, store_aligned, load_effect, store_effect, address_of};
+ghost use Rattle.mips_machine.specs.Moving.{Steady};
 ghost use Rattle.mips_machine.specs.Processor.{processor_state, effect_of, Stays};
 
 use crate::arithmetic::extended;
@@ -19,6 +20,7 @@ impl Processor {
         ensures effect { effect_of result (processor_state self.new)
             ≡ load_effect name (processor_state self.old) rs rt imm }
         ensures stays { Stays result (processor_state self.old) (processor_state self.new) }
+        ensures steady { Steady self.old self.new }
     {
         let at = self.address(rs, imm);
         if !is_load_aligned(name, at) {
@@ -48,6 +50,7 @@ impl Processor {
         ensures effect { effect_of result (processor_state self.new)
             ≡ store_effect name (processor_state self.old) rs rt imm }
         ensures stays { Stays result (processor_state self.old) (processor_state self.new) }
+        ensures steady { Steady self.old self.new }
     {
         let at = self.address(rs, imm);
         let w = self.register(rt);

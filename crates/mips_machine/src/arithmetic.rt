@@ -52,11 +52,7 @@ fn difference(a: u32, b: u32) -> Option<u32>
 pub(crate) fn extended(imm: u16) -> u32
     ensures { result ≡ manual.sign_extended 16 imm }
 {
-    if imm < 0x8000 {
-        u32::from(imm)
-    } else {
-        u32::from(imm) + 0xffff_0000
-    }
+    unsigned(i32::from(imm.cast_signed()))
 }
 
 /// The result of rs and the signed immediate, or None on signed overflow.

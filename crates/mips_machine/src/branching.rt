@@ -1,13 +1,13 @@
 //! Branches and jumps. Each reads its condition and its target before the link is written.
 ghost use Rattle.std.specs.Prelude.{◌≡◌, ℕ, ◌+◌, ◌%◌, ◌^◌, ◌<◌, Bool, true};
 ghost use Rattle.mips_decode.specs.Branches as manual;
+ghost use Rattle.mips_decode.specs.Targets.{branch_target};
 ghost use Rattle.mips_machine.specs.Processor.{processor_state, effect_of, with_link, IsRegister, Stays};
 
+use crate::arithmetic::extended;
 use crate::executed::Executed;
 use crate::processor::Processor;
-use mips_decode::{
-    BranchEqualName, BranchSignName, BranchZeroName, JumpName, branch_target, jump_target,
-};
+use mips_decode::{BranchEqualName, BranchSignName, BranchZeroName, JumpName, jump_target};
 use nv_words::signed;
 
 impl Processor {
@@ -116,7 +116,7 @@ impl Processor {
             ≡ Executed.Branch (manual.taken_or_not (processor_state self.now) taken imm) link }
     {
         let target = if taken {
-            branch_target(self.pc(), imm)
+            taken_target(self.pc(), imm)
         } else {
             self.pc().wrapping_add(8)
         };
@@ -133,7 +133,7 @@ impl Processor {
         ensures stays { Stays result (processor_state self.now) (processor_state self.now) }
     {
         if taken {
-            let target = branch_target(self.pc(), imm);
+            let target = taken_target(self.pc(), imm);
             Executed::Branch { target, link }
         } else {
             Executed::Skip { link }
@@ -148,4 +148,13 @@ impl Processor {
     {
         self.pc
     }
+}
+
+/// Where a branch at an address goes if it is taken.
+#[inline(always)]
+fn taken_target(at: u32, imm: u16) -> u32
+    ensures { result ≡ branch_target at imm }
+{
+    at.wrapping_add(4)
+        .wrapping_add(extended(imm).wrapping_mul(4))
 }

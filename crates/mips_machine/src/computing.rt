@@ -4,6 +4,7 @@ ghost use Rattle.mips_decode.specs.State.{register, with_register};
 ghost use Rattle.mips_decode.specs.Effect.{goes_on};
 ghost use Rattle.mips_decode.specs.Arithmetic as manual;
 ghost use Rattle.mips_decode.specs.Step.{result_effect, move_from_effect, move_to_effect};
+ghost use Rattle.mips_machine.specs.Moving.{Steady};
 ghost use Rattle.mips_machine.specs.Processor.{processor_state, effect_of, Stays};
 
 use crate::arithmetic;
@@ -34,6 +35,7 @@ impl Processor {
             (manual.arithmetic_result name (register (processor_state self.old) rs)
             (register (processor_state self.old) rt)) }
         ensures stays { Stays result (processor_state self.old) (processor_state self.new) }
+        ensures steady { Steady self.old self.new }
     {
         let computed = arithmetic::arithmetic(name, self.register(rs), self.register(rt));
         self.take(rd, computed, word)
@@ -56,6 +58,7 @@ impl Processor {
             (manual.arithmetic_immediate_result name (register (processor_state self.old) rs)
             imm) }
         ensures stays { Stays result (processor_state self.old) (processor_state self.new) }
+        ensures steady { Steady self.old self.new }
     {
         let computed = arithmetic::arithmetic_immediate(name, self.register(rs), imm);
         self.take(rt, computed, word)
@@ -76,6 +79,7 @@ impl Processor {
             ≡ goes_on (with_register (processor_state self.old) rt
             (manual.logical_immediate_result name (register (processor_state self.old) rs) imm)) }
         ensures stays { Stays result (processor_state self.old) (processor_state self.new) }
+        ensures steady { Steady self.old self.new }
     {
         let computed = arithmetic::logical_immediate(name, self.register(rs), imm);
         self.set_register(rt, computed);
@@ -89,6 +93,7 @@ impl Processor {
         ensures effect { effect_of result (processor_state self.new)
             ≡ goes_on (with_register (processor_state self.old) rt (imm * 2 ^ 16)) }
         ensures stays { Stays result (processor_state self.old) (processor_state self.new) }
+        ensures steady { Steady self.old self.new }
     {
         self.set_register(rt, u32::from(imm) << 16);
         Executed::On
@@ -104,6 +109,7 @@ impl Processor {
             ≡ goes_on (with_register (processor_state self.old) rd
             (manual.shifted name (register (processor_state self.old) rt) sa)) }
         ensures stays { Stays result (processor_state self.old) (processor_state self.new) }
+        ensures steady { Steady self.old self.new }
     {
         let computed = arithmetic::shift(name, self.register(rt), u32::from(sa));
         self.set_register(rd, computed);
@@ -127,6 +133,7 @@ impl Processor {
             (manual.variable_shifted name (register (processor_state self.old) rt)
             (register (processor_state self.old) rs))) }
         ensures stays { Stays result (processor_state self.old) (processor_state self.new) }
+        ensures steady { Steady self.old self.new }
     {
         let computed = arithmetic::variable_shift(name, self.register(rt), self.register(rs));
         self.set_register(rd, computed);
@@ -148,6 +155,7 @@ impl Processor {
                   (register (processor_state self.old) rt);
             }) }
         ensures stays { Stays result (processor_state self.old) (processor_state self.new) }
+        ensures steady { Steady self.old self.new }
     {
         let (hi, lo) = arithmetic::product(name, self.register(rs), self.register(rt));
         self.hi = hi;
@@ -163,6 +171,7 @@ impl Processor {
         ensures effect { effect_of result (processor_state self.new)
             ≡ move_from_effect name (processor_state self.old) rd }
         ensures stays { Stays result (processor_state self.old) (processor_state self.new) }
+        ensures steady { Steady self.old self.new }
     {
         match name {
             HiLo::Hi => self.set_register(rd, self.hi),
@@ -195,6 +204,7 @@ impl Processor {
         ensures effect { effect_of result (processor_state self.new)
             ≡ result_effect (processor_state self.old) word r computed }
         ensures stays { Stays result (processor_state self.old) (processor_state self.new) }
+        ensures steady { Steady self.old self.new }
     {
         match computed {
             Some(w) => {

@@ -12,6 +12,8 @@ mod frequent;
 mod linking;
 mod memory_loader;
 mod mips;
+mod moving;
+mod onward;
 mod processor;
 mod registers;
 mod step;

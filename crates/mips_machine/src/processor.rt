@@ -2,6 +2,7 @@ ghost use Rattle.std.specs.Prelude.{◌≡◌, ℕ, ◌<◌};
 ghost use Rattle.mips_decode.specs.State.{register, with_register, start};
 ghost use Rattle.guest_memory.specs.Pages.{memory_of};
 ghost use Rattle.guest_memory.specs.CodePages.{code_of};
+ghost use Rattle.mips_machine.specs.Moving.{Steady};
 ghost use Rattle.mips_machine.specs.Processor.{processor_state};
 
 use crate::registers::Registers;
@@ -72,7 +73,8 @@ impl Processor {
     #[tactic(auto, unfolding(crate::specs::Processor::processor_state))]
     pub(crate) fn set_register(&mut self, r: u8, w: u32)
         requires { r < 32 }
-        ensures { processor_state self.new ≡ with_register (processor_state self.old) r w }
+        ensures state { processor_state self.new ≡ with_register (processor_state self.old) r w }
+        ensures steady { Steady self.old self.new }
     {
         self.registers.set(r, w);
     }
