@@ -3,7 +3,7 @@ use crate::constant::Constant;
 use crate::kind::Kind;
 use crate::local_kind::LocalKind;
 use jvm_names::{
-    ArrayName, BranchName, Conversion, IntArithmetic, IntDivision, IntShift, LongArithmetic,
+    ArrayName, BranchName, Conversion, IntArithmetic, IntDivision, IntShift, Kept, LongArithmetic,
     LongDivision, LongShift, LookupSwitch, ReturnName, StackName, TableSwitch,
 };
 
@@ -29,8 +29,8 @@ pub enum Instruction {
     LongCompare,
     /// A branch, `goto_w` too, with its target.
     Branch(BranchName, u32),
-    TableSwitch(TableSwitch),
-    LookupSwitch(LookupSwitch),
+    TableSwitch(Kept<TableSwitch>),
+    LookupSwitch(Kept<LookupSwitch>),
     /// `getstatic`: a field, and the field's type.
     Get(u32, Kind),
     /// `putstatic`: a field, and the field's type.
