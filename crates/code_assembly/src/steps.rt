@@ -11,7 +11,7 @@ use crate::references::References;
 use code_steps::Step;
 use constant_pool::{NoMemory, Pool, PoolError};
 use jvm_code::Op;
-use jvm_names::{Sequence, TableSwitch};
+use jvm_names::{Kept, Sequence, TableSwitch};
 use jvm_program::Instruction;
 use std::alloc::Global;
 
@@ -38,6 +38,9 @@ pub fn step_operation(
         Step::Leaves(target) => Ok(Op::GotoW(*target)),
         Step::Selects(switch) => {
             let Ok(switch) = copy_of(alloc, switch) else {
+                return Err(PoolError::NoMemory);
+            };
+            let Ok(switch) = Kept::new(alloc, switch) else {
                 return Err(PoolError::NoMemory);
             };
             Ok(Op::TableSwitch(switch))

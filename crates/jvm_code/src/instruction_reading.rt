@@ -10,6 +10,7 @@ use crate::switch_reading::{lookup_switch_of, table_switch_of};
 use class_format::{
     Failure, byte_of, exact_byte_of, half_of, missed, signed_byte_of, signed_half_of,
 };
+use jvm_names::Kept;
 use std::alloc::Global;
 
 const OUTSIDE: u32 = 1;
@@ -87,11 +88,11 @@ fn single_of(alloc: Global, at: u32, opcode: u8, bytes: &[u8]) -> Result<(Op, &[
         }
         170 => {
             let (switch, rest) = table_switch_of(alloc, at, bytes)?;
-            Ok((Op::TableSwitch(switch), rest))
+            Ok((Op::TableSwitch(Kept::new(alloc, switch)?), rest))
         }
         171 => {
             let (switch, rest) = lookup_switch_of(alloc, at, bytes)?;
-            Ok((Op::LookupSwitch(switch), rest))
+            Ok((Op::LookupSwitch(Kept::new(alloc, switch)?), rest))
         }
         188 => {
             let rest = exact_byte_of(CUT, OUTSIDE, INTS, bytes)?;

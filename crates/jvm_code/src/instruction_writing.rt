@@ -37,8 +37,8 @@ fn append_operands(code: &mut Vec<u8>, at: u32, op: &Op) -> Result<(), NoMemory>
         Op::Iinc(index, number) => append_iinc(code, *index, *number),
         Op::Branch(_, target) => append_near(code, at, *target),
         Op::GotoW(target) => append_wide(code, at, *target),
-        Op::TableSwitch(switch) => append_table_switch(code, at, switch),
-        Op::LookupSwitch(switch) => append_lookup_switch(code, at, switch),
+        Op::TableSwitch(switch) => append_table_switch(code, at, switch.get()),
+        Op::LookupSwitch(switch) => append_lookup_switch(code, at, switch.get()),
         Op::Newarray => append_byte(code, INTS),
         _ => Ok(()),
     }

@@ -56,10 +56,12 @@ fn are_targets_lines(marks: &[bool], lines: &[Line], op: &Op) -> bool
         Op::Branch(_, target) => is_line(marks, lines, *target),
         Op::GotoW(target) => is_line(marks, lines, *target),
         Op::TableSwitch(switch) => {
+            let switch = switch.get();
             is_line(marks, lines, switch.default)
                 && are_lines(marks, lines, switch.targets.as_slice())
         }
         Op::LookupSwitch(switch) => {
+            let switch = switch.get();
             is_line(marks, lines, switch.default)
                 && are_pairs_lines(marks, lines, switch.pairs.as_slice())
         }

@@ -3,7 +3,7 @@ use crate::names::local_name::LocalName;
 use crate::names::pool_name::PoolName;
 use crate::names::short_index::ShortIndex;
 use jvm_names::{
-    ArrayName, BranchName, Conversion, IntArithmetic, IntDivision, IntShift, LongArithmetic,
+    ArrayName, BranchName, Conversion, IntArithmetic, IntDivision, IntShift, Kept, LongArithmetic,
     LongDivision, LongShift, LookupSwitch, ReturnName, StackName, TableSwitch,
 };
 
@@ -40,8 +40,8 @@ pub enum Op {
     Branch(BranchName, u32),
     /// `goto_w`, with its target.
     GotoW(u32),
-    TableSwitch(TableSwitch),
-    LookupSwitch(LookupSwitch),
+    TableSwitch(Kept<TableSwitch>),
+    LookupSwitch(Kept<LookupSwitch>),
     /// A return.
     Give(ReturnName),
     /// `newarray` of ints.

@@ -20,10 +20,10 @@ pub fn size(op: &Op, at: u32) -> u32
         Op::Sipush(_) | Op::Pool(_, _) | Op::Iinc(_, _) | Op::Branch(_, _) => 3,
         Op::GotoW(_) => 5,
         Op::TableSwitch(switch) => {
-            13 + pad_of(at) as u32 + 4 * switch.targets.as_slice().len() as u32
+            13 + pad_of(at) as u32 + 4 * switch.get().targets.as_slice().len() as u32
         }
         Op::LookupSwitch(switch) => {
-            9 + pad_of(at) as u32 + 8 * switch.pairs.as_slice().len() as u32
+            9 + pad_of(at) as u32 + 8 * switch.get().pairs.as_slice().len() as u32
         }
         _ => 1,
     }
