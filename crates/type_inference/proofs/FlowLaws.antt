@@ -3,7 +3,7 @@ use Rattle.std.proofs.Common.{◌≡◌, ℕ, zero, suc, ◌+◌, ◌<◌, ◌�
 use Rattle.std.specs.Prelude.{option_map, if◌then◌else◌, nat_lt, nat_eq, All}
 use Rattle.std.proofs.lemmas.Bool.{or_parts, or_cases, true≢false, cases_eq, eqb-true, eq-eqb, ltb-true, lt-ltb}
 use Rattle.std.proofs.lemmas.List.{get_or-set_same, get_or-set_other, length-set, length-append}
-use Rattle.std.proofs.lemmas.List.Elements.{All-more}
+use Rattle.std.proofs.lemmas.List.Elements.{All-more, All-push, All-pop}
 use Rattle.std.proofs.lemmas.Option.{same_Some}
 use Rattle.jvm_program.specs.declared.linked_line.LinkedLine.{LinkedLine}
 use Rattle.jvm_program.specs.declared.linked_method.LinkedMethod.{LinkedMethod}
@@ -250,3 +250,34 @@ still-from method f targets frames after good all = record { each = λ others ty
 
 pub still-nothing : (method : LinkedMethod) (f : TypeFrame) (targets : List ℕ) (frames : Slots) → StillBelow method f targets frames frames
 still-nothing method f targets frames = record { each = λ others typed under r. under }
+
+pub no-below : (method : LinkedMethod) (f : TypeFrame) (targets : List ℕ) (frames : Slots) → AllStayBelow method f targets frames true frames
+no-below method f targets frames = record { each = λ others typed under r. (refl, under) }
+
+-- to the others, and to the last one
+pub last-flows : (method : LinkedMethod) (limit : ℕ) (f : TypeFrame) (targets others : List ℕ) (to : ℕ) (frames : Slots) (work : List ℕ) (then' : Slots) (more : List ℕ) (after : Slots) (later : List ℕ) → targets ≡ others ++ to ∷ [] → FlowsToAll method limit f others frames work then' more → Flows method limit f to then' more after later → FlowsToAll method limit f targets frames work after later
+last-flows method limit f targets others to frames work then' more after later is all one =
+    subst (λ ts. FlowsToAll method limit f ts frames work after later) (sym is) (record {
+      moves = Moves-trans method.locals method.stack limit frames work then' more after later all.moves one.moves;
+      received = All-push (Receives method (frame_at after) f) others to
+          (λ k d h. received-rises method then' after f (get_or others k d) one.moves.rises (all.received k d h))
+          one.received;
+    })
+
+-- what all receive the others and the last one do
+parts-of : (method : LinkedMethod) (f : TypeFrame) (targets rest : List ℕ) (to : ℕ) → targets ≡ rest ++ to ∷ [] → (others : Frames) → All (Receives method others f) targets → All (Receives method others f) rest × Receives method others f to
+parts-of method f targets rest to is others r =
+    let p = All-pop (Receives method others f) (rest ++ to ∷ []) rest (Some to) refl (subst (All (Receives method others f)) is r) in
+    (p.0, p.1)
+
+pub others-fail : (method : LinkedMethod) (f : TypeFrame) (targets rest : List ℕ) (to : ℕ) (frames after : Slots) (good : Bool) → targets ≡ rest ++ to ∷ [] → good ≡ false → AllStayBelow method f rest frames good after → AllStayBelow method f targets frames false after
+others-fail method f targets rest to frames after good is bad all = record {
+  each = λ others typed under r. subst (λ b. (b ≡ true) × AreBelow (frame_at after) others) bad (all.each others typed under (parts-of method f targets rest to is others r).0);
+}
+
+pub last-below : (method : LinkedMethod) (f : TypeFrame) (targets rest : List ℕ) (to : ℕ) (frames then' after : Slots) (so_far good : Bool) → targets ≡ rest ++ to ∷ [] → AllStayBelow method f rest frames so_far then' → StaysBelow method f to then' good after → AllStayBelow method f targets frames good after
+last-below method f targets rest to frames then' after so_far good is all one = record {
+  each = λ others typed under r.
+      let p = parts-of method f targets rest to is others r in
+      one.each others typed (all.each others typed under p.0).1 p.1;
+}

@@ -228,11 +228,6 @@ IsJoin-first f n = record {
   falls = λ locals stack new. omega (arith, new.locals_fit, new.stack_fits, ranks-length f.locals, ranks-length f.stack);
 }
 
-pub IsJoin-copy : (f h : Frame) → h.locals ≡ f.locals → h.stack ≡ f.stack → no_top f.stack ≡ true → IsJoin None f h
-IsJoin-copy f h l s n =
-    let same : f ≡ h = λ i. record { locals = sym l i; stack = sym s i } in
-    subst (λ x. IsJoin None f x) same (IsJoin-first f n)
-
 pub joined-of : (ks os xs bs : List Kind) (o p : Option (List Kind)) → xs ≡ ks → bs ≡ os → o ≡ joined_stacks xs bs → o ≡ p → joined_stacks ks os ≡ p
 joined-of ks os xs bs o p a b e q = ap (λ x. joined_stacks x os) (sym a) ∙ (ap (joined_stacks xs) (sym b) ∙ (sym e ∙ q))
 

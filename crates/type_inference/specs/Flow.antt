@@ -5,6 +5,8 @@ use Rattle.jvm_program.specs.declared.linked_method.LinkedMethod.{LinkedMethod}
 use Rattle.jvm_program.specs.Program.{Program, line_in}
 use Rattle.jvm_program.specs.Typing.{TypeFrame, Below, Frames, Follows, Receives, IsTypingTo, entry_frame, no_top}
 use Rattle.type_inference.specs.declared.frame.Frame.{Frame}
+use Rattle.type_inference.specs.declared.successors.Successors.{Successors}
+use Rattle.type_inference.specs.declared.successors.Successors.TheVariants.{Nowhere, To, ToEither, ToAny}
 use Rattle.type_inference.specs.Verdict.{AreBelow}
 use Rattle.type_inference.specs.Frames.{frame_at, IsFormed, weight}
 
@@ -15,6 +17,14 @@ line_by lines starts at = option_and_then (slice_get lines) (slice_index_or star
 
 pub record IsTable (lines : List LinkedLine) (starts : List (Option ℕ)) : Type 0 where
   pub finds : (at : ℕ) → line_by lines starts at ≡ line_in lines at
+
+-- ---- where an instruction may go
+
+abbrev pub offsets_of : Successors → List ℕ
+offsets_of Nowhere = []
+offsets_of (To offset) = offset
+offsets_of (ToEither offsets) = offsets
+offsets_of (ToAny offsets) = offsets.items
 
 -- ---- what a frame at each offset can be
 

@@ -46,20 +46,20 @@ impl Flow {
         alloc: Global,
         code: &Code<'_>,
         limit: usize,
-        frame: &Frame,
+        frame: Frame,
         to: usize,
     ) -> Result<bool, AllocError>
         requires table { flow.IsTable code.now.method.now.lines code.now.starts.items }
         requires size { length self.old.frames.items ≡ length code.now.starts.items }
         requires formed { flow.AreFormed code.now.method.now.locals code.now.method.now.stack
             self.old.frames.items }
-        requires frame { IsSized code.now.method.now.locals code.now.method.now.stack frame.now }
+        requires frame { IsSized code.now.method.now.locals code.now.method.now.stack frame }
         ensures flows { IfOk result (λ good. good ≡ true
-            → flow.Flows code.now.method.now limit (type_frame frame.now)
+            → flow.Flows code.now.method.now limit (type_frame frame)
             to self.old.frames.items self.old.work.items self.new.frames.items
             self.new.work.items) }
         ensures below { IfOk result (λ good.
-            flow.StaysBelow code.now.method.now (type_frame frame.now)
+            flow.StaysBelow code.now.method.now (type_frame frame)
             to self.old.frames.items good self.new.frames.items) }
     {
         if !code.has_line(to) {
@@ -75,7 +75,8 @@ impl Flow {
         }
     }
 
-    fn flow_to_all(
+    // A frame flows to each of some instructions, and is left.
+    fn flow_to_each(
         &mut self,
         alloc: Global,
         code: &Code<'_>,
@@ -97,11 +98,43 @@ impl Flow {
             targets.now self.old.frames.items good self.new.frames.items) }
     {
         for target in targets {
-            if !self.flow(alloc, code, limit, frame, *target as usize)? {
+            let copy = frame.copied(alloc)?;
+            if !self.flow(alloc, code, limit, copy, *target as usize)? {
                 return Ok(false);
             }
         }
         Ok(true)
+    }
+
+    // A frame flows to each of some instructions, to the last of which it is moved.
+    fn flow_to_all(
+        &mut self,
+        alloc: Global,
+        code: &Code<'_>,
+        limit: usize,
+        frame: Frame,
+        targets: &[u32],
+    ) -> Result<bool, AllocError>
+        requires table { flow.IsTable code.now.method.now.lines code.now.starts.items }
+        requires size { length self.old.frames.items ≡ length code.now.starts.items }
+        requires formed { flow.AreFormed code.now.method.now.locals code.now.method.now.stack
+            self.old.frames.items }
+        requires frame { IsSized code.now.method.now.locals code.now.method.now.stack frame }
+        ensures flows { IfOk result (λ good. good ≡ true
+            → flow.FlowsToAll code.now.method.now limit (type_frame frame)
+            targets.now self.old.frames.items self.old.work.items self.new.frames.items
+            self.new.work.items) }
+        ensures below { IfOk result (λ good.
+            flow.AllStayBelow code.now.method.now (type_frame frame)
+            targets.now self.old.frames.items good self.new.frames.items) }
+    {
+        let Some((last, others)) = targets.split_last() else {
+            return Ok(true);
+        };
+        if !self.flow_to_each(alloc, code, limit, &frame, others)? {
+            return Ok(false);
+        }
+        self.flow(alloc, code, limit, frame, *last as usize)
     }
 
     /// Looks at the instruction at an offset, where there is one with a frame.
@@ -134,8 +167,8 @@ impl Flow {
         let Some(behind) = code.behind(alloc, &line.instruction, frame)? else {
             return Ok(false);
         };
-        let targets = successors_of(alloc, line)?;
-        self.flow_to_all(alloc, code, limit, &behind, &targets)
+        let successors = successors_of(alloc, line)?;
+        self.flow_to_all(alloc, code, limit, behind, successors.as_slice())
     }
 
     /// Looks at instructions until the frames rest.

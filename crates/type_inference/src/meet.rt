@@ -12,31 +12,30 @@ use jvm_names::Sequence;
 use jvm_program::Kind;
 use std::alloc::{AllocError, Global};
 
-/// What comes of a frame that flows to an instruction with a frame or none.
-pub fn meet(alloc: Global, old: &Option<Frame>, frame: &Frame) -> Result<Meeting, AllocError>
-    ensures { IfOk result (IsMeeting old.now frame.now) }
+/// What comes of a frame that flows to an instruction with a frame or none. It stays the frame of one that had none.
+pub fn meet(alloc: Global, old: &Option<Frame>, frame: Frame) -> Result<Meeting, AllocError>
+    ensures { IfOk result (IsMeeting old.now frame) }
 {
     match old {
-        None => first_frame(alloc, frame),
+        None => Ok(first_frame(frame)),
         Some(old) => {
-            if is_frame_below(frame, old) {
+            if is_frame_below(&frame, old) {
                 Ok(Meeting::Unchanged)
             } else {
-                joined_frame(alloc, old, frame)
+                joined_frame(alloc, old, &frame)
             }
         }
     }
 }
 
-fn first_frame(alloc: Global, frame: &Frame) -> Result<Meeting, AllocError>
-    ensures { IfOk result (IsMeeting None frame.now) }
+fn first_frame(frame: Frame) -> Meeting
+    ensures { IsMeeting None frame result }
 {
-    if !has_no_top(frame.stack.as_slice()) {
-        return Ok(Meeting::Refused);
+    if has_no_top(frame.stack.as_slice()) {
+        Meeting::Changed(frame)
+    } else {
+        Meeting::Refused
     }
-    let locals = Sequence::new(Vec::from_slice(alloc, frame.locals.as_slice())?);
-    let stack = Sequence::new(Vec::from_slice(alloc, frame.stack.as_slice())?);
-    Ok(Meeting::Changed(Frame { locals, stack }))
 }
 
 /// Whether a frame is below another (JVM Specification, 4.10.1.2).

@@ -76,7 +76,7 @@ fn entered(alloc: Global, code: &Code<'_>) -> Result<Flow, AllocError>
 fn no_frames(alloc: Global, count: usize) -> Result<Vec<Option<Frame>>, AllocError>
     ensures { IfOk result (λ v. v.items ≡ replicate count None) }
 {
-    let mut frames = Vec::new(alloc);
+    let mut frames = Vec::with_capacity(alloc, count)?;
     while frames.len() < count {
         frames.push(None)?;
     }

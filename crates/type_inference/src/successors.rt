@@ -1,21 +1,48 @@
 //! Where an instruction may go.
 ghost use Rattle.std.specs.Prelude.{◌≡◌, ◌++◌, ◌∷◌, IfOk, OnOk, map};
 ghost use Rattle.jvm_program.specs.Program as program;
+ghost use Rattle.type_inference.specs.Flow.{offsets_of};
 
 use jvm_names::{BranchName, Pair};
 use jvm_program::{Instruction, LinkedLine};
 use std::alloc::{AllocError, Global};
 
-/// The offsets to which an instruction may go.
-pub fn successors_of(alloc: Global, line: &LinkedLine) -> Result<Vec<u32>, AllocError>
-    ensures { IfOk result (λ v. v.items ≡ program.successors line.now) }
-{
-    let mut targets = Vec::new(alloc);
-    if falls_through(&line.instruction) {
-        targets.push(line.next)?;
+/// The offsets to which an instruction may go. Where they are two at most they cost no memory.
+#[derive(Drop)]
+pub enum Successors {
+    Nowhere,
+    To([u32; 1]),
+    ToEither([u32; 2]),
+    ToAny(Vec<u32>),
+}
+
+impl Successors {
+    /// The offsets.
+    pub fn as_slice(&self) -> &[u32]
+        ensures { result.now ≡ offsets_of self.now }
+    {
+        match self {
+            Successors::Nowhere => &[],
+            Successors::To(offset) => offset.as_slice(),
+            Successors::ToEither(offsets) => offsets.as_slice(),
+            Successors::ToAny(offsets) => offsets.as_slice(),
+        }
     }
-    append_targets(&mut targets, &line.instruction)?;
-    Ok(targets)
+}
+
+/// Where an instruction may go.
+pub fn successors_of(alloc: Global, line: &LinkedLine) -> Result<Successors, AllocError>
+    ensures { IfOk result (λ s. offsets_of s ≡ program.successors line.now) }
+{
+    match &line.instruction {
+        Instruction::Branch(BranchName::Goto, target) => Ok(Successors::To([*target])),
+        Instruction::Branch(_, target) => Ok(Successors::ToEither([line.next, *target])),
+        Instruction::TableSwitch(_) | Instruction::LookupSwitch(_) => {
+            Ok(Successors::ToAny(targets_of(alloc, &line.instruction)?))
+        }
+        Instruction::Return(_) => Ok(Successors::Nowhere),
+        _ => Ok(Successors::To([line.next])),
+    }
 }
 
 /// Whether an instruction may go on to the next one.
@@ -47,9 +74,11 @@ fn append_targets(targets: &mut Vec<u32>, instruction: &Instruction) -> Result<(
     match instruction {
         Instruction::Branch(_, target) => append(targets, *target, &[]),
         Instruction::TableSwitch(switch) => {
+            let switch = switch.get();
             append(targets, switch.default, switch.targets.as_slice())
         }
         Instruction::LookupSwitch(switch) => {
+            let switch = switch.get();
             append(targets, switch.default, &[])?;
             append_pairs(targets, switch.pairs.as_slice())
         }

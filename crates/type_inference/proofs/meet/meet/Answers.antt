@@ -8,5 +8,5 @@ returns-then-is_frame_below c =
     record {
       frame = g;
       is = c.in-Some.is;
-      above = frame_below-from c.args.frame.now g (sym c.is_frame_below.ensures ∙ c.if-is_frame_below.true);
+      above = frame_below-from c.args.frame g (sym c.is_frame_below.ensures ∙ c.if-is_frame_below.true);
     }

@@ -14,7 +14,7 @@ returns-in-Unchanged-clause-flows c _ =
     let old : c.index.result.now ≡ get_or frames a.to None = get_or_read frames a.to c.index.result.now inside c.index.ensures None in
     let line = some-there _ (sym c.has_line.ensures.found ∙ c.if-not-has_line.false) in
     let still = rw c.in-Unchanged.is at c.in_ok-meet.ensures in
-    still-flows a.code.now.method.now a.limit frames a.self.now.work.items a.frame.now a.to line.0 line.1 (subst (λ o. IsStill o a.frame.now) old still)
+    still-flows a.code.now.method.now a.limit frames a.self.now.work.items a.frame a.to line.0 line.1 (subst (λ o. IsStill o a.frame) old still)
 
 pub returns-in_ok-put-in-Changed-clause-flows : goal.returns-in_ok-put-in-Changed-clause-flows
 returns-in_ok-put-in-Changed-clause-flows c _ =
@@ -27,9 +27,9 @@ returns-in_ok-put-in-Changed-clause-flows c _ =
     let old : c.index.result.now ≡ get_or frames a.to None = get_or_read frames a.to c.index.result.now inside c.index.ensures None in
     let line = some-there _ (sym c.has_line.ensures.found ∙ c.if-not-has_line.false) in
     let join = rw c.in-Changed.is at c.in_ok-meet.ensures in
-    let flows = changed-flows m a.limit frames work a.frame.now h a.to line.0 line.1 inside (subst (λ o. IsJoin o a.frame.now h) old join) c.requires.formed c.requires.frame in
-    subst (λ x. Flows m a.limit (type_frame a.frame.now) a.to frames work x c.put.new.self.work.items) (sym c.in_ok-put-in-Changed.ensures.frames)
-    (subst (λ x. Flows m a.limit (type_frame a.frame.now) a.to frames work (set frames a.to (Some h)) x) (sym c.in_ok-put-in-Changed.ensures.work) flows)
+    let flows = changed-flows m a.limit frames work a.frame h a.to line.0 line.1 inside (subst (λ o. IsJoin o a.frame h) old join) c.requires.formed c.requires.frame in
+    subst (λ x. Flows m a.limit (type_frame a.frame) a.to frames work x c.put.new.self.work.items) (sym c.in_ok-put-in-Changed.ensures.frames)
+    (subst (λ x. Flows m a.limit (type_frame a.frame) a.to frames work (set frames a.to (Some h)) x) (sym c.in_ok-put-in-Changed.ensures.work) flows)
 
 pub returns-in_ok-put-in-Changed-clause-below : goal.returns-in_ok-put-in-Changed-clause-below
 returns-in_ok-put-in-Changed-clause-below c =
@@ -40,8 +40,8 @@ returns-in_ok-put-in-Changed-clause-below c =
     let inside : a.to < length frames = let i = c.has_line.ensures.within c.if-not-has_line.false in let size = c.requires.size in omega (arith, i, size) in
     let old : c.index.result.now ≡ get_or frames a.to None = get_or_read frames a.to c.index.result.now inside c.index.ensures None in
     let join = rw c.in-Changed.is at c.in_ok-meet.ensures in
-    subst (λ x. StaysBelow m (type_frame a.frame.now) a.to frames true x) (sym c.in_ok-put-in-Changed.ensures.frames)
-    (changed-below m frames a.frame.now h a.to inside (subst (λ o. IsJoin o a.frame.now h) old join))
+    subst (λ x. StaysBelow m (type_frame a.frame) a.to frames true x) (sym c.in_ok-put-in-Changed.ensures.frames)
+    (changed-below m frames a.frame h a.to inside (subst (λ o. IsJoin o a.frame h) old join))
 
 pub returns-in-Refused-clause-below : goal.returns-in-Refused-clause-below
 returns-in-Refused-clause-below c =
@@ -50,4 +50,4 @@ returns-in-Refused-clause-below c =
     let inside : a.to < length frames = let i = c.has_line.ensures.within c.if-not-has_line.false in let size = c.requires.size in omega (arith, i, size) in
     let old : c.index.result.now ≡ get_or frames a.to None = get_or_read frames a.to c.index.result.now inside c.index.ensures None in
     let refuse = rw c.in-Refused.is at c.in_ok-meet.ensures in
-    refused-below a.code.now.method.now frames frames a.frame.now a.to (λ u above. refuse u (subst (λ o. IsAbove o a.frame.now u) (sym old) above))
+    refused-below a.code.now.method.now frames frames a.frame a.to (λ u above. refuse u (subst (λ o. IsAbove o a.frame u) (sym old) above))

@@ -53,8 +53,8 @@ returns-clause-visits c =
     let inside : a.at < length frames = let i = c.in-Some.ensures.within in let size = c.requires.size in omega (arith, i, size) in
     let here : get_or frames a.at None ≡ Some f = sym (get_or_read frames a.at c.index.result.now inside c.index.ensures None) ∙ c.in-Some-index.is in
     let enters = rw c.in-Some-2.is at c.in_ok-behind.ensures.enters in
-    let targets : c.deref.result.now ≡ successors line = c.deref.ensures.value ∙ c.in_ok-targets.ensures in
-    let P : Bool → Type 0 = λ good. good ≡ true → FlowsToAll m a.limit (type_frame b) c.deref.result.now frames work after.frames.items after.work.items in
+    let targets : c.as_slice.result.now ≡ successors line = c.as_slice.ensures ∙ c.in_ok-successors.ensures in
+    let P : Bool → Type 0 = λ good. good ≡ true → FlowsToAll m a.limit (type_frame b) c.as_slice.result.now frames work after.frames.items after.work.items in
     let Q : Bool → Type 0 = λ good. good ≡ true → Visits p m a.limit a.at frames work after.frames.items after.work.items in
     IfOk-weaker c.flow_to_all.result P Q
     (λ good flows is.
@@ -75,8 +75,8 @@ returns-clause-below c =
     let inside : a.at < length frames = let i = c.in-Some.ensures.within in let size = c.requires.size in omega (arith, i, size) in
     let here : get_or frames a.at None ≡ Some f = sym (get_or_read frames a.at c.index.result.now inside c.index.ensures None) ∙ c.in-Some-index.is in
     let enters = rw c.in-Some-2.is at c.in_ok-behind.ensures.enters in
-    let targets : c.deref.result.now ≡ successors line = c.deref.ensures.value ∙ c.in_ok-targets.ensures in
-    IfOk-weaker c.flow_to_all.result (λ good. AllStayBelow m (type_frame b) c.deref.result.now frames good after) (λ good. KeepsBelow p m a.limit frames good after)
+    let targets : c.as_slice.result.now ≡ successors line = c.as_slice.ensures ∙ c.in_ok-successors.ensures in
+    IfOk-weaker c.flow_to_all.result (λ good. AllStayBelow m (type_frame b) c.as_slice.result.now frames good after) (λ good. KeepsBelow p m a.limit frames good after)
     (λ good all.
     visited-below p m a.limit a.at line (type_frame f) (type_frame b) frames good after c.requires.admitted (sym c.in-Some.ensures.found) (frame_at-is frames a.at f here) enters
     (subst (λ x. AllStayBelow m (type_frame b) x frames good after) targets all))

@@ -2,7 +2,7 @@ use Rattle.std.proofs.Common.{take}
 use Rattle.type_inference.specs.Flow.{FlowsToAll}
 use Rattle.type_inference.specs.Frames.{type_frame}
 use Rattle.type_inference.proofs.FlowLaws.{StillBelow}
-use Rattle.type_inference.proofs.flow.Flow.flow_to_all.Given as goal
+use Rattle.type_inference.proofs.flow.Flow.flow_to_each.Given as goal
 
 abbrev pub invariant-loop-target : goal.invariant-loop-target
 invariant-loop-target l =
