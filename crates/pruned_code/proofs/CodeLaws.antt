@@ -1,6 +1,6 @@
 -- Pruned lines are the lines of a code.
 use Rattle.std.proofs.Common.{◌≡◌, ℕ, zero, suc, ◌+◌, ◌<◌, Bool, true, false, eqb, ◌||◌, List, [], ◌∷◌, ◌++◌, length, Option, Some, None, refl, sym, ap, subst, ◌∙◌, arith, append_assoc, append-nil, lit<}
-use Rattle.std.specs.Prelude.{if◌then◌else◌}
+use Rattle.std.specs.Prelude.{if◌then◌else◌, not}
 use Rattle.std.specs.List.{list_all}
 use Rattle.std.proofs.lemmas.Bool.{and_parts, and_from, eqb-true, false≢true}
 use Rattle.jvm_names.specs.declared.return_name.ReturnName.{ReturnName}
@@ -12,7 +12,7 @@ use Rattle.jvm_code.specs.Instructions.{instruction}
 use Rattle.jvm_code.specs.Targets.{bad_target}
 use Rattle.jvm_code.specs.Code.{targets_of, is_line, target_fault}
 use Rattle.jvm_code.specs.Writing.{size_at, AreLaid, AreCode}
-use Rattle.pruned_code.specs.Code.{returns_at, pruned_line, pruned_lines, KeepsTargets}
+use Rattle.pruned_code.specs.Code.{returns_at, pruned_line, pruned_lines, has_dead, KeepsTargets}
 
 -- ---- laid out one after the other
 
@@ -133,6 +133,15 @@ returns-pushed name at zero = let e : at ≡ at + 0 = omega arith in ap (λ (a :
 returns-pushed name at (suc n) =
     let e : suc at + n ≡ at + suc n = omega arith in
     ap (λ (ls : List Line). record { at = at; op = Give name } ∷ ls) (returns-pushed name (suc at) n ∙ ap (λ (a : ℕ). returns_at name (suc at) n ++ record { at = a; op = Give name } ∷ []) e)
+
+-- where each line stays, the lines are the same
+pub none-dead : (kept : ℕ → Bool) (name : ReturnName) (lines : List Line) → has_dead kept lines ≡ false → pruned_lines kept name lines ≡ lines
+none-dead kept name [] e = refl
+none-dead kept name (l ∷ lines) e = by-test (kept l.at) e (λ h. none-dead kept name lines h)
+  where
+    by-test : (b : Bool) → (not b || has_dead kept lines) ≡ false → (has_dead kept lines ≡ false → pruned_lines kept name lines ≡ lines) → (if b then l ∷ [] else returns_at name l.at (size_at l.at l.op)) ++ pruned_lines kept name lines ≡ l ∷ lines
+    by-test true h others = ap (λ ls. l ∷ ls) (others h)
+    by-test false h others = absurd (false≢true (sym h))
 
 pub prune-begins : (kept : ℕ → Bool) (name : ReturnName) (out left all : List Line) → out ≡ [] → left ≡ all → out ++ pruned_lines kept name left ≡ pruned_lines kept name all
 prune-begins kept name out left all e g = λ i. e i ++ pruned_lines kept name (g i)

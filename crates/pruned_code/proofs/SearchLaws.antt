@@ -7,7 +7,7 @@ use Rattle.type_inference.specs.declared.frame.Frame.{Frame}
 use Rattle.type_inference.specs.Frames.{type_frame}
 use Rattle.type_verifier.specs.Typings.{listed_frames, RisesFrom}
 use Rattle.pruned_code.specs.Code.{is_listed}
-use Rattle.pruned_code.specs.Listing.{frame_in}
+use Rattle.pruned_code.specs.Listing.{AreListedBefore, frame_in}
 
 -- ---- the frames that are listed, as such
 
@@ -28,12 +28,8 @@ listed-is listed at = sym (ap is_some (frames-are listed at) ∙ mapped-some (fr
 
 -- ---- offsets that rise
 
-abbrev pub AllBefore : ℕ → List (ℕ × Frame) → Type 0
-AllBefore n [] = Unit {0}
-AllBefore n (l ∷ listed) = (l.0 < n) × AllBefore n listed
-
 pub record Split (start : ℕ) (below : List (ℕ × Frame)) (m : ℕ × Frame) (others : List (ℕ × Frame)) : Type 0 where
-  pub before : AllBefore m.0 below
+  pub before : AreListedBefore m.0 below
   pub first : RisesFrom start below
   pub from : start ≤ m.0
   pub behind : RisesFrom (suc m.0) others
@@ -53,7 +49,7 @@ pub rises-weak : (start lower : ℕ) (listed : List (ℕ × Frame)) → lower �
 rises-weak start lower [] h r = tt
 rises-weak start lower (l ∷ listed) h r = (omega (arith, h, r.0), r.1)
 
-none-before : (listed : List (ℕ × Frame)) (n at : ℕ) → AllBefore n listed → n ≤ at → frame_in listed at ≡ None
+none-before : (listed : List (ℕ × Frame)) (n at : ℕ) → AreListedBefore n listed → n ≤ at → frame_in listed at ≡ None
 none-before [] n at b h = refl
 none-before (l ∷ listed) n at b h =
     ap (λ t. if t then Some l.1 else frame_in listed at) (ne_eqb l.0 at (λ e. omega (arith, e, h, b.0))) ∙ none-before listed n at b.1 h

@@ -1,3 +1,4 @@
 pub mod Pruned
 pub mod Code
 pub mod Listing
+pub mod Linked

@@ -47,3 +47,8 @@ listing_of method reached =
 abbrev pub AllBefore : ℕ → List LinkedLine → Type 0
 AllBefore end [] = Unit {0}
 AllBefore end (l ∷ lines) = (l.at < end) × AllBefore end lines
+
+-- each frame is listed for an offset before another one
+abbrev pub AreListedBefore : ℕ → List (ℕ × Frame) → Type 0
+AreListedBefore end [] = Unit {0}
+AreListedBefore end (l ∷ listed) = (l.0 < end) × AreListedBefore end listed

@@ -4,6 +4,7 @@
 
 mod laws;
 mod listing;
+mod marks;
 mod pruning;
 
 pub use laws::pruned_code_is_framed;

@@ -2,12 +2,14 @@
 ghost use Rattle.std.specs.Prelude.{◌≡◌, ◌+◌, ◌≤◌, ◌++◌, ℕ, List, [], ◌∷◌, if◌then◌else◌, None, IfOk, OnOk, option_map};
 ghost use Rattle.jvm_code.specs.declared.line.Line.{Line};
 ghost use Rattle.jvm_code.specs.Code.{Lines, code_fault};
-ghost use Rattle.jvm_code.specs.Writing.{AreLaid, size_at};
+ghost use Rattle.jvm_code.specs.Writing.{AreCode, AreLaid, size_at};
 ghost use Rattle.type_verifier.specs.Typings.{RisesFrom};
 ghost use Rattle.pruned_code.specs.Code as code;
+ghost use Rattle.pruned_code.specs.Linked as linked;
 ghost use Rattle.pruned_code.specs.Listing as listing;
 ghost use Rattle.pruned_code.specs.Pruned as pruned;
 
+use crate::marks::{is_marked, listed_marks};
 use jvm_code::{Line, Method, Op, decode_ops, encode_ops, size};
 use jvm_names::{ReturnName, Sequence};
 use std::alloc::{AllocError, Global};
@@ -32,9 +34,9 @@ pub fn pruned_method(
     let Ok(lines) = decode_ops(alloc, method.code.as_slice()) else {
         return Err(AllocError);
     };
-    let dead = has_dead(&lines, reached);
-    let pruned = pruned_lines(alloc, lines, return_of(gives_int), reached)?;
-    let code = encode_ops(alloc, &pruned)?;
+    let marks = listed_marks(alloc, reached)?;
+    let dead = has_dead(&lines, &marks);
+    let code = pruned_bytes(alloc, method, gives_int, lines, dead, &marks)?;
     Ok(Method {
         name: method.name,
         desc: method.desc,
@@ -66,13 +68,37 @@ fn raised(gives_int: bool, dead: bool, stack: u16) -> u16
     }
 }
 
-fn has_dead(lines: &[Line], reached: &[(u32, Frame)]) -> bool
-    requires { RisesFrom 0 reached.now }
-    ensures { result ≡ code.has_dead (code.is_listed reached.now) lines.now }
+// The code with returns, where some line does not stay; and else the same code.
+fn pruned_bytes(
+    alloc: Global,
+    method: &Method,
+    gives_int: bool,
+    lines: Vec<Line>,
+    dead: bool,
+    marks: &[bool],
+) -> Result<Vec<u8>, AllocError>
+    requires sound { code_fault method.now.code ≡ None }
+    requires are { Lines method.now.code lines.items }
+    requires code { AreCode lines.items }
+    requires closed { code.KeepsTargets (linked.is_marked marks.now) lines.items }
+    requires dead { dead ≡ code.has_dead (linked.is_marked marks.now) lines.items }
+    ensures lines { IfOk result (λ v. Lines v.items (code.pruned_lines (linked.is_marked marks.now)
+        (pruned.return_of gives_int) lines.items)) }
+    ensures sound { IfOk result (λ v. code_fault v.items ≡ None) }
+{
+    if !dead {
+        return Vec::from_slice(alloc, method.code.as_slice());
+    }
+    let pruned = pruned_lines(alloc, lines, return_of(gives_int), marks)?;
+    encode_ops(alloc, &pruned)
+}
+
+fn has_dead(lines: &[Line], marks: &[bool]) -> bool
+    ensures { result ≡ code.has_dead (linked.is_marked marks.now) lines.now }
 {
     let mut rest = lines;
     while let Some((line, others)) = rest.split_first() {
-        if !is_listed(reached, line.at) {
+        if !is_marked(marks, line.at as usize) {
             return true;
         }
         rest = others;
@@ -84,16 +110,15 @@ fn pruned_lines(
     alloc: Global,
     lines: Vec<Line>,
     name: ReturnName,
-    reached: &[(u32, Frame)],
+    marks: &[bool],
 ) -> Result<Vec<Line>, AllocError>
-    requires rises { RisesFrom 0 reached.now }
     requires laid { AreLaid 0 lines.items }
     ensures { IfOk result (λ v. v.items
-        ≡ code.pruned_lines (code.is_listed reached.now) name lines.items) }
+        ≡ code.pruned_lines (linked.is_marked marks.now) name lines.items) }
 {
     let mut pruned = Vec::new(alloc);
     for line in lines {
-        let kept = is_listed(reached, line.at);
+        let kept = is_marked(marks, line.at as usize);
         push_line(&mut pruned, name, kept, line)?;
     }
     Ok(pruned)
@@ -134,14 +159,6 @@ fn push_returns(
         })?;
     }
     Ok(())
-}
-
-/// Whether a frame is listed for an offset.
-pub fn is_listed(listed: &[(u32, Frame)], at: u32) -> bool
-    requires { RisesFrom 0 listed.now }
-    ensures { result ≡ code.is_listed listed.now at }
-{
-    listed_at(listed, at).is_some()
 }
 
 /// The frame that is listed for an offset. The offsets rise, and the time is that of a search by halves.

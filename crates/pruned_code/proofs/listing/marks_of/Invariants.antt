@@ -1,9 +1,20 @@
-use Rattle.std.proofs.Common.{◌≡◌, ℕ, ◌<◌, false, length, get_or, take}
-use Rattle.pruned_code.specs.Listing.{must_list, AllBefore}
+use Rattle.std.proofs.Common.{◌≡◌, ℕ, ◌<◌, ◌||◌, length}
+use Rattle.std.specs.List.{list_any}
+use Rattle.jvm_program.specs.Program.{LaidFrom}
+use Rattle.pruned_code.specs.Pruned.{return_of}
+use Rattle.pruned_code.specs.Linked.{is_marked, pruned_linked}
+use Rattle.pruned_code.specs.Listing.{is_entered_by, must_list, AllBefore}
 use Rattle.pruned_code.proofs.listing.marks_of.Given as goal
 
 abbrev pub invariant-loop-line : goal.invariant-loop-line
 invariant-loop-line l = record {
-  marks : (at : ℕ) → at < length l.marks.items → get_or l.marks.items at false ≡ must_list (take l.line-index l.lines) at;
-  all : AllBefore (length l.marks.items) l.lines;
+  marks : (at : ℕ) → at < length l.marks.items
+      → (is_marked l.marks.items at || list_any (is_entered_by at) (pruned_linked (is_marked l.kept) (return_of l.method.gives_int) l.rest))
+      ≡ must_list (pruned_linked (is_marked l.kept) (return_of l.method.gives_int) l.method.lines) at;
+  all : AllBefore (length l.marks.items) (pruned_linked (is_marked l.kept) (return_of l.method.gives_int) l.method.lines);
+  at : ℕ;
+  laid : LaidFrom at l.rest;
 }
+
+abbrev pub decreases-loop-line : goal.decreases-loop-line
+decreases-loop-line l = length l.rest

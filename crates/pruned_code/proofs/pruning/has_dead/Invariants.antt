@@ -1,9 +1,10 @@
 use Rattle.std.proofs.Common.{◌≡◌, length}
-use Rattle.pruned_code.specs.Code.{has_dead, is_listed}
+use Rattle.pruned_code.specs.Code.{has_dead}
+use Rattle.pruned_code.specs.Linked.{is_marked}
 use Rattle.pruned_code.proofs.pruning.has_dead.Given as goal
 
 abbrev pub invariant-loop-line : goal.invariant-loop-line
-invariant-loop-line l = has_dead (is_listed l.reached) l.rest ≡ has_dead (is_listed l.reached) l.lines
+invariant-loop-line l = has_dead (is_marked l.marks) l.rest ≡ has_dead (is_marked l.marks) l.lines
 
 abbrev pub decreases-loop-line : goal.decreases-loop-line
 decreases-loop-line l = length l.rest

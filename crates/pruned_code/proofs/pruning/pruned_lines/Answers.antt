@@ -4,7 +4,7 @@ use Rattle.std.specs.Vec.Iter.{into_iter_items}
 use Rattle.jvm_code.specs.declared.line.Line.{Line}
 use Rattle.jvm_code.specs.Writing.{AreLaid, size_at}
 use Rattle.jvm_link.proofs.MethodLemmas.{laid_first}
-use Rattle.pruned_code.specs.Code.{is_listed}
+use Rattle.pruned_code.specs.Linked.{is_marked}
 use Rattle.pruned_code.proofs.CodeLaws.{prune-begins, prune-goes, prune-ends}
 use Rattle.pruned_code.proofs.pruning.pruned_lines.Goals as goal
 
@@ -13,7 +13,7 @@ loop-line-init c = record {
   at = 0;
   laid = subst (λ (ls : List Line). AreLaid 0 ls) (sym c.into_iter-line-iterator.ensures.into_iter_gives.0) c.requires.laid;
   all =
-      prune-begins (is_listed c.args.reached.now) c.args.name c.new-pruned.result.items (into_iter_items c.into_iter-line-iterator.result) c.args.lines.items
+      prune-begins (is_marked c.args.marks.now) c.args.name c.new-pruned.result.items (into_iter_items c.into_iter-line-iterator.result) c.args.lines.items
       c.new-pruned.ensures.items c.into_iter-line-iterator.ensures.into_iter_gives.0;
 }
 
@@ -30,12 +30,12 @@ loop-line-preserved c =
       at = v.at + size_at v.at c.in-Some.line.op;
       laid = laid.2;
       all =
-          prune-goes (is_listed c.args.reached.now) c.args.name c.loop-line.pruned.items c.push_line.new.lines.items (into_iter_items c.loop-line.line-iterator) (into_iter_items c.next.new.self)
-          c.in-Some.line c.is_listed-kept.result _ c.in-Some.ensures.steps.0 c.is_listed-kept.ensures c.in_ok-push_line.ensures v.all;
+          prune-goes (is_marked c.args.marks.now) c.args.name c.loop-line.pruned.items c.push_line.new.lines.items (into_iter_items c.loop-line.line-iterator) (into_iter_items c.next.new.self)
+          c.in-Some.line c.is_marked-kept.result _ c.in-Some.ensures.steps.0 c.is_marked-kept.ensures c.in_ok-push_line.ensures v.all;
     }
 
 pub returns : goal.returns
 returns c =
     let left = into_iter_items c.loop-line.line-iterator in
     let none : length left ≡ 0 = omega (arith, c.loop-line.line-iterator.rest.ok.0, c.in-None.ensures.steps.0) in
-    prune-ends (is_listed c.args.reached.now) c.args.name c.loop-line.pruned.items left _ (nil_from_length left none) c.loop-line.invariant.all
+    prune-ends (is_marked c.args.marks.now) c.args.name c.loop-line.pruned.items left _ (nil_from_length left none) c.loop-line.invariant.all
