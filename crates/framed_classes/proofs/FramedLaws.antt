@@ -36,22 +36,35 @@ use Rattle.like_classes.proofs.InstructionLaws.{instruction-same}
 use Rattle.frame_tables.specs.Shortest.{has_no_long}
 use Rattle.pruned_code.specs.Pruned.{IsPruned}
 use Rattle.pruned_code.proofs.TabledLaws.{IsReady, ready-typed}
-use Rattle.framed_classes.specs.Framed.{ArePruned, IsFramed, AreFramedFrom, AreFramed, IsTableFor, AreTablesFor, AreTablesFrom, AreTables}
-use Rattle.framed_classes.proofs.MethodLaws.{numbers-few}
+use Rattle.framed_classes.specs.Framed.{IsPrunedOf, ArePruned, IsFramed, AreFramedFrom, AreFramed, IsTableFor, AreTablesFor, AreTablesFrom, AreTables}
+use Rattle.framed_classes.proofs.MethodLaws.{IsPair, numbers-few}
 use Rattle.framed_classes.proofs.ClassLaws.{parts-of, AllFit, all-like, all-kept}
 use Rattle.framed_classes.proofs.ProgramLaws.{AreLinked, linked-ready, all-typed, good, alike}
 
 module _ (cs ds : List Class) (all : AreLike cs ds) where
+  -- a method of a class and what became of it
+  pub pair-of : (number : ℕ) (c d : Class) → IsLike c d → (m n : Method) (p : IsPrunedOf cs number c m n) → (method c.pool).fits m ≡ true → IsPair cs ds number c d m n p.reached
+  pair-of number c d like m n p fits =
+      let few = numbers-few c.pool m fits in
+      let named = method-named c.pool m fits in
+      record {
+        sound = (parts-of c.pool m fits).sound;
+        sound_too = p.sound;
+        descriptor = ap (text_of d) p.is.desc ∙ same-text c d like m.desc (some-is (text_at c.pool m.desc) named.descriptor named.described);
+        same = λ op right. instruction-same cs ds all c d like number (gives_int (text_of c m.desc)) op right;
+        listed = p.listed;
+        pruned = p.is;
+        few_stack = omega (arith, few.0);
+        few_locals = omega (arith, few.1);
+      }
+
   -- the methods of a class
   class-zip : (number : ℕ) (c d : Class) → slice_get cs number ≡ Some c → IsLike c d → (ms ns : List Method) → ArePruned cs number c ms ns → fit_all (method c.pool) ms ≡ true → AllZip (AreLinked cs ds all) (map (linked_method cs number c) ms) (map (linked_method ds number d) ns)
   class-zip number c d is like [] [] p fits = tt
   class-zip number c d is like [] (n ∷ ns) p fits = absurd p
   class-zip number c d is like (m ∷ ms) [] p fits = absurd p
   class-zip number c d is like (m ∷ ms) (n ∷ ns) p fits =
-      let q = and_parts ((method c.pool).fits m) (fit_all (method c.pool) ms) fits in
-      let few = numbers-few c.pool m q.0 in
-      let named = method-named c.pool m q.0 in
-      let descriptor : text_of d n.desc ≡ text_of c m.desc = ap (text_of d) p.0.is.desc ∙ same-text c d like m.desc (some-is (text_at c.pool m.desc) named.descriptor named.described) in (
+      let q = and_parts ((method c.pool).fits m) (fit_all (method c.pool) ms) fits in (
         record {
           number = number;
           class = c;
@@ -61,16 +74,7 @@ module _ (cs ds : List Class) (all : AreLike cs ds) where
           reached = p.0.reached;
           class_is = is;
           like = like;
-          pair = record {
-            sound = (parts-of c.pool m q.0).sound;
-            sound_too = p.0.sound;
-            descriptor = descriptor;
-            same = λ op right. instruction-same cs ds all c d like number (gives_int (text_of c m.desc)) op right;
-            listed = p.0.listed;
-            pruned = p.0.is;
-            few_stack = omega (arith, few.0);
-            few_locals = omega (arith, few.1);
-          };
+          pair = pair-of number c d like m n p.0 q.0;
           before_is = refl;
           after_is = refl;
         },

@@ -1,7 +1,8 @@
 -- A pruned method of a class, linked.
-use Rattle.std.proofs.Common.{◌≡◌, ℕ, zero, suc, ◌+◌, ◌<◌, ◌≤◌, ◌⊎◌, inl, inr, Bool, true, false, ◌&&◌, ◌||◌, eqb, ltb, List, [], ◌∷◌, ◌++◌, length, map, Option, Some, None, refl, sym, ap, subst, ◌∙◌, arith, ⊎_elim, lit<}
+use Rattle.std.proofs.Common.{◌≡◌, ℕ, zero, suc, ◌+◌, ◌-◌, ◌<◌, ◌≤◌, ◌⊎◌, inl, inr, Bool, true, false, ◌&&◌, ◌||◌, eqb, ltb, List, [], ◌∷◌, ◌++◌, length, map, Option, Some, None, refl, sym, ap, subst, ◌∙◌, arith, ⊎_elim, lit<}
 use Rattle.std.specs.Prelude.{if◌then◌else◌, not, IsSome, is_some}
 use Rattle.std.proofs.lemmas.Bool.{and_parts, eqb-true, eq-eqb, false≢true, or_parts, ltb-false, ltb-true, cases_eq}
+use Rattle.std.proofs.lemmas.List.{map-append}
 use Rattle.std.proofs.lemmas.Option.{same_Some, none-some}
 use Rattle.class_format.specs.Format.{is_sound, unless}
 use Rattle.constant_pool.specs.declared.entry.Entry.{Entry}
@@ -38,7 +39,9 @@ use Rattle.type_inference.proofs.CallLaws.{some-there}
 use Rattle.type_verifier.specs.Typings.{listed_frames, IsListed}
 use Rattle.frame_maps.proofs.FramedLaws.{here, there}
 use Rattle.frame_tables.specs.Shortest.{has_no_long}
-use Rattle.pruned_code.specs.Code.{returns_at, pruned_lines, has_dead, raised, is_listed, IsPrunedMethod}
+use Rattle.pruned_code.specs.Code.{returns_at, pruned_line, pruned_lines, has_dead, raised, is_listed, IsPrunedMethod}
+use Rattle.pruned_code.specs.Linked.{linked_returns, pruned_linked_line, pruned_linked, lines_behind, listing_behind}
+use Rattle.pruned_code.specs.Listing.{must_list, listing, listing_of}
 use Rattle.pruned_code.specs.Pruned.{return_of, IsPruned}
 use Rattle.pruned_code.proofs.CodeLaws.{pruned-laid}
 use Rattle.class_builder.proofs.Classes.{named_code}
@@ -164,6 +167,27 @@ module _ (cs ds : List Class) (number : ℕ) (c d : Class) (gives : Bool) (kept 
       by-kept : (b : Bool) → (l.at ≡ at → ⊥) → l.at + size_at l.at l.op ≤ at → line_in (map new-line ((if b then l ∷ [] else returns_at name l.at (size_at l.at l.op)) ++ pruned lines)) at ≡ line_in (map new-line (pruned lines)) at
       by-kept true other far = there (new-line l) (map new-line (pruned lines)) at other
       by-kept false other far = skip-returns l.at (size_at l.at l.op) (pruned lines) at far
+
+  returns-linked : return_instruction gives name ≡ Return name → (a n : ℕ) → map new-line (returns_at name a n) ≡ linked_returns name a n
+  returns-linked give a zero = refl
+  returns-linked give a (suc n) = λ i. record { at = a; next = a + 1; instruction = give i } ∷ returns-linked give (suc a) n i
+
+  line-linked : return_instruction gives name ≡ Return name → (l : Line) → (kept l.at ≡ true → linked_instruction ds number d gives l.op ≡ linked_instruction cs number c gives l.op) → map new-line (pruned_line kept name l) ≡ pruned_linked_line kept name (old-line l)
+  line-linked give l same = by-kept (kept l.at) refl
+    where
+      size : size_at l.at l.op ≡ (l.at + size_at l.at l.op) - l.at
+      size = omega arith
+
+      by-kept : (b : Bool) → kept l.at ≡ b → map new-line (if b then l ∷ [] else returns_at name l.at (size_at l.at l.op)) ≡ (if b then old-line l ∷ [] else linked_returns name l.at ((l.at + size_at l.at l.op) - l.at))
+      by-kept true e = ap (λ (x : LinkedLine). x ∷ []) (line-same l (same e))
+      by-kept false e = returns-linked give l.at (size_at l.at l.op) ∙ ap (linked_returns name l.at) size
+
+  -- pruned lines, linked, are linked lines, pruned
+  pub pruned-linked : return_instruction gives name ≡ Return name → (lines : List Line) → AllSame lines → map new-line (pruned lines) ≡ pruned_linked kept name (map old-line lines)
+  pruned-linked give [] same = refl
+  pruned-linked give (l ∷ lines) same =
+      map-append new-line (pruned_line kept name l) (pruned lines)
+      ∙ (λ i. line-linked give l same.0 i ++ pruned-linked give lines same.1 i)
 
   in-returns : (a n : ℕ) (rest : List Line) (at : ℕ) (line : LinkedLine) → line_in (map new-line (returns_at name a n ++ rest)) at ≡ Some line → (line.instruction ≡ return_instruction gives name) ⊎ (line_in (map new-line rest) at ≡ Some line)
   in-returns a zero rest at line e = inr e
@@ -314,7 +338,7 @@ module _ (cs ds : List Class) (number : ℕ) (c d : Class) (m n : Method) (reach
       by-test true e = absurd (h ((p.listed.reached at).0 e))
       by-test false e = refl
 
-  parameters-same : (linked_method ds number d n).parameters ≡ (linked_method cs number c m).parameters
+  pub parameters-same : (linked_method ds number d n).parameters ≡ (linked_method cs number c m).parameters
   unfolding linked_method
   parameters-same = ap parameters_of p.descriptor
 
@@ -382,3 +406,13 @@ module _ (cs ds : List Class) (number : ℕ) (c d : Class) (m n : Method) (reach
   -- the instructions that are reached are the same, and an offset that is reached has one
   pub has-reached : HasReached (linked_method cs number c m) (linked_method ds number d n)
   has-reached = record { parameters = parameters-same; lines = λ at line r e. is-pruned.reached at line r e }
+
+  lines-behind : (linked_method ds number d n).lines ≡ lines_behind (linked_method cs number c m) reached
+  lines-behind =
+      after-lines
+      ∙ (pruned-linked cs ds number c d gives kept (return_of gives) (give-is gives) p.pruned.lines same-lines
+      ∙ (ap (pruned_linked kept (return_of gives)) (sym before-lines) ∙ ap (λ b. pruned_linked kept (return_of b) (linked_method cs number c m).lines) (sym gives-is)))
+
+  -- the frames that are listed for what became of the method
+  pub listing-behind : listing_of (linked_method ds number d n) reached ≡ listing_behind (linked_method cs number c m) reached
+  listing-behind = λ i. listing (must_list (lines-behind i)) reached (gives-same i) (parameters-same i) (lines-behind i)
