@@ -1,4 +1,4 @@
 pub mod TableSteps
-pub mod Together
+pub mod MadeLaws
 pub mod Kept
 pub mod Bounds

@@ -1,17 +1,13 @@
 //! Classes of version 51.0 for classes that were verified.
 ghost use Rattle.std.specs.Prelude.{◌≡◌, ◌≤◌, IfOk, IfErr, All};
-ghost use Rattle.framed_classes.specs.Framed.{AreFramed};
 ghost use Rattle.framing.specs.Refusals as refusals;
 ghost use Rattle.framing.specs.Sizes as sizes;
 
 use crate::sizes::first_too_large;
-use crate::tables::with_tables;
 use frame_maps::FrameError;
 use framed_class_file::FramedClass;
-use jvm_code::Class;
-use jvm_link::{LinkError, Linked, link};
-use pruned_classes::pruned_classes;
-use std::alloc::{AllocError, Global};
+use pruned_classes::classes_with_tables;
+use std::alloc::Global;
 use type_verifier::Verified;
 
 /// The classes with tables of frames, which can be verified in one pass. Each byte of code that no reached instruction holds becomes a
@@ -31,23 +27,9 @@ pub fn frames(alloc: Global, v: &Verified) -> Result<Vec<FramedClass>, FrameErro
         All (λ f. sizes.file_size f ≤ sizes.most) framed.items) }
     ensures refused { IfErr result (refusals.IsRefusal v.now.linked.classes) }
 {
-    let classes = pruned_classes(alloc, v)?;
-    let linked = linked_of(alloc, v, classes)?;
-    let framed = with_tables(alloc, v, linked)?;
+    let framed = classes_with_tables(alloc, v)?;
     match first_too_large(&framed) {
         Some((class, bytes)) => Err(FrameError::TooLarge { class, bytes }),
         None => Ok(framed),
-    }
-}
-
-// Pruned classes, which link as those before do.
-fn linked_of(alloc: Global, v: &Verified, classes: Vec<Class>) -> Result<Linked, AllocError>
-    requires { AreFramed v.now.linked.classes classes.items }
-    ensures { IfOk result (λ linked. linked.classes ≡ classes.items) }
-{
-    match link(alloc, classes) {
-        Ok(linked) => Ok(linked),
-        Err(LinkError::Refused(_)) => unreachable!(),
-        Err(LinkError::NoMemory) => Err(AllocError),
     }
 }

@@ -3,6 +3,5 @@
 
 mod framing;
 mod sizes;
-mod tables;
 
 pub use framing::frames;

@@ -1,40 +1,55 @@
 -- One class, and one method, after the other.
-use Rattle.std.proofs.Common.{◌≡◌, ℕ, zero, suc, ◌+◌, ◌<◌, ◌≤◌, true, List, [], ◌∷◌, ◌++◌, length, take, Some, None, refl, sym, ap, subst, ◌∙◌, arith, ⊎_elim}
-use Rattle.std.specs.Prelude.{slice_get, All}
+use Rattle.std.proofs.Common.{◌≡◌, ℕ, zero, suc, ◌+◌, ◌<◌, ◌≤◌, true, List, [], ◌∷◌, ◌++◌, length, take, codes, Some, None, refl, sym, ap, subst, ◌∙◌, arith, ⊎_elim}
+use Rattle.std.specs.Prelude.{slice_get, unwrap_or, All}
 use Rattle.std.proofs.lemmas.Bool.{and_parts, cases_eq}
-use Rattle.std.proofs.lemmas.Option.{same_Some, none-some}
+use Rattle.std.proofs.lemmas.Option.{same_Some, none-some, get_or_from_slice_get}
 use Rattle.constant_pool.specs.declared.entry.Entry.{Entry}
 use Rattle.jvm_code.specs.declared.class.Class.{Class}
 use Rattle.jvm_code.specs.declared.method.Method.{Method}
 use Rattle.jvm_code.specs.Code.{code_fault}
 use Rattle.class_file.specs.Members.{method}
 use Rattle.class_file.specs.ClassFile.{class}
+use Rattle.framed_class_file.specs.declared.framed_class.FramedClass.{FramedClass}
 use Rattle.class_builder.proofs.Classes.{class-parts, fit_all}
 use Rattle.name_resolution.specs.Names.{text_of}
 use Rattle.name_resolution.specs.Kept.{IsClass}
-use Rattle.jvm_link.specs.Linking.{gives_int, linked_method, linked_methods}
+use Rattle.jvm_program.specs.declared.linked_method.LinkedMethod.{LinkedMethod}
+use Rattle.jvm_program.specs.Program.{LaidFrom}
+use Rattle.jvm_link.specs.Order.{IsInOrder}
+use Rattle.jvm_link.specs.Linking.{gives_int, linked_method, linked_methods, program_of}
+use Rattle.type_inference.specs.declared.frame.Frame.{Frame}
 use Rattle.type_verifier.specs.Refusal.{methods_before}
+use Rattle.type_verifier.specs.Typings.{IsListed}
+use Rattle.frame_tables.specs.declared.reference_slots.ReferenceSlots.{ReferenceSlots}
+use Rattle.frame_tables.specs.Shortest.{AreReferences, AreTabled}
 use Rattle.frame_maps.specs.declared.frame_error.FrameError.{FrameError}
 use Rattle.frame_maps.specs.declared.frame_error.FrameError.TheVariants.{Refused, TooLarge, NoMemory}
-use Rattle.framed_pools.specs.Longer.{framed_pool}
-use Rattle.framed_classes.specs.Framed.{IsPrunedOf, ArePruned, IsFramed, AreFramedFrom}
+use Rattle.framed_pools.specs.Longer.{framed_pool, class_slot}
+use Rattle.framed_pools.proofs.PoolLaws.{framed-references}
+use Rattle.pruned_code.specs.Code.{is_listed, IsPrunedMethod}
+use Rattle.pruned_code.specs.Linked.{listing_behind}
+use Rattle.pruned_code.proofs.TabledLaws.{ready-tabled}
 use Rattle.framed_classes.proofs.ClassLaws.{parts-of, AllFit}
 use Rattle.framed_classes.proofs.FramedLaws.{place-from, fit-of-all}
+use Rattle.framed_classes.proofs.MethodLaws.{IsPair, numbers-few, is-ready, listing-behind}
 use Rattle.pruned_classes.specs.Full.{IsFull, IsFaultOf, IsFullRefusal}
+use Rattle.pruned_classes.specs.Made.{IsMade, AreMade, IsClassMade, AreClassesMadeFrom}
 
-pub pruned-push : (cs : List Class) (number : ℕ) (c : Class) (ms ns : List Method) (m n : Method) → ArePruned cs number c ms ns → IsPrunedOf cs number c m n → ArePruned cs number c (ms ++ m ∷ []) (ns ++ n ∷ [])
-pruned-push cs number c [] [] m n p q = (q, tt)
-pruned-push cs number c [] (y ∷ ns) m n p q = absurd p
-pruned-push cs number c (x ∷ ms) [] m n p q = absurd p
-pruned-push cs number c (x ∷ ms) (y ∷ ns) m n p q = (p.0, pruned-push cs number c ms ns m n p.1 q)
+made-push : (cs : List Class) (number : ℕ) (c : Class) (pool : List Entry) (ms ns : List Method) (ts : List (List ℕ)) (m n : Method) (t : List ℕ) → AreMade cs number c pool ms ns ts → IsMade cs number c pool m n t → AreMade cs number c pool (ms ++ m ∷ []) (ns ++ n ∷ []) (ts ++ t ∷ [])
+made-push cs number c pool [] [] [] m n t h k = (k, tt)
+made-push cs number c pool (x ∷ ms) (y ∷ ns) (z ∷ ts) m n t h k = (h.0, made-push cs number c pool ms ns ts m n t h.1 k)
+made-push cs number c pool [] [] (z ∷ ts) m n t h k = absurd h
+made-push cs number c pool [] (y ∷ ns) ts m n t h k = absurd h
+made-push cs number c pool (x ∷ ms) [] ts m n t h k = absurd h
+made-push cs number c pool (x ∷ ms) (y ∷ ns) [] m n t h k = absurd h
 
-pub framed-push : (cs : List Class) (number : ℕ) (xs ys : List Class) (c d : Class) → AreFramedFrom cs number xs ys → IsFramed cs (number + length xs) c d → AreFramedFrom cs number (xs ++ c ∷ []) (ys ++ d ∷ [])
-framed-push cs number [] [] c d f i = let e : number + 0 ≡ number = omega arith in (subst (λ k. IsFramed cs k c d) e i, tt)
-framed-push cs number [] (y ∷ ys) c d f i = absurd f
-framed-push cs number (x ∷ xs) [] c d f i = absurd f
-framed-push cs number (x ∷ xs) (y ∷ ys) c d f i =
+classes-push : (cs : List Class) (number : ℕ) (xs : List Class) (ys : List FramedClass) (c : Class) (d : FramedClass) → AreClassesMadeFrom cs number xs ys → IsClassMade cs (number + length xs) c d → AreClassesMadeFrom cs number (xs ++ c ∷ []) (ys ++ d ∷ [])
+classes-push cs number [] [] c d f i = let e : number + 0 ≡ number = omega arith in (subst (λ k. IsClassMade cs k c d) e i, tt)
+classes-push cs number [] (y ∷ ys) c d f i = absurd f
+classes-push cs number (x ∷ xs) [] c d f i = absurd f
+classes-push cs number (x ∷ xs) (y ∷ ys) c d f i =
     let e : number + length (x ∷ xs) ≡ suc number + length xs = omega arith in
-    (f.0, framed-push cs (suc number) xs ys c d f.1 (subst (λ k. IsFramed cs k c d) e i))
+    (f.0, classes-push cs (suc number) xs ys c d f.1 (subst (λ k. IsClassMade cs k c d) e i))
 
 -- the first ones, and one more
 pub take-more : {A : Type 0} (xs : List A) (i : ℕ) (x : A) → slice_get xs i ≡ Some x → take (i + 1) xs ≡ take i xs ++ x ∷ []
@@ -66,16 +81,16 @@ before-none (c ∷ cs) = refl
 abbrev pub AllRoom : List Class → ℕ → Type 0
 AllRoom cs n = (c : ℕ) (other : Class) → c < n → slice_get cs c ≡ Some other → length (framed_pool other.pool) ≤ 65534
 
-pub framed-none : (cs : List Class) (ds : List Class) → ds ≡ [] → AreFramedFrom cs 0 (take 0 cs) ds
-framed-none cs ds e = subst (AreFramedFrom cs 0 []) (sym e) tt
+pub classes-none : (cs : List Class) (ds : List FramedClass) → ds ≡ [] → AreClassesMadeFrom cs 0 (take 0 cs) ds
+classes-none cs ds e = subst (AreClassesMadeFrom cs 0 []) (sym e) tt
 
-pub framed-next : (cs : List Class) (n : ℕ) (c d : Class) (ds es : List Class) → slice_get cs n ≡ Some c → es ≡ ds ++ d ∷ [] → AreFramedFrom cs 0 (take n cs) ds → IsFramed cs n c d → AreFramedFrom cs 0 (take (n + 1) cs) es
-framed-next cs n c d ds es is more f i =
+pub classes-next : (cs : List Class) (n : ℕ) (c : Class) (d : FramedClass) (ds es : List FramedClass) → slice_get cs n ≡ Some c → es ≡ ds ++ d ∷ [] → AreClassesMadeFrom cs 0 (take n cs) ds → IsClassMade cs n c d → AreClassesMadeFrom cs 0 (take (n + 1) cs) es
+classes-next cs n c d ds es is more f i =
     let e : n ≡ 0 + length (take n cs) = omega (arith, taken-length cs n c is) in
-    subst (AreFramedFrom cs 0 (take (n + 1) cs)) (sym more)
-    (subst (λ z. AreFramedFrom cs 0 z (ds ++ d ∷ [])) (sym (take-more cs n c is)) (framed-push cs 0 (take n cs) ds c d f (subst (λ k. IsFramed cs k c d) e i)))
+    subst (AreClassesMadeFrom cs 0 (take (n + 1) cs)) (sym more)
+    (subst (λ z. AreClassesMadeFrom cs 0 z (ds ++ d ∷ [])) (sym (take-more cs n c is)) (classes-push cs 0 (take n cs) ds c d f (subst (λ k. IsClassMade cs k c d) e i)))
 
-pub room-next : (cs : List Class) (n : ℕ) (c d : Class) → slice_get cs n ≡ Some c → IsFramed cs n c d → AllRoom cs n → AllRoom cs (n + 1)
+pub room-next : (cs : List Class) (n : ℕ) (c : Class) (d : FramedClass) → slice_get cs n ≡ Some c → IsClassMade cs n c d → AllRoom cs n → AllRoom cs (n + 1)
 room-next cs n c d is i room k other less there =
     ⊎_elim
     (λ (same : k ≡ n).
@@ -91,19 +106,35 @@ full-at cs n c NoMemory is full room h = absurd h
 
 -- ---- methods
 
-pub pruned-none : (cs : List Class) (number : ℕ) (c : Class) (ms ns : List Method) → ns ≡ [] → ArePruned cs number c (take 0 ms) ns
-pruned-none cs number c ms ns e = subst (ArePruned cs number c []) (sym e) tt
+pub made-none : (cs : List Class) (number : ℕ) (c : Class) (pool : List Entry) (ms ns : List Method) (ts : List (List ℕ)) → ns ≡ [] → ts ≡ [] → AreMade cs number c pool (take 0 ms) ns ts
+made-none cs number c pool ms ns ts e f = subst (λ z. AreMade cs number c pool [] z ts) (sym e) (subst (AreMade cs number c pool [] []) (sym f) tt)
 
-pub pruned-next : (cs : List Class) (number : ℕ) (c : Class) (ms : List Method) (i : ℕ) (m n : Method) (ns os : List Method) → slice_get ms i ≡ Some m → os ≡ ns ++ n ∷ [] → ArePruned cs number c (take i ms) ns → IsPrunedOf cs number c m n → ArePruned cs number c (take (i + 1) ms) os
-pruned-next cs number c ms i m n ns os is more p q =
-    subst (ArePruned cs number c (take (i + 1) ms)) (sym more)
-    (subst (λ z. ArePruned cs number c z (ns ++ n ∷ [])) (sym (take-more ms i m is)) (pruned-push cs number c (take i ms) ns m n p q))
+pub made-next : (cs : List Class) (number : ℕ) (c : Class) (pool : List Entry) (ms : List Method) (i : ℕ) (m n : Method) (t : List ℕ) (ns os : List Method) (ts us : List (List ℕ)) → slice_get ms i ≡ Some m → os ≡ ns ++ n ∷ [] → us ≡ ts ++ t ∷ [] → AreMade cs number c pool (take i ms) ns ts → IsMade cs number c pool m n t → AreMade cs number c pool (take (i + 1) ms) os us
+made-next cs number c pool ms i m n t ns os ts us is more others p q =
+    subst (λ z. AreMade cs number c pool (take (i + 1) ms) z us) (sym more)
+    (subst (AreMade cs number c pool (take (i + 1) ms) (ns ++ n ∷ [])) (sym others)
+    (subst (λ z. AreMade cs number c pool z (ns ++ n ∷ []) (ts ++ t ∷ [])) (sym (take-more ms i m is)) (made-push cs number c pool (take i ms) ns ts m n t p q)))
 
 -- the method of a class at a place, linked
 pub place-of : (cs : List Class) (number : ℕ) (c : Class) (i : ℕ) (m : Method) → slice_get cs number ≡ Some c → slice_get c.methods i ≡ Some m → slice_get (linked_methods cs) (methods_before cs number + i) ≡ Some (linked_method cs number c m)
 place-of cs number c i m is there =
     let e : 0 + number ≡ number = omega arith in
     place-from cs 0 cs number c i m is there ∙ ap (λ k. Some (linked_method cs k c m)) e
+
+-- the method at a place of the program
+pub own-of : (cs : List Class) (methods : List LinkedMethod) (number : ℕ) (c : Class) (i : ℕ) (m : Method) (first : ℕ) (own : LinkedMethod) → methods ≡ linked_methods cs → slice_get cs number ≡ Some c → slice_get c.methods i ≡ Some m → first ≡ methods_before cs number → slice_get methods (first + i) ≡ Some own → own ≡ linked_method cs number c m
+own-of cs methods number c i m first own are is there begins at =
+    same_Some own (linked_method cs number c m)
+    (sym at ∙ (ap (λ k. slice_get methods (k + i)) begins ∙ (ap (λ ms. slice_get ms (methods_before cs number + i)) are ∙ place-of cs number c i m is there)))
+
+get-within : {A : Type 0} (xs : List A) (k : ℕ) (x : A) → slice_get xs k ≡ Some x → k < length xs
+get-within [] k x e = absurd (none-some x e)
+get-within (y ∷ xs) zero x e = omega arith
+get-within (y ∷ xs) (suc k) x e = let l = get-within xs k x e in omega (arith, l)
+
+-- one of methods of which all are in order
+pub laid-at : (methods : List LinkedMethod) (k : ℕ) (own : LinkedMethod) → All IsInOrder methods → slice_get methods k ≡ Some own → LaidFrom 0 own.lines
+laid-at methods k own all is = subst (λ (m : LinkedMethod). LaidFrom 0 m.lines) (get_or_from_slice_get methods k own own is) (all k own (get-within methods k own is)).0
 
 pub gives-of : (cs : List Class) (number : ℕ) (c : Class) (m : Method) → (linked_method cs number c m).gives_int ≡ gives_int (text_of c m.desc)
 unfolding linked_method
@@ -122,3 +153,32 @@ fit-at entries (x ∷ ms) (suc i) m h e = fit-at entries ms i m (and_parts ((met
 pub sound-at : (cs : List Class) (number : ℕ) (c : Class) (i : ℕ) (m : Method) → All IsClass cs → slice_get cs number ≡ Some c → slice_get c.methods i ≡ Some m → code_fault m.code ≡ None
 sound-at cs number c i m kept is there =
     (parts-of c.pool m (fit-at c.pool c.methods i m (class-parts c (all-fit-at cs number c (fit-of-all cs kept) is)).methods_fit there)).sound
+
+pub method-fits : (cs : List Class) (number : ℕ) (c : Class) (i : ℕ) (m : Method) → All IsClass cs → slice_get cs number ≡ Some c → slice_get c.methods i ≡ Some m → (method c.pool).fits m ≡ true
+method-fits cs number c i m kept is there = fit-at c.pool c.methods i m (class-parts c (all-fit-at cs number c (fit-of-all cs kept) is)).methods_fit there
+
+-- the frames that are listed for what became of a method have a table, whatever else becomes of its class
+pub own-tabled : (cs : List Class) (number : ℕ) (c : Class) (m n : Method) (reached : List (ℕ × Frame)) → (method c.pool).fits m ≡ true → code_fault n.code ≡ None → IsListed (program_of cs) (linked_method cs number c m) reached → IsPrunedMethod (is_listed reached) (gives_int (text_of c m.desc)) m n → AreTabled 0 (listing_behind (linked_method cs number c m) reached)
+own-tabled cs number c m n reached fits sound listed pruned =
+    let few = numbers-few c.pool m fits in
+    let pair : IsPair cs cs number c c m n reached = record {
+      sound = (parts-of c.pool m fits).sound;
+      sound_too = sound;
+      descriptor = ap (text_of c) pruned.desc;
+      same = λ op right. refl;
+      listed = listed;
+      pruned = pruned;
+      few_stack = omega (arith, few.0);
+      few_locals = omega (arith, few.1);
+    } in
+    subst (AreTabled 0) (listing-behind cs cs number c c m n reached pair)
+    (ready-tabled (program_of cs) (program_of cs) (linked_method cs number c m) (linked_method cs number c n) reached (is-ready cs cs number c c m n reached pair (λ i. refl)))
+
+-- ---- slots
+
+-- the slots of a longer pool name the types of references
+pub references-of : (longer pool : List Entry) (slots : ReferenceSlots) → longer ≡ framed_pool pool → length longer ≤ 65534 → slots.ints ≡ unwrap_or (class_slot (codes "[I") longer) 0 → slots.pages ≡ unwrap_or (class_slot (codes "[[I") longer) 0 → slots.text ≡ unwrap_or (class_slot (codes "java/lang/String") longer) 0 → AreReferences longer slots
+references-of longer pool slots same few ints pages text =
+    subst (λ z. AreReferences z slots) (sym same)
+    (framed-references pool slots (omega (arith, few, ap length same)) (ints ∙ ap (λ z. unwrap_or (class_slot (codes "[I") z) 0) same) (pages ∙ ap (λ z. unwrap_or (class_slot (codes "[[I") z) 0) same)
+    (text ∙ ap (λ z. unwrap_or (class_slot (codes "java/lang/String") z) 0) same))

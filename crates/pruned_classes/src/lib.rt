@@ -1,8 +1,9 @@
-//! Classes with pruned code and the entries that tables of frames name.
+//! Classes with pruned code, the entries that tables of frames name, and these tables.
 #![tactic(auto)]
 
 mod classes;
 mod methods;
+mod tabled_method;
+mod tabled_methods;
 
-pub use classes::{behind, pruned_classes};
-pub use methods::number_of;
+pub use classes::classes_with_tables;

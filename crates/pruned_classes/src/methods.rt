@@ -1,46 +1,129 @@
-//! The methods of a class, one after the other.
-ghost use Rattle.std.specs.Prelude.{◌≡◌, ◌+◌, ◌<◌, IfOk, Some, length, slice_get};
-ghost use Rattle.jvm_program.specs.declared.linked_method.LinkedMethod.{LinkedMethod};
+//! The methods of a class, one after the other: each is inferred once, and nothing of it is kept but its code and its table.
+ghost use Rattle.std.specs.Prelude.{◌≡◌, ◌+◌, ◌<◌, ◌≤◌, List, IfOk, None, Some, length, slice_get};
+ghost use Rattle.constant_pool.specs.declared.entry.Entry.{Entry};
+ghost use Rattle.jvm_code.specs.declared.line.Line.{Line};
+ghost use Rattle.jvm_code.specs.declared.method.Method.{Method};
+ghost use Rattle.jvm_code.specs.Code.{Lines, code_fault};
+ghost use Rattle.jvm_program.specs.Program.{LaidFrom};
 ghost use Rattle.type_verifier.specs.Refusal.{methods_before};
-ghost use Rattle.framed_classes.specs.Framed as framed;
+ghost use Rattle.type_verifier.specs.Typings.{RisesFrom};
+ghost use Rattle.frame_tables.specs.Shortest.{AreReferences, AreTabled, IsTableOf};
+ghost use Rattle.framed_pools.specs.Longer.{framed_pool};
+ghost use Rattle.pruned_code.specs.Code as code;
+ghost use Rattle.pruned_code.specs.Linked.{listing_behind};
+ghost use Rattle.pruned_classes.specs.Made as made;
 
+use crate::tabled_method::TabledMethod;
+use crate::tabled_methods::TabledMethods;
+use constant_pool::Entry;
+use frame_tables::{ReferenceSlots, table_of_frames};
+use framed_pools::reference_slots;
 use jvm_code::{Class, Method};
+use jvm_names::Sequence;
 use jvm_program::LinkedMethod;
-use pruned_code::pruned_method;
+use pruned_code::{listing_of, pruned_method};
 use std::alloc::{AllocError, Global};
-use type_verifier::Verified;
+use type_verifier::{Frame, Verified};
 
-/// The pruned methods of a class, whose first one has a number in the program.
-pub fn pruned_methods(
+/// The methods of a class, whose first one has a number in the program, with their tables over a pool.
+pub fn methods_with_tables(
     alloc: Global,
     v: &Verified,
     number: u32,
     first: usize,
     class: &Class,
-) -> Result<Vec<Method>, AllocError>
+    pool: &[Entry],
+) -> Result<TabledMethods, AllocError>
     requires there { slice_get v.now.linked.classes number ≡ Some class.now }
     requires first { first ≡ methods_before v.now.linked.classes number }
-    ensures { IfOk result (λ methods. framed.ArePruned v.now.linked.classes number class.now
-        class.now.methods methods.items) }
+    requires pool { pool.now ≡ framed_pool class.now.pool }
+    requires few { length pool.now ≤ 65534 }
+    ensures { IfOk result (λ t. made.AreMade v.now.linked.classes number class.now pool.now
+        class.now.methods t.methods.items t.tables.items) }
 {
-    let methods = class.methods.as_slice();
-    let linked = v.linked.methods.as_slice();
-    let mut pruned = Vec::new(alloc);
-    for method in 0..methods.len() {
-        let reached = v.typing(alloc, number, number_of(method)?)?;
-        let gives = gives_int(linked, first, method);
-        pruned.push(pruned_method(alloc, &methods[method], gives, &reached)?)?;
+    let slots = reference_slots(pool);
+    let count = class.methods.as_slice().len();
+    let mut methods = Vec::new(alloc);
+    let mut tables = Vec::new(alloc);
+    for method in 0..count {
+        let tabled = method_with_table(alloc, v, number, first, class, pool, slots, method)?;
+        methods.push(tabled.method)?;
+        tables.push(tabled.table)?;
     }
-    Ok(pruned)
+    Ok(TabledMethods { methods, tables })
 }
 
-// Whether a method of a class gives an int. The class's first one has a number.
-fn gives_int(methods: &[LinkedMethod], first: usize, method: usize) -> bool
-    requires { first + method < length methods.now }
-    ensures { (m : LinkedMethod) → slice_get methods.now (first + method) ≡ Some m
-        → result ≡ m.gives_int }
+// A method of a class, the first of which has a number in the program.
+fn method_with_table(
+    alloc: Global,
+    v: &Verified,
+    number: u32,
+    first: usize,
+    class: &Class,
+    pool: &[Entry],
+    slots: ReferenceSlots,
+    method: usize,
+) -> Result<TabledMethod, AllocError>
+    requires there { slice_get v.now.linked.classes number ≡ Some class.now }
+    requires first { first ≡ methods_before v.now.linked.classes number }
+    requires references { AreReferences pool.now slots }
+    requires within { method < length class.now.methods }
+    ensures { IfOk result (λ t. (m : Method) → slice_get class.now.methods method ≡ Some m
+        → made.IsMade v.now.linked.classes number class.now pool.now m t.method t.table) }
 {
-    methods[first + method].gives_int
+    let own = own_at(class, method);
+    let linked = method_at(v.linked.methods.as_slice(), first, method);
+    let reached = v.typing(alloc, number, number_of(method)?)?;
+    let tabled = pruned_with_table(alloc, own, linked, &reached, pool, slots)?;
+    Ok(tabled)
+}
+
+fn own_at(class: &Class, method: usize) -> &Method
+    requires { method < length class.now.methods }
+    ensures { slice_get class.now.methods method ≡ Some result.now }
+{
+    &class.methods.as_slice()[method]
+}
+
+// A method of a class, the first of which has a number.
+fn method_at<'a>(methods: &'a [LinkedMethod], first: usize, method: usize) -> &'a LinkedMethod
+    requires { first + method < length methods.now }
+    ensures { slice_get methods.now (first + method) ≡ Some result.now }
+{
+    &methods[first + method]
+}
+
+// A method that is pruned, by the frames at the offsets that are reached, with its table.
+fn pruned_with_table(
+    alloc: Global,
+    own: &Method,
+    linked: &LinkedMethod,
+    reached: &[(u32, Frame)],
+    pool: &[Entry],
+    slots: ReferenceSlots,
+) -> Result<TabledMethod, AllocError>
+    requires sound { code_fault own.now.code ≡ None }
+    requires rises { RisesFrom 0 reached.now }
+    requires closed { (lines : List Line) → Lines own.now.code lines
+        → code.KeepsTargets (code.is_listed reached.now) lines }
+    requires laid { LaidFrom 0 linked.now.lines }
+    requires references { AreReferences pool.now slots }
+    requires tabled { (n : Method) → code_fault n.code ≡ None
+        → code.IsPrunedMethod (code.is_listed reached.now) linked.now.gives_int own.now n
+        → AreTabled 0 (listing_behind linked.now reached.now) }
+    ensures pruned { IfOk result (λ t. code.IsPrunedMethod (code.is_listed reached.now)
+        linked.now.gives_int own.now t.method) }
+    ensures sound { IfOk result (λ t. code_fault t.method.code ≡ None) }
+    ensures tabled { IfOk result (λ t. IsTableOf pool.now linked.now.parameters
+        (listing_behind linked.now reached.now) t.table) }
+{
+    let method = pruned_method(alloc, own, linked.gives_int, reached)?;
+    let listed = listing_of(alloc, linked, reached)?;
+    let table = table_of_frames(alloc, pool, slots, linked.parameters.as_slice(), &listed)?;
+    Ok(TabledMethod {
+        method,
+        table: Sequence::new(table),
+    })
 }
 
 /// A number; AllocError where it is above 2^32 - 1, as it would be with classes of which no memory has room.

@@ -3,22 +3,22 @@ use Rattle.std.specs.Prelude.{slice_get}
 use Rattle.jvm_link.specs.Linking.{linked_methods}
 use Rattle.type_verifier.specs.Refusal.{methods_before}
 use Rattle.frame_maps.proofs.CheckLaws.{methods-within, next-before, stands-at}
-use Rattle.framed_classes.specs.Framed.{IsFramed, AreFramedFrom}
+use Rattle.pruned_classes.specs.Made.{IsClassMade, AreClassesMadeFrom}
 use Rattle.pruned_classes.specs.Full.{IsFaultOf}
-use Rattle.pruned_classes.proofs.Steps.{take-all, before-none, framed-none, framed-next, room-next, full-at}
-use Rattle.pruned_classes.proofs.classes.pruned_classes.Goals as goal
+use Rattle.pruned_classes.proofs.Steps.{take-all, before-none, classes-none, classes-next, room-next, full-at}
+use Rattle.pruned_classes.proofs.classes.classes_with_tables.Goals as goal
 
 pub loop-number-init : goal.loop-number-init
 loop-number-init c =
     let cs = c.args.v.now.linked.classes in
     record {
       first = sym (before-none cs);
-      are = framed-none cs c.new-pruned.result.items c.new-pruned.ensures.items;
+      are = classes-none cs c.new-framed.result.items c.new-framed.ensures.items;
       room = λ k other less there. absurd (omega (arith, less));
     }
 
-pub pruned_class-requires-clause-there : goal.pruned_class-requires-clause-there
-pruned_class-requires-clause-there c =
+pub class_with_tables-requires-clause-there : goal.class_with_tables-requires-clause-there
+class_with_tables-requires-clause-there c =
     let cs = c.args.v.now.linked.classes in
     let n = c.loop-number.number in
     let class = c.index-classes-number.result in
@@ -26,8 +26,8 @@ pruned_class-requires-clause-there c =
     let less : n < length cs = omega (arith, c.loop-number-test.true, ap length all) in
     ap (slice_get cs) c.in_ok-name.ensures ∙ stands-at cs n class less (c.index-classes-number.is ∙ ap (λ xs. get_or xs n class) all)
 
-pub pruned_class-requires-clause-first : goal.pruned_class-requires-clause-first
-pruned_class-requires-clause-first c = c.loop-number.invariant.first ∙ ap (methods_before c.args.v.now.linked.classes) (sym c.in_ok-name.ensures)
+pub class_with_tables-requires-clause-first : goal.class_with_tables-requires-clause-first
+class_with_tables-requires-clause-first c = c.loop-number.invariant.first ∙ ap (methods_before c.args.v.now.linked.classes) (sym c.in_ok-name.ensures)
 
 pub returns-in_default-clause-refused : goal.returns-in_default-clause-refused
 returns-in_default-clause-refused c =
@@ -37,7 +37,7 @@ returns-in_default-clause-refused c =
     let all = c.as_slice-classes.ensures in
     let less : n < length cs = omega (arith, c.loop-number-test.true, ap length all) in
     let is = stands-at cs n class less (c.index-classes-number.is ∙ ap (λ xs. get_or xs n class) all) in
-    full-at cs n class c.refusal.result is (rw c.in_default.is at c.in_ok-longer.ensures) c.loop-number.invariant.room (subst (λ k. IsFaultOf k c.refusal.result) c.in_ok-name.ensures c.refusal.ensures)
+    full-at cs n class c.refusal.result is (rw c.in_default.is at c.in_ok-tabled.ensures) c.loop-number.invariant.room (subst (λ k. IsFaultOf k c.refusal.result) c.in_ok-name.ensures c.refusal.ensures)
 
 pub behind-first-requires : goal.behind-first-requires
 behind-first-requires c =
@@ -61,17 +61,17 @@ loop-number-preserved c =
     let less : n < length cs = omega (arith, c.loop-number-test.true, ap length all) in
     let is = stands-at cs n class less (c.index-classes-number.is ∙ ap (λ xs. get_or xs n class) all) in
     let v = c.loop-number.invariant in
-    let d = c.in-Some.longer in
-    let framed : IsFramed cs n class d = subst (λ k. IsFramed cs k class d) c.in_ok-name.ensures (rw c.in-Some.is at c.in_ok-longer.ensures) in
+    let d = c.in-Some.tabled in
+    let framed : IsClassMade cs n class d = subst (λ k. IsClassMade cs k class d) c.in_ok-name.ensures (rw c.in-Some.is at c.in_ok-tabled.ensures) in
     record {
       first = c.behind-first.ensures ∙ (ap (λ x. x + length class.methods) v.first ∙ next-before cs n class is);
-      are = framed-next cs n class d c.loop-number.pruned.items c.add.new.classes.items is c.in_ok-add.ensures v.are framed;
+      are = classes-next cs n class d c.loop-number.framed.items c.add.new.classes.items is c.in_ok-add.ensures v.are framed;
       room = room-next cs n class d is framed v.room;
     }
 
-pub returns-clause-framed : goal.returns-clause-framed
-returns-clause-framed c =
+pub returns-clause-made : goal.returns-clause-made
+returns-clause-made c =
     let cs = c.args.v.now.linked.classes in
     let n = c.loop-number.number in
     let end : n ≡ length cs = omega (arith, c.loop-number-test.false, c.loop-number.auto.number-end, ap length c.as_slice-classes.ensures) in
-    subst (λ z. AreFramedFrom cs 0 z c.loop-number.pruned.items) (take-all cs n end) c.loop-number.invariant.are
+    subst (λ z. AreClassesMadeFrom cs 0 z c.loop-number.framed.items) (take-all cs n end) c.loop-number.invariant.are
