@@ -58,7 +58,7 @@ fn framed_set(alloc: Global, named: &NamedClass, set: NamedSet) -> Result<Vec<St
 {
     let (names, loaded) = apart(alloc, set);
     let verified = accept_loaded(alloc, named, loaded)?;
-    let framed = with_tables(alloc, &verified)?;
+    let framed = with_tables(alloc, verified)?;
     Ok(write_classes(alloc, names.as_slice(), &framed)?)
 }
 
@@ -79,12 +79,12 @@ fn apart(alloc: Global, set: NamedSet) -> (Sequence<Name>, Loaded)
     }
 }
 
-/// Verified classes with their tables.
-fn with_tables(alloc: Global, verified: &Verified) -> Result<Vec<FramedClass>, Ending>
-    ensures makes { Makes (λ check. IsFramedTo verified.now.linked.classes (framed_of check)) result }
+/// Verified classes with their tables. What they were linked to is let go, before files are made.
+fn with_tables(alloc: Global, verified: Verified) -> Result<Vec<FramedClass>, Ending>
+    ensures makes { Makes (λ check. IsFramedTo verified.linked.classes (framed_of check)) result }
     ensures writable { IfOk result (λ framed. All IsWritable framed.items) }
 {
-    match framing::frames(alloc, verified) {
+    match framing::frames(alloc, &verified) {
         Ok(framed) => Ok(framed),
         Err(FrameError::Refused(fault)) => Err(Ending::Refused(Done::FrameRefused(fault))),
         Err(FrameError::TooLarge { class, bytes }) => {
