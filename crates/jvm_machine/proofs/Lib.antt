@@ -6,6 +6,7 @@ pub mod Finding
 pub mod Arriving
 pub mod Readiness
 pub mod Taking
+pub mod Frequent
 pub mod Calls
 pub mod Returns
 pub mod Hosts

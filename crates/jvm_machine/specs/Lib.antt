@@ -1,6 +1,8 @@
 pub mod Workings
 pub mod Ready
 pub mod Executes
+pub mod Ops
+pub mod Makes
 pub mod Standing
 pub mod Settling
 pub mod Hosting

@@ -16,8 +16,6 @@ impl Working {
     /// # Errors
     ///
     /// The trap, before which nothing is changed.
-    // in the loop of a run, or else each turn hands its outcome on through memory
-    #[inline(always)]
     pub fn execute(
         &mut self,
         classes: &[Class],
@@ -47,10 +45,10 @@ impl Working {
             Instruction::LongCompare => self.long_compare(),
             Instruction::Branch(name, target) => return Ok(self.branch(*name, *target)),
             Instruction::TableSwitch(switch) => {
-                return Ok(Executed::Jump(self.table_switch(switch)));
+                return Ok(Executed::Jump(self.table_switch(switch.get())));
             }
             Instruction::LookupSwitch(switch) => {
-                return Ok(Executed::Jump(self.lookup_switch(switch)));
+                return Ok(Executed::Jump(self.lookup_switch(switch.get())));
             }
             Instruction::Get(field, kind) => self.get_field(*field, *kind),
             Instruction::Put(field, kind) => self.put_field(*field, *kind),

@@ -1,16 +1,15 @@
-use Rattle.std.proofs.Common.{◌≡◌, ◌≤◌, ℕ, List, length, Option, Some, None, true, false, subst, arith}
-use Rattle.std.specs.Prelude.{IsTrue, IsSomeAnd, is_some}
-use Rattle.std.proofs.lemmas.Bool.Decides.{nat_tests}
-use Rattle.jvm_program.specs.declared.value.Value.{Value}
+use Rattle.std.proofs.Common.{subst}
+use Rattle.jvm_names.specs.declared.table_switch.TableSwitch.{TableSwitch}
+use Rattle.jvm_names.specs.declared.lookup_switch.LookupSwitch.{LookupSwitch}
 use Rattle.jvm_program.specs.Values.{is_long}
 use Rattle.jvm_program.specs.Shuffles.{forms_of, shuffled}
 use Rattle.jvm_program.specs.declared.instruction.Instruction.{Instruction}
-use Rattle.jvm_program.specs.Effect.{Workspace, moved}
 use Rattle.jvm_program.specs.declared.instruction.Instruction.TheVariants as instructions
 use Rattle.jvm_link.specs.Linking.{program_of}
 use Rattle.jvm_machine.specs.Workings.{workspace}
-use Rattle.jvm_machine.specs.Ready.{IsReady, leaves_room}
-use Rattle.jvm_machine.proofs.Results.{trapped}
+use Rattle.jvm_machine.specs.Executes.{Jumps}
+use Rattle.jvm_machine.specs.Ready.{IsReady}
+use Rattle.jvm_machine.proofs.Results.{trapped, room_left}
 use Rattle.jvm_machine.proofs.working.Working.execute.Goals as goal
 
 pub returns-in-Push-clause-executes : goal.returns-in-Push-clause-executes
@@ -86,16 +85,14 @@ pub returns-in-Branch-clause-executes : goal.returns-in-Branch-clause-executes
 returns-in-Branch-clause-executes c = rw c.in-Branch.is (c.branch-self.ensures.comes (program_of c.args.classes.now))
 
 pub returns-in-TableSwitch-clause-executes : goal.returns-in-TableSwitch-clause-executes
-returns-in-TableSwitch-clause-executes c = rw c.in-TableSwitch.is (c.table_switch.ensures.jumps (program_of c.args.classes.now))
+returns-in-TableSwitch-clause-executes c =
+    rw c.in-TableSwitch.is (subst (λ (s : TableSwitch). Jumps (program_of c.args.classes.now) (instructions.TableSwitch s) c.args.self.now c.table_switch.new.self c.table_switch.result) c.get.ensures (c.table_switch.ensures.jumps (program_of c.args.classes.now)))
 
 pub returns-in-LookupSwitch-clause-executes : goal.returns-in-LookupSwitch-clause-executes
-returns-in-LookupSwitch-clause-executes c = rw c.in-LookupSwitch.is (c.lookup_switch.ensures.jumps (program_of c.args.classes.now))
-
-room : (most : ℕ) (w : Workspace) (o : Option (List Value)) → IsTrue (is_some o) → IsTrue (leaves_room most (moved w o)) → IsSomeAnd o (λ items. length items ≤ most)
-room most w None h l = let e : false ≡ true = h in absurd cc
-room most w (Some items) h l = grind (arith, nat_tests)
+returns-in-LookupSwitch-clause-executes c =
+    rw c.in-LookupSwitch.is (subst (λ (s : LookupSwitch). Jumps (program_of c.args.classes.now) (instructions.LookupSwitch s) c.args.self.now c.lookup_switch.new.self c.lookup_switch.result) c.get-in-LookupSwitch.ensures (c.lookup_switch.ensures.jumps (program_of c.args.classes.now)))
 
 pub shuffle-requires : goal.shuffle-requires
 shuffle-requires c =
     let ready = subst (λ (i : Instruction). IsReady (program_of c.args.classes.now) i c.args.self.now) c.in-Stack.is c.requires.ready in
-    room c.args.self.now.frames.current.operands.limit (workspace c.args.self.now) (shuffled is_long (forms_of c.in-Stack.name) c.args.self.now.frames.current.operands.items) ready.operands ready.room
+    room_left c.args.self.now.frames.current.operands.limit (workspace c.args.self.now) (shuffled is_long (forms_of c.in-Stack.name) c.args.self.now.frames.current.operands.items) ready.operands ready.room
