@@ -9,7 +9,8 @@ special_name field =
     else if field == 34 then codes "rd"
     else if field == 35 then codes "wr"
     else if field == 36 then codes "ll"
-    else codes "lf"
+    else if field == 37 then codes "lf"
+    else codes "left"
 
 -- registers 1 to 31, and the others
 abbrev pub field_name : ℕ → List ℕ

@@ -10,6 +10,9 @@ use std::alloc::Global;
 /// the address of the last LL with whether it is linked.
 pub const FIELDS: u32 = 38;
 
+/// How many there are where classes keep a meter: behind the others, how many turns are left on it.
+pub const METERED_FIELDS: u32 = 39;
+
 /// The name of the field of this number.
 pub fn field_name(alloc: Global, field: u32) -> Result<String, NoMemory>
     ensures { IfOk result (λ text. string_bytes text ≡ fields.field_name field) }
@@ -31,7 +34,8 @@ fn special_name(field: u32) -> &'static str
         34 => "rd",
         35 => "wr",
         36 => "ll",
-        _ => "lf",
+        37 => "lf",
+        _ => "left",
     }
 }
 

@@ -8,7 +8,7 @@ mod numbered;
 mod numbers;
 
 pub use class_names::{code_class_name, data_class_name, file_name, span_name};
-pub use fields::{FIELDS, field_descriptor, field_name};
+pub use fields::{FIELDS, METERED_FIELDS, field_descriptor, field_name};
 pub use helpers::{HELPERS, helper_descriptor, helper_name};
 pub use numbers::{CHOOSE, METHODS, MISSING, PAGES, RUN};
 
