@@ -1,5 +1,5 @@
 //! Steps that push words and reach registers.
-ghost use Rattle.std.specs.Prelude.{◌≡◌, ◌++◌, OnOk};
+ghost use Rattle.std.specs.Prelude.{◌≡◌, ◌≤◌, ◌++◌, OnOk};
 ghost use Rattle.guest_code.specs.Access as emitted;
 
 use crate::NoMemory;
@@ -66,14 +66,32 @@ pub fn arithmetic(name: IntArithmetic) -> Step
     Step::Does(Instruction::IntArithmetic(name))
 }
 
+/// Appends up to 64 steps.
+///
+/// # Errors
+/// Want of memory for them.
+pub fn append_steps<const N: usize>(steps: [Step; N], code: &mut Vec<Step>) -> Result<(), NoMemory>
+    requires { N ≤ 64 }
+    ensures { OnOk result (code.new.items ≡ code.old.items ++ steps.entry) }
+{
+    for step in steps {
+        code.push(step)?;
+    }
+    Ok(())
+}
+
 /// A register is pushed with its top bit turned, so that signed comparisons compare without signs.
 pub fn append_turned(bank: &Bank, r: u8, code: &mut Vec<Step>) -> Result<(), NoMemory>
     ensures { OnOk result (code.new.items ≡ code.old.items ++ emitted.get_turned bank.now r) }
 {
-    code.push(get_register(bank, r))?;
-    code.push(push_word(TOP_BIT))?;
-    code.push(arithmetic(IntArithmetic::Iadd))?;
-    Ok(())
+    append_steps(
+        [
+            get_register(bank, r),
+            push_word(TOP_BIT),
+            arithmetic(IntArithmetic::Iadd),
+        ],
+        code,
+    )
 }
 
 /// A word with its top bit turned.

@@ -3,7 +3,7 @@ ghost use Rattle.std.specs.Prelude.{◌≡◌, ◌++◌, OnOk};
 ghost use Rattle.guest_code.specs.Accessing as emitted;
 
 use crate::NoMemory;
-use crate::access::{arithmetic, get_register, push_word, put_field, put_register};
+use crate::access::{append_steps, arithmetic, get_register, push_word, put_field, put_register};
 use crate::bank::Bank;
 use crate::fields::{LINKED, READABLE, WRITABLE};
 use crate::helpers::{LOAD_LINKED, STORE_CONDITIONAL, load_helper, store_helper};
@@ -99,9 +99,7 @@ fn append_access(
         ++ emitted.access_code bank.now helper rs imm at) }
 {
     append_address(bank, rs, extended(imm), code)?;
-    code.push(push_word(at))?;
-    code.push(Step::Does(Instruction::Call(helper)))?;
-    Ok(())
+    append_steps([push_word(at), Step::Does(Instruction::Call(helper))], code)
 }
 
 fn append_address(bank: &Bank, rs: u8, immediate: u32, code: &mut Vec<Step>) -> Result<(), NoMemory>
@@ -110,8 +108,10 @@ fn append_address(bank: &Bank, rs: u8, immediate: u32, code: &mut Vec<Step>) -> 
 {
     code.push(get_register(bank, rs))?;
     if immediate != 0 {
-        code.push(push_word(immediate))?;
-        code.push(arithmetic(IntArithmetic::Iadd))?;
+        append_steps(
+            [push_word(immediate), arithmetic(IntArithmetic::Iadd)],
+            code,
+        )?;
     }
     Ok(())
 }
@@ -121,23 +121,31 @@ pub fn append_call(bank: &Bank, code: &mut Vec<Step>) -> Result<(), NoMemory>
     ensures { OnOk result (code.new.items ≡ code.old.items ++ emitted.call_code bank.now) }
 {
     append_call_words(bank, code)?;
-    code.push(Step::Does(Instruction::CallHost))?;
-    code.push(put_register(bank, 2))?;
-    code.push(push_word(0))?;
-    code.push(put_field(LINKED))?;
-    Ok(())
+    append_steps(
+        [
+            Step::Does(Instruction::CallHost),
+            put_register(bank, 2),
+            push_word(0),
+            put_field(LINKED),
+        ],
+        code,
+    )
 }
 
 // The tables of pages, r2 and r4 to r7.
 fn append_call_words(bank: &Bank, code: &mut Vec<Step>) -> Result<(), NoMemory>
     ensures { OnOk result (code.new.items ≡ code.old.items ++ emitted.call_words bank.now) }
 {
-    code.push(Step::Does(Instruction::Get(READABLE, Kind::Pages)))?;
-    code.push(Step::Does(Instruction::Get(WRITABLE, Kind::Pages)))?;
-    code.push(get_register(bank, 2))?;
-    code.push(get_register(bank, 4))?;
-    code.push(get_register(bank, 5))?;
-    code.push(get_register(bank, 6))?;
-    code.push(get_register(bank, 7))?;
-    Ok(())
+    append_steps(
+        [
+            Step::Does(Instruction::Get(READABLE, Kind::Pages)),
+            Step::Does(Instruction::Get(WRITABLE, Kind::Pages)),
+            get_register(bank, 2),
+            get_register(bank, 4),
+            get_register(bank, 5),
+            get_register(bank, 6),
+            get_register(bank, 7),
+        ],
+        code,
+    )
 }

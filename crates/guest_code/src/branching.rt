@@ -3,7 +3,7 @@ ghost use Rattle.std.specs.Prelude.{◌≡◌, ◌++◌, ◌<◌, ◌≤◌, ◌
 ghost use Rattle.guest_code.specs.Branching as emitted;
 
 use crate::NoMemory;
-use crate::access::{get_register, push_word, put_field, put_register};
+use crate::access::{append_steps, get_register, push_word, put_field, put_register};
 use crate::bank::Bank;
 use crate::conditions::{equal_branch, jump_link, sign_branch, zero_branch};
 use crate::fields::PC;
@@ -27,8 +27,7 @@ pub fn append_transfer(
 {
     match *inst {
         Inst::BranchEqual { name, rs, rt, imm } => {
-            code.push(get_register(bank, rs))?;
-            code.push(get_register(bank, rt))?;
+            append_steps([get_register(bank, rs), get_register(bank, rt)], code)?;
             append_conditional(bank, equal_branch(name, at, imm), at, slot, code)
         }
         Inst::BranchZero { name, rs, imm } => {
@@ -88,10 +87,15 @@ fn append_branch(
         ++ emitted.branch_code branch.test branch.target (emitted.behind_slot at)
         (emitted.link_code bank.now branch.link at) slot.items) }
 {
-    code.push(Step::Skips(branch.test, 2))?;
-    code.push(push_word(behind_slot(at)))?;
-    code.push(Step::Skips(BranchName::Goto, 1))?;
-    code.push(push_word(branch.target))?;
+    append_steps(
+        [
+            Step::Skips(branch.test, 2),
+            push_word(behind_slot(at)),
+            Step::Skips(BranchName::Goto, 1),
+            push_word(branch.target),
+        ],
+        code,
+    )?;
     append_settled(code)?;
     append_linked(bank, branch.link, at, slot, code)
 }
@@ -129,10 +133,14 @@ fn append_goal(target: u32, code: &mut Vec<Step>) -> Result<(), NoMemory>
 fn append_settled(code: &mut Vec<Step>) -> Result<(), NoMemory>
     ensures { OnOk result (code.new.items ≡ code.old.items ++ emitted.settle_code) }
 {
-    code.push(Step::Does(Instruction::Stack(StackName::Dup)))?;
-    code.push(Step::Does(Instruction::Store(LocalKind::Int, 0)))?;
-    code.push(put_field(PC))?;
-    Ok(())
+    append_steps(
+        [
+            Step::Does(Instruction::Stack(StackName::Dup)),
+            Step::Does(Instruction::Store(LocalKind::Int, 0)),
+            put_field(PC),
+        ],
+        code,
+    )
 }
 
 // The link, if there is one, and the slot.
@@ -154,8 +162,7 @@ fn append_link(bank: &Bank, link: Option<u8>, at: u32, code: &mut Vec<Step>) -> 
     ensures { OnOk result (code.new.items ≡ code.old.items ++ emitted.link_code bank.now link at) }
 {
     if let Some(r) = link {
-        code.push(push_word(behind_slot(at)))?;
-        code.push(put_register(bank, r))?;
+        append_steps([push_word(behind_slot(at)), put_register(bank, r)], code)?;
     }
     Ok(())
 }

@@ -3,7 +3,7 @@ ghost use Rattle.std.specs.Prelude.{◌≡◌, ◌++◌, OnOk};
 ghost use Rattle.guest_code.specs.Faulting as emitted;
 
 use crate::NoMemory;
-use crate::access::{append_turned, get_register, push_word, turned};
+use crate::access::{append_steps, append_turned, get_register, push_word, turned};
 use crate::bank::Bank;
 use code_steps::Step;
 use jvm_names::BranchName;
@@ -18,11 +18,15 @@ pub const FAULT_STEPS: u32 = 4;
 pub fn append_fault(kind: u32, at: u32, value: u32, code: &mut Vec<Step>) -> Result<(), NoMemory>
     ensures { OnOk result (code.new.items ≡ code.old.items ++ emitted.fault_code kind at value) }
 {
-    code.push(push_word(kind))?;
-    code.push(push_word(at))?;
-    code.push(push_word(value))?;
-    code.push(Step::Does(Instruction::FaultHost))?;
-    Ok(())
+    append_steps(
+        [
+            push_word(kind),
+            push_word(at),
+            push_word(value),
+            Step::Does(Instruction::FaultHost),
+        ],
+        code,
+    )
 }
 
 /// TGE to TNE at an address, whose word is given.
@@ -44,8 +48,7 @@ pub fn append_trap(
             append_turned(bank, rt, code)?;
         }
         TrapName::Tge | TrapName::Tlt | TrapName::Teq | TrapName::Tne => {
-            code.push(get_register(bank, rs))?;
-            code.push(get_register(bank, rt))?;
+            append_steps([get_register(bank, rs), get_register(bank, rt)], code)?;
         }
     }
     append_unless(passing(name), at, word, code)
@@ -73,8 +76,7 @@ pub fn append_trap_with(
         | TrapImmediateName::Tlti
         | TrapImmediateName::Teqi
         | TrapImmediateName::Tnei => {
-            code.push(get_register(bank, rs))?;
-            code.push(push_word(immediate))?;
+            append_steps([get_register(bank, rs), push_word(immediate)], code)?;
         }
     }
     append_unless(passing_immediate(name), at, word, code)

@@ -4,7 +4,9 @@ ghost use Rattle.mips_decode.specs.Targets as targets;
 ghost use Rattle.guest_code.specs.Computing as emitted;
 
 use crate::NoMemory;
-use crate::access::{append_turned, arithmetic, get_register, push_word, put_register, turned};
+use crate::access::{
+    append_steps, append_turned, arithmetic, get_register, push_word, put_register, turned,
+};
 use crate::bank::Bank;
 use crate::computing::{append_chosen, append_moved, append_overflow};
 use code_steps::Step;
@@ -111,9 +113,7 @@ pub fn append_load_upper(
 fn append_set(bank: &Bank, word: u32, rt: u8, code: &mut Vec<Step>) -> Result<(), NoMemory>
     ensures { OnOk result (code.new.items ≡ code.old.items ++ emitted.set_code bank.now word rt) }
 {
-    code.push(push_word(word))?;
-    code.push(put_register(bank, rt))?;
-    Ok(())
+    append_steps([push_word(word), put_register(bank, rt)], code)
 }
 
 fn append_combined_with(
@@ -127,11 +127,15 @@ fn append_combined_with(
     ensures { OnOk result (code.new.items ≡ code.old.items
         ++ emitted.combined_with_code bank.now name rs word rt) }
 {
-    code.push(get_register(bank, rs))?;
-    code.push(push_word(word))?;
-    code.push(arithmetic(name))?;
-    code.push(put_register(bank, rt))?;
-    Ok(())
+    append_steps(
+        [
+            get_register(bank, rs),
+            push_word(word),
+            arithmetic(name),
+            put_register(bank, rt),
+        ],
+        code,
+    )
 }
 
 // A sum or an or: of register 0 it is the word, and of the word 0 a move.
@@ -167,16 +171,21 @@ fn append_addi(
     ensures { OnOk result (code.new.items ≡ code.old.items
         ++ emitted.addi_code bank.now rs immediate rt at word) }
 {
-    code.push(get_register(bank, rs))?;
-    code.push(push_word(immediate))?;
-    code.push(arithmetic(IntArithmetic::Iadd))?;
-    code.push(Step::Does(Instruction::Stack(StackName::Dup)))?;
-    code.push(get_register(bank, rs))?;
-    code.push(arithmetic(IntArithmetic::Ixor))?;
-    code.push(Step::Does(Instruction::Stack(StackName::Swap)))?;
-    code.push(Step::Does(Instruction::Stack(StackName::DupX1)))?;
-    code.push(push_word(immediate))?;
-    code.push(arithmetic(IntArithmetic::Ixor))?;
+    append_steps(
+        [
+            get_register(bank, rs),
+            push_word(immediate),
+            arithmetic(IntArithmetic::Iadd),
+            Step::Does(Instruction::Stack(StackName::Dup)),
+            get_register(bank, rs),
+            arithmetic(IntArithmetic::Ixor),
+            Step::Does(Instruction::Stack(StackName::Swap)),
+            Step::Does(Instruction::Stack(StackName::DupX1)),
+            push_word(immediate),
+            arithmetic(IntArithmetic::Ixor),
+        ],
+        code,
+    )?;
     append_overflow(bank, rt, at, word, code)
 }
 
@@ -190,8 +199,7 @@ fn append_slti(
     ensures { OnOk result (code.new.items ≡ code.old.items
         ++ emitted.slti_code bank.now rs immediate rt) }
 {
-    code.push(get_register(bank, rs))?;
-    code.push(push_word(immediate))?;
+    append_steps([get_register(bank, rs), push_word(immediate)], code)?;
     append_chosen(bank, BranchName::IfIcmplt, rt, code)
 }
 

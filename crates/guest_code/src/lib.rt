@@ -16,7 +16,9 @@ mod registers;
 mod transfer;
 mod units;
 
-pub use access::{arithmetic, get_field, get_register, push_word, put_field, put_register};
+pub use access::{
+    append_steps, arithmetic, get_field, get_register, push_word, put_field, put_register,
+};
 pub use bank::Bank;
 pub use units::{append_instruction, append_unit};
 

@@ -4,7 +4,8 @@ ghost use Rattle.guest_code.specs.Computing as emitted;
 
 use crate::NoMemory;
 use crate::access::{
-    append_turned, arithmetic, get_field, get_register, push_word, put_field, put_register,
+    append_steps, append_turned, arithmetic, get_field, get_register, push_word, put_field,
+    put_register,
 };
 use crate::bank::Bank;
 use crate::computing::{append_chosen, append_moved, append_overflow};
@@ -61,11 +62,15 @@ fn append_combined(
     ensures { OnOk result (code.new.items ≡ code.old.items
         ++ emitted.combined_code bank.now name rs rt rd) }
 {
-    code.push(get_register(bank, rs))?;
-    code.push(get_register(bank, rt))?;
-    code.push(arithmetic(name))?;
-    code.push(put_register(bank, rd))?;
-    Ok(())
+    append_steps(
+        [
+            get_register(bank, rs),
+            get_register(bank, rt),
+            arithmetic(name),
+            put_register(bank, rd),
+        ],
+        code,
+    )
 }
 
 // Where rt is register 0, it is a move.
@@ -90,20 +95,23 @@ fn append_combined_or_moved(
 fn append_nor(bank: &Bank, rs: u8, rt: u8, rd: u8, code: &mut Vec<Step>) -> Result<(), NoMemory>
     ensures { OnOk result (code.new.items ≡ code.old.items ++ emitted.nor_code bank.now rs rt rd) }
 {
-    code.push(get_register(bank, rs))?;
-    code.push(get_register(bank, rt))?;
-    code.push(arithmetic(IntArithmetic::Ior))?;
-    code.push(push_word(0xffff_ffff))?;
-    code.push(arithmetic(IntArithmetic::Ixor))?;
-    code.push(put_register(bank, rd))?;
-    Ok(())
+    append_steps(
+        [
+            get_register(bank, rs),
+            get_register(bank, rt),
+            arithmetic(IntArithmetic::Ior),
+            push_word(0xffff_ffff),
+            arithmetic(IntArithmetic::Ixor),
+            put_register(bank, rd),
+        ],
+        code,
+    )
 }
 
 fn append_slt(bank: &Bank, rs: u8, rt: u8, rd: u8, code: &mut Vec<Step>) -> Result<(), NoMemory>
     ensures { OnOk result (code.new.items ≡ code.old.items ++ emitted.slt_code bank.now rs rt rd) }
 {
-    code.push(get_register(bank, rs))?;
-    code.push(get_register(bank, rt))?;
+    append_steps([get_register(bank, rs), get_register(bank, rt)], code)?;
     append_chosen(bank, BranchName::IfIcmplt, rd, code)
 }
 
@@ -132,16 +140,21 @@ fn append_add(
     ensures { OnOk result (code.new.items ≡ code.old.items
         ++ emitted.add_code bank.now rs rt rd at word) }
 {
-    code.push(get_register(bank, rs))?;
-    code.push(get_register(bank, rt))?;
-    code.push(arithmetic(IntArithmetic::Iadd))?;
-    code.push(Step::Does(Instruction::Stack(StackName::Dup)))?;
-    code.push(get_register(bank, rs))?;
-    code.push(arithmetic(IntArithmetic::Ixor))?;
-    code.push(Step::Does(Instruction::Stack(StackName::Swap)))?;
-    code.push(Step::Does(Instruction::Stack(StackName::DupX1)))?;
-    code.push(get_register(bank, rt))?;
-    code.push(arithmetic(IntArithmetic::Ixor))?;
+    append_steps(
+        [
+            get_register(bank, rs),
+            get_register(bank, rt),
+            arithmetic(IntArithmetic::Iadd),
+            Step::Does(Instruction::Stack(StackName::Dup)),
+            get_register(bank, rs),
+            arithmetic(IntArithmetic::Ixor),
+            Step::Does(Instruction::Stack(StackName::Swap)),
+            Step::Does(Instruction::Stack(StackName::DupX1)),
+            get_register(bank, rt),
+            arithmetic(IntArithmetic::Ixor),
+        ],
+        code,
+    )?;
     append_overflow(bank, rd, at, word, code)
 }
 
@@ -157,15 +170,20 @@ fn append_sub(
     ensures { OnOk result (code.new.items ≡ code.old.items
         ++ emitted.sub_code bank.now rs rt rd at word) }
 {
-    code.push(get_register(bank, rs))?;
-    code.push(get_register(bank, rt))?;
-    code.push(arithmetic(IntArithmetic::Isub))?;
-    code.push(Step::Does(Instruction::Stack(StackName::Dup)))?;
-    code.push(get_register(bank, rs))?;
-    code.push(arithmetic(IntArithmetic::Ixor))?;
-    code.push(get_register(bank, rs))?;
-    code.push(get_register(bank, rt))?;
-    code.push(arithmetic(IntArithmetic::Ixor))?;
+    append_steps(
+        [
+            get_register(bank, rs),
+            get_register(bank, rt),
+            arithmetic(IntArithmetic::Isub),
+            Step::Does(Instruction::Stack(StackName::Dup)),
+            get_register(bank, rs),
+            arithmetic(IntArithmetic::Ixor),
+            get_register(bank, rs),
+            get_register(bank, rt),
+            arithmetic(IntArithmetic::Ixor),
+        ],
+        code,
+    )?;
     append_overflow(bank, rd, at, word, code)
 }
 
@@ -187,11 +205,15 @@ pub fn append_shift(
     } else if sa == 0 {
         append_moved(bank, rt, rd, code)
     } else {
-        code.push(get_register(bank, rt))?;
-        code.push(push_word(u32::from(sa)))?;
-        code.push(Step::Does(Instruction::IntShift(shift_name(name))))?;
-        code.push(put_register(bank, rd))?;
-        Ok(())
+        append_steps(
+            [
+                get_register(bank, rt),
+                push_word(u32::from(sa)),
+                Step::Does(Instruction::IntShift(shift_name(name))),
+                put_register(bank, rd),
+            ],
+            code,
+        )
     }
 }
 
@@ -217,11 +239,15 @@ pub fn append_variable_shift(
     ensures { OnOk result (code.new.items ≡ code.old.items
         ++ emitted.variable_shift_code bank.now name rs rt rd) }
 {
-    code.push(get_register(bank, rt))?;
-    code.push(get_register(bank, rs))?;
-    code.push(Step::Does(Instruction::IntShift(variable_shift_name(name))))?;
-    code.push(put_register(bank, rd))?;
-    Ok(())
+    append_steps(
+        [
+            get_register(bank, rt),
+            get_register(bank, rs),
+            Step::Does(Instruction::IntShift(variable_shift_name(name))),
+            put_register(bank, rd),
+        ],
+        code,
+    )
 }
 
 fn variable_shift_name(name: VariableShiftName) -> IntShift
@@ -244,9 +270,7 @@ pub fn append_move_from(
     ensures { OnOk result (code.new.items ≡ code.old.items
         ++ emitted.move_from_code bank.now name rd) }
 {
-    code.push(get_field(hi_lo_field(name)))?;
-    code.push(put_register(bank, rd))?;
-    Ok(())
+    append_steps([get_field(hi_lo_field(name)), put_register(bank, rd)], code)
 }
 
 /// MTHI and MTLO.
@@ -254,9 +278,7 @@ pub fn append_move_to(bank: &Bank, name: HiLo, rs: u8, code: &mut Vec<Step>) -> 
     ensures { OnOk result (code.new.items ≡ code.old.items
         ++ emitted.move_to_code bank.now name rs) }
 {
-    code.push(get_register(bank, rs))?;
-    code.push(put_field(hi_lo_field(name)))?;
-    Ok(())
+    append_steps([get_register(bank, rs), put_field(hi_lo_field(name))], code)
 }
 
 /// MULT to DIVU, by a helper.
@@ -270,8 +292,12 @@ pub fn append_product(
     ensures { OnOk result (code.new.items ≡ code.old.items
         ++ emitted.product_code bank.now name rs rt) }
 {
-    code.push(get_register(bank, rs))?;
-    code.push(get_register(bank, rt))?;
-    code.push(Step::Does(Instruction::Call(product_helper(name))))?;
-    Ok(())
+    append_steps(
+        [
+            get_register(bank, rs),
+            get_register(bank, rt),
+            Step::Does(Instruction::Call(product_helper(name))),
+        ],
+        code,
+    )
 }
