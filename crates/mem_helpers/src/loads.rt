@@ -9,7 +9,7 @@ use crate::parts::{
     load, right_amount, shift, stack,
 };
 use code_steps::Step;
-use guest_code::{arithmetic, fields, push_word, put_field};
+use guest_code::{append_steps, arithmetic, fields, push_word, put_field};
 use jvm_names::{ArrayName, Conversion, IntArithmetic, IntShift, ReturnName, StackName};
 use jvm_program::Instruction;
 use nv_words::Order;
@@ -55,10 +55,15 @@ fn append_read_fault(a: u8, bits: u32, code: &mut Vec<Step>) -> Result<(), NoMem
     requires { a < 8 }
     ensures { OnOk result (code.new.items ≡ code.old.items ++ emitted.read_fault_code a bits) }
 {
-    code.push(load(a))?;
-    code.push(load(a + 1))?;
-    code.push(push_word(bits))?;
-    code.push(Step::Does(Instruction::Call(READ_FAULT)))?;
+    append_steps(
+        [
+            load(a),
+            load(a + 1),
+            push_word(bits),
+            Step::Does(Instruction::Call(READ_FAULT)),
+        ],
+        code,
+    )?;
     append_gives(code)
 }
 
@@ -77,10 +82,15 @@ pub fn append_ll(alloc: Global, order: Order, code: &mut Vec<Step>) -> Result<()
 {
     let mut rest = Vec::new(alloc);
     append_ordered(order, 2, &mut rest)?;
-    rest.push(load(0))?;
-    rest.push(put_field(fields::LINK))?;
-    rest.push(push_word(1))?;
-    rest.push(put_field(fields::LINKED))?;
+    append_steps(
+        [
+            load(0),
+            put_field(fields::LINK),
+            push_word(1),
+            put_field(fields::LINKED),
+        ],
+        &mut rest,
+    )?;
     append_loading(alloc, 0, 4, 3, rest, code)
 }
 
@@ -120,8 +130,7 @@ pub fn append_lbu(alloc: Global, code: &mut Vec<Step>) -> Result<(), NoMemory>
 {
     let mut rest = Vec::new(alloc);
     append_byte(&mut rest)?;
-    rest.push(push_word(255))?;
-    rest.push(arithmetic(IntArithmetic::Iand))?;
+    append_steps([push_word(255), arithmetic(IntArithmetic::Iand)], &mut rest)?;
     append_loading(alloc, 0, 1, 0, rest, code)
 }
 
@@ -169,16 +178,20 @@ fn append_half(order: Order, code: &mut Vec<Step>) -> Result<(), NoMemory>
 fn append_turned_half(code: &mut Vec<Step>) -> Result<(), NoMemory>
     ensures { OnOk result (code.new.items ≡ code.old.items ++ emitted.turned_half_code) }
 {
-    code.push(stack(StackName::Dup))?;
-    code.push(push_word(8))?;
-    code.push(shift(IntShift::Ishl))?;
-    code.push(stack(StackName::Swap))?;
-    code.push(push_word(8))?;
-    code.push(shift(IntShift::Iushr))?;
-    code.push(push_word(255))?;
-    code.push(arithmetic(IntArithmetic::Iand))?;
-    code.push(arithmetic(IntArithmetic::Ior))?;
-    Ok(())
+    append_steps(
+        [
+            stack(StackName::Dup),
+            push_word(8),
+            shift(IntShift::Ishl),
+            stack(StackName::Swap),
+            push_word(8),
+            shift(IntShift::Iushr),
+            push_word(255),
+            arithmetic(IntArithmetic::Iand),
+            arithmetic(IntArithmetic::Ior),
+        ],
+        code,
+    )
 }
 
 // The word on the stack is shifted, and where the shift left zeros the register's bytes stay.
@@ -186,14 +199,16 @@ fn append_kept(name: IntShift, amount: Amount, code: &mut Vec<Step>) -> Result<(
     ensures { OnOk result (code.new.items ≡ code.old.items ++ emitted.kept_code name amount) }
 {
     append_amount(amount, code)?;
-    code.push(shift(name))?;
-    code.push(load(0))?;
-    code.push(push_word(0xffff_ffff))?;
+    append_steps([shift(name), load(0), push_word(0xffff_ffff)], code)?;
     append_amount(amount, code)?;
-    code.push(shift(name))?;
-    code.push(push_word(0xffff_ffff))?;
-    code.push(arithmetic(IntArithmetic::Ixor))?;
-    code.push(arithmetic(IntArithmetic::Iand))?;
-    code.push(arithmetic(IntArithmetic::Ior))?;
-    Ok(())
+    append_steps(
+        [
+            shift(name),
+            push_word(0xffff_ffff),
+            arithmetic(IntArithmetic::Ixor),
+            arithmetic(IntArithmetic::Iand),
+            arithmetic(IntArithmetic::Ior),
+        ],
+        code,
+    )
 }

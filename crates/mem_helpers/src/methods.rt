@@ -13,7 +13,7 @@ use crate::stores::{
     append_return, append_sb, append_sc, append_sh, append_sw, append_swl, append_swr,
 };
 use code_steps::Step;
-use guest_code::{arithmetic, push_word};
+use guest_code::{append_steps, arithmetic, push_word};
 use jvm_names::{BranchName, IntArithmetic};
 use jvm_program::Instruction;
 use mips_decode::fault_kinds::{READ_ALIGN, READ_UNMAPPED, WRITE_ALIGN, WRITE_REFUSED};
@@ -91,17 +91,21 @@ fn append_fault(unmapped: u32, unaligned: u32, code: &mut Vec<Step>) -> Result<(
     ensures { OnOk result (code.new.items ≡ code.old.items
         ++ emitted.fault_code unmapped unaligned) }
 {
-    code.push(load(0))?;
-    code.push(load(2))?;
-    code.push(arithmetic(IntArithmetic::Iand))?;
-    code.push(Step::Skips(BranchName::Ifne, 2))?;
-    code.push(push_word(unmapped))?;
-    code.push(Step::Skips(BranchName::Goto, 1))?;
-    code.push(push_word(unaligned))?;
-    code.push(load(1))?;
-    code.push(load(0))?;
-    code.push(Step::Does(Instruction::FaultHost))?;
-    Ok(())
+    append_steps(
+        [
+            load(0),
+            load(2),
+            arithmetic(IntArithmetic::Iand),
+            Step::Skips(BranchName::Ifne, 2),
+            push_word(unmapped),
+            Step::Skips(BranchName::Goto, 1),
+            push_word(unaligned),
+            load(1),
+            load(0),
+            Step::Does(Instruction::FaultHost),
+        ],
+        code,
+    )
 }
 
 fn append_read_fault(code: &mut Vec<Step>) -> Result<(), NoMemory>

@@ -5,7 +5,7 @@ ghost use Rattle.mem_helpers.specs.Parts as emitted;
 use crate::NoMemory;
 use crate::amount::Amount;
 use code_steps::Step;
-use guest_code::{arithmetic, push_word};
+use guest_code::{append_steps, arithmetic, push_word};
 use jvm_names::{ArrayName, BranchName, IntArithmetic, IntShift, StackName};
 use jvm_program::{Instruction, Kind, LocalKind};
 use nv_words::Order;
@@ -41,10 +41,14 @@ fn append_unfit(a: u8, bytes: u32, over: u32, code: &mut Vec<Step>) -> Result<()
         code.push(Step::Skips(BranchName::Iflt, over))?;
         Ok(())
     } else {
-        code.push(push_word(0x7fff_ffff + bytes))?;
-        code.push(arithmetic(IntArithmetic::Iand))?;
-        code.push(Step::Skips(BranchName::Ifne, over))?;
-        Ok(())
+        append_steps(
+            [
+                push_word(0x7fff_ffff + bytes),
+                arithmetic(IntArithmetic::Iand),
+                Step::Skips(BranchName::Ifne, over),
+            ],
+            code,
+        )
     }
 }
 
@@ -52,26 +56,34 @@ fn append_unfit(a: u8, bytes: u32, over: u32, code: &mut Vec<Step>) -> Result<()
 fn append_page(table: u32, a: u8, over: u32, code: &mut Vec<Step>) -> Result<(), NoMemory>
     ensures { OnOk result (code.new.items ≡ code.old.items ++ emitted.page_code table a over) }
 {
-    code.push(Step::Does(Instruction::Get(table, Kind::Pages)))?;
-    code.push(load(a))?;
-    code.push(push_word(12))?;
-    code.push(shift(IntShift::Iushr))?;
-    code.push(Step::Does(Instruction::Array(ArrayName::Aaload)))?;
-    code.push(stack(StackName::Dup))?;
-    code.push(Step::Skips(BranchName::Ifnull, over))?;
-    Ok(())
+    append_steps(
+        [
+            Step::Does(Instruction::Get(table, Kind::Pages)),
+            load(a),
+            push_word(12),
+            shift(IntShift::Iushr),
+            Step::Does(Instruction::Array(ArrayName::Aaload)),
+            stack(StackName::Dup),
+            Step::Skips(BranchName::Ifnull, over),
+        ],
+        code,
+    )
 }
 
 /// The number of the address's word in its page.
 pub fn append_index(a: u8, code: &mut Vec<Step>) -> Result<(), NoMemory>
     ensures { OnOk result (code.new.items ≡ code.old.items ++ emitted.index_code a) }
 {
-    code.push(load(a))?;
-    code.push(push_word(2))?;
-    code.push(shift(IntShift::Iushr))?;
-    code.push(push_word(1023))?;
-    code.push(arithmetic(IntArithmetic::Iand))?;
-    Ok(())
+    append_steps(
+        [
+            load(a),
+            push_word(2),
+            shift(IntShift::Iushr),
+            push_word(1023),
+            arithmetic(IntArithmetic::Iand),
+        ],
+        code,
+    )
 }
 
 /// The steps of `append_page`.
@@ -104,48 +116,53 @@ pub fn append_accessed(
 fn append_forward(a: u8, code: &mut Vec<Step>) -> Result<(), NoMemory>
     ensures { OnOk result (code.new.items ≡ code.old.items ++ emitted.forward_code a) }
 {
-    code.push(load(a))?;
-    code.push(push_word(3))?;
-    code.push(shift(IntShift::Ishl))?;
-    Ok(())
+    append_steps([load(a), push_word(3), shift(IntShift::Ishl)], code)
 }
 
 /// Eight times the address whose low bits are turned.
 pub fn append_backward(low: u32, a: u8, code: &mut Vec<Step>) -> Result<(), NoMemory>
     ensures { OnOk result (code.new.items ≡ code.old.items ++ emitted.backward_code low a) }
 {
-    code.push(load(a))?;
-    code.push(push_word(low))?;
-    code.push(arithmetic(IntArithmetic::Ixor))?;
-    code.push(push_word(3))?;
-    code.push(shift(IntShift::Ishl))?;
-    Ok(())
+    append_steps(
+        [
+            load(a),
+            push_word(low),
+            arithmetic(IntArithmetic::Ixor),
+            push_word(3),
+            shift(IntShift::Ishl),
+        ],
+        code,
+    )
 }
 
 /// The bytes of a word in a local variable, turned round.
 pub fn append_reversed(w: u8, code: &mut Vec<Step>) -> Result<(), NoMemory>
     ensures { OnOk result (code.new.items ≡ code.old.items ++ emitted.reversed_code w) }
 {
-    code.push(load(w))?;
-    code.push(push_word(24))?;
-    code.push(shift(IntShift::Iushr))?;
-    code.push(load(w))?;
-    code.push(push_word(8))?;
-    code.push(shift(IntShift::Iushr))?;
-    code.push(push_word(0xff00))?;
-    code.push(arithmetic(IntArithmetic::Iand))?;
-    code.push(arithmetic(IntArithmetic::Ior))?;
-    code.push(load(w))?;
-    code.push(push_word(0xff00))?;
-    code.push(arithmetic(IntArithmetic::Iand))?;
-    code.push(push_word(8))?;
-    code.push(shift(IntShift::Ishl))?;
-    code.push(arithmetic(IntArithmetic::Ior))?;
-    code.push(load(w))?;
-    code.push(push_word(24))?;
-    code.push(shift(IntShift::Ishl))?;
-    code.push(arithmetic(IntArithmetic::Ior))?;
-    Ok(())
+    append_steps(
+        [
+            load(w),
+            push_word(24),
+            shift(IntShift::Iushr),
+            load(w),
+            push_word(8),
+            shift(IntShift::Iushr),
+            push_word(0xff00),
+            arithmetic(IntArithmetic::Iand),
+            arithmetic(IntArithmetic::Ior),
+            load(w),
+            push_word(0xff00),
+            arithmetic(IntArithmetic::Iand),
+            push_word(8),
+            shift(IntShift::Ishl),
+            arithmetic(IntArithmetic::Ior),
+            load(w),
+            push_word(24),
+            shift(IntShift::Ishl),
+            arithmetic(IntArithmetic::Ior),
+        ],
+        code,
+    )
 }
 
 /// The word on the stack in the guest's order, with a local variable that is free.

@@ -6,7 +6,7 @@ use crate::NoMemory;
 use crate::parts::{load, stack};
 use crate::stores::append_return;
 use code_steps::Step;
-use guest_code::{fields, push_word, put_field};
+use guest_code::{append_steps, fields, push_word, put_field};
 use jvm_names::{
     BranchName, Conversion, IntDivision, LongArithmetic, LongDivision, LongShift, StackName,
 };
@@ -16,9 +16,10 @@ use jvm_program::{Constant, Instruction};
 fn append_signed(i: u8, code: &mut Vec<Step>) -> Result<(), NoMemory>
     ensures { OnOk result (code.new.items ≡ code.old.items ++ emitted.signed_long i) }
 {
-    code.push(load(i))?;
-    code.push(Step::Does(Instruction::Convert(Conversion::I2l)))?;
-    Ok(())
+    append_steps(
+        [load(i), Step::Does(Instruction::Convert(Conversion::I2l))],
+        code,
+    )
 }
 
 // A word as a long, without a sign.
@@ -26,9 +27,13 @@ fn append_plain(i: u8, code: &mut Vec<Step>) -> Result<(), NoMemory>
     ensures { OnOk result (code.new.items ≡ code.old.items ++ emitted.plain_long i) }
 {
     append_signed(i, code)?;
-    code.push(Step::Does(Instruction::Push(Constant::Long(0xffff_ffff))))?;
-    code.push(Step::Does(Instruction::LongArithmetic(LongArithmetic::Land)))?;
-    Ok(())
+    append_steps(
+        [
+            Step::Does(Instruction::Push(Constant::Long(0xffff_ffff))),
+            Step::Does(Instruction::LongArithmetic(LongArithmetic::Land)),
+        ],
+        code,
+    )
 }
 
 fn append_signed_longs(code: &mut Vec<Step>) -> Result<(), NoMemory>
@@ -49,20 +54,34 @@ fn append_plain_longs(code: &mut Vec<Step>) -> Result<(), NoMemory>
 fn append_low_to(field: u32, code: &mut Vec<Step>) -> Result<(), NoMemory>
     ensures { OnOk result (code.new.items ≡ code.old.items ++ emitted.low_to field) }
 {
-    code.push(Step::Does(Instruction::Convert(Conversion::L2i)))?;
-    code.push(put_field(field))?;
-    Ok(())
+    append_steps(
+        [
+            Step::Does(Instruction::Convert(Conversion::L2i)),
+            put_field(field),
+        ],
+        code,
+    )
 }
 
 // The product of two longs goes to HI and LO.
 fn append_multiplied(code: &mut Vec<Step>) -> Result<(), NoMemory>
     ensures { OnOk result (code.new.items ≡ code.old.items ++ emitted.multiplied_code) }
 {
-    code.push(Step::Does(Instruction::LongArithmetic(LongArithmetic::Lmul)))?;
-    code.push(stack(StackName::Dup2))?;
+    append_steps(
+        [
+            Step::Does(Instruction::LongArithmetic(LongArithmetic::Lmul)),
+            stack(StackName::Dup2),
+        ],
+        code,
+    )?;
     append_low_to(fields::LO, code)?;
-    code.push(push_word(32))?;
-    code.push(Step::Does(Instruction::LongShift(LongShift::Lushr)))?;
+    append_steps(
+        [
+            push_word(32),
+            Step::Does(Instruction::LongShift(LongShift::Lushr)),
+        ],
+        code,
+    )?;
     append_low_to(fields::HI, code)?;
     append_return(code)
 }
@@ -87,23 +106,32 @@ pub fn append_multu(code: &mut Vec<Step>) -> Result<(), NoMemory>
 fn append_by_zero(code: &mut Vec<Step>) -> Result<(), NoMemory>
     ensures { OnOk result (code.new.items ≡ code.old.items ++ emitted.by_zero_code) }
 {
-    code.push(load(1))?;
-    code.push(Step::Skips(BranchName::Ifne, 5))?;
-    code.push(push_word(0xffff_ffff))?;
-    code.push(put_field(fields::LO))?;
-    code.push(load(0))?;
-    code.push(put_field(fields::HI))?;
+    append_steps(
+        [
+            load(1),
+            Step::Skips(BranchName::Ifne, 5),
+            push_word(0xffff_ffff),
+            put_field(fields::LO),
+            load(0),
+            put_field(fields::HI),
+        ],
+        code,
+    )?;
     append_return(code)
 }
 
 fn append_int_divided(name: IntDivision, field: u32, code: &mut Vec<Step>) -> Result<(), NoMemory>
     ensures { OnOk result (code.new.items ≡ code.old.items ++ emitted.int_divided name field) }
 {
-    code.push(load(0))?;
-    code.push(load(1))?;
-    code.push(Step::Does(Instruction::IntDivision(name)))?;
-    code.push(put_field(field))?;
-    Ok(())
+    append_steps(
+        [
+            load(0),
+            load(1),
+            Step::Does(Instruction::IntDivision(name)),
+            put_field(field),
+        ],
+        code,
+    )
 }
 
 fn append_long_divided(name: LongDivision, field: u32, code: &mut Vec<Step>) -> Result<(), NoMemory>

@@ -13,7 +13,7 @@ use crate::parts::{
     left_amount, load, right_amount, shift, stack,
 };
 use code_steps::Step;
-use guest_code::{arithmetic, fields, get_field, push_word, put_field};
+use guest_code::{append_steps, arithmetic, fields, get_field, push_word, put_field};
 use jvm_names::{ArrayName, BranchName, IntArithmetic, IntShift, ReturnName, StackName};
 use jvm_program::Instruction;
 use nv_words::Order;
@@ -33,11 +33,15 @@ pub fn append_return(code: &mut Vec<Step>) -> Result<(), NoMemory>
 fn append_write_fault(bits: u32, code: &mut Vec<Step>) -> Result<(), NoMemory>
     ensures { OnOk result (code.new.items ≡ code.old.items ++ emitted.write_fault_code bits) }
 {
-    code.push(load(1))?;
-    code.push(load(2))?;
-    code.push(push_word(bits))?;
-    code.push(Step::Does(Instruction::Call(WRITE_FAULT)))?;
-    Ok(())
+    append_steps(
+        [
+            load(1),
+            load(2),
+            push_word(bits),
+            Step::Does(Instruction::Call(WRITE_FAULT)),
+        ],
+        code,
+    )
 }
 
 fn append_put_word(code: &mut Vec<Step>) -> Result<(), NoMemory>
@@ -92,9 +96,10 @@ pub fn append_sw(alloc: Global, order: Order, code: &mut Vec<Step>) -> Result<()
 fn append_concluded(n: u32, code: &mut Vec<Step>) -> Result<(), NoMemory>
     ensures { OnOk result (code.new.items ≡ code.old.items ++ emitted.concluded_code n) }
 {
-    code.push(push_word(0))?;
-    code.push(put_field(fields::LINKED))?;
-    code.push(push_word(n))?;
+    append_steps(
+        [push_word(0), put_field(fields::LINKED), push_word(n)],
+        code,
+    )?;
     append_gives(code)
 }
 
@@ -108,13 +113,23 @@ pub fn append_sc(alloc: Global, order: Order, code: &mut Vec<Step>) -> Result<()
     append_put_word(&mut store)?;
     append_concluded(1, &mut store)?;
     let mut linked = Vec::new(alloc);
-    linked.push(get_field(fields::LINK))?;
-    linked.push(load(1))?;
-    linked.push(Step::Skips(BranchName::IfIcmpne, store.len() as u32))?;
+    append_steps(
+        [
+            get_field(fields::LINK),
+            load(1),
+            Step::Skips(BranchName::IfIcmpne, store.len() as u32),
+        ],
+        &mut linked,
+    )?;
     linked.append(&mut store)?;
     let mut found = Vec::new(alloc);
-    found.push(get_field(fields::LINKED))?;
-    found.push(Step::Skips(BranchName::Ifeq, linked.len() as u32))?;
+    append_steps(
+        [
+            get_field(fields::LINKED),
+            Step::Skips(BranchName::Ifeq, linked.len() as u32),
+        ],
+        &mut found,
+    )?;
     found.append(&mut linked)?;
     found.push(stack(StackName::Pop))?;
     append_concluded(0, &mut found)?;
@@ -130,9 +145,13 @@ fn append_read(code: &mut Vec<Step>) -> Result<(), NoMemory>
     ensures { OnOk result (code.new.items ≡ code.old.items ++ emitted.read_code) }
 {
     append_index(1, code)?;
-    code.push(stack(StackName::Dup2))?;
-    code.push(Step::Does(Instruction::Array(ArrayName::Iaload)))?;
-    Ok(())
+    append_steps(
+        [
+            stack(StackName::Dup2),
+            Step::Does(Instruction::Array(ArrayName::Iaload)),
+        ],
+        code,
+    )
 }
 
 // Where a byte or a half-word stands in its word: eight times the address whose low bits are turned.
@@ -149,11 +168,15 @@ fn append_lane_cleared(bits: u32, low: u32, code: &mut Vec<Step>) -> Result<(), 
 fn append_cut(name: IntShift, code: &mut Vec<Step>) -> Result<(), NoMemory>
     ensures { OnOk result (code.new.items ≡ code.old.items ++ emitted.cut_code name) }
 {
-    code.push(shift(name))?;
-    code.push(push_word(0xffff_ffff))?;
-    code.push(arithmetic(IntArithmetic::Ixor))?;
-    code.push(arithmetic(IntArithmetic::Iand))?;
-    Ok(())
+    append_steps(
+        [
+            shift(name),
+            push_word(0xffff_ffff),
+            arithmetic(IntArithmetic::Ixor),
+            arithmetic(IntArithmetic::Iand),
+        ],
+        code,
+    )
 }
 
 fn append_lane_set(low: u32, code: &mut Vec<Step>) -> Result<(), NoMemory>
@@ -161,9 +184,10 @@ fn append_lane_set(low: u32, code: &mut Vec<Step>) -> Result<(), NoMemory>
         ++ emitted.set_code (backward_code low 1) Ishl) }
 {
     append_backward(low, 1, code)?;
-    code.push(shift(IntShift::Ishl))?;
-    code.push(arithmetic(IntArithmetic::Ior))?;
-    Ok(())
+    append_steps(
+        [shift(IntShift::Ishl), arithmetic(IntArithmetic::Ior)],
+        code,
+    )
 }
 
 /// SB.
@@ -192,10 +216,10 @@ pub fn append_sh(alloc: Global, order: Order, code: &mut Vec<Step>) -> Result<()
 fn append_byte_value(code: &mut Vec<Step>) -> Result<(), NoMemory>
     ensures { OnOk result (code.new.items ≡ code.old.items ++ emitted.byte_value_code) }
 {
-    code.push(load(0))?;
-    code.push(push_word(255))?;
-    code.push(arithmetic(IntArithmetic::Iand))?;
-    Ok(())
+    append_steps(
+        [load(0), push_word(255), arithmetic(IntArithmetic::Iand)],
+        code,
+    )
 }
 
 fn append_half_cleared(code: &mut Vec<Step>) -> Result<(), NoMemory>
@@ -232,27 +256,31 @@ fn append_half_value(order: Order, code: &mut Vec<Step>) -> Result<(), NoMemory>
 fn append_half(code: &mut Vec<Step>) -> Result<(), NoMemory>
     ensures { OnOk result (code.new.items ≡ code.old.items ++ emitted.half_value_code Big) }
 {
-    code.push(load(0))?;
-    code.push(push_word(0xffff))?;
-    code.push(arithmetic(IntArithmetic::Iand))?;
-    Ok(())
+    append_steps(
+        [load(0), push_word(0xffff), arithmetic(IntArithmetic::Iand)],
+        code,
+    )
 }
 
 fn append_turned_half(code: &mut Vec<Step>) -> Result<(), NoMemory>
     ensures { OnOk result (code.new.items ≡ code.old.items ++ emitted.half_value_code Little) }
 {
-    code.push(load(0))?;
-    code.push(push_word(255))?;
-    code.push(arithmetic(IntArithmetic::Iand))?;
-    code.push(push_word(8))?;
-    code.push(shift(IntShift::Ishl))?;
-    code.push(load(0))?;
-    code.push(push_word(8))?;
-    code.push(shift(IntShift::Iushr))?;
-    code.push(push_word(255))?;
-    code.push(arithmetic(IntArithmetic::Iand))?;
-    code.push(arithmetic(IntArithmetic::Ior))?;
-    Ok(())
+    append_steps(
+        [
+            load(0),
+            push_word(255),
+            arithmetic(IntArithmetic::Iand),
+            push_word(8),
+            shift(IntShift::Ishl),
+            load(0),
+            push_word(8),
+            shift(IntShift::Iushr),
+            push_word(255),
+            arithmetic(IntArithmetic::Iand),
+            arithmetic(IntArithmetic::Ior),
+        ],
+        code,
+    )
 }
 
 /// SWL.
@@ -312,8 +340,7 @@ fn append_part_put(
     ensures { OnOk result (code.new.items ≡ code.old.items ++ emitted.part_put order name amount) }
 {
     append_amount(amount, code)?;
-    code.push(shift(name))?;
-    code.push(arithmetic(IntArithmetic::Ior))?;
+    append_steps([shift(name), arithmetic(IntArithmetic::Ior)], code)?;
     append_ordered(order, 3, code)?;
     append_put_word(code)
 }

@@ -8,7 +8,7 @@ use crate::extent::Extent;
 use crate::registers::is_likely;
 use code_steps::Step;
 use delay_slots::Unit;
-use guest_code::{fields, push_word, put_field};
+use guest_code::{append_steps, fields, push_word, put_field};
 use jvm_names::{BranchName, ReturnName};
 use jvm_program::{Instruction, LocalKind};
 use mips_decode::{Inst, branch_target, jump_target};
@@ -79,10 +79,15 @@ fn append_two(
         ++ emitted.two_ways span behind first second) }
 {
     if span.has(first) || span.has(second) {
-        code.push(Step::Does(Instruction::Load(LocalKind::Int, 0)))?;
-        code.push(push_word(first))?;
-        code.push(Step::Skips(BranchName::IfIcmpne, 1))?;
-        code.push(arrive(span, first))?;
+        append_steps(
+            [
+                Step::Does(Instruction::Load(LocalKind::Int, 0)),
+                push_word(first),
+                Step::Skips(BranchName::IfIcmpne, 1),
+                arrive(span, first),
+            ],
+            code,
+        )?;
         append_last(span, behind, second, code)
     } else {
         code.push(returns())?;
@@ -132,10 +137,7 @@ fn append_next(
         code.push(Step::Leaves(next))?;
         Ok(())
     } else {
-        code.push(push_word(next))?;
-        code.push(put_field(fields::PC))?;
-        code.push(returns())?;
-        Ok(())
+        append_steps([push_word(next), put_field(fields::PC), returns()], code)
     }
 }
 

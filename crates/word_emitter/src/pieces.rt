@@ -7,7 +7,7 @@ use crate::registers::{is_needed, is_written};
 use block_builder::{unit_reads, unit_writes};
 use code_steps::Step;
 use delay_slots::Unit;
-use guest_code::{Bank, append_unit, fields, get_field, put_field};
+use guest_code::{Bank, append_steps, append_unit, fields, get_field, put_field};
 use jvm_program::{Instruction, LocalKind};
 use std::alloc::Global;
 
@@ -102,8 +102,13 @@ fn append_fetched(needed: bool, r: u8, code: &mut Vec<Step>) -> Result<(), NoMem
         ++ (if needed then emitted.fetched r else [])) }
 {
     if needed {
-        code.push(get_field(fields::register_field(r)))?;
-        code.push(Step::Does(Instruction::Store(LocalKind::Int, r)))?;
+        append_steps(
+            [
+                get_field(fields::register_field(r)),
+                Step::Does(Instruction::Store(LocalKind::Int, r)),
+            ],
+            code,
+        )?;
     }
     Ok(())
 }
@@ -114,8 +119,13 @@ fn append_put_back(written: bool, r: u8, code: &mut Vec<Step>) -> Result<(), NoM
         ++ (if written then emitted.put_back r else [])) }
 {
     if written {
-        code.push(Step::Does(Instruction::Load(LocalKind::Int, r)))?;
-        code.push(put_field(fields::register_field(r)))?;
+        append_steps(
+            [
+                Step::Does(Instruction::Load(LocalKind::Int, r)),
+                put_field(fields::register_field(r)),
+            ],
+            code,
+        )?;
     }
     Ok(())
 }
