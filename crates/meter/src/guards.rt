@@ -8,7 +8,7 @@ use crate::NoMemory;
 use crate::likely::{equal_likely, sign_likely, zero_likely};
 use code_steps::Step;
 use delay_slots::Unit;
-use guest_code::{Bank, arithmetic, get_field, get_register, push_word, put_field};
+use guest_code::{Bank, append_steps, arithmetic, get_field, get_register, push_word, put_field};
 use jvm_names::{BranchName, IntArithmetic};
 use jvm_program::Instruction;
 use mips_decode::Inst;
@@ -44,9 +44,14 @@ pub fn append_guard(unit: &Unit, at: u32, code: &mut Vec<Step>) -> Result<(), No
 pub fn append_counted(turns: u32, at: u32, code: &mut Vec<Step>) -> Result<(), NoMemory>
     ensures { OnOk result (code.new.items ≡ code.old.items ++ emitted.counted_code turns at) }
 {
-    code.push(get_field(LEFT))?;
-    code.push(push_word(turns))?;
-    code.push(Step::Skips(BranchName::IfIcmpge, 4))?;
+    append_steps(
+        [
+            get_field(LEFT),
+            push_word(turns),
+            Step::Skips(BranchName::IfIcmpge, 4),
+        ],
+        code,
+    )?;
     append_spent(at, code)?;
     append_lowering(turns, code)
 }
@@ -56,21 +61,29 @@ fn append_spent(at: u32, code: &mut Vec<Step>) -> Result<(), NoMemory>
     ensures { OnOk result (code.new.items ≡ code.old.items
         ++ fault_code emitted.spent_kind at 0) }
 {
-    code.push(push_word(SPENT))?;
-    code.push(push_word(at))?;
-    code.push(push_word(0))?;
-    code.push(Step::Does(Instruction::FaultHost))?;
-    Ok(())
+    append_steps(
+        [
+            push_word(SPENT),
+            push_word(at),
+            push_word(0),
+            Step::Does(Instruction::FaultHost),
+        ],
+        code,
+    )
 }
 
 fn append_lowering(turns: u32, code: &mut Vec<Step>) -> Result<(), NoMemory>
     ensures { OnOk result (code.new.items ≡ code.old.items ++ emitted.lowering_code turns) }
 {
-    code.push(get_field(LEFT))?;
-    code.push(push_word(turns))?;
-    code.push(arithmetic(IntArithmetic::Isub))?;
-    code.push(put_field(LEFT))?;
-    Ok(())
+    append_steps(
+        [
+            get_field(LEFT),
+            push_word(turns),
+            arithmetic(IntArithmetic::Isub),
+            put_field(LEFT),
+        ],
+        code,
+    )
 }
 
 // Of a branch or jump with what stands in its delay slot. Only a likely branch asks whether it is taken.
@@ -105,8 +118,13 @@ fn append_pair_guard(
     match likely {
         None => append_counted(2, at, code),
         Some(test) => {
-            code.push(get_register(&Bank::cold(), rs))?;
-            code.push(get_register(&Bank::cold(), rt))?;
+            append_steps(
+                [
+                    get_register(&Bank::cold(), rs),
+                    get_register(&Bank::cold(), rt),
+                ],
+                code,
+            )?;
             append_by_test(test, at, code)
         }
     }
