@@ -26,12 +26,12 @@ use Rattle.word_emitter.specs.Exits.{has, follows, arrive, last_way, two_ways, b
 use Rattle.span_code.specs.declared.span_words.SpanWords.{SpanWords}
 use Rattle.span_code.specs.Pieces.{begins, piece_at}
 use Rattle.span_code.specs.Neighbours.{address, is_inner, next_such}
-use Rattle.span_code.specs.Parts.{extent, exit_of, warm_part, cold_part}
+use Rattle.span_code.specs.Parts.{extent, exit_of, warm_part, front_of, cold_part}
 use Rattle.span_code.specs.Opening.{index_code, padding}
 use Rattle.span_code.specs.Laying.{warm_before, cold_before, return_offset, targets_of, laid_step, switch, span_code}
 use Rattle.span_code.specs.Keeping.{keeps_to}
 use Rattle.span_code.proofs.StepMarks.{marks}
-use Rattle.span_code.proofs.UnitMarks.{unit-marks, warm-marks}
+use Rattle.span_code.proofs.UnitMarks.{unit-marks, front-marks, warm-marks}
 
 -- ---- codes one after the other
 
@@ -127,10 +127,15 @@ warm-keeps units leads span k =
 cold-keeps : (units : List Unit) (leads : ℕ → Bool) (span : SpanWords) (k : ℕ)
     → list_all (keeps_to (extent span)) (cold_part units leads span k) ≡ true
 cold-keeps units leads span k =
+    let unit = unit_at units k in
+    let at = address span k in
     let behind = next_such (is_inner leads span) span k in
-    keep-append (extent span) (unit_code 0 (unit_at units k) (address span k)) (exit_of units span behind k)
-    (keep-unmarked (extent span) (unit_code 0 (unit_at units k) (address span k)) (unit-marks 0 (unit_at units k) (address span k)))
-    (exit-keeps (extent span) behind (unit_at units k) (address span k))
+    let front = front_of span.metered unit at in
+    let own = unit_code 0 unit at in
+    keep-append (extent span) front (own ++ exit_of units span behind k)
+    (keep-unmarked (extent span) front (front-marks span.metered unit at))
+    (keep-append (extent span) own (exit_of units span behind k) (keep-unmarked (extent span) own (unit-marks 0 unit at))
+    (exit-keeps (extent span) behind unit at))
 
 pub parts-keep : (units : List Unit) (leads : ℕ → Bool) (span : SpanWords)
     → list_all (keeps_to (extent span)) (warm_before units leads span span.end ++ cold_before units leads span span.end) ≡ true

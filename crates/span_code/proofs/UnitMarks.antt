@@ -1,17 +1,33 @@
 -- The code of units goes to no offset, and their exits go to words of the span.
-use Rattle.std.proofs.Common.{ℕ, ◌+◌, ◌≤◌, Bool, true, false, if◌then◌else◌, List, [], ◌∷◌, ◌++◌, arith}
+use Rattle.std.proofs.Common.{ℕ, ◌+◌, ◌≤◌, Bool, true, false, if◌then◌else◌, List, [], ◌∷◌, ◌++◌, ap, arith}
 use Rattle.std.specs.List.{flat_map, range_with_len}
 use Rattle.delay_slots.specs.declared.unit.Unit.{Unit}
 use Rattle.code_steps.specs.declared.step.Step.{Step}
 use Rattle.guest_code.specs.Units.{unit_code}
-use Rattle.guest_code.proofs.Forms.{form-free}
+use Rattle.guest_code.proofs.Forms.{form-weighs, form-free}
 use Rattle.guest_code.proofs.UnitForms.{unit_form, unit-weighs}
 use Rattle.word_emitter.specs.Pieces.{is_needed, is_written, bank_of, units_code, fetched, put_back, for_registers, warm_code}
+use Rattle.meter.specs.Guards.{guard_code}
+use Rattle.meter.proofs.GuardForms.{guard_form, guard-is}
+use Rattle.span_code.specs.Parts.{front_of}
 use Rattle.span_code.proofs.StepMarks.{marks, marks-append, goes_to_offsets}
 
 pub unit-marks : (bank : ℕ) (unit : Unit) (at : ℕ) → marks (unit_code bank unit at) ≤ 0
 unit-marks bank unit at =
     omega (arith, unit-weighs goes_to_offsets bank unit at, form-free goes_to_offsets (λ p. omega arith) (unit_form unit at))
+
+guard-marks : (unit : Unit) (at : ℕ) → marks (guard_code unit at) ≤ 0
+guard-marks unit at =
+    omega (
+      arith,
+      ap marks (guard-is unit at),
+      form-weighs goes_to_offsets 0 (guard_form unit at),
+      form-free goes_to_offsets (λ p. omega arith) (guard_form unit at),
+    )
+
+pub front-marks : (metered : Bool) (unit : Unit) (at : ℕ) → marks (front_of metered unit at) ≤ 0
+front-marks true unit at = guard-marks unit at
+front-marks false unit at = omega arith
 
 -- ---- warm code
 

@@ -42,7 +42,8 @@ pub struct SpanMethod {
 }
 
 /// The method of so many words of a range of code from one on, by the units of the whole range, and flags of its leaders. `start` is the
-/// address of the range's first word. There is a word, and the words are words of the range.
+/// address of the range's first word. There is a word, and the words are words of the range. With a meter, each word stands alone, and its
+/// unit's turns are taken off before it.
 ///
 /// # Errors
 /// TooLong where the code has more than 65,535 bytes, and NoMemory.
@@ -50,6 +51,7 @@ pub fn span_method(
     alloc: Global,
     units: &[Unit],
     leads: &[bool],
+    metered: bool,
     start: u32,
     first: u32,
     words: u32,
@@ -60,19 +62,20 @@ pub fn span_method(
     requires within { first + words ≤ length units.now }
 
     ensures code { IfOk result (λ m. m.code.items
-        ≡ laying.span_code units.now (flagged leads.now) (span_of start first words)) }
+        ≡ laying.span_code units.now (flagged leads.now) (span_of metered start first words)) }
     ensures pieces { IfOk result (λ m. m.pieces.items
-        ≡ pieces.pieces_of units.now (flagged leads.now) (span_of start first words)) }
+        ≡ pieces.pieces_of units.now (flagged leads.now) (span_of metered start first words)) }
     ensures stretches { IfOk result (λ m. m.stretches.items
-        ≡ laying.stretches_of units.now (flagged leads.now) (span_of start first words)) }
+        ≡ laying.stretches_of units.now (flagged leads.now) (span_of metered start first words)) }
     ensures locals { IfOk result (λ m. m.locals ≡ locals.locals_of m.code.items) }
 
     ensures small { IfOk result (λ m. size m.code.items ≤ 65535) }
     ensures too_long { result ≡ Err TooLong
         → 65535
-        < size (laying.span_code units.now (flagged leads.now) (span_of start first words)) }
+        < size (laying.span_code units.now (flagged leads.now) (span_of metered start first words)) }
 {
     let span = SpanWords {
+        metered,
         start,
         first,
         end: first + words,

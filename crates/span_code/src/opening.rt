@@ -5,7 +5,7 @@ ghost use Rattle.span_code.specs.Opening as emitted;
 
 use crate::NoMemory;
 use code_steps::{Step, width};
-use guest_code::{arithmetic, fields, get_field, push_word};
+use guest_code::{append_steps, arithmetic, fields, get_field, push_word};
 use jvm_names::{IntArithmetic, IntShift, StackName};
 use jvm_program::Instruction;
 
@@ -57,9 +57,14 @@ fn index_bytes(first: u32) -> u32
 fn append_index(first: u32, code: &mut Vec<Step>) -> Result<(), NoMemory>
     ensures { OnOk result (code.new.items ≡ code.old.items ++ emitted.index_code first) }
 {
-    code.push(get_field(fields::PC))?;
-    code.push(push_word(first))?;
-    code.push(arithmetic(IntArithmetic::Isub))?;
+    append_steps(
+        [
+            get_field(fields::PC),
+            push_word(first),
+            arithmetic(IntArithmetic::Isub),
+        ],
+        code,
+    )?;
     append_turned(code)
 }
 
@@ -67,12 +72,16 @@ fn append_index(first: u32, code: &mut Vec<Step>) -> Result<(), NoMemory>
 fn append_turned(code: &mut Vec<Step>) -> Result<(), NoMemory>
     ensures { OnOk result (code.new.items ≡ code.old.items ++ emitted.turned_code) }
 {
-    code.push(Step::Does(Instruction::Stack(StackName::Dup)))?;
-    code.push(push_word(2))?;
-    code.push(Step::Does(Instruction::IntShift(IntShift::Iushr)))?;
-    code.push(Step::Does(Instruction::Stack(StackName::Swap)))?;
-    code.push(push_word(30))?;
-    code.push(Step::Does(Instruction::IntShift(IntShift::Ishl)))?;
-    code.push(arithmetic(IntArithmetic::Ior))?;
-    Ok(())
+    append_steps(
+        [
+            Step::Does(Instruction::Stack(StackName::Dup)),
+            push_word(2),
+            Step::Does(Instruction::IntShift(IntShift::Iushr)),
+            Step::Does(Instruction::Stack(StackName::Swap)),
+            push_word(30),
+            Step::Does(Instruction::IntShift(IntShift::Ishl)),
+            arithmetic(IntArithmetic::Ior),
+        ],
+        code,
+    )
 }

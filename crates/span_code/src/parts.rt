@@ -12,6 +12,7 @@ use block_builder::{Block, words_of};
 use code_steps::Step;
 use delay_slots::Unit;
 use guest_code::{Bank, append_unit};
+use meter::append_guard;
 use std::alloc::Global;
 use word_emitter::{Extent, append_exit, append_warm};
 
@@ -62,6 +63,7 @@ pub fn cold_part(
         ≡ parts.cold_part units.now (flagged leads.now) span k) }
 {
     let mut code = Vec::new(alloc);
+    append_front(span.metered, &units[k as usize], span.address(k), &mut code)?;
     append_unit(
         alloc,
         &Bank::cold(),
@@ -71,6 +73,18 @@ pub fn cold_part(
     )?;
     append_exit_of(units, span, next_inner(leads, span, k), k, &mut code)?;
     Ok(code)
+}
+
+// With a meter, the guard of a unit stands in front of its code.
+fn append_front(metered: bool, unit: &Unit, at: u32, code: &mut Vec<Step>) -> Result<(), NoMemory>
+    ensures { OnOk result (code.new.items ≡ code.old.items
+        ++ parts.front_of metered unit.now at) }
+{
+    if metered {
+        append_guard(unit, at, code)
+    } else {
+        Ok(())
+    }
 }
 
 /// The addresses of the span.

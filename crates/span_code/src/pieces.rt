@@ -8,12 +8,12 @@ use crate::span_words::SpanWords;
 use block_builder::{Block, ends, words_from, words_of};
 use delay_slots::Unit;
 
-/// Whether a piece begins with a word: it is the span's first word or a leader.
+/// Whether a piece begins with a word: it is the span's first word or a leader, and the span has no meter.
 pub fn begins(leads: &[bool], span: SpanWords, k: u32) -> bool
     requires { k < length leads.now }
     ensures { result ≡ pieces.begins (flagged leads.now) span k }
 {
-    k == span.first || leads[k as usize]
+    !span.metered && (k == span.first || leads[k as usize])
 }
 
 /// The piece that begins with a word of the span.

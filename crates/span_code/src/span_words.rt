@@ -4,6 +4,8 @@ ghost use Rattle.span_code.specs.Neighbours as neighbours;
 /// The words of a span, as words of its range: they are counted from the range's first word on, which is word 0.
 #[derive(Clone, Copy)]
 pub struct SpanWords {
+    /// Whether each unit's turns are taken off a meter before it.
+    pub metered: bool,
     /// The address of the range's first word.
     pub start: u32,
     /// The span's first word.
