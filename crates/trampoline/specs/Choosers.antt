@@ -1,9 +1,9 @@
 -- The methods that choose by the address at which the guest stands, which is in field pc. Each is the code of a whole method of no
 -- arguments. Addresses are compared as signed ints, so code stands below address 80000000 (hexadecimal).
-use Rattle.std.specs.Prelude.{ℕ, List, [], ◌∷◌, ◌++◌}
+use Rattle.std.specs.Prelude.{ℕ, Bool, true, false, List, [], ◌∷◌, ◌++◌}
 use Rattle.mips_decode.specs.Effect.{fetch_fault, pc_align_fault}
 use Rattle.delay_slots.specs.Places.{Address}
-use Rattle.jvm_names.specs.declared.branch_name.BranchName.TheVariants.{Ifne, IfIcmplt, Goto}
+use Rattle.jvm_names.specs.declared.branch_name.BranchName.TheVariants.{Ifne, IfIcmplt, IfIcmpge, Goto}
 use Rattle.jvm_names.specs.declared.int_arithmetic.IntArithmetic.TheVariants.{Iand}
 use Rattle.jvm_program.specs.declared.local_kind.LocalKind.TheVariants as local_kinds
 use Rattle.jvm_program.specs.declared.instruction.Instruction.TheVariants as instructions
@@ -13,6 +13,7 @@ use Rattle.code_steps.specs.declared.step.Step.{Step}
 use Rattle.code_steps.specs.declared.step.Step.TheVariants.{Does, Skips, Leaves}
 use Rattle.guest_layout.specs.FieldNumbers.{pc_field}
 use Rattle.guest_code.specs.Access.{push_word, get_field, arithmetic}
+use Rattle.meter.specs.Guards.{left_field, spent_kind}
 use Rattle.trampoline.specs.declared.start.Start.{Start}
 use Rattle.trampoline.specs.Trees.{reached_code, first_of, tree}
 
@@ -65,3 +66,18 @@ missing_code =
     address_code ++ unaligned_code 2 ++ push_word fetch_fault ∷ Skips Goto 1
     ∷ push_word pc_align_fault
     ∷ load_address ∷ load_address ∷ Does FaultHost ∷ returns ∷ []
+
+-- where no turn is left on the meter, the run ends in the fault of a spent meter, at the guest's address
+abbrev pub spent_code : List Step
+spent_code =
+    get_field left_field ∷ push_word 1 ∷ Skips IfIcmpge 4
+    ∷ push_word spent_kind ∷ get_field pc_field ∷ push_word 0 ∷ Does FaultHost ∷ []
+
+-- The same method of a program with a meter. The turn that faults has to be left, but need not be taken off, since the run ends.
+abbrev pub metered_missing_code : List Step
+metered_missing_code = spent_code ++ missing_code
+
+-- by whether the program has a meter
+abbrev pub missing_method : Bool → List Step
+missing_method true = metered_missing_code
+missing_method false = missing_code

@@ -7,9 +7,10 @@ ghost use Rattle.trampoline.specs.Trees.{tree, first_of};
 use crate::start::Start;
 use crate::trees::{NoMemory, append_reached, append_tree, first_of};
 use code_steps::Step;
-use guest_code::{arithmetic, fields, get_field, push_word};
+use guest_code::{append_steps, arithmetic, fields, get_field, push_word};
 use jvm_names::{BranchName, IntArithmetic, ReturnName};
 use jvm_program::{Instruction, LocalKind};
+use meter::{LEFT, SPENT};
 use mips_decode::fault_kinds::{FETCH, PC_ALIGN};
 
 /// Appends the code of the method by which a class chooses among its methods, which take no arguments, as the method itself does. As long
@@ -62,23 +63,56 @@ pub fn append_main_chooser(
 }
 
 /// Appends the code of the method for a guest that stands outside all code, which takes no arguments. The run ends in the fault of an
-/// unaligned pc (2) where field pc is no multiple of 4, and else in that of a fetch (1), with pc as the fault's pc and value.
+/// unaligned pc (2) where field pc is no multiple of 4, and else in that of a fetch (1), with pc as the fault's pc and value. Where the program
+/// has a meter on which no turn is left, it ends in the fault of a spent meter instead, with pc as the fault's pc.
 ///
 /// # Errors
 /// Want of memory for the code.
-pub fn append_missing(code: &mut Vec<Step>) -> Result<(), NoMemory>
+pub fn append_missing(metered: bool, code: &mut Vec<Step>) -> Result<(), NoMemory>
+    ensures { OnOk result (code.new.items ≡ code.old.items ++ emitted.missing_method metered) }
+{
+    if metered {
+        append_spent(code)?;
+    }
+    append_stray(code)
+}
+
+// Where no turn is left on the meter, the run ends in the fault of a spent meter.
+fn append_spent(code: &mut Vec<Step>) -> Result<(), NoMemory>
+    ensures { OnOk result (code.new.items ≡ code.old.items ++ emitted.spent_code) }
+{
+    append_steps(
+        [
+            get_field(LEFT),
+            push_word(1),
+            Step::Skips(BranchName::IfIcmpge, 4),
+            push_word(SPENT),
+            get_field(fields::PC),
+            push_word(0),
+            Step::Does(Instruction::FaultHost),
+        ],
+        code,
+    )
+}
+
+// The run ends in the fault of a guest that stands outside all code.
+fn append_stray(code: &mut Vec<Step>) -> Result<(), NoMemory>
     ensures { OnOk result (code.new.items ≡ code.old.items ++ emitted.missing_code) }
 {
     append_address(code)?;
     append_unaligned(2, code)?;
-    code.push(push_word(FETCH))?;
-    code.push(Step::Skips(BranchName::Goto, 1))?;
-    code.push(push_word(PC_ALIGN))?;
-    code.push(load_address())?;
-    code.push(load_address())?;
-    code.push(Step::Does(Instruction::FaultHost))?;
-    code.push(returns())?;
-    Ok(())
+    append_steps(
+        [
+            push_word(FETCH),
+            Step::Skips(BranchName::Goto, 1),
+            push_word(PC_ALIGN),
+            load_address(),
+            load_address(),
+            Step::Does(Instruction::FaultHost),
+            returns(),
+        ],
+        code,
+    )
 }
 
 fn load_address() -> Step
@@ -97,30 +131,42 @@ fn returns() -> Step
 fn append_address(code: &mut Vec<Step>) -> Result<(), NoMemory>
     ensures { OnOk result (code.new.items ≡ code.old.items ++ emitted.address_code) }
 {
-    code.push(get_field(fields::PC))?;
-    code.push(Step::Does(Instruction::Store(LocalKind::Int, 0)))?;
-    Ok(())
+    append_steps(
+        [
+            get_field(fields::PC),
+            Step::Does(Instruction::Store(LocalKind::Int, 0)),
+        ],
+        code,
+    )
 }
 
 // The address is no multiple of 4: that many of the following steps are passed over.
 fn append_unaligned(over: u32, code: &mut Vec<Step>) -> Result<(), NoMemory>
     ensures { OnOk result (code.new.items ≡ code.old.items ++ emitted.unaligned_code over) }
 {
-    code.push(load_address())?;
-    code.push(push_word(3))?;
-    code.push(arithmetic(IntArithmetic::Iand))?;
-    code.push(Step::Skips(BranchName::Ifne, over))?;
-    Ok(())
+    append_steps(
+        [
+            load_address(),
+            push_word(3),
+            arithmetic(IntArithmetic::Iand),
+            Step::Skips(BranchName::Ifne, over),
+        ],
+        code,
+    )
 }
 
 // The address is below another one: that many of the following steps are passed over.
 fn append_below(bound: u32, over: u32, code: &mut Vec<Step>) -> Result<(), NoMemory>
     ensures { OnOk result (code.new.items ≡ code.old.items ++ emitted.below_code bound over) }
 {
-    code.push(load_address())?;
-    code.push(push_word(bound))?;
-    code.push(Step::Skips(BranchName::IfIcmplt, over))?;
-    Ok(())
+    append_steps(
+        [
+            load_address(),
+            push_word(bound),
+            Step::Skips(BranchName::IfIcmplt, over),
+        ],
+        code,
+    )
 }
 
 // The method returns where the address is not at a word from `first` to before `end`.
@@ -141,9 +187,10 @@ fn append_strayed(starts: &[Start], missing: u32, code: &mut Vec<Step>) -> Resul
 {
     append_unaligned(3, code)?;
     append_reached(first_of(starts), 2, code)?;
-    code.push(Step::Does(Instruction::Call(missing)))?;
-    code.push(Step::Leaves(0))?;
-    Ok(())
+    append_steps(
+        [Step::Does(Instruction::Call(missing)), Step::Leaves(0)],
+        code,
+    )
 }
 
 fn append_chosen(starts: &[Start], code: &mut Vec<Step>) -> Result<(), NoMemory>

@@ -4,7 +4,7 @@ ghost use Rattle.trampoline.specs.Trees as emitted;
 
 use crate::start::Start;
 use code_steps::Step;
-use guest_code::push_word;
+use guest_code::{append_steps, push_word};
 use jvm_names::BranchName;
 use jvm_program::{Instruction, LocalKind};
 use std::alloc::AllocError;
@@ -16,10 +16,14 @@ pub type NoMemory = AllocError;
 pub fn append_reached(first: u32, over: u32, code: &mut Vec<Step>) -> Result<(), NoMemory>
     ensures { OnOk result (code.new.items ≡ code.old.items ++ emitted.reached_code first over) }
 {
-    code.push(Step::Does(Instruction::Load(LocalKind::Int, 0)))?;
-    code.push(push_word(first))?;
-    code.push(Step::Skips(BranchName::IfIcmpge, over))?;
-    Ok(())
+    append_steps(
+        [
+            Step::Does(Instruction::Load(LocalKind::Int, 0)),
+            push_word(first),
+            Step::Skips(BranchName::IfIcmpge, over),
+        ],
+        code,
+    )
 }
 
 /// The tree of the starts, over the address in local variable 0: the method of the last start that is not above it is called, or that of
