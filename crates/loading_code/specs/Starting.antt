@@ -1,5 +1,6 @@
--- The method with which the program begins: it makes the memory, makes the loader's call, and then chooses for ever.
-use Rattle.std.specs.Prelude.{ℕ, List, [], ◌∷◌, ◌++◌, map}
+-- The method with which the program begins: it makes the memory, makes the loader's call, and then chooses for ever. In a program with a meter
+-- the turns that the guest may make are put on it before the call, which is the first of them.
+use Rattle.std.specs.Prelude.{ℕ, List, [], ◌∷◌, ◌++◌, map, Option, Some, None}
 use Rattle.std.specs.List.{flat_map}
 use Rattle.nv_events.specs.declared.call.Call.{Call}
 use Rattle.mips_decode.specs.State.{argument_page, stack_start}
@@ -10,7 +11,9 @@ use Rattle.jvm_program.specs.declared.instruction.Instruction.TheVariants as ins
 use Rattle.code_steps.specs.declared.step.Step.{Step}
 use Rattle.code_steps.specs.declared.step.Step.TheVariants.{Does}
 use Rattle.guest_layout.specs.FieldNumbers.{register_field, pc_field, readable_field, writable_field, page_count}
+use Rattle.delay_slots.specs.Places.{Address}
 use Rattle.guest_code.specs.Access.{push_word, put_field}
+use Rattle.meter.specs.Guards.{left_field, counted_code}
 use Rattle.loading_code.specs.declared.beginning.Beginning.{Beginning}
 use Rattle.code_steps.specs.Returning.{returns}
 use Rattle.loading_code.specs.Parts.{call, readable_table, writable_table}
@@ -35,6 +38,13 @@ abbrev pub memory_code : List ℕ → ℕ → ℕ → List ℕ → List Step
 memory_code page_texts class pages fills =
     table_code readable_field ++ table_code writable_field ++ page_texts_code class pages page_texts
     ++ map call fills
+
+-- ---- the meter
+
+-- so many turns are put on it, and the first one is taken off, or the run ends at the entry
+abbrev pub meter_code : Option ℕ → Address → List Step
+meter_code None entry = []
+meter_code (Some turns) entry = push_word turns ∷ put_field left_field ∷ counted_code 1 entry
 
 -- ---- the loader's call
 
@@ -70,6 +80,8 @@ begun_code b choose = asked_code (beginning_call b) ++ answered_code ++ entered_
 
 -- ---- the method
 
-abbrev pub run_code : Beginning → List ℕ → ℕ → ℕ → List ℕ → ℕ → List Step
-run_code b page_texts class pages fills choose =
-    memory_code page_texts class pages fills ++ begun_code b choose
+-- in a program with a meter so many turns are put on it
+abbrev pub run_code : Option ℕ → Beginning → List ℕ → ℕ → ℕ → List ℕ → ℕ → List Step
+run_code meter b page_texts class pages fills choose =
+    memory_code page_texts class pages fills
+    ++ (meter_code meter b.entry ++ begun_code b choose)

@@ -6,7 +6,7 @@ use crate::NoMemory;
 use crate::page_slot::PageSlot;
 use crate::parts::{call, readable_table, returns};
 use code_steps::Step;
-use guest_code::push_word;
+use guest_code::{append_steps, push_word};
 use jvm_names::ArrayName;
 use jvm_program::{Constant, Instruction};
 
@@ -55,12 +55,16 @@ fn append_page(
     ensures { OnOk result (code.new.items ≡ code.old.items
         ++ emitted.page_code class words filled.now) }
 {
-    code.push(readable_table())?;
-    code.push(push_word(filled.page))?;
-    code.push(Step::Does(Instruction::Array(ArrayName::Aaload)))?;
-    code.push(push_text(class, filled.slot))?;
-    code.push(call(words))?;
-    Ok(())
+    append_steps(
+        [
+            readable_table(),
+            push_word(filled.page),
+            Step::Does(Instruction::Array(ArrayName::Aaload)),
+            push_text(class, filled.slot),
+            call(words),
+        ],
+        code,
+    )
 }
 
 /// The text in a slot of a class's pool is pushed.

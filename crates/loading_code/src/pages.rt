@@ -8,7 +8,7 @@ use crate::parts::{
     writable_table,
 };
 use code_steps::Step;
-use guest_code::{arithmetic, push_word};
+use guest_code::{append_steps, arithmetic, push_word};
 use jvm_names::{ArrayName, BranchName, IntArithmetic};
 use jvm_program::{ArrayKind, Instruction};
 
@@ -39,9 +39,7 @@ pub fn append_pages(code: &mut Vec<Step>) -> Result<(), NoMemory>
 fn append_begun(code: &mut Vec<Step>) -> Result<(), NoMemory>
     ensures { OnOk result (code.new.items ≡ code.old.items ++ emitted.begun_code) }
 {
-    code.push(push_word(0))?;
-    code.push(store(1))?;
-    Ok(())
+    append_steps([push_word(0), store(1)], code)
 }
 
 fn append_runs_body(code: &mut Vec<Step>) -> Result<(), NoMemory>
@@ -64,15 +62,18 @@ fn append_run(code: &mut Vec<Step>) -> Result<(), NoMemory>
 fn append_first_page(code: &mut Vec<Step>) -> Result<(), NoMemory>
     ensures { OnOk result (code.new.items ≡ code.old.items ++ emitted.first_page_code) }
 {
-    code.push(load(2))?;
-    code.push(push_word(127))?;
-    code.push(arithmetic(IntArithmetic::Iand))?;
-    code.push(push_word(12))?;
-    code.push(shift_left())?;
+    append_steps(
+        [
+            load(2),
+            push_word(127),
+            arithmetic(IntArithmetic::Iand),
+            push_word(12),
+            shift_left(),
+        ],
+        code,
+    )?;
     append_next_character(0, 1, code)?;
-    code.push(arithmetic(IntArithmetic::Iadd))?;
-    code.push(store(3))?;
-    Ok(())
+    append_steps([arithmetic(IntArithmetic::Iadd), store(3)], code)
 }
 
 fn append_last_page(code: &mut Vec<Step>) -> Result<(), NoMemory>
@@ -80,9 +81,7 @@ fn append_last_page(code: &mut Vec<Step>) -> Result<(), NoMemory>
 {
     code.push(load(3))?;
     append_next_character(0, 1, code)?;
-    code.push(arithmetic(IntArithmetic::Iadd))?;
-    code.push(store(4))?;
-    Ok(())
+    append_steps([arithmetic(IntArithmetic::Iadd), store(4)], code)
 }
 
 // A run's pages, and the way to the next run.
@@ -100,44 +99,61 @@ fn append_run_pages(code: &mut Vec<Step>) -> Result<(), NoMemory>
 fn append_made(code: &mut Vec<Step>) -> Result<(), NoMemory>
     ensures { OnOk result (code.new.items ≡ code.old.items ++ emitted.made_code) }
 {
-    code.push(readable_table())?;
-    code.push(load(3))?;
-    code.push(push_word(1024))?;
-    code.push(Step::Does(Instruction::NewArray(ArrayKind::Ints)))?;
-    code.push(Step::Does(Instruction::Array(ArrayName::Aastore)))?;
-    Ok(())
+    append_steps(
+        [
+            readable_table(),
+            load(3),
+            push_word(1024),
+            Step::Does(Instruction::NewArray(ArrayKind::Ints)),
+            Step::Does(Instruction::Array(ArrayName::Aastore)),
+        ],
+        code,
+    )
 }
 
 // The page can be written too where the run says so.
 fn append_writable(code: &mut Vec<Step>) -> Result<(), NoMemory>
     ensures { OnOk result (code.new.items ≡ code.old.items ++ emitted.writable_code) }
 {
-    code.push(load(2))?;
-    code.push(push_word(128))?;
-    code.push(Step::Skips(BranchName::IfIcmplt, 6))?;
+    append_steps(
+        [
+            load(2),
+            push_word(128),
+            Step::Skips(BranchName::IfIcmplt, 6),
+        ],
+        code,
+    )?;
     append_shared(code)
 }
 
 fn append_shared(code: &mut Vec<Step>) -> Result<(), NoMemory>
     ensures { OnOk result (code.new.items ≡ code.old.items ++ emitted.shared_code) }
 {
-    code.push(writable_table())?;
-    code.push(load(3))?;
-    code.push(readable_table())?;
-    code.push(load(3))?;
-    code.push(Step::Does(Instruction::Array(ArrayName::Aaload)))?;
-    code.push(Step::Does(Instruction::Array(ArrayName::Aastore)))?;
-    Ok(())
+    append_steps(
+        [
+            writable_table(),
+            load(3),
+            readable_table(),
+            load(3),
+            Step::Does(Instruction::Array(ArrayName::Aaload)),
+            Step::Does(Instruction::Array(ArrayName::Aastore)),
+        ],
+        code,
+    )
 }
 
 // The run's next page, unless the last one was made.
 fn append_next(target: u32, code: &mut Vec<Step>) -> Result<(), NoMemory>
     ensures { OnOk result (code.new.items ≡ code.old.items ++ emitted.next_code target) }
 {
-    code.push(Step::Does(Instruction::Increment(3, 1)))?;
-    code.push(load(3))?;
-    code.push(load(4))?;
-    code.push(Step::Skips(BranchName::IfIcmpgt, 1))?;
-    code.push(Step::Leaves(target))?;
-    Ok(())
+    append_steps(
+        [
+            Step::Does(Instruction::Increment(3, 1)),
+            load(3),
+            load(4),
+            Step::Skips(BranchName::IfIcmpgt, 1),
+            Step::Leaves(target),
+        ],
+        code,
+    )
 }

@@ -5,6 +5,7 @@ ghost use Rattle.loading_code.specs.Parts as emitted;
 
 use crate::NoMemory;
 use code_steps::Step;
+use guest_code::append_steps;
 use guest_code::fields::{READABLE, WRITABLE};
 use jvm_names::{BranchName, IntShift, ReturnName};
 use jvm_program::{Instruction, Kind, LocalKind};
@@ -67,20 +68,28 @@ pub fn writable_table() -> Step
 pub fn append_next_character(text: u8, place: u8, code: &mut Vec<Step>) -> Result<(), NoMemory>
     ensures { OnOk result (code.new.items ≡ code.old.items ++ emitted.next_character text place) }
 {
-    code.push(load_reference(text))?;
-    code.push(load(place))?;
-    code.push(Step::Does(Instruction::CharAt))?;
-    code.push(Step::Does(Instruction::Increment(place, 1)))?;
-    Ok(())
+    append_steps(
+        [
+            load_reference(text),
+            load(place),
+            Step::Does(Instruction::CharAt),
+            Step::Does(Instruction::Increment(place, 1)),
+        ],
+        code,
+    )
 }
 
 /// The place is behind the text: that many of the following steps are passed over.
 pub fn append_ended(text: u8, place: u8, over: u32, code: &mut Vec<Step>) -> Result<(), NoMemory>
     ensures { OnOk result (code.new.items ≡ code.old.items ++ emitted.ended_code text place over) }
 {
-    code.push(load(place))?;
-    code.push(load_reference(text))?;
-    code.push(Step::Does(Instruction::Length))?;
-    code.push(Step::Skips(BranchName::IfIcmpge, over))?;
-    Ok(())
+    append_steps(
+        [
+            load(place),
+            load_reference(text),
+            Step::Does(Instruction::Length),
+            Step::Skips(BranchName::IfIcmpge, over),
+        ],
+        code,
+    )
 }

@@ -10,8 +10,9 @@ use crate::filling::push_text;
 use crate::parts::{call, readable_table, returns, writable_table};
 use code_steps::Step;
 use guest_code::fields::{PC, READABLE, WRITABLE, register_field};
-use guest_code::{push_word, put_field};
+use guest_code::{append_steps, push_word, put_field};
 use jvm_program::{ArrayKind, Instruction, Kind};
+use meter::{LEFT, append_counted};
 use mips_decode::order_number;
 use nv_events::Call;
 
@@ -24,7 +25,8 @@ const STACK_START: u32 = 0x7fff_eff0;
 
 /// Appends the code of the method of no arguments with which the program begins. It makes the tables of pages, gives each text of
 /// `page_texts` to the method `pages`, which `append_pages` makes, and calls the methods `fills`, which put the words into the pages. Then
-/// it makes the loader's call, sets the registers and field pc, and calls the method `choose`.
+/// it makes the loader's call, sets the registers and field pc, and calls the method `choose`. In a program with a meter the turns of `meter` are
+/// put on it before the call, which takes one off; where there is none the run ends in the fault of a spent meter.
 ///
 /// `page_texts` are slots in the pool of the class that has the number `class`. Methods go by their numbers in the program.
 ///
@@ -32,6 +34,7 @@ const STACK_START: u32 = 0x7fff_eff0;
 /// Want of memory for the code.
 pub fn append_run(
     beginning: &Beginning,
+    meter: Option<u32>,
     page_texts: &[u16],
     class: u16,
     pages: u32,
@@ -40,9 +43,10 @@ pub fn append_run(
     code: &mut Vec<Step>,
 ) -> Result<(), NoMemory>
     ensures { OnOk result (code.new.items ≡ code.old.items
-        ++ emitted.run_code beginning.now page_texts.now class pages fills.now choose) }
+        ++ emitted.run_code meter beginning.now page_texts.now class pages fills.now choose) }
 {
     append_memory(page_texts, class, pages, fills, code)?;
+    append_meter(meter, beginning.entry, code)?;
     append_begun(beginning, choose, code)
 }
 
@@ -67,10 +71,14 @@ fn append_memory(
 fn append_table(field: u32, code: &mut Vec<Step>) -> Result<(), NoMemory>
     ensures { OnOk result (code.new.items ≡ code.old.items ++ emitted.table_code field) }
 {
-    code.push(push_word(PAGES))?;
-    code.push(Step::Does(Instruction::NewArray(ArrayKind::Pages)))?;
-    code.push(Step::Does(Instruction::Put(field, Kind::Pages)))?;
-    Ok(())
+    append_steps(
+        [
+            push_word(PAGES),
+            Step::Does(Instruction::NewArray(ArrayKind::Pages)),
+            Step::Does(Instruction::Put(field, Kind::Pages)),
+        ],
+        code,
+    )
 }
 
 fn append_page_texts(
@@ -93,9 +101,7 @@ fn append_page_text(class: u16, pages: u32, slot: u16, code: &mut Vec<Step>) -> 
     ensures { OnOk result (code.new.items ≡ code.old.items
         ++ emitted.page_text_code class pages slot) }
 {
-    code.push(push_text(class, slot))?;
-    code.push(call(pages))?;
-    Ok(())
+    append_steps([push_text(class, slot), call(pages)], code)
 }
 
 fn append_fills(fills: &[u32], code: &mut Vec<Step>) -> Result<(), NoMemory>
@@ -105,6 +111,19 @@ fn append_fills(fills: &[u32], code: &mut Vec<Step>) -> Result<(), NoMemory>
         code.push(call(*method))?;
     }
     Ok(())
+}
+
+// So many turns are put on the meter, and the first one is taken off.
+fn append_meter(meter: Option<u32>, entry: u32, code: &mut Vec<Step>) -> Result<(), NoMemory>
+    ensures { OnOk result (code.new.items ≡ code.old.items ++ emitted.meter_code meter entry) }
+{
+    match meter {
+        None => Ok(()),
+        Some(turns) => {
+            append_steps([push_word(turns), put_field(LEFT)], code)?;
+            append_counted(1, entry, code)
+        }
+    }
 }
 
 // The loader's call, and what follows it.
@@ -133,36 +152,43 @@ fn beginning_call(beginning: &Beginning) -> Call
 fn append_asked(asked: &Call, code: &mut Vec<Step>) -> Result<(), NoMemory>
     ensures { OnOk result (code.new.items ≡ code.old.items ++ emitted.asked_code asked.now) }
 {
-    code.push(readable_table())?;
-    code.push(writable_table())?;
-    code.push(push_word(asked.number))?;
-    code.push(push_word(asked.a0))?;
-    code.push(push_word(asked.a1))?;
-    code.push(push_word(asked.a2))?;
-    code.push(push_word(asked.a3))?;
-    code.push(Step::Does(Instruction::CallHost))?;
-    Ok(())
+    append_steps(
+        [
+            readable_table(),
+            writable_table(),
+            push_word(asked.number),
+            push_word(asked.a0),
+            push_word(asked.a1),
+            push_word(asked.a2),
+            push_word(asked.a3),
+            Step::Does(Instruction::CallHost),
+        ],
+        code,
+    )
 }
 
 // The number of arguments becomes r4, r5 is where they stand, and r29 is where the stack begins.
 fn append_answered(code: &mut Vec<Step>) -> Result<(), NoMemory>
     ensures { OnOk result (code.new.items ≡ code.old.items ++ emitted.answered_code) }
 {
-    code.push(put_field(register_field(4)))?;
-    code.push(push_word(ARGUMENT_PAGE))?;
-    code.push(put_field(register_field(5)))?;
-    code.push(push_word(STACK_START))?;
-    code.push(put_field(register_field(29)))?;
-    Ok(())
+    append_steps(
+        [
+            put_field(register_field(4)),
+            push_word(ARGUMENT_PAGE),
+            put_field(register_field(5)),
+            push_word(STACK_START),
+            put_field(register_field(29)),
+        ],
+        code,
+    )
 }
 
 // The guest stands at the entry.
 fn append_entered(entry: u32, choose: u32, code: &mut Vec<Step>) -> Result<(), NoMemory>
     ensures { OnOk result (code.new.items ≡ code.old.items ++ emitted.entered_code entry choose) }
 {
-    code.push(push_word(entry))?;
-    code.push(put_field(PC))?;
-    code.push(call(choose))?;
-    code.push(returns())?;
-    Ok(())
+    append_steps(
+        [push_word(entry), put_field(PC), call(choose), returns()],
+        code,
+    )
 }

@@ -7,7 +7,7 @@ use crate::parts::{
     append_ended, append_next_character, load, load_reference, returns, shift_left, store,
 };
 use code_steps::Step;
-use guest_code::{arithmetic, push_word};
+use guest_code::{append_steps, arithmetic, push_word};
 use jvm_names::{ArrayName, BranchName, IntArithmetic};
 use jvm_program::Instruction;
 
@@ -37,9 +37,10 @@ pub fn append_words(code: &mut Vec<Step>) -> Result<(), NoMemory>
 fn append_absent(over: u32, code: &mut Vec<Step>) -> Result<(), NoMemory>
     ensures { OnOk result (code.new.items ≡ code.old.items ++ emitted.absent_code over) }
 {
-    code.push(load_reference(0))?;
-    code.push(Step::Skips(BranchName::Ifnull, over))?;
-    Ok(())
+    append_steps(
+        [load_reference(0), Step::Skips(BranchName::Ifnull, over)],
+        code,
+    )
 }
 
 fn append_loop(code: &mut Vec<Step>) -> Result<(), NoMemory>
@@ -53,18 +54,13 @@ fn append_loop(code: &mut Vec<Step>) -> Result<(), NoMemory>
 fn append_begun(code: &mut Vec<Step>) -> Result<(), NoMemory>
     ensures { OnOk result (code.new.items ≡ code.old.items ++ emitted.begun_code) }
 {
-    code.push(push_word(0))?;
-    code.push(store(2))?;
-    code.push(push_word(0))?;
-    code.push(store(3))?;
-    Ok(())
+    append_steps([push_word(0), store(2), push_word(0), store(3)], code)
 }
 
 fn append_words_body(code: &mut Vec<Step>) -> Result<(), NoMemory>
     ensures { OnOk result (code.new.items ≡ code.old.items ++ emitted.words_body) }
 {
-    code.push(load_reference(0))?;
-    code.push(load(2))?;
+    append_steps([load_reference(0), load(2)], code)?;
     append_word(code)?;
     append_put(code)
 }
@@ -84,8 +80,7 @@ fn append_word(code: &mut Vec<Step>) -> Result<(), NoMemory>
 fn append_joined(code: &mut Vec<Step>) -> Result<(), NoMemory>
     ensures { OnOk result (code.new.items ≡ code.old.items ++ emitted.joined_code) }
 {
-    code.push(push_word(7))?;
-    code.push(shift_left())?;
+    append_steps([push_word(7), shift_left()], code)?;
     append_next_character(1, 3, code)?;
     code.push(arithmetic(IntArithmetic::Iadd))?;
     Ok(())
@@ -94,8 +89,12 @@ fn append_joined(code: &mut Vec<Step>) -> Result<(), NoMemory>
 fn append_put(code: &mut Vec<Step>) -> Result<(), NoMemory>
     ensures { OnOk result (code.new.items ≡ code.old.items ++ emitted.put_code) }
 {
-    code.push(Step::Does(Instruction::Array(ArrayName::Iastore)))?;
-    code.push(Step::Does(Instruction::Increment(2, 1)))?;
-    code.push(Step::Leaves(WORDS_OFFSET))?;
-    Ok(())
+    append_steps(
+        [
+            Step::Does(Instruction::Array(ArrayName::Iastore)),
+            Step::Does(Instruction::Increment(2, 1)),
+            Step::Leaves(WORDS_OFFSET),
+        ],
+        code,
+    )
 }
