@@ -1,5 +1,5 @@
 -- What guards count, and which fields they write.
-use Rattle.std.proofs.Common.{◌≡◌, ◌≢◌, ℕ, ◌+◌, ◌≤◌, ◌==◌, false, if◌then◌else◌, List, [], ◌∷◌, Option, Some, None, refl, ap, sym, arith}
+use Rattle.std.proofs.Common.{◌≡◌, ◌≢◌, ℕ, ◌+◌, ◌≤◌, if◌then◌else◌, List, [], ◌∷◌, Option, Some, None, refl, ap, sym, arith}
 use Rattle.std.proofs.lemmas.Bool.{ne_eqb}
 use Rattle.nv_words.specs.declared.order.Order.{Order}
 use Rattle.mips_decode.specs.Branches.{equal_likely, zero_likely, sign_likely}
@@ -19,7 +19,7 @@ use Rattle.guest_code.specs.Access.{get_register}
 use Rattle.guest_code.specs.Branching.{equal_test, zero_test, sign_test}
 use Rattle.guest_code.proofs.Forms.{read-most}
 use Rattle.code_paths.specs.Classes.{reads, chars, switches, entries, puts}
-use Rattle.code_paths.specs.Paths.{step_weight}
+use Rattle.code_paths.specs.Paths.{step_weight, weigh}
 use Rattle.guest_follows.specs.Sites.{called_weight, whole_weight}
 use Rattle.meter.specs.Guards.{left_field, counted_code, likely_guard, likely_test, branch_guard, transfer_guard, guard_code}
 use Rattle.meter_laws.specs.Laws.{CountsNothing}
@@ -75,10 +75,19 @@ guard-counts order unit at = record {
       unit-none order (entries is_span) (record { pushes = λ n. refl; loads = λ r. refl; gets = λ f. refl; counted = λ turns at. refl; likely = λ test at. refl }) unit at;
 }
 
+-- the meter is no other field
+puts-none : (f : ℕ) → f ≢ left_field → puts f (instructions.Put left_field kinds.Int) ≡ 0
+puts-none f other = ap (λ b. if b then 1 else 0) (ne_eqb left_field f (λ same. other (sym same)))
+
+pub counted-counts : (turns at : ℕ) → CountsNothing (λ weight. weigh weight (counted_code turns at))
+counted-counts turns at = record { no_reads = refl; no_chars = refl; no_switches = refl; no_entries = λ is_span. refl }
+
+pub counted-writes : (turns at f : ℕ) → f ≢ left_field → weigh (puts f) (counted_code turns at) ≡ 0
+counted-writes turns at f other = let none = puts-none f other in omega (arith, none)
+
 pub guard-writes : (order : Order) (unit : Unit) (at f : ℕ) → f ≢ left_field → whole_weight order (guard_code unit at) (puts f) ≡ 0
 guard-writes order unit at f other =
-    let apart : (left_field == f) ≡ false = ne_eqb left_field f (λ same. other (sym same)) in
-    let none : puts f (instructions.Put left_field kinds.Int) ≡ 0 = ap (λ b. if b then 1 else 0) apart in
+    let none = puts-none f other in
     unit-none order (puts f)
     (record {
       pushes = λ n. refl;

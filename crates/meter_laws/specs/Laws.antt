@@ -14,6 +14,7 @@ use Rattle.code_steps.specs.Outcomes.{outcome, ended, stopped}
 use Rattle.code_steps.specs.Placing.{LiesAt}
 use Rattle.code_steps.specs.Widths.{size}
 use Rattle.code_paths.specs.Classes.{reads, chars, switches, entries, puts}
+use Rattle.code_paths.specs.Paths.{weigh}
 use Rattle.lawful_units.specs.Lawful.{KnownByUnit}
 use Rattle.guest_follows.specs.Holding.{HoldsOn}
 use Rattle.guest_follows.specs.Sites.{Site, stands, whole_weight}
@@ -101,3 +102,14 @@ GuardsWriteTheMeter =
     (order : Order) (unit : Unit) (at : Address) (f : ℕ)
     → f ≢ left_field
     → whole_weight order (guard_code unit at) (puts f) ≡ 0
+
+-- so is it for code that takes off a number of turns that is known
+abbrev pub CountedCodeCountsNothing : Type 0
+CountedCodeCountsNothing =
+    (turns : ℕ) (at : Address) → CountsNothing (λ weight. weigh weight (counted_code turns at))
+
+abbrev pub CountedCodeWritesTheMeter : Type 0
+CountedCodeWritesTheMeter =
+    (turns : ℕ) (at : Address) (f : ℕ)
+    → f ≢ left_field
+    → weigh (puts f) (counted_code turns at) ≡ 0

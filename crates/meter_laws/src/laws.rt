@@ -1,6 +1,6 @@
 //! What holds of guards. Each call here does nothing: its contract is the law.
 
-ghost use Rattle.meter_laws.specs.Laws.{CountedCodeEnds, CountedCodeIsPaid, GuardsCountNothing, GuardsEndTheRun, GuardsKeepTheState, GuardsTakeTurnsOff, GuardsWriteTheMeter};
+ghost use Rattle.meter_laws.specs.Laws.{CountedCodeCountsNothing, CountedCodeEnds, CountedCodeIsPaid, CountedCodeWritesTheMeter, GuardsCountNothing, GuardsEndTheRun, GuardsKeepTheState, GuardsTakeTurnsOff, GuardsWriteTheMeter};
 
 use guest_follows::laws::code_is_paths;
 
@@ -24,4 +24,10 @@ pub fn counted_code_is_paid()
 pub fn guards_count_nothing()
     ensures counts { GuardsCountNothing }
     ensures writes { GuardsWriteTheMeter }
+{}
+
+/// Nor does code that takes off a number of turns that is known.
+pub fn counted_code_counts_nothing()
+    ensures counts { CountedCodeCountsNothing }
+    ensures writes { CountedCodeWritesTheMeter }
 {}
