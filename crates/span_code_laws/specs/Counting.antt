@@ -1,5 +1,5 @@
 -- Weights by which the way behind a unit weighs nothing, and what the code of words weighs by them.
-use Rattle.std.specs.Prelude.{◌≡◌, ℕ, ◌<◌, ◌≤◌, Bool, true, false, List}
+use Rattle.std.specs.Prelude.{◌≡◌, ℕ, ◌+◌, ◌<◌, ◌≤◌, Bool, true, false, List}
 use Rattle.nv_words.specs.declared.order.Order.{Order}
 use Rattle.delay_slots.specs.declared.unit.Unit.{Unit}
 use Rattle.delay_slots.specs.Places.{WordIndex}
@@ -15,6 +15,7 @@ use Rattle.guest_code.specs.Units.{unit_code}
 use Rattle.word_emitter.specs.Pieces.{bank_of, piece_units, units_code}
 use Rattle.span_code.specs.declared.span_words.SpanWords.{SpanWords}
 use Rattle.span_code.specs.Neighbours.{address}
+use Rattle.span_code.specs.Parts.{front_of}
 use Rattle.span_code.specs.Pieces.{begins, piece_at}
 use Rattle.span_code.specs.Standing.{laid_part}
 use Rattle.code_paths.specs.Classes.{reads, chars, switches, entries, puts}
@@ -42,10 +43,12 @@ pub record CountsSpareMoves : Type 0 where
 -- What the code of a word weighs by a weight, as it is laid down, with the methods that it calls.
 pub record PartWeighsItsUnits (order : Order) (weight : Instruction → ℕ) (units : List Unit)
     (leads : ℕ → Bool) (span : SpanWords) (k : WordIndex) : Type 0 where
-  -- where no piece begins with the word, what the code of its unit weighs
+  -- where no piece begins with the word, what the code of its unit weighs, with what stands in front
+  -- of it
   pub word : begins leads span k ≡ false
       → whole_weight order (laid_part units leads span k) weight
-      ≡ whole_weight order (unit_code 0 (unit_at units k) (address span k)) weight
+      ≡ whole_weight order (front_of span.metered (unit_at units k) (address span k)) weight
+      + whole_weight order (unit_code 0 (unit_at units k) (address span k)) weight
   -- where a piece begins with it, what the codes of the piece's units weigh
   pub piece : begins leads span k ≡ true
       → let own = piece_units units (piece_at units leads span k) in

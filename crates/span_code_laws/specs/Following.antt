@@ -11,6 +11,7 @@ use Rattle.block_builder.specs.Blocks.{unit_at}
 use Rattle.block_builder.specs.Leaders.{is_plain}
 use Rattle.jvm_program.specs.declared.instruction.Instruction.{Instruction}
 use Rattle.jvm_program.specs.Effect.{Workspace}
+use Rattle.code_steps.specs.Placing.{LiesAt}
 use Rattle.code_steps.specs.Widths.{size}
 use Rattle.code_steps.specs.Offsets.{CodeOffset}
 use Rattle.guest_code.specs.Units.{unit_code}
@@ -18,6 +19,9 @@ use Rattle.word_emitter.specs.Pieces.{bank_of}
 use Rattle.span_code.specs.declared.span_words.SpanWords.{SpanWords}
 use Rattle.span_code.specs.Pieces.{begins}
 use Rattle.span_code.specs.Laying.{entry_at}
+use Rattle.span_code.specs.Neighbours.{address}
+use Rattle.span_code.specs.Parts.{front_of}
+use Rattle.span_code.specs.Standing.{unit_entry}
 use Rattle.guest_follows.specs.Sites.{Site, stands, whole_weight}
 use Rattle.guest_follows.specs.Following.{ComesToEnd, Follows}
 use Rattle.guest_code_laws.specs.Units.{UnitArrives}
@@ -57,19 +61,18 @@ pub record EntersPiece (site : Site) (order : Order) (units : List Unit) (leads 
 
 -- ---- words with which no piece begins
 
--- At such a word the code of its unit lies, over the fields of the registers.
+-- At an offset the code of the unit of such a word lies, over the fields of the registers.
 pub record WordAloneIsFollowed (site : Site) (units : List Unit) (leads : ℕ → Bool)
-    (span : SpanWords) (k : WordIndex) (w : Workspace) (x : State) : Type 0 where
-  pub has : HasUnit site units span k 0 (λ r. true) (entry_at units leads span k)
-      (unit_at units k) x
+    (span : SpanWords) (k : WordIndex) (at : CodeOffset) (w : Workspace) (x : State) : Type 0 where
+  pub has : HasUnit site units span k 0 (λ r. true) at (unit_at units k) x
   -- if it follows the unit's turns, so do the classes, to where they go on
   pub goes_on : (total : (Instruction → ℕ) → ℕ)
-      → UnitFollowsBy site 0 (λ r. true) (entry_at units leads span k) total (unit_at units k) w x
+      → UnitFollowsBy site 0 (λ r. true) at total (unit_at units k) w x
       → let turns = unit_turns (unit_at units k) x in
-      UnitGoesOn site units leads span (entry_at units leads span k) (turn_count turns)
-      (132 * turn_count turns + 8) total (unit_at units k) w (last_turn turns)
+      UnitGoesOn site units leads span at (turn_count turns) (132 * turn_count turns + 8) total
+      (unit_at units k) w (last_turn turns)
 
--- So it is with each word with which no piece begins.
+-- So it is with each word with which no piece begins, at its entry, in a span without a meter.
 abbrev pub WordsAloneAreFollowed : Type 0
 WordsAloneAreFollowed =
     (site : Site) (order : Order) (words : List ℕ) (leads : ℕ → Bool) (span : SpanWords)
@@ -77,7 +80,26 @@ WordsAloneAreFollowed =
     → HasSpan site words leads span
     → StandsAt order span k w x
     → begins leads span k ≡ false
-    → WordAloneIsFollowed site (units_of words) leads span k w x
+    → span.metered ≡ false
+    → WordAloneIsFollowed site (units_of words) leads span k (entry_at (units_of words) leads span k)
+    w x
+
+-- In any span, what stands in front of the unit of such a word lies at the word's entry, and the
+-- unit is followed behind it.
+pub record UnitIsFollowedBehindFront (site : Site) (units : List Unit) (leads : ℕ → Bool)
+    (span : SpanWords) (k : WordIndex) (w : Workspace) (x : State) : Type 0 where
+  pub front : LiesAt site.program site.method (entry_at units leads span k)
+      (front_of span.metered (unit_at units k) (address span k))
+  pub unit : WordAloneIsFollowed site units leads span k (unit_entry units leads span k) w x
+
+abbrev pub UnitsAreFollowedBehindFronts : Type 0
+UnitsAreFollowedBehindFronts =
+    (site : Site) (order : Order) (words : List ℕ) (leads : ℕ → Bool) (span : SpanWords)
+    (k : WordIndex) (w : Workspace) (x : State)
+    → HasSpan site words leads span
+    → StandsAt order span k w x
+    → begins leads span k ≡ false
+    → UnitIsFollowedBehindFront site (units_of words) leads span k w x
 
 -- ---- pieces
 

@@ -17,7 +17,8 @@ use Rattle.span_code.specs.declared.span_words.SpanWords.{SpanWords}
 use Rattle.span_code.specs.Pieces.{begins, piece_at}
 use Rattle.span_code.specs.Neighbours.{address}
 use Rattle.span_code.specs.Laying.{entry_at, span_code}
-use Rattle.span_code.specs.Standing.{laid_part}
+use Rattle.span_code.specs.Parts.{unit_part}
+use Rattle.span_code.specs.Standing.{laid_part, unit_entry}
 use Rattle.guest_follows.specs.Sites.{Site, stands, whole_weight}
 use Rattle.guest_code_laws.specs.Instructions.{IsReady}
 use Rattle.guest_code_laws.specs.Pieces.{piece_turns}
@@ -69,7 +70,7 @@ FollowsPiece site order units leads span k w x =
     (piece_turns (piece_units units (piece_at units leads span k)) x).0
     (piece_turns (piece_units units (piece_at units leads span k)) x).1
 
--- From the code of a word with which no piece begins they follow the turns of the word's unit.
+-- From the code of a word with which no piece begins they follow the turns of the word's unit, in a span without a meter.
 abbrev pub SpanWordsFollow : Type 0
 SpanWordsFollow =
     (site : Site) (order : Order) (words : List ℕ) (leads : ℕ → Bool) (span : SpanWords)
@@ -77,7 +78,29 @@ SpanWordsFollow =
     → HasSpan site words leads span → IsReady site order
     → StandsAt order span k w x
     → begins leads span k ≡ false
+    → span.metered ≡ false
     → FollowsUnit site order (units_of words) leads span k w x
+
+-- the same from the code of the word's unit, behind what stands in front of it
+abbrev pub FollowsUnitBehindFront : Site → Order → List Unit → (ℕ → Bool) → SpanWords → WordIndex
+    → Workspace → State → Type 0
+FollowsUnitBehindFront site order units leads span k w x =
+    let at = unit_entry units leads span k in
+    let n = turn_count (unit_turns (unit_at units k) x) in
+    FollowsInSpan site at (at + size (unit_part units leads span k)) n (264 * n)
+    (whole_weight order (unit_part units leads span k))
+    (Resumes site units leads span (unit_at units k)) (stands site at w)
+    (last_turn (unit_turns (unit_at units k) x))
+
+-- So they follow it in any span.
+abbrev pub UnitsFollowBehindFronts : Type 0
+UnitsFollowBehindFronts =
+    (site : Site) (order : Order) (words : List ℕ) (leads : ℕ → Bool) (span : SpanWords)
+    (k : WordIndex) (w : Workspace) (x : State)
+    → HasSpan site words leads span → IsReady site order
+    → StandsAt order span k w x
+    → begins leads span k ≡ false
+    → FollowsUnitBehindFront site order (units_of words) leads span k w x
 
 -- From that of a word with which a piece begins they follow the turns of all units of the piece.
 abbrev pub SpanPiecesFollow : Type 0

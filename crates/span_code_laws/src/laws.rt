@@ -5,7 +5,7 @@ ghost use Rattle.span_code_laws.specs.Entering.{EnteringOnlySwitches, SpansAreEn
 ghost use Rattle.span_code_laws.specs.Made.{PiecesAreMade};
 ghost use Rattle.span_code_laws.specs.Registers.{StretchesAreOfPieces};
 ghost use Rattle.span_code_laws.specs.Resuming.{FieldsHoldAll, ReturnsGiveBack};
-ghost use Rattle.span_code_laws.specs.Spans.{SpanPiecesFollow, SpanWordsFollow};
+ghost use Rattle.span_code_laws.specs.Spans.{SpanPiecesFollow, SpanWordsFollow, UnitsFollowBehindFronts};
 
 use block_builder::instructions_keep_to_their_registers;
 use delay_slots::{unit_is_its_steps, unit_leads_on};
@@ -24,9 +24,11 @@ pub fn spans_are_entered()
 }
 
 /// From the code of a word with which no piece begins the classes follow the turns of the word's unit, and come to the code of the word at
-/// which the guest then stands; or to a return, where the unit goes as a register says, or out of the span.
+/// which the guest then stands; or to a return, where the unit goes as a register says, or out of the span. In a span with a meter they do
+/// so from behind the guard.
 pub fn words_follow()
-    ensures { SpanWordsFollow }
+    ensures plain { SpanWordsFollow }
+    ensures behind_fronts { UnitsFollowBehindFronts }
 {
     code_is_paths();
     units_are_lawful();
@@ -48,7 +50,7 @@ pub fn pieces_follow()
     emitted::pieces_are_followed();
 }
 
-/// The code of a word weighs what the code of its unit weighs, with the methods that it calls, and that of a piece what the codes of its units
+/// The code of a word weighs what the code of its unit and what stands in front of it weigh, with the methods that it calls, and that of a piece what the codes of its units
 /// weigh, by each weight that what moves values, branches and returns has none of. Each weight that is counted of the classes is such a one.
 pub fn parts_weigh_their_units()
     ensures parts { PartsWeighTheirUnits }

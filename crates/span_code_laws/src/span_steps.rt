@@ -1,7 +1,7 @@
 //! What the method of a span does unit by unit. Each call here does nothing: its contract is the law.
 
 ghost use Rattle.span_code_laws.specs.InPieces.{UnitsStandInPieces};
-ghost use Rattle.span_code_laws.specs.Following.{FetchingIsSpared, InnerUnitsAreFollowed, LastUnitsAreFollowed, PiecesAreEntered, WordsAloneAreFollowed};
+ghost use Rattle.span_code_laws.specs.Following.{FetchingIsSpared, InnerUnitsAreFollowed, LastUnitsAreFollowed, PiecesAreEntered, UnitsAreFollowedBehindFronts, WordsAloneAreFollowed};
 
 use block_builder::instructions_keep_to_their_registers;
 use guest_code_laws::laws as emitted;
@@ -12,9 +12,10 @@ use lawful_units::laws::{
 use span_code::laws::pieces_are_of_blocks;
 
 /// Where no piece begins with a word, the code of its unit lies there, over the fields of the registers. If it follows the unit's turns, so do
-/// the classes, to where they go on.
+/// the classes, to where they go on. In a span with a meter it lies behind its guard.
 pub fn words_alone_are_followed()
-    ensures { WordsAloneAreFollowed }
+    ensures plain { WordsAloneAreFollowed }
+    ensures behind_fronts { UnitsAreFollowedBehindFronts }
 {
     code_is_paths();
     units_are_lawful();

@@ -30,7 +30,7 @@ use Rattle.word_emitter.specs.Exits.{has, follows, arrive, last_way, two_ways, b
 use Rattle.span_code.specs.declared.span_words.SpanWords.{SpanWords}
 use Rattle.span_code.specs.Pieces.{begins, piece_at}
 use Rattle.span_code.specs.Neighbours.{address, is_inner, next_such}
-use Rattle.span_code.specs.Parts.{extent, warm_part, cold_part}
+use Rattle.span_code.specs.Parts.{extent, warm_part, front_of, unit_part, cold_part}
 use Rattle.span_code.specs.Laying.{base, cold_base, cold_before, entry_at, laid_step, return_offset, stretch_at, targets_of, warm_before}
 use Rattle.span_code.specs.Standing.{laid_part}
 use Rattle.span_code.proofs.SizeLemmas.{size-laid}
@@ -180,10 +180,14 @@ module _ (order : Order) (weight : Instruction → ℕ) where
           ∙ ap (λ c. weighs (if c then warm_part unit_list leads span k else cold_part unit_list leads span k)) is
 
       pub word-weighs : begins leads span k ≡ false
-          → weighs (laid_part unit_list leads span k) ≡ weighs (unit_code 0 (unit_at unit_list k) (address span k))
+          → weighs (laid_part unit_list leads span k)
+          ≡ weighs (front_of span.metered (unit_at unit_list k) (address span k)) + weighs (unit_code 0 (unit_at unit_list k) (address span k))
       word-weighs inner =
-          part-weighs false inner ∙ with-exit (unit_code 0 (unit_at unit_list k) (address span k)) (extent span)
-          (next_such (is_inner leads span) span k) (unit_at unit_list k) (address span k)
+          let front = front_of span.metered (unit_at unit_list k) (address span k) in
+          part-weighs false inner ∙ whole-both order weight front (unit_part unit_list leads span k)
+          ∙ ap (λ n. weighs front + n)
+          (with-exit (unit_code 0 (unit_at unit_list k) (address span k)) (extent span) (next_such (is_inner leads span) span k)
+          (unit_at unit_list k) (address span k))
 
       pub piece-weighs : begins leads span k ≡ true → weighs (laid_part unit_list leads span k)
           ≡ weighs (units_code (bank_of (piece_units unit_list (piece_at unit_list leads span k)))

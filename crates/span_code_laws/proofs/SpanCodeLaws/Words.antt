@@ -15,7 +15,9 @@ use Rattle.jvm_program.specs.Effect.{Workspace}
 use Rattle.code_steps.specs.declared.step.Step.{Step}
 use Rattle.code_steps.specs.Widths.{size}
 use Rattle.code_steps.specs.Placing.{LiesAt}
+use Rattle.code_steps.specs.Outcomes.{stays_within}
 use Rattle.guest_code.specs.Units.{unit_code}
+use Rattle.meter.proofs.GuardSizes.{guard-within}
 use Rattle.word_emitter.specs.Exits.{follows}
 use Rattle.lawful_units.specs.Knowing.{gaining, gained}
 use Rattle.lawful_units.specs.Lawful.{IsLawful, KnownByUnit}
@@ -23,12 +25,13 @@ use Rattle.lawful_units.specs.Laws.{NeededIsKnown, UnitsAreLawful}
 use Rattle.span_code.specs.declared.span_words.SpanWords.{SpanWords}
 use Rattle.span_code.specs.Pieces.{begins}
 use Rattle.span_code.specs.Neighbours.{address, is_inner, next_such}
-use Rattle.span_code.specs.Parts.{extent, exit_of, warm_part, cold_part}
+use Rattle.span_code.specs.Parts.{extent, exit_of, warm_part, front_of, unit_part, cold_part}
 use Rattle.span_code.specs.Laying.{entry_at, targets_of, return_offset, laid_step, span_code}
-use Rattle.span_code.specs.Standing.{laid_part}
+use Rattle.span_code.specs.Standing.{laid_part, unit_entry}
 use Rattle.span_code.proofs.SizeLemmas.{size-laid}
 use Rattle.span_code.proofs.StandingLemmas.{word-stands}
-use Rattle.span_code.proofs.UnitMarks.{unit-marks}
+use Rattle.span_code.proofs.StepMarks.{marks}
+use Rattle.span_code.proofs.UnitMarks.{unit-marks, front-marks}
 use Rattle.guest_follows.specs.Holding.{HoldsOn}
 use Rattle.guest_follows.specs.Sites.{Site, stands, whole_weight}
 use Rattle.guest_follows.specs.Following.{Follows}
@@ -40,10 +43,11 @@ use Rattle.guest_code_laws.specs.Units.{AllUnitsFollow, UnitArrives}
 use Rattle.guest_code_laws.specs.Pieces.{HoldsAll}
 use Rattle.guest_code_laws.proofs.PieceLaws.Within.{unit-stays}
 use Rattle.span_code_laws.specs.Resuming.{IsAtRest, IsEntryOf, Resumes, FollowsInSpan}
-use Rattle.span_code_laws.specs.Spans.{HasSpan, StandsAt, FollowsUnit}
+use Rattle.span_code_laws.specs.Spans.{HasSpan, StandsAt, FollowsUnit, FollowsUnitBehindFront}
 use Rattle.span_code_laws.proofs.SpanCodeLaws.Leading.{LeadsTo, unit-leads}
 use Rattle.span_code_laws.proofs.SpanCodeLaws.Exits.{SaysGoal, exit-stays}
 use Rattle.span_code_laws.proofs.SpanCodeLaws.Parts.{laid-unmarked, part-lies, cold-behind}
+use Rattle.span_code_laws.proofs.SpanCodeLaws.Counting.{laid-weighs}
 use Rattle.span_code_laws.proofs.SpanCodeLaws.Joining.{Reaches}
 use Rattle.span_code_laws.proofs.SpanCodeLaws.Going.{goes-on}
 
@@ -107,6 +111,11 @@ pub units-length : (words : List ℕ) → length (units_of words) ≡ length wor
 units-length [] = refl
 units-length (word ∷ words) = ap suc (units-length words)
 
+-- no branch goes past the end of what stands in front of a unit
+front-stays : (metered : Bool) (unit : Word) (at : ℕ) → stays_within (front_of metered unit at) ≡ true
+front-stays true unit at = guard-within unit at
+front-stays false unit at = refl
+
 -- the laws that are needed
 pub record UnitLaws : Type 1 where
   pub paths : PathLaws
@@ -124,6 +133,18 @@ module _ (laws : UnitLaws) (site : Site) (order : Order) (words : List ℕ) (lea
 
   abbrev entry : ℕ
   entry = entry_at unit_list leads span k
+
+  abbrev front : List Step
+  front = front_of span.metered unit (address span k)
+
+  abbrev at : ℕ
+  at = unit_entry unit_list leads span k
+
+  -- without a meter nothing stands in front
+  pub at-entry : span.metered ≡ false → at ≡ entry
+  at-entry plain =
+      let none : size front ≡ 0 = ap (λ m. size (front_of m unit (address span k))) plain in
+      omega (arith, none)
 
   abbrev L : Step → Step
   L = laid_step (extent span) (targets_of unit_list leads span) (return_offset unit_list leads span)
@@ -148,51 +169,64 @@ module _ (laws : UnitLaws) (site : Site) (order : Order) (words : List ℕ) (lea
     abbrev exit : List Step
     exit = map L (exit_of unit_list span behind k)
 
-    part-is : laid_part unit_list leads span k ≡ first ++ exit
+    unmarked : (code : List Step) → marks code ≤ 0 → map L code ≡ code
+    unmarked code none = laid-unmarked (extent span) (targets_of unit_list leads span) (return_offset unit_list leads span) code none
+
+    part-is : laid_part unit_list leads span k ≡ front ++ (first ++ exit)
     part-is =
         ap (λ b. map L (if b then warm_part unit_list leads span k else cold_part unit_list leads span k)) inner
-        ∙ map-append L first (exit_of unit_list span behind k)
-        ∙ ap (λ c. c ++ exit) (laid-unmarked (extent span) (targets_of unit_list leads span) (return_offset unit_list leads span) first
-        (unit-marks 0 unit (address span k)))
+        ∙ map-append L front (unit_part unit_list leads span k)
+        ∙ ap (λ c. c ++ map L (unit_part unit_list leads span k)) (unmarked front (front-marks span.metered unit (address span k)))
+        ∙ ap (λ c. front ++ c) (map-append L first (exit_of unit_list span behind k))
+        ∙ ap (λ c. front ++ (c ++ exit)) (unmarked first (unit-marks 0 unit (address span k)))
 
-    parts-lie : LiesAt site.program site.method entry first × LiesAt site.program site.method (entry + size first) exit
+    parts-lie : LiesAt site.program site.method entry front × LiesAt site.program site.method at first
+        × LiesAt site.program site.method (at + size first) exit
     parts-lie =
         let stands_there = word-stands unit_list leads span k s.above s.below in
-        let both = laws.paths.parts site.program site.method entry first (exit ++ stands_there.behind) (unit-stays 0 unit (address span k))
-        (subst (LiesAt site.program site.method entry) (append_assoc first exit stands_there.behind)
+        let whole = subst (LiesAt site.program site.method entry) (append_assoc front (first ++ exit) stands_there.behind)
         (subst (λ code. LiesAt site.program site.method entry (code ++ stands_there.behind)) part-is
-        (part-lies site.program site.method entry (span_code unit_list leads span) (laid_part unit_list leads span k) stands_there has.lies))) in (
+        (part-lies site.program site.method entry (span_code unit_list leads span) (laid_part unit_list leads span k) stands_there has.lies)) in
+        let parts = laws.paths.parts site.program site.method entry front ((first ++ exit) ++ stands_there.behind)
+        (front-stays span.metered unit (address span k)) whole in
+        let both = laws.paths.parts site.program site.method at first (exit ++ stands_there.behind) (unit-stays 0 unit (address span k))
+        (subst (LiesAt site.program site.method at) (append_assoc first exit stands_there.behind) parts.1) in (
+          parts.0,
           both.0,
-          (laws.paths.parts site.program site.method (entry + size first) exit stands_there.behind
+          (laws.paths.parts site.program site.method (at + size first) exit stands_there.behind
               (exit-stays unit_list leads span behind unit (address span k)) both.1).0,
         )
 
-    pub unit-lies : LiesAt site.program site.method entry (unit_code 0 unit x.pc)
-    unit-lies = subst (λ pc. LiesAt site.program site.method entry (unit_code 0 unit pc)) (sym s.pc) parts-lie.0
+    pub front-lies : LiesAt site.program site.method entry front
+    front-lies = parts-lie.0
+
+    pub unit-lies : LiesAt site.program site.method at (unit_code 0 unit x.pc)
+    unit-lies = subst (λ pc. LiesAt site.program site.method at (unit_code 0 unit pc)) (sym s.pc) parts-lie.1
 
     -- where the exit ends the code of the next word begins, if it is to follow
-    next-is : (b : ℕ) → follows behind b ≡ true → IsEntryOf unit_list leads span (entry + size first + size exit) b
+    next-is : (b : ℕ) → follows behind b ≡ true → IsEntryOf unit_list leads span (at + size first + size exit) b
     next-is b is =
-        let sizes : size (first ++ exit) ≡ size (cold_part unit_list leads span k) =
+        let sizes : size (front ++ (first ++ exit)) ≡ size (cold_part unit_list leads span k) =
         ap size (sym part-is ∙ ap (λ b. map L (if b then warm_part unit_list leads span k else cold_part unit_list leads span k)) inner)
         ∙ size-laid (extent span) (targets_of unit_list leads span) (return_offset unit_list leads span) (cold_part unit_list leads span k) in
+        let joined = size-both front (first ++ exit) in
         let both = size-both first exit in
-        let end : entry + size (cold_part unit_list leads span k) ≡ entry + size first + size exit = omega (arith, sizes, both) in
+        let end : entry + size (cold_part unit_list leads span k) ≡ at + size first + size exit = omega (arith, sizes, joined, both) in
         subst (λ at. IsEntryOf unit_list leads span at b) end (cold-behind unit_list leads span k s.above s.below inner b is)
 
     -- the classes follow the unit to where they go on, if its code follows it
     pub word-goes : (n most : ℕ) (total all_weight : (Instruction → ℕ) → ℕ) (later : ℕ) → most + 4 ≤ later
         → ((weight : Instruction → ℕ) → total weight + whole_weight order exit weight ≤ all_weight weight)
-        → Follows site entry (entry + size (unit_code 0 unit x.pc)) n most total (UnitArrives 0 all unit w) (stands site entry w)
+        → Follows site at (at + size (unit_code 0 unit x.pc)) n most total (UnitArrives 0 all unit w) (stands site at w)
         (last_turn (unit_turns unit x))
-        → FollowsInSpan site entry (entry + size first + size exit) n later all_weight (Resumes site unit_list leads span unit) (stands site entry w)
+        → FollowsInSpan site at (at + size first + size exit) n later all_weight (Resumes site unit_list leads span unit) (stands site at w)
         (last_turn (unit_turns unit x))
     word-goes n most total all_weight later few weighs follows =
-        goes-on laws.paths site order unit_list leads span behind unit (address span k) (omega arith) (entry + size first) next-is entry n most total
-        all_weight w (last_turn (unit_turns unit x)) later few weighs parts-lie.1
+        goes-on laws.paths site order unit_list leads span behind unit (address span k) (omega arith) (at + size first) next-is at n most total
+        all_weight w (last_turn (unit_turns unit x)) later few weighs parts-lie.2
         (record {
           First = UnitArrives 0 all unit w;
-          follows = subst (λ pc. Follows site entry (entry + size (unit_code 0 unit pc)) n most total (UnitArrives 0 all unit w) (stands site entry w)
+          follows = subst (λ pc. Follows site at (at + size (unit_code 0 unit pc)) n most total (UnitArrives 0 all unit w) (stands site at w)
               (last_turn (unit_turns unit x))) s.pc follows;
           at_rest = λ u t is. unit-rests unit w u t s.rests.no_operands is;
           says = λ u t goes is. unit-says unit (address span k) w u t goes is;
@@ -200,24 +234,53 @@ module _ (laws : UnitLaws) (site : Site) (order : Order) (words : List ℕ) (lea
               (unit-leads unit x is-lawful s.pending);
         })
 
-    pub word-follows : IsReady site order → FollowsUnit site order unit_list leads span k w x
-    word-follows ready =
+    -- to the end of the word's code, by paths that weigh no more than some code
+    word-ends : IsReady site order → (high : ℕ) (code : List Step) → at + size first + size exit ≡ high
+        → ((weight : Instruction → ℕ) → whole_weight order first weight + whole_weight order exit weight ≤ whole_weight order code weight)
+        → FollowsInSpan site at high (turn_count (unit_turns unit x)) (264 * turn_count (unit_turns unit x)) (whole_weight order code)
+        (Resumes site unit_list leads span unit) (stands site at w) (last_turn (unit_turns unit x))
+    word-ends ready high code end weighs =
         let n : ℕ = turn_count (unit_turns unit x) in
         let some = some-turn (unit_turns unit x) in
-        let sizes : size (laid_part unit_list leads span k) ≡ size (first ++ exit) = ap size part-is in
-        let both = size-both first exit in
-        let end : entry + size first + size exit ≡ entry + size (laid_part unit_list leads span k) = omega (arith, sizes, both) in
-        let weighs : (weight : Instruction → ℕ)
-        → whole_weight order (unit_code 0 unit x.pc) weight + whole_weight order exit weight
-        ≤ whole_weight order (laid_part unit_list leads span k) weight = λ weight.
+        let weighs_here : (weight : Instruction → ℕ)
+        → whole_weight order (unit_code 0 unit x.pc) weight + whole_weight order exit weight ≤ whole_weight order code weight = λ weight.
         let own : whole_weight order (unit_code 0 unit x.pc) weight ≡ whole_weight order first weight =
         ap (λ pc. whole_weight order (unit_code 0 unit pc) weight) s.pc in
-        let whole : whole_weight order (laid_part unit_list leads span k) weight ≡ whole_weight order (first ++ exit) weight =
+        let few = weighs weight in
+        omega (arith, own, few) in
+        subst (λ high. FollowsInSpan site at high n (264 * n) (whole_weight order code) (Resumes site unit_list leads span unit) (stands site at w)
+        (last_turn (unit_turns unit x))) end
+        (word-goes n (132 * n) (whole_weight order (unit_code 0 unit x.pc)) (whole_weight order code) (264 * n) (omega (arith, some)) weighs_here
+        (laws.follow unit is-lawful site order 0 all at w x ready s.order_is unit-lies is-known s.rests.held))
+
+    pub word-follows : IsReady site order → span.metered ≡ false → FollowsUnit site order unit_list leads span k w x
+    word-follows ready plain =
+        let n : ℕ = turn_count (unit_turns unit x) in
+        let laid = laid_part unit_list leads span k in
+        let sizes : size laid ≡ size (front ++ (first ++ exit)) = ap size part-is in
+        let joined = size-both front (first ++ exit) in
+        let both = size-both first exit in
+        let end : at + size first + size exit ≡ entry + size laid = omega (arith, sizes, joined, both) in
+        let weighs : (weight : Instruction → ℕ)
+        → whole_weight order first weight + whole_weight order exit weight ≤ whole_weight order laid weight = λ weight.
+        let whole : whole_weight order laid weight ≡ whole_weight order (front ++ (first ++ exit)) weight =
         ap (λ code. whole_weight order code weight) part-is in
+        let outer = whole-both order weight front (first ++ exit) in
         let sum = whole-both order weight first exit in
-        omega (arith, own, whole, sum) in
-        subst (λ high. FollowsInSpan site entry high n (264 * n) (whole_weight order (laid_part unit_list leads span k))
-        (Resumes site unit_list leads span unit) (stands site entry w) (last_turn (unit_turns unit x))) end
-        (word-goes n (132 * n) (whole_weight order (unit_code 0 unit x.pc)) (whole_weight order (laid_part unit_list leads span k)) (264 * n)
-        (omega (arith, some)) weighs
-        (laws.follow unit is-lawful site order 0 all entry w x ready s.order_is unit-lies is-known s.rests.held))
+        omega (arith, whole, outer, sum) in
+        subst (λ low. FollowsInSpan site low (entry + size laid) n (264 * n) (whole_weight order laid) (Resumes site unit_list leads span unit)
+        (stands site low w) (last_turn (unit_turns unit x))) (at-entry plain)
+        (word-ends ready (entry + size laid) laid end weighs)
+
+    pub word-follows-behind : IsReady site order → FollowsUnitBehindFront site order unit_list leads span k w x
+    word-follows-behind ready =
+        let own = unit_part unit_list leads span k in
+        let way = exit_of unit_list span behind k in
+        let laid = size-laid (extent span) (targets_of unit_list leads span) (return_offset unit_list leads span) way in
+        let both = size-both first way in
+        let weighs : (weight : Instruction → ℕ)
+        → whole_weight order first weight + whole_weight order exit weight ≤ whole_weight order own weight = λ weight.
+        let same = laid-weighs order weight (extent span) (targets_of unit_list leads span) (return_offset unit_list leads span) way in
+        let sum = whole-both order weight first way in
+        omega (arith, same, sum) in
+        word-ends ready (at + size own) own (omega (arith, laid, both)) weighs

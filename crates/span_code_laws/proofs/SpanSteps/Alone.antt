@@ -1,5 +1,5 @@
 -- The code of a word with which no piece begins.
-use Rattle.std.proofs.Common.{◌≡◌, ℕ, ◌+◌, ◌*◌, Bool, true, false, List, map, refl, arith}
+use Rattle.std.proofs.Common.{◌≡◌, ℕ, ◌+◌, ◌*◌, Bool, true, false, List, map, refl, subst, arith}
 use Rattle.nv_words.specs.declared.order.Order.{Order}
 use Rattle.mips_decode.specs.State.{State}
 use Rattle.delay_slots.specs.declared.unit.Unit.{Unit as Word}
@@ -16,13 +16,14 @@ use Rattle.span_code.specs.Pieces.{begins}
 use Rattle.span_code.specs.Neighbours.{address, is_inner, next_such}
 use Rattle.span_code.specs.Parts.{extent, exit_of}
 use Rattle.span_code.specs.Laying.{entry_at, laid_step, return_offset, targets_of}
+use Rattle.span_code.specs.Standing.{unit_entry}
 use Rattle.guest_follows.specs.Sites.{Site, whole_weight}
 use Rattle.span_code_laws.specs.Counting.{SparesMoves}
 use Rattle.span_code_laws.specs.Spans.{HasSpan, StandsAt}
 use Rattle.span_code_laws.proofs.SpanCodeLaws.Counting.{exit-weighs, laid-weighs}
-use Rattle.span_code_laws.proofs.SpanCodeLaws.Words.{UnitLaws, is-known, is-lawful, unit-lies, word-goes}
+use Rattle.span_code_laws.proofs.SpanCodeLaws.Words.{UnitLaws, at-entry, front-lies, is-known, is-lawful, unit-lies, word-goes}
 use Rattle.span_code_laws.specs.InPieces.{HasUnit}
-use Rattle.span_code_laws.specs.Following.{UnitFollowsBy, UnitGoesOn}
+use Rattle.span_code_laws.specs.Following.{UnitFollowsBy, UnitGoesOn, UnitIsFollowedBehindFront, WordAloneIsFollowed}
 
 -- the exit of a unit weighs nothing, as it is laid down
 pub laid-exit-weighs : (order : Order) (units : List Word) (leads : ℕ → Bool) (span : SpanWords) (behind : _) (k : ℕ) (weight : Instruction → ℕ)
@@ -42,14 +43,14 @@ module _ (laws : UnitLaws) (site : Site) (order : Order) (words : List ℕ) (lea
   abbrev unit : Word
   unit = unit_at unit_list k
 
-  abbrev entry : ℕ
-  entry = entry_at unit_list leads span k
+  abbrev at : ℕ
+  at = unit_entry unit_list leads span k
 
   abbrev exit : List Step
   exit = map (laid_step (extent span) (targets_of unit_list leads span) (return_offset unit_list leads span))
       (exit_of unit_list span (next_such (is_inner leads span) span k) k)
 
-  pub alone-has : HasUnit site unit_list span k 0 (λ r. true) entry unit x
+  alone-has : HasUnit site unit_list span k 0 (λ r. true) at unit x
   alone-has = record {
     above = s.above;
     below = s.below;
@@ -59,13 +60,13 @@ module _ (laws : UnitLaws) (site : Site) (order : Order) (words : List ℕ) (lea
     knows = is-known laws site order words leads span has k w x s;
   }
 
-  pub alone-goes : (total : (Instruction → ℕ) → ℕ) → UnitFollowsBy site 0 (λ r. true) entry total unit w x
-      → UnitGoesOn site unit_list leads span entry (turn_count (unit_turns unit x)) (132 * turn_count (unit_turns unit x) + 8) total unit w
+  alone-goes : (total : (Instruction → ℕ) → ℕ) → UnitFollowsBy site 0 (λ r. true) at total unit w x
+      → UnitGoesOn site unit_list leads span at (turn_count (unit_turns unit x)) (132 * turn_count (unit_turns unit x) + 8) total unit w
       (last_turn (unit_turns unit x))
   alone-goes total follows =
       let n : ℕ = turn_count (unit_turns unit x) in
       record {
-        high = entry + size (unit_code 0 unit (address span k)) + size exit;
+        high = at + size (unit_code 0 unit (address span k)) + size exit;
         sum = λ weight. total weight + whole_weight order exit weight;
         spared = λ weight spares.
             let none = laid-exit-weighs order unit_list leads span (next_such (is_inner leads span) span k) k weight spares in
@@ -73,3 +74,14 @@ module _ (laws : UnitLaws) (site : Site) (order : Order) (words : List ℕ) (lea
         follows = word-goes laws site order words leads span has k w x s inner n (132 * n) total (λ weight. total weight + whole_weight order exit weight)
             (132 * n + 8) (omega arith) (λ weight. omega arith) follows;
       }
+
+  alone-followed : WordAloneIsFollowed site unit_list leads span k at w x
+  alone-followed = record { has = alone-has; goes_on = alone-goes }
+
+  pub behind-front : UnitIsFollowedBehindFront site unit_list leads span k w x
+  behind-front = record { front = front-lies laws site order words leads span has k w x s inner; unit = alone-followed }
+
+  pub alone-plain : span.metered ≡ false → WordAloneIsFollowed site unit_list leads span k (entry_at unit_list leads span k) w x
+  alone-plain plain =
+      subst (λ at. WordAloneIsFollowed site unit_list leads span k at w x) (at-entry laws site order words leads span has k w x s plain)
+      alone-followed

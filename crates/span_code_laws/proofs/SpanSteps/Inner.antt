@@ -1,6 +1,6 @@
 -- No piece begins with a word in the middle of another one.
 use Rattle.std.proofs.Common.{◌≡◌, ℕ, ◌+◌, ◌-◌, ◌<◌, ◌≤◌, ◌==◌, ◌||◌, nat_le, Bool, true, false, not, if◌then◌else◌, min, List, length, inl, inr, refl, ap, subst, sym, ◌∙◌, arith}
-use Rattle.std.proofs.lemmas.Bool.{and_from, cases_Bool, cases_eq, eqb-false, le-leb, ne_eqb, or_parts, true≢false}
+use Rattle.std.proofs.lemmas.Bool.{and_from, and_right, cases_Bool, cases_eq, eqb-false, le-leb, ne_eqb, or_parts, true≢false}
 use Rattle.delay_slots.specs.declared.unit.Unit.{Unit as Word}
 use Rattle.delay_slots.specs.declared.unit.Unit.TheVariants as units
 use Rattle.block_builder.specs.declared.block.Block.{Block}
@@ -75,5 +75,6 @@ module _ (unit_list : List Word) (leads : ℕ → Bool) (span : SpanWords) (k : 
       let second = (or_parts (not (is_plain (unit_at unit_list (k + i - 1)))) (k + i - 1 + 1 == length unit_list || leads (k + i - 1 + 1)) before).1 in
       let third = (or_parts (k + i - 1 + 1 == length unit_list) (leads (k + i - 1 + 1)) second).1 in
       let same : k + i - 1 + 1 ≡ k + i = omega (arith, some) in
-      neither (k + i == span.first) (leads (k + i)) (ne_eqb (k + i) span.first (λ e. omega (arith, e, some, above)))
-      (sym (ap leads same) ∙ third)
+      and_right (not span.metered) (k + i == span.first || leads (k + i))
+      (neither (k + i == span.first) (leads (k + i)) (ne_eqb (k + i) span.first (λ e. omega (arith, e, some, above)))
+      (sym (ap leads same) ∙ third))
