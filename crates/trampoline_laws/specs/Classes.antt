@@ -17,9 +17,10 @@ use Rattle.trampoline_laws.specs.Choosing.{IsMethod, IsWithin, Rise}
 
 -- ---- a class
 
--- A class of code: the range from which its words are taken, with the words that lead blocks; its own words, so many from one on; their
--- spans, by words counted from the class's first one; and the number of its first method.
+-- A class of code: whether its program has a meter; the range from which its words are taken, with the words that lead blocks; its own
+-- words, so many from one on; their spans, by words counted from the class's first one; and the number of its first method.
 pub record CodeClass : Type 0 where
+  pub metered : Bool
   pub start : Address
   pub words : List ℕ
   pub leads : ℕ → Bool
@@ -49,7 +50,7 @@ run_of c = c.first_method + length c.spans
 
 -- the words of a span, in the range
 abbrev pub span_words : CodeClass → ℕ → SpanWords
-span_words c j = span_of c.start (c.first + (span_at c j).first) (span_at c j).words
+span_words c j = span_of c.metered c.start (c.first + (span_at c j).first) (span_at c j).words
 
 abbrev pub span_start : CodeClass → ℕ → Start
 span_start c j = record { first = address c (span_at c j).first; method = c.first_method + j }

@@ -17,10 +17,12 @@ use Rattle.code_steps.specs.Widths.{bytes_before}
 use Rattle.code_steps.specs.Outcomes.{Outcome, ended, outcome, outcome_from, left, stopped}
 use Rattle.code_steps.specs.Placing.{LiesAt}
 use Rattle.guest_layout.specs.FieldNumbers.{pc_field}
+use Rattle.meter.specs.Guards.{spent_kind}
 use Rattle.trampoline.specs.declared.start.Start.{Start}
 use Rattle.trampoline.specs.Trees.{tree}
-use Rattle.trampoline.specs.Choosers.{class_chooser, main_chooser, missing_code}
+use Rattle.trampoline.specs.Choosers.{class_chooser, main_chooser, missing_code, metered_missing_code}
 use Rattle.code_paths.specs.Paths.{Path}
+use Rattle.meter_laws.specs.Meters.{HasLeft, spent_fault}
 use Rattle.trampoline_laws.specs.Choosing.{AreStarts, IsMethod, IsReached, IsWithin, Rise, chosen}
 use Rattle.trampoline_laws.specs.Weights.{beside_calls, turns_of}
 
@@ -125,6 +127,27 @@ StraysFault =
     (program : Program) (words : ℕ) (x : Address) (w : Workspace)
     → w.fields pc_field ≡ int x
     → Stops program words 10 missing_code w (with_stray w x) (faults (stray_fault x))
+
+-- That of a program with a meter does so too, where a turn is left.
+abbrev pub MeteredStraysFault : Type 0
+MeteredStraysFault =
+    (program : Program) (words left : ℕ) (x : Address) (w : Workspace)
+    → w.fields pc_field ≡ int x
+    → HasLeft left w
+    → 1 ≤ left
+    → Stops program words 13 metered_missing_code w (with_stray w x) (faults (stray_fault x))
+
+-- the kind, the pc and the value of the fault of a spent meter on the stack
+abbrev pub with_spent : Workspace → Address → Workspace
+with_spent w x = with_operands w (int 0 ∷ int x ∷ int spent_kind ∷ w.operands)
+
+-- Where none is left, it ends the run in the fault of a spent meter at the address.
+abbrev pub SpentStraysEnd : Type 0
+SpentStraysEnd =
+    (program : Program) (words : ℕ) (x : Address) (w : Workspace)
+    → w.fields pc_field ≡ int x
+    → HasLeft 0 w
+    → Stops program words 6 metered_missing_code w (with_spent w x) (faults (spent_fault x))
 
 -- ---- one round of a chooser
 

@@ -1,12 +1,12 @@
 -- A program that is the translation of a guest's code.
-use Rattle.std.specs.Prelude.{◌≡◌, ℕ, ◌+◌, ◌<◌, ◌≤◌, true, false, List, length, slice_get, Option, Some, None}
+use Rattle.std.specs.Prelude.{◌≡◌, ℕ, ◌+◌, ◌<◌, ◌≤◌, Bool, true, false, List, length, slice_get, Option, Some, None}
 use Rattle.std.specs.List.{All}
 use Rattle.nv_words.specs.declared.order.Order.{Order}
 use Rattle.delay_slots.specs.Places.{Address}
 use Rattle.delay_slots.specs.Turns.{HasRange}
 use Rattle.jvm_program.specs.Program.{Program}
 use Rattle.code_steps.specs.Placing.{LiesAt}
-use Rattle.trampoline.specs.Choosers.{main_chooser, missing_code}
+use Rattle.trampoline.specs.Choosers.{main_chooser, missing_method}
 use Rattle.code_paths.specs.Guest.{holds, in_one_span}
 use Rattle.guest_follows.specs.Helpers.{HasHelpers, helper_count}
 use Rattle.trampoline_laws.specs.Choosing.{AreMethods, IsMethod, IsReached, Rise, chosen}
@@ -26,14 +26,14 @@ pub record IsCode (classes : List CodeClass) (code : ℕ → Option ℕ) : Type 
   pub ranges : All (λ (c : CodeClass). HasRange code c.start c.words) classes
   pub only : (a : Address) (word : ℕ) → code a ≡ Some word → IsInClass classes a
 
--- In a program stand the helper methods, the method that chooses among classes, the one for addresses outside all code, and the methods of the
--- classes, whose numbers are higher.
-pub record IsTranslated (program : Program) (order : Order) (choose missing : ℕ)
+-- In a program stand the helper methods, the method that chooses among classes, the one for addresses outside all code, by whether the program has
+-- a meter, and the methods of the classes, whose numbers are higher.
+pub record IsTranslated (metered : Bool) (program : Program) (order : Order) (choose missing : ℕ)
     (classes : List CodeClass) (code : ℕ → Option ℕ) : Type 0 where
   pub helpers : HasHelpers program order
   pub choose_lies : LiesAt program choose 0 (main_chooser (starts_of missing classes) missing)
   pub missing_is : IsMethod program missing
-  pub missing_lies : LiesAt program missing 0 missing_code
+  pub missing_lies : LiesAt program missing 0 (missing_method metered)
   pub low : ℕ
   pub helpers_low : helper_count ≤ low
   pub choose_above : helper_count ≤ choose
@@ -41,6 +41,7 @@ pub record IsTranslated (program : Program) (order : Order) (choose missing : �
   pub missing_above : helper_count ≤ missing
   pub missing_low : missing < low
   pub has : All (HasClass program) classes
+  pub metered_are : All (λ (c : CodeClass). c.metered ≡ metered) classes
   pub some : 1 ≤ length classes
   pub few : length (starts_of missing classes) ≤ 2048
   pub numbered : AreNumbered low classes
@@ -110,9 +111,9 @@ pub record StandsInProgram (program : Program) (code : ℕ → Option ℕ) (c : 
 abbrev pub OfTranslated : (Program → (low missing : ℕ) → List CodeClass → (ℕ → Option ℕ) → Type 0)
     → Type 0
 OfTranslated Says =
-    (program : Program) (order : Order) (choose missing : ℕ) (classes : List CodeClass)
-    (code : ℕ → Option ℕ)
-    → (t : IsTranslated program order choose missing classes code)
+    (metered : Bool) (program : Program) (order : Order) (choose missing : ℕ)
+    (classes : List CodeClass) (code : ℕ → Option ℕ)
+    → (t : IsTranslated metered program order choose missing classes code)
     → Says program t.low missing classes code
 
 -- Its classes begin at addresses that rise.

@@ -7,8 +7,8 @@ use Rattle.jvm_program.specs.declared.instruction.Instruction.TheVariants.{Push,
 use Rattle.code_steps.specs.Outcomes.{Outcome, ended, left, stopped}
 use Rattle.trampoline.specs.declared.start.Start.{Start}
 use Rattle.trampoline.specs.Trees.{tree}
-use Rattle.trampoline.specs.Choosers.{class_chooser, main_chooser, missing_code}
-use Rattle.code_paths.specs.Classes.{reads, chars, switches, entries}
+use Rattle.trampoline.specs.Choosers.{class_chooser, main_chooser, missing_method}
+use Rattle.code_paths.specs.Classes.{reads, chars, switches, entries, puts}
 use Rattle.code_paths.specs.Paths.{weigh}
 
 -- instructions that move ints and fields among the operands and local variables, compare them, and go on, return or end the run
@@ -70,7 +70,7 @@ pub record WeighTheirCalls (weight : Instruction → ℕ) : Type 0 where
   pub main_choosers : (missing : ℕ) (starts : List Start)
       → weigh weight (main_chooser starts missing)
       ≡ weight (Call missing) + calls_weight weight starts
-  pub strays : weigh weight missing_code ≡ 0
+  pub strays : (metered : Bool) → weigh weight (missing_method metered) ≡ 0
 
 -- It is so by each weight that what only compares has none of.
 abbrev pub ChoosersWeighTheirCalls : Type 0
@@ -83,6 +83,8 @@ pub record CountsSpareChoosing : Type 0 where
   pub of_chars : SparesChoosing chars
   pub of_switches : SparesChoosing switches
   pub of_alters : SparesChoosing alters
+  -- nor is a field written
+  pub of_writes : (f : ℕ) → SparesChoosing (puts f)
   -- only calls of spans count as entries
   pub of_entries : (is_span : ℕ → Bool) → SparesComparing (entries is_span)
   -- where what compares is spared, so is choosing by the weight without that of calls

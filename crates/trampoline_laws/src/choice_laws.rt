@@ -1,7 +1,7 @@
 //! What the code does that chooses a method by the address at which the guest stands. Each call here does nothing: its contract is the
 //! law.
 
-ghost use Rattle.trampoline_laws.specs.Coming.{ChoosersChooseOnce, ClassChoosersCall, ClassChoosersReturn, MainChoosersCall, MainChoosersStray, PathsMakeNoCalls, StraysFault, TreesChoose};
+ghost use Rattle.trampoline_laws.specs.Coming.{ChoosersChooseOnce, ClassChoosersCall, ClassChoosersReturn, MainChoosersCall, MainChoosersStray, MeteredStraysFault, PathsMakeNoCalls, SpentStraysEnd, StraysFault, TreesChoose};
 ghost use Rattle.trampoline_laws.specs.Weights.{CallsAreSpared, ChoosersWeighTheirCalls, CountsSpareChoosing};
 
 /// The tree of comparisons calls the method of the last start that is not above the address in local variable 0, or the first one's where
@@ -33,9 +33,12 @@ pub fn choosers_choose_once()
     main_choosers_choose();
 }
 
-/// The method for addresses outside all code ends the run in the fault of an unaligned pc or in that of a fetch, by the address in field pc.
+/// The method for addresses outside all code ends the run in the fault of an unaligned pc or in that of a fetch, by the address in field pc. In
+/// a program with a meter on which no turn is left it ends the run in the fault of a spent meter at that address.
 pub fn strays_fault()
-    ensures { StraysFault }
+    ensures plain { StraysFault }
+    ensures metered { MeteredStraysFault }
+    ensures spent { SpentStraysEnd }
 {}
 
 /// Trees and choosers weigh what their calls weigh, by each weight that what only compares has none of. Each weight that is counted of the

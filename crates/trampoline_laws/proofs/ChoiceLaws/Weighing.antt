@@ -9,10 +9,10 @@ use Rattle.code_steps.specs.declared.step.Step.{Step}
 use Rattle.code_steps.specs.declared.step.Step.TheVariants.{Does, Skips, Leaves, Selects}
 use Rattle.trampoline.specs.declared.start.Start.{Start}
 use Rattle.trampoline.specs.Trees.{first_of, reached_code, halves_code, tree_of, tree}
-use Rattle.trampoline.specs.Choosers.{address_code, within_code, unaligned_code, chosen_code, class_chooser, main_chooser, missing_code}
+use Rattle.trampoline.specs.Choosers.{address_code, within_code, unaligned_code, chosen_code, class_chooser, main_chooser, missing_method}
 use Rattle.code_paths.specs.Paths.{step_weight, weigh}
 use Rattle.code_paths.proofs.Weighing.{weigh-both}
-use Rattle.code_paths.specs.Classes.{reads, chars, switches, entries}
+use Rattle.code_paths.specs.Classes.{reads, chars, switches, entries, puts}
 use Rattle.trampoline_laws.specs.Weights.{only_compares, SparesComparing, SparesCalls, calls_weight, alters, beside_calls}
 
 -- ---- steps that only compare
@@ -102,8 +102,9 @@ module _ (weight : Instruction → ℕ) (spares : SparesComparing weight) where
       let rest = chosen-weight starts in
       omega (arith, front, anew, both, rest)
 
-  pub missing-weight : weigh weight missing_code ≡ 0
-  missing-weight = light missing_code refl
+  pub missing-weight : (metered : Bool) → weigh weight (missing_method metered) ≡ 0
+  missing-weight true = light (missing_method true) refl
+  missing-weight false = light (missing_method false) refl
 
 -- ---- what is counted
 
@@ -132,6 +133,10 @@ alters-spare (Array name) h = absurd (cc)
 alters-spare (Put f kind) h = absurd (cc)
 alters-spare (NewArray kind) h = absurd (cc)
 alters-spare _ h = refl
+
+pub writes-spare : (f : ℕ) → SparesComparing (puts f)
+writes-spare f (Put g kind) h = absurd (cc)
+writes-spare f _ h = refl
 
 pub entries-spare : (is_span : ℕ → Bool) → SparesComparing (entries is_span)
 entries-spare is_span (Call m) h = absurd (cc)

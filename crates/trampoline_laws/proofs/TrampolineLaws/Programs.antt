@@ -1,5 +1,5 @@
 -- Facts of a translated program.
-use Rattle.std.proofs.Common.{◌≡◌, ℕ, ◌+◌, ◌<◌, ◌≤◌, List, [], ◌∷◌, length, slice_get, Option, Some, None, All, ap, sym, ◌∙◌, arith}
+use Rattle.std.proofs.Common.{◌≡◌, ℕ, ◌+◌, ◌<◌, ◌≤◌, Bool, List, [], ◌∷◌, length, slice_get, Option, Some, None, All, ap, sym, ◌∙◌, arith}
 use Rattle.std.proofs.lemmas.List.Elements.{All-weaker}
 use Rattle.nv_words.specs.declared.order.Order.{Order}
 use Rattle.delay_slots.specs.Turns.{HasRange}
@@ -14,7 +14,7 @@ use Rattle.trampoline_laws.proofs.TrampolineLaws.Words.{word-within, end-low}
 use Rattle.trampoline_laws.proofs.TrampolineLaws.Starts.{classes-rise, classes-some, classes-methods, class-chosen, class-reached}
 use Rattle.trampoline_laws.proofs.TrampolineLaws.Strays.{IsOutside, outside-missing}
 
-module _ (program : Program) (order : Order) (choose missing : ℕ) (classes : List CodeClass) (code : ℕ → Option ℕ) (t : IsTranslated program order choose missing classes code) where
+module _ {metered : Bool} (program : Program) (order : Order) (choose missing : ℕ) (classes : List CodeClass) (code : ℕ → Option ℕ) (t : IsTranslated metered program order choose missing classes code) where
   pub are-classes : All IsClass classes
   are-classes = All-weaker (HasClass program) IsClass (λ c has. has.is_class) classes t.has
 
@@ -66,7 +66,7 @@ stray missing (c ∷ classes) x some are ordered outside reached method =
     outside-missing missing x reached.0 reached.2 c classes method are ordered outside
     (λ less. let from = reached.1 in absurd (omega arith))
 
-pub stray-missing : (program : Program) (order : Order) (choose missing : ℕ) (classes : List CodeClass) (code : ℕ → Option ℕ) (x : ℕ) → IsTranslated program order choose missing classes code → IsReached (starts_of missing classes) x → code x ≡ None → chosen (starts_of missing classes) x ≡ missing
+pub stray-missing : {metered : Bool} (program : Program) (order : Order) (choose missing : ℕ) (classes : List CodeClass) (code : ℕ → Option ℕ) (x : ℕ) → IsTranslated metered program order choose missing classes code → IsReached (starts_of missing classes) x → code x ≡ None → chosen (starts_of missing classes) x ≡ missing
 stray-missing program order choose missing classes code x t reached none =
     let from = chosen-begins x (starts_of missing classes) in
     from.1

@@ -5,7 +5,7 @@ use Rattle.trampoline_laws.proofs.TrampolineLaws.Apart.{one-span-turned, none-ha
 use Rattle.trampoline_laws.proofs.laws.spans_are_apart.Goals as goal
 
 pub returns : goal.returns
-returns c program order choose missing classes code t n a j at below =
+returns c metered program order choose missing classes code t n a j at below =
     let are = are-classes program order choose missing classes code t in
     record {
       out = λ x y held apart. none-has-both classes n a j x y are t.ordered at below held apart;

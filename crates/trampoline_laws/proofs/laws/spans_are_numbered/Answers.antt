@@ -2,7 +2,7 @@ use Rattle.trampoline_laws.proofs.TrampolineLaws.Numbers.{lower-none, class-abov
 use Rattle.trampoline_laws.proofs.laws.spans_are_numbered.Goals as goal
 
 pub returns : goal.returns
-returns c program order choose missing classes code t = record {
+returns c metered program order choose missing classes code t = record {
   spans = λ n a j at below. span-is classes n a j at below;
   runs = λ n a at. run-none t.low classes n a t.numbered at;
   above = λ n a at. class-above t.low classes n a t.numbered at;
