@@ -4,8 +4,10 @@ pub mod Fills
 pub mod Held
 pub mod Making
 pub mod Asking
+pub mod Metered
 pub mod Loading
 pub mod Images
 pub mod Bounds
 pub mod Runs
+pub mod Following
 pub mod Shares

@@ -7,4 +7,5 @@ pub mod Memory
 pub mod Quiet
 pub mod Loaded
 pub mod Made
+pub mod Metered
 pub mod Images

@@ -1,5 +1,5 @@
 -- The memory that a translated program makes, and how it begins.
-use Rattle.std.specs.Prelude.{◌≡◌, ◌≢◌, ℕ, ◌+◌, ◌<◌, ◌≤◌, ◌==◌, Bool, true, false, IsTrue, if◌then◌else◌, List, [], ◌∷◌, ◌++◌, length, Option, Some}
+use Rattle.std.specs.Prelude.{◌≡◌, ◌≢◌, ℕ, ◌+◌, ◌<◌, ◌≤◌, ◌==◌, Bool, true, false, IsTrue, if◌then◌else◌, List, [], ◌∷◌, ◌++◌, length, Option, Some, None}
 use Rattle.nv_events.specs.Answer.{Answer, fits}
 use Rattle.nv_events.specs.Turn.{asks}
 use Rattle.nv_events.specs.Memory.{Memory}
@@ -86,12 +86,12 @@ MemoryIsMade =
 abbrev pub start_of : Beginning → Memory → (ℕ → Option ℕ) → guest.State
 start_of b memory code = guest.start b.order b.entry memory code b.heap_start b.heap_bytes
 
--- The method with which a program begins, the method that it then calls, and its fields.
-pub record IsProgram (program : Program) (own m choose pages : ℕ) (b : Beginning) (texts : List ℕ)
-    (fillers : List Filler) : Type 0 where
+-- The method with which a program begins, where it has a meter with so many turns, the method that it then calls, and its fields.
+pub record IsProgram (program : Program) (own m choose pages : ℕ) (meter : Option ℕ) (b : Beginning)
+    (texts : List ℕ) (fillers : List Filler) : Type 0 where
   pub first : program.first ≡ own
   pub apart : own ≢ m
-  pub run_lies : LiesAt program own 0 (run_code b texts 0 pages (numbers_of fillers) choose)
+  pub run_lies : LiesAt program own 0 (run_code meter b texts 0 pages (numbers_of fillers) choose)
   pub choose_is : IsMethod program choose []
   pub ints : (f : ℕ) → f < 34 → program.field f ≡ Some kinds.Int
   pub linked : program.field linked_field ≡ Some kinds.Int
@@ -129,13 +129,13 @@ pub record Loads (program : Program) (words own m choose : ℕ) (is_span : ℕ �
   pub begins : (a : Answer) → IsTrue (fits a (guest_step.loader_question s))
       → Begins program words own m choose 8 (next a) (guest_step.after_loader s a)
 
--- A program that begins with its memory and makes it loads so.
+-- A program without a meter that begins with its memory and makes it loads so.
 abbrev pub ProgramsLoad : Type 0
 ProgramsLoad =
     (program : Program) (words own m choose pages : ℕ) (is_span : ℕ → Bool) (b : Beginning)
     (texts : List ℕ) (shares : List (List PageRun)) (fillers : List Filler)
     (readable writable : ℕ → Bool) (page_words : ℕ → List ℕ) (code : ℕ → Option ℕ)
-    → IsProgram program own m choose pages b texts fillers
+    → IsProgram program own m choose pages None b texts fillers
     → MakesMemory program words m pages texts shares fillers readable writable page_words
     → MakersAreNone is_span pages fillers
     → Loads program words own m choose is_span (memory_turns shares fillers + 7)

@@ -6,9 +6,11 @@ ghost use Rattle.image_parts.specs.declared.page_run.PageRun.{PageRun};
 ghost use Rattle.loading_code_laws.specs.Images.{ImageIsPages, IsWhole};
 ghost use Rattle.loading_code_laws.specs.Loaded.{LoadingTakes, SharesAllRuns, TextsTellRuns};
 ghost use Rattle.loading_code_laws.specs.Made.{MemoryIsMade, ProgramsLoad, ProgramsLoadInRuns};
+ghost use Rattle.loading_code_laws.specs.Metered.{MeteredLoadingFollows, MeteredProgramsLoad, SpentLoadingFollows, SpentProgramsEnd};
 
 use code_paths::laws::code_is_a_path;
 use code_steps::laws::parts_lie_behind_each_other;
+use meter_laws::laws::counted_code_is_paid;
 use run_laws::Translation;
 
 /// The code that makes a program's memory makes the pages that the texts tell, with the words that the texts of the classes of data spell, in
@@ -29,6 +31,17 @@ pub fn programs_load()
     parts_lie_behind_each_other();
 }
 
+/// So does a program with a meter on which a turn at least is put: where it holds the guest's state, the others are left. With none it ends the run
+/// in the fault of a spent meter before it asks.
+pub fn metered_programs_load()
+    ensures enough { MeteredProgramsLoad }
+    ensures none { SpentProgramsEnd }
+{
+    code_is_a_path();
+    parts_lie_behind_each_other();
+    counted_code_is_paid();
+}
+
 /// The memory of a program is pages of words, and the classes of data have those that are not all zero. Classes that have all of them, in order,
 /// have no more pages than can be read.
 pub fn images_are_pages()
@@ -44,6 +57,13 @@ pub fn loading_takes()
 /// nothing is counted that loading counts: they come to rest where they have begun.
 pub fn programs_load_in_runs<T: Translation>()
     ensures { ProgramsLoadInRuns T.Counted }
+{}
+
+/// Loading as the laws of runs with a meter want it: the classes follow the guest with its meter from the start on to where they have begun, or end
+/// as a spent meter does.
+pub fn metered_loading_follows()
+    ensures enough { MeteredLoadingFollows }
+    ensures none { SpentLoadingFollows }
 {}
 
 /// Runs that are divided into texts of so many runs: the texts tell them, and each tells one at least.

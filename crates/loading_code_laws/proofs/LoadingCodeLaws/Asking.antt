@@ -26,7 +26,7 @@ use Rattle.jvm_program.specs.Step.{State, Frame, placed, turn, entered, after_ho
 use Rattle.code_steps.specs.declared.step.Step.{Step}
 use Rattle.code_steps.specs.declared.step.Step.TheVariants.{Does}
 use Rattle.code_steps.specs.Widths.{bytes_before}
-use Rattle.code_steps.specs.Outcomes.{beyond, stopped, outcome, outcome_from, after_instruction}
+use Rattle.code_steps.specs.Outcomes.{beyond, later, stopped, outcome, outcome_from, after_instruction}
 use Rattle.code_steps.specs.Placing.{LiesAt}
 use Rattle.guest_layout.specs.FieldNumbers.{register_field, hi_field, lo_field, pc_field, readable_field, writable_field}
 use Rattle.guest_code.specs.Access.{keeps}
@@ -42,10 +42,11 @@ use Rattle.guest_follows.specs.Match.{HoldsMemory, host_memory}
 use Rattle.guest_follows.proofs.Patches.{HoldsMemory-answered}
 use Rattle.guest_follows.specs.Holding.{HoldsOn}
 use Rattle.code_paths.specs.Laws.{CodeIsPathElsewhere}
+use Rattle.meter_laws.specs.Meters.{HasLeft}
 use Rattle.loading_code_laws.specs.Leading.{Reaches, IsMethod}
 use Rattle.loading_code_laws.proofs.FillingLaws.Reading.{laters}
 use Rattle.loading_code_laws.specs.Quiet.{Quietly}
-use Rattle.loading_code_laws.specs.Made.{readable_place, writable_place, with_tables, over, start_of, CountNothing, Begins}
+use Rattle.loading_code_laws.specs.Made.{readable_place, writable_place, over, start_of, CountNothing, Begins}
 use Rattle.loading_code_laws.proofs.LoadingCodeLaws.Texts.{plus-none}
 use Rattle.loading_code_laws.proofs.LoadingCodeLaws.Fills.{called}
 
@@ -99,16 +100,20 @@ register-word value r word = three (r == 5) (r == 4) (r == 29)
     three false false true = omega arith
     three false false false = omega arith
 
+-- what the fields hold where the call is made
+pub record BeginsWith (fields : ℕ → Value) : Type 0 where
+  pub zeros : (f : ℕ) → f < 34 → fields f ≡ int 0
+  pub unlinked : fields linked_field ≡ int 0
+  pub readable_is : fields readable_field ≡ array readable_place
+  pub writable_is : fields writable_field ≡ array writable_place
+
 if-none : (b : Bool) → b ≡ false → ◌≡◌ {A = ℕ} (if b then 1 else 0) 0
 if-none false e = refl
 if-none true e = cc
 
-module _ (paths : CodeIsPathElsewhere) (program : Program) (words own m : ℕ) (is_span : ℕ → Bool) (choose : ℕ) (differ : own ≢ m) (choose_is : IsMethod program choose []) (b : Beginning) (memory : Memory) (code : ℕ → Option ℕ) (locals fields : ℕ → Value) (zeros : (f : ℕ) → f < 34 → fields f ≡ int 0) (unlinked : fields linked_field ≡ int 0) (heap : Heap) (held : HoldsMemory heap readable_place writable_place memory) (at : ℕ) (lies : LiesAt program own at (begun_code b choose)) where
+module _ (paths : CodeIsPathElsewhere) (program : Program) (words own m : ℕ) (is_span : ℕ → Bool) (choose : ℕ) (differ : own ≢ m) (choose_is : IsMethod program choose []) (b : Beginning) (memory : Memory) (code : ℕ → Option ℕ) (locals given_fields : ℕ → Value) (given : BeginsWith given_fields) (heap : Heap) (held : HoldsMemory heap readable_place writable_place memory) (at : ℕ) (lies : LiesAt program own at (begun_code b choose)) where
   abbrev steps : List Step
   steps = begun_code b choose
-
-  abbrev given_fields : ℕ → Value
-  given_fields = with_tables fields
 
   abbrev begin : Workspace
   begin = over locals [] given_fields heap
@@ -130,7 +135,9 @@ module _ (paths : CodeIsPathElsewhere) (program : Program) (words own m : ℕ) (
 
   asked-runs : outcome program words steps begin ≡ stopped 7 7 asking (asks_host c (Some readable_place) (Some writable_place) begin)
   asked-runs =
-      ap (λ e. laters 7 (after_instruction asking e (outcome_from program words (drop 8 steps) 0))) host-effect
+      ap (λ v. later (outcome program words (drop 1 steps) (over locals (v ∷ []) given_fields heap))) given.readable_is
+      ∙ ap (λ v. later (later (outcome program words (drop 2 steps) (over locals (v ∷ array readable_place ∷ []) given_fields heap)))) given.writable_is
+      ∙ ap (λ e. laters 7 (after_instruction asking e (outcome_from program words (drop 8 steps) 0))) host-effect
 
   same-question : host_question c seen ≡ loader_question s
   same-question = ap (asked c) held.reads
@@ -241,30 +248,24 @@ module _ (paths : CodeIsPathElsewhere) (program : Program) (words own m : ℕ) (
       no_entries = λ is_span no. plus-none (weigh (entries is_span) (drop 8 (take 15 steps))) (entries is_span (instructions.Call choose)) refl (if-none (is_span choose) no);
     }
 
-    zeros-with : (f : ℕ) → f < 34 → given_fields f ≡ int 0
-    zeros-with f low =
-        ap (λ t. if t then array writable_place else if f == readable_field then array readable_place else fields f) (ne_eqb f writable_field (λ e. absurd (omega (arith, e, low))))
-        ∙ ap (λ t. if t then array readable_place else fields f) (ne_eqb f readable_field (λ e. absurd (omega (arith, e, low))))
-        ∙ zeros f low
-
     abbrev middle : guest.State
     middle = after_loader s a
 
     holds-it : HoldsOn 0 (λ r. true) inside (after_loader s a)
     holds-it = record {
-      register_is = λ r above under is. ap (λ t. if t then inside.locals r else inside.fields (register_field r)) (none-kept r) ∙ register-is given_fields value b.entry r (λ f low. zeros-with f (omega (arith, low))) above under;
+      register_is = λ r above under is. ap (λ t. if t then inside.locals r else inside.fields (register_field r)) (none-kept r) ∙ register-is given_fields value b.entry r (λ f low. given.zeros f (omega (arith, low))) above under;
       register_word = λ r above under. register-word value r (wrapped-word a.value);
-      hi_is = zeros-with hi_field (omega arith);
+      hi_is = given.zeros hi_field (omega arith);
       hi_word = omega arith;
-      lo_is = zeros-with lo_field (omega arith);
+      lo_is = given.zeros lo_field (omega arith);
       lo_word = omega arith;
       pc = b.entry;
       pc_is = refl;
-      link_is = unlinked;
+      link_is = given.unlinked;
       readable = readable_place;
-      readable_is = refl;
+      readable_is = given.readable_is;
       writable = writable_place;
-      writable_is = refl;
+      writable_is = given.writable_is;
       memory_held = held-after;
     }
 
@@ -280,3 +281,8 @@ module _ (paths : CodeIsPathElsewhere) (program : Program) (words own m : ℕ) (
       no_operands = refl;
       waits_in = refl;
     }
+
+    -- what was left on a meter is left
+    pub left-there : (left : ℕ) → HasLeft left begin → HasLeft left begins.workspace
+    unfolding begins
+    left-there left has = has
