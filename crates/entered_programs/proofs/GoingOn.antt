@@ -37,7 +37,7 @@ none-marked classes = record {
   begin = λ s n c j k e there below first end at. absurd (false≢true e);
 }
 
-module _ (turns : TurnsAreFollowed) (program : Program) (words : ℕ) (order : Order) (choose missing : ℕ) (classes : List CodeClass) (code : ℕ → Option ℕ) (is : IsTranslated program order choose missing classes code) where
+module _ (turns : TurnsAreFollowed) (program : Program) (words : ℕ) (order : Order) (choose missing : ℕ) (classes : List CodeClass) (code : ℕ → Option ℕ) (is : IsTranslated false program order choose missing classes code) where
   abbrev machines : Pair guest.State State Counted
   machines = pair program words classes unmarked
 

@@ -1,5 +1,5 @@
 -- A translated program that its host enters where a guest stands.
-use Rattle.std.specs.Prelude.{◌≡◌, ℕ, ◌*◌, List, [], ◌∷◌, Option}
+use Rattle.std.specs.Prelude.{◌≡◌, ℕ, ◌*◌, false, List, [], ◌∷◌, Option}
 use Rattle.nv_words.specs.Words.{IsWord}
 use Rattle.nv_words.specs.declared.order.Order.{Order}
 use Rattle.nv_events.specs.Answer.{Answer, next_answer}
@@ -54,7 +54,7 @@ EnteredProgramsGoOn =
     (program : Program) (words : ℕ) (order : Order) (choose missing : ℕ)
     (classes : List CodeClass) (code : ℕ → Option ℕ)
     (fields : ℕ → Value) (heap : Heap) (t : guest.State) (answers : List Answer)
-    → IsTranslated program order choose missing classes code
+    → IsTranslated false program order choose missing classes code
     → HoldsGuest order code choose fields heap t
     → SameRuns guest_step.turn (turn program words) next_answer (λ n. 512 * n) t
     (entered_over choose fields heap) answers

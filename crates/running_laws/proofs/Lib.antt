@@ -1,4 +1,4 @@
 mod ChoicePasses
-mod TurnLaws
+pub mod TurnLaws
 pub mod TranslationRuns
 pub mod TrampolineLaws

@@ -5,6 +5,7 @@ pub mod Following
 pub mod Credits
 pub mod Given
 pub mod Spans
+pub mod Resting
 pub mod Units
 pub mod Law
 pub mod Marks

@@ -1,5 +1,5 @@
 -- How the classes of a translated program come from one word to the next.
-use Rattle.std.specs.Prelude.{◌≡◌, ℕ, List, Option, Some}
+use Rattle.std.specs.Prelude.{◌≡◌, ℕ, ◌≤◌, Bool, true, false, List, Option, Some}
 use Rattle.nv_words.specs.Words.{IsWord}
 use Rattle.nv_words.specs.declared.order.Order.{Order}
 use Rattle.nv_events.specs.Turn.{ends, «fault»}
@@ -8,12 +8,13 @@ use Rattle.mips_decode.specs.Step as guest_step
 use Rattle.delay_slots.specs.Places.{Address}
 use Rattle.jvm_program.specs.Program.{Program}
 use Rattle.jvm_program.specs.Step.{State}
+use Rattle.meter_laws.specs.Meters.{HasLeft}
 use Rattle.trampoline_laws.specs.Coming.{stray_fault}
 use Rattle.trampoline_laws.specs.Classes.{CodeClass, is_span}
 use Rattle.trampoline_laws.specs.Programs.{IsTranslated}
 use Rattle.loading_code_laws.specs.Made.{HasBegun}
 use Rattle.running_laws.specs.Going.{ComesTo}
-use Rattle.running_laws.specs.Standing.{IsGuest, IsStray, AtChoose, AtRun, AtWord, AtReturn, EndsStray}
+use Rattle.running_laws.specs.Standing.{IsGuest, IsStray, AtChoose, AtRun, AtWord, AtReturn, AtMissing, EndsStray, EndsSpent}
 
 -- ---- from the methods that choose
 
@@ -24,13 +25,13 @@ ComesToWord program words order choose classes t y =
     ComesTo program words (is_span classes) 150 0 1
     (λ z. AtWord program words order classes choose z t) y
 
--- They come to the fault of an address from which no word can be fetched, and count nothing.
-abbrev pub ComesToStray : Program → ℕ → List CodeClass → Address → State → Type 0
-ComesToStray program words classes a y =
-    ComesTo program words (is_span classes) 80 0 0 (λ z. EndsStray program words a z) y
+-- They come to the method for addresses outside all code, and count nothing.
+abbrev pub ComesToMissing : Program → ℕ → List CodeClass → ℕ → Address → State → Type 0
+ComesToMissing program words classes missing a y =
+    ComesTo program words (is_span classes) 70 0 0 (AtMissing missing a) y
 
 -- Where they go from the beginning of a method that chooses, by the guest's address.
-pub record ChoosesWords (program : Program) (words : ℕ) (order : Order) (choose : ℕ)
+pub record ChoosesWords (program : Program) (words : ℕ) (order : Order) (choose missing : ℕ)
     (classes : List CodeClass) (code : ℕ → Option ℕ) : Type 0 where
   -- where a word stands there
   pub from_choose : (t : guest.State) (word : ℕ) (y : State)
@@ -45,19 +46,51 @@ pub record ChoosesWords (program : Program) (words : ℕ) (order : Order) (choos
   pub stray_choose : (t : guest.State) (y : State)
       → IsStray code t.pc → IsWord t.pc
       → AtChoose choose y t
-      → ComesToStray program words classes t.pc y
+      → ComesToMissing program words classes missing t.pc y
   pub stray_run : (t : guest.State) (y : State)
       → IsStray code t.pc → IsWord t.pc
       → AtRun program words classes choose y t
-      → ComesToStray program words classes t.pc y
+      → ComesToMissing program words classes missing t.pc y
 
--- So it is in each translated program.
+-- So it is in each translated program, with a meter or without.
 abbrev pub ChoosersLeadToWords : Type 0
 ChoosersLeadToWords =
-    (program : Program) (words : ℕ) (order : Order) (choose missing : ℕ)
+    (metered : Bool) (program : Program) (words : ℕ) (order : Order) (choose missing : ℕ)
     (classes : List CodeClass) (code : ℕ → Option ℕ)
-    → IsTranslated program order choose missing classes code
-    → ChoosesWords program words order choose classes code
+    → IsTranslated metered program order choose missing classes code
+    → ChoosesWords program words order choose missing classes code
+
+-- ---- outside all code
+
+-- From that method the classes of a program without a meter come to the fault of an address from which no word can be fetched, and count nothing.
+abbrev pub StraysEnd : Type 0
+StraysEnd =
+    (program : Program) (words : ℕ) (order : Order) (choose missing : ℕ)
+    (classes : List CodeClass) (code : ℕ → Option ℕ) (a : Address) (y : State)
+    → IsTranslated false program order choose missing classes code
+    → AtMissing missing a y
+    → ComesTo program words (is_span classes) 10 0 0 (EndsStray program words a) y
+
+-- So do those of one with a meter, where a turn is left.
+abbrev pub MeteredStraysEnd : Type 0
+MeteredStraysEnd =
+    (program : Program) (words : ℕ) (order : Order) (choose missing : ℕ)
+    (classes : List CodeClass) (code : ℕ → Option ℕ) (left : ℕ) (a : Address) (y : State)
+    → IsTranslated true program order choose missing classes code
+    → (s : AtMissing missing a y)
+    → HasLeft left s.workspace
+    → 1 ≤ left
+    → ComesTo program words (is_span classes) 13 0 0 (EndsStray program words a) y
+
+-- Where none is left, they come to the fault of a spent meter at the address.
+abbrev pub SpentStraysEnd : Type 0
+SpentStraysEnd =
+    (program : Program) (words : ℕ) (order : Order) (choose missing : ℕ)
+    (classes : List CodeClass) (code : ℕ → Option ℕ) (a : Address) (y : State)
+    → IsTranslated true program order choose missing classes code
+    → (s : AtMissing missing a y)
+    → HasLeft 0 s.workspace
+    → ComesTo program words (is_span classes) 6 0 0 (EndsSpent program words a) y
 
 -- Where no word can be fetched, the guest's run ends in that same fault.
 abbrev pub GuestsStray : Type 0

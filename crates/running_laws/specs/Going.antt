@@ -8,15 +8,16 @@ use Rattle.jvm_program.specs.Program.{Program}
 use Rattle.jvm_program.specs.Values.{Heap}
 use Rattle.jvm_program.specs.Effect.{Workspace}
 use Rattle.jvm_program.specs.Step.{State, Frame, placed, turn}
-use Rattle.code_paths.specs.Classes.{executed}
+use Rattle.code_paths.specs.Classes.{executed, puts}
 use Rattle.code_paths.specs.Paths.{LooksAtNoTarget}
 use Rattle.span_code_laws.specs.GuestCodeLaws.Counting.{Counts}
 
--- So many turns that only move lead from one state to another, and count at most so much.
+-- So many turns that only move lead from one state to another, count at most so much, and write no field.
 pub record Goes (program : Program) (words : ℕ) (is_span : ℕ → Bool) (n most_reads most_entries : ℕ)
     (x y : State) : Type 0 where
   pub total : (Instruction → ℕ) → ℕ
   pub counts : Counts is_span most_reads most_entries total
+  pub writes_none : (f : ℕ) → total (puts f) ≡ 0
   pub comes : advanced (turn program words) n x ≡ Some y
   pub weighs : (weight : Instruction → ℕ) → LooksAtNoTarget weight
       → sum_by (executed program weight) (moved (turn program words) n x) ≤ total weight

@@ -18,6 +18,7 @@ use Rattle.span_code_laws.specs.GuestFollows.Sites as sites
 use Rattle.span_code_laws.specs.GuestFollows.Sites.{Site}
 use Rattle.span_code_laws.specs.GuestCodeLaws.Pieces.{HoldsAll}
 use Rattle.span_code_laws.specs.Spans.{StandsAt}
+use Rattle.meter_laws.specs.Meters.{spent_fault}
 use Rattle.trampoline_laws.specs.Coming.{stray_fault}
 use Rattle.trampoline_laws.specs.Classes.{CodeClass, run_of, span_words, is_span}
 use Rattle.running_laws.specs.Going.{Waits}
@@ -121,6 +122,17 @@ pub record AtReturn (program : Program) (words : ℕ) (classes : List CodeClass)
 
 -- ---- outside all code
 
+-- The classes stand at the beginning of the method for addresses outside all code, and field pc has the guest's.
+pub record AtMissing (missing : ℕ) (a : Address) (y : State) : Type 0 where
+  pub workspace : Workspace
+  pub others : List Frame
+  pub pc_is : workspace.fields pc_field ≡ int a
+  pub is_there : y ≡ placed missing 0 workspace others
+
 -- the next turn ends the run in the fault of an address from which no word can be fetched
 abbrev pub EndsStray : Program → ℕ → Address → State → Type 0
 EndsStray program words a y = turn program words y ≡ ends («fault» (stray_fault a))
+
+-- it ends the run in the fault of a spent meter at that address
+abbrev pub EndsSpent : Program → ℕ → Address → State → Type 0
+EndsSpent program words a y = turn program words y ≡ ends («fault» (spent_fault a))

@@ -1,5 +1,5 @@
 -- A guest's program and the classes that are its translation.
-use Rattle.std.specs.Prelude.{◌≡◌, ℕ, ◌+◌, ◌*◌, ◌≤◌, Bool, List, Option}
+use Rattle.std.specs.Prelude.{◌≡◌, ℕ, ◌+◌, ◌*◌, ◌≤◌, Bool, false, List, Option, None}
 use Rattle.nv_words.specs.Words.{IsWord}
 use Rattle.nv_words.specs.declared.order.Order.{Order}
 use Rattle.nv_events.specs.Answer.{Answer, next_answer}
@@ -41,10 +41,10 @@ pub record TranslatedProgram : Type 0 where
   pub shares : List (List PageRun)
   pub fillers : List Filler
 
--- The program is the translation of the guest's code, makes its memory, and begins as it does.
+-- The program is the translation of the guest's code, makes its memory, and begins as it does. It has no meter.
 pub record IsTranslatedProgram (t : TranslatedProgram) : Type 0 where
-  pub code_is : IsTranslated t.program t.order t.choose t.missing t.classes t.code
-  pub begins : IsProgram t.program t.own t.apart t.choose t.pages t.beginning t.texts t.fillers
+  pub code_is : IsTranslated false t.program t.order t.choose t.missing t.classes t.code
+  pub begins : IsProgram t.program t.own t.apart t.choose t.pages None t.beginning t.texts t.fillers
   pub memory_is : MakesMemory t.program t.words t.apart t.pages t.texts t.shares t.fillers
       t.readable t.writable t.page_words
   -- no method that makes memory is a span's

@@ -1,5 +1,5 @@
 -- That the classes of a translated program follow the guest turn by turn, and come to marked states.
-use Rattle.std.specs.Prelude.{ℕ, Bool, List, Option}
+use Rattle.std.specs.Prelude.{ℕ, Bool, false, List, Option}
 use Rattle.nv_words.specs.declared.order.Order.{Order}
 use Rattle.run_laws.specs.Turns.{LawOfTurn, LawOfMarks}
 use Rattle.mips_decode.specs.State as guest
@@ -16,7 +16,7 @@ abbrev pub TurnsAreFollowed : Type 0
 TurnsAreFollowed =
     (program : Program) (words : ℕ) (order : Order) (choose missing : ℕ)
     (classes : List CodeClass) (code : ℕ → Option ℕ) (marked : guest.State → Bool)
-    → IsTranslated program order choose missing classes code
+    → IsTranslated false program order choose missing classes code
     → MarksPieces classes marked
     → LawOfTurn (pair program words classes marked)
     (Rests program words order choose classes code) 512
@@ -27,7 +27,7 @@ abbrev pub MarksAreReached : Type 0
 MarksAreReached =
     (program : Program) (words : ℕ) (order : Order) (choose missing : ℕ)
     (classes : List CodeClass) (code : ℕ → Option ℕ) (marked : guest.State → Bool)
-    → IsTranslated program order choose missing classes code
+    → IsTranslated false program order choose missing classes code
     → MarksPieces classes marked
     → LawOfMarks (pair program words classes marked)
     (Rests program words order choose classes code)

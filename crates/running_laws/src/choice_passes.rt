@@ -1,6 +1,6 @@
 //! How the classes come from one word to the next. Each call here does nothing: its contract is the law.
 
-ghost use Rattle.running_laws.specs.Choosing.{BegunProgramsChoose, ChoosersLeadToWords, GuestsStray, SpansComeBack};
+ghost use Rattle.running_laws.specs.Choosing.{BegunProgramsChoose, ChoosersLeadToWords, GuestsStray, MeteredStraysEnd, SpansComeBack, SpentStraysEnd, StraysEnd};
 
 use code_paths::laws::{code_is_a_path, stops_are_effects, turns_at_steps};
 use span_code_laws::laws::{fields_hold_all, returns_give_back, spans_are_entered};
@@ -14,7 +14,7 @@ use trampoline_laws::laws::{
 };
 
 /// From the beginning of a method that chooses, the classes come to the code of the word at which the guest stands: they read nothing, and make
-/// one entry and one switch at most. Where no word can be fetched, they come to a fault, and count nothing.
+/// one entry and one switch at most. Where no word can be fetched, they come to the method for addresses outside all code, and count nothing.
 pub fn choosers_lead_to_words()
     ensures { ChoosersLeadToWords }
 {
@@ -22,7 +22,6 @@ pub fn choosers_lead_to_words()
     class_choosers_choose();
     main_choosers_choose();
     paths_make_no_calls();
-    strays_fault();
     code_is_a_path();
     stops_are_effects();
     turns_at_steps();
@@ -40,7 +39,22 @@ pub fn choosers_lead_to_words()
     words_fill_classes();
 }
 
-/// Where no word can be fetched, the guest's run ends in that same fault.
+/// From there they come to the fault of an address from which no word can be fetched, with a meter where a turn is left, and else to the fault of a
+/// spent meter.
+pub fn strays_end()
+    ensures plain { StraysEnd }
+    ensures metered { MeteredStraysEnd }
+    ensures spent { SpentStraysEnd }
+{
+    choosers_weigh_their_calls();
+    paths_make_no_calls();
+    strays_fault();
+    code_is_a_path();
+    stops_are_effects();
+    turns_at_steps();
+}
+
+/// Where no word can be fetched, the guest's run ends in the fault of its address.
 pub fn guests_fault_outside_code()
     ensures { GuestsStray }
 {}

@@ -2,7 +2,9 @@
 
 ghost use Rattle.running_laws.specs.Turning.{MarksAreReached, TurnsAreFollowed};
 
-use crate::choice_passes::{choosers_lead_to_words, guests_fault_outside_code, spans_come_back};
+use crate::choice_passes::{
+    choosers_lead_to_words, guests_fault_outside_code, spans_come_back, strays_end,
+};
 use delay_slots::{unit_is_its_steps, unit_leads_on};
 use span_code_laws::span_steps::{
     last_units_in_pieces_are_followed, pieces_are_entered, units_in_pieces_are_followed,
@@ -36,6 +38,7 @@ pub fn turns_are_followed()
     choosers_lead_to_words();
     guests_fault_outside_code();
     spans_come_back();
+    strays_end();
 }
 
 /// From rest at a marked state of the guest the classes come within 150 turns that only move to the code of the word at which the guest stands, with
@@ -51,4 +54,5 @@ pub fn marks_are_reached()
     choosers_lead_to_words();
     guests_fault_outside_code();
     spans_come_back();
+    strays_end();
 }

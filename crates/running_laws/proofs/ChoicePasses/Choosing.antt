@@ -20,7 +20,7 @@ use Rattle.code_steps.specs.Widths.{bytes_before, size}
 use Rattle.code_steps.specs.Outcomes.{Outcome, left, stopped, outcome, outcome_from}
 use Rattle.code_steps.specs.Placing.{LiesAt}
 use Rattle.code_steps.specs.Leading.{StopsAt}
-use Rattle.code_paths.specs.Classes.{reads, chars, switches, entries}
+use Rattle.code_paths.specs.Classes.{reads, chars, switches, entries, puts}
 use Rattle.code_paths.specs.Paths.{PathWithin, step_weight, weigh}
 use Rattle.code_paths.proofs.Weighing.{weigh-front, weigh-back, weigh-more, line-step}
 use Rattle.trampoline_laws.specs.Coming.{Stops, Calls, begins_anew}
@@ -72,6 +72,7 @@ module _ (laws : CodeLaws) (program : Program) (words : ℕ) (is_span : ℕ → 
   counts-nothing total less = record {
     no_reads = none-at-all (total reads) (weigh (beside_calls reads) code) (less reads) (silent reads laws.spared.of_reads.comparing);
     no_chars = none-at-all (total chars) (weigh (beside_calls chars) code) (less chars) (silent chars laws.spared.of_chars.comparing);
+    no_writes = λ f. none-at-all (total (puts f)) (weigh (beside_calls (puts f)) code) (less (puts f)) (silent (puts f) (laws.spared.of_writes f).comparing);
     few_switches = let a = less switches in let b = silent switches laws.spared.of_switches.comparing in omega (arith, a, b);
     few_entries = let a = less (entries is_span) in let b = silent (entries is_span) (laws.spared.of_entries is_span) in omega (arith, a, b);
   }
@@ -187,6 +188,6 @@ module _ (laws : CodeLaws) (program : Program) (words : ℕ) (is_span : ℕ → 
             (moves-on program words is_span c.turns 1 0 0 0 most_entries (placed own 0 w others) here there way.0
             (turn-goes c.step most_entries (Does (Call callee)) v others there c.step_is
             (way.1.turns ∙ call-moves c.step callee way.1.line v others way.1.next_is room)
-            (record { no_reads = refl; no_chars = refl; few_switches = omega arith; few_entries = enough })));
+            (record { no_reads = refl; no_chars = refl; no_writes = λ f. refl; few_switches = omega arith; few_entries = enough })));
         arrives = record { waiting = behind c.step v; waits = waits-behind most few callee w v others less none c; is_there = refl };
       }

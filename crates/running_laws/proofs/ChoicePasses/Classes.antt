@@ -1,8 +1,9 @@
 -- From the methods that choose to the code of a word.
-use Rattle.std.proofs.Common.{◌≡◌, ℕ, ◌+◌, ◌<◌, ◌≤◌, ◌⊎◌, inl, inr, Bool, true, false, if◌then◌else◌, List, [], ◌∷◌, length, slice_get, Option, Some, refl, ap, sym, subst, ◌∙◌, arith}
+use Rattle.std.proofs.Common.{rules, ◌≡◌, ℕ, ◌+◌, ◌<◌, ◌≤◌, ◌⊎◌, inl, inr, Bool, true, false, if◌then◌else◌, List, [], ◌∷◌, length, slice_get, Option, Some, refl, ap, sym, subst, ◌∙◌, arith}
 use Rattle.nv_words.specs.Words.{IsWord}
 use Rattle.nv_words.specs.declared.order.Order.{Order}
 use Rattle.mips_decode.specs.State as guest
+use Rattle.delay_slots.specs.declared.unit.Unit.{Unit}
 use Rattle.delay_slots.specs.Units.{units_of}
 use Rattle.jvm_program.specs.declared.value.Value.TheVariants.{Int as int}
 use Rattle.jvm_program.specs.Program.{Program}
@@ -14,7 +15,8 @@ use Rattle.guest_layout.specs.FieldNumbers.{pc_field}
 use Rattle.span_code.specs.declared.span_words.SpanWords.{SpanWords}
 use Rattle.span_code.specs.Laying.{base}
 use Rattle.trampoline.specs.declared.start.Start.{Start}
-use Rattle.trampoline.specs.Choosers.{class_chooser, main_chooser, missing_code}
+use Rattle.trampoline.specs.Choosers.{class_chooser, main_chooser, missing_method}
+use Rattle.code_paths.specs.Classes.{puts}
 use Rattle.code_paths.specs.Paths.{weigh}
 use Rattle.span_code_laws.specs.GuestFollows.Sites as sites
 use Rattle.span_code_laws.specs.GuestCodeLaws.Pieces.{HoldsAll}
@@ -27,7 +29,7 @@ use Rattle.trampoline_laws.specs.Classes.{CodeClass, address, end_of, run_of, sp
 use Rattle.trampoline_laws.specs.Programs.{IsTranslated, StandsInProgram}
 use Rattle.running_laws.specs.Going.{ComesTo, Waits, with_frame, work_of}
 use Rattle.running_laws.specs.Standing.{IsGuest, StandsChoosing, AtChoose, AtRun, AtWord, span_site, word_entry}
-use Rattle.running_laws.proofs.ChoicePasses.Given.{CodeLaws, ChooserLaws, SpanLaws, ClassLaws, ProgramLaws}
+use Rattle.running_laws.proofs.ChoicePasses.Given.{CodeLaws, ChooserLaws, MissingLaws, SpanLaws, ClassLaws, ProgramLaws}
 use Rattle.running_laws.proofs.ChoicePasses.Starts.{class-starts, main-starts, stands-in}
 use Rattle.running_laws.proofs.ChoicePasses.Going.{Moves, Leads, moves-path, moves-so, leads-then, comes-so}
 use Rattle.running_laws.proofs.ChoicePasses.Choosing.{IsSilent, Entered, call-comes, return-comes}
@@ -47,8 +49,12 @@ main-silent laws missing starts weight spares =
     let calls = laws.no_calls (beside_calls weight) starts beside.calls in
     omega (arith, all, calls)
 
-pub stray-silent : ChooserLaws → IsSilent missing_code
-stray-silent laws weight spares = (laws.weigh (beside_calls weight) (laws.spared.beside weight spares).comparing).strays
+pub missing-silent : MissingLaws → (metered : Bool) → IsSilent (missing_method metered)
+missing-silent laws metered weight spares = (laws.weigh (beside_calls weight) (laws.spared.beside weight spares).comparing).strays metered
+
+-- nor does the code with which the method of a span begins write a field
+entering-writes : (f : ℕ) (units : List Unit) (leads : ℕ → Bool) (span : SpanWords) → weigh (puts f) (entering units leads span) ≡ 0
+entering-writes f units leads span = search rules
 
 -- a call of a span is one entry at most, and that of another method none
 one-entry : (b : Bool) → (if b then 1 else 0) ≤ 1
@@ -118,7 +124,7 @@ module _ (laws : CodeLaws) (choosers : ChooserLaws) (spans : SpanLaws) (program 
             let chars_none = counts.no_chars in
             let one_switch = counts.one_switch in
             let entries_none = counts.no_entries numbers in
-            let way : Moves program words numbers enter.turns 1 0 (sites.stands site 0 u) end = moves-path program words numbers (c.first_method + j) 0 (base own_words) enter.turns 1 0 (λ weight. weigh weight (entering units c.leads own_words)) (sites.stands site 0 u) end enter.path (record { no_reads = reads_none; no_chars = chars_none; few_switches = omega (arith, one_switch); few_entries = omega (arith, entries_none) }) in
+            let way : Moves program words numbers enter.turns 1 0 (sites.stands site 0 u) end = moves-path program words numbers (c.first_method + j) 0 (base own_words) enter.turns 1 0 (λ weight. weigh weight (entering units c.leads own_words)) (sites.stands site 0 u) end enter.path (record { no_reads = reads_none; no_chars = chars_none; no_writes = λ f. entering-writes f units c.leads own_words; few_switches = omega (arith, one_switch); few_entries = omega (arith, entries_none) }) in
             record {
               turns = enter.turns;
               in_time = enter.in_time;
@@ -182,7 +188,7 @@ module _ (laws : CodeLaws) (choosers : ChooserLaws) (spans : SpanLaws) (program 
 
   -- ---- the whole program
 
-  module _ (program_laws : ProgramLaws) (order : Order) (is_in : IsTranslated program order choose missing classes code) (t : guest.State) (guest_is : IsGuest order code t) where
+  module _ {metered : Bool} (program_laws : ProgramLaws) (order : Order) (is_in : IsTranslated metered program order choose missing classes code) (t : guest.State) (guest_is : IsGuest order code t) where
     abbrev main : List Step
     main = main_chooser (starts_of missing classes) missing
 
@@ -199,14 +205,14 @@ module _ (laws : CodeLaws) (choosers : ChooserLaws) (spans : SpanLaws) (program 
         let callee = run_of c in
         let w = s.workspace in
         let v = with_address w t.pc in
-        let choice = program_laws.chosen program order choose missing classes code is_in number c k there less in
+        let choice = program_laws.chosen metered program order choose missing classes code is_in number c k there less in
         let reached : IsReached starts t.pc = subst (IsReached starts) (sym pc) choice.reached in
         let is_chosen : chosen starts t.pc ≡ callee = ap (chosen starts) pc ∙ choice.own in
         let call : Calls program words 42 main w v callee 12 begins_anew = subst (λ m. Calls program words 42 main w v m 12 begins_anew) is_chosen (choosers.main_calls program words missing t.pc starts w (main-starts program_laws program order choose missing classes code is_in) s.pc_is reached) in
         let start = placed choose 0 w (at_start ∷ []) in
         subst (λ (z : State). Leads program words numbers 103 1 1 Words z) (sym s.is_there)
         (leads-then program words numbers 43 60 0 0 1 1 (Entered program words numbers choose callee v (at_start ∷ [])) Words start
-        (call-comes laws program words numbers choose main is_in.choose_lies (main-silent choosers missing starts) 42 12 callee 0 w v (at_start ∷ []) (omega arith) s.no_operands (omega arith) (no-entry (numbers callee) ((program_laws.numbered program order choose missing classes code is_in).runs number c there)) call)
+        (call-comes laws program words numbers choose main is_in.choose_lies (main-silent choosers missing starts) 42 12 callee 0 w v (at_start ∷ []) (omega arith) s.no_operands (omega arith) (no-entry (numbers callee) ((program_laws.numbered metered program order choose missing classes code is_in).runs number c there)) call)
         (λ z e. run-enters class_laws number c there (stands-in program_laws program order choose missing classes code is_in number c there) (class-starts program_laws program order choose missing classes code is_in number c there) t e.waiting at_start e.waits order guest_is k less pc z
         (record { workspace = body_workspace [] v; held = spans.held w (body_workspace [] v) t refl refl s.held; no_operands = refl; pc_is = s.pc_is; is_there = e.is_there })))
 

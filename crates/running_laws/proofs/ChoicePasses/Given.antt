@@ -2,7 +2,7 @@
 use Rattle.code_paths.specs.Laws.{CodeIsPath, StopsByEffect, TurnsAtSteps}
 use Rattle.span_code_laws.specs.Entering.{EnteringOnlySwitches, SpansAreEntered}
 use Rattle.span_code_laws.specs.Resuming.{FieldsHoldAll}
-use Rattle.trampoline_laws.specs.Coming.{ClassChoosersCall, ClassChoosersReturn, MainChoosersCall, MainChoosersStray, PathsMakeNoCalls, StraysFault}
+use Rattle.trampoline_laws.specs.Coming.{ClassChoosersCall, ClassChoosersReturn, MainChoosersCall, MainChoosersStray, MeteredStraysFault, PathsMakeNoCalls, SpentStraysEnd, StraysFault}
 use Rattle.trampoline_laws.specs.Weights.{CallsAreSpared, ChoosersWeighTheirCalls, CountsSpareChoosing}
 use Rattle.trampoline_laws.specs.Classes.{SpansLieInClasses, SpansRise, WordsFillClasses}
 use Rattle.trampoline_laws.specs.Found.{WordsAreInSpans}
@@ -24,9 +24,16 @@ pub record ChooserLaws : Type 0 where
   pub class_returns : ClassChoosersReturn
   pub main_calls : MainChoosersCall
   pub main_strays : MainChoosersStray
-  pub faults_so : StraysFault
   pub weigh : ChoosersWeighTheirCalls
   pub no_calls : CallsAreSpared
+  pub spared : CountsSpareChoosing
+
+-- the method for addresses outside all code
+pub record MissingLaws : Type 0 where
+  pub plain : StraysFault
+  pub metered : MeteredStraysFault
+  pub spent : SpentStraysEnd
+  pub weigh : ChoosersWeighTheirCalls
   pub spared : CountsSpareChoosing
 
 -- ---- spans

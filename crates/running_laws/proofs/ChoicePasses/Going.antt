@@ -1,4 +1,4 @@
--- Turns that only move and read no word, one behind the other.
+-- Turns that only move, read no word and write no field, one behind the other.
 use Rattle.std.proofs.Common.{◌≡◌, ℕ, ◌+◌, ◌≤◌, Bool, Some, ap, ◌∙◌, arith}
 use Rattle.std.specs.List.{sum_by}
 use Rattle.std.proofs.lemmas.List.Sums.{sum_by-append}
@@ -7,14 +7,15 @@ use Rattle.run_laws.proofs.Passing.{advanced_add, moved_add}
 use Rattle.jvm_program.specs.declared.instruction.Instruction.{Instruction}
 use Rattle.jvm_program.specs.Program.{Program}
 use Rattle.jvm_program.specs.Step.{State, turn}
-use Rattle.code_paths.specs.Classes.{executed, reads, chars, switches, entries}
+use Rattle.code_paths.specs.Classes.{executed, reads, chars, switches, entries, puts}
 use Rattle.code_paths.specs.Paths.{LooksAtNoTarget, Path}
 use Rattle.running_laws.specs.Going.{Goes, ComesTo}
 
--- A total counts no read of a word and no character, and at most so many switches and entries.
+-- A total counts no read of a word, no character and no write of a field, and at most so many switches and entries.
 pub record Spares (is_span : ℕ → Bool) (most_switches most_entries : ℕ) (total : (Instruction → ℕ) → ℕ) : Type 0 where
   pub no_reads : total reads ≡ 0
   pub no_chars : total chars ≡ 0
+  pub no_writes : (f : ℕ) → total (puts f) ≡ 0
   pub few_switches : total switches ≤ most_switches
   pub few_entries : total (entries is_span) ≤ most_entries
 
@@ -48,6 +49,7 @@ module _ (program : Program) (words : ℕ) (is_span : ℕ → Bool) where
         counts = record {
           no_reads = omega (arith, a.no_reads, b.no_reads);
           no_chars = omega (arith, a.no_chars, b.no_chars);
+          no_writes = λ f. let c = a.no_writes f in let d = b.no_writes f in omega (arith, c, d);
           few_switches = omega (arith, a.few_switches, b.few_switches);
           few_entries = omega (arith, a.few_entries, b.few_entries);
         };
@@ -66,6 +68,7 @@ module _ (program : Program) (words : ℕ) (is_span : ℕ → Bool) where
       few_switches = way.counts.few_switches;
       few_entries = way.counts.few_entries;
     };
+    writes_none = way.counts.no_writes;
     comes = way.comes;
     weighs = way.weighs;
   }
@@ -76,6 +79,7 @@ module _ (program : Program) (words : ℕ) (is_span : ℕ → Bool) where
     counts = record {
       no_reads = let a = way.counts.few_reads in omega (arith, a);
       no_chars = way.counts.no_chars;
+      no_writes = way.writes_none;
       few_switches = way.counts.few_switches;
       few_entries = way.counts.few_entries;
     };
@@ -122,3 +126,16 @@ module _ (program : Program) (words : ℕ) (is_span : ℕ → Bool) where
     goes = goes-so leads.turns e x leads.after leads.way;
     arrives = leads.arrives;
   }
+
+  -- and on from there
+  pub comes-then : (n k : ℕ) (Between Arrives : State → Type 0) (x : State) → ComesTo program words is_span n 0 0 Between x → ((y : State) → Between y → ComesTo program words is_span k 0 0 Arrives y) → ComesTo program words is_span (n + k) 0 0 Arrives x
+  comes-then n k Between Arrives x first next =
+      let then = next first.after first.arrives in
+      record {
+        turns = first.turns + then.turns;
+        in_time = omega (arith, first.in_time, then.in_time);
+        after = then.after;
+        goes = goes-so (first.turns + then.turns) 0 x then.after
+            (moves-on first.turns then.turns 0 0 0 0 x first.after then.after (moves-so first.turns 0 x first.after first.goes) (moves-so then.turns 0 first.after then.after then.goes));
+        arrives = then.arrives;
+      }

@@ -27,7 +27,7 @@ return-moves gives_back site at w f others is_span lies are =
     (turn-path site.program site.words site.method at (at + 1) (λ weight. weight line.instruction) x y is
     (λ weight still. let a = turn-weighs site.program site.method at w site.others y line lies.0 weight in omega (arith, a))
     (seen-within site.program site.words site.method at (at + 1) w site.others (omega arith)))
-    (record { no_reads = refl; no_chars = refl; few_switches = omega arith; few_entries = omega arith })
+    (record { no_reads = refl; no_chars = refl; no_writes = λ f. refl; few_switches = omega arith; few_entries = omega arith })
 
 pub comes-back : ReturnsGiveBack → FieldsHoldAll → (program : Program) (words : ℕ) (classes : List CodeClass) (choose : ℕ) (t : guest.State) (y : State) → AtReturn program words classes choose y t → ComesTo program words (is_span classes) 13 0 0 (λ z. AtRun program words classes choose z t) y
 comes-back gives_back held program words classes choose t y s =

@@ -94,7 +94,7 @@ module _ (laws : LoadingLaws) (t : TranslatedProgram) (is : IsTranslatedProgram 
 
   chooses-in-no-span : is_span t.classes t.choose ≡ false
   chooses-in-no-span =
-      (laws.numbered t.program t.order t.choose t.missing t.classes t.code is.code_is).lower t.choose is.code_is.choose_low
+      (laws.numbered false t.program t.order t.choose t.missing t.classes t.code is.code_is).lower t.choose is.code_is.choose_low
 
   loads-to-begun : runs.Loads (pair t.program t.words t.classes marked) Begun (extra + 2 * 512) allowed (guest_start t) (start t.program)
   loads-to-begun =

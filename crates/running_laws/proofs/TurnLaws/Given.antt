@@ -6,7 +6,7 @@ use Rattle.span_code_laws.specs.InPieces.{UnitsStandInPieces}
 use Rattle.span_code_laws.specs.Following.{FetchingIsSpared, InnerUnitsAreFollowed, LastUnitsAreFollowed, PiecesAreEntered, WordsAloneAreFollowed}
 use Rattle.trampoline_laws.specs.Classes.{SpansLieInClasses}
 use Rattle.trampoline_laws.specs.Programs.{ClassesStand, SpansAreApart, SpansAreNumbered}
-use Rattle.running_laws.specs.Choosing.{ChoosersLeadToWords, GuestsStray, SpansComeBack}
+use Rattle.running_laws.specs.Choosing.{ChoosersLeadToWords, GuestsStray, SpansComeBack, StraysEnd}
 
 -- what units do, and count
 pub record UnitLaws : Type 0 where
@@ -34,5 +34,6 @@ pub record ProgramLaws : Type 0 where
   pub numbered : SpansAreNumbered
   pub apart : SpansAreApart
   pub lead : ChoosersLeadToWords
+  pub stray_end : StraysEnd
   pub stray : GuestsStray
   pub come_back : SpansComeBack

@@ -29,7 +29,7 @@ is_outer (asks_host call readable writable w) = true
 is_outer (faults f) = true
 is_outer _ = false
 
-if-inner : (b : Bool) (x y : Effect) → is_outer x ≡ false → is_outer y ≡ false → is_outer (if b then x else y) ≡ false
+pub if-inner : (b : Bool) (x y : Effect) → is_outer x ≡ false → is_outer y ≡ false → is_outer (if b then x else y) ≡ false
 if-inner true x y first second = first
 if-inner false x y first second = second
 
@@ -150,7 +150,7 @@ returned-inner : (others : List Frame) (v : Option Value) (w : Workspace) → is
 returned-inner [] v w = refl
 returned-inner (f ∷ others) v w = refl
 
-by-outer : (e : Effect) (m : ℕ) (line : LinkedLine) (others : List Frame) → is_outer_turn (turn_by e m line others) ≡ true → is_outer e ≡ true
+pub by-outer : (e : Effect) (m : ℕ) (line : LinkedLine) (others : List Frame) → is_outer_turn (turn_by e m line others) ≡ true → is_outer e ≡ true
 by-outer (goes_on w) m line others outer = absurd (true≢false (sym outer))
 by-outer (jumps k w) m line others outer = absurd (true≢false (sym outer ∙ jumped-inner m (slice_get (targets_of line.instruction) k) w others))
 by-outer (enters callee given w) m line others outer =

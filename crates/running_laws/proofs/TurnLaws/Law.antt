@@ -1,5 +1,5 @@
 -- The law of a turn.
-use Rattle.std.proofs.Common.{◌≡◌, ℕ, ◌+◌, ◌*◌, ◌≤◌, inl, inr, Bool, List, [], ◌∷◌, ◌++◌, Option, Some, None, refl, ap, sym, subst, arith}
+use Rattle.std.proofs.Common.{◌≡◌, ℕ, ◌+◌, ◌*◌, ◌≤◌, inl, inr, Bool, false, List, [], ◌∷◌, ◌++◌, Option, Some, None, refl, ap, sym, subst, arith}
 use Rattle.std.specs.List.{sum_by}
 use Rattle.nv_words.specs.declared.order.Order.{Order}
 use Rattle.nv_events.specs.Turn.{Turn, moves, ends, leaves, asks, «fault»}
@@ -13,11 +13,12 @@ use Rattle.trampoline_laws.specs.Coming.{stray_fault}
 use Rattle.trampoline_laws.specs.Classes.{CodeClass, is_span, run_of}
 use Rattle.trampoline_laws.specs.Programs.{IsTranslated, TellsSpans}
 use Rattle.running_laws.specs.Going.{ComesTo}
-use Rattle.running_laws.specs.Choosing.{ChoosesWords}
-use Rattle.running_laws.specs.Standing.{IsGuest, IsStray, AtChoose, AtRun, AtWord, EndsStray}
+use Rattle.running_laws.specs.Choosing.{ChoosesWords, ComesToMissing}
+use Rattle.running_laws.specs.Standing.{IsGuest, IsStray, AtChoose, AtMissing, AtRun, AtWord, EndsStray}
 use Rattle.running_laws.specs.Counted.{Counted, paid, credit, pair}
 use Rattle.running_laws.specs.Rests.{AtUnit, Rests, StandsSomewhere}
 use Rattle.running_laws.specs.Marks.{MarksPieces}
+use Rattle.running_laws.proofs.ChoicePasses.Going.{comes-then}
 use Rattle.running_laws.proofs.TurnLaws.Given.{UnitLaws, SpanLaws, ProgramLaws}
 use Rattle.running_laws.proofs.TurnLaws.Inner.{is_outer_turn}
 use Rattle.running_laws.proofs.TurnLaws.Turning.{HasTurns, IsLike, Walks, classes-pass, outer-follows, trail_to}
@@ -71,7 +72,7 @@ module _ {G J I : Type 0} (p : Pair G J I) (Rest : G → J → Type 0) (limit wi
 abbrev pub turn_limit : ℕ → ℕ
 turn_limit n = 512 * n
 
-module _ (unit_laws : UnitLaws) (laws : SpanLaws) (program_laws : ProgramLaws) (program : Program) (words : ℕ) (order : Order) (choose missing : ℕ) (classes : List CodeClass) (code : ℕ → Option ℕ) (is_in : IsTranslated program order choose missing classes code) (marked : guest.State → Bool) (marks : MarksPieces classes marked) where
+module _ (unit_laws : UnitLaws) (laws : SpanLaws) (program_laws : ProgramLaws) (program : Program) (words : ℕ) (order : Order) (choose missing : ℕ) (classes : List CodeClass) (code : ℕ → Option ℕ) (is_in : IsTranslated false program order choose missing classes code) (marked : guest.State → Bool) (marks : MarksPieces classes marked) where
   abbrev Rest : guest.State → State → Type 0
   Rest t y = Rests program words order choose classes code t y
 
@@ -84,8 +85,14 @@ module _ (unit_laws : UnitLaws) (laws : SpanLaws) (program_laws : ProgramLaws) (
   spans-told : TellsSpans is_in.low classes
   spans-told = told program_laws program order choose missing classes code is_in
 
-  leads : ChoosesWords program words order choose classes code
-  leads = program_laws.lead program words order choose missing classes code is_in
+  leads : ChoosesWords program words order choose missing classes code
+  leads = program_laws.lead false program words order choose missing classes code is_in
+
+  -- outside all code to the end of the run
+  to-end : (a : ℕ) (y : State) → ComesToMissing program words classes missing a y → ComesTo program words (is_span classes) 80 0 0 (λ z. EndsStray program words a z) y
+  to-end a y c =
+      comes-then program words (is_span classes) 70 10 (AtMissing missing a) (EndsStray program words a) y c
+      (λ z s. program_laws.stray_end program words order choose missing classes code a z is_in s)
 
   -- ---- at the code of a word, or of a unit
 
@@ -150,10 +157,10 @@ module _ (unit_laws : UnitLaws) (laws : SpanLaws) (program_laws : ProgramLaws) (
   rest-turn t y r (inr (inl s)) = follows-wider machines Rest (λ n. 132 * n + 83) turn_limit (λ n. omega arith) t y (unit-turn t y r.guest_is s)
   rest-turn t y r (inr (inr (inl s))) =
       chooses-by t y r.guest_is (code t.pc) refl (λ i. run-credit i t y s) (λ w is. leads.from_run t w y r.guest_is is r.pc_word s)
-      (λ stray. leads.stray_run t y stray r.pc_word s)
+      (λ stray. to-end t.pc y (leads.stray_run t y stray r.pc_word s))
   rest-turn t y r (inr (inr (inr s))) =
       chooses-by t y r.guest_is (code t.pc) refl (λ i. choose-credit i t y s) (λ w is. leads.from_choose t w y r.guest_is is s)
-      (λ stray. leads.stray_choose t y stray r.pc_word s)
+      (λ stray. to-end t.pc y (leads.stray_choose t y stray r.pc_word s))
 
   pub turns-followed : LawOfTurn machines Rest 512
   turns-followed t y r = rest-turn t y r r.stands

@@ -1,5 +1,5 @@
 -- Where the classes come to marked states of the guest.
-use Rattle.std.proofs.Common.{◌≡◌, ℕ, ◌+◌, ◌<◌, ◌≤◌, Bool, true, inl, inr, List, length, Option, Some, refl, ap, sym, ◌∙◌, arith}
+use Rattle.std.proofs.Common.{◌≡◌, ℕ, ◌+◌, ◌<◌, ◌≤◌, Bool, true, false, inl, inr, List, length, Option, Some, refl, ap, sym, ◌∙◌, arith}
 use Rattle.std.proofs.lemmas.Bool.{true≢false}
 use Rattle.std.proofs.lemmas.Option.{slice_get-get_or}
 use Rattle.nv_words.specs.declared.order.Order.{Order}
@@ -20,7 +20,7 @@ use Rattle.running_laws.specs.Marks.{AtPiece, MarksPieces}
 use Rattle.running_laws.proofs.TurnLaws.Given.{ProgramLaws}
 use Rattle.running_laws.proofs.TurnLaws.Spans.{has-span, stands-in}
 
-module _ (in_pieces : UnitsStandInPieces) (laws : ProgramLaws) (program : Program) (words : ℕ) (order : Order) (choose missing : ℕ) (classes : List CodeClass) (code : ℕ → Option ℕ) (is_in : IsTranslated program order choose missing classes code) (marked : guest.State → Bool) (marks : MarksPieces classes marked) where
+module _ (in_pieces : UnitsStandInPieces) (laws : ProgramLaws) (program : Program) (words : ℕ) (order : Order) (choose missing : ℕ) (classes : List CodeClass) (code : ℕ → Option ℕ) (is_in : IsTranslated false program order choose missing classes code) (marked : guest.State → Bool) (marks : MarksPieces classes marked) where
   abbrev Rest : guest.State → State → Type 0
   Rest t y = Rests program words order choose classes code t y
 
@@ -33,8 +33,8 @@ module _ (in_pieces : UnitsStandInPieces) (laws : ProgramLaws) (program : Progra
   abbrev Comes : guest.State → State → Type 0
   Comes t y = (n : ℕ) × (place : State) × (n ≤ 150) × (advanced (turn program words) n y ≡ Some place) × Marked t place
 
-  leads : ChoosesWords program words order choose classes code
-  leads = laws.lead program words order choose missing classes code is_in
+  leads : ChoosesWords program words order choose missing classes code
+  leads = laws.lead false program words order choose missing classes code is_in
 
   word-marked : (t : guest.State) (y : State) → IsGuest order code t → marked t ≡ true → Words t y → Marked t y
   word-marked t y guest_is is s = record {

@@ -1,5 +1,5 @@
 -- The spans of the classes of a translated program.
-use Rattle.std.proofs.Common.{◌≡◌, ℕ, ◌<◌, List, length, slice_get, Option, Some, arith}
+use Rattle.std.proofs.Common.{◌≡◌, ℕ, ◌<◌, Bool, List, length, slice_get, Option, Some, arith}
 use Rattle.nv_words.specs.declared.order.Order.{Order}
 use Rattle.jvm_program.specs.Program.{Program}
 use Rattle.jvm_program.specs.Step.{Frame}
@@ -11,17 +11,17 @@ use Rattle.trampoline_laws.specs.Programs.{IsTranslated, StandsInProgram, TellsS
 use Rattle.running_laws.specs.Standing.{span_site}
 use Rattle.running_laws.proofs.TurnLaws.Given.{ProgramLaws}
 
-module _ (laws : ProgramLaws) (program : Program) (order : Order) (choose missing : ℕ) (classes : List CodeClass) (code : ℕ → Option ℕ)
-    (is_in : IsTranslated program order choose missing classes code) where
+module _ {metered : Bool} (laws : ProgramLaws) (program : Program) (order : Order) (choose missing : ℕ) (classes : List CodeClass) (code : ℕ → Option ℕ)
+    (is_in : IsTranslated metered program order choose missing classes code) where
   pub told : TellsSpans is_in.low classes
-  told = laws.numbered program order choose missing classes code is_in
+  told = laws.numbered metered program order choose missing classes code is_in
 
   pub spares-helpers : SparesHelpers (is_span classes)
   spares-helpers h less = told.lower h (omega (arith, less, is_in.helpers_low))
 
   module _ (number : ℕ) (c : CodeClass) (there : slice_get classes number ≡ Some c) where
     pub stands-in : StandsInProgram program code c
-    stands-in = laws.stand program order choose missing classes code is_in number c there
+    stands-in = laws.stand metered program order choose missing classes code is_in number c there
 
     module _ (words j : ℕ) (j_below : j < length c.spans) (others : List Frame) where
       pub lies-in : LiesInClass c j

@@ -1,8 +1,7 @@
 -- The classes follow the guest's turns through the unit at which it stands.
-use Rattle.std.proofs.Common.{◌≡◌, ℕ, suc, ◌+◌, ◌*◌, ◌<◌, ◌≤◌, ◌⊎◌, inl, inr, Bool, true, false, List, [], ◌∷◌, ◌++◌, length, length-append, slice_get, Option, Some, None, refl, ap, sym, subst, ◌∙◌, arith}
+use Rattle.std.proofs.Common.{◌≡◌, ℕ, ◌+◌, ◌*◌, ◌<◌, ◌≤◌, ◌⊎◌, inl, inr, Bool, true, false, List, [], ◌∷◌, ◌++◌, length, length-append, slice_get, Option, Some, None, refl, ap, sym, subst, ◌∙◌, arith}
 use Rattle.std.specs.List.{sum_by}
 use Rattle.std.proofs.lemmas.Bool.{true≢false}
-use Rattle.std.proofs.lemmas.Option.{slice_get-get_or}
 use Rattle.nv_words.specs.Words.{IsWord}
 use Rattle.nv_words.specs.declared.order.Order.{Order}
 use Rattle.nv_events.specs.Turn.{Turn, moves, ends, leaves, asks}
@@ -14,7 +13,7 @@ use Rattle.delay_slots.specs.declared.unit.Unit.{Unit}
 use Rattle.delay_slots.specs.declared.unit.Unit.TheVariants as units
 use Rattle.delay_slots.specs.Units.{units_of}
 use Rattle.delay_slots.specs.Turns as delay
-use Rattle.delay_slots.specs.Turns.{HasRange, IsBetweenUnits, LeadsOn, unit_turns, turn_count, last_turn}
+use Rattle.delay_slots.specs.Turns.{HasRange, IsBetweenUnits, unit_turns, turn_count, last_turn}
 use Rattle.block_builder.specs.Blocks.{unit_at}
 use Rattle.block_builder.specs.Leaders.{is_plain}
 use Rattle.jvm_program.specs.declared.instruction.Instruction.{Instruction}
@@ -32,8 +31,9 @@ use Rattle.span_code_laws.specs.GuestFollows.Following as unit_follows
 use Rattle.span_code_laws.specs.Resuming.{ComesTo, FollowsInSpan, IsOutside, LastInSpan, Resumes, StandsAtReturn, StandsAtWord, jumps_by_register}
 use Rattle.span_code_laws.specs.Spans.{HasSpan, StandsAt}
 use Rattle.span_code_laws.specs.GuestCodeLaws.Counting.{ReadsNoneToCall, UnitCounts, unit_reads}
-use Rattle.span_code_laws.specs.GuestCodeLaws.Steps.{GoesThroughSlot, LeadsToWords, begins_with_register_jump, unit_trail}
+use Rattle.span_code_laws.specs.GuestCodeLaws.Steps.{GoesThroughSlot, begins_with_register_jump, unit_trail}
 use Rattle.span_code_laws.specs.InPieces.{HasUnit, StandsInPiece, fetching, known_behind, offset_in, own_units}
+use Rattle.trampoline_laws.proofs.TrampolineLaws.Elements.{all-at}
 use Rattle.trampoline_laws.specs.Classes.{CodeClass, is_span, span_words, counted_span, counted_spans}
 use Rattle.trampoline_laws.specs.Programs.{IsTranslated}
 use Rattle.running_laws.specs.Standing.{IsGuest, IsBelow, span_site, word_entry}
@@ -41,6 +41,7 @@ use Rattle.running_laws.specs.Counted.{Counted, Reads, Chars, Switches, Entries,
 use Rattle.running_laws.specs.Rests.{Rests}
 use Rattle.running_laws.specs.Marks.{MarksPieces}
 use Rattle.running_laws.proofs.TurnLaws.Given.{UnitLaws, SpanLaws, ProgramLaws}
+use Rattle.running_laws.proofs.TurnLaws.Resting.{at-return, each-of, guest-next, rests-at-run, rests-at-word, unit-there}
 use Rattle.running_laws.proofs.TurnLaws.Spans.{has-span, is-ready, spares-helpers, stands-in, told}
 use Rattle.running_laws.proofs.TurnLaws.Turning.{HasTurns, Settles, classes-pass, trail_to}
 use Rattle.running_laws.proofs.TurnLaws.Guest.{UnitMade, either, unit-made, unit-crosses}
@@ -48,19 +49,6 @@ use Rattle.running_laws.proofs.TurnLaws.Following.{ForEach, ReadsAlone, SilentTo
 use Rattle.running_laws.proofs.TurnLaws.Credits.{credit-few, credit-in-span, goes-none, other-outside, rest-paid, same-jumps, word-inside}
 
 -- ---- the guest's side
-
-units-length : (words : List ℕ) → length (units_of words) ≡ length words
-units-length [] = refl
-units-length (word ∷ words) = ap suc (units-length words)
-
-unit-there : (words : List ℕ) (k : ℕ) → k < length words → slice_get (units_of words) k ≡ Some (unit_at (units_of words) k)
-unit-there words k less = slice_get-get_or (units_of words) k units.Call (let total = units-length words in omega (arith, total, less))
-
-each-of : (x : guest.State) (P : guest.State → Type 0) (last : Turn guest.State) → LeadsOn x last → LeadsToWords last → ((t : guest.State) → IsBetweenUnits x t → IsWord t.pc → P t) → ForEach P last
-each-of x P (moves t) leads words each = each t leads words
-each-of x P (ends e) leads words each = tt
-each-of x P (leaves q e) leads words each = tt
-each-of x P (asks q next) leads words each = λ a. each (next a) (leads a) (words a)
 
 silent-of : (classes : List CodeClass) (total sum : (Instruction → ℕ) → ℕ) (last : Turn guest.State) → sum (weight classes Reads) ≤ total (weight classes Reads) → ReadsNoneToCall total last → SilentToAsk (λ i. sum (weight classes i)) last
 silent-of classes total sum (moves t) less none = tt
@@ -124,7 +112,7 @@ plain-once (units.Trap kind value) x is = absurd (true≢false (sym is))
 abbrev pub word_limit : ℕ → ℕ
 word_limit n = 132 * n + 145
 
-module _ (unit_laws : UnitLaws) (laws : SpanLaws) (program_laws : ProgramLaws) (program : Program) (words : ℕ) (order : Order) (choose missing : ℕ) (classes : List CodeClass) (code : ℕ → Option ℕ) (is_in : IsTranslated program order choose missing classes code) (marked : guest.State → Bool) (marks : MarksPieces classes marked) where
+module _ (unit_laws : UnitLaws) (laws : SpanLaws) (program_laws : ProgramLaws) (program : Program) (words : ℕ) (order : Order) (choose missing : ℕ) (classes : List CodeClass) (code : ℕ → Option ℕ) (is_in : IsTranslated false program order choose missing classes code) (marked : guest.State → Bool) (marks : MarksPieces classes marked) where
   abbrev Rest : guest.State → State → Type 0
   Rest t y = Rests program words order choose classes code t y
 
@@ -160,14 +148,6 @@ module _ (unit_laws : UnitLaws) (laws : SpanLaws) (program_laws : ProgramLaws) (
           in_range = omega (arith, less, within);
           range = subst (λ (f : ℕ → Option ℕ). HasRange f c.start c.words) (sym guest_is.code_is) (stands-in program_laws program order choose missing classes code is_in number c there).range;
         }
-
-    guest-next : (x t : guest.State) → IsGuest order code x → IsBetweenUnits x t → IsGuest order code t
-    guest-next x t is between = record {
-      begun = between.begun;
-      pending = between.pending;
-      order_is = between.order ∙ is.order_is;
-      code_is = between.code ∙ is.code_is;
-    }
 
     -- ---- the turns of one unit, whatever its code is counted to weigh
 
@@ -251,30 +231,7 @@ module _ (unit_laws : UnitLaws) (laws : SpanLaws) (program_laws : ProgramLaws) (
           more = 0;
           rest = y;
           walks = stays-walks program words classes y;
-          rests = record {
-            guest_is = guest-next x t guest_is between;
-            pc_word = pc_word;
-            stands = inl (record {
-              number = number;
-              class = c;
-              there = there;
-              span = j;
-              span_below = j_below;
-              others = others;
-              below = below;
-              word = s.entry.word;
-              workspace = s.workspace;
-              stands = record {
-                above = s.entry.above;
-                below = s.entry.below;
-                rests = s.rests;
-                pc = s.entry.is_there;
-                pending = between.pending;
-                order_is = between.order ∙ guest_is.order_is;
-              };
-              is_there = s.is_there ∙ ap (λ (place : ℕ). stands site place s.workspace) (sym s.entry.entry);
-            });
-          };
+          rests = rests-at-word program words order choose classes code x t guest_is between pc_word number c there j j_below others below y s;
           in_time = omega arith;
           counted = paid-at-rest t 0 y (λ i. let e = in-span i y s.at s.workspace s.is_there in omega (arith, e)) (omega arith);
         }
@@ -293,31 +250,17 @@ module _ (unit_laws : UnitLaws) (laws : SpanLaws) (program_laws : ProgramLaws) (
             by_reason : (jumps_by_register unit ≡ true) ⊎ IsOutside own t.pc → 1 ≤ crossings (counted_spans classes) (own_trail (Some t))
             by_reason (inl jump) = let one = jumps-across (Some t) (sym (same-jumps unit) ∙ jump) in omega (arith, one, same)
             by_reason (inr outside) =
-                let one = unit-crosses (counted_spans classes) (counted_span c j) (program_laws.apart program order choose missing classes code is_in number c j there j_below).out x t (unit_turns unit x) guest_is.begun passes-slot (word-inside c j k x.pc above less pc) (other-outside c j t.pc outside) in
+                let one = unit-crosses (counted_spans classes) (counted_span c j) (program_laws.apart false program order choose missing classes code is_in number c j there j_below).out x t (unit_turns unit x) guest_is.begun passes-slot (word-inside c j k x.pc above less pc) (other-outside c j t.pc outside) in
                 omega (arith, one, same)
 
         settles-at-return : (t : guest.State) → IsBetweenUnits x t → IsWord t.pc → (y : State) → StandsAtReturn site own unit y t → SettlesOn 13 t y
         settles-at-return t between pc_word y s =
-            let back = program_laws.come_back program words classes choose t y (record {
-              number = number;
-              class = c;
-              there = there;
-              span = j;
-              others = others;
-              below = below;
-              at = s.at;
-              lies = s.lies;
-              workspace = s.workspace;
-              held = s.rests.held;
-              no_operands = s.rests.no_operands;
-              pc_is = s.pc_is;
-              is_there = s.is_there;
-            }) in
+            let back = program_laws.come_back program words classes choose t y (at-return program words order choose classes code x t guest_is between pc_word number c there j j_below others below unit y s) in
             record {
               more = back.turns;
               rest = back.after;
               walks = goes-none classes program words back.turns y back.after back.goes;
-              rests = record { guest_is = guest-next x t guest_is between; pc_word = pc_word; stands = inr (inr (inl back.arrives)) };
+              rests = rests-at-run program words order choose classes code x t guest_is between pc_word back.after back.arrives;
               in_time = back.in_time;
               counted = paid-at-rest t 1 back.after (λ i. credit-few classes i back.after) (crosses t y s);
             }
@@ -332,7 +275,7 @@ module _ (unit_laws : UnitLaws) (laws : SpanLaws) (program_laws : ProgramLaws) (
     alone-follows x guest_is k w s inner =
         let unit = unit_at all k in
         let at = word_entry c j k in
-        let here = laws.alone site order c.words c.leads own k w x has_span s inner in
+        let here = laws.alone site order c.words c.leads own k w x has_span s inner (all-at (λ (d : CodeClass). d.metered ≡ false) classes number c is_in.metered_are there) in
         let has = here.has in
         let counts = counted x guest_is k s.above s.below s.pc 0 (λ r. true) at w unit s.rests.held s.rests.no_operands has in
         let goes = here.goes_on counts.total counts.follows in
@@ -348,7 +291,7 @@ module _ (unit_laws : UnitLaws) (laws : SpanLaws) (program_laws : ProgramLaws) (
       rest = y;
       walks = stays-walks program words classes y;
       rests = record {
-        guest_is = guest-next x t guest_is between;
+        guest_is = guest-next order code x t guest_is between;
         pc_word = pc_word;
         stands = inr (inl (record {
           number = number;

@@ -1,6 +1,6 @@
 use Rattle.running_laws.proofs.ChoicePasses.Given.{CodeLaws, ChooserLaws, SpanLaws, ProgramLaws}
 use Rattle.running_laws.proofs.ChoicePasses.Classes.{choose-words, run-words}
-use Rattle.running_laws.proofs.ChoicePasses.Strays.{choose-faults, run-faults}
+use Rattle.running_laws.proofs.ChoicePasses.Strays.{choose-misses, run-misses}
 use Rattle.running_laws.proofs.choice_passes.choosers_lead_to_words.Goals as goal
 
 pub returns : goal.returns
@@ -17,7 +17,6 @@ returns c =
       class_returns = c.class_choosers_choose.ensures.returns;
       main_calls = c.main_choosers_choose.ensures.calls;
       main_strays = c.main_choosers_choose.ensures.strays;
-      faults_so = c.strays_fault.ensures;
       weigh = c.choosers_weigh_their_calls.ensures.weigh;
       no_calls = c.choosers_weigh_their_calls.ensures.no_calls;
       spared = c.choosers_weigh_their_calls.ensures.spared;
@@ -41,14 +40,14 @@ returns c =
       chosen = c.words_are_chosen.ensures;
       strays = c.strays_are_missing.ensures;
     } in
-    λ program words order choose missing classes code is_in.
+    λ metered program words order choose missing classes code is_in.
     record {
       from_choose = λ t word y guest_is found s.
           choose-words laws choosers spans program words classes choose missing code program_laws order is_in t guest_is word found y s;
       from_run = λ t word y guest_is found low s.
           run-words laws choosers spans program words classes choose missing code program_laws order is_in t guest_is word found y low s;
       stray_choose = λ t y stray low s.
-          choose-faults laws choosers spans program_laws program words order classes choose missing code is_in t low stray y s;
+          choose-misses laws choosers spans program_laws program words order classes choose missing code is_in t low stray y s;
       stray_run = λ t y stray low s.
-          run-faults laws choosers spans program_laws program words order classes choose missing code is_in t low stray y s;
+          run-misses laws choosers spans program_laws program words order classes choose missing code is_in t low stray y s;
     }

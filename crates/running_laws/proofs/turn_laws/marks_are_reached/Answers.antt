@@ -10,6 +10,7 @@ returns g program words order choose missing classes code marked is_in marks =
       numbered = g.spans_are_numbered.ensures;
       apart = g.spans_are_apart.ensures;
       lead = g.choosers_lead_to_words.ensures;
+      stray_end = g.strays_end.ensures.plain;
       stray = g.guests_fault_outside_code.ensures;
       come_back = g.spans_come_back.ensures;
     } in

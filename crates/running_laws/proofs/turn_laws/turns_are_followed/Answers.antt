@@ -15,7 +15,7 @@ returns g program words order choose missing classes code marked is_in marks =
     } in
     let laws : SpanLaws = record {
       in_pieces = g.units_stand_in_pieces.ensures;
-      alone = g.words_alone_are_followed.ensures;
+      alone = g.words_alone_are_followed.ensures.plain;
       enters = g.pieces_are_entered.ensures.comes;
       enters_spared = g.pieces_are_entered.ensures.spared;
       inner = g.units_in_pieces_are_followed.ensures;
@@ -27,6 +27,7 @@ returns g program words order choose missing classes code marked is_in marks =
       numbered = g.spans_are_numbered.ensures;
       apart = g.spans_are_apart.ensures;
       lead = g.choosers_lead_to_words.ensures;
+      stray_end = g.strays_end.ensures.plain;
       stray = g.guests_fault_outside_code.ensures;
       come_back = g.spans_come_back.ensures;
     } in
