@@ -3,4 +3,5 @@ pub mod Instructions
 pub mod Units
 pub mod Pieces
 pub mod Exits
+pub mod Guards
 pub mod Parts

@@ -14,6 +14,7 @@ use Rattle.guest_code.specs.Units.{instruction_code, unit_code}
 use Rattle.word_emitter.specs.declared.extent.Extent.{Extent}
 use Rattle.word_emitter.specs.Pieces.{warm_code}
 use Rattle.word_emitter.specs.Exits.{has, exit_code}
+use Rattle.meter.specs.Guards.{guard_code}
 use Rattle.lawful_units.specs.Knowing.{AreKnown, gained}
 use Rattle.lawful_units.specs.Lawful.{IsLawful, KnownByUnit}
 use Rattle.guest_follows.specs.Helpers.{helper_parameters, helper_count}
@@ -95,6 +96,11 @@ abbrev pub WordTyped : Unit → Type 0
 WordTyped unit =
     (rules : Rules) (at : Address) → HelperTypes rules.program → IsLawful unit
     → Leads rules (unit_code 0 unit at) unknown (with_goal (goal_behind unit Top))
+
+-- The guard of a unit is typed: nothing is known of local variables before it and behind it.
+abbrev pub GuardTyped : Unit → Type 0
+GuardTyped unit =
+    (rules : Rules) (at : Address) → Leads rules (guard_code unit at) unknown unknown
 
 -- The exit behind a unit is typed.
 abbrev pub ExitTyped : Unit → Type 0

@@ -1,13 +1,13 @@
 -- What holds of emitted code and of its methods: they are typed, in every program and whatever is owed at offsets.
-use Rattle.std.specs.Prelude.{[], ◌∷◌, List}
+use Rattle.std.specs.Prelude.{Bool, [], ◌∷◌, List}
 use Rattle.nv_words.specs.declared.order.Order.{Order}
 use Rattle.delay_slots.specs.declared.unit.Unit.{Unit}
 use Rattle.jvm_program.specs.declared.kind.Kind.TheVariants.{Ints, Text}
 use Rattle.jvm_program.specs.Program.{Program}
-use Rattle.trampoline.specs.Choosers.{missing_code}
+use Rattle.trampoline.specs.Choosers.{missing_method}
 use Rattle.loading_code.specs.Pages.{pages_code}
 use Rattle.loading_code.specs.Words.{words_code}
-use Rattle.code_types.specs.Knowing.{ColdPartTyped, ExitTyped, PieceTyped, UnitTyped, WarmPartTyped, WordTyped}
+use Rattle.code_types.specs.Knowing.{ColdPartTyped, ExitTyped, GuardTyped, PieceTyped, UnitTyped, WarmPartTyped, WordTyped}
 use Rattle.code_types.specs.Methods.{ClassChooserTyped, FillTyped, HelpersTyped, IsBody, MainChooserTyped, RunTyped, owes_nothing, owes_pages, owes_words}
 
 -- ---- code
@@ -23,6 +23,10 @@ PiecesAreTyped = (units : List Unit) → PieceTyped units
 -- that of each unit over fields alone
 abbrev pub WordsAreTyped : Type 0
 WordsAreTyped = (unit : Unit) → WordTyped unit
+
+-- the guard that stands before each unit in a span with a meter
+abbrev pub GuardsAreTyped : Type 0
+GuardsAreTyped = (unit : Unit) → GuardTyped unit
 
 -- the exit behind each unit
 abbrev pub ExitsAreTyped : Type 0
@@ -52,7 +56,9 @@ ClassChoosersAreTyped = (program : Program) → ClassChooserTyped program
 
 -- the method for addresses outside all code
 abbrev pub MissingIsTyped : Type 0
-MissingIsTyped = (program : Program) → IsBody program owes_nothing [] 1 missing_code
+MissingIsTyped =
+    (program : Program) (metered : Bool)
+    → IsBody program owes_nothing [] 1 (missing_method metered)
 
 -- the method that puts words into a page
 abbrev pub PuttingIsTyped : Type 0

@@ -104,8 +104,9 @@ FillTyped program =
 
 abbrev pub RunTyped : Program → Type 0
 RunTyped program =
-    (b : Beginning) (page_texts : List ℕ) (class pages : ℕ) (fills : List ℕ) (choose : ℕ)
+    (meter : Option ℕ) (b : Beginning) (page_texts : List ℕ) (class pages : ℕ) (fills : List ℕ)
+    (choose : ℕ)
     → TakesGives program pages (Text ∷ []) false
     → All (λ m. TakesGives program m [] false) fills
     → TakesGives program choose [] false
-    → IsBody program owes_nothing [] 0 (run_code b page_texts class pages fills choose)
+    → IsBody program owes_nothing [] 0 (run_code meter b page_texts class pages fills choose)

@@ -4,7 +4,7 @@ ghost use Rattle.std.specs.Prelude.{◌≡◌, false};
 ghost use Rattle.mips_decode.specs.declared.inst.Inst.{Inst};
 ghost use Rattle.delay_slots.specs.Units.{is_branch};
 ghost use Rattle.code_types.specs.Knowing.{InstructionTyped};
-ghost use Rattle.code_types.specs.Laws.{ColdPartsAreTyped, ExitsAreTyped, PiecesAreTyped, UnitsAreTyped, WarmPartsAreTyped, WordsAreTyped};
+ghost use Rattle.code_types.specs.Laws.{ColdPartsAreTyped, ExitsAreTyped, GuardsAreTyped, PiecesAreTyped, UnitsAreTyped, WarmPartsAreTyped, WordsAreTyped};
 
 use lawful_units::laws::{
     gained_is_membership, is_in_is_membership, needed_is_known, units_are_lawful,
@@ -30,6 +30,11 @@ pub fn pieces_are_typed()
     gained_is_membership();
     needed_is_known();
 }
+
+/// The guard that stands before a unit in a span with a meter is typed.
+pub fn guards_are_typed()
+    ensures { GuardsAreTyped }
+{}
 
 /// The exit behind a unit is typed.
 pub fn exits_are_typed()

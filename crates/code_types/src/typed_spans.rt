@@ -3,7 +3,7 @@
 ghost use Rattle.code_types.specs.Methods.{BodiesHaveTypings};
 ghost use Rattle.code_types.specs.Spans.{SpansAreTyped};
 
-use crate::laws::parts_of_spans_are_typed;
+use crate::laws::{guards_are_typed, parts_of_spans_are_typed};
 use lawful_units::laws::units_are_lawful;
 use span_code::laws::words_keep_to_their_span;
 
@@ -14,6 +14,7 @@ pub fn spans_are_typed()
     units_are_lawful();
     words_keep_to_their_span();
     parts_of_spans_are_typed();
+    guards_are_typed();
 }
 
 /// A method that is laid down from a typed body, with room for its operands and parameters, has a typing.

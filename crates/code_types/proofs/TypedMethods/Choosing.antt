@@ -16,7 +16,7 @@ use Rattle.code_steps.specs.declared.step.Step.TheVariants.{Does, Skips, Leaves}
 use Rattle.guest_code.specs.Access.{push_word}
 use Rattle.trampoline.specs.declared.start.Start.{Start}
 use Rattle.trampoline.specs.Trees.{first_of, tree_of, tree}
-use Rattle.trampoline.specs.Choosers.{address_code, within_code, strayed_code, chosen_code, class_chooser, main_chooser, missing_code}
+use Rattle.trampoline.specs.Choosers.{address_code, within_code, strayed_code, chosen_code, class_chooser, main_chooser, missing_method}
 use Rattle.code_types.specs.Judging.{Rules, TakesGives, Leads, TypesFrom, typed_as}
 use Rattle.code_types.specs.Bodies.{all_names_below, names_below}
 use Rattle.code_types.specs.Flowing.{Flows}
@@ -137,8 +137,14 @@ class-chooser-typed program starts first end all =
           (chosen program starts all));
     }
 
-pub missing-typed : (program : Program) → IsBody program owes_nothing [] 1 missing_code
-missing-typed program = record {
+pub missing-typed : (program : Program) (metered : Bool) → IsBody program owes_nothing [] 1 (missing_method metered)
+missing-typed program true = record {
   names = refl;
-  types = plain-body program missing_code (taking []) (flows-from (owing program) missing_code (taking []) [] (same _, (tt, tt)));
+  types = plain-body program (missing_method true) (taking [])
+      (flows-from (owing program) (missing_method true) (taking []) [] (same _, (same _, (tt, tt))));
+}
+missing-typed program false = record {
+  names = refl;
+  types = plain-body program (missing_method false) (taking [])
+      (flows-from (owing program) (missing_method false) (taking []) [] (same _, (tt, tt)));
 }

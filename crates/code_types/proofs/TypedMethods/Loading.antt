@@ -1,6 +1,6 @@
 -- The methods that make a program's memory, and the one with which it begins.
 use Rattle.std.proofs.Common.{◌≡◌, ℕ, ◌==◌, Bool, true, false, if◌then◌else◌, List, [], ◌∷◌, ◌++◌, refl, ap}
-use Rattle.std.specs.Prelude.{Some, None, All, map, replicate}
+use Rattle.std.specs.Prelude.{Option, Some, None, All, map, replicate}
 use Rattle.std.proofs.lemmas.Bool.{eqb-true}
 use Rattle.std.proofs.lemmas.Option.{none-some}
 use Rattle.std.proofs.lemmas.List.Elements.{All-head, All-tail}
@@ -15,7 +15,7 @@ use Rattle.loading_code.specs.Parts.{call}
 use Rattle.loading_code.specs.Words.{words_code, words_offset}
 use Rattle.loading_code.specs.Pages.{pages_code, runs_offset, pages_offset}
 use Rattle.loading_code.specs.Filling.{page_code, filled_code, fill_code}
-use Rattle.loading_code.specs.Starting.{table_code, page_text_code, page_texts_code, memory_code, begun_code, run_code}
+use Rattle.loading_code.specs.Starting.{table_code, page_text_code, page_texts_code, memory_code, meter_code, begun_code, run_code}
 use Rattle.code_types.specs.Judging.{TakesGives, Leads}
 use Rattle.code_types.specs.Bodies.{IsAhead, all_names_below}
 use Rattle.code_types.specs.Flowing.{Ahead, Flows}
@@ -138,25 +138,36 @@ module _ (program : Program) where
   calls-names [] = refl
   calls-names (m ∷ fills) = calls-names fills
 
-  pub run-typed : (b : Beginning) (page_texts : List ℕ) (class pages : ℕ) (fills : List ℕ) (choose : ℕ)
+  meter-leads : (meter : Option ℕ) (entry : ℕ) → Leads (owing program) (meter_code meter entry) (taking []) (taking [])
+  meter-leads None entry = nothing-leads (owing program) (taking [])
+  meter-leads (Some turns) entry =
+      flows-from (owing program) (meter_code (Some turns) entry) (taking []) (taking [] ∷ []) (same (taking []), (same (taking []), tt))
+
+  meter-names : (meter : Option ℕ) (entry : ℕ) → all_names_below 0 (meter_code meter entry) ≡ true
+  meter-names None entry = refl
+  meter-names (Some turns) entry = refl
+
+  pub run-typed : (meter : Option ℕ) (b : Beginning) (page_texts : List ℕ) (class pages : ℕ) (fills : List ℕ) (choose : ℕ)
       → TakesGives program pages (Text ∷ []) false → All (λ m. TakesGives program m [] false) fills → TakesGives program choose [] false
-      → IsBody program owes_nothing [] 0 (run_code b page_texts class pages fills choose)
-  run-typed b page_texts class pages fills choose makes fill chooses =
+      → IsBody program owes_nothing [] 0 (run_code meter b page_texts class pages fills choose)
+  run-typed meter b page_texts class pages fills choose makes fill chooses =
       let tables = table_code readable_field ++ table_code writable_field in
       let texts = page_texts_code class pages page_texts in
       let before = tables ++ texts in
+      let counted = meter_code meter b.entry in
       record {
-        names = names-append 0 (memory_code page_texts class pages fills) (begun_code b choose)
+        names = names-append 0 (memory_code page_texts class pages fills) (counted ++ begun_code b choose)
             (names-append 0 before (map call fills) (names-append 0 tables texts refl (texts-names class pages page_texts))
-            (calls-names fills)) refl;
-        types = plain-body program (run_code b page_texts class pages fills choose) (taking [])
-            (codes-lead (owing program) (memory_code page_texts class pages fills) (begun_code b choose) (taking []) (taking []) []
+            (calls-names fills)) (names-append 0 counted (begun_code b choose) (meter-names meter b.entry) refl);
+        types = plain-body program (run_code meter b page_texts class pages fills choose) (taking [])
+            (codes-lead (owing program) (memory_code page_texts class pages fills) (counted ++ begun_code b choose) (taking []) (taking []) []
             (codes-lead (owing program) before (map call fills) (taking []) (taking []) (taking [] ∷ [])
             (codes-lead (owing program) tables texts (taking []) (taking []) (taking [] ∷ [])
             (codes-lead (owing program) (table_code readable_field) (table_code writable_field) (taking []) (taking []) (taking [] ∷ [])
             (table-lead readable_field) (table-lead writable_field))
             (texts-lead class pages page_texts makes))
             (calls-lead fills fill))
+            (codes-lead (owing program) counted (begun_code b choose) (taking []) (taking []) [] (meter-leads meter b.entry)
             (flows-from (owing program) (begun_code b choose) (taking []) []
-            (call-flows (owing program) choose [] false (taking []) [] [] (Flows (owing program) (returns ∷ []) []) chooses refl refl (tt, tt))));
+            (call-flows (owing program) choose [] false (taking []) [] [] (Flows (owing program) (returns ∷ []) []) chooses refl refl (tt, tt)))));
       }

@@ -18,19 +18,20 @@ use Rattle.code_steps.specs.declared.step.Step.{Step}
 use Rattle.code_steps.specs.declared.step.Step.TheVariants.{Does, Skips, Leaves, Selects}
 use Rattle.word_emitter.specs.declared.extent.Extent.{Extent}
 use Rattle.word_emitter.specs.Exits.{has, exit_code}
+use Rattle.guest_code.specs.Units.{unit_code}
 use Rattle.word_emitter.specs.Pieces.{ends_with_slot, piece_units, warm_code}
 use Rattle.lawful_units.specs.Lawful.{IsLawful}
 use Rattle.span_code.specs.declared.span_words.SpanWords.{SpanWords}
 use Rattle.span_code.specs.Keeping.{keeps_to}
 use Rattle.span_code.specs.Pieces.{begins, piece_at}
 use Rattle.span_code.specs.Neighbours.{address, is_inner, next_such}
-use Rattle.span_code.specs.Parts.{extent, warm_part, cold_part}
+use Rattle.span_code.specs.Parts.{extent, exit_of, warm_part, front_of, cold_part}
 use Rattle.span_code.specs.Laying.{entry_of, laid_step}
 use Rattle.code_types.specs.Judging.{Rules, Carries, Leads, Meets, is_no_switch, redirected}
-use Rattle.code_types.proofs.TypedSteps.Joining.{code-redirected}
+use Rattle.code_types.proofs.TypedSteps.Joining.{code-redirected, codes-lead, nothing-leads}
 use Rattle.code_types.proofs.TypedSteps.KindOrder.{same}
 use Rattle.code_types.specs.Knowing.{HelperTypes, Opens, unknown}
-use Rattle.code_types.specs.Laws.{ColdPartsAreTyped, WarmPartsAreTyped}
+use Rattle.code_types.specs.Laws.{ColdPartsAreTyped, GuardsAreTyped, WarmPartsAreTyped}
 use Rattle.code_types.specs.Spans.{owes_unknown}
 use Rattle.code_types.proofs.TypedSpans.Fronts.{going_to, goal-met}
 
@@ -149,7 +150,7 @@ some-words units leads span k below =
 
 -- ---- the codes of words
 
-module _ (program : Program) (helpers : HelperTypes program) (warm : WarmPartsAreTyped) (cold : ColdPartsAreTyped) (units : List Unit) (lawful : All IsLawful units) (leads : ℕ → Bool) (span : SpanWords)
+module _ (program : Program) (helpers : HelperTypes program) (warm : WarmPartsAreTyped) (cold : ColdPartsAreTyped) (guards : GuardsAreTyped) (units : List Unit) (lawful : All IsLawful units) (leads : ℕ → Bool) (span : SpanWords)
     (within : span.end ≤ length units) where
   unit-lawful : (k : ℕ) → IsLawful (unit_at units k)
   unit-lawful k = elim (cases_lt k (length units)) [
@@ -157,10 +158,18 @@ module _ (program : Program) (helpers : HelperTypes program) (warm : WarmPartsAr
     | inr past ↦ subst IsLawful (sym (get_or_past units k Call past)) tt
   ]
 
+  guarded : (metered : Bool) (unit : Unit) (at : ℕ) → Leads (inside program (extent span)) (front_of metered unit at) unknown unknown
+  guarded true unit at = guards unit (inside program (extent span)) at
+  guarded false unit at = nothing-leads (inside program (extent span)) unknown
+
   pub cold-part-leads : (k : ℕ) → Leads (inside program (extent span)) (cold_part units leads span k) unknown unknown
   cold-part-leads k =
-      cold (unit_at units k) (inside program (extent span)) (address span k) (extent span) (next_such (is_inner leads span) span k) helpers
-      (unit-lawful k) (opens program (extent span))
+      let unit = unit_at units k in
+      let at = address span k in
+      let behind = next_such (is_inner leads span) span k in
+      codes-lead (inside program (extent span)) (front_of span.metered unit at) (unit_code 0 unit at ++ exit_of units span behind k) unknown
+      unknown (unknown ∷ []) (guarded span.metered unit at)
+      (cold unit (inside program (extent span)) at (extent span) behind helpers (unit-lawful k) (opens program (extent span)))
 
   pub warm-part-leads : (k : ℕ) → k < span.end → Leads (inside program (extent span)) (warm_part units leads span k) unknown unknown
   warm-part-leads k below =

@@ -23,7 +23,7 @@ use Rattle.code_types.specs.Bodies.{BodyTypes}
 use Rattle.code_types.proofs.TypedSteps.Assembling.{parts-body}
 use Rattle.code_types.proofs.TypedSteps.Flow.{flows-from}
 use Rattle.code_types.specs.Knowing.{HelperTypes, unknown}
-use Rattle.code_types.specs.Laws.{ColdPartsAreTyped, WarmPartsAreTyped}
+use Rattle.code_types.specs.Laws.{ColdPartsAreTyped, GuardsAreTyped, WarmPartsAreTyped}
 use Rattle.code_types.specs.Spans.{SpanTyped, goals_of}
 use Rattle.code_types.proofs.TypedSpans.Names.{names-within}
 use Rattle.code_types.proofs.TypedSpans.Places.{code-is, owed-between, front, part, warm_words, cold_words, warm-is, cold-is}
@@ -46,6 +46,7 @@ words-below span i d less =
 pub record PartLaws : Type 0 where
   pub warm : WarmPartsAreTyped
   pub cold : ColdPartsAreTyped
+  pub guards : GuardsAreTyped
   pub keep : WordsKeepToTheirSpan
 
 module _ (laws : PartLaws) (program : Program) (helpers : HelperTypes program) (units : List Unit) (lawful : All IsLawful units) (leads : ℕ → Bool)
@@ -66,14 +67,14 @@ module _ (laws : PartLaws) (program : Program) (helpers : HelperTypes program) (
   warm-leads k is below keeps =
       subst (λ code. Leads rules code unknown unknown) (sym (warm-is units leads span k is))
       (laid-leads program (extent span) (targets_of units leads span) (return_offset units leads span) (warm_part units leads span k) keeps
-      (warm-part-leads program helpers laws.warm laws.cold units lawful leads span within k below))
+      (warm-part-leads program helpers laws.warm laws.cold laws.guards units lawful leads span within k below))
 
   cold-leads : (k : ℕ) → is_inner leads span k ≡ true → list_all (keeps_to (extent span)) (cold_part units leads span k) ≡ true
       → Leads rules (part units leads span k) unknown unknown
   cold-leads k is keeps =
       subst (λ code. Leads rules code unknown unknown) (sym (cold-is units leads span k is))
       (laid-leads program (extent span) (targets_of units leads span) (return_offset units leads span) (cold_part units leads span k) keeps
-      (cold-part-leads program helpers laws.warm laws.cold units lawful leads span within k))
+      (cold-part-leads program helpers laws.warm laws.cold laws.guards units lawful leads span within k))
 
   all-warm : All (λ k. Leads rules (part units leads span k) unknown unknown) (warm_words units leads span)
   all-warm i d less =

@@ -11,5 +11,5 @@ pub returns-clause-fill : goal.returns-clause-fill
 returns-clause-fill c program slots class words h = fill-typed program slots class words h
 
 pub returns-clause-run : goal.returns-clause-run
-returns-clause-run c program b page_texts class pages fills choose makes fill chooses = run-typed program b page_texts class pages fills choose
+returns-clause-run c program meter b page_texts class pages fills choose makes fill chooses = run-typed program meter b page_texts class pages fills choose
     makes fill chooses

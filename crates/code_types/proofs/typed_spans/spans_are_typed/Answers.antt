@@ -8,6 +8,7 @@ returns c program words leads span helpers are_words no_float within =
     let laws : PartLaws = record {
       warm = c.parts_of_spans_are_typed.ensures.warm;
       cold = c.parts_of_spans_are_typed.ensures.cold;
+      guards = c.guards_are_typed.ensures;
       keep = c.words_keep_to_their_span.ensures;
     } in
     span-typed laws program helpers (units_of words) (c.units_are_lawful.ensures.all words are_words no_float) leads span
