@@ -158,5 +158,13 @@ within-free (x ∷ xs) others free = λ c is.
       | inr later ↦ within-free xs others (omega (arith, free)) c later
     ]
 
+-- among some that are among others
+pub within-further : (xs ys others : List Constant) → Within xs ys → Within ys others → Within xs others
+within-further xs ys others first second = λ c is.
+    elim (first c is) [
+      | inl free ↦ inl free
+      | inr among ↦ second c among
+    ]
+
 pub within-self : (xs : List Constant) → Within xs xs
 within-self xs = λ c is. inr is

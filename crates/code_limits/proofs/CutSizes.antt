@@ -10,7 +10,7 @@ use Rattle.method_splitter.specs.Cuts.{Cuts, span_weight}
 use Rattle.method_splitter.specs.declared.span.Span.{Span}
 use Rattle.span_code.specs.Pieces.{all_words, span_of}
 use Rattle.span_code.specs.Laying.{span_code}
-use Rattle.code_limits.specs.Weights.{weight}
+use Rattle.code_limits.specs.Weights.{weight_of}
 use Rattle.code_limits.proofs.SpanSizes.{span-fits}
 
 drop-range : {X : Type 0} (f : ℕ → X) (a m n : ℕ) → n ≤ m → drop n (map f (range_with_len a m)) ≡ map f (range_with_len (a + n) (m - n))
@@ -27,24 +27,24 @@ drop-range f a (suc m) (suc n) few =
     let all : m - n ≡ suc m - suc n = omega arith in
     drop-range f (a + 1) m n (omega arith) ∙ (λ i. map f (range_with_len (here i) (all i)))
 
-module _ (units : List Unit) (leads : ℕ → Bool) (start first limit : ℕ) where
+module _ (metered : Bool) (units : List Unit) (leads : ℕ → Bool) (start first limit : ℕ) where
   abbrev pub weight_at : ℕ → ℕ
-  weight_at k = weight (unit_at units (first + k))
+  weight_at k = weight_of metered (unit_at units (first + k))
 
   abbrev pub IsWithin : Span → Type 0
-  IsWithin s = size (span_code units leads (span_of start (first + s.first) s.words)) ≤ limit
+  IsWithin s = size (span_code units leads (span_of metered start (first + s.first) s.words)) ≤ limit
 
   -- words of the part as words of the range
-  moved : (a m b : ℕ) → first + a ≡ b → map weight_at (range_with_len a m) ≡ map (λ k. weight (unit_at units k)) (range_with_len b m)
+  moved : (a m b : ℕ) → first + a ≡ b → map weight_at (range_with_len a m) ≡ map (λ k. weight_of metered (unit_at units k)) (range_with_len b m)
   moved a zero b is = refl
-  moved a (suc m) b is = λ i. weight (unit_at units (is i)) ∷ moved (a + 1) m (b + 1) (omega arith) i
+  moved a (suc m) b is = λ i. weight_of metered (unit_at units (is i)) ∷ moved (a + 1) m (b + 1) (omega arith) i
 
   span-within : (s : Span) → span_weight (map weight_at (range_with_len s.first s.words)) ≤ limit → IsWithin s
   span-within s fits =
-      let span = span_of start (first + s.first) s.words in
+      let span = span_of metered start (first + s.first) s.words in
       let words : first + s.first + s.words - (first + s.first) ≡ s.words = omega arith in
-      let weights : map (λ k. weight (unit_at units k)) (all_words span) ≡ map weight_at (range_with_len s.first s.words) =
-      ap (λ n. map (λ k. weight (unit_at units k)) (range_with_len (first + s.first) n)) words
+      let weights : map (λ k. weight_of metered (unit_at units k)) (all_words span) ≡ map weight_at (range_with_len s.first s.words) =
+      ap (λ n. map (λ k. weight_of metered (unit_at units k)) (range_with_len (first + s.first) n)) words
       ∙ sym (moved s.first s.words (first + s.first) refl) in
       omega (arith, span-fits units leads span, ap span_weight weights, fits)
 

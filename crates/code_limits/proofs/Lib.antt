@@ -4,6 +4,7 @@ pub mod UnitSlots
 pub mod AlikeCode
 pub mod Pushing
 pub mod Ways
+pub mod GuardSlots
 pub mod SpanSlots
 pub mod TreeSlots
 pub mod LoadingSlots

@@ -1,5 +1,5 @@
 -- The methods that make a program's memory push texts, pages and a few words more.
-use Rattle.std.proofs.Common.{ℕ, ◌+◌, ◌*◌, ◌≤◌, List, [], ◌∷◌, ◌++◌, length, map, arith}
+use Rattle.std.proofs.Common.{ℕ, ◌+◌, ◌*◌, ◌≤◌, List, [], ◌∷◌, ◌++◌, length, map, Option, Some, None, arith}
 use Rattle.mips_decode.specs.Step.{order_number}
 use Rattle.guest_layout.specs.FieldNumbers.{readable_field, writable_field}
 use Rattle.loading_code.specs.declared.beginning.Beginning.{Beginning}
@@ -9,7 +9,7 @@ use Rattle.loading_code.specs.Parts.{call}
 use Rattle.loading_code.specs.Pages.{pages_code}
 use Rattle.loading_code.specs.Words.{words_code}
 use Rattle.loading_code.specs.Filling.{filled_code, fill_code}
-use Rattle.loading_code.specs.Starting.{table_code, page_texts_code, memory_code, begun_code, run_code}
+use Rattle.loading_code.specs.Starting.{table_code, page_texts_code, memory_code, meter_code, begun_code, run_code}
 use Rattle.code_assembly.specs.Assembling.{slots_of}
 use Rattle.code_limits.proofs.StepSlots.{taken, slots-taken, taken-append, word-slots}
 
@@ -57,15 +57,22 @@ begun-slots : (b : Beginning) (choose : ℕ) → taken (begun_code b choose) ≤
 begun-slots b choose =
     omega (arith, word-slots b.heap_start, word-slots b.heap_bytes, word-slots (order_number b.order), word-slots b.entry)
 
-pub run-few : (b : Beginning) (page_texts : List ℕ) (class pages : ℕ) (fills : List ℕ) (choose : ℕ)
-    → slots_of (run_code b page_texts class pages fills choose) ≤ length page_texts + 16
-run-few b page_texts class pages fills choose =
+meter-slots : (meter : Option ℕ) (entry : ℕ) → taken (meter_code meter entry) ≤ 2
+meter-slots None entry = omega arith
+meter-slots (Some turns) entry = omega (arith, word-slots turns, word-slots entry)
+
+pub run-few : (meter : Option ℕ) (b : Beginning) (page_texts : List ℕ) (class pages : ℕ) (fills : List ℕ) (choose : ℕ)
+    → slots_of (run_code meter b page_texts class pages fills choose) ≤ length page_texts + 16
+run-few meter b page_texts class pages fills choose =
     let memory = memory_code page_texts class pages fills in
+    let counted = meter_code meter b.entry in
     let begun = begun_code b choose in
     omega (
       arith,
-      slots-taken (run_code b page_texts class pages fills choose),
-      taken-append memory begun,
+      slots-taken (run_code meter b page_texts class pages fills choose),
+      taken-append memory (counted ++ begun),
+      taken-append counted begun,
+      meter-slots meter b.entry,
       memory-slots page_texts class pages fills,
       begun-slots b choose,
     )

@@ -2,7 +2,7 @@
 use Rattle.std.proofs.Common.{◌≡◌, ℕ, ◌+◌, ◌-◌, ◌<◌, ◌≤◌, ◌==◌, nat_le, Bool, true, false, not, ◌||◌, if◌then◌else◌, List, length, inl, inr, refl, sym, ap, ◌∙◌, arith}
 use Rattle.std.specs.Prelude.{find, unwrap_or}
 use Rattle.std.specs.List.{range_with_len}
-use Rattle.std.proofs.lemmas.Bool.{true≢false, cases_lt, eq-eqb, ne_eqb, or_parts, and_from, and_parts, le-leb, leb-true}
+use Rattle.std.proofs.lemmas.Bool.{true≢false, cases_lt, eq-eqb, ne_eqb, or_parts, and_from, and_right, and_parts, le-leb, leb-true}
 use Rattle.delay_slots.specs.declared.unit.Unit.{Unit}
 use Rattle.delay_slots.specs.declared.unit.Unit.TheVariants as variants
 use Rattle.block_builder.specs.declared.block.Block.{Block}
@@ -101,4 +101,5 @@ module _ (units : List Unit) (leads : ℕ → Bool) (span : SpanWords) (k : ℕ)
   pub own-alone : (j : ℕ) → span.first ≤ k → k < j → j < k + own_count → begins leads span j ≡ false
   own-alone j first behind below =
       let other : (j == span.first) ≡ false = ne_eqb j span.first (λ e. omega arith) in
-      ap (λ b. b || leads j) other ∙ no-leader units leads k j behind (omega (arith, own-ends))
+      and_right (not span.metered) (j == span.first || leads j)
+      (ap (λ b. b || leads j) other ∙ no-leader units leads k j behind (omega (arith, own-ends)))

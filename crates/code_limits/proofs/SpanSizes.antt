@@ -1,5 +1,5 @@
 -- The method of a span keeps to the bytes of its words.
-use Rattle.std.proofs.Common.{◌≡◌, ℕ, zero, suc, ◌+◌, ◌-◌, ◌*◌, ◌%◌, ◌<◌, ◌≤◌, Bool, true, false, if◌then◌else◌, List, length, map, drop, min, replicate, inl, inr, refl, ap, ◌∙◌, arith}
+use Rattle.std.proofs.Common.{◌≡◌, ℕ, zero, suc, ◌+◌, ◌-◌, ◌*◌, ◌%◌, ◌<◌, ◌≤◌, Bool, true, false, if◌then◌else◌, List, ◌++◌, length, map, drop, min, replicate, inl, inr, refl, ap, ◌∙◌, arith}
 use Rattle.std.specs.Prelude.{sum_by}
 use Rattle.std.proofs.lemmas.Bool.{cases_Bool, cases_lt}
 use Rattle.std.proofs.lemmas.List.{length-take, length-drop, drop_all, get_or_past}
@@ -14,16 +14,18 @@ use Rattle.code_steps.specs.declared.step.Step.TheVariants.{Does}
 use Rattle.code_steps.specs.Widths.{size}
 use Rattle.guest_code.specs.Units.{unit_code}
 use Rattle.word_emitter.specs.Pieces.{piece_units, warm_code}
+use Rattle.meter.specs.Laws.{guard_bytes}
+use Rattle.meter.proofs.GuardSizes.{guard-bytes}
 use Rattle.method_splitter.specs.Cuts.{span_weight}
 use Rattle.span_code.specs.declared.span_words.SpanWords.{SpanWords}
 use Rattle.span_code.specs.Pieces.{all_words, begins, piece_at}
 use Rattle.span_code.specs.Neighbours.{address, is_inner, next_such}
-use Rattle.span_code.specs.Parts.{extent, exit_of, warm_part, cold_part}
+use Rattle.span_code.specs.Parts.{extent, exit_of, warm_part, front_of, cold_part}
 use Rattle.span_code.specs.Opening.{index_code, padding, opening}
 use Rattle.span_code.specs.Laying.{span_code}
 use Rattle.span_code.proofs.BodyLemmas.{size-append}
 use Rattle.span_code.proofs.SizeLemmas.{span-size}
-use Rattle.code_limits.specs.Weights.{unit_bytes, exit_bytes, branch_exit_bytes, register_bytes, weight}
+use Rattle.code_limits.specs.Weights.{unit_bytes, exit_bytes, branch_exit_bytes, register_bytes, weight_of}
 use Rattle.code_limits.proofs.StepSizes.{word-bytes}
 use Rattle.code_limits.proofs.UnitSizes.{unit-size, exit-size}
 use Rattle.code_limits.proofs.PieceSizes.{warm-size}
@@ -61,11 +63,23 @@ exit-small (Trap kind value) = omega arith
 abbrev alone_bytes : Unit → ℕ
 alone_bytes unit = unit_bytes unit + exit_bytes unit
 
+abbrev front_bytes : Bool → ℕ
+front_bytes true = guard_bytes
+front_bytes false = 0
+
+front-size : (metered : Bool) (unit : Unit) (at : ℕ) → size (front_of metered unit at) ≤ front_bytes metered
+front-size true unit at = guard-bytes unit at
+front-size false unit at = omega arith
+
 abbrev inside_bytes : Unit → ℕ
 inside_bytes unit = unit_bytes unit + register_bytes unit
 
 abbrev share : Unit → ℕ
 share unit = inside_bytes unit + exit_bytes unit
+
+parts-weigh : (metered : Bool) (unit : Unit) → share unit + (front_bytes metered + alone_bytes unit) ≤ weight_of metered unit
+parts-weigh true unit = omega arith
+parts-weigh false unit = omega arith
 
 module _ (units : List Unit) (leads : ℕ → Bool) (span : SpanWords) where
   abbrev over : (Unit → ℕ) → ℕ → ℕ
@@ -79,16 +93,22 @@ module _ (units : List Unit) (leads : ℕ → Bool) (span : SpanWords) where
 
   -- ---- a word alone
 
-  cold-size : (k : ℕ) → cold_bytes k ≤ over alone_bytes k
+  abbrev cold_share : ℕ → ℕ
+  cold_share k = front_bytes span.metered + over alone_bytes k
+
+  cold-size : (k : ℕ) → cold_bytes k ≤ cold_share k
   cold-size k = by_test (is_inner leads span k)
     where
-      by_test : (b : Bool) → (if b then size (cold_part units leads span k) else 0) ≤ over alone_bytes k
+      by_test : (b : Bool) → (if b then size (cold_part units leads span k) else 0) ≤ cold_share k
       by_test true =
+          let front = front_of span.metered (unit_at units k) (address span k) in
           let code = unit_code 0 (unit_at units k) (address span k) in
           let behind = next_such (is_inner leads span) span k in
           omega (
             arith,
+            size-append front (code ++ exit_of units span behind k),
             size-append code (exit_of units span behind k),
+            front-size span.metered (unit_at units k) (address span k),
             unit-size 0 (unit_at units k) (address span k),
             exit-size (extent span) behind (unit_at units k) (address span k),
           )
@@ -180,14 +200,14 @@ module _ (units : List Unit) (leads : ℕ → Bool) (span : SpanWords) where
 -- ---- all of it
 
 pub span-fits : (units : List Unit) (leads : ℕ → Bool) (span : SpanWords)
-    → size (span_code units leads span) ≤ span_weight (map (λ k. weight (unit_at units k)) (all_words span))
+    → size (span_code units leads span) ≤ span_weight (map (λ k. weight_of span.metered (unit_at units k)) (all_words span))
 unfolding span_weight
 span-fits units leads span =
     let first = span.first in
     let m = span.end - span.first in
     let shares = over units leads span share in
-    let alone = over units leads span alone_bytes in
-    let weights = over units leads span weight in
+    let alone = cold_share units leads span in
+    let weights = over units leads span (weight_of span.metered) in
     omega (
       arith,
       span-size units leads span,
@@ -197,6 +217,6 @@ span-fits units leads span =
       pieces-fit units leads span m m first (omega arith) refl (omega arith),
       total-le (cold_bytes units leads span) alone first m (cold-size units leads span),
       total-plus shares alone first m,
-      total-le (λ k. shares k + alone k) weights first m (λ k. omega arith),
+      total-le (λ k. shares k + alone k) weights first m (λ k. parts-weigh span.metered (unit_at units k)),
       weight-total weights first m,
     )

@@ -20,7 +20,7 @@ use Rattle.code_steps.specs.Returning.{returns}
 use Rattle.span_code.specs.declared.span_words.SpanWords.{SpanWords}
 use Rattle.span_code.specs.Pieces.{all_words, begins, piece_at}
 use Rattle.span_code.specs.Neighbours.{address, is_inner, next_such}
-use Rattle.span_code.specs.Parts.{extent, exit_of, warm_part, cold_part}
+use Rattle.span_code.specs.Parts.{extent, exit_of, warm_part, front_of, cold_part}
 use Rattle.span_code.specs.Opening.{index_code, padding, opening}
 use Rattle.span_code.specs.Laying.{laid_step, switch, targets_of, return_offset, warm_before, cold_before, span_code}
 use Rattle.code_assembly.specs.Assembling.{pushed_by, constants_of, slots_of}
@@ -29,7 +29,8 @@ use Rattle.code_limits.proofs.StepSlots.{taken-all, word-slots}
 use Rattle.code_limits.proofs.UnitSlots.{unit-slots}
 use Rattle.code_limits.proofs.AlikeCode.{unit-alike}
 use Rattle.code_limits.proofs.Pushing.{Pushes, pushes-append, pushes-free, pushes-each, pushes-registers}
-use Rattle.code_limits.proofs.Ways.{way_goals, goals-few, exit-pushes}
+use Rattle.code_limits.proofs.Ways.{way_goals, goals-few, own_goals, exit-pushes, own-pushes}
+use Rattle.code_limits.proofs.GuardSlots.{front_goals, front-goals-few, front-pushes}
 
 -- ---- the opening, and what is laid down
 
@@ -75,8 +76,15 @@ module _ (units : List Unit) (leads : ℕ → Bool) (span : SpanWords) where
   abbrev goals_at : ℕ → List Constant
   goals_at k = way_goals (unit_at units k) (address span k)
 
+  abbrev fronts_at : ℕ → List Constant
+  fronts_at k = front_goals span.metered (address span k)
+
+  -- what its way pushes that a branch pushes itself is not counted again
+  abbrev own_constants : ℕ → List Constant
+  own_constants k = constants_of (unit_code 0 (unit_at units k) (address span k)) ++ own_goals (unit_at units k) (address span k)
+
   abbrev word_constants : ℕ → List Constant
-  word_constants k = constants_of (unit_code 0 (unit_at units k) (address span k)) ++ goals_at k
+  word_constants k = fronts_at k ++ own_constants k
 
   abbrev word_before : ℕ
   word_before = span.first - 1
@@ -90,10 +98,11 @@ module _ (units : List Unit) (leads : ℕ → Bool) (span : SpanWords) where
       let code = unit_code 0 (unit_at units k) (address span k) in
       omega (
         arith,
-        all-append (constants_of code) (goals_at k),
+        all-append (fronts_at k) (own_constants k),
+        all-append (constants_of code) (own_goals (unit_at units k) (address span k)),
         taken-all code,
         unit-slots 0 (unit_at units k) (address span k),
-        goals-few (unit_at units k) (address span k),
+        front-goals-few span.metered (address span k),
       )
 
   words-few : (a m : ℕ) → all_slots (flat_map word_constants (range_with_len a m)) ≤ 9 * m
@@ -123,9 +132,10 @@ module _ (units : List Unit) (leads : ℕ → Bool) (span : SpanWords) where
   unit-pushes : (bank k : ℕ) → span.first ≤ k → k < span.end → Pushes all_constants (unit_code bank (unit_at units k) (address span k))
   unit-pushes bank k from below =
       let own = constants_of (unit_code 0 (unit_at units k) (address span k)) in
+      let goals = own_goals (unit_at units k) (address span k) in
       word-within k (constants_of (unit_code bank (unit_at units k) (address span k))) from below
       (subst (λ cs. Within cs (word_constants k)) (sym (unit-alike bank (unit_at units k) (address span k)))
-      (within-left own own (goals_at k) (within-self own)))
+      (within-right own (fronts_at k) (own_constants k) (within-left own own goals (within-self own))))
 
   way-pushes : (behind : Option ℕ) (k : ℕ) → span.first ≤ k + 1 → k < span.end → Pushes all_constants (exit_of units span behind k)
   way-pushes behind k from below =
@@ -139,14 +149,18 @@ module _ (units : List Unit) (leads : ℕ → Bool) (span : SpanWords) where
             (within-left xs (goals_at word_before) words (subst (λ j. Within xs (goals_at j)) is own))
         | inr first ↦
             word-within k xs first below
-            (within-right xs (constants_of (unit_code 0 (unit_at units k) (address span k))) (goals_at k) own)
+            (within-right xs (fronts_at k) (own_constants k) (own-pushes (extent span) behind (unit_at units k) (address span k)))
       ]
 
   cold-pushes : (k : ℕ) → span.first ≤ k → k < span.end → Pushes all_constants (cold_part units leads span k)
   cold-pushes k from below =
       let behind = next_such (is_inner leads span) span k in
-      pushes-append all_constants (unit_code 0 (unit_at units k) (address span k)) (exit_of units span behind k)
-      (unit-pushes 0 k from below) (way-pushes behind k (omega arith) below)
+      let front = front_of span.metered (unit_at units k) (address span k) in
+      let code = unit_code 0 (unit_at units k) (address span k) in
+      pushes-append all_constants front (code ++ exit_of units span behind k)
+      (word-within k (constants_of front) from below
+      (within-left (constants_of front) (fronts_at k) (own_constants k) (front-pushes span.metered (unit_at units k) (address span k))))
+      (pushes-append all_constants code (exit_of units span behind k) (unit-pushes 0 k from below) (way-pushes behind k (omega arith) below))
 
   -- ---- the code of pieces
 

@@ -1,12 +1,12 @@
 -- The methods that choose push the starts of parts, and a few words more.
-use Rattle.std.proofs.Common.{ℕ, zero, suc, ◌+◌, ◌-◌, ◌/◌, ◌≤◌, List, [], ◌∷◌, ◌++◌, length, take, drop, arith}
+use Rattle.std.proofs.Common.{ℕ, zero, suc, ◌+◌, ◌-◌, ◌/◌, ◌≤◌, Bool, true, false, List, [], ◌∷◌, ◌++◌, length, take, drop, arith}
 use Rattle.std.proofs.lemmas.List.{length-take, length-drop}
 use Rattle.jvm_names.specs.declared.branch_name.BranchName.TheVariants.{Goto}
 use Rattle.code_steps.specs.declared.step.Step.{Step}
 use Rattle.code_steps.specs.declared.step.Step.TheVariants.{Skips, Leaves}
 use Rattle.trampoline.specs.declared.start.Start.{Start}
 use Rattle.trampoline.specs.Trees.{reached_code, first_of, halves_code, tree_of, tree}
-use Rattle.trampoline.specs.Choosers.{chosen_code, class_chooser, main_chooser, missing_code}
+use Rattle.trampoline.specs.Choosers.{chosen_code, class_chooser, main_chooser, missing_method}
 use Rattle.code_assembly.specs.Assembling.{slots_of}
 use Rattle.code_limits.proofs.StepSlots.{taken, slots-taken, taken-append, word-slots}
 
@@ -47,5 +47,6 @@ pub main-few : (starts : List Start) (missing : ℕ) → slots_of (main_chooser 
 main-few starts missing =
     omega (arith, slots-taken (main_chooser starts missing), chosen-slots starts, word-slots (first_of starts))
 
-pub missing-few : slots_of missing_code ≤ 4
-missing-few = omega (arith, slots-taken missing_code)
+pub missing-few : (metered : Bool) → slots_of (missing_method metered) ≤ 4
+missing-few true = omega (arith, slots-taken (missing_method true))
+missing-few false = omega (arith, slots-taken (missing_method false))

@@ -1,4 +1,5 @@
--- The code of each unit has at most eight constants that take slots: four of an instruction, and four of a branch before its slot.
+-- The code of each unit has at most eight constants that take slots, with where its way leads: four of an instruction, and four of a branch
+-- before its slot.
 use Rattle.std.proofs.Common.{ℕ, ◌+◌, ◌≤◌, arith}
 use Rattle.mips_decode.specs.Effect.{fetch_fault, branch_in_slot_fault}
 use Rattle.mips_decode.specs.declared.names.arithmetic_name.ArithmeticName.TheVariants.{Add}
@@ -14,12 +15,14 @@ use Rattle.mips_decode.specs.declared.names.jump_name.JumpName.TheVariants.{J}
 use Rattle.mips_decode.specs.declared.inst.Inst.{Inst}
 use Rattle.mips_decode.specs.declared.inst.Inst.TheVariants as inst
 use Rattle.delay_slots.specs.declared.unit.Unit.{Unit}
-use Rattle.delay_slots.specs.declared.unit.Unit.TheVariants.{Plain, Branch, SlotMissing, SlotIsBranch}
+use Rattle.delay_slots.specs.declared.unit.Unit.TheVariants.{Plain, Branch, SlotMissing, SlotIsBranch, Call}
 use Rattle.guest_code.specs.Units.{unit_code, next_address}
 use Rattle.guest_code.proofs.Forms.{Form, most}
 use Rattle.guest_code.proofs.InstructionForms.{fault_form, instruction_form}
 use Rattle.guest_code.proofs.UnitForms.{transfer_form, unit_form, unit-weighs}
-use Rattle.code_limits.proofs.StepSlots.{taken, slots}
+use Rattle.code_limits.proofs.Counting.{all_slots}
+use Rattle.code_limits.proofs.StepSlots.{taken, word-slots, slots}
+use Rattle.code_limits.proofs.Ways.{own_goals}
 
 instruction-few : (i : Inst) (at : ℕ) → most slots (instruction_form i at) ≤ 4
 instruction-few (inst.Arithmetic Add rs rt rd) at = omega arith
@@ -37,13 +40,18 @@ transfer-few (inst.BranchSign Bltz rs imm) at slot = omega arith
 transfer-few (inst.Jump J index) at slot = omega arith
 transfer-few _ at slot = omega arith
 
-unit-few : (unit : Unit) (at : ℕ) → most slots (unit_form unit at) ≤ 8
-unit-few (Plain i) at = omega (arith, instruction-few i at)
+unit-few : (unit : Unit) (at : ℕ) → most slots (unit_form unit at) + all_slots (own_goals unit at) ≤ 8
+unit-few (Plain i) at =
+    let next : all_slots (own_goals (Plain i) at) ≤ 1 = word-slots (next_address at) in
+    omega (arith, instruction-few i at, next)
 unit-few (Branch i slot) at =
     omega (arith, transfer-few i at (instruction_form slot (next_address at)), instruction-few slot (next_address at))
 unit-few (SlotMissing i) at = omega (arith, transfer-few i at (fault_form fetch_fault (next_address at) (next_address at)))
 unit-few (SlotIsBranch i word) at = omega (arith, transfer-few i at (fault_form branch_in_slot_fault (next_address at) word))
+unit-few Call at =
+    let next : all_slots (own_goals Call at) ≤ 1 = word-slots (next_address at) in
+    omega (arith, next)
 unit-few _ at = omega arith
 
-pub unit-slots : (bank : ℕ) (unit : Unit) (at : ℕ) → taken (unit_code bank unit at) ≤ 8
+pub unit-slots : (bank : ℕ) (unit : Unit) (at : ℕ) → taken (unit_code bank unit at) + all_slots (own_goals unit at) ≤ 8
 unit-slots bank unit at = omega (arith, unit-weighs slots bank unit at, unit-few unit at)

@@ -15,7 +15,7 @@ use Rattle.span_code.specs.declared.span_words.SpanWords.{SpanWords}
 use Rattle.span_code.specs.Pieces.{all_words, span_of}
 use Rattle.span_code.specs.Laying.{span_code}
 use Rattle.code_assembly.specs.Assembling.{slots_of}
-use Rattle.code_limits.specs.Weights.{unit_bytes, exit_bytes, register_bytes, weight}
+use Rattle.code_limits.specs.Weights.{unit_bytes, exit_bytes, register_bytes, weight_of}
 
 -- ---- bytes
 
@@ -41,16 +41,17 @@ abbrev pub SpansKeepToTheirBytes : Type 0
 SpansKeepToTheirBytes =
     (units : List Unit) (leads : ℕ → Bool) (span : SpanWords)
     → size (span_code units leads span)
-    ≤ span_weight (map (λ k. weight (unit_at units k)) (all_words span))
+    ≤ span_weight (map (λ k. weight_of span.metered (unit_at units k)) (all_words span))
 
 -- where words, from one of their range on, are divided into spans by their weights, each method has at most as many bytes as a span may
 abbrev pub DividedWordsKeepToTheLimit : Type 0
 DividedWordsKeepToTheLimit =
-    (units : List Unit) (leads : ℕ → Bool) (start : Address) (first : WordIndex) (count limit : ℕ)
-    (spans : List Span)
-    → Cuts 0 (map (λ k. weight (unit_at units (first + k))) (range_with_len 0 count)) limit spans
-    → All (λ s. size (span_code units leads (span_of start (first + s.first) s.words)) ≤ limit)
-    spans
+    (metered : Bool) (units : List Unit) (leads : ℕ → Bool) (start : Address) (first : WordIndex)
+    (count limit : ℕ) (spans : List Span)
+    → Cuts 0 (map (λ k. weight_of metered (unit_at units (first + k))) (range_with_len 0 count))
+    limit spans
+    → All (λ s. size (span_code units leads
+    (span_of metered start (first + s.first) s.words)) ≤ limit) spans
 
 -- ---- slots
 

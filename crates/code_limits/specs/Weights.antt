@@ -1,6 +1,6 @@
 -- At most how many bytes the code of a word takes in the method of a span. A register or a constant is pushed by at most three bytes, and
 -- a register takes what is on the stack by at most three.
-use Rattle.std.specs.Prelude.{ℕ, ◌+◌, ◌*◌, length}
+use Rattle.std.specs.Prelude.{ℕ, ◌+◌, ◌*◌, Bool, true, false, length}
 use Rattle.mips_decode.specs.declared.names.arithmetic_name.ArithmeticName.{ArithmeticName}
 use Rattle.mips_decode.specs.declared.names.arithmetic_name.ArithmeticName.TheVariants.{Add, Sub, Nor, Slt, Sltu}
 use Rattle.mips_decode.specs.declared.names.arithmetic_immediate_name.ArithmeticImmediateName.{ArithmeticImmediateName}
@@ -20,6 +20,7 @@ use Rattle.mips_decode.specs.declared.inst.Inst.TheVariants as inst
 use Rattle.delay_slots.specs.declared.unit.Unit.{Unit}
 use Rattle.delay_slots.specs.declared.unit.Unit.TheVariants.{Plain, Branch, SlotMissing, SlotIsBranch, Call, Trap}
 use Rattle.block_builder.specs.Registers.{read_by, written_by, read_by_call, written_by_call}
+use Rattle.meter.specs.Laws.{guard_bytes}
 
 -- ---- instructions
 
@@ -149,3 +150,8 @@ register_bytes unit = 5 * register_count unit
 -- puts back
 abbrev pub weight : Unit → ℕ
 weight unit = 2 * (unit_bytes unit + exit_bytes unit) + register_bytes unit
+
+-- with a meter, a guard stands before the code of each word
+abbrev pub weight_of : Bool → Unit → ℕ
+weight_of true unit = weight unit + guard_bytes
+weight_of false unit = weight unit

@@ -9,4 +9,4 @@ pub mod slot_laws;
 pub mod weight_laws;
 mod weights;
 
-pub use weights::weight;
+pub use weights::{weight, weight_of};

@@ -1,8 +1,8 @@
 //! What holds of the slots of code. Each call here does nothing: its contract is the law.
-ghost use Rattle.std.specs.Prelude.{ℕ, ◌+◌, ◌*◌, ◌<◌, ◌≤◌, List, length};
+ghost use Rattle.std.specs.Prelude.{ℕ, ◌+◌, ◌*◌, ◌<◌, ◌≤◌, Bool, List, length, Option};
 ghost use Rattle.nv_words.specs.declared.order.Order.{Order};
 ghost use Rattle.trampoline.specs.declared.start.Start.{Start};
-ghost use Rattle.trampoline.specs.Choosers.{class_chooser, main_chooser, missing_code};
+ghost use Rattle.trampoline.specs.Choosers.{class_chooser, main_chooser, missing_method};
 ghost use Rattle.loading_code.specs.declared.beginning.Beginning.{Beginning};
 ghost use Rattle.loading_code.specs.declared.page_slot.PageSlot.{PageSlot};
 ghost use Rattle.loading_code.specs.Pages.{pages_code};
@@ -26,7 +26,7 @@ pub fn choosers_take_few_slots()
         → slots_of (class_chooser starts first end) ≤ length starts + 4 }
     ensures program { (starts : List Start) (missing : ℕ)
         → slots_of (main_chooser starts missing) ≤ length starts + 4 }
-    ensures missing { slots_of missing_code ≤ 4 }
+    ensures missing { (metered : Bool) → slots_of (missing_method metered) ≤ 4 }
 {}
 
 /// The constants of the methods that make the memory take at most so many slots: two for each page that has words, one for each text
@@ -36,9 +36,10 @@ pub fn loading_takes_few_slots()
     ensures words { slots_of words_code ≤ 8 }
     ensures fills { (slots : List PageSlot) (class words : ℕ)
         → slots_of (fill_code slots class words) ≤ 2 * length slots }
-    ensures run { (b : Beginning) (page_texts : List ℕ) (class pages : ℕ) (fills : List ℕ)
-        (choose : ℕ)
-        → slots_of (run_code b page_texts class pages fills choose) ≤ length page_texts + 16 }
+    ensures run { (meter : Option ℕ) (b : Beginning) (page_texts : List ℕ) (class pages : ℕ)
+        (fills : List ℕ) (choose : ℕ)
+        → slots_of (run_code meter b page_texts class pages fills choose)
+        ≤ length page_texts + 16 }
 {}
 
 /// The constants of each of the 20 helpers take at most two slots.
