@@ -4,6 +4,7 @@ pub mod Instructions
 pub mod Transfers
 pub mod Units
 pub mod Exits
+pub mod Guards
 pub mod Spans
 pub mod Choosing
 pub mod Loading

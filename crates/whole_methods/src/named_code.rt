@@ -1,6 +1,6 @@
 //! What holds of the names in emitted code. Each call here does nothing: its contract is the law.
 
-ghost use Rattle.std.specs.Prelude.{◌≡◌, ℕ, Bool, true, false, List, All, Option};
+ghost use Rattle.std.specs.Prelude.{◌≡◌, ℕ, ◌≤◌, Bool, true, false, List, All, Option};
 ghost use Rattle.delay_slots.specs.declared.unit.Unit.{Unit};
 ghost use Rattle.code_steps.specs.declared.step.Step.{Step};
 ghost use Rattle.word_emitter.specs.declared.extent.Extent.{Extent};
@@ -8,12 +8,12 @@ ghost use Rattle.word_emitter.specs.Pieces.{warm_code, units_code};
 ghost use Rattle.word_emitter.specs.Exits.{exit_code};
 ghost use Rattle.lawful_units.specs.Lawful.{IsLawful};
 ghost use Rattle.trampoline.specs.declared.start.Start.{Start};
-ghost use Rattle.trampoline.specs.Choosers.{class_chooser, main_chooser, missing_code};
+ghost use Rattle.trampoline.specs.Choosers.{class_chooser, main_chooser, missing_method};
 ghost use Rattle.loading_code.specs.declared.page_slot.PageSlot.{PageSlot};
 ghost use Rattle.loading_code.specs.Filling.{fill_code};
 ghost use Rattle.loading_code.specs.Pages.{pages_code};
 ghost use Rattle.loading_code.specs.Words.{words_code};
-ghost use Rattle.whole_methods.specs.Naming.{HelpersNameWell, MayCallStarts, PiecesNameWell, RunsNameWell, SpansNameWell, UnitsNameWell, WordsNameWell, all_well, is_helper};
+ghost use Rattle.whole_methods.specs.Naming.{HelpersNameWell, MayCallStarts, PiecesNameWell, RunsNameWell, SpansNameWell, UnitPartsNameWell, UnitsNameWell, WordsNameWell, all_well, all_well_of, fields_of, is_helper};
 
 /// Helpers call none but the two that end the run for them, and return as their descriptors say.
 pub fn helpers_name_well()
@@ -41,6 +41,7 @@ pub fn exits_name_well()
 /// The method of a span of lawful units calls helpers alone, and so do its parts.
 pub fn spans_name_well()
     ensures pieces { PiecesNameWell }
+    ensures units { UnitPartsNameWell }
     ensures words { WordsNameWell }
     ensures method { SpansNameWell }
 {}
@@ -53,8 +54,8 @@ pub fn choosers_name_well()
     ensures main { (calls : ℕ → Bool) (class : ℕ) (starts : List Start) (missing : ℕ)
         → MayCallStarts calls starts → calls missing ≡ true
         → all_well calls class false (main_chooser starts missing) ≡ true }
-    ensures missing { (calls : ℕ → Bool) (class : ℕ)
-        → all_well calls class false missing_code ≡ true }
+    ensures missing { (calls : ℕ → Bool) (class : ℕ) (metered : Bool)
+        → all_well_of (fields_of metered) calls class false (missing_method metered) ≡ true }
 {}
 
 /// The methods that make pages and that put words call none. Those that fill pages call the latter and push texts of their own class. The one
@@ -74,4 +75,12 @@ pub fn more_may_be_called()
         → ((m : ℕ) → calls m ≡ true → more m ≡ true)
         → all_well calls class gives code ≡ true
         → all_well more class gives code ≡ true }
+{}
+
+/// Code that names only what is there does so too where the main class has more fields.
+pub fn more_fields_may_be_named()
+    ensures { (fields more : ℕ) (calls : ℕ → Bool) (class : ℕ) (gives : Bool) (code : List Step)
+        → fields ≤ more
+        → all_well_of fields calls class gives code ≡ true
+        → all_well_of more calls class gives code ≡ true }
 {}

@@ -1,17 +1,18 @@
 //! What holds of the methods that are emitted. Each call here does nothing: its contract is the law.
 
-ghost use Rattle.std.specs.Prelude.{◌≡◌, ℕ, ◌<◌, length};
+ghost use Rattle.std.specs.Prelude.{ℕ, ◌<◌, ◌≤◌, Bool, length};
 ghost use Rattle.nv_words.specs.declared.order.Order.{Order};
 ghost use Rattle.mem_helpers.specs.Methods.{helper_code};
-ghost use Rattle.trampoline.specs.Choosers.{missing_code};
+ghost use Rattle.trampoline.specs.Choosers.{missing_method};
 ghost use Rattle.loading_code.specs.Pages.{pages_code};
 ghost use Rattle.loading_code.specs.Words.{words_code};
 ghost use Rattle.code_assembly.specs.declared.references.References.{References};
+ghost use Rattle.whole_methods.specs.Naming.{fields_of};
 ghost use Rattle.whole_methods.specs.Whole.{CanBeMethod, ClassChoosersAreWhole, FillsAreWhole, HasHelpers, MainChoosersAreWhole, RunsAreWhole, SpansAreWhole};
 
 use crate::named_code::units_name_well;
 use code_limits::weight_laws::unit_code_keeps_to_its_bytes;
-use code_types::laws::units_are_typed;
+use code_types::laws::{guards_are_typed, units_are_typed};
 use code_types::typed_methods::{choosers_are_typed, helpers_are_typed, loading_is_typed};
 use code_types::typed_spans::spans_are_typed;
 use lawful_units::laws::{needed_is_known, units_are_lawful};
@@ -24,6 +25,7 @@ pub fn spans_are_whole()
     needed_is_known();
     units_are_lawful();
     units_are_typed();
+    guards_are_typed();
     units_name_well();
     unit_code_keeps_to_its_bytes();
     spans_are_typed();
@@ -34,15 +36,16 @@ pub fn spans_are_whole()
 pub fn choosers_are_whole()
     ensures class { ClassChoosersAreWhole }
     ensures main { MainChoosersAreWhole }
-    ensures missing { (r : References) → length r.fields ≡ 38 → CanBeMethod r missing_code }
+    ensures missing { (r : References) (metered : Bool) → fields_of metered ≤ length r.fields
+        → CanBeMethod r (missing_method metered) }
 {
     choosers_are_typed();
 }
 
 /// So can the codes of the methods that make pages and put words into them, for at most 2,048 texts, and that with which the program begins.
 pub fn loading_is_whole()
-    ensures pages { (r : References) → length r.fields ≡ 38 → CanBeMethod r pages_code }
-    ensures words { (r : References) → length r.fields ≡ 38 → CanBeMethod r words_code }
+    ensures pages { (r : References) → 38 ≤ length r.fields → CanBeMethod r pages_code }
+    ensures words { (r : References) → 38 ≤ length r.fields → CanBeMethod r words_code }
     ensures fill { FillsAreWhole }
     ensures run { RunsAreWhole }
 {

@@ -6,8 +6,9 @@ use Rattle.code_steps.specs.declared.step.Step.{Step}
 use Rattle.code_steps.specs.declared.step.Step.TheVariants.{Skips, Leaves}
 use Rattle.trampoline.specs.declared.start.Start.{Start}
 use Rattle.trampoline.specs.Trees.{reached_code, first_of, tree_of, tree}
-use Rattle.trampoline.specs.Choosers.{address_code, within_code, strayed_code, chosen_code, class_chooser, main_chooser, missing_code}
-use Rattle.whole_methods.proofs.NamedCode.Steps.{Well, well-append}
+use Rattle.trampoline.specs.Choosers.{address_code, within_code, strayed_code, chosen_code, class_chooser, main_chooser, missing_method}
+use Rattle.whole_methods.specs.Naming.{fields_of}
+use Rattle.whole_methods.proofs.NamedCode.Steps.{Well, WellOf, well-append}
 
 module _ (calls : ℕ → Bool) (class : ℕ) where
   abbrev Named : List Step → Type 0
@@ -43,5 +44,6 @@ module _ (calls : ℕ → Bool) (class : ℕ) where
   main-well starts missing all is =
       joined (address_code ++ strayed_code (first_of starts) missing) (chosen_code starts) (rw is refl) (chosen starts all)
 
-  pub missing-well : Named missing_code
-  missing-well = refl
+  pub missing-well : (metered : Bool) → WellOf (fields_of metered) calls class false (missing_method metered)
+  missing-well true = refl
+  missing-well false = refl

@@ -1,5 +1,6 @@
 -- The methods that make the memory, and the one with which the program begins.
-use Rattle.std.proofs.Common.{◌≡◌, ℕ, Bool, true, false, List, [], ◌∷◌, ◌++◌, All, map, refl}
+use Rattle.std.proofs.Common.{◌≡◌, ℕ, Bool, true, false, List, [], ◌∷◌, ◌++◌, All, map, Option, Some, None, refl}
+use Rattle.std.specs.Prelude.{is_some}
 use Rattle.std.proofs.lemmas.Bool.{eq-eqb}
 use Rattle.std.proofs.lemmas.List.Elements.{All-head, All-tail}
 use Rattle.code_steps.specs.declared.step.Step.{Step}
@@ -11,8 +12,9 @@ use Rattle.loading_code.specs.Parts.{call}
 use Rattle.loading_code.specs.Pages.{pages_code}
 use Rattle.loading_code.specs.Words.{words_code}
 use Rattle.loading_code.specs.Filling.{page_code, filled_code, fill_code}
-use Rattle.loading_code.specs.Starting.{table_code, page_text_code, page_texts_code, memory_code, begun_code, run_code}
-use Rattle.whole_methods.proofs.NamedCode.Steps.{Well, well-append, well-each}
+use Rattle.loading_code.specs.Starting.{table_code, page_text_code, page_texts_code, memory_code, meter_code, begun_code, run_code}
+use Rattle.whole_methods.specs.Naming.{fields_of}
+use Rattle.whole_methods.proofs.NamedCode.Steps.{Well, WellOf, append-of, plain-more, well-append, well-each}
 
 module _ (calls : ℕ → Bool) (class : ℕ) where
   abbrev Named : List Step → Type 0
@@ -49,13 +51,27 @@ module _ (calls : ℕ → Bool) (class : ℕ) where
   begun : (b : Beginning) (choose : ℕ) → calls choose ≡ true → Named (begun_code b choose)
   begun b choose is = rw is refl
 
-  pub run-well : (b : Beginning) (page_texts : List ℕ) (pages : ℕ) (fills : List ℕ) (choose : ℕ) → calls pages ≡ true
-      → All (λ m. calls m ≡ true) fills → calls choose ≡ true → Named (run_code b page_texts class pages fills choose)
-  run-well b page_texts pages fills choose pages_is fills_are choose_is =
+  memory : (page_texts : List ℕ) (pages : ℕ) (fills : List ℕ) → calls pages ≡ true → All (λ m. calls m ≡ true) fills
+      → Named (memory_code page_texts class pages fills)
+  memory page_texts pages fills pages_is fills_are =
       let tables = table_code readable_field ++ table_code writable_field in
-      joined (memory_code page_texts class pages fills) (begun_code b choose)
-      (joined (tables ++ page_texts_code class pages page_texts) (map call fills)
+      joined (tables ++ page_texts_code class pages page_texts) (map call fills)
       (joined tables (page_texts_code class pages page_texts) refl
       (well-each calls class false (page_text_code class pages) (texted pages pages_is) page_texts))
-      (called fills fills_are))
-      (begun b choose choose_is)
+      (called fills fills_are)
+
+  metered : (meter : Option ℕ) (entry : ℕ) → WellOf (fields_of (is_some meter)) calls class false (meter_code meter entry)
+  metered None entry = refl
+  metered (Some turns) entry = refl
+
+  pub run-well : (meter : Option ℕ) (b : Beginning) (page_texts : List ℕ) (pages : ℕ) (fills : List ℕ) (choose : ℕ) → calls pages ≡ true
+      → All (λ m. calls m ≡ true) fills → calls choose ≡ true
+      → WellOf (fields_of (is_some meter)) calls class false (run_code meter b page_texts class pages fills choose)
+  run-well meter b page_texts pages fills choose pages_is fills_are choose_is =
+      let fields = fields_of (is_some meter) in
+      let made = memory_code page_texts class pages fills in
+      let counted = meter_code meter b.entry in
+      append-of fields calls class false made (counted ++ begun_code b choose)
+      (plain-more (is_some meter) calls class false made (memory page_texts pages fills pages_is fills_are))
+      (append-of fields calls class false counted (begun_code b choose) (metered meter b.entry)
+      (plain-more (is_some meter) calls class false (begun_code b choose) (begun b choose choose_is)))

@@ -1,5 +1,5 @@
 -- The methods of spans.
-use Rattle.std.proofs.Common.{◌≡◌, ℕ, zero, suc, ◌+◌, ◌-◌, ◌*◌, ◌%◌, false, Bool, if◌then◌else◌, List, [], ◌∷◌, ◌++◌, All, length, map, replicate, drop, refl}
+use Rattle.std.proofs.Common.{◌≡◌, ℕ, zero, suc, ◌+◌, ◌-◌, ◌*◌, ◌%◌, ◌≤◌, true, false, Bool, if◌then◌else◌, List, [], ◌∷◌, ◌++◌, All, length, map, replicate, drop, refl, arith}
 use Rattle.std.proofs.lemmas.Bool.{and_parts}
 use Rattle.std.proofs.lemmas.List.Elements.{All-head, All-tail, All-take, All-drop}
 use Rattle.delay_slots.specs.declared.unit.Unit.{Unit}
@@ -16,27 +16,30 @@ use Rattle.lawful_units.specs.Lawful.{IsLawful}
 use Rattle.span_code.specs.declared.span_words.SpanWords.{SpanWords}
 use Rattle.span_code.specs.Pieces.{begins, piece_at}
 use Rattle.span_code.specs.Neighbours.{address, is_inner, next_such}
-use Rattle.span_code.specs.Parts.{extent, exit_of, warm_part, cold_part}
+use Rattle.span_code.specs.Parts.{extent, exit_of, warm_part, front_of, unit_part, cold_part}
 use Rattle.span_code.specs.Opening.{index_code, padding, opening}
 use Rattle.span_code.specs.Laying.{warm_before, cold_before, return_offset, targets_of, laid_step, switch, span_code}
-use Rattle.whole_methods.specs.Naming.{is_helper, step_names_well, all_well}
-use Rattle.whole_methods.proofs.NamedCode.Steps.{Well, well-append, well-each}
+use Rattle.whole_methods.specs.Naming.{fields_of, is_helper, step_names_well_of, all_well_of}
+use Rattle.whole_methods.proofs.NamedCode.Steps.{Well, WellOf, well-append, append-of, each-of, fields-more}
+use Rattle.whole_methods.proofs.NamedCode.Guards.{guard-well}
 use Rattle.whole_methods.proofs.NamedCode.Units.{unit-well, warm-well}
 use Rattle.whole_methods.proofs.NamedCode.Exits.{exit-well}
 
 -- ---- steps that are laid down name what they named
 
-module _ (calls : ℕ → Bool) (class : ℕ) (gives : Bool) (span : Extent) (targets : List ℕ) (otherwise : ℕ) where
-  laid-same : (s : Step) → step_names_well calls class gives (laid_step span targets otherwise s) ≡ step_names_well calls class gives s
+module _ (fields : ℕ) (calls : ℕ → Bool) (class : ℕ) (gives : Bool) (span : Extent) (targets : List ℕ) (otherwise : ℕ) where
+  laid-same : (s : Step)
+      → step_names_well_of fields calls class gives (laid_step span targets otherwise s) ≡ step_names_well_of fields calls class gives s
   laid-same (Does instruction) = refl
   laid-same (Skips name k) = refl
   laid-same (Leaves at) = refl
   laid-same (Selects s) = refl
 
-  pub laid-well : (code : List Step) → Well calls class gives code → Well calls class gives (map (laid_step span targets otherwise) code)
+  pub laid-well : (code : List Step) → WellOf fields calls class gives code
+      → WellOf fields calls class gives (map (laid_step span targets otherwise) code)
   laid-well [] h = refl
   laid-well (s ∷ code) h =
-      let parts = and_parts (step_names_well calls class gives s) (all_well calls class gives code) h in
+      let parts = and_parts (step_names_well_of fields calls class gives s) (all_well_of fields calls class gives code) h in
       rw (laid-same s, parts.0) (laid-well code parts.1)
 
 -- ---- lawful units
@@ -66,17 +69,44 @@ module _ (class : ℕ) (units : List Unit) (leads : ℕ → Bool) (span : SpanWo
       joined (warm_code own (address span k)) (exit_of units span behind last) (warm-well class false own (address span k) lawful)
       (exit-well is_helper class (extent span) behind (unit_at units last) (address span last))
 
-  pub cold : (k : ℕ) → Named (cold_part units leads span k)
-  cold k =
+  pub alone : (k : ℕ) → Named (unit_part units leads span k)
+  alone k =
       let behind = next_such (is_inner leads span) span k in
       joined (unit_code 0 (unit_at units k) (address span k)) (exit_of units span behind k)
       (unit-well class false 0 (unit_at units k) (address span k) (lawful-at units k all))
       (exit-well is_helper class (extent span) behind (unit_at units k) (address span k))
 
-  parts : Named (warm_before units leads span span.end ++ cold_before units leads span span.end)
+  -- ---- with the fields that the main class has, with a meter or without
+
+  fields-few : (metered : Bool) → 38 ≤ fields_of metered
+  fields-few true = omega arith
+  fields-few false = omega arith
+
+  front-well : (metered : Bool) (unit : Unit) (at : ℕ) → IsLawful unit
+      → WellOf (fields_of metered) is_helper class false (front_of metered unit at)
+  front-well true unit at lawful = guard-well class false unit at lawful
+  front-well false unit at lawful = refl
+
+  abbrev NamedAll : List Step → Type 0
+  NamedAll code = WellOf (fields_of span.metered) is_helper class false code
+
+  more : (code : List Step) → Named code → NamedAll code
+  more code is = fields-more 38 (fields_of span.metered) (fields-few span.metered) is_helper class false code is
+
+  both : (xs ys : List Step) → NamedAll xs → NamedAll ys → NamedAll (xs ++ ys)
+  both xs ys h k = append-of (fields_of span.metered) is_helper class false xs ys h k
+
+  pub cold : (k : ℕ) → NamedAll (cold_part units leads span k)
+  cold k =
+      both (front_of span.metered (unit_at units k) (address span k)) (unit_part units leads span k)
+      (front-well span.metered (unit_at units k) (address span k) (lawful-at units k all))
+      (more (unit_part units leads span k) (alone k))
+
+  parts : NamedAll (warm_before units leads span span.end ++ cold_before units leads span span.end)
   parts =
-      joined (warm_before units leads span span.end) (cold_before units leads span span.end)
-      (well-each is_helper class false (warm_part units leads span) warm _) (well-each is_helper class false (cold_part units leads span) cold _)
+      both (warm_before units leads span span.end) (cold_before units leads span span.end)
+      (each-of (fields_of span.metered) is_helper class false (warm_part units leads span) (λ k. more (warm_part units leads span k) (warm k)) _)
+      (each-of (fields_of span.metered) is_helper class false (cold_part units leads span) cold _)
 
   -- ---- the method
 
@@ -84,13 +114,14 @@ module _ (class : ℕ) (units : List Unit) (leads : ℕ → Bool) (span : SpanWo
   nops zero = refl
   nops (suc n) = nops n
 
-  pub span-well : Named (span_code units leads span)
+  pub span-well : NamedAll (span_code units leads span)
   span-well =
       let first = (extent span).first in
       let targets = targets_of units leads span in
       let otherwise = return_offset units leads span in
       let code = warm_before units leads span span.end ++ cold_before units leads span span.end in
       let behind = map (laid_step (extent span) targets otherwise) code in
-      joined (opening first) (switch targets otherwise ∷ (behind ++ returns ∷ []))
-      (joined (padding (size (index_code first))) (index_code first) (nops ((3 * size (index_code first) + 3) % 4)) refl)
-      (joined behind (returns ∷ []) (laid-well is_helper class false (extent span) targets otherwise code parts) refl)
+      both (opening first) (switch targets otherwise ∷ (behind ++ returns ∷ []))
+      (more (opening first) (joined (padding (size (index_code first))) (index_code first) (nops ((3 * size (index_code first) + 3) % 4)) refl))
+      (both behind (returns ∷ []) (laid-well (fields_of span.metered) is_helper class false (extent span) targets otherwise code parts)
+      (more (returns ∷ []) refl))

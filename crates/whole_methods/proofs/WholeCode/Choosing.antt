@@ -1,5 +1,5 @@
 -- The methods that choose.
-use Rattle.std.proofs.Common.{◌≡◌, ℕ, zero, suc, ◌+◌, ◌*◌, ◌/◌, ◌<◌, ◌≤◌, true, false, List, [], ◌∷◌, ◌++◌, All, length, take, drop, refl, arith}
+use Rattle.std.proofs.Common.{◌≡◌, ℕ, zero, suc, ◌+◌, ◌*◌, ◌/◌, ◌<◌, ◌≤◌, Bool, true, false, List, [], ◌∷◌, ◌++◌, All, length, take, drop, refl, arith}
 use Rattle.std.specs.List.{list_all}
 use Rattle.std.proofs.lemmas.List.{length-take, length-drop}
 use Rattle.jvm_names.specs.declared.branch_name.BranchName.TheVariants.{Goto}
@@ -8,12 +8,13 @@ use Rattle.code_steps.specs.Widths.{size}
 use Rattle.span_code.proofs.BodyLemmas.{size-append}
 use Rattle.trampoline.specs.declared.start.Start.{Start}
 use Rattle.trampoline.specs.Trees.{first_of, tree_of, tree}
-use Rattle.trampoline.specs.Choosers.{address_code, within_code, strayed_code, chosen_code, class_chooser, main_chooser, missing_code}
+use Rattle.trampoline.specs.Choosers.{address_code, within_code, strayed_code, chosen_code, class_chooser, main_chooser, missing_method}
 use Rattle.code_assembly.specs.declared.references.References.{References}
 use Rattle.code_assembly.specs.Assembling.{has_method}
 use Rattle.code_types.specs.Judging.{is_no_switch}
 use Rattle.code_types.specs.Methods.{IsBody, ClassChooserTyped, MainChooserTyped, owes_beginning, owes_nothing}
 use Rattle.code_limits.proofs.StepSizes.{word-bytes}
+use Rattle.whole_methods.specs.Naming.{fields_of}
 use Rattle.whole_methods.specs.Whole.{CanBeMethod}
 use Rattle.whole_methods.proofs.NamedCode.Choosing.{class-well, main-well, missing-well}
 use Rattle.whole_methods.proofs.WholeCode.Operations.{no-switch-append}
@@ -66,7 +67,7 @@ chosen-plain starts = no-switch-append (tree starts) (Leaves 0 ∷ []) (tree-pla
 chosen-small : (starts : List Start) → size (chosen_code starts) ≤ 13 * length starts + 5
 chosen-small starts = omega (arith, size-append (tree starts) (Leaves 0 ∷ []), tree-small starts)
 
-module _ (r : References) (fields : length r.fields ≡ 38) where
+module _ (r : References) (fields : 38 ≤ length r.fields) where
   called : (m : ℕ) → has_method r m ≡ true → has_method r m ≡ true
   called m is = is
 
@@ -78,7 +79,7 @@ module _ (r : References) (fields : length r.fields ≡ 38) where
   class-can-be typed starts first end few all =
       let front = address_code ++ within_code first end in
       let bytes = size-append front (chosen_code starts) in
-      body-can-be r fields (has_method r) called 0 false of_nothing owes_beginning [] 1 (class_chooser starts first end)
+      body-can-be r 38 fields (has_method r) called 0 false of_nothing owes_beginning [] 1 (class_chooser starts first end)
       (typed starts first end (are-starts starts)) (omega arith)
       (omega (arith, bytes, word-bytes first, word-bytes end, chosen-small starts, few))
       (no-switch-append front (chosen_code starts) refl (chosen-plain starts)) (class-well (has_method r) 0 starts first end all)
@@ -88,12 +89,16 @@ module _ (r : References) (fields : length r.fields ≡ 38) where
   main-can-be typed starts missing few all is =
       let front = address_code ++ strayed_code (first_of starts) missing in
       let bytes = size-append front (chosen_code starts) in
-      body-can-be r fields (has_method r) called 0 false of_nothing owes_beginning [] 1 (main_chooser starts missing)
+      body-can-be r 38 fields (has_method r) called 0 false of_nothing owes_beginning [] 1 (main_chooser starts missing)
       (typed starts missing (takes-nothing missing) (are-starts starts)) (omega arith)
       (omega (arith, bytes, word-bytes (first_of starts), chosen-small starts, few))
       (no-switch-append front (chosen_code starts) refl (chosen-plain starts)) (main-well (has_method r) 0 starts missing all is)
 
-  pub missing-can-be : IsBody of_nothing owes_nothing [] 1 missing_code → CanBeMethod r missing_code
-  missing-can-be typed =
-      body-can-be r fields (has_method r) called 0 false of_nothing owes_nothing [] 1 missing_code typed (omega arith) (omega arith) refl
-      (missing-well (has_method r) 0)
+pub missing-can-be : (r : References) (metered : Bool) → fields_of metered ≤ length r.fields
+    → IsBody of_nothing owes_nothing [] 1 (missing_method metered) → CanBeMethod r (missing_method metered)
+missing-can-be r true have typed =
+    body-can-be r 39 have (has_method r) (λ m is. is) 0 false of_nothing owes_nothing [] 1 (missing_method true) typed (omega arith) (omega arith) refl
+    (missing-well (has_method r) 0 true)
+missing-can-be r false have typed =
+    body-can-be r 38 have (has_method r) (λ m is. is) 0 false of_nothing owes_nothing [] 1 (missing_method false) typed (omega arith) (omega arith) refl
+    (missing-well (has_method r) 0 false)

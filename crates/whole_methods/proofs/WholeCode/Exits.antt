@@ -1,6 +1,6 @@
 -- The exits behind units have operations.
 use Rattle.std.proofs.Common.{◌≡◌, ℕ, ◌≤◌, Bool, true, false, ◌||◌, if◌then◌else◌, List, [], ◌∷◌, Option, length, refl, arith}
-use Rattle.std.proofs.lemmas.Bool.{and_from}
+use Rattle.std.proofs.lemmas.Bool.{and_from, lt-ltb}
 use Rattle.mips_decode.specs.Targets.{branch_target, jump_target}
 use Rattle.mips_decode.specs.declared.inst.Inst.{Inst}
 use Rattle.mips_decode.specs.declared.inst.Inst.TheVariants as inst
@@ -24,7 +24,7 @@ use Rattle.code_assembly.specs.declared.references.References.{References}
 use Rattle.code_assembly.specs.Assembling.{reaches, step_has_operation, have_operations}
 use Rattle.whole_methods.proofs.WholeCode.Operations.{Operates, operates-either, reaches-from}
 
-module _ (r : References) (fields : length r.fields ≡ 38) (span : Extent) (behind : Option ℕ) where
+module _ (r : References) (fields : 38 ≤ length r.fields) (span : Extent) (behind : Option ℕ) where
   either : (b : Bool) (xs ys : List Step) → Operates r xs → Operates r ys → Operates r (if b then xs else ys)
   either b xs ys h k = operates-either r b xs ys h k
 
@@ -72,7 +72,7 @@ module _ (r : References) (fields : length r.fields ≡ 38) (span : Extent) (beh
   next : (goal : ℕ) → Operates r (next_exit span behind goal)
   next goal =
       let out = push_word goal ∷ put_field pc_field ∷ returns ∷ [] in
-      let outside : Operates r out = rw fields refl in
+      let outside : Operates r out = rw (lt-ltb pc_field (length r.fields) (omega (arith, fields))) refl in
       either (follows behind goal) [] (if has span goal then Leaves goal ∷ [] else out) refl
       (either (has span goal) (Leaves goal ∷ []) out refl outside)
 

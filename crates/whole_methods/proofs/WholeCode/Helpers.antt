@@ -55,6 +55,6 @@ helper-can-be r order number typed has few =
     let all = one-of (is_small order) 0 20 number (tried order) (omega arith) (omega (arith, few)) in
     let parts = and_parts (nat_lt 0 (length code) && nat_lt (size code) (2 ^ 15)) (list_all is_no_switch code) all in
     let sizes = and_parts (nat_lt 0 (length code)) (nat_lt (size code) (2 ^ 15)) parts.0 in
-    body-can-be r has.fields is_fault (faults-called r has) 0 (gives_int (helper_descriptor number)) of_helpers owes_nothing
+    body-can-be r 38 has.fields is_fault (faults-called r has) 0 (gives_int (helper_descriptor number)) of_helpers owes_nothing
     (helper_parameters number) 4 code (typed of_helpers helper-types number few) (ltb-true 0 (length code) sizes.0)
     (ltb-true (size code) (2 ^ 15) sizes.1) parts.1 (helper-well order 0 number few)

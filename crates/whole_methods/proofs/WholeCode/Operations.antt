@@ -21,7 +21,7 @@ use Rattle.code_assembly.specs.declared.references.References.{References}
 use Rattle.code_assembly.specs.Assembling.{has_method, has_operation, reaches, step_has_operation, have_operations}
 use Rattle.code_types.specs.Judging.{Rules, Fits, Types, goes_straight, is_no_switch, Meets}
 use Rattle.code_types.specs.Methods.{owes_nothing}
-use Rattle.whole_methods.specs.Naming.{names_well, step_names_well, all_well}
+use Rattle.whole_methods.specs.Naming.{names_well_of, step_names_well_of, all_well_of}
 use Rattle.whole_methods.proofs.WholeCode.Targets.{within}
 
 -- ---- code without a switch
@@ -82,14 +82,14 @@ reaches-from others k few near =
 abbrev pub HasMethods : References → (ℕ → Bool) → Type 0
 HasMethods r calls = (m : ℕ) → calls m ≡ true → has_method r m ≡ true
 
-module _ (r : References) (fields : length r.fields ≡ 38) (calls : ℕ → Bool) (called : HasMethods r calls) (class : ℕ) (gives : Bool) where
-  field-there : (f : ℕ) → nat_lt f 38 ≡ true → nat_lt f (length r.fields) ≡ true
-  field-there f is = let below = ltb-true f 38 is in lt-ltb f (length r.fields) (omega (arith, below, fields))
+module _ (r : References) (fields : ℕ) (have : fields ≤ length r.fields) (calls : ℕ → Bool) (called : HasMethods r calls) (class : ℕ) (gives : Bool) where
+  field-there : (f : ℕ) → nat_lt f fields ≡ true → nat_lt f (length r.fields) ≡ true
+  field-there f is = let below = ltb-true f fields is in lt-ltb f (length r.fields) (omega (arith, below, have))
 
-  pub named : (i : Instruction) → goes_straight (Does i) ≡ true → names_well calls class gives i ≡ true → has_operation r i ≡ true
+  pub named : (i : Instruction) → goes_straight (Does i) ≡ true → names_well_of fields calls class gives i ≡ true → has_operation r i ≡ true
   named (instructions.Increment i by) straight is = is
-  named (instructions.Get f kind) straight is = field-there f (and_parts (nat_lt f 38) (same_kind kind (kind_of (field_descriptor f))) is).0
-  named (instructions.Put f kind) straight is = field-there f (and_parts (nat_lt f 38) (same_kind kind (kind_of (field_descriptor f))) is).0
+  named (instructions.Get f kind) straight is = field-there f (and_parts (nat_lt f fields) (same_kind kind (kind_of (field_descriptor f))) is).0
+  named (instructions.Put f kind) straight is = field-there f (and_parts (nat_lt f fields) (same_kind kind (kind_of (field_descriptor f))) is).0
   named (instructions.Call m) straight is = called m is
   named (instructions.Branch name target) straight is = absurd (false≢true straight)
   named (instructions.TableSwitch s) straight is =
@@ -103,7 +103,7 @@ module _ (r : References) (fields : length r.fields ≡ 38) (calls : ℕ → Boo
 
   step : (rules : Rules) (s : Step) (code : List Step) (f : TypeFrame) (frames behind : List TypeFrame) → Fits rules s f (frames ++ behind)
       → Types rules code frames behind → length behind ≤ 1 → width s + size code < 2 ^ 15 → is_no_switch s ≡ true
-      → step_names_well calls class gives s ≡ true → step_has_operation r s code ≡ true
+      → step_names_well_of fields calls class gives s ≡ true → step_has_operation r s code ≡ true
   step rules (Does instruction) code f frames behind fit t one near plain is = named instruction fit.straight is
   step rules (Skips name k) code f frames behind fit t one near plain is =
       let place = within rules code frames behind fit.after k t fit.skipped in
@@ -113,12 +113,12 @@ module _ (r : References) (fields : length r.fields ≡ 38) (calls : ℕ → Boo
   step rules (Selects s) code f frames behind fit t one near plain is = absurd (false≢true plain)
 
   pub operations : (rules : Rules) (code : List Step) (frames behind : List TypeFrame) → Types rules code frames behind → length behind ≤ 1
-      → size code < 2 ^ 15 → list_all is_no_switch code ≡ true → all_well calls class gives code ≡ true → have_operations r code ≡ true
+      → size code < 2 ^ 15 → list_all is_no_switch code ≡ true → all_well_of fields calls class gives code ≡ true → have_operations r code ≡ true
   operations rules [] frames behind t one near plain is = refl
   operations rules (s ∷ code) [] behind t one near plain is = absurd t
   operations rules (s ∷ code) (f ∷ frames) behind t one near plain is =
       let plains = and_parts (is_no_switch s) (list_all is_no_switch code) plain in
-      let names = and_parts (step_names_well calls class gives s) (all_well calls class gives code) is in
+      let names = and_parts (step_names_well_of fields calls class gives s) (all_well_of fields calls class gives code) is in
       and_from (step_has_operation r s code) (have_operations r code)
       (step rules s code f frames behind t.1 t.2 one near plains.0 names.0)
       (operations rules code frames behind t.2 one (omega (arith, near)) plains.1 names.1)

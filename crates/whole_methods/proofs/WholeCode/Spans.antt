@@ -23,7 +23,7 @@ use Rattle.lawful_units.specs.Lawful.{IsLawful}
 use Rattle.span_code.specs.declared.span_words.SpanWords.{SpanWords}
 use Rattle.span_code.specs.Pieces.{begins, piece_at}
 use Rattle.span_code.specs.Neighbours.{address, is_inner, next_such}
-use Rattle.span_code.specs.Parts.{extent, exit_of, warm_part, cold_part}
+use Rattle.span_code.specs.Parts.{extent, exit_of, warm_part, front_of, unit_part, cold_part}
 use Rattle.span_code.specs.Opening.{index_code, padding, opening}
 use Rattle.span_code.specs.Laying.{base, warm_before, cold_before, cold_base, return_offset, entry_at, targets_of, laid_step, switch, span_code}
 use Rattle.span_code.proofs.BodyLemmas.{size-rises}
@@ -34,6 +34,8 @@ use Rattle.code_assembly.specs.Assembling.{switch_has_operation, have_operations
 use Rattle.code_types.specs.Judging.{Rules}
 use Rattle.code_types.specs.Methods.{taking}
 use Rattle.code_types.specs.Spans.{SpanTyped, goals_of, owes_unknown}
+use Rattle.guest_layout.specs.FieldNumbers.{pc_field}
+use Rattle.whole_methods.specs.Naming.{fields_of}
 use Rattle.whole_methods.specs.Whole.{CanBeMethod, HasHelpers}
 use Rattle.whole_methods.proofs.NamedCode.Spans.{lawful-at}
 use Rattle.whole_methods.proofs.WholeCode.Targets.{targets-are-lines}
@@ -41,7 +43,7 @@ use Rattle.whole_methods.proofs.WholeCode.Operations.{Operates, operates-append,
 use Rattle.whole_methods.proofs.WholeCode.Bodies.{can-be}
 use Rattle.whole_methods.proofs.WholeCode.Exits.{exit-operates}
 use Rattle.whole_methods.proofs.WholeCode.Programs.{of_helpers}
-use Rattle.whole_methods.proofs.WholeCode.Units.{UnitLaws, unit-operates, warm-operates}
+use Rattle.whole_methods.proofs.WholeCode.Units.{UnitLaws, unit-operates, guard-operates, warm-operates}
 
 module _ (units : List Unit) (leads : ℕ → Bool) (span : SpanWords) where
   -- ---- the switch
@@ -93,7 +95,7 @@ module _ (units : List Unit) (leads : ℕ → Bool) (span : SpanWords) where
 
   -- ---- parts
 
-  module _ (r : References) (has : HasHelpers r) (laws : UnitLaws) (all : All IsLawful units) where
+  module _ (r : References) (has : HasHelpers r) (have : fields_of span.metered ≤ length r.fields) (laws : UnitLaws) (all : All IsLawful units) where
     warm : (k : ℕ) → Operates r (warm_part units leads span k)
     warm k =
         let b = piece_at units leads span k in
@@ -105,12 +107,19 @@ module _ (units : List Unit) (leads : ℕ → Bool) (span : SpanWords) where
         operates-append r (warm_code own (address span k)) (exit_of units span behind last) (warm-operates r has laws own (address span k) lawful)
         (exit-operates r has.fields (extent span) behind (unit_at units last) (address span last))
 
+    front : (metered : Bool) → fields_of metered ≤ length r.fields → (unit : Unit) (at : ℕ) → IsLawful unit
+        → Operates r (front_of metered unit at)
+    front true more unit at lawful = guard-operates r has laws more unit at lawful
+    front false more unit at lawful = refl
+
     cold : (k : ℕ) → Operates r (cold_part units leads span k)
     cold k =
         let behind = next_such (is_inner leads span) span k in
-        operates-append r (unit_code 0 (unit_at units k) (address span k)) (exit_of units span behind k)
+        operates-append r (front_of span.metered (unit_at units k) (address span k)) (unit_part units leads span k)
+        (front span.metered have (unit_at units k) (address span k) (lawful-at units k all))
+        (operates-append r (unit_code 0 (unit_at units k) (address span k)) (exit_of units span behind k)
         (unit-operates r has laws 0 (unit_at units k) (address span k) (lawful-at units k all))
-        (exit-operates r has.fields (extent span) behind (unit_at units k) (address span k))
+        (exit-operates r has.fields (extent span) behind (unit_at units k) (address span k)))
 
     nops : (n : ℕ) → Operates r (replicate n (Does Nop))
     nops zero = refl
@@ -118,7 +127,7 @@ module _ (units : List Unit) (leads : ℕ → Bool) (span : SpanWords) where
 
     opened : (first : ℕ) → Operates r (opening first)
     opened first =
-        let index : Operates r (index_code first) = rw (has.fields) refl in
+        let index : Operates r (index_code first) = rw (lt-ltb pc_field (length r.fields) (omega (arith, has.fields))) refl in
         operates-append r (padding (size (index_code first))) (index_code first) (nops ((3 * size (index_code first) + 3) % 4)) index
 
     -- ---- the method

@@ -1,8 +1,8 @@
 -- The targets of typed code are its own lines.
-use Rattle.std.proofs.Common.{◌≡◌, ℕ, zero, suc, ◌+◌, ◌<◌, ◌==◌, Bool, true, false, if◌then◌else◌, List, [], ◌∷◌, ◌++◌, All, length, Option, Some, None, refl, ap, arith}
-use Rattle.std.specs.Prelude.{is_some, slice_get}
+use Rattle.std.proofs.Common.{◌≡◌, ℕ, zero, suc, ◌+◌, ◌<◌, ◌==◌, nat_lt, Bool, true, false, if◌then◌else◌, List, [], ◌∷◌, ◌++◌, All, length, Option, Some, None, refl, ap, arith}
+use Rattle.std.specs.Prelude.{◌&&◌, is_some, slice_get}
 use Rattle.std.specs.List.{list_all}
-use Rattle.std.proofs.lemmas.Bool.{and_from, eqb-true, eq-eqb}
+use Rattle.std.proofs.lemmas.Bool.{and_from, and_parts, eqb-true, eq-eqb, false≢true, ltb-true}
 use Rattle.std.proofs.lemmas.List.Elements.{All-head, All-tail}
 use Rattle.jvm_program.specs.declared.linked_line.LinkedLine.{LinkedLine}
 use Rattle.jvm_program.specs.Program.{line_in, targets_of}
@@ -111,3 +111,38 @@ targets-are-lines rules code entry t =
         by_case : (o : Option TypeFrame) → rules.owes x ≡ o → Meets f o → is_some (line_in (laid 0 code) x) ≡ true
         by_case None is n = absurd n
         by_case (Some g) is n = framed code t.body.frames 0 x g (t.owed x g is)
+
+-- ---- code that goes straight on, but for steps that are passed over
+
+-- each step goes to no offset, or over no more steps than stand before another one
+abbrev pub passes : List Step → Bool
+passes [] = true
+passes (Does instruction ∷ code) = (length (targets_of instruction) == 0) && passes code
+passes (Skips name k ∷ code) = nat_lt k (length code) && passes code
+passes (Leaves target ∷ code) = false
+passes (Selects s ∷ code) = false
+
+no-target : (lines : List LinkedLine) (xs : List ℕ) → length xs ≡ 0 → list_all (λ x. is_some (line_in lines x)) xs ≡ true
+no-target lines [] is = refl
+no-target lines (x ∷ xs) is = absurd (omega (arith, is))
+
+passed : (lines : List LinkedLine) (code : List Step) (at : ℕ) → passes code ≡ true
+    → ((i x : ℕ) → i < length code → x ≡ at + bytes_before code i → is_some (line_in lines x) ≡ true)
+    → list_all (λ l. list_all (λ target. is_some (line_in lines target)) (targets_of l.instruction)) (laid at code) ≡ true
+passed lines [] at is there = refl
+passed lines (Does i ∷ code) at is there =
+    let parts = and_parts (length (targets_of i) == 0) (passes code) is in
+    and_from (list_all (λ x. is_some (line_in lines x)) (targets_of i)) _ (no-target lines (targets_of i) (eqb-true (length (targets_of i)) 0 parts.0))
+    (passed lines code (at + width (Does i)) parts.1 (λ n x below is. there (suc n) x (omega (arith, below)) (omega (arith, is))))
+passed lines (Skips name k ∷ code) at is there =
+    let parts = and_parts (nat_lt k (length code)) (passes code) is in
+    let below = ltb-true k (length code) parts.0 in
+    let target = at + 3 + bytes_before code k in
+    and_from (is_some (line_in lines target) && true) _
+    (and_from (is_some (line_in lines target)) true (there (suc k) target (omega (arith, below)) (omega arith)) refl)
+    (passed lines code (at + 3) parts.1 (λ n x less is. there (suc n) x (omega (arith, less)) (omega (arith, is))))
+passed lines (Leaves target ∷ code) at is there = absurd (false≢true is)
+passed lines (Selects s ∷ code) at is there = absurd (false≢true is)
+
+pub passes-are-lines : (code : List Step) → passes code ≡ true → targets_are_lines (laid 0 code) ≡ true
+passes-are-lines code is = passed (laid 0 code) code 0 is (λ i x below at. lined code 0 x i below at)

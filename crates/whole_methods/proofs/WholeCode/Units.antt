@@ -1,5 +1,5 @@
 -- The code of units and of pieces has operations.
-use Rattle.std.proofs.Common.{ℕ, zero, suc, ◌+◌, ◌<◌, ◌≤◌, Bool, true, false, if◌then◌else◌, List, [], ◌∷◌, ◌++◌, All, refl, arith}
+use Rattle.std.proofs.Common.{◌≡◌, ℕ, zero, suc, ◌+◌, ◌<◌, ◌≤◌, Bool, true, false, if◌then◌else◌, List, [], ◌∷◌, ◌++◌, All, length, refl, arith}
 use Rattle.std.specs.List.{flat_map, range_with_len}
 use Rattle.std.proofs.lemmas.Bool.{and_from}
 use Rattle.std.proofs.lemmas.List.Elements.{All-head, All-tail}
@@ -10,17 +10,20 @@ use Rattle.code_steps.specs.declared.step.Step.{Step}
 use Rattle.guest_layout.specs.FieldNumbers.{register_field}
 use Rattle.guest_code.specs.Units.{unit_code}
 use Rattle.word_emitter.specs.Pieces.{is_needed, is_written, bank_of, units_code, fetched, put_back, for_registers, warm_code}
+use Rattle.meter.specs.Guards.{guard_code}
+use Rattle.meter.proofs.GuardSizes.{guard-bytes}
 use Rattle.lawful_units.specs.Lawful.{IsLawful}
 use Rattle.lawful_units.specs.Laws.{NeededIsKnown}
 use Rattle.code_assembly.specs.declared.references.References.{References}
 use Rattle.code_assembly.specs.Assembling.{has_operation}
 use Rattle.code_types.specs.Judging.{Rules}
-use Rattle.code_types.specs.Laws.{UnitsAreTyped}
+use Rattle.code_types.specs.Laws.{GuardsAreTyped, UnitsAreTyped}
 use Rattle.code_types.specs.Methods.{owes_nothing}
 use Rattle.code_limits.specs.Laws.{UnitsKeepToTheirBytes}
 use Rattle.whole_methods.specs.Naming.{UnitsNameWell, is_helper}
 use Rattle.whole_methods.specs.Whole.{HasHelpers}
 use Rattle.whole_methods.proofs.NamedCode.Steps.{field-is}
+use Rattle.whole_methods.proofs.NamedCode.Guards.{guard-well}
 use Rattle.whole_methods.proofs.WholeCode.Operations.{Operates, named, no-switches, operations, operates-append}
 use Rattle.whole_methods.proofs.WholeCode.Programs.{of_helpers, helper-types}
 use Rattle.whole_methods.proofs.WholeCode.Helpers.{helpers-called}
@@ -32,6 +35,7 @@ pub record UnitLaws : Type 0 where
   pub known : NeededIsKnown
   pub well : UnitsNameWell
   pub small : UnitsKeepToTheirBytes
+  pub guards : GuardsAreTyped
 
 module _ (r : References) (has : HasHelpers r) (laws : UnitLaws) where
   pub unit-operates : (bank : ℕ) (unit : Unit) (at : ℕ) → IsLawful unit → Operates r (unit_code bank unit at)
@@ -39,8 +43,17 @@ module _ (r : References) (has : HasHelpers r) (laws : UnitLaws) where
       let rules : Rules = record { program = of_helpers; owes = owes_nothing } in
       let t = laws.typed unit rules bank (λ r. true) Top at helper-types lawful (laws.known unit (λ d. true) lawful (λ d positive below is. refl)) in
       let small = laws.small bank unit at in
-      operations r has.fields is_helper (helpers-called r has) 0 false rules (unit_code bank unit at) t.frames _ t.types (omega arith)
+      operations r 38 has.fields is_helper (helpers-called r has) 0 false rules (unit_code bank unit at) t.frames _ t.types (omega arith)
       (omega (arith, small, unit-small unit)) (no-switches of_helpers (unit_code bank unit at) t.frames _ t.types) (laws.well 0 false bank at unit lawful)
+
+  -- a guard names the field of the meter too
+  pub guard-operates : 39 ≤ length r.fields → (unit : Unit) (at : ℕ) → IsLawful unit → Operates r (guard_code unit at)
+  guard-operates more unit at lawful =
+      let rules : Rules = record { program = of_helpers; owes = owes_nothing } in
+      let t = laws.guards unit rules at in
+      let small = guard-bytes unit at in
+      operations r 39 more is_helper (helpers-called r has) 0 false rules (guard_code unit at) t.frames _ t.types (omega arith)
+      (omega (arith, small)) (no-switches of_helpers (guard_code unit at) t.frames _ t.types) (guard-well 0 false unit at lawful)
 
   units-operate : (bank : ℕ) (units : List Unit) (at : ℕ) → All IsLawful units → Operates r (units_code bank units at)
   units-operate bank [] at all = refl
@@ -64,12 +77,12 @@ module _ (r : References) (has : HasHelpers r) (laws : UnitLaws) where
   fetch-operates : (d : ℕ) → d < 32 → Operates r (fetched d)
   fetch-operates d h =
       let get = instructions.Get (register_field d) Int in
-      and_from (has_operation r get) true (named r has.fields is_helper (helpers-called r has) 0 false get refl (field-is d h)) refl
+      and_from (has_operation r get) true (named r 38 has.fields is_helper (helpers-called r has) 0 false get refl (field-is d h)) refl
 
   put-back-operates : (d : ℕ) → d < 32 → Operates r (put_back d)
   put-back-operates d h =
       let put = instructions.Put (register_field d) Int in
-      and_from (has_operation r put) true (named r has.fields is_helper (helpers-called r has) 0 false put refl (field-is d h)) refl
+      and_from (has_operation r put) true (named r 38 has.fields is_helper (helpers-called r has) 0 false put refl (field-is d h)) refl
 
   -- ---- pieces
 

@@ -8,4 +8,4 @@ pub returns-clause-main : goal.returns-clause-main
 returns-clause-main c calls class starts missing all is = main-well calls class starts missing all is
 
 pub returns-clause-missing : goal.returns-clause-missing
-returns-clause-missing c calls class = missing-well calls class
+returns-clause-missing c calls class metered = missing-well calls class metered

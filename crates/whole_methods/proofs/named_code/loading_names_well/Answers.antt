@@ -11,5 +11,5 @@ pub returns-clause-fill : goal.returns-clause-fill
 returns-clause-fill c calls class words slots is = fill-well calls class slots words is
 
 pub returns-clause-run : goal.returns-clause-run
-returns-clause-run c calls class pages choose b page_texts fills pages_is fills_are choose_is = run-well calls class b page_texts pages fills
-    choose pages_is fills_are choose_is
+returns-clause-run c calls class pages choose meter b page_texts fills pages_is fills_are choose_is =
+    run-well calls class meter b page_texts pages fills choose pages_is fills_are choose_is

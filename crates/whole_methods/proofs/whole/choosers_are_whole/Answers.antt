@@ -11,4 +11,4 @@ returns-clause-main c r starts missing fields few all is =
     main-can-be r fields (c.choosers_are_typed.ensures.main of_nothing) starts missing few all is
 
 pub returns-clause-missing : goal.returns-clause-missing
-returns-clause-missing c r fields = missing-can-be r fields (c.choosers_are_typed.ensures.missing of_nothing)
+returns-clause-missing c r metered have = missing-can-be r metered have (c.choosers_are_typed.ensures.missing of_nothing metered)

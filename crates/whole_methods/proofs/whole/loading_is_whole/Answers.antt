@@ -12,5 +12,5 @@ pub returns-clause-fill : goal.returns-clause-fill
 returns-clause-fill c r slots class words fields few is = fill-can-be r fields slots class words few is
 
 pub returns-clause-run : goal.returns-clause-run
-returns-clause-run c r b page_texts class pages fills choose fields few_texts few_fills pages_is fills_are choose_is =
-    run-can-be r fields b page_texts class pages fills choose few_texts few_fills pages_is fills_are choose_is
+returns-clause-run c r meter b page_texts class pages fills choose have few_texts few_fills pages_is fills_are choose_is =
+    run-can-be r meter b page_texts class pages fills choose have few_texts few_fills pages_is fills_are choose_is
