@@ -24,7 +24,8 @@ use Rattle.lawful_units.specs.Lawful.{IsLawful, KnownByUnit}
 use Rattle.span_code.specs.declared.span_words.SpanWords.{SpanWords}
 use Rattle.span_code.specs.Laying.{entry_at}
 use Rattle.span_code.specs.Pieces.{begins, piece_at}
-use Rattle.span_code.specs.Standing.{laid_part}
+use Rattle.span_code.specs.Parts.{unit_part}
+use Rattle.span_code.specs.Standing.{laid_part, unit_entry}
 use Rattle.code_paths.specs.Laws.{EntersCode}
 use Rattle.guest_follows.specs.Holding.{HoldsOn}
 use Rattle.guest_follows.specs.Sites.{Site, stands, whole_weight}
@@ -105,7 +106,7 @@ WordLeaves f site order units leads span k w last_word n last =
     (LeavingInSpan f w.fields (Resumes site units leads span (unit_at units last_word)))
     (stands site (entry_at units leads span k) w) last
 
--- So it is from words with which no piece begins.
+-- So it is from words with which no piece begins, in a span without a meter.
 abbrev pub WordsLeaveOthers : Type 0
 WordsLeaveOthers =
     (site : Site) (order : Order) (words : List ℕ) (leads : ℕ → Bool) (span : SpanWords)
@@ -114,11 +115,30 @@ WordsLeaveOthers =
     → HasSpan site words leads span → IsReady site order
     → StandsAt order span k w x
     → begins leads span k ≡ false
+    → span.metered ≡ false
     → let unit = unit_at (units_of words) k in
     WordLeaves f site order (units_of words) leads span k w k (turn_count (unit_turns unit x))
     (last_turn (unit_turns unit x))
 
--- So it is from those with which one begins.
+-- So it is in any span from the code of the unit of such a word, behind what stands in front of it: the field of the meter is left alone too.
+abbrev pub UnitsBehindFrontsLeaveOthers : Type 0
+UnitsBehindFrontsLeaveOthers =
+    (site : Site) (order : Order) (words : List ℕ) (leads : ℕ → Bool) (span : SpanWords)
+    (k : WordIndex) (f : ℕ) (w : Workspace) (x : State)
+    → layout_fields ≤ f
+    → HasSpan site words leads span → IsReady site order
+    → StandsAt order span k w x
+    → begins leads span k ≡ false
+    → let own = units_of words in
+    let unit = unit_at own k in
+    let at = unit_entry own leads span k in
+    let n = turn_count (unit_turns unit x) in
+    FollowsInSpan site at (at + size (unit_part own leads span k)) n (264 * n)
+    (whole_weight order (unit_part own leads span k))
+    (LeavingInSpan f w.fields (Resumes site own leads span unit)) (stands site at w)
+    (last_turn (unit_turns unit x))
+
+-- So it is from words with which one begins.
 abbrev pub SpanPiecesLeaveOthers : Type 0
 SpanPiecesLeaveOthers =
     (site : Site) (order : Order) (words : List ℕ) (leads : ℕ → Bool) (span : SpanWords)

@@ -10,32 +10,35 @@ use Rattle.word_emitter.specs.Pieces.{warm_code}
 use Rattle.lawful_units.specs.Lawful.{IsLawful}
 use Rattle.span_code.specs.declared.span_words.SpanWords.{SpanWords}
 use Rattle.span_code.specs.Laying.{span_code}
-use Rattle.span_code.specs.Parts.{cold_part, warm_part}
+use Rattle.span_code.specs.Parts.{cold_part, unit_part, warm_part}
 use Rattle.code_paths.specs.Classes.{puts}
 use Rattle.code_paths.specs.Paths.{weigh}
 use Rattle.guest_follows.specs.Sites.{whole_weight}
-use Rattle.whole_methods.specs.Naming.{all_well}
+use Rattle.whole_methods.specs.Naming.{all_well_of, fields_of}
 
 -- the layout's fields come first: the registers, hi, lo, pc, the two tables of pages, and the link
 abbrev pub layout_fields : ℕ
 layout_fields = 38
 
--- Code has no write of another field.
-abbrev pub WritesLayout : List Step → Type 0
-WritesLayout code = (f : ℕ) → layout_fields ≤ f → weigh (puts f) code ≡ 0
+-- Code has no write of a field behind so many.
+abbrev pub WritesFirst : ℕ → List Step → Type 0
+WritesFirst fields code = (f : ℕ) → fields ≤ f → weigh (puts f) code ≡ 0
 
 -- Nor have the helper methods that it calls.
+abbrev pub AllWritesFirst : ℕ → Order → List Step → Type 0
+AllWritesFirst fields order code = (f : ℕ) → fields ≤ f → whole_weight order code (puts f) ≡ 0
+
 abbrev pub AllWritesLayout : Order → List Step → Type 0
-AllWritesLayout order code = (f : ℕ) → layout_fields ≤ f → whole_weight order code (puts f) ≡ 0
+AllWritesLayout order code = AllWritesFirst layout_fields order code
 
 -- ---- the laws
 
--- Code that names only what is there writes the layout's fields alone, whatever it calls.
-abbrev pub NamedCodeWritesLayout : Type 0
-NamedCodeWritesLayout =
-    (calls : ℕ → Bool) (class : ℕ) (gives : Bool) (code : List Step)
-    → all_well calls class gives code ≡ true
-    → WritesLayout code
+-- Code that names only what is there, and of fields the layout's or some more, writes these alone, whatever it calls.
+abbrev pub NamedCodeWritesItsFields : Type 0
+NamedCodeWritesItsFields =
+    (fields : ℕ) (calls : ℕ → Bool) (class : ℕ) (gives : Bool) (code : List Step)
+    → all_well_of fields calls class gives code ≡ true
+    → WritesFirst fields code
 
 -- So does each of the 20 helper methods, with those that it calls.
 abbrev pub HelpersWriteLayout : Type 0
@@ -56,17 +59,22 @@ PiecesWriteLayout =
     → All IsLawful piece
     → AllWritesLayout order (warm_code piece at)
 
--- So does that of a word in a span, with which a piece begins or none.
+-- So does that of a piece in a span, and that of the unit of a word. With a meter, that of a word writes one field more.
+pub record PartWritesLayout (order : Order) (k : WordIndex) (units : List Unit) (leads : ℕ → Bool)
+    (span : SpanWords) : Type 0 where
+  pub piece : AllWritesLayout order (warm_part units leads span k)
+  pub unit : AllWritesLayout order (unit_part units leads span k)
+  pub word : AllWritesFirst (fields_of span.metered) order (cold_part units leads span k)
+
 abbrev pub PartsWriteLayout : Type 0
 PartsWriteLayout =
     (order : Order) (k : WordIndex) (units : List Unit) (leads : ℕ → Bool) (span : SpanWords)
     → All IsLawful units
-    → AllWritesLayout order (warm_part units leads span k)
-    × AllWritesLayout order (cold_part units leads span k)
+    → PartWritesLayout order k units leads span
 
 -- So does the method of a span.
 abbrev pub SpansWriteLayout : Type 0
 SpansWriteLayout =
     (order : Order) (units : List Unit) (leads : ℕ → Bool) (span : SpanWords)
     → All IsLawful units
-    → AllWritesLayout order (span_code units leads span)
+    → AllWritesFirst (fields_of span.metered) order (span_code units leads span)

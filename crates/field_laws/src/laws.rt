@@ -1,7 +1,7 @@
 //! Emitted code writes no fields but the layout's. Each call here does nothing: its contract is the law.
 
-ghost use Rattle.field_laws.specs.Leaving.{HelpersLeaveOthers, PiecesLeaveOthers, SpanPiecesLeaveOthers, UnitsLeaveOthers, WordsLeaveOthers};
-ghost use Rattle.field_laws.specs.Writing.{HelpersWriteLayout, NamedCodeWritesLayout, PartsWriteLayout, PiecesWriteLayout, SpansWriteLayout, UnitsWriteLayout};
+ghost use Rattle.field_laws.specs.Leaving.{HelpersLeaveOthers, PiecesLeaveOthers, SpanPiecesLeaveOthers, UnitsBehindFrontsLeaveOthers, UnitsLeaveOthers, WordsLeaveOthers};
+ghost use Rattle.field_laws.specs.Writing.{HelpersWriteLayout, NamedCodeWritesItsFields, PartsWriteLayout, PiecesWriteLayout, SpansWriteLayout, UnitsWriteLayout};
 
 use code_paths::laws::{calls_are_paths, fields_are_left};
 use guest_code_laws::laws::{pieces_are_followed, units_are_followed};
@@ -9,10 +9,10 @@ use span_code_laws::laws::{pieces_follow, words_follow};
 use span_code_laws::units_are_lawful;
 use whole_methods::named_code::{helpers_name_well, spans_name_well, units_name_well};
 
-/// The code of helpers, units, pieces and spans has no write of a field but the layout's. Nor has any code that names only what is there, as
-/// that of all methods that are emitted.
+/// The code of helpers, units, pieces and spans has no write of a field but the layout's, and with a meter that of spans none but its field
+/// too. Nor has any code that names only what is there, as that of all methods that are emitted.
 pub fn code_writes_the_layout()
-    ensures named { NamedCodeWritesLayout }
+    ensures named { NamedCodeWritesItsFields }
     ensures helpers { HelpersWriteLayout }
     ensures units { UnitsWriteLayout }
     ensures pieces { PiecesWriteLayout }
@@ -43,9 +43,10 @@ pub fn units_leave_other_fields()
     pieces_are_followed();
 }
 
-/// So it is in the method of a span.
+/// So it is in the method of a span, with a meter from behind the guards.
 pub fn spans_leave_other_fields()
     ensures words { WordsLeaveOthers }
+    ensures behind_fronts { UnitsBehindFrontsLeaveOthers }
     ensures pieces { SpanPiecesLeaveOthers }
 {
     code_writes_the_layout();

@@ -15,39 +15,40 @@ use Rattle.mem_helpers.specs.Methods.{helper_code}
 use Rattle.code_paths.specs.Classes.{puts}
 use Rattle.code_paths.specs.Paths.{step_weight, weigh}
 use Rattle.guest_follows.specs.Sites.{called_weight, helper_weight, whole_weight}
-use Rattle.whole_methods.specs.Naming.{HelpersNameWell, all_well, is_fault, names_well, step_names_well}
+use Rattle.whole_methods.specs.Naming.{HelpersNameWell, all_well_of, is_fault, names_well_of, step_names_well_of}
 
-module _ (f : ℕ) (other : 38 ≤ f) where
-  put-weighs : (g : ℕ) (kind : Kind) → (nat_lt g 38 && same_kind kind (kind_of (field_descriptor g))) ≡ true → puts f (instructions.Put g kind) ≡ 0
+module _ (fields f : ℕ) (other : fields ≤ f) where
+  put-weighs : (g : ℕ) (kind : Kind) → (nat_lt g fields && same_kind kind (kind_of (field_descriptor g))) ≡ true → puts f (instructions.Put g kind) ≡ 0
   put-weighs g kind is =
-      let below = ltb-true g 38 (and_parts (nat_lt g 38) (same_kind kind (kind_of (field_descriptor g))) is).0 in
+      let below = ltb-true g fields (and_parts (nat_lt g fields) (same_kind kind (kind_of (field_descriptor g))) is).0 in
       ap (λ b. if b then 1 else 0) (ne_eqb g f (omega (arith, below, other)))
 
   module _ (calls : ℕ → Bool) (class : ℕ) (gives : Bool) where
-    instruction-weighs : (i : Instruction) → names_well calls class gives i ≡ true → puts f i ≡ 0
+    instruction-weighs : (i : Instruction) → names_well_of fields calls class gives i ≡ true → puts f i ≡ 0
     instruction-weighs (instructions.Put g kind) is = put-weighs g kind is
     instruction-weighs _ is = refl
 
-    step-weighs : (s : Step) → step_names_well calls class gives s ≡ true → step_weight (puts f) s ≡ 0
+    pub step-weighs : (s : Step) → step_names_well_of fields calls class gives s ≡ true → step_weight (puts f) s ≡ 0
     step-weighs (Does i) is = instruction-weighs i is
     step-weighs (Skips name k) is = refl
     step-weighs (Leaves target) is = refl
     step-weighs (Selects s) is = refl
 
-    pub code-weighs : (code : List Step) → all_well calls class gives code ≡ true → weigh (puts f) code ≡ 0
+    pub code-weighs : (code : List Step) → all_well_of fields calls class gives code ≡ true → weigh (puts f) code ≡ 0
     code-weighs [] is = refl
     code-weighs (s ∷ code) is =
-        let parts = and_parts (step_names_well calls class gives s) (all_well calls class gives code) is in
+        let parts = and_parts (step_names_well_of fields calls class gives s) (all_well_of fields calls class gives code) is in
         let here = step-weighs s parts.0 in
         let rest = code-weighs code parts.1 in
         omega (arith, here, rest)
 
-  -- ---- with the helpers that are called
+-- ---- with the helpers that are called, which write the layout's alone
 
+module _ (fields f : ℕ) (other : fields ≤ f) (layout : 38 ≤ f) where
   module _ (order : Order) (helpers : HelpersNameWell) where
     own-weighs : (number : ℕ) → number < 20 → weigh (puts f) (helper_code order number) ≡ 0
     own-weighs number below =
-        code-weighs is_fault 0 (gives_int (helper_descriptor number)) (helper_code order number) (helpers order 0 number below)
+        code-weighs 38 f layout is_fault 0 (gives_int (helper_descriptor number)) (helper_code order number) (helpers order 0 number below)
 
     helper-weighs : (number : ℕ) → number < 20 → helper_weight order (puts f) number ≡ 0
     helper-weighs number below =
@@ -57,18 +58,18 @@ module _ (f : ℕ) (other : 38 ≤ f) where
         omega (arith, a, b, c)
 
     module _ (calls : ℕ → Bool) (class : ℕ) (gives : Bool) (are_helpers : (m : ℕ) → calls m ≡ true → m < 20) where
-      called-weighs : (s : Step) → step_names_well calls class gives s ≡ true → called_weight order (puts f) s ≡ 0
+      called-weighs : (s : Step) → step_names_well_of fields calls class gives s ≡ true → called_weight order (puts f) s ≡ 0
       called-weighs (Does (instructions.Call h)) is = helper-weighs h (are_helpers h is)
       called-weighs (Does i) is = refl
       called-weighs (Skips name k) is = refl
       called-weighs (Leaves target) is = refl
       called-weighs (Selects s) is = refl
 
-      pub whole-weighs : (code : List Step) → all_well calls class gives code ≡ true → whole_weight order code (puts f) ≡ 0
+      pub whole-weighs : (code : List Step) → all_well_of fields calls class gives code ≡ true → whole_weight order code (puts f) ≡ 0
       whole-weighs [] is = refl
       whole-weighs (s ∷ code) is =
-          let parts = and_parts (step_names_well calls class gives s) (all_well calls class gives code) is in
-          let here = step-weighs calls class gives s parts.0 in
+          let parts = and_parts (step_names_well_of fields calls class gives s) (all_well_of fields calls class gives code) is in
+          let here = step-weighs fields f other calls class gives s parts.0 in
           let called = called-weighs s parts.0 in
           let rest = whole-weighs code parts.1 in
           omega (arith, here, called, rest)

@@ -1,29 +1,32 @@
-use Rattle.std.proofs.Common.{◌≡◌, ◌+◌, ◌-◌, ◌*◌, if◌then◌else◌, length, refl, ap, ◌∙◌}
+use Rattle.std.proofs.Common.{◌≡◌, ◌+◌, ◌-◌, ◌*◌, if◌then◌else◌, length, refl, ap, subst, ◌∙◌}
 use Rattle.delay_slots.specs.Turns.{unit_turns, turn_count, last_turn}
 use Rattle.delay_slots.specs.Units.{units_of}
 use Rattle.block_builder.specs.Blocks.{unit_at}
 use Rattle.code_steps.specs.Widths.{size}
 use Rattle.word_emitter.specs.Pieces.{piece_units}
 use Rattle.span_code.specs.Laying.{entry_at, return_offset, targets_of}
-use Rattle.span_code.specs.Parts.{cold_part, extent, warm_part}
+use Rattle.span_code.specs.Parts.{cold_part, extent, unit_part, warm_part}
 use Rattle.span_code.specs.Pieces.{begins, piece_at}
-use Rattle.span_code.specs.Standing.{laid_part}
+use Rattle.span_code.specs.Standing.{laid_part, unit_entry}
 use Rattle.code_paths.specs.Classes.{puts}
 use Rattle.guest_follows.specs.Sites.{stands, whole_weight}
 use Rattle.guest_code_laws.specs.Pieces.{piece_turns}
 use Rattle.span_code_laws.specs.Resuming.{Resumes}
 use Rattle.span_code_laws.proofs.SpanCodeLaws.Counting.{laid-weighs}
+use Rattle.whole_methods.specs.Naming.{fields_of}
+use Rattle.field_laws.specs.Writing.{AllWritesFirst}
 use Rattle.field_laws.proofs.FieldLaws.InSpans.{follows-leaving-in-span}
 use Rattle.field_laws.proofs.laws.spans_leave_other_fields.Goals as goal
 
 pub returns-clause-words : goal.returns-clause-words
-returns-clause-words c site order words leads span k f w x other has ready at inner =
+returns-clause-words c site order words leads span k f w x other has ready at inner plain =
     let own = units_of words in
     let unit = unit_at own k in
     let turns = unit_turns unit x in
     let from = entry_at own leads span k in
     let laid = laid_part own leads span k in
-    let cold = (c.code_writes_the_layout.ensures.parts order k own leads span (c.units_are_lawful.ensures.all words has.are_words has.no_float)).1 f other in
+    let written = (c.code_writes_the_layout.ensures.parts order k own leads span (c.units_are_lawful.ensures.all words has.are_words has.no_float)).word in
+    let cold = subst (λ m. AllWritesFirst (fields_of m) order (cold_part own leads span k)) plain written f other in
     let none : whole_weight order laid (puts f) ≡ 0 =
     laid-weighs order (puts f) (extent span) (targets_of own leads span) (return_offset own leads span)
     (if begins leads span k then warm_part own leads span k else cold_part own leads span k)
@@ -31,7 +34,19 @@ returns-clause-words c site order words leads span k f w x other has ready at in
     ∙ cold in
     follows-leaving-in-span site (from + size laid) (264 * turn_count turns) f (whole_weight order laid) none w.fields
     (Resumes site own leads span unit) from (turn_count turns) (stands site from w) (last_turn turns) refl
-    (c.words_follow.ensures site order words leads span k w x has ready at inner)
+    (c.words_follow.ensures.plain site order words leads span k w x has ready at inner plain)
+
+pub returns-clause-behind_fronts : goal.returns-clause-behind_fronts
+returns-clause-behind_fronts c site order words leads span k f w x other has ready at inner =
+    let own = units_of words in
+    let unit = unit_at own k in
+    let turns = unit_turns unit x in
+    let from = unit_entry own leads span k in
+    let code = unit_part own leads span k in
+    let none = (c.code_writes_the_layout.ensures.parts order k own leads span (c.units_are_lawful.ensures.all words has.are_words has.no_float)).unit f other in
+    follows-leaving-in-span site (from + size code) (264 * turn_count turns) f (whole_weight order code) none w.fields
+    (Resumes site own leads span unit) from (turn_count turns) (stands site from w) (last_turn turns) refl
+    (c.words_follow.ensures.behind_fronts site order words leads span k w x has ready at inner)
 
 pub returns-clause-pieces : goal.returns-clause-pieces
 returns-clause-pieces c site order words leads span k f w x other has ready at begin =
@@ -40,7 +55,7 @@ returns-clause-pieces c site order words leads span k f w x other has ready at b
     let turns = piece_turns piece x in
     let from = entry_at own leads span k in
     let laid = laid_part own leads span k in
-    let warm = (c.code_writes_the_layout.ensures.parts order k own leads span (c.units_are_lawful.ensures.all words has.are_words has.no_float)).0 f other in
+    let warm = (c.code_writes_the_layout.ensures.parts order k own leads span (c.units_are_lawful.ensures.all words has.are_words has.no_float)).piece f other in
     let none : whole_weight order laid (puts f) ≡ 0 =
     laid-weighs order (puts f) (extent span) (targets_of own leads span) (return_offset own leads span)
     (if begins leads span k then warm_part own leads span k else cold_part own leads span k)
