@@ -1,0 +1,10 @@
+pub mod Given
+pub mod Left
+pub mod Spending
+pub mod Openings
+pub mod Uncounted
+pub mod Words
+pub mod Strays
+pub mod Turning
+pub mod Renaming
+pub mod Starting

@@ -1,0 +1,4 @@
+pub mod Metering
+pub mod Turning
+pub mod Programs
+pub mod Running
