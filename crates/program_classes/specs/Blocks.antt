@@ -33,7 +33,7 @@ has_block units leads span k = begins leads span k && not (is_slot units leads k
 -- the words of a span of the class, as words of the range
 abbrev pub span_words : Part → List Span → ℕ → SpanWords
 span_words part spans j =
-    span_of part.start (part.first + (span_at spans j).first) (span_at spans j).words
+    span_of part.metered part.start (part.first + (span_at spans j).first) (span_at spans j).words
 
 -- the piece of a span that begins with a word of the range: its warm code in the method of the span, the address of its first word, and its words
 abbrev pub piece_of : Part → List Span → ℕ → ℕ → Piece

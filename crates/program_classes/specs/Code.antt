@@ -15,6 +15,7 @@ use Rattle.trampoline.specs.Choosers.{class_chooser}
 use Rattle.code_assembly.specs.declared.references.References.{References}
 use Rattle.class_builder.specs.Named.{IsClassAt}
 use Rattle.class_builder.specs.Mentioned.{Mentions}
+use Rattle.whole_methods.specs.Naming.{fields_of}
 use Rattle.program_classes.specs.declared.names.Names.{Names}
 use Rattle.program_classes.specs.Named.{AreNames, AreHelpers}
 use Rattle.program_classes.specs.Tables.{references_of}
@@ -30,7 +31,7 @@ span_at spans k = slice_index_or spans k (record { first = 0; words = 0 })
 abbrev pub code_of_span : Part → Span → List Step
 code_of_span part s =
     span_code part.units.now (flagged part.leads.now)
-    (span_of part.start (part.first + s.first) s.words)
+    (span_of part.metered part.start (part.first + s.first) s.words)
 
 abbrev pub span_plan : Part → List Span → References → ℕ → Plan
 span_plan part spans references k = record {
@@ -82,7 +83,7 @@ pub record IsCodeClass (main : List ℕ) (number : ℕ) (part : Part) (spans : L
   pub named : IsClassAt class.pool class.this_class (code_class_name main number)
   pub no_fields : class.fields ≡ []
   pub names : Names
-  pub names_are : AreNames class.pool main names
+  pub names_are : AreNames (fields_of part.metered) class.pool main names
   pub helpers : List ℕ
   pub helpers_are : AreHelpers class.pool names.main helpers 20
   pub own : ℕ
@@ -90,7 +91,7 @@ pub record IsCodeClass (main : List ℕ) (number : ℕ) (part : Part) (spans : L
   pub own_methods : List ℕ
   pub own_are : AreSpanMethods class.pool own own_methods (length spans)
   pub mentions : Mentions class.pool
-      (code_mentions (code_class_name main number) main (length spans))
+      (code_mentions (fields_of part.metered) (code_class_name main number) main (length spans))
   pub methods : AllZip (IsMade class.pool) class.methods
       (span_plans part spans (references_of names 0 helpers) (length spans)
       ++ run_plan part spans first_method (references_of names first_method own_methods) ∷ [])

@@ -21,19 +21,21 @@ AreSpanMethods pool class slots count =
 abbrev pub span_mentions : List ℕ → ℕ → List Mention
 span_mentions name count = member_mentions Method span_name (λ k. nothing) name count
 
--- what a class of code of a name, with so many spans, asks for in its pool, in order
-abbrev pub code_mentions : List ℕ → List ℕ → ℕ → List Mention
-code_mentions name main spans =
+-- what a class of code of a name, with so many spans, asks for in its pool, in order, where the
+-- main class has so many fields
+abbrev pub code_mentions : ℕ → List ℕ → List ℕ → ℕ → List Mention
+code_mentions fields name main spans =
     (OfClass name ∷ OfClass object_name ∷ [])
-    ++ (names_mentions main ++ helper_mentions main 20 ++ OfClass name ∷ []
+    ++ (names_mentions fields main ++ helper_mentions main 20 ++ OfClass name ∷ []
     ++ span_mentions name spans)
 
-pub record IsNamedClass (name main : List ℕ) (spans : ℕ) (n : NamedClass) : Type 0 where
+pub record IsNamedClass (fields : ℕ) (name main : List ℕ) (spans : ℕ) (n : NamedClass)
+    : Type 0 where
   pub no_methods : n.class.methods ≡ []
   pub no_fields : n.class.fields ≡ []
   pub named : IsClassAt n.class.pool n.class.this_class name
-  pub names_are : AreNames n.class.pool main n.names
+  pub names_are : AreNames fields n.class.pool main n.names
   pub helpers_are : AreHelpers n.class.pool n.names.main n.helpers.items 20
   pub own_is : IsClassAt n.class.pool n.own name
   pub own_are : AreSpanMethods n.class.pool n.own n.own_methods.items spans
-  pub mentions : Mentions n.class.pool (code_mentions name main spans)
+  pub mentions : Mentions n.class.pool (code_mentions fields name main spans)

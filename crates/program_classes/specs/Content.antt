@@ -1,10 +1,11 @@
 -- What the main class is made of.
-use Rattle.std.specs.Prelude.{ℕ, ◌+◌, ◌≤◌, ◌<◌, ◌^◌, List, [], ◌∷◌, ◌++◌, map, length, All, ⊤}
+use Rattle.std.specs.Prelude.{ℕ, ◌+◌, ◌≤◌, ◌<◌, ◌^◌, List, [], ◌∷◌, ◌++◌, map, length, All, Bool, is_some, ⊤}
 use Rattle.std.specs.List.{range_with_len}
 use Rattle.image_parts.specs.declared.page_run.PageRun.{PageRun}
 use Rattle.image_parts.specs.Runs.{IsRun, text_of}
 use Rattle.guest_layout.specs.Numbers.{main_methods}
 use Rattle.method_splitter.specs.Shares.{share_at, share_count, shared}
+use Rattle.whole_methods.specs.Naming.{fields_of}
 use Rattle.program_classes.specs.declared.content.MainClass.{MainClass}
 
 -- numbers that rise, from one on
@@ -28,6 +29,16 @@ pub record IsMain (main : MainClass) : Type 0 where
   pub runs : All IsRun main.runs.now
   pub rise : RiseFrom main_methods (main.code.now ++ main.data.now)
   pub known : All (λ start. start.method < behind main_methods main.code.now) main.starts.now
+
+-- ---- the meter
+
+-- the program has one
+abbrev pub has_meter : MainClass → Bool
+has_meter main = is_some main.meter
+
+-- how many fields it has
+abbrev pub main_fields : MainClass → ℕ
+main_fields main = fields_of (has_meter main)
 
 -- ---- the texts of pages
 

@@ -16,11 +16,13 @@ use Rattle.program_classes.specs.Pages.{IsPageSlot}
 abbrev pub words_descriptor : List ℕ
 words_descriptor = codes "([ILjava/lang/String;)V"
 
--- The slots of all that a class of data names: what every class names, the class itself, its method `words`, and the texts of its pages.
+-- The slots of all that a class of data names: what every class names, the class itself, its method
+-- `words`, and the texts of its pages. Its code knows no meter, so it names the 38 fields of all
+-- programs.
 pub record AreDataNames (pool : List Entry) (name main : List ℕ) (pages : List Page) (names : Names)
     (own words : ℕ)
     (texts : List PageSlot) : Type 0 where
-  pub names_are : AreNames pool main names
+  pub names_are : AreNames 38 pool main names
   pub own_is : IsClassAt pool own name
   pub words_is : IsMethodAt pool words own (codes "words") words_descriptor
   pub texts_are : AllZip (IsPageSlot pool) texts pages
@@ -29,7 +31,7 @@ pub record AreDataNames (pool : List Entry) (name main : List ℕ) (pages : List
 abbrev pub data_mentions : List ℕ → List ℕ → List Mention
 data_mentions name main =
     (OfClass name ∷ OfClass object_name ∷ [])
-    ++ (OfClass name ∷ [] ++ names_mentions main
+    ++ (OfClass name ∷ [] ++ names_mentions 38 main
     ++ method_mention name (codes "words") words_descriptor ∷ [])
 
 pub record IsNamedClass (name main : List ℕ) (pages : List Page) (n : NamedClass) : Type 0 where

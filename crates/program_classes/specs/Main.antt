@@ -1,6 +1,6 @@
 -- The main class: the helper methods, and behind them the methods that begin the program, choose a class of code, make pages, and end the
 -- run outside all code.
-use Rattle.std.specs.Prelude.{ℕ, List, [], ◌∷◌, ◌++◌, map, codes}
+use Rattle.std.specs.Prelude.{ℕ, Bool, List, [], ◌∷◌, ◌++◌, map, codes}
 use Rattle.std.specs.List.{range_with_len, AllZip}
 use Rattle.nv_words.specs.declared.order.Order.{Order}
 use Rattle.jvm_code.specs.declared.class.Class.{Class}
@@ -8,7 +8,7 @@ use Rattle.class_file.specs.ClassFile.{Spells}
 use Rattle.guest_layout.specs.Helpers.{helper_name, helper_descriptor}
 use Rattle.guest_layout.specs.Numbers.{choose_number, pages_number, missing_number}
 use Rattle.mem_helpers.specs.Methods.{helper_code}
-use Rattle.trampoline.specs.Choosers.{main_chooser, missing_code}
+use Rattle.trampoline.specs.Choosers.{main_chooser, missing_method}
 use Rattle.loading_code.specs.Pages.{pages_code}
 use Rattle.loading_code.specs.Starting.{run_code}
 use Rattle.code_assembly.specs.declared.references.References.{References}
@@ -18,6 +18,7 @@ use Rattle.program_classes.specs.Making.{Plan, IsMade, nothing}
 use Rattle.program_classes.specs.declared.names.Names.{Names}
 use Rattle.program_classes.specs.Tables.{references_of}
 use Rattle.program_classes.specs.declared.content.MainClass.{MainClass}
+use Rattle.program_classes.specs.Content.{has_meter, main_fields}
 use Rattle.program_classes.specs.Fields.{AreFields}
 use Rattle.program_classes.specs.Called.{pages_descriptor}
 use Rattle.program_classes.specs.MainMentioned.{main_mentions}
@@ -46,7 +47,7 @@ run_plan main texts references = record {
   descriptor = nothing;
   locals = 0;
   references = references;
-  code = run_code main.beginning texts 0 pages_number main.data.now choose_number;
+  code = run_code main.meter main.beginning texts 0 pages_number main.data.now choose_number;
 }
 
 abbrev pub choose_plan : MainClass → References → Plan
@@ -68,20 +69,21 @@ pages_plan references =
       code = pages_code;
     }
 
-abbrev pub missing_plan : References → Plan
-missing_plan references =
+-- by whether the program has a meter
+abbrev pub missing_plan : Bool → References → Plan
+missing_plan metered references =
     record {
       name = codes "missing";
       descriptor = nothing;
       locals = 1;
       references = references;
-      code = missing_code;
+      code = missing_method metered;
     }
 
 abbrev pub other_plans : MainClass → List ℕ → References → List Plan
 other_plans main texts references =
     run_plan main texts references ∷ choose_plan main references ∷ pages_plan references
-    ∷ missing_plan references ∷ []
+    ∷ missing_plan (has_meter main) references ∷ []
 
 abbrev pub main_plans : MainClass → List ℕ → References → List Plan
 main_plans main texts references = helper_plans main.beginning.order references 20
@@ -94,7 +96,7 @@ pub record IsMainClass (name : List ℕ) (main : MainClass) (bytes : List ℕ) :
   pub class : Class
   pub spells : Spells bytes class
   pub named : IsClassAt class.pool class.this_class name
-  pub fields_are : AreFields class.pool class.fields 38
+  pub fields_are : AreFields class.pool class.fields (main_fields main)
   pub names : Names
   pub slots : List ℕ
   pub texts : List ℕ

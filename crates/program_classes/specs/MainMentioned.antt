@@ -6,6 +6,7 @@ use Rattle.class_builder.specs.Mentioned.{Mention, OfClass, method_mention}
 use Rattle.program_classes.specs.Mentioned.{helper_mentions, names_mentions}
 use Rattle.program_classes.specs.Making.{nothing}
 use Rattle.program_classes.specs.declared.content.MainClass.{MainClass}
+use Rattle.program_classes.specs.Content.{main_fields}
 use Rattle.program_classes.specs.declared.other_class.OtherClass.{OtherClass}
 use Rattle.program_classes.specs.declared.other_class.OtherClass.TheVariants.{Code, Data}
 use Rattle.program_classes.specs.Called.{pages_descriptor, class_name, method_name}
@@ -38,4 +39,4 @@ called_mentions name main =
 -- all that the main class of a name asks for
 abbrev pub main_mentions : List ℕ → MainClass → List Mention
 main_mentions name main = (OfClass name ∷ OfClass object_name ∷ [])
-    ++ (names_mentions name ++ called_mentions name main)
+    ++ (names_mentions (main_fields main) name ++ called_mentions name main)

@@ -8,7 +8,7 @@ use Rattle.program_classes.specs.declared.names.Names.{Names}
 use Rattle.program_classes.specs.Named.{AreNames}
 use Rattle.program_classes.specs.declared.content.MainClass.{MainClass}
 use Rattle.program_classes.specs.declared.main_naming.NamedClass.{NamedClass}
-use Rattle.program_classes.specs.Content.{share_texts}
+use Rattle.program_classes.specs.Content.{main_fields, share_texts}
 use Rattle.program_classes.specs.Fields.{AreFields}
 use Rattle.program_classes.specs.Called.{AreMainMethods}
 use Rattle.program_classes.specs.MainMentioned.{main_mentions}
@@ -16,13 +16,13 @@ use Rattle.program_classes.specs.MainMentioned.{main_mentions}
 -- the slots of all that the main class names: what every class names, the methods that it calls, and the texts of pages
 pub record AreMainNames (pool : List Entry) (name : List ℕ) (main : MainClass) (names : Names)
     (methods texts : List ℕ) : Type 0 where
-  pub names_are : AreNames pool name names
+  pub names_are : AreNames (main_fields main) pool name names
   pub methods_are : AreMainMethods pool name names.main main methods
   pub texts_are : AllZip (IsTextAt pool) texts (share_texts main.runs.now)
 
 pub record IsNamedClass (name : List ℕ) (main : MainClass) (n : NamedClass) : Type 0 where
   pub no_methods : n.class.methods ≡ []
-  pub fields_are : AreFields n.class.pool n.class.fields 38
+  pub fields_are : AreFields n.class.pool n.class.fields (main_fields main)
   pub named : IsClassAt n.class.pool n.class.this_class name
   pub names : AreMainNames n.class.pool name main n.names n.methods.items n.texts.items
   pub mentions : Mentions n.class.pool (main_mentions name main)

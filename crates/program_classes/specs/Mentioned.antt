@@ -36,7 +36,7 @@ host_mentions = two_mentions host_name host_call_signature host_fault_signature
 abbrev pub string_mentions : List Mention
 string_mentions = two_mentions string_name length_signature char_at_signature
 
--- the main class with its fields, the host, strings, and the type of arrays of ints
-abbrev pub names_mentions : List ℕ → List Mention
-names_mentions main = OfClass main ∷ [] ++ field_mentions main 38 ++ host_mentions
+-- the main class with so many of its fields, the host, strings, and the type of arrays of ints
+abbrev pub names_mentions : ℕ → List ℕ → List Mention
+names_mentions fields main = OfClass main ∷ [] ++ field_mentions main fields ++ host_mentions
     ++ string_mentions ++ OfClass (codes "[I") ∷ []

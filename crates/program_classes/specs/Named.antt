@@ -43,9 +43,11 @@ IsHost pool host = AreTwoMethods pool host_name host_call_signature host_fault_s
 abbrev pub AreStrings : List Entry → TwoMethods → Type 0
 AreStrings pool strings = AreTwoMethods pool string_name length_signature char_at_signature strings
 
-pub record AreNames (pool : List Entry) (main : List ℕ) (names : Names) : Type 0 where
+-- the main class with so many of its fields, the host, strings, and the type of arrays of ints
+pub record AreNames (fields : ℕ) (pool : List Entry) (main : List ℕ) (names : Names)
+    : Type 0 where
   pub main_is : IsClassAt pool names.main main
-  pub fields_are : AreFields pool names.main names.fields.items 38
+  pub fields_are : AreFields pool names.main names.fields.items fields
   pub host_is : IsHost pool names.host
   pub strings_are : AreStrings pool names.strings
   pub ints_is : IsClassAt pool names.ints (codes "[I")

@@ -52,7 +52,7 @@ pub fn code_class(
         All (λ p. p.span < length spans.now) made.pieces.items) }
 {
     let name = OtherClass::Code.name(alloc, main, number)?;
-    let named = named_class(alloc, name.as_str(), main, spans.len() as u32)?;
+    let named = named_class(alloc, name.as_str(), main, part.metered, spans.len() as u32)?;
     let mut class = named.class;
     let mut references = named.names.with_methods(0, named.helpers);
     let pieces = add_spans(alloc, &mut class, part, spans, &references)?;

@@ -5,6 +5,7 @@ ghost use Rattle.class_builder.specs.Built.{GrowsPool};
 ghost use Rattle.class_builder.specs.Lawful.{has_class};
 ghost use Rattle.class_builder.specs.Mentioned.{MentionsOf, method_mention};
 ghost use Rattle.class_builder.specs.Named.{IsMethodAt};
+ghost use Rattle.whole_methods.specs.Naming.{fields_of};
 ghost use Rattle.program_classes.specs.Making.{nothing};
 ghost use Rattle.program_classes.specs.CodeNaming.{AreSpanMethods, IsNamedClass, span_mentions};
 ghost use Rattle.program_classes.specs.Room.{is_own_name};
@@ -31,20 +32,21 @@ pub struct NamedClass {
     pub own_methods: Vec<u16>,
 }
 
-/// The class of this name, with so many spans, of the program whose main class is called `main`.
+/// The class of this name, with so many spans, of the program whose main class is called `main`, with a meter or without.
 pub fn named_class(
     alloc: Global,
     name: &str,
     main: &ClassName,
+    metered: bool,
     spans: u32,
 ) -> Result<NamedClass, NoMemory>
     requires name { is_own_name name.now ≡ true }
     requires few { spans ≤ 2048 }
-    ensures names { IfOk result (IsNamedClass name.now main.now spans) }
-    ensures few { IfOk result (λ n. length n.class.pool ≤ 263 + 4 * spans) }
+    ensures names { IfOk result (IsNamedClass (fields_of metered) name.now main.now spans) }
+    ensures few { IfOk result (λ n. length n.class.pool ≤ 267 + 4 * spans) }
 {
     let mut class = new_class(alloc, name)?;
-    let names = Names::new(alloc, &mut class, main)?;
+    let names = Names::new(alloc, &mut class, main, metered)?;
     let helpers = helper_references(alloc, &mut class, names.main)?;
     let own = class_reference(alloc, &mut class, name)?;
     let own_methods = span_references(alloc, &mut class, own, spans)?;

@@ -1,3 +1,4 @@
+use command_values::MeterTurns;
 use image_parts::PageRun;
 use loading_code::Beginning;
 use trampoline::Start;
@@ -7,6 +8,8 @@ use trampoline::Start;
 pub struct MainClass<'a> {
     /// With what the program begins.
     pub beginning: Beginning,
+    /// How many instructions of the guest the classes may make before they end by themselves; without it there is no meter.
+    pub meter: Option<MeterTurns>,
     /// The pages that can be read.
     pub runs: &'a [PageRun],
     /// Where the classes of code begin, by the numbers of their methods `run()V`, and behind each range of code the number of `missing()V`.

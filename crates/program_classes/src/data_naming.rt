@@ -40,11 +40,11 @@ pub fn named_class(
     requires pages { length pages.now ≤ 1024 }
     requires words { All (λ p. length p.words.now ≤ 1024) pages.now }
     ensures names { IfOk result (IsNamedClass name.now main.now (map page_of pages.now)) }
-    ensures few { IfOk result (λ n. length n.class.pool ≤ 1211) }
+    ensures few { IfOk result (λ n. length n.class.pool ≤ 1215) }
 {
     let mut class = new_class(alloc, name)?;
     let own = class_reference(alloc, &mut class, name)?;
-    let names = Names::new(alloc, &mut class, main)?;
+    let names = Names::new(alloc, &mut class, main, false)?;
     let words = method_reference(alloc, &mut class, own, "words", "([ILjava/lang/String;)V")?;
     let texts = page_slots(alloc, &mut class, pages)?;
     Ok(NamedClass {

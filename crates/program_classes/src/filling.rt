@@ -21,7 +21,7 @@ pub fn add_words(
     class: &mut ClassBuilder,
     references: &References,
 ) -> Result<(), NoMemory>
-    requires fields { length references.now.fields ≡ 38 }
+    requires fields { 38 ≤ length references.now.fields }
     requires few { length class.old.methods < 65535 }
     requires room { length class.old.pool + 10 ≤ 65534 }
     ensures few { OnOk result (length class.new.pool ≤ length class.old.pool + 10) }
@@ -54,7 +54,7 @@ pub fn add_fill(
     words: u32,
     references: &References,
 ) -> Result<(), NoMemory>
-    requires fields { length references.now.fields ≡ 38 }
+    requires fields { 38 ≤ length references.now.fields }
     requires words { has_method references.now words ≡ true }
     requires few { length texts.now ≤ 1024 }
     requires texts { All (λ s. has_text class.old.pool s.slot ≡ true) texts.now }

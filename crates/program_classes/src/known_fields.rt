@@ -1,5 +1,5 @@
 //! The fields of the main class.
-ghost use Rattle.std.specs.Prelude.{◌≡◌, ◌+◌, ◌<◌, ◌≤◌, true, [], ◌∷◌, length, OnOk, IfOk};
+ghost use Rattle.std.specs.Prelude.{◌≡◌, ◌+◌, ◌*◌, ◌<◌, ◌≤◌, true, [], ◌∷◌, length, OnOk, IfOk};
 ghost use Rattle.guest_layout.specs.Fields.{field_descriptor, field_name};
 ghost use Rattle.class_builder.specs.Built.{GrowsPool};
 ghost use Rattle.class_builder.specs.Lawful.{has_class};
@@ -10,24 +10,26 @@ ghost use Rattle.program_classes.specs.Named.{AreFields};
 
 use crate::{NoMemory, building};
 use class_builder::ClassBuilder;
-use guest_layout::{FIELDS, field_descriptor, field_name};
+use guest_layout::{field_descriptor, field_name};
 use std::alloc::Global;
 
-/// The slots of the fields of the main class, by their numbers; `main` is the slot of that class.
+/// The slots of so many fields of the main class, by their numbers; `main` is the slot of that class.
 pub fn field_references(
     alloc: Global,
     class: &mut ClassBuilder,
     main: u16,
+    fields: u32,
 ) -> Result<Vec<u16>, NoMemory>
-    requires room { length class.old.pool + 152 ≤ 65534 }
+    requires room { length class.old.pool + 156 ≤ 65534 }
     requires owner { has_class class.old.pool main ≡ true }
-    ensures there { IfOk result (λ slots. AreFields class.new.pool main slots.items 38) }
-    ensures grown { OnOk result (GrowsPool class.old class.new 152) }
+    requires few { fields ≤ 39 }
+    ensures there { IfOk result (λ slots. AreFields class.new.pool main slots.items fields) }
+    ensures grown { OnOk result (GrowsPool class.old class.new 156) }
     ensures mentions { OnOk result (MentionsOf class.old.pool class.new.pool main
-        (λ owner. field_mentions owner 38)) }
+        (λ owner. field_mentions owner fields)) }
 {
     let mut slots = Vec::new(alloc);
-    for field in 0..FIELDS {
+    for field in 0..fields {
         slots.push(field_reference(alloc, class, main, field)?)?;
     }
     Ok(slots)
@@ -42,7 +44,7 @@ fn field_reference(
 ) -> Result<u16, NoMemory>
     requires room { length class.old.pool + 4 ≤ 65534 }
     requires owner { has_class class.old.pool main ≡ true }
-    requires within { field < 38 }
+    requires within { field < 39 }
     ensures there { IfOk result (λ slot.
         IsFieldAt class.new.pool slot main (field_name field) (field_descriptor field)) }
     ensures grown { OnOk result (GrowsPool class.old class.new 4) }

@@ -7,7 +7,7 @@ ghost use Rattle.program_classes.specs.MainNaming.{IsNamedClass};
 use crate::NoMemory;
 use crate::building::new_class;
 use crate::content::MainClass;
-use crate::main_fields::add_fields;
+use crate::main_fields::{add_fields, fields_of};
 use crate::names::Names;
 use crate::references::method_references;
 use crate::texts::text_slots;
@@ -39,8 +39,9 @@ pub fn named_class(
     ensures few { IfOk result (λ n. length n.class.pool ≤ 30000) }
 {
     let mut class = new_class(alloc, name.as_str())?;
-    add_fields(alloc, &mut class)?;
-    let names = Names::new(alloc, &mut class, name)?;
+    let metered = main.meter.is_some();
+    add_fields(alloc, &mut class, fields_of(metered))?;
+    let names = Names::new(alloc, &mut class, name, metered)?;
     let methods = method_references(alloc, &mut class, name, names.main, main)?;
     let texts = text_slots(alloc, &mut class, main.runs)?;
     Ok(NamedClass {

@@ -2,9 +2,10 @@
 ghost use Rattle.std.specs.Prelude.{◌≡◌, ◌+◌, ◌<◌, ◌≤◌, ◌++◌, true, ◌∷◌, [], All, OnOk, length};
 ghost use Rattle.guest_layout.specs.Numbers.{main_methods};
 ghost use Rattle.class_builder.specs.Lawful.{has_text};
+ghost use Rattle.whole_methods.specs.Naming.{fields_of};
 ghost use Rattle.whole_methods.specs.Whole.{HasHelpers};
 ghost use Rattle.program_classes.specs.Making.{AddsMethods};
-ghost use Rattle.program_classes.specs.Content.{IsMain, behind};
+ghost use Rattle.program_classes.specs.Content.{IsMain, behind, main_fields};
 ghost use Rattle.program_classes.specs.Main.{choose_plan, helper_plan, helper_plans, missing_plan, other_plans, pages_plan, run_plan};
 
 use crate::NoMemory;
@@ -15,6 +16,7 @@ use code_assembly::References;
 use code_limits::slot_laws::{
     choosers_take_few_slots, helpers_take_few_slots, loading_takes_few_slots,
 };
+use command_values::MeterTurns;
 use guest_layout::{CHOOSE, HELPERS, MISSING, PAGES, helper_descriptor, helper_name};
 use loading_code::{append_pages, append_run};
 use mem_helpers::append_helper;
@@ -89,6 +91,7 @@ pub fn add_others(
 ) -> Result<(), NoMemory>
     requires main { IsMain main.now }
     requires references { HasHelpers references.now }
+    requires fields { main_fields main.now ≤ length references.now.fields }
     requires count { length references.now.methods
         ≡ behind main_methods (main.now.code.now ++ main.now.data.now) }
     requires texts { All (λ slot. has_text class.old.pool slot ≡ true) texts.now }
@@ -102,7 +105,7 @@ pub fn add_others(
     add_run(alloc, class, main, texts, references)?;
     add_choose(alloc, class, main, references)?;
     add_pages(alloc, class, references)?;
-    add_missing(alloc, class, references)?;
+    add_missing(alloc, class, main.meter.is_some(), references)?;
     Ok(())
 }
 
@@ -115,6 +118,7 @@ fn add_run(
 ) -> Result<(), NoMemory>
     requires main { IsMain main.now }
     requires references { HasHelpers references.now }
+    requires fields { main_fields main.now ≤ length references.now.fields }
     requires count { length references.now.methods
         ≡ behind main_methods (main.now.code.now ++ main.now.data.now) }
     requires texts { All (λ slot. has_text class.old.pool slot ≡ true) texts.now }
@@ -129,6 +133,7 @@ fn add_run(
     let mut code = Vec::new(alloc);
     append_run(
         &main.beginning,
+        turns_of(main.meter),
         texts,
         0,
         PAGES,
@@ -140,6 +145,16 @@ fn add_run(
     loading_takes_few_slots();
     put_method(alloc, class, "run", "()V", 0, code.as_slice(), references)?;
     Ok(())
+}
+
+// How many turns are put on the meter.
+fn turns_of(meter: Option<MeterTurns>) -> Option<u32>
+    ensures { result ≡ meter }
+{
+    match meter {
+        Some(turns) => Some(turns.get()),
+        None => None,
+    }
 }
 
 fn add_choose(
@@ -181,7 +196,7 @@ fn add_pages(
     class: &mut ClassBuilder,
     references: &References,
 ) -> Result<(), NoMemory>
-    requires fields { length references.now.fields ≡ 38 }
+    requires fields { 38 ≤ length references.now.fields }
     requires few { length class.old.methods < 65535 }
     requires room { length class.old.pool + 10 ≤ 65534 }
     ensures few { OnOk result (length class.new.pool ≤ length class.old.pool + 10) }
@@ -208,15 +223,17 @@ fn add_pages(
 fn add_missing(
     alloc: Global,
     class: &mut ClassBuilder,
+    metered: bool,
     references: &References,
 ) -> Result<(), NoMemory>
-    requires fields { length references.now.fields ≡ 38 }
+    requires fields { fields_of metered ≤ length references.now.fields }
     requires few { length class.old.methods < 65535 }
     requires room { length class.old.pool + 6 ≤ 65534 }
-    ensures { OnOk result (AddsMethods class.old class.new (missing_plan references.now ∷ [])) }
+    ensures { OnOk result
+        (AddsMethods class.old class.new (missing_plan metered references.now ∷ [])) }
 {
     let mut code = Vec::new(alloc);
-    append_missing(&mut code)?;
+    append_missing(metered, &mut code)?;
     choosers_name_well();
     choosers_are_whole();
     choosers_take_few_slots();

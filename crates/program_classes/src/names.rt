@@ -2,12 +2,14 @@
 ghost use Rattle.std.specs.Prelude.{◌+◌, ◌≤◌, ◌++◌, length, OnOk, IfOk};
 ghost use Rattle.class_builder.specs.Built.{GrowsPool};
 ghost use Rattle.class_builder.specs.Mentioned.{Mentions, mentioned};
+ghost use Rattle.whole_methods.specs.Naming.{fields_of};
 ghost use Rattle.program_classes.specs.Mentioned.{names_mentions};
 ghost use Rattle.program_classes.specs.Named.{AreNames};
 
 use crate::NoMemory;
 use crate::building::class_reference;
 use crate::known_fields::field_references;
+use crate::main_fields::fields_of;
 use crate::two_methods::{TwoMethods, two_methods};
 use class_builder::ClassBuilder;
 use command_values::ClassName;
@@ -18,7 +20,7 @@ use std::alloc::Global;
 pub struct Names {
     /// The main class.
     pub main: u16,
-    /// The fields of the main class, by their numbers.
+    /// Fields of the main class, by their numbers.
     pub fields: Vec<u16>,
     /// The class `nestedvm/Host` with its methods `call` and `fault`.
     pub host: TwoMethods,
@@ -29,16 +31,21 @@ pub struct Names {
 }
 
 impl Names {
-    /// Names all of it in a class of the program whose main class is called `main`.
-    pub fn new(alloc: Global, class: &mut ClassBuilder, main: &ClassName) -> Result<Names, NoMemory>
-        requires room { length class.old.pool + 176 ≤ 65534 }
-        ensures there { IfOk result (AreNames class.new.pool main.now) }
-        ensures grown { OnOk result (GrowsPool class.old class.new 176) }
+    /// Names all of it in a class of the program whose main class is called `main`, and with a meter its field too.
+    pub fn new(
+        alloc: Global,
+        class: &mut ClassBuilder,
+        main: &ClassName,
+        metered: bool,
+    ) -> Result<Names, NoMemory>
+        requires room { length class.old.pool + 180 ≤ 65534 }
+        ensures there { IfOk result (AreNames (fields_of metered) class.new.pool main.now) }
+        ensures grown { OnOk result (GrowsPool class.old class.new 180) }
         ensures mentions { OnOk result (Mentions class.new.pool (mentioned class.old.pool
-            ++ names_mentions main.now)) }
+            ++ names_mentions (fields_of metered) main.now)) }
     {
         let main = class_reference(alloc, class, main.as_str())?;
-        let fields = field_references(alloc, class, main)?;
+        let fields = field_references(alloc, class, main, fields_of(metered))?;
         let host = two_methods(
             alloc,
             class,

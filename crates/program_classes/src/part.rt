@@ -9,6 +9,8 @@ pub struct Part<'a> {
     pub units: &'a [Unit],
     /// Which words of the range are leaders, as `block_builder::leader_flags` gives them.
     pub leads: &'a [bool],
+    /// Whether the program has a meter.
+    pub metered: bool,
     /// The address of the range's first word.
     pub start: u32,
     /// The first word of the class, counted from 0 in the range.

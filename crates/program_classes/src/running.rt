@@ -28,7 +28,7 @@ pub fn add_run(
     requires some { 1 ≤ length spans.now }
     requires few { length spans.now ≤ 2048 }
     requires methods { references.now.first_method + length spans.now < 2 ^ 32 }
-    requires fields { length references.now.fields ≡ 38 }
+    requires fields { 38 ≤ length references.now.fields }
     requires count { length references.now.methods ≡ length spans.now }
     requires few_methods { length class.old.methods < 65535 }
     requires room { length class.old.pool + (6 + length spans.now) ≤ 65534 }

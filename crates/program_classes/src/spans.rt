@@ -1,9 +1,10 @@
 //! The methods of spans.
-ghost use Rattle.std.specs.Prelude.{◌≡◌, ◌+◌, ◌*◌, ◌≤◌, ◌<◌, ◌∷◌, ◌++◌, [], All, IfOk, OnOk, length, sum_by, zip};
+ghost use Rattle.std.specs.Prelude.{◌≡◌, ◌+◌, ◌*◌, ◌≤◌, ◌<◌, ◌∷◌, ◌++◌, [], false, All, IfOk, OnOk, length, sum_by, zip};
 ghost use Rattle.code_steps.specs.Widths.{size};
 ghost use Rattle.span_code.specs.Locals.{locals_of};
 ghost use Rattle.span_code.specs.Pieces.{flagged, pieces_of, span_of};
 ghost use Rattle.span_code.specs.Laying.{stretches_of};
+ghost use Rattle.whole_methods.specs.Naming.{fields_of};
 ghost use Rattle.whole_methods.specs.Whole.{HasHelpers};
 ghost use Rattle.program_classes.specs.Parts.{IsCode, IsSpan};
 ghost use Rattle.program_classes.specs.Making.{AddsMethods};
@@ -40,6 +41,7 @@ pub fn add_spans(
     requires code { IsCode part.now.units.now }
     requires sizes { All (λ s. size (code_of_span part.now s) ≤ 65535) spans.now }
     requires references { HasHelpers references.now }
+    requires fields { fields_of part.now.metered ≤ length references.now.fields }
     requires none { class.old.methods ≡ [] }
     requires room { length class.old.pool
         + (4 * length spans.now + 9 * sum_by (λ s. s.words) spans.now) ≤ 65534 }
@@ -73,6 +75,7 @@ fn add_span(
     requires code { IsCode part.now.units.now }
     requires size { size (code_of_span part.now (span_at spans.now k)) ≤ 65535 }
     requires references { HasHelpers references.now }
+    requires fields { fields_of part.now.metered ≤ length references.now.fields }
     requires few { length class.old.methods < 65535 }
     requires room { length class.old.pool + (4 + 9 * (span_at spans.now k).words) ≤ 65534 }
     ensures method { OnOk result (AddsMethods class.old class.new
@@ -112,13 +115,21 @@ fn method_of(alloc: Global, part: &Part, span: &Span) -> Result<SpanMethod, NoMe
     ensures locals { IfOk result (λ m. m.locals ≡ locals_of (code_of_span part.now span.now)) }
     ensures pieces { IfOk result (λ m. m.pieces.items
         ≡ pieces_of part.now.units.now (flagged part.now.leads.now)
-        (span_of part.now.start (part.now.first + span.now.first) span.now.words)) }
+        (span_of part.now.metered part.now.start (part.now.first + span.now.first) span.now.words)) }
     ensures stretches { IfOk result (λ m. m.stretches.items
         ≡ stretches_of part.now.units.now (flagged part.now.leads.now)
-        (span_of part.now.start (part.now.first + span.now.first) span.now.words)) }
+        (span_of part.now.metered part.now.start (part.now.first + span.now.first) span.now.words)) }
 {
     let first = part.first + span.first;
-    match span_method(alloc, part.units, part.leads, part.start, first, span.words) {
+    match span_method(
+        alloc,
+        part.units,
+        part.leads,
+        part.metered,
+        part.start,
+        first,
+        span.words,
+    ) {
         Ok(method) => Ok(method),
         Err(SpanError::NoMemory) => Err(AllocError),
         Err(SpanError::TooLong) => unreachable!(),

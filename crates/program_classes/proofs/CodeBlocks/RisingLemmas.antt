@@ -33,7 +33,7 @@ stretch-before units leads span k j from before is =
     let F = warm_part units leads span in
     let begin = begins leads span in
     let more = size-more F (filter begin (words_before span k)) (filter begin (words_before span (k + 1))) k (kept-more begin span k from is) in
-    let rises = size-rises F begin (record { start = span.start; first = span.first; end = j }) (k + 1) (omega arith) (omega arith) in
+    let rises = size-rises F begin (record { metered = span.metered; start = span.start; first = span.first; end = j }) (k + 1) (omega arith) (omega arith) in
     omega (arith, more, rises)
 
 span-rises : (part : Part) (spans : List Span) (j : ℕ) → AllPairs Follows (pieces_of_span part spans j)

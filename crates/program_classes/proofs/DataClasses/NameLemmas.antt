@@ -37,7 +37,7 @@ pub data-names-later : (old new : List Entry) → Extends old new → (name main
     (texts : List PageSlot)
     → AreDataNames old name main pages names own words texts → AreDataNames new name main pages names own words texts
 data-names-later old new kept name main pages names own words texts are = record {
-  names_are = names-later old new kept main names are.names_are;
+  names_are = names-later 38 old new kept main names are.names_are;
   own_is = class-later old new own name kept are.own_is;
   words_is = member-later old new kept MethodRef words own _ _ are.words_is;
   texts_are = slots-later old new kept texts pages are.texts_are;

@@ -29,12 +29,12 @@ one-of test a (suc n) k all from below =
 abbrev is_field_named : ℕ → Bool
 is_field_named k = can_name_field (field_name k) (field_descriptor k)
 
-fields-tried : list_all is_field_named (range_with_len 0 38) ≡ true
+fields-tried : list_all is_field_named (range_with_len 0 39) ≡ true
 unfolding after_field digits
 fields-tried = refl
 
-pub field-named : (k : ℕ) → k < 38 → can_name_field (field_name k) (field_descriptor k) ≡ true
-field-named k h = one-of is_field_named 0 38 k fields-tried (omega arith) (omega (arith, h))
+pub field-named : (k : ℕ) → k < 39 → can_name_field (field_name k) (field_descriptor k) ≡ true
+field-named k h = one-of is_field_named 0 39 k fields-tried (omega arith) (omega (arith, h))
 
 abbrev is_helper_named : ℕ → Bool
 is_helper_named k =

@@ -13,6 +13,7 @@ use Rattle.program_classes.specs.Mentioned.{field_mentions, helper_mentions, hos
 use Rattle.program_classes.specs.declared.content.MainClass.{MainClass}
 use Rattle.program_classes.specs.declared.other_class.OtherClass.{OtherClass}
 use Rattle.program_classes.specs.declared.other_class.OtherClass.TheVariants.{Code, Data}
+use Rattle.program_classes.specs.Content.{main_fields}
 use Rattle.program_classes.specs.Called.{class_name, pages_descriptor}
 use Rattle.program_classes.specs.MainMentioned.{own_mentions, other_mention, other_mentions, called_mentions, main_mentions}
 
@@ -49,10 +50,10 @@ in-parts name fields x y z none =
     (joined (front ++ x) y
     ∙ ap (λ l. l ++ classes_among y) (joined front x ∙ ap (λ l. (name ∷ l) ++ classes_among x) none))
 
-names-classes : (name : List ℕ) → classes_among (names_mentions name) ≡ name ∷ host_name ∷ string_name ∷ codes "[I" ∷ []
-names-classes name =
-    in-parts name (field_mentions name 38) host_mentions string_mentions (OfClass (codes "[I") ∷ [])
-    (members-none Field field_name field_descriptor name (range_with_len 0 38))
+names-classes : (fields : ℕ) (name : List ℕ) → classes_among (names_mentions fields name) ≡ name ∷ host_name ∷ string_name ∷ codes "[I" ∷ []
+names-classes fields name =
+    in-parts name (field_mentions name fields) host_mentions string_mentions (OfClass (codes "[I") ∷ [])
+    (members-none Field field_name field_descriptor name (range_with_len 0 fields))
 
 called-classes : (name : List ℕ) (main : MainClass) → classes_among (called_mentions name main)
     ≡ map (class_name Code name) (range_with_len 0 (length main.code.now)) ++ map (class_name Data name) (range_with_len 0 (length main.data.now))
@@ -70,6 +71,6 @@ pub main-classes : (name : List ℕ) (main : MainClass) → classes_among (main_
     ≡ name ∷ object_name ∷ name ∷ host_name ∷ string_name ∷ codes "[I"
     ∷ (map (class_name Code name) (range_with_len 0 (length main.code.now)) ++ map (class_name Data name) (range_with_len 0 (length main.data.now)))
 main-classes name main =
-    let all = names-classes name in
+    let all = names-classes (main_fields main) name in
     let more = called-classes name main in
-    ap (λ l. name ∷ object_name ∷ l) (joined (names_mentions name) (called_mentions name main) ∙ (λ i. all i ++ more i))
+    ap (λ l. name ∷ object_name ∷ l) (joined (names_mentions (main_fields main) name) (called_mentions name main) ∙ (λ i. all i ++ more i))

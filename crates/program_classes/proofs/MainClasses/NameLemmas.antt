@@ -11,7 +11,7 @@ use Rattle.program_classes.proofs.ClassMaking.ZipLemmas.{zip-through}
 use Rattle.program_classes.specs.declared.names.Names.{Names}
 use Rattle.program_classes.proofs.ProgramNames.NamedLemmas.{names-later}
 use Rattle.program_classes.specs.declared.content.MainClass.{MainClass}
-use Rattle.program_classes.specs.Content.{share_texts}
+use Rattle.program_classes.specs.Content.{main_fields, share_texts}
 use Rattle.program_classes.specs.MainNaming.{AreMainNames}
 use Rattle.program_classes.proofs.MainClasses.CalledLemmas.{methods-later}
 
@@ -32,7 +32,7 @@ texts-more old new kept slots text_of k slot are is =
 pub main-names-later : (old new : List Entry) → Extends old new → (name : List ℕ) (main : MainClass) (names : Names) (methods texts : List ℕ)
     → AreMainNames old name main names methods texts → AreMainNames new name main names methods texts
 main-names-later old new kept name main names methods texts are = record {
-  names_are = names-later old new kept name names are.names_are;
+  names_are = names-later (main_fields main) old new kept name names are.names_are;
   methods_are = methods-later old new kept name names.main main methods are.methods_are;
   texts_are = texts-later old new kept texts (share_texts main.runs.now) are.texts_are;
 }

@@ -79,10 +79,11 @@ module _ (old new : List Entry) (kept : Extends old new) where
 pub no-members : (kind : ℕ → ℕ → Entry) (name descriptor : ℕ → List ℕ) (pool : List Entry) (class : ℕ) → AreMembers kind name descriptor pool class [] 0
 no-members kind name descriptor pool class = record { count_is = refl; each = λ k less. absurd (omega (arith, less)) }
 
-pub names-later : (old new : List Entry) → Extends old new → (main : List ℕ) (names : Names) → AreNames old main names → AreNames new main names
-names-later old new kept main names are = record {
+pub names-later : (fields : ℕ) (old new : List Entry) → Extends old new → (main : List ℕ) (names : Names) → AreNames fields old main names
+    → AreNames fields new main names
+names-later fields old new kept main names are = record {
   main_is = class-later old new kept names.main main are.main_is;
-  fields_are = members-later old new kept FieldRef field_name field_descriptor names.main names.fields.items 38 are.fields_are;
+  fields_are = members-later old new kept FieldRef field_name field_descriptor names.main names.fields.items fields are.fields_are;
   host_is = two-later old new kept _ _ _ names.host are.host_is;
   strings_are = two-later old new kept _ _ _ names.strings are.strings_are;
   ints_is = class-later old new kept names.ints _ are.ints_is;

@@ -1,5 +1,5 @@
 -- Code is that of a method where it can be made into one, and the texts that it pushes are there.
-use Rattle.std.proofs.Common.{◌≡◌, ℕ, Bool, true, List, [], ◌∷◌, ◌++◌, map, All, refl, ap, sym, ◌∙◌, subst, arith}
+use Rattle.std.proofs.Common.{◌≡◌, ℕ, Bool, true, List, [], ◌∷◌, ◌++◌, map, All, Option, Some, None, refl, ap, sym, ◌∙◌, subst, arith}
 use Rattle.std.specs.Prelude.{◌&&◌, ◌==◌}
 use Rattle.std.proofs.lemmas.Bool.{and_parts, and_from}
 use Rattle.std.proofs.lemmas.List.Elements.{All-head, All-tail}
@@ -15,12 +15,12 @@ use Rattle.loading_code.specs.declared.beginning.Beginning.{Beginning}
 use Rattle.code_steps.specs.Returning.{returns}
 use Rattle.loading_code.specs.Parts.{call}
 use Rattle.loading_code.specs.Filling.{page_code, filled_code, fill_code}
-use Rattle.loading_code.specs.Starting.{page_text_code, page_texts_code, table_code, memory_code, begun_code, run_code}
+use Rattle.loading_code.specs.Starting.{page_text_code, page_texts_code, table_code, memory_code, meter_code, begun_code, run_code}
 use Rattle.code_assembly.specs.declared.references.References.{References}
 use Rattle.code_assembly.specs.Assembling.{can_be_assembled, is_method}
 use Rattle.class_builder.specs.Lawful.{has_text}
 use Rattle.class_builder.specs.Code.{has_its_text, has_texts, is_code}
-use Rattle.whole_methods.specs.Naming.{step_names_well, all_well}
+use Rattle.whole_methods.specs.Naming.{step_names_well_of, all_well_of}
 use Rattle.whole_methods.specs.Whole.{CanBeMethod}
 
 pub whole-code : (r : References) (pool : List Entry) (code : List Step) → CanBeMethod r code → has_texts pool code ≡ true
@@ -32,19 +32,20 @@ whole-code r pool code whole texts = and_from (can_be_assembled r code && is_met
 two-classes : (class : ℕ) → (class == 0) ≡ true → (class == 1) ≡ true → ⊥
 two-classes class first second = grind arith
 
-no-text : (pool : List Entry) (calls : ℕ → Bool) (gives : Bool) (s : Step) → step_names_well calls 0 gives s ≡ true
-    → step_names_well calls 1 gives s ≡ true → has_its_text pool s ≡ true
-no-text pool calls gives (Does (instructions.Push (constants.Text class slot))) first second = absurd (two-classes class first second)
-no-text pool calls gives s first second = refl
+no-text : (fields : ℕ) (pool : List Entry) (calls : ℕ → Bool) (gives : Bool) (s : Step) → step_names_well_of fields calls 0 gives s ≡ true
+    → step_names_well_of fields calls 1 gives s ≡ true → has_its_text pool s ≡ true
+no-text fields pool calls gives (Does (instructions.Push (constants.Text class slot))) first second = absurd (two-classes class first second)
+no-text fields pool calls gives s first second = refl
 
 -- it is well for two classes
-pub no-texts : (pool : List Entry) (calls : ℕ → Bool) (gives : Bool) (code : List Step) → all_well calls 0 gives code ≡ true
-    → all_well calls 1 gives code ≡ true → has_texts pool code ≡ true
-no-texts pool calls gives [] first second = refl
-no-texts pool calls gives (s ∷ code) first second =
-    let a = and_parts (step_names_well calls 0 gives s) (all_well calls 0 gives code) first in
-    let b = and_parts (step_names_well calls 1 gives s) (all_well calls 1 gives code) second in
-    and_from (has_its_text pool s) (has_texts pool code) (no-text pool calls gives s a.0 b.0) (no-texts pool calls gives code a.1 b.1)
+pub no-texts : (fields : ℕ) (pool : List Entry) (calls : ℕ → Bool) (gives : Bool) (code : List Step)
+    → all_well_of fields calls 0 gives code ≡ true → all_well_of fields calls 1 gives code ≡ true → has_texts pool code ≡ true
+no-texts fields pool calls gives [] first second = refl
+no-texts fields pool calls gives (s ∷ code) first second =
+    let a = and_parts (step_names_well_of fields calls 0 gives s) (all_well_of fields calls 0 gives code) first in
+    let b = and_parts (step_names_well_of fields calls 1 gives s) (all_well_of fields calls 1 gives code) second in
+    and_from (has_its_text pool s) (has_texts pool code) (no-text fields pool calls gives s a.0 b.0)
+    (no-texts fields pool calls gives code a.1 b.1)
 
 -- ---- code that makes memory
 
@@ -86,10 +87,16 @@ memory-texts pool slots class pages fills there =
     both-texts pool (tables ++ texts) (map call fills)
     (both-texts pool tables texts refl (pages-texts pool class pages slots there)) (calls-texts pool fills)
 
-pub run-texts : (pool : List Entry) (b : Beginning) (slots : List ℕ) (class pages : ℕ) (fills : List ℕ) (choose : ℕ)
-    → All (λ slot. has_text pool slot ≡ true) slots → has_texts pool (run_code b slots class pages fills choose) ≡ true
-run-texts pool b slots class pages fills choose there =
-    both-texts pool (memory_code slots class pages fills) (begun_code b choose) (memory-texts pool slots class pages fills there) refl
+meter-texts : (pool : List Entry) (meter : Option ℕ) (entry : ℕ) → has_texts pool (meter_code meter entry) ≡ true
+meter-texts pool None entry = refl
+meter-texts pool (Some turns) entry = refl
+
+pub run-texts : (pool : List Entry) (meter : Option ℕ) (b : Beginning) (slots : List ℕ) (class pages : ℕ) (fills : List ℕ) (choose : ℕ)
+    → All (λ slot. has_text pool slot ≡ true) slots → has_texts pool (run_code meter b slots class pages fills choose) ≡ true
+run-texts pool meter b slots class pages fills choose there =
+    let counted = meter_code meter b.entry in
+    both-texts pool (memory_code slots class pages fills) (counted ++ begun_code b choose) (memory-texts pool slots class pages fills there)
+    (both-texts pool counted (begun_code b choose) (meter-texts pool meter b.entry) refl)
 
 -- ---- the same of a list of steps that is known to be the code
 
@@ -101,7 +108,7 @@ pub same-code : (r : References) (pool : List Entry) (steps code : List Step) �
 same-code r pool steps code same is = subst (λ l. is_code r pool l ≡ true) (sym same) is
 
 -- code that pushes no text
-pub plain-code : (r : References) (pool : List Entry) (calls : ℕ → Bool) (gives : Bool) (steps code : List Step) → steps ≡ code
-    → CanBeMethod r code → ((class : ℕ) → all_well calls class gives code ≡ true) → is_code r pool steps ≡ true
-plain-code r pool calls gives steps code same whole well =
-    same-code r pool steps code same (whole-code r pool code whole (no-texts pool calls gives code (well 0) (well 1)))
+pub plain-code : (fields : ℕ) (r : References) (pool : List Entry) (calls : ℕ → Bool) (gives : Bool) (steps code : List Step) → steps ≡ code
+    → CanBeMethod r code → ((class : ℕ) → all_well_of fields calls class gives code ≡ true) → is_code r pool steps ≡ true
+plain-code fields r pool calls gives steps code same whole well =
+    same-code r pool steps code same (whole-code r pool code whole (no-texts fields pool calls gives code (well 0) (well 1)))

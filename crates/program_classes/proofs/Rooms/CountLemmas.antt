@@ -1,5 +1,5 @@
 -- How many methods a class has, and what its slots are slots of.
-use Rattle.std.proofs.Common.{◌≡◌, ℕ, suc, ◌+◌, ◌-◌, ◌<◌, ◌≤◌, true, List, [], ◌∷◌, ◌++◌, length, map, All, Option, Some, None, refl, ap, arith, lt-ltb, le-leb, length-append}
+use Rattle.std.proofs.Common.{◌≡◌, ℕ, suc, ◌+◌, ◌-◌, ◌<◌, ◌≤◌, Bool, true, false, List, [], ◌∷◌, ◌++◌, length, map, All, Option, Some, None, refl, ap, arith, lt-ltb, le-leb, length-append}
 use Rattle.std.specs.Prelude.{nat_le, nat_lt}
 use Rattle.std.specs.List.{AllZip, range_with_len}
 use Rattle.std.proofs.lemmas.Bool.{and_from}
@@ -20,6 +20,7 @@ use Rattle.code_assembly.specs.declared.references.References.{References}
 use Rattle.code_assembly.specs.Assembling.{has_method}
 use Rattle.class_builder.specs.Lawful.{is_text, is_class, has_text, has_class}
 use Rattle.class_builder.specs.Named.{IsTextAt, IsClassAt}
+use Rattle.whole_methods.specs.Naming.{fields_of}
 use Rattle.program_classes.specs.declared.part.Part.{Part}
 use Rattle.program_classes.specs.Making.{Plan, IsMade, AddsMethods}
 use Rattle.program_classes.specs.Fields.{IsField, AddsFields}
@@ -56,6 +57,11 @@ fields-count old new count adds =
       zip-length (IsField new.pool) adds.added (range_with_len 0 count) adds.are,
       length-range_with_len 0 count,
     )
+
+-- with a meter or without, the fields of all programs are there
+pub all-fields : (metered : Bool) → 38 ≤ fields_of metered
+all-fields true = omega arith
+all-fields false = omega arith
 
 pub plans-count : (plan : ℕ → Plan) (count : ℕ) → length (map plan (range_with_len 0 count)) ≡ count
 plans-count plan count = length-map-range_with_len plan 0 count

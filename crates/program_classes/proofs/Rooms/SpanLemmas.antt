@@ -14,7 +14,7 @@ use Rattle.code_assembly.specs.declared.references.References.{References}
 use Rattle.code_assembly.specs.Assembling.{slots_of}
 use Rattle.class_builder.specs.Code.{is_code}
 use Rattle.code_limits.specs.Laws.{SpansTakeFewSlots}
-use Rattle.whole_methods.specs.Naming.{SpansNameWell, is_helper}
+use Rattle.whole_methods.specs.Naming.{SpansNameWell, fields_of, is_helper}
 use Rattle.whole_methods.specs.Whole.{CanBeMethod, HasHelpers, SpansAreWhole}
 use Rattle.program_classes.specs.declared.part.Part.{Part}
 use Rattle.program_classes.specs.Parts.{IsCode, IsSpan}
@@ -26,26 +26,27 @@ units-length [] = refl
 units-length (w ∷ words) = ap suc (units-length words)
 
 span-whole : SpansAreWhole → (r : References) (units : List Unit) (leads : ℕ → Bool) (span : SpanWords) → HasHelpers r → IsCode units
-    → span.end ≤ length units → span.first < span.end → size (span_code units leads span) ≤ 65535 → CanBeMethod r (span_code units leads span)
-span-whole whole r units leads span helpers code within some small =
+    → fields_of span.metered ≤ length r.fields → span.end ≤ length units → span.first < span.end → size (span_code units leads span) ≤ 65535
+    → CanBeMethod r (span_code units leads span)
+span-whole whole r units leads span helpers code fields within some small =
     subst (λ u. CanBeMethod r (span_code u leads span)) (sym code.units_are)
-    (whole r code.words leads span helpers code.are_words code.no_float
+    (whole r code.words leads span helpers fields code.are_words code.no_float
     (omega (arith, within, ap length code.units_are, units-length code.words)) some
     (subst (λ u. size (span_code u leads span) ≤ 65535) code.units_are small))
 
 pub span-is-code : UnitsAreLawful → SpansNameWell → SpansAreWhole → (r : References) (pool : List Entry) (part : Part) (s : Span) → HasHelpers r
-    → IsCode part.units.now → IsSpan part.words s → size (code_of_span part s) ≤ 65535
+    → fields_of part.metered ≤ length r.fields → IsCode part.units.now → IsSpan part.words s → size (code_of_span part s) ≤ 65535
     → is_code r pool (code_of_span part s) ≡ true
-span-is-code lawful well whole r pool part s helpers code own small =
+span-is-code lawful well whole r pool part s helpers fields code own small =
     let units = part.units.now in
     let leads = flagged part.leads.now in
-    let span = span_of part.start (part.first + s.first) s.words in
+    let span = span_of part.metered part.start (part.first + s.first) s.words in
     let all = subst (All IsLawful) (sym code.units_are) (lawful code.words code.are_words code.no_float) in
     whole-code r pool (code_of_span part s)
-    (span-whole whole r units leads span helpers code (omega (arith, part.within, own.within)) (omega (arith, own.some)) small)
-    (no-texts pool is_helper false (code_of_span part s) (well 0 units leads span all) (well 1 units leads span all))
+    (span-whole whole r units leads span helpers code fields (omega (arith, part.within, own.within)) (omega (arith, own.some)) small)
+    (no-texts (fields_of part.metered) pool is_helper false (code_of_span part s) (well 0 units leads span all) (well 1 units leads span all))
 
 pub span-slots : SpansTakeFewSlots → (part : Part) (s : Span) → slots_of (code_of_span part s) ≤ 2 + 9 * s.words
 span-slots few part s =
-    let span = span_of part.start (part.first + s.first) s.words in
+    let span = span_of part.metered part.start (part.first + s.first) s.words in
     omega (arith, few part.units.now (flagged part.leads.now) span)

@@ -6,6 +6,7 @@ use Rattle.code_assembly.specs.declared.references.References.{References}
 use Rattle.class_builder.specs.Named.{IsClassAt}
 use Rattle.class_builder.specs.Mentioned.{Mentions}
 use Rattle.class_builder.proofs.Mentions.{mentions-still}
+use Rattle.whole_methods.specs.Naming.{fields_of}
 use Rattle.whole_methods.specs.Whole.{HasHelpers}
 use Rattle.program_classes.specs.Tables.{references_of}
 use Rattle.program_classes.proofs.ProgramNames.NamedLemmas.{class-later, members-later, names-later}
@@ -15,7 +16,7 @@ use Rattle.program_classes.specs.Code.{span_plans, run_plan, span_plan}
 use Rattle.program_classes.proofs.ClassMaking.MakingLemmas.{adds-more, made-all, adds-fields, adds-name}
 use Rattle.program_classes.proofs.CodeBlocks.RisingLemmas.{pieces-numbered}
 use Rattle.program_classes.specs.Room.{is_own_name}
-use Rattle.program_classes.proofs.Rooms.CountLemmas.{adds-count, plans-count}
+use Rattle.program_classes.proofs.Rooms.CountLemmas.{adds-count, all-fields, plans-count}
 use Rattle.program_classes.proofs.class_of_code.code_class.Goals as goal
 
 pub returns-clause-class : goal.returns-clause-class
@@ -46,7 +47,7 @@ returns-clause-class c =
       named = subst (λ name. IsClassAt final.pool final.this_class name) name_is (adds-name named.class final (before ++ last) _ all told.named);
       no_fields = adds-fields named.class final (before ++ last) all ∙ told.no_fields;
       names = named.names;
-      names_are = names-later named.class.pool final.pool all.pool _ named.names told.names_are;
+      names_are = names-later _ named.class.pool final.pool all.pool _ named.names told.names_are;
       helpers = named.helpers.items;
       helpers_are =
           members-later named.class.pool final.pool all.pool MethodRef helper_name helper_descriptor named.names.main named.helpers.items 20 told.helpers_are;
@@ -56,7 +57,7 @@ returns-clause-class c =
       own_are =
           members-later named.class.pool final.pool all.pool MethodRef span_name (λ k. nothing) named.own named.own_methods.items (length spans) told.own_are;
       mentions =
-          subst (λ name. Mentions final.pool (code_mentions name c.args.main.now (length spans))) name_is
+          subst (λ name. Mentions final.pool (code_mentions (fields_of part.metered) name c.args.main.now (length spans))) name_is
           (mentions-still named.class.pool final.pool _ told.mentions all.mentions);
       methods = made-all named.class final (before ++ last) all told.no_methods;
     }
@@ -74,10 +75,18 @@ pub add_spans-requires-clause-references : goal.add_spans-requires-clause-refere
 add_spans-requires-clause-references c =
     let told = c.in_ok-named.ensures.names in
     subst HasHelpers (sym c.with_methods-references.ensures) (record {
-      fields = told.names_are.fields_are.count_is;
+      fields = omega (arith, all-fields c.args.part.now.metered, told.names_are.fields_are.count_is);
       first = refl;
       helpers = omega (arith, told.helpers_are.count_is);
     })
+
+pub add_spans-requires-clause-fields : goal.add_spans-requires-clause-fields
+add_spans-requires-clause-fields c =
+    omega (
+      arith,
+      ap (λ (r : References). length r.fields) c.with_methods-references.ensures,
+      c.in_ok-named.ensures.names.names_are.fields_are.count_is,
+    )
 
 pub add_spans-requires-clause-none : goal.add_spans-requires-clause-none
 add_spans-requires-clause-none c = c.in_ok-named.ensures.names.no_methods
@@ -87,7 +96,12 @@ add_spans-requires-clause-room c = omega (arith, c.in_ok-named.ensures.few, c.re
 
 pub add_run-requires-clause-fields : goal.add_run-requires-clause-fields
 add_run-requires-clause-fields c =
-    ap (λ (r : References). length r.fields) c.with_methods-references.ensures ∙ c.in_ok-named.ensures.names.names_are.fields_are.count_is
+    omega (
+      arith,
+      ap (λ (r : References). length r.fields) c.with_methods-references.ensures,
+      c.in_ok-named.ensures.names.names_are.fields_are.count_is,
+      all-fields c.args.part.now.metered,
+    )
 
 pub add_run-requires-clause-count : goal.add_run-requires-clause-count
 add_run-requires-clause-count c = ap length c.new.ensures ∙ c.in_ok-named.ensures.names.own_are.count_is

@@ -68,8 +68,11 @@ named_class-requires-clause-name c =
 
 pub add_words-requires-clause-fields : goal.add_words-requires-clause-fields
 add_words-requires-clause-fields c =
-    ap (λ (r : References). length r.fields) c.with_methods-references.ensures
-    ∙ c.in_ok-named.ensures.names.names.names_are.fields_are.count_is
+    omega (
+      arith,
+      ap (λ (r : References). length r.fields) c.with_methods-references.ensures,
+      c.in_ok-named.ensures.names.names.names_are.fields_are.count_is,
+    )
 
 pub add_words-requires-clause-few : goal.add_words-requires-clause-few
 add_words-requires-clause-few c = omega (arith, ap length c.in_ok-named.ensures.names.no_methods)
@@ -79,8 +82,11 @@ add_words-requires-clause-room c = omega (arith, c.in_ok-named.ensures.few)
 
 pub add_fill-requires-clause-fields : goal.add_fill-requires-clause-fields
 add_fill-requires-clause-fields c =
-    ap (λ (r : References). length r.fields) c.with_methods-references.ensures
-    ∙ c.in_ok-named.ensures.names.names.names_are.fields_are.count_is
+    omega (
+      arith,
+      ap (λ (r : References). length r.fields) c.with_methods-references.ensures,
+      c.in_ok-named.ensures.names.names.names_are.fields_are.count_is,
+    )
 
 pub add_fill-requires-clause-words : goal.add_fill-requires-clause-words
 add_fill-requires-clause-words c =

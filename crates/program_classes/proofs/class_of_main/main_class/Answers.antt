@@ -13,9 +13,9 @@ use Rattle.program_classes.specs.Fields.{AreFields}
 use Rattle.program_classes.specs.Main.{helper_plans, other_plans, main_plans, helper_plan}
 use Rattle.program_classes.proofs.MainClasses.FieldLemmas.{fields-later}
 use Rattle.program_classes.proofs.MainClasses.NameLemmas.{main-names-later, texts-later}
-use Rattle.program_classes.specs.Content.{share_text, share_texts, text_runs}
+use Rattle.program_classes.specs.Content.{has_meter, main_fields, share_text, share_texts, text_runs}
 use Rattle.program_classes.proofs.LawfulNames.TextLemmas.{few-shares}
-use Rattle.program_classes.proofs.Rooms.CountLemmas.{adds-count, plans-count, rise-low, texts-there, zip-length}
+use Rattle.program_classes.proofs.Rooms.CountLemmas.{adds-count, all-fields, plans-count, rise-low, texts-there, zip-length}
 use Rattle.program_classes.proofs.class_of_main.main_class.Goals as goal
 
 pub returns : goal.returns
@@ -41,8 +41,8 @@ returns c =
       spells = c.in_ok-finish.ensures.spelled;
       named = adds-name named.class final plans _ all told.named;
       fields_are =
-          subst (λ l. AreFields final.pool l 38) (sym (adds-fields named.class final plans all))
-          (fields-later named.class.pool final.pool all.pool named.class.fields 38 told.fields_are);
+          subst (λ l. AreFields final.pool l (main_fields main)) (sym (adds-fields named.class final plans all))
+          (fields-later named.class.pool final.pool all.pool named.class.fields (main_fields main) told.fields_are);
       names = named.names;
       slots = named.methods.items;
       texts = named.texts.items;
@@ -56,7 +56,7 @@ add_helpers-requires-clause-references c =
     let main = c.args.main.now in
     let told = c.in_ok-named.ensures in
     subst HasHelpers (sym c.with_methods-references.ensures) (record {
-      fields = told.names.names.names_are.fields_are.count_is;
+      fields = omega (arith, all-fields (has_meter main), told.names.names.names_are.fields_are.count_is);
       first = refl;
       helpers = omega (arith, told.count, rise-low 24 (main.code.now ++ main.data.now) c.requires.main.rise);
     })
@@ -72,10 +72,18 @@ add_others-requires-clause-references c =
     let main = c.args.main.now in
     let told = c.in_ok-named.ensures in
     subst HasHelpers (sym c.with_methods-references.ensures) (record {
-      fields = told.names.names.names_are.fields_are.count_is;
+      fields = omega (arith, all-fields (has_meter main), told.names.names.names_are.fields_are.count_is);
       first = refl;
       helpers = omega (arith, told.count, rise-low 24 (main.code.now ++ main.data.now) c.requires.main.rise);
     })
+
+pub add_others-requires-clause-fields : goal.add_others-requires-clause-fields
+add_others-requires-clause-fields c =
+    omega (
+      arith,
+      ap (λ (r : References). length r.fields) c.with_methods-references.ensures,
+      c.in_ok-named.ensures.names.names.names_are.fields_are.count_is,
+    )
 
 pub add_others-requires-clause-count : goal.add_others-requires-clause-count
 add_others-requires-clause-count c =

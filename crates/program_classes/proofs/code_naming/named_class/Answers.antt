@@ -3,6 +3,7 @@ use Rattle.constant_pool.specs.declared.entry.Entry.TheVariants.{MethodRef}
 use Rattle.guest_layout.specs.Helpers.{helper_name, helper_descriptor}
 use Rattle.class_builder.specs.Mentioned.{OfClass}
 use Rattle.class_builder.proofs.Mentions.{mentions-further, mentions-after}
+use Rattle.whole_methods.specs.Naming.{fields_of}
 use Rattle.program_classes.specs.Mentioned.{names_mentions, helper_mentions}
 use Rattle.program_classes.proofs.ProgramNames.NamedLemmas.{class-later, members-later, names-later, grown-further}
 use Rattle.program_classes.proofs.ClassMaking.GrowingLemmas.{grown-name, grown-methods, grown-fields}
@@ -22,11 +23,11 @@ returns-clause-names c =
     let last = c.in_ok-own_methods.ensures.grown in
     let from_second = grown-further second third fourth 2 more c.in_ok-own.ensures.grown last in
     let from_first = grown-further first second fourth 80 (2 + more) c.in_ok-helpers.ensures.grown from_second in
-    let all = 176 + (80 + (2 + more)) in
-    let from_begun = grown-further begun first fourth 176 (80 + (2 + more)) c.in_ok-names.ensures.grown from_first in
+    let all = 180 + (80 + (2 + more)) in
+    let from_begun = grown-further begun first fourth 180 (80 + (2 + more)) c.in_ok-names.ensures.grown from_first in
     let name = c.args.name.now in
     let main = c.args.main.now in
-    let names = names_mentions main in
+    let names = names_mentions (fields_of c.args.metered) main in
     let helpers = helper_mentions main 20 in
     let own = OfClass name ∷ [] in
     let spans = span_mentions name c.args.spans in
@@ -39,7 +40,7 @@ returns-clause-names c =
       no_methods = grown-methods begun fourth all from_begun ∙ c.in_ok-class.ensures.methods;
       no_fields = grown-fields begun fourth all from_begun ∙ c.in_ok-class.ensures.fields;
       named = grown-name begun fourth all _ from_begun c.in_ok-class.ensures.named;
-      names_are = names-later first.pool fourth.pool from_first.pool.kept _ c.in_ok-names.names c.in_ok-names.ensures.there;
+      names_are = names-later _ first.pool fourth.pool from_first.pool.kept _ c.in_ok-names.names c.in_ok-names.ensures.there;
       helpers_are =
           members-later second.pool fourth.pool from_second.pool.kept MethodRef helper_name helper_descriptor c.in_ok-names.names.main
           c.in_ok-helpers.helpers.items 20 c.in_ok-helpers.ensures.there;

@@ -18,7 +18,7 @@ put_method-requires-clause-code c =
     let r = c.args.references.now in
     let pool = c.args.class.now.pool in
     let is = code-is _ _ words_code (c.as_slice.ensures.value ∙ c.in_ok-append_words.ensures) c.new-code.ensures.items in
-    plain-code r pool (λ m. false) false _ words_code is (c.loading_is_whole.ensures.words r c.requires.fields) (c.loading_names_well.ensures.words (λ m. false))
+    plain-code 38 r pool (λ m. false) false _ words_code is (c.loading_is_whole.ensures.words r c.requires.fields) (c.loading_names_well.ensures.words (λ m. false))
 
 pub returns-clause-few : goal.returns-clause-few
 returns-clause-few c =

@@ -35,7 +35,7 @@ loop-field-preserved c =
 
 pub returns-clause-mentions : goal.returns-clause-mentions
 returns-clause-mentions c =
-    let all : c.loop-field.field ≡ 38 = omega arith in
+    let all : c.loop-field.field ≡ c.args.fields = omega arith in
     subst (λ count. MentionsOf c.args.class.now.pool c.loop-field.class.pool c.args.main (λ owner. field_mentions owner count)) all c.loop-field.invariant.2
 
 pub field_reference-requires-clause-room : goal.field_reference-requires-clause-room

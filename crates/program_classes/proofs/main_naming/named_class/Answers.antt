@@ -1,12 +1,15 @@
-use Rattle.std.proofs.Common.{◌≡◌, [], ◌∷◌, ◌++◌, sym, ◌∙◌, subst, length, true, arith}
+use Rattle.std.proofs.Common.{◌≡◌, [], ◌∷◌, ◌++◌, sym, ap, ◌∙◌, subst, length, true, arith}
 use Rattle.name_resolution.specs.Names.{object_name}
 use Rattle.class_builder.specs.Named.{IsClassAt}
-use Rattle.class_builder.specs.Mentioned.{Mentions, OfClass}
+use Rattle.class_builder.specs.Mentioned.{mentioned, Mentions, OfClass}
 use Rattle.class_builder.proofs.Mentions.{mentions-still}
 use Rattle.program_classes.proofs.ClassMaking.NamingLemmas.{names-slots, names-more, names-still, names-all, named-methods, named-fields, named-name}
+use Rattle.whole_methods.specs.Naming.{fields_of}
+use Rattle.program_classes.specs.Named.{AreNames}
 use Rattle.program_classes.specs.Mentioned.{names_mentions}
 use Rattle.program_classes.proofs.ProgramNames.NamedLemmas.{names-later}
-use Rattle.program_classes.specs.Fields.{AreFields}
+use Rattle.program_classes.specs.Content.{main_fields}
+use Rattle.program_classes.specs.Fields.{AddsFields, AreFields}
 use Rattle.program_classes.specs.MainMentioned.{called_mentions}
 use Rattle.program_classes.proofs.MainClasses.FieldLemmas.{fields-later, fields-made, fields-keep-methods, fields-keep-name}
 use Rattle.program_classes.proofs.MainClasses.CalledLemmas.{methods-later}
@@ -23,24 +26,28 @@ returns-clause-names c =
     let second = c.new.new.class in
     let third = c.method_references.new.class in
     let fourth = c.text_slots.new.class in
-    let fields = c.in_ok-add_fields.ensures.fields in
-    let names = names_mentions c.args.name.now in
+    let count = main_fields c.args.main.now in
+    let flag : fields_of c.is_some-metered.result ≡ count = ap fields_of c.is_some-metered.ensures in
+    let fields = subst (AddsFields begun first) (c.fields_of.ensures.value ∙ flag) c.in_ok-add_fields.ensures.fields in
+    let there = subst (λ n. AreNames n second.pool c.args.name.now c.in_ok-names.names) flag c.in_ok-names.ensures.there in
+    let told = subst (λ n. Mentions second.pool (mentioned first.pool ++ names_mentions n c.args.name.now)) flag c.in_ok-names.ensures.mentions in
+    let names = names_mentions count c.args.name.now in
     let called = called_mentions c.args.name.now c.args.main.now in
     let from_third = c.in_ok-texts.ensures.grown in
     let from_second = names-still second third fourth called (c.in_ok-methods.ensures.grown c.in_ok-names.ensures.there.main_is) from_third in
     let all = names-more first second fourth names called
-    (names-slots first second 176 names c.in_ok-names.ensures.grown c.in_ok-names.ensures.mentions) from_second in
+    (names-slots first second 180 names c.in_ok-names.ensures.grown told) from_second in
     let more = names ++ called in
     record {
-      no_methods = named-methods first fourth more all ∙ fields-keep-methods begun first 38 fields ∙ c.in_ok-class.ensures.methods;
+      no_methods = named-methods first fourth more all ∙ fields-keep-methods begun first count fields ∙ c.in_ok-class.ensures.methods;
       fields_are =
-          subst (λ l. AreFields fourth.pool l 38) (sym (named-fields first fourth more all))
-          (fields-later first.pool fourth.pool all.pool first.fields 38 (fields-made begun first 38 fields c.in_ok-class.ensures.fields));
+          subst (λ l. AreFields fourth.pool l count) (sym (named-fields first fourth more all))
+          (fields-later first.pool fourth.pool all.pool first.fields count (fields-made begun first count fields c.in_ok-class.ensures.fields));
       named =
           named-name first fourth more _ all
-          (fields-keep-name begun first 38 _ fields (subst (IsClassAt begun.pool begun.this_class) c.as_str.ensures.value c.in_ok-class.ensures.named));
+          (fields-keep-name begun first count _ fields (subst (IsClassAt begun.pool begun.this_class) c.as_str.ensures.value c.in_ok-class.ensures.named));
       names = record {
-        names_are = names-later second.pool fourth.pool from_second.pool _ c.in_ok-names.names c.in_ok-names.ensures.there;
+        names_are = names-later count second.pool fourth.pool from_second.pool _ c.in_ok-names.names there;
         methods_are = methods-later third.pool fourth.pool from_third.pool _ _ _ c.in_ok-methods.methods.items c.in_ok-methods.ensures.there;
         texts_are = c.in_ok-texts.ensures.there;
       };

@@ -24,7 +24,7 @@ put_method-requires-clause-code c =
     let starts = main.starts.now in
     let places = has-places r main c.requires.main c.requires.references.first c.requires.count in
     let missing = has-main r main c.requires.main c.requires.references.first c.requires.count missing_number (omega arith) in
-    plain-code r pool (has_method r) false _ (main_chooser c.args.main.now.starts.now missing_number) is
+    plain-code 38 r pool (has_method r) false _ (main_chooser c.args.main.now.starts.now missing_number) is
     (c.choosers_are_whole.ensures.main r starts missing_number c.requires.references.fields c.requires.main.few places missing)
     (λ class. c.choosers_name_well.ensures.main (has_method r) class starts missing_number places missing)
 

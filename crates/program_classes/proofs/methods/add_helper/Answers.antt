@@ -26,7 +26,7 @@ put_method-requires-clause-code c =
     let is = code-is _ _ (helper_code c.args.order c.args.number) (c.as_slice.ensures.value ∙ c.in_ok-append_helper.ensures) c.new-code.ensures.items in
     let order = c.args.order in
     let number = c.args.number in
-    plain-code r pool is_fault (gives_int (helper_descriptor number)) _ (helper_code c.args.order c.args.number) is
+    plain-code 38 r pool is_fault (gives_int (helper_descriptor number)) _ (helper_code c.args.order c.args.number) is
     (c.helpers_are_whole.ensures r order number c.requires.references c.requires.within)
     (λ class. c.helpers_name_well.ensures order class number c.requires.within)
 

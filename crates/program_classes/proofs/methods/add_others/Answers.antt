@@ -1,5 +1,8 @@
-use Rattle.std.proofs.Common.{◌∷◌, [], arith}
+use Rattle.std.proofs.Common.{◌≤◌, ◌∷◌, [], length, sym, subst, arith}
 use Rattle.program_classes.proofs.ClassMaking.MakingLemmas.{adds-more}
+use Rattle.whole_methods.specs.Naming.{fields_of}
+use Rattle.program_classes.specs.Making.{AddsMethods}
+use Rattle.program_classes.specs.Content.{has_meter}
 use Rattle.program_classes.specs.Main.{run_plan, choose_plan, pages_plan, missing_plan}
 use Rattle.program_classes.proofs.Rooms.CountLemmas.{adds-count}
 use Rattle.program_classes.proofs.methods.add_others.Goals as goal
@@ -15,10 +18,11 @@ returns c =
     let run = run_plan main c.args.texts.now r in
     let choose = choose_plan main r in
     let pages = pages_plan r in
-    let missing = missing_plan r in
+    let missing = missing_plan (has_meter main) r in
+    let last = subst (λ metered. AddsMethods third fourth (missing_plan metered r ∷ [])) c.is_some.ensures c.in_ok-add_missing.ensures in
     adds-more c.args.class.now first fourth (run ∷ []) (choose ∷ pages ∷ missing ∷ []) c.in_ok-add_run.ensures.method
     (adds-more first second fourth (choose ∷ []) (pages ∷ missing ∷ []) c.in_ok-add_choose.ensures.method
-    (adds-more second third fourth (pages ∷ []) (missing ∷ []) c.in_ok-add_pages.ensures.method c.in_ok-add_missing.ensures))
+    (adds-more second third fourth (pages ∷ []) (missing ∷ []) c.in_ok-add_pages.ensures.method last))
 
 pub add_choose-requires-clause-few : goal.add_choose-requires-clause-few
 add_choose-requires-clause-few c =
@@ -46,3 +50,7 @@ add_missing-requires-clause-few c =
       adds-count c.add_run.new.class c.add_choose.new.class (choose_plan c.args.main.now r ∷ []) c.in_ok-add_choose.ensures.method,
       adds-count c.add_choose.new.class c.add_pages.new.class (pages_plan r ∷ []) c.in_ok-add_pages.ensures.method,
     )
+
+pub add_missing-requires-clause-fields : goal.add_missing-requires-clause-fields
+add_missing-requires-clause-fields c =
+    subst (λ metered. fields_of metered ≤ length c.args.references.now.fields) (sym c.is_some.ensures) c.requires.fields

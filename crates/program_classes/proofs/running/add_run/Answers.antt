@@ -37,5 +37,5 @@ put_method-requires-clause-code c =
     let own = has-starts r c.args.part.now c.args.spans.now (length c.args.spans.now) c.requires.count in
     let places = subst (All (λ (s : Start). has_method r s.method ≡ true)) (sym (c.as_slice.ensures.value ∙ c.in_ok-starts.ensures.value)) own in
     let few : length starts ≤ 2048 = omega (arith, ap length c.as_slice.ensures.value, c.in_ok-starts.ensures.count, c.requires.few) in
-    plain-code r pool (has_method r) false _ code is (c.choosers_are_whole.ensures.class r starts first end c.requires.fields few places)
+    plain-code 38 r pool (has_method r) false _ code is (c.choosers_are_whole.ensures.class r starts first end c.requires.fields few places)
     (λ class. c.choosers_name_well.ensures.class (has_method r) class starts first end places)

@@ -30,7 +30,7 @@ put_method-requires-clause-code c =
     let own = c.requires.spans c.args.k (record { first = 0; words = 0 }) c.requires.within in
     same-code r pool _ (code_of_span part span) is
     (span-is-code c.units_are_lawful.ensures.all c.spans_name_well.ensures.method c.spans_are_whole.ensures r pool part span
-    c.requires.references c.requires.code own c.requires.size)
+    c.requires.references c.requires.fields c.requires.code own c.requires.size)
 
 pub returns-clause-few : goal.returns-clause-few
 returns-clause-few c =

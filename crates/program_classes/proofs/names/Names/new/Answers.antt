@@ -7,6 +7,7 @@ use Rattle.code_assembly.proofs.Pools.{extends-further}
 use Rattle.program_classes.proofs.ProgramNames.NamedLemmas.{class-later, members-later, two-later, grown-further}
 use Rattle.program_classes.specs.Mentioned.{field_mentions, host_mentions, names_mentions, string_mentions}
 use Rattle.program_classes.proofs.ProgramNames.MentionLemmas.{mentions-all}
+use Rattle.program_classes.specs.Named.{AreFields}
 use Rattle.program_classes.specs.Room.{can_name_class}
 use Rattle.program_classes.proofs.LawfulNames.CharacterLemmas.{main-named}
 use Rattle.program_classes.proofs.LawfulNames.MemberLemmas.{call-named, fault-named, length-named, character-named}
@@ -28,7 +29,9 @@ returns-clause-there c =
       main_is =
           subst (IsClassAt fifth.pool c.in_ok-main.main) c.as_str.ensures.value
           (class-later first.pool fifth.pool from_first c.in_ok-main.main _ c.in_ok-main.ensures.there);
-      fields_are = members-later second.pool fifth.pool from_second FieldRef field_name field_descriptor c.in_ok-main.main c.in_ok-fields.fields.items 38 c.in_ok-fields.ensures.there;
+      fields_are = subst (AreFields fifth.pool c.in_ok-main.main c.in_ok-fields.fields.items) c.fields_of.ensures.value
+          (members-later second.pool fifth.pool from_second FieldRef field_name field_descriptor c.in_ok-main.main c.in_ok-fields.fields.items
+          c.fields_of.result c.in_ok-fields.ensures.there);
       host_is = two-later third.pool fifth.pool from_third _ _ _ c.in_ok-host.host c.in_ok-host.ensures.there;
       strings_are = two-later fourth.pool fifth.pool from_fourth _ _ _ c.in_ok-strings.strings c.in_ok-strings.ensures.there;
       ints_is = c.in_ok-ints.ensures.there;
@@ -42,10 +45,10 @@ returns-clause-grown c =
     let third = c.two_methods.new.class in
     let fourth = c.two_methods-2.new.class in
     let fifth = c.class_reference-2.new.class in
-    grown-further start fourth fifth 174 2
-    (grown-further start third fourth 164 10
-    (grown-further start second third 154 10
-    (grown-further start first second 2 152 c.in_ok-main.ensures.grown c.in_ok-fields.ensures.grown)
+    grown-further start fourth fifth 178 2
+    (grown-further start third fourth 168 10
+    (grown-further start second third 158 10
+    (grown-further start first second 2 156 c.in_ok-main.ensures.grown c.in_ok-fields.ensures.grown)
     c.in_ok-host.ensures.grown)
     c.in_ok-strings.ensures.grown)
     c.in_ok-ints.ensures.grown
@@ -53,11 +56,13 @@ returns-clause-grown c =
 pub returns-clause-mentions : goal.returns-clause-mentions
 returns-clause-mentions c =
     let fifth = c.class_reference-2.new.class in
-    subst (λ name. Mentions fifth.pool (mentioned c.args.class.now.pool ++ names_mentions name)) c.as_str.ensures.value
+    let fields = c.fields_of.result in
+    subst (λ n. Mentions fifth.pool (mentioned c.args.class.now.pool ++ names_mentions n c.args.main.now)) c.fields_of.ensures.value
+    (subst (λ name. Mentions fifth.pool (mentioned c.args.class.now.pool ++ names_mentions fields name)) c.as_str.ensures.value
     (mentions-all c.args.class.now.pool c.class_reference.new.class.pool c.field_references.new.class.pool c.two_methods.new.class.pool
-    c.two_methods-2.new.class.pool fifth.pool c.in_ok-main.main _ _ (λ owner. field_mentions owner 38) host_mentions
+    c.two_methods-2.new.class.pool fifth.pool c.in_ok-main.main _ _ (λ owner. field_mentions owner fields) host_mentions
     string_mentions _ c.in_ok-main.ensures.mentions c.in_ok-main.ensures.there c.in_ok-fields.ensures.mentions
-    c.in_ok-host.ensures.mentions c.in_ok-strings.ensures.mentions c.in_ok-ints.ensures.mentions)
+    c.in_ok-host.ensures.mentions c.in_ok-strings.ensures.mentions c.in_ok-ints.ensures.mentions))
 
 pub class_reference-requires-clause-name : goal.class_reference-requires-clause-name
 class_reference-requires-clause-name c =
