@@ -15,18 +15,20 @@ use Rattle.guest_layout.specs.Helpers.{helper_name, helper_descriptor}
 use Rattle.code_assembly.specs.declared.references.References.{References}
 use Rattle.code_assembly.specs.Assembling.{AreKnown, Extends, has_method}
 use Rattle.class_builder.specs.Named.{IsClassAt, IsMethodAt}
-use Rattle.whole_methods.specs.Naming.{all_well, is_helper}
+use Rattle.whole_methods.specs.Naming.{all_well_of, is_helper}
 use Rattle.program_classes.specs.declared.names.Names.{Names}
 use Rattle.program_classes.specs.Named.{AreHelpers, AreMembers, AreNames}
 use Rattle.program_classes.specs.Tables.{references_of}
 
--- The slots of fields, of the host, of strings and of arrays mean what code means by them, in a class with a number.
-pub record AreMeant (r : References) (classes : List Class) (number : ℕ) (c : Class) : Type 0 where
-  -- the 38 fields of the main class, by their numbers: how each is read, and how it is written
-  pub get : (f : ℕ) → f < 38
+-- The slots of so many fields, of the host, of strings and of arrays mean what code means by them,
+-- in a class with a number.
+pub record AreMeant (fields : ℕ) (r : References) (classes : List Class) (number : ℕ) (c : Class)
+    : Type 0 where
+  -- the fields of the main class, by their numbers: how each is read, and how it is written
+  pub get : (f : ℕ) → f < fields
       → pool_instruction classes number c Getstatic (slice_index r.fields f)
       ≡ instructions.Get f (kind_of (field_descriptor f))
-  pub put : (f : ℕ) → f < 38
+  pub put : (f : ℕ) → f < fields
       → pool_instruction classes number c Putstatic (slice_index r.fields f)
       ≡ instructions.Put f (kind_of (field_descriptor f))
   -- the host's two methods
@@ -48,10 +50,10 @@ AreCalled r classes number c calls =
 
 -- ---- numbers in the program
 
--- the 38 fields of the main class are the first ones
-abbrev pub HaveFieldNumbers : List Class → List ℕ → Type 0
-HaveFieldNumbers classes main =
-    (f : ℕ) → f < 38
+-- so many fields of the main class are the first ones
+abbrev pub HaveFieldNumbers : ℕ → List Class → List ℕ → Type 0
+HaveFieldNumbers fields classes main =
+    (f : ℕ) → f < fields
     → field_number classes (reference main (signature (field_name f) (field_descriptor f)))
     ≡ Some f
 
@@ -78,25 +80,25 @@ pub record IsMethodNumber (classes : List Class) (pool : List Entry) (slot m : �
 
 -- ---- the laws
 
--- A class knows what code names where its slots mean what code means by them, and the code names
--- only what is there.
+-- A class knows what code names where its slots mean what code means by them, of so many fields,
+-- and the code names only what is there.
 abbrev pub NamedCodeIsKnown : Type 0
 NamedCodeIsKnown =
-    (r : References) (classes : List Class) (number : ℕ) (c : Class) (calls : ℕ → Bool)
-    (gives : Bool) (code : List Step)
-    → AreMeant r classes number c → AreCalled r classes number c calls
-    → all_well calls number gives code ≡ true
+    (fields : ℕ) (r : References) (classes : List Class) (number : ℕ) (c : Class)
+    (calls : ℕ → Bool) (gives : Bool) (code : List Step)
+    → AreMeant fields r classes number c → AreCalled r classes number c calls
+    → all_well_of fields calls number gives code ≡ true
     → AreKnown r classes number c gives code
 
 -- The slots of what every class of a program names mean what code means by them, in a class whose
 -- pool goes on behind the one that has them.
 abbrev pub NamesAreMeant : Type 0
 NamesAreMeant =
-    (classes : List Class) (number : ℕ) (c : Class) (pool : List Entry) (main : List ℕ)
-    (names : Names) (first : ℕ) (methods : List ℕ)
+    (fields : ℕ) (classes : List Class) (number : ℕ) (c : Class) (pool : List Entry)
+    (main : List ℕ) (names : Names) (first : ℕ) (methods : List ℕ)
     → Extends pool c.pool
-    → AreNames pool main names → HaveFieldNumbers classes main
-    → AreMeant (references_of names first methods) classes number c
+    → AreNames fields pool main names → HaveFieldNumbers fields classes main
+    → AreMeant fields (references_of names first methods) classes number c
 
 -- The slots of methods mean calls of them where each names the method of its number.
 abbrev pub NumberedAreCalled : Type 0
@@ -122,10 +124,10 @@ MembersAreCalled =
 -- So do those of the helpers.
 abbrev pub HelpersAreCalled : Type 0
 HelpersAreCalled =
-    (classes : List Class) (number : ℕ) (c : Class) (pool : List Entry) (main : List ℕ)
-    (names : Names) (helpers : List ℕ)
+    (fields : ℕ) (classes : List Class) (number : ℕ) (c : Class) (pool : List Entry)
+    (main : List ℕ) (names : Names) (helpers : List ℕ)
     → Extends pool c.pool
-    → AreNames pool main names → same_text main host_name ≡ false
+    → AreNames fields pool main names → same_text main host_name ≡ false
     → AreHelpers pool names.main helpers 20
     → HaveMethodNumbers classes main helper_name helper_descriptor 0 20
     → AreCalled (references_of names 0 helpers) classes number c is_helper

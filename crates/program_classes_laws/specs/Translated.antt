@@ -1,10 +1,11 @@
 -- The names of the classes of a translation, and the names and descriptors of their members.
-use Rattle.std.specs.Prelude.{ℕ, List, [], ◌∷◌, ◌++◌, map, codes}
+use Rattle.std.specs.Prelude.{ℕ, Bool, List, [], ◌∷◌, ◌++◌, map, codes}
 use Rattle.std.specs.List.{range_with_len}
 use Rattle.name_resolution.specs.Names.{Signature, signature}
 use Rattle.guest_layout.specs.ClassNames.{code_class_name, data_class_name, span_name}
 use Rattle.guest_layout.specs.Fields.{field_name, field_descriptor}
 use Rattle.guest_layout.specs.Helpers.{helper_name, helper_descriptor}
+use Rattle.whole_methods.specs.Naming.{fields_of}
 use Rattle.program_classes.specs.Making.{nothing}
 use Rattle.program_classes_laws.specs.Planned.{numbered}
 
@@ -14,9 +15,10 @@ class_names main code_classes data_classes =
     main ∷ (map (code_class_name main) (range_with_len 0 code_classes)
     ++ map (data_class_name main) (range_with_len 0 data_classes))
 
--- the fields of the main class
-abbrev pub fields_of_main : List Signature
-fields_of_main = map (numbered field_name field_descriptor) (range_with_len 0 38)
+-- the fields of the main class, by whether the program has a meter
+abbrev pub fields_of_main : Bool → List Signature
+fields_of_main metered =
+    map (numbered field_name field_descriptor) (range_with_len 0 (fields_of metered))
 
 -- its helper methods, and the others by their numbers
 abbrev pub methods_of_main : List Signature

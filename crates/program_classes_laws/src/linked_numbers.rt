@@ -1,6 +1,6 @@
 //! Where the fields and methods of classes stand in the program that the classes are. Each call here does nothing: its contract is the law.
 
-ghost use Rattle.std.specs.Prelude.{◌≡◌, ℕ, ◌+◌, ◌^◌, ◌≤◌, true, false, List, [], ◌∷◌, All, map, length, slice_get, Some, None};
+ghost use Rattle.std.specs.Prelude.{◌≡◌, ℕ, ◌+◌, ◌^◌, ◌≤◌, Bool, true, false, List, [], ◌∷◌, All, map, length, slice_get, Some, None};
 ghost use Rattle.std.specs.List.{AllZip, IsDistinct};
 ghost use Rattle.jvm_program.specs.declared.linked_method.LinkedMethod.{LinkedMethod};
 ghost use Rattle.constant_pool.specs.Names.{same_text};
@@ -103,7 +103,7 @@ pub fn names_of_classes_differ()
 
 /// The members of each class of a translation are different.
 pub fn members_of_classes_differ()
-    ensures main_fields { has_equal fields_of_main ≡ false }
+    ensures main_fields { (metered : Bool) → has_equal (fields_of_main metered) ≡ false }
     ensures main_methods { has_equal methods_of_main ≡ false }
     ensures code { (spans : ℕ) → spans ≤ 2 ^ 64 → has_equal (methods_of_code spans) ≡ false }
     ensures data { has_equal methods_of_data ≡ false }

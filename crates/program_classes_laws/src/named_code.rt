@@ -6,8 +6,8 @@ use class_builder::{
     arrays_are_meant, fields_are_meant, host_is_meant, methods_are_meant, strings_are_meant,
 };
 pub use whole_methods::named_code::{
-    choosers_name_well, exits_name_well, helpers_name_well, loading_names_well, more_may_be_called,
-    spans_name_well, units_name_well,
+    choosers_name_well, exits_name_well, helpers_name_well, loading_names_well,
+    more_fields_may_be_named, more_may_be_called, spans_name_well, units_name_well,
 };
 
 /// A class knows what code names where its slots mean what code means by them, and the code names only what is there.

@@ -1,5 +1,5 @@
 -- The fields of the main class differ.
-use Rattle.std.proofs.Common.{◌≡◌, ℕ, ◌+◌, ◌<◌, false, cond, List, [], ◌∷◌, ◌++◌, map, drop, refl, sym, ap, subst, ◌∙◌, arith}
+use Rattle.std.proofs.Common.{◌≡◌, ℕ, ◌+◌, ◌<◌, Bool, true, false, cond, List, [], ◌∷◌, ◌++◌, map, drop, refl, sym, ap, subst, ◌∙◌, arith}
 use Rattle.std.specs.Prelude.{codes, decimal}
 use Rattle.std.specs.List.{AllByRecursion, IsDistinct, range_with_len}
 use Rattle.std.proofs.lemmas.Bool.{lt-ltb}
@@ -31,11 +31,20 @@ not-special i low s a c cs above is = other-first (field i) s (text-other (field
     let both : 114 ∷ decimal (i + 1) ≡ a ∷ c ∷ cs = sym (register-name i low) ∙ e ∙ is in
     no-digit (i + 1) c cs (omega arith) above (ap (drop 1) both)))
 
-abbrev specials : List Signature
-specials = map field (range_with_len 31 7)
+-- the name of the field of a meter begins as no register's does either
+abbrev metered_fields : Bool → List Signature
+metered_fields true = field 38 ∷ []
+metered_fields false = []
 
-none-special : (i : ℕ) → i < 31 → AllByRecursion (λ s. same_signature (field i) s ≡ false) specials
-none-special i low =
+abbrev specials : Bool → List Signature
+specials metered = map field (range_with_len 31 7) ++ metered_fields metered
+
+none-metered : (metered : Bool) (i : ℕ) → i < 31 → AllByRecursion (λ s. same_signature (field i) s ≡ false) (metered_fields metered)
+none-metered true i low = (not-special i low (field 38) 108 101 (102 ∷ 116 ∷ []) (omega arith) refl, tt)
+none-metered false i low = tt
+
+none-special : (metered : Bool) (i : ℕ) → i < 31 → AllByRecursion (λ s. same_signature (field i) s ≡ false) (specials metered)
+none-special metered i low =
     let other = not-special i low in (
       other (field 31) 104 105 [] (omega arith) refl,
       (
@@ -48,7 +57,7 @@ none-special i low =
               other (field 35) 119 114 [] (omega arith) refl,
               (
                 other (field 36) 108 108 [] (omega arith) refl,
-                (other (field 37) 108 102 [] (omega arith) refl, tt),
+                (other (field 37) 108 102 [] (omega arith) refl, none-metered metered i low),
               ),
             ),
           ),
@@ -56,9 +65,14 @@ none-special i low =
       ),
     )
 
-in-parts : fields_of_main ≡ map field (range_with_len 0 31) ++ specials
-in-parts = refl
+specials-differ : (metered : Bool) → IsDistinct same_signature (specials metered)
+specials-differ true = distinct-from (specials true) refl
+specials-differ false = distinct-from (specials false) refl
 
-pub fields-differ : has_equal fields_of_main ≡ false
-fields-differ = none-equal fields_of_main (subst (IsDistinct same_signature) (sym in-parts)
-    (distinct-range same_signature field 31 0 31 specials (omega arith) registers-differ none-special (distinct-from specials refl)))
+in-parts : (metered : Bool) → fields_of_main metered ≡ map field (range_with_len 0 31) ++ specials metered
+in-parts true = refl
+in-parts false = refl
+
+pub fields-differ : (metered : Bool) → has_equal (fields_of_main metered) ≡ false
+fields-differ metered = none-equal (fields_of_main metered) (subst (IsDistinct same_signature) (sym (in-parts metered))
+    (distinct-range same_signature field 31 0 31 (specials metered) (omega arith) registers-differ (none-special metered) (specials-differ metered)))

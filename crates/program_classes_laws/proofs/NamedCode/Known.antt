@@ -19,7 +19,7 @@ use Rattle.code_steps.specs.declared.step.Step.TheVariants.{Does, Skips, Leaves,
 use Rattle.guest_layout.specs.Fields.{field_descriptor}
 use Rattle.code_assembly.specs.declared.references.References.{References}
 use Rattle.code_assembly.specs.Assembling.{IsKnown, StepIsKnown, AreKnown}
-use Rattle.whole_methods.specs.Naming.{is_field, is_return, names_well, step_names_well, all_well}
+use Rattle.whole_methods.specs.Naming.{is_field_of, is_return, names_well_of, step_names_well_of, all_well_of}
 use Rattle.program_classes_laws.specs.Meaning.{AreMeant, AreCalled}
 
 kind-of-field : (tables : Bool) (kind : Kind) → same_kind kind (kind_of (if tables then codes "[[I" else codes "I")) ≡ true
@@ -35,13 +35,13 @@ return-known true returns.Return is = cc
 return-known false returns.Ireturn is = cc
 return-known false returns.Return is = refl
 
-module _ (r : References) (classes : List Class) (number : ℕ) (c : Class) (calls : ℕ → Bool) (gives : Bool) (meant : AreMeant r classes number c) (called : AreCalled r classes number c calls) where
-  field-kind : (f : ℕ) (kind : Kind) → is_field f kind ≡ true → (f < 38) × (kind_of (field_descriptor f) ≡ kind)
+module _ (fields : ℕ) (r : References) (classes : List Class) (number : ℕ) (c : Class) (calls : ℕ → Bool) (gives : Bool) (meant : AreMeant fields r classes number c) (called : AreCalled r classes number c calls) where
+  field-kind : (f : ℕ) (kind : Kind) → is_field_of fields f kind ≡ true → (f < fields) × (kind_of (field_descriptor f) ≡ kind)
   field-kind f kind is =
       let parts = and_parts _ (same_kind kind (kind_of (field_descriptor f))) is in
-      (ltb-true f 38 parts.0, kind-of-field (f == 34 || f == 35) kind parts.1)
+      (ltb-true f fields parts.0, kind-of-field (f == 34 || f == 35) kind parts.1)
 
-  instruction-known : (i : Instruction) → names_well calls number gives i ≡ true → IsKnown r classes number c gives i
+  instruction-known : (i : Instruction) → names_well_of fields calls number gives i ≡ true → IsKnown r classes number c gives i
   instruction-known (instructions.Get f kind) is =
       let field = field-kind f kind is in
       subst (λ k. pool_instruction classes number c Getstatic (slice_index r.fields f) ≡ instructions.Get f k) field.1 (meant.get f field.0)
@@ -59,14 +59,14 @@ module _ (r : References) (classes : List Class) (number : ℕ) (c : Class) (cal
   instruction-known (instructions.NewArray Pages) is = meant.ints
   instruction-known other is = tt
 
-  step-known : (s : Step) → step_names_well calls number gives s ≡ true → StepIsKnown r classes number c gives s
+  step-known : (s : Step) → step_names_well_of fields calls number gives s ≡ true → StepIsKnown r classes number c gives s
   step-known (Does instruction) is = instruction-known instruction is
   step-known (Skips name k) is = tt
   step-known (Leaves target) is = tt
   step-known (Selects s) is = tt
 
-  pub code-known : (code : List Step) → all_well calls number gives code ≡ true → AreKnown r classes number c gives code
+  pub code-known : (code : List Step) → all_well_of fields calls number gives code ≡ true → AreKnown r classes number c gives code
   code-known [] is = tt
   code-known (s ∷ code) is =
-      let parts = and_parts (step_names_well calls number gives s) (all_well calls number gives code) is in
+      let parts = and_parts (step_names_well_of fields calls number gives s) (all_well_of fields calls number gives code) is in
       (step-known s parts.0, code-known code parts.1)

@@ -13,6 +13,6 @@ returns-clause-members c r classes number d pool class count owner name descript
     c.methods_are_meant.ensures r classes number d pool goes_on class count owner name descriptor owner_is no_host members numbers
 
 pub returns-clause-helpers : goal.returns-clause-helpers
-returns-clause-helpers c classes number d pool main names helpers goes_on are no_host members numbers = helpers-called
+returns-clause-helpers c fields classes number d pool main names helpers goes_on are no_host members numbers = helpers-called
     c.methods_are_meant.ensures (references_of names 0 helpers) classes number d pool goes_on names.main 20 main helper_name helper_descriptor
     are.main_is no_host members numbers refl refl

@@ -3,7 +3,7 @@ use Rattle.guest_layout.specs.Fields.{field_name, field_descriptor}
 use Rattle.program_classes_laws.proofs.named_code.names_are_meant.Goals as goal
 
 pub returns : goal.returns
-returns c classes number d pool main names first methods goes_on are numbers = record {
+returns c fields classes number d pool main names first methods goes_on are numbers = record {
   get = λ f below. c.fields_are_meant.ensures.get classes number d pool (slice_index names.fields.items f) names.main f main (field_name f)
       (field_descriptor f) goes_on are.main_is (are.fields_are.each f below) (numbers f below);
   put = λ f below. c.fields_are_meant.ensures.put classes number d pool (slice_index names.fields.items f) names.main f main (field_name f)
