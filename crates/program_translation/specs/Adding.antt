@@ -1,5 +1,5 @@
 -- The classes of code of a program so far.
-use Rattle.std.specs.Prelude.{◌≡◌, ℕ, ◌+◌, ◌*◌, ◌≤◌, List, [], ◌∷◌, ◌++◌, map, length, Option}
+use Rattle.std.specs.Prelude.{◌≡◌, ℕ, ◌+◌, ◌*◌, ◌≤◌, Bool, List, [], ◌∷◌, ◌++◌, map, length, Option}
 use Rattle.std.specs.List.{AllZip}
 use Rattle.command_values.specs.Names.{Text}
 use Rattle.elf_image.specs.Start.{Source}
@@ -60,15 +60,16 @@ pub record HasFew (code : Code) : Type 0 where
   pub spans : length code.spans.items ≤ 879 * length code.files.items
   pub methods : code.methods ≤ main_methods + 880 * length code.files.items
 
--- the classes of the words at these places
-pub record HasPlaces (code : ℕ → Option ℕ) (name : Text) (method_bytes : ℕ) (places : List Place)
-    (c : Code) : Type 0 where
+-- the classes of the words at these places, of a program with a meter or without
+pub record HasPlaces (metered : Bool) (code : ℕ → Option ℕ) (name : Text) (method_bytes : ℕ)
+    (places : List Place) (c : Code) : Type 0 where
   pub classes : List Placed
-  pub placed : ArePlaced code method_bytes places classes
+  pub placed : ArePlaced metered code method_bytes places classes
   pub told : IsTold name classes c
 
 -- all classes of code of a program
-pub record IsCodeOf (source : Source) (name : Text) (method_bytes : ℕ) (c : Code) : Type 0 where
+pub record IsCodeOf (metered : Bool) (source : Source) (name : Text) (method_bytes : ℕ) (c : Code)
+    : Type 0 where
   pub classes : List Placed
-  pub classes_are : AreCodeClasses source method_bytes classes
+  pub classes_are : AreCodeClasses metered source method_bytes classes
   pub told : IsTold name classes c

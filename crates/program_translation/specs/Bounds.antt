@@ -9,3 +9,8 @@ need mapped = 2 * 524290 + 1026 * mapped + 64
 -- Instructions for so many steps: 512 for each and for the start, and what filling the pages takes.
 abbrev pub allow : ℕ → ℕ → ℕ
 allow mapped steps = 512 * (steps + 1) + 131072 * (mapped + 4)
+
+-- Instructions with a meter of so many turns: 1024 for each, for the start and for the end, and what
+-- filling the pages takes.
+abbrev pub meter_allow : ℕ → ℕ → ℕ
+meter_allow mapped turns = 1024 * (turns + 2) + 131072 * (mapped + 4)

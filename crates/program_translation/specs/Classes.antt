@@ -40,24 +40,25 @@ Follow number first [] = ⊤
 Follow number first (c ∷ classes) = (c.number ≡ number) × (c.first_method ≡ first)
     × Follow (number + 1) (run_of c + 1) classes
 
--- a class has the words at a place, in spans of at most so many bytes
-pub record IsPlaced (code : ℕ → Option ℕ) (method_bytes : ℕ) (place : Place) (c : Placed)
-    : Type 0 where
+-- a class has the words at a place, in spans of at most so many bytes, with a meter or without
+pub record IsPlaced (metered : Bool) (code : ℕ → Option ℕ) (method_bytes : ℕ) (place : Place)
+    (c : Placed) : Type 0 where
+  pub metered_is : c.part.metered ≡ metered
   pub part_is : IsPartAt code place c.part
   pub spans_are : AreSpans c.part method_bytes c.spans
 
 -- the classes of the words at places
-pub record ArePlaced (code : ℕ → Option ℕ) (method_bytes : ℕ) (places : List Place)
-    (classes : List Placed) : Type 0 where
+pub record ArePlaced (metered : Bool) (code : ℕ → Option ℕ) (method_bytes : ℕ)
+    (places : List Place) (classes : List Placed) : Type 0 where
   pub follow : Follow 0 main_methods classes
-  pub each : AllZip (IsPlaced code method_bytes) places classes
+  pub each : AllZip (IsPlaced metered code method_bytes) places classes
 
--- All classes of code of a program: those of the maximal runs of its code.
-pub record AreCodeClasses (source : Source) (method_bytes : ℕ) (classes : List Placed)
-    : Type 0 where
+-- All classes of code of a program with a meter or without: those of the maximal runs of its code.
+pub record AreCodeClasses (metered : Bool) (source : Source) (method_bytes : ℕ)
+    (classes : List Placed) : Type 0 where
   pub ranges : List Range
   pub ranges_are : IsRunsOf (area source.file) ranges
-  pub placed : ArePlaced (image_of source).code method_bytes (places_of ranges) classes
+  pub placed : ArePlaced metered (image_of source).code method_bytes (places_of ranges) classes
 
 -- ---- their files
 

@@ -1,5 +1,5 @@
 -- The main class of a program, and its file.
-use Rattle.std.specs.Prelude.{◌≡◌, ℕ, List, flat_map, All}
+use Rattle.std.specs.Prelude.{◌≡◌, ℕ, List, flat_map, All, Option}
 use Rattle.command_values.specs.Names.{Text}
 use Rattle.elf_image.specs.Start.{Source, image_of, readable, writable}
 use Rattle.elf_image.specs.Pages.{pages_below}
@@ -21,10 +21,12 @@ beginning_of s = record {
   order = (image_of s).order;
 }
 
--- What the main class of a program is made of: with what the program begins, the pages that can be read, where its classes of code begin,
--- and the numbers of the methods that are called of these and of the classes of data.
-pub record IsContent (source : Source) (starts : List Start) (runs fills : List ℕ)
-    (main : MainClass) : Type 0 where
+-- What the main class of a program is made of: the turns of its meter, with what the program
+-- begins, the pages that can be read, where its classes of code begin, and the numbers of the
+-- methods that are called of these and of the classes of data.
+pub record IsContent (meter : Option ℕ) (source : Source) (starts : List Start)
+    (runs fills : List ℕ) (main : MainClass) : Type 0 where
+  pub meter_is : main.meter ≡ meter
   pub beginning_is : main.beginning ≡ beginning_of source
   pub pages_are : flat_map run_pages main.runs.now
       ≡ pages_of (readable source) (writable source) pages_below
@@ -33,9 +35,9 @@ pub record IsContent (source : Source) (starts : List Start) (runs fills : List 
   pub code_is : main.code.now ≡ runs
   pub data_is : main.data.now ≡ fills
 
-pub record IsMainFile (source : Source) (name : Text) (starts : List Start) (runs fills : List ℕ)
-    (file : NamedFile) : Type 0 where
+pub record IsMainFile (meter : Option ℕ) (source : Source) (name : Text) (starts : List Start)
+    (runs fills : List ℕ) (file : NamedFile) : Type 0 where
   pub named : name_of file ≡ file_name name
   pub main : MainClass
-  pub content : IsContent source starts runs fills main
+  pub content : IsContent meter source starts runs fills main
   pub class_is : IsMainClass name main file.bytes.items

@@ -1,5 +1,5 @@
 -- A range of code, from which the words of a class are taken.
-use Rattle.std.specs.Prelude.{◌≡◌, ◌+◌, ◌*◌, ◌^◌, ◌<◌, ℕ, length}
+use Rattle.std.specs.Prelude.{◌≡◌, ◌+◌, ◌*◌, ◌^◌, ◌<◌, ℕ, Bool, length}
 use Rattle.image_parts.specs.declared.code.RangeCode.{RangeCode}
 use Rattle.method_splitter.specs.Shares.{share_at}
 use Rattle.program_classes.specs.declared.part.Part.{Part}
@@ -11,10 +11,12 @@ pub record IsLow (code : RangeCode) (words : ℕ) : Type 0 where
   pub leads : length code.leads.items ≡ words
   pub low : code.start + 4 * words < 2 ^ 31
 
--- the words of the class of a number among the classes of the range
-pub record IsPartOf (code : RangeCode) (words k : ℕ) (part : Part) : Type 0 where
+-- the words of the class of a number among the classes of the range, of a program with a meter or
+-- without
+pub record IsPartOf (metered : Bool) (code : RangeCode) (words k : ℕ) (part : Part) : Type 0 where
   pub units_are : part.units.now ≡ code.units.items
   pub leads_are : part.leads.now ≡ code.leads.items
+  pub metered_is : part.metered ≡ metered
   pub start_is : part.start ≡ code.start
   pub first_is : part.first ≡ (share_at class_words words k).first
   pub words_are : part.words ≡ (share_at class_words words k).count

@@ -4,11 +4,11 @@ use Rattle.std.specs.List.{range_with_len}
 use Rattle.block_builder.specs.Blocks.{unit_at}
 use Rattle.method_splitter.specs.Cuts.{Cuts, Fills}
 use Rattle.method_splitter.specs.declared.span.Span.{Span}
-use Rattle.code_limits.specs.Weights.{weight}
+use Rattle.code_limits.specs.Weights.{weight_of}
 use Rattle.program_classes.specs.declared.part.Part.{Part}
 
 abbrev pub weight_at : Part → ℕ → ℕ
-weight_at part k = weight (unit_at part.units.now (part.first + k))
+weight_at part k = weight_of part.metered (unit_at part.units.now (part.first + k))
 
 -- the weights of the first words of a part
 abbrev pub weights_of : Part → ℕ → List ℕ

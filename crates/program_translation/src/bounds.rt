@@ -1,8 +1,8 @@
 ghost use Rattle.std.specs.Prelude.{◌≡◌, ◌≤◌, ◌^◌};
 ghost use Rattle.elf_image.specs.Start.{image_of};
-ghost use Rattle.program_translation.specs.Bounds.{need, allow};
+ghost use Rattle.program_translation.specs.Bounds.{need, allow, meter_allow};
 
-use command_values::RegionWords;
+use command_values::{MeterTurns, RegionWords};
 use elf_image::Image;
 
 /// How many words of the region the classes of an image take: two tables of all pages, an array for each mapped page, and some for the
@@ -25,4 +25,13 @@ pub fn allow(mapped: u32, n: u64) -> u64
     ensures { result ≡ allow mapped n }
 {
     512 * (n + 1) + 131_072 * (u64::from(mapped) + 4)
+}
+
+/// How many instructions the classes of a program with so many mapped pages, at most 65,536, make at most until they end by
+/// themselves, with a meter of so many turns.
+pub fn meter_allow(mapped: u32, turns: MeterTurns) -> u64
+    requires { mapped ≤ 65536 }
+    ensures { result ≡ meter_allow mapped turns }
+{
+    1024 * (u64::from(turns.get()) + 2) + 131_072 * (u64::from(mapped) + 4)
 }

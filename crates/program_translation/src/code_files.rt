@@ -40,7 +40,7 @@ pub struct Code {
 }
 
 /// All classes of code of an image, for the program whose main class is called `name`: 1 to 235. The code of each span's method has at most
-/// `method_bytes` bytes by its words' weights.
+/// `method_bytes` bytes by its words' weights. With a meter each unit's turns are taken off before it.
 ///
 /// # Errors
 /// Want of memory for the classes.
@@ -49,8 +49,9 @@ pub fn code_of(
     image: &Image,
     name: &ClassName,
     method_bytes: MethodBytes,
+    metered: bool,
 ) -> Result<Code, NoMemory>
-    ensures code { IfOk result (IsCodeOf image.now name.now method_bytes) }
+    ensures code { IfOk result (IsCodeOf metered image.now name.now method_bytes) }
     ensures some { IfOk result (λ code. 1 ≤ length code.files.items) }
     ensures few { IfOk result (λ code. length code.files.items ≤ 235) }
     ensures methods { IfOk result (λ code. code.methods < 2 ^ 31) }
@@ -65,7 +66,7 @@ pub fn code_of(
     };
     image.laws();
     for range in image.ranges() {
-        add_range(alloc, &mut code, image, *range, name, method_bytes)?;
+        add_range(alloc, &mut code, image, *range, name, method_bytes, metered)?;
     }
     Ok(code)
 }
@@ -78,19 +79,20 @@ fn add_range(
     range: Range,
     name: &ClassName,
     method_bytes: MethodBytes,
+    metered: bool,
 ) -> Result<(), NoMemory>
     requires range { IsWholeRange (image_of image.now).code range }
     requires classes { length code.old.files.items + share_count class_words range.words ≤ 235 }
     requires few { HasFew code.old }
     ensures few { OnOk result (HasFew code.new) }
     ensures places { OnOk result ((places : List Place)
-        → HasPlaces (image_of image.now).code name.now method_bytes places code.old
-        → HasPlaces (image_of image.now).code name.now method_bytes (places
+        → HasPlaces metered (image_of image.now).code name.now method_bytes places code.old
+        → HasPlaces metered (image_of image.now).code name.now method_bytes (places
         ++ places_in range) code.new) }
 {
     let words = range_code(alloc, image, range)?;
     for k in 0..part_count(range.words) {
-        let part = part_at(&words, range.words, k);
+        let part = part_at(metered, &words, range.words, k);
         add_class(alloc, code, &part, name, method_bytes)?;
     }
     Ok(())

@@ -20,14 +20,14 @@ mod spans;
 mod translation;
 
 pub use block_info::BlockInfo;
-pub use bounds::{allow, need};
+pub use bounds::{allow, meter_allow, need};
 pub use built::Built;
 pub use code_files::{Code, code_of};
 pub use data_files::{Data, data_of};
 pub use layout::Layout;
 pub use named_file::NamedFile;
 pub use span_info::SpanInfo;
-pub use translation::translate;
+pub use translation::{translate, translate_metered};
 
 /// Want of memory, the one error of this crate.
 pub type NoMemory = std::alloc::AllocError;

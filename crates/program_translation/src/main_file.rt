@@ -8,7 +8,7 @@ use crate::NoMemory;
 use crate::code_files::Code;
 use crate::data_files::Data;
 use crate::named_file::NamedFile;
-use command_values::ClassName;
+use command_values::{ClassName, MeterTurns};
 use elf_image::Image;
 use guest_layout::file_name;
 use image_parts::page_runs;
@@ -16,12 +16,13 @@ use loading_code::Beginning;
 use program_classes::{MainClass, main_class};
 use std::alloc::Global;
 
-/// The main class of an image, with these classes of code and of data. The methods that it calls of these have rising numbers behind those
+/// The main class of an image, with a meter of so many turns or with none, and with these classes of code and of data. The methods that it calls of these have rising numbers behind those
 /// of its own.
 pub fn main_file(
     alloc: Global,
     image: &Image,
     name: &ClassName,
+    meter: Option<MeterTurns>,
     code: &Code,
     stored: &Data,
 ) -> Result<NamedFile, NoMemory>
@@ -33,12 +34,13 @@ pub fn main_file(
         code.now.starts.items }
     requires rise { RiseFrom main_methods (code.now.runs.items ++ stored.now.fills.items) }
     ensures { IfOk result
-        (IsMainFile image.now name.now code.now.starts.items code.now.runs.items
+        (IsMainFile meter image.now name.now code.now.starts.items code.now.runs.items
         stored.now.fills.items) }
 {
     let runs = page_runs(alloc, image)?;
     let main = MainClass {
         beginning: beginning_of(image),
+        meter,
         runs: runs.as_slice(),
         starts: code.starts.as_slice(),
         code: code.runs.as_slice(),

@@ -18,11 +18,11 @@ pub fn part_count(words: u32) -> usize
     share_count(words as usize, CLASS_WORDS)
 }
 
-/// The words of the class of a number among the classes of a range, which has so many words.
-pub fn part_at(range: &RangeCode, words: u32, k: usize) -> Part<'_>
+/// The words of the class of a number among the classes of a range, which has so many words, of a program with a meter or without.
+pub fn part_at(metered: bool, range: &RangeCode, words: u32, k: usize) -> Part<'_>
     requires low { IsLow range.now words }
     requires within { k < share_count class_words words }
-    ensures value { IsPartOf range.now words k result }
+    ensures value { IsPartOf metered range.now words k result }
     ensures some { 1 ≤ result.words }
     ensures few { result.words ≤ 6144 }
 {
@@ -30,6 +30,7 @@ pub fn part_at(range: &RangeCode, words: u32, k: usize) -> Part<'_>
     Part {
         units: range.units.as_slice(),
         leads: range.leads.as_slice(),
+        metered,
         start: range.start,
         first: share.first as u32,
         words: share.count as u32,

@@ -7,7 +7,7 @@ ghost use Rattle.program_translation.specs.Spans.{AreSpans, weight_at, weights_o
 
 use crate::NoMemory;
 use code_limits::size_laws::divided_words_keep_to_the_limit;
-use code_limits::weight;
+use code_limits::weight_of;
 use command_values::MethodBytes;
 use method_splitter::{Span, cut};
 use program_classes::Part;
@@ -43,7 +43,7 @@ pub fn spans_of(
 fn weights_of(alloc: Global, part: &Part) -> Result<Vec<u32>, NoMemory>
     ensures value { IfOk result (λ weights. weights.items ≡ weights_of part.now part.now.words) }
     ensures count { IfOk result (λ weights. length weights.items ≡ part.now.words) }
-    ensures bound { IfOk result (λ weights. All (λ w. w ≤ 412) weights.items) }
+    ensures bound { IfOk result (λ weights. All (λ w. w ≤ 540) weights.items) }
 {
     let mut weights = Vec::new(alloc);
     for k in 0..part.words {
@@ -55,7 +55,7 @@ fn weights_of(alloc: Global, part: &Part) -> Result<Vec<u32>, NoMemory>
 fn weight_at(part: &Part, k: u32) -> u32
     requires within { k < part.now.words }
     ensures value { result ≡ weight_at part.now k }
-    ensures bound { result ≤ 412 }
+    ensures bound { result ≤ 540 }
 {
-    weight(&part.units[(part.first + k) as usize])
+    weight_of(part.metered, &part.units[(part.first + k) as usize])
 }

@@ -1,5 +1,5 @@
 -- The classes of code so far, and one more.
-use Rattle.std.proofs.Common.{◌≡◌, ℕ, ◌+◌, List, [], ◌∷◌, ◌++◌, length, Option, refl, ap, sym, ◌∙◌, arith, subst}
+use Rattle.std.proofs.Common.{◌≡◌, ℕ, Bool, ◌+◌, List, [], ◌∷◌, ◌++◌, length, Option, refl, ap, sym, ◌∙◌, arith, subst}
 use Rattle.std.specs.List.{AllZip}
 use Rattle.std.proofs.lemmas.List.{map_push, flat_map_more}
 use Rattle.std.proofs.lemmas.Slice.Zip.{all_zipped_more, AllZip-long}
@@ -24,9 +24,9 @@ behind-push : (first : ℕ) (classes : List Placed) (c : Placed) → methods_beh
 behind-push first [] c = refl
 behind-push first (x ∷ classes) c = behind-push (run_of x + 1) classes c
 
-pub no-places : (code : ℕ → Option ℕ) (name : Text) (method_bytes : ℕ) (c : Code) → c.files.items ≡ [] → c.starts.items ≡ [] → c.runs.items ≡ []
-    → c.spans.items ≡ [] → c.blocks.items ≡ [] → c.methods ≡ main_methods → HasPlaces code name method_bytes [] c
-no-places code name method_bytes c files starts runs spans blocks methods = record {
+pub no-places : (metered : Bool) (code : ℕ → Option ℕ) (name : Text) (method_bytes : ℕ) (c : Code) → c.files.items ≡ [] → c.starts.items ≡ [] → c.runs.items ≡ []
+    → c.spans.items ≡ [] → c.blocks.items ≡ [] → c.methods ≡ main_methods → HasPlaces metered code name method_bytes [] c
+no-places metered code name method_bytes c files starts runs spans blocks methods = record {
   classes = [];
   placed = record { follow = tt; each = tt };
   told = record {
@@ -58,24 +58,25 @@ module _ (name : Text) (method_bytes : ℕ) (part : Part) (old new : Code) (adds
     methods_are = adds.methods_are ∙ sym (behind-push main_methods classes adds.class);
   }
 
-  placed-more : (code : ℕ → Option ℕ) (places : List Place) (place : Place) → IsTold name classes old → IsPartAt code place part
-      → ArePlaced code method_bytes places classes → ArePlaced code method_bytes (places ++ place ∷ []) (classes ++ adds.class ∷ [])
-  placed-more code places place told is placed =
+  placed-more : (metered : Bool) (code : ℕ → Option ℕ) (places : List Place) (place : Place) → IsTold name classes old → part.metered ≡ metered
+      → IsPartAt code place part → ArePlaced metered code method_bytes places classes
+      → ArePlaced metered code method_bytes (places ++ place ∷ []) (classes ++ adds.class ∷ [])
+  placed-more metered code places place told flag is placed =
       let number : adds.class.number ≡ 0 + length classes =
       omega (arith, adds.class_is.number_is, AllZip-long (IsCodeFile name) classes old.files.items told.files_are) in
       let method = adds.class_is.first_is ∙ told.methods_are in
-      let own : IsPlaced code method_bytes place adds.class =
-      record { part_is = subst (IsPartAt code place) (sym adds.class_is.part_is) is; spans_are = adds.class_is.spans_are } in
+      let own : IsPlaced metered code method_bytes place adds.class =
+      record { metered_is = ap (λ (p : Part). p.metered) adds.class_is.part_is ∙ flag; part_is = subst (IsPartAt code place) (sym adds.class_is.part_is) is; spans_are = adds.class_is.spans_are } in
       record {
         follow = follow-push 0 main_methods classes adds.class placed.follow number method;
-        each = all_zipped_more (IsPlaced code method_bytes) places classes place adds.class placed.each own;
+        each = all_zipped_more (IsPlaced metered code method_bytes) places classes place adds.class placed.each own;
       }
 
-pub class-more : (code : ℕ → Option ℕ) (name : Text) (method_bytes : ℕ) (part : Part) (old new : Code) (places : List Place) (place : Place)
-    → AddsClass name method_bytes part old new → IsPartAt code place part → HasPlaces code name method_bytes places old
-    → HasPlaces code name method_bytes (places ++ place ∷ []) new
-class-more code name method_bytes part old new places place adds is has = record {
+pub class-more : (metered : Bool) (code : ℕ → Option ℕ) (name : Text) (method_bytes : ℕ) (part : Part) (old new : Code) (places : List Place) (place : Place)
+    → AddsClass name method_bytes part old new → part.metered ≡ metered → IsPartAt code place part → HasPlaces metered code name method_bytes places old
+    → HasPlaces metered code name method_bytes (places ++ place ∷ []) new
+class-more metered code name method_bytes part old new places place adds flag is has = record {
   classes = has.classes ++ adds.class ∷ [];
-  placed = placed-more name method_bytes part old new adds has.classes code places place has.told is has.placed;
+  placed = placed-more name method_bytes part old new adds has.classes metered code places place has.told flag is has.placed;
   told = told-more name method_bytes part old new adds has.classes has.told;
 }

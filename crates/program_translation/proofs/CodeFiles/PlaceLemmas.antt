@@ -1,5 +1,5 @@
 -- The places of words, one more, and the parts at them.
-use Rattle.std.proofs.Common.{◌≡◌, ℕ, ◌+◌, ◌<◌, List, [], ◌∷◌, ◌++◌, length, take, get_or, Option, ap, sym, ◌∙◌, arith, subst, append_assoc}
+use Rattle.std.proofs.Common.{◌≡◌, ℕ, Bool, ◌+◌, ◌<◌, List, [], ◌∷◌, ◌++◌, length, take, get_or, Option, ap, sym, ◌∙◌, arith, subst, append_assoc}
 use Rattle.std.proofs.lemmas.List.{append-nil, take_more}
 use Rattle.std.proofs.lemmas.List.Concat.{flat_map-append}
 use Rattle.std.proofs.lemmas.List.FromFn.{map-range_with_len_more}
@@ -25,9 +25,9 @@ range-more ranges k d less =
     ∙ ap (λ l. places_of (take k ranges) ++ l) (append-nil (places_in (get_or ranges k d)))
 
 -- the part at a place is that of the class of a number
-pub part-at : (code : ℕ → Option ℕ) (range : Range) (c : RangeCode) (k : ℕ) (part : Part) → IsRangeCode code range c.units.items c.leads.items
-    → c.start ≡ range.first → IsPartOf c range.words k part → IsPartAt code (place_at range k) part
-part-at code range c k part coded start is = record {
+pub part-at : (metered : Bool) (code : ℕ → Option ℕ) (range : Range) (c : RangeCode) (k : ℕ) (part : Part) → IsRangeCode code range c.units.items c.leads.items
+    → c.start ≡ range.first → IsPartOf metered c range.words k part → IsPartAt code (place_at range k) part
+part-at metered code range c k part coded start is = record {
   range_is =
       subst (λ units. IsRangeCode code range units part.leads.now) (sym is.units_are)
       (subst (λ leads. IsRangeCode code range c.units.items leads) (sym is.leads_are) coded);

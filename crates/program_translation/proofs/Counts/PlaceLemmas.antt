@@ -1,5 +1,5 @@
 -- A program has few classes of code.
-use Rattle.std.proofs.Common.{◌≡◌, ℕ, zero, suc, ◌+◌, ◌*◌, ◌<◌, ◌≤◌, List, [], ◌∷◌, length, take, get_or, All, Option, ◌∙◌, arith, length-append}
+use Rattle.std.proofs.Common.{◌≡◌, ℕ, Bool, zero, suc, ◌+◌, ◌*◌, ◌<◌, ◌≤◌, List, [], ◌∷◌, length, take, get_or, All, Option, ◌∙◌, arith, length-append}
 use Rattle.std.proofs.lemmas.List.Elements.{All-head}
 use Rattle.std.proofs.lemmas.List.FromFn.{length-map-range_with_len}
 use Rattle.std.proofs.lemmas.List.Sums.{sum_by-cons}
@@ -57,8 +57,8 @@ places-first (r ∷ ranges) (suc k) d less =
       places-first ranges k d (omega (arith, less)),
     )
 
-pub places-count : (code : ℕ → Option ℕ) (name : Text) (method_bytes : ℕ) (places : List Place) (c : Code) → HasPlaces code name method_bytes places c
-    → length c.files.items ≡ length places
-places-count code name method_bytes places c has =
+pub places-count : (metered : Bool) (code : ℕ → Option ℕ) (name : Text) (method_bytes : ℕ) (places : List Place) (c : Code)
+    → HasPlaces metered code name method_bytes places c → length c.files.items ≡ length places
+places-count metered code name method_bytes places c has =
     AllZip-long (IsCodeFile name) has.classes c.files.items has.told.files_are
-    ∙ AllZip-long (IsPlaced code method_bytes) places has.classes has.placed.each
+    ∙ AllZip-long (IsPlaced metered code method_bytes) places has.classes has.placed.each

@@ -6,24 +6,24 @@ use Rattle.std.proofs.lemmas.List.Sums.{sum_by-cons, sum_by-le}
 use Rattle.method_splitter.specs.Cuts.{span_weight, Cuts, Fills}
 use Rattle.method_splitter.specs.declared.span.Span.{Span}
 
-span-small : (weights : List ℕ) → All (λ (w : ℕ). w ≤ 512) weights → span_weight weights ≤ 96 + 516 * length weights
+span-small : (weights : List ℕ) → All (λ (w : ℕ). w ≤ 540) weights → span_weight weights ≤ 96 + 544 * length weights
 unfolding span_weight
 span-small weights small =
-    let sum = sum_by-le (λ (w : ℕ). 4 + w) 516 weights (λ k d lt. let less = small k d lt in omega (arith, less)) in
+    let sum = sum_by-le (λ (w : ℕ). 4 + w) 544 weights (λ k d lt. let less = small k d lt in omega (arith, less)) in
     omega (arith, sum)
 
 -- each span but the last has seven words or more
-pub cut-few : (first : ℕ) (weights : List ℕ) (limit : ℕ) (spans : List Span) → 4096 ≤ limit → All (λ (w : ℕ). w ≤ 512) weights
+pub cut-few : (first : ℕ) (weights : List ℕ) (limit : ℕ) (spans : List Span) → 4096 ≤ limit → All (λ (w : ℕ). w ≤ 540) weights
     → Cuts first weights limit spans → Fills weights limit spans → 7 * length spans ≤ length weights + 7
 cut-few first weights limit [] large small cuts fills = omega arith
 cut-few first weights limit (s ∷ []) large small cuts fills = omega arith
 cut-few first weights limit (s ∷ t ∷ spans) large small cuts fills =
     let rest = cuts.4 in
-    let next = cut-few (first + s.words) (drop s.words weights) limit (t ∷ spans) large (All-drop (λ (w : ℕ). w ≤ 512) s.words weights small) rest fills.1 in
+    let next = cut-few (first + s.words) (drop s.words weights) limit (t ∷ spans) large (All-drop (λ (w : ℕ). w ≤ 540) s.words weights small) rest fills.1 in
     let left = length-drop s.words weights in
     let more : s.words < length weights = omega (arith, left, rest.1, rest.2) in
     let over = fills.0 more in
-    let bound = span-small (take (s.words + 1) weights) (All-take (λ (w : ℕ). w ≤ 512) (s.words + 1) weights small) in
+    let bound = span-small (take (s.words + 1) weights) (All-take (λ (w : ℕ). w ≤ 540) (s.words + 1) weights small) in
     let taken = length-take-le (s.words + 1) weights in
     omega (arith, left, next, over, bound, taken, large, cuts.2)
 

@@ -25,7 +25,7 @@ pub loop-k-init : goal.loop-k-init
 loop-k-init c = record {
   places = λ places has.
       let code = (image_of c.args.image.now).code in
-      subst (λ l. HasPlaces code c.args.name.now c.args.method_bytes l c.args.code.now) (sym (append-nil places)) has;
+      subst (λ l. HasPlaces c.args.metered code c.args.name.now c.args.method_bytes l c.args.code.now) (sym (append-nil places)) has;
   few = c.requires.few;
   count = omega arith;
 }
@@ -37,13 +37,13 @@ loop-k-preserved c =
     let k = c.loop-k.k in
     let part = c.part_at-part.result in
     let added = c.in_ok-add_class.ensures.added in
-    let at = part-at code c.args.range c.in_ok-words.words k part told.code told.start c.part_at-part.ensures.value in
+    let at = part-at c.args.metered code c.args.range c.in_ok-words.words k part told.code told.start c.part_at-part.ensures.value in
     record {
       places = λ places has.
-          subst (λ l. HasPlaces code c.args.name.now c.args.method_bytes l c.add_class.new.code) (sym (place-more places c.args.range k))
-          (class-more code c.args.name.now c.args.method_bytes part c.loop-k.code c.add_class.new.code
+          subst (λ l. HasPlaces c.args.metered code c.args.name.now c.args.method_bytes l c.add_class.new.code) (sym (place-more places c.args.range k))
+          (class-more c.args.metered code c.args.name.now c.args.method_bytes part c.loop-k.code c.add_class.new.code
           (places ++ first_places c.args.range k) (place_at c.args.range k)
-          added at (c.loop-k.invariant.places places has));
+          added c.part_at-part.ensures.value.metered_is at (c.loop-k.invariant.places places has));
       few = c.in_ok-add_class.ensures.few;
       count = omega (arith, ap length added.files_are, length_push c.loop-k.code.files.items added.file, c.loop-k.invariant.count);
     }

@@ -6,8 +6,8 @@ use Rattle.program_translation.proofs.code_files.add_range.Given as goal
 
 abbrev pub invariant-loop-k : goal.invariant-loop-k
 invariant-loop-k l = record {
-  places : (places : List Place) → HasPlaces (image_of l.image).code l.name l.method_bytes places l.fn.code
-      → HasPlaces (image_of l.image).code l.name l.method_bytes (places ++ first_places l.range l.k) l.code;
+  places : (places : List Place) → HasPlaces l.metered (image_of l.image).code l.name l.method_bytes places l.fn.code
+      → HasPlaces l.metered (image_of l.image).code l.name l.method_bytes (places ++ first_places l.range l.k) l.code;
   few : HasFew l.code;
   count : length l.code.files.items ≡ length l.fn.code.files.items + l.k;
 }

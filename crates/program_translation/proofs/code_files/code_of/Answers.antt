@@ -13,7 +13,7 @@ use Rattle.program_translation.proofs.code_files.code_of.Goals as goal
 pub loop-range-init : goal.loop-range-init
 loop-range-init c = record {
   places =
-      no-places (image_of c.args.image.now).code c.args.name.now c.args.method_bytes _ c.new.ensures.items c.new-4.ensures.items
+      no-places c.args.metered (image_of c.args.image.now).code c.args.name.now c.args.method_bytes _ c.new.ensures.items c.new-4.ensures.items
       c.new-5.ensures.items c.new-2.ensures.items c.new-3.ensures.items refl;
   few = record {
     spans = omega (arith, ap length c.new-2.ensures.items);
@@ -28,7 +28,7 @@ add_range-requires-clause-classes c =
     let d : Range = record { first = 0; words = 0 } in
     let runs = c.ranges-range-items.ensures in
     let count =
-    places-count (image_of c.args.image.now).code c.args.name.now c.args.method_bytes (places_of (take k ranges)) c.loop-range.code
+    places-count c.args.metered (image_of c.args.image.now).code c.args.name.now c.args.method_bytes (places_of (take k ranges)) c.loop-range.code
     c.loop-range.invariant.places in
     let first = places-first ranges k d c.loop-range-test.true in
     let most = places-most ranges (c.laws.ensures.words ranges runs) (c.laws.ensures.runs ranges runs) in
@@ -41,7 +41,7 @@ loop-range-preserved c =
     let k = c.loop-range.range-index in
     record {
       places =
-          subst (λ places. HasPlaces code c.args.name.now c.args.method_bytes places c.add_range.new.code)
+          subst (λ places. HasPlaces c.args.metered code c.args.name.now c.args.method_bytes places c.add_range.new.code)
           (sym (range-more ranges k (record { first = 0; words = 0 }) c.loop-range-test.true))
           (c.in_ok-add_range.ensures.places (places_of (take k ranges)) c.loop-range.invariant.places);
       few = c.in_ok-add_range.ensures.few;
@@ -58,7 +58,7 @@ returns-clause-code c =
       classes_are = record {
         ranges = ranges;
         ranges_are = c.ranges-range-items.ensures;
-        placed = subst (λ r. ArePlaced code c.args.method_bytes (places_of r) has.classes) all has.placed;
+        placed = subst (λ r. ArePlaced c.args.metered code c.args.method_bytes (places_of r) has.classes) all has.placed;
       };
       told = has.told;
     }
@@ -70,7 +70,7 @@ returns-clause-some c =
     let runs = c.ranges-range-items.ensures in
     let all = take_all c.loop-range.range-index ranges c.loop-range-test.false in
     let count =
-    places-count code c.args.name.now c.args.method_bytes (places_of (take c.loop-range.range-index ranges)) c.loop-range.code
+    places-count c.args.metered code c.args.name.now c.args.method_bytes (places_of (take c.loop-range.range-index ranges)) c.loop-range.code
     c.loop-range.invariant.places in
     let some = places-some code ranges (c.laws.ensures.whole ranges runs) (c.laws.ensures.some ranges runs) in
     omega (arith, count, ap (λ r. length (places_of r)) all, some)
@@ -82,7 +82,7 @@ returns-clause-few c =
     let runs = c.ranges-range-items.ensures in
     let all = take_all c.loop-range.range-index ranges c.loop-range-test.false in
     let count =
-    places-count code c.args.name.now c.args.method_bytes (places_of (take c.loop-range.range-index ranges)) c.loop-range.code
+    places-count c.args.metered code c.args.name.now c.args.method_bytes (places_of (take c.loop-range.range-index ranges)) c.loop-range.code
     c.loop-range.invariant.places in
     let most = places-most ranges (c.laws.ensures.words ranges runs) (c.laws.ensures.runs ranges runs) in
     omega (arith, count, ap (λ r. length (places_of r)) all, most)

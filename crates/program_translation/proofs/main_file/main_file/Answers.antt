@@ -1,4 +1,4 @@
-use Rattle.std.proofs.Common.{◌≡◌, ◌<◌, ◌++◌, All, length, flat_map, ap, sym, ◌∙◌, subst, arith}
+use Rattle.std.proofs.Common.{◌≡◌, ◌<◌, ◌++◌, All, length, flat_map, refl, ap, sym, ◌∙◌, subst, arith}
 use Rattle.elf_image.specs.Start.{readable, writable}
 use Rattle.elf_image.specs.Pages.{pages_below}
 use Rattle.image_parts.specs.Runs.{IsRun, pages_of, run_pages}
@@ -39,6 +39,7 @@ returns c =
     let source = c.args.image.now in
     let main : MainClass = record {
       beginning = c.beginning_of.result;
+      meter = c.args.meter;
       runs = c.as_slice.result;
       starts = c.as_slice-2.result;
       code = c.as_slice-3.result;
@@ -48,6 +49,7 @@ returns c =
       named = c.in_ok-file_name.ensures ∙ ap file_name c.as_str.ensures.value;
       main = main;
       content = record {
+        meter_is = refl;
         beginning_is = c.beginning_of.ensures;
         pages_are =
             subst (λ runs. flat_map run_pages runs ≡ pages_of (readable source) (writable source) pages_below) (sym c.as_slice.ensures.value)

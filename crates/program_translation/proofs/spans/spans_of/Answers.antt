@@ -1,4 +1,4 @@
-use Rattle.std.proofs.Common.{◌≡◌, ◌+◌, ◌≤◌, All, length, ap, ◌∙◌, sym, subst, arith}
+use Rattle.std.proofs.Common.{◌≡◌, ◌+◌, ◌≤◌, false, All, length, ap, ◌∙◌, sym, subst, arith}
 use Rattle.std.proofs.lemmas.List.Elements.{All-weaker}
 use Rattle.code_steps.specs.Widths.{size}
 use Rattle.method_splitter.specs.Cuts.{Cuts}
@@ -21,8 +21,7 @@ pub returns-clause-few : goal.returns-clause-few
 returns-clause-few c =
     let slice = c.as_slice.result.now in
     let small =
-    All-weaker (λ w. w ≤ 412) (λ w. w ≤ 512) (λ w less. omega (arith, less)) slice
-    (subst (All (λ w. w ≤ 412)) (sym c.as_slice.ensures.value) c.in_ok-weights.ensures.bound) in
+    subst (All (λ w. w ≤ 540)) (sym c.as_slice.ensures.value) c.in_ok-weights.ensures.bound in
     let most = cut-few 0 slice c.get.result c.in_ok-spans.spans.items (omega (arith, c.get.ensures.value, c.get.ensures.range.0)) small c.in_ok-spans.ensures.cuts c.in_ok-spans.ensures.fills in
     omega (arith, most, ap length c.as_slice.ensures.value, c.in_ok-weights.ensures.count, c.requires.few)
 
@@ -37,6 +36,6 @@ returns-clause-sizes c =
     let limit = c.get.result in
     let spans = c.in_ok-spans.spans.items in
     let cuts = subst (λ w. Cuts 0 w limit spans) (c.as_slice.ensures.value ∙ c.in_ok-weights.ensures.value) c.in_ok-spans.ensures.cuts in
-    let fits = c.divided_words_keep_to_the_limit.ensures part.units.now (flagged part.leads.now) part.start part.first part.words limit spans cuts in
+    let fits = c.divided_words_keep_to_the_limit.ensures part.metered part.units.now (flagged part.leads.now) part.start part.first part.words limit spans cuts in
     All-weaker (λ (s : Span). size (code_of_span part s) ≤ limit) (λ (s : Span). size (code_of_span part s) ≤ 65535)
     (λ s less. omega (arith, less, c.get.ensures.value, c.get.ensures.range.1)) spans fits

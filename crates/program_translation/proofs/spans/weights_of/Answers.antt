@@ -14,5 +14,5 @@ loop-k-preserved c =
       pushed ∙ ap (λ l. l ++ next ∷ []) c.loop-k.invariant.0 ∙ ap (λ w. weights_of c.args.part.now k ++ w ∷ []) c.weight_at.ensures.value
           ∙ sym (map-range_with_len_more (weight_at c.args.part.now) 0 k k (omega arith)),
       ap length pushed ∙ omega (arith, length_push weights next, c.loop-k.invariant.1),
-      subst (All (λ w. w ≤ 412)) (sym pushed) (All-push (λ w. w ≤ 412) weights next c.loop-k.invariant.2 c.weight_at.ensures.bound),
+      subst (All (λ w. w ≤ 540)) (sym pushed) (All-push (λ w. w ≤ 540) weights next c.loop-k.invariant.2 c.weight_at.ensures.bound),
     )

@@ -3,4 +3,4 @@ use Rattle.program_translation.specs.Spans.{weights_of}
 use Rattle.program_translation.proofs.spans.weights_of.Given as goal
 
 abbrev pub invariant-loop-k : goal.invariant-loop-k
-invariant-loop-k l = (l.weights.items ≡ weights_of l.part l.k) × (length l.weights.items ≡ l.k) × All (λ w. w ≤ 412) l.weights.items
+invariant-loop-k l = (l.weights.items ≡ weights_of l.part l.k) × (length l.weights.items ≡ l.k) × All (λ w. w ≤ 540) l.weights.items

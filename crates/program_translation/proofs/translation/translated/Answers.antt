@@ -5,14 +5,14 @@ use Rattle.std.proofs.lemmas.Slice.Zip.{AllZip-long}
 use Rattle.guest_layout.specs.Numbers.{main_methods}
 use Rattle.trampoline.specs.declared.start.Start.{Start}
 use Rattle.program_classes.specs.Content.{RiseFrom, behind}
-use Rattle.program_translation.specs.Classes.{IsCodeFile, run_of}
+use Rattle.program_translation.specs.Classes.{AreCodeClasses, IsCodeFile, run_of}
 use Rattle.program_translation.specs.DataFiles.{AreDataFiles, class_count, filled_pages, fill_of, fills_of}
 use Rattle.program_translation.specs.MainFile.{IsMainFile}
 use Rattle.program_translation.specs.Translation.{code_methods, fills_behind}
 use Rattle.program_translation.proofs.Counts.PageLemmas.{data-few}
 use Rattle.program_translation.proofs.Counts.StartLemmas.{starts-some, starts-few, starts-known}
 use Rattle.program_translation.proofs.ProgramTranslation.RiseLemmas.{rise-calls}
-use Rattle.program_translation.proofs.translation.translate.Goals as goal
+use Rattle.program_translation.proofs.translation.translated.Goals as goal
 
 pub main_file-requires : goal.main_file-requires
 main_file-requires c =
@@ -64,15 +64,15 @@ returns c =
     record {
       code = code;
       some = omega (arith, long, c.in_ok-code.ensures.some);
-      code_is = coded.classes_are;
+      code_is = subst (λ metered. AreCodeClasses metered source c.args.method_bytes code) c.is_some.ensures coded.classes_are;
       main_file = c.in_ok-main.main;
       code_files = files;
       data_files = data_files;
       files_are = c.in_ok-files_of.ensures;
       main_is =
-          subst (λ starts. IsMainFile source name starts (map run_of code) (fills_behind source code) c.in_ok-main.main) coded.told.starts_are
-          (subst (λ runs. IsMainFile source name c.in_ok-code.code.starts.items runs (fills_behind source code) c.in_ok-main.main) coded.told.runs_are
-          (subst (λ fills. IsMainFile source name c.in_ok-code.code.starts.items c.in_ok-code.code.runs.items fills c.in_ok-main.main) fills
+          subst (λ starts. IsMainFile c.args.meter source name starts (map run_of code) (fills_behind source code) c.in_ok-main.main) coded.told.starts_are
+          (subst (λ runs. IsMainFile c.args.meter source name c.in_ok-code.code.starts.items runs (fills_behind source code) c.in_ok-main.main) coded.told.runs_are
+          (subst (λ fills. IsMainFile c.args.meter source name c.in_ok-code.code.starts.items c.in_ok-code.code.runs.items fills c.in_ok-main.main) fills
           c.in_ok-main.ensures));
       code_are = coded.told.files_are;
       data_are =
