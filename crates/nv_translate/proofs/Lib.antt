@@ -1,5 +1,8 @@
 mod OneLayout
+mod Making
 pub mod EndedRuns
+mod PairedTranslations
+mod StoppedTranslations
 mod LinkedTranslations
 mod TranslatedMethods
 mod TranslatedLoading

@@ -1,4 +1,5 @@
 pub mod Lists
+pub mod Metered
 pub mod Few
 pub mod Lawful
 pub mod Planned

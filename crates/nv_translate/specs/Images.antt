@@ -1,14 +1,15 @@
 -- What holds of each image, and of its translations.
-use Rattle.std.specs.Prelude.{ℕ, ◌≤◌}
+use Rattle.std.specs.Prelude.{ℕ, ◌^◌, ◌<◌, ◌≤◌, List, Some}
 use Rattle.nv_words.specs.Words.{IsWord}
 use Rattle.command_values.specs.Names.{Text}
 use Rattle.elf_image.specs.Start.{Source, image_of}
 use Rattle.jvm_program.specs.Program.{Program}
+use Rattle.jvm_code.specs.declared.class.Class.{Class}
 use Rattle.jvm_link.specs.Linking.{program_of}
 use Rattle.program_translation.specs.declared.built.Built.{Built}
 use Rattle.program_translation.specs.declared.layout.Layout.{Layout}
 use Rattle.nv_translate.specs.AcceptedCode.{HasAcceptedCode}
-use Rattle.nv_translate.specs.Linked.{IsLinked}
+use Rattle.nv_translate.specs.Linked.{IsLinked, IsLinkedBy}
 use Rattle.nv_translate.specs.MappedPages.{HasMappedPages}
 
 -- Its code is whole and not too much, its memory is pages of words, and it begins at an address of 32 bits.
@@ -25,3 +26,12 @@ OfTranslations Says =
     → IsImage source → 4096 ≤ method_bytes
     → (l : IsLinked source name method_bytes built)
     → Says source built.layout (program_of l.classes)
+
+-- What is said of an image, of a number of turns and of classes, is said of each linked translation of
+-- an image with a meter of so many turns, whose spans may have 4,096 bytes or more.
+abbrev pub OfMeteredTranslations : (Source → ℕ → List Class → Type 0) → Type 0
+OfMeteredTranslations Says =
+    (source : Source) (name : Text) (method_bytes turns : ℕ) (built : Built)
+    → IsImage source → 4096 ≤ method_bytes → turns < 2 ^ 31
+    → (l : IsLinkedBy (Some turns) source name method_bytes built)
+    → Says source turns l.classes

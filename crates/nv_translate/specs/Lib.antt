@@ -17,3 +17,4 @@ pub mod Sizes
 pub mod Ends
 pub mod Again
 pub mod Entered
+pub mod Metered

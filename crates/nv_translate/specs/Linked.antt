@@ -1,5 +1,5 @@
 -- The program that the classes of a translation are, method by method.
-use Rattle.std.specs.Prelude.{◌≡◌, ℕ, ◌+◌, ◌<◌, ◌≤◌, List, [], ◌∷◌, ◌++◌, map, length, slice_get, Some, None}
+use Rattle.std.specs.Prelude.{◌≡◌, ℕ, ◌+◌, ◌<◌, ◌≤◌, List, [], ◌∷◌, ◌++◌, map, length, slice_get, is_some, Option, Some, None}
 use Rattle.std.specs.List.{AllZip}
 use Rattle.command_values.specs.Names.{Text}
 use Rattle.elf_image.specs.Start.{Source}
@@ -16,6 +16,7 @@ use Rattle.guest_layout.specs.Numbers.{run_number}
 use Rattle.loading_code.specs.declared.page_slot.PageSlot.{PageSlot}
 use Rattle.data_strings.specs.Texts.{page_text}
 use Rattle.code_assembly.specs.declared.references.References.{References}
+use Rattle.whole_methods.specs.Naming.{fields_of}
 use Rattle.program_classes.specs.Making.{Plan}
 use Rattle.program_classes.specs.declared.content.MainClass.{MainClass}
 use Rattle.program_classes.specs.Content.{share_texts}
@@ -78,28 +79,31 @@ pub record HasDataClass (program : Program) (code_classes methods : ℕ) (pages 
       ∷ [])
 
 -- The files of a translation spell classes, in which no name stands twice. In the program that these are, each field and each method is what it
--- was planned to be, and has its number, and there are no others. The layout has the spans of the classes of code, and their blocks.
-pub record IsLinked (source : Source) (name : Text) (method_bytes : ℕ) (built : Built)
-    : Type 0 where
+-- was planned to be, and has its number, and there are no others. The layout has the spans of the classes of code, and their blocks. The classes keep
+-- a meter, or none.
+pub record IsLinkedBy (meter : Option ℕ) (source : Source) (name : Text) (method_bytes : ℕ)
+    (built : Built) : Type 0 where
   -- the classes of code, of which there is one at least, with their words, spans and first methods
   pub code : List Placed
   pub some : 1 ≤ length code
-  pub code_is : AreCodeClasses source method_bytes code
+  pub code_is : AreCodeClasses (is_some meter) source method_bytes code
   -- the layout tells these spans, and their blocks
   pub spans_are : built.layout.spans.items ≡ spans_of code
   pub blocks_are : built.layout.blocks.items ≡ blocks_of 0 code
   -- what the main class is made of
   pub main : MainClass
-  pub content : IsContent source (starts_of code) (map run_of code) (fills_behind source code) main
+  pub content : IsContent meter source (starts_of code) (map run_of code)
+      (fills_behind source code) main
   -- the classes that the files spell, in which no name stands twice
   pub classes : List Class
   pub spelled : AllZip (λ (f : NamedFile) (c : Class). Spells f.bytes.items c)
       built.files.items classes
   pub distinct : twice_fault [] 0 classes ≡ None
-  -- the 38 fields of the main class are the program's, and it begins with the method `run`
-  pub fields_are : (f : ℕ) → f < 38 → (program_of classes).field f
+  -- the fields of the main class, 38 and with a meter one more, are the program's, and it begins with the method `run`
+  pub fields_are : (f : ℕ) → f < fields_of (is_some meter) → (program_of classes).field f
       ≡ Some (kind_of (field_descriptor f))
-  pub no_more_fields : (f : ℕ) → 38 ≤ f → (program_of classes).field f ≡ None
+  pub no_more_fields : (f : ℕ) → fields_of (is_some meter) ≤ f
+      → (program_of classes).field f ≡ None
   pub first_is : (program_of classes).first ≡ run_number
   -- the texts of the main class, which tell the runs of pages
   pub texts : List ℕ
@@ -116,3 +120,7 @@ pub record IsLinked (source : Source) (name : Text) (method_bytes : ℕ) (built 
   pub no_more_methods : (m : ℕ)
       → first_method (code_methods code) (class_count (filled_pages source)) ≤ m
       → (program_of classes).method m ≡ None
+
+-- those of a translation without a meter
+abbrev pub IsLinked : Source → Text → ℕ → Built → Type 0
+IsLinked = IsLinkedBy None

@@ -1,5 +1,5 @@
 -- How the program of a translation makes its memory and begins.
-use Rattle.std.specs.Prelude.{◌≡◌, ◌≢◌, ℕ, ◌+◌, ◌*◌, ◌<◌, ◌≤◌, Bool, true, List}
+use Rattle.std.specs.Prelude.{◌≡◌, ◌≢◌, ℕ, ◌+◌, ◌*◌, ◌<◌, ◌≤◌, Bool, true, List, Option}
 use Rattle.elf_image.specs.Start.{Source, image_of, readable, writable}
 use Rattle.image_parts.specs.declared.page_run.PageRun.{PageRun}
 use Rattle.image_parts.specs.Pages.{page_words}
@@ -22,15 +22,15 @@ pub record TakesNoPart (source : Source) (code : List Placed) (m : ℕ) : Type 0
       → first_method (code_methods code) k ≢ m
   pub fills : (k : ℕ) → k < class_count (filled_pages source) → fill_of (code_methods code) k ≢ m
 
--- A program begins as a source does and makes its memory, in a region of so many words, from texts that tell these runs of pages. A method m
--- takes no part in it. It takes some 42,057 instructions a page.
-pub record LoadsSource (source : Source) (code : List Placed) (program : Program) (words m : ℕ)
-    (texts : List ℕ) (runs : List PageRun) : Type 0 where
+-- A program begins as a source does, with a meter or without, and makes its memory, in a region of so many words, from texts that tell these runs of
+-- pages. A method m takes no part in it. It takes some 42,057 instructions a page.
+pub record LoadsSource (meter : Option ℕ) (source : Source) (code : List Placed) (program : Program)
+    (words m : ℕ) (texts : List ℕ) (runs : List PageRun) : Type 0 where
   -- its methods that fill pages, each with the texts and the pages that it fills
   pub fillers : List Filler
   -- its first method makes the memory and begins as the source does
-  pub begins : IsProgram program run_number m choose_number pages_number (beginning_of source)
-      texts fillers
+  pub begins : IsProgram program run_number m choose_number pages_number meter
+      (beginning_of source) texts fillers
   -- what it makes is the source's memory: which pages can be read and written, and their words
   pub makes : MakesMemory program words m pages_number texts (run_shares text_runs runs) fillers
       (readable source) (writable source) (page_words source)

@@ -1,5 +1,5 @@
 -- The methods of a translation as those of a program that translates a guest's code.
-use Rattle.std.specs.Prelude.{◌≡◌, ℕ, List}
+use Rattle.std.specs.Prelude.{◌≡◌, ℕ, Bool, List}
 use Rattle.std.specs.List.{AllZip}
 use Rattle.delay_slots.specs.Units.{units_of}
 use Rattle.elf_image.specs.Start.{Source, image_of}
@@ -13,6 +13,7 @@ use Rattle.program_translation.specs.Classes.{Placed}
 -- a class of a translation, whose range has these words
 abbrev pub class_of : Placed → List ℕ → CodeClass
 class_of p words = record {
+  metered = p.part.metered;
   start = p.part.start;
   words = words;
   leads = flagged p.part.leads.now;
@@ -28,11 +29,12 @@ pub record IsClassOf (p : Placed) (c : CodeClass) : Type 0 where
   -- its units are those of the range's words
   pub units_are : p.part.units.now ≡ units_of c.words
 
--- The classes of code of a translation are the classes of a program, which is a translation of the source's code.
-pub record Stands (source : Source) (placed : List Placed) (program : Program) : Type 0 where
+-- The classes of code of a translation are the classes of a program, which is a translation of the source's code, with a meter or without.
+pub record Stands (metered : Bool) (source : Source) (placed : List Placed) (program : Program)
+    : Type 0 where
   -- the classes as the laws of translated programs have them, one for each class of code
   pub classes : List CodeClass
   pub classes_are : AllZip IsClassOf placed classes
   -- the program has their methods, the helpers, and those that choose
-  pub translated : IsTranslated program (image_of source).order choose_number missing_number classes
-      (image_of source).code
+  pub translated : IsTranslated metered program (image_of source).order choose_number missing_number
+      classes (image_of source).code

@@ -229,8 +229,8 @@ pub record IsWarm (source : Source) (layout : Layout) (program : Program) : Type
   -- the classes of code, with the words that begin the blocks of their ranges
   pub classes : List CodeClass
   -- the program has their methods, the helpers, and those that choose
-  pub translated : IsTranslated program (image_of source).order choose_number missing_number classes
-      (image_of source).code
+  pub translated : IsTranslated false program (image_of source).order choose_number missing_number
+      classes (image_of source).code
   -- the flags of a class are those of the words that begin blocks
   pub leaders : (n : ℕ) (c : CodeClass) → slice_get classes n ≡ Some c → (k : ℕ)
       → k < length c.words

@@ -1,11 +1,12 @@
 //! That the classes of a translation do what the program does. Each call here does nothing: its contract is the law.
 
-ghost use Rattle.std.specs.Prelude.{ℕ, ◌≤◌};
+ghost use Rattle.std.specs.Prelude.{ℕ, ◌^◌, ◌<◌, ◌≤◌, Some};
 ghost use Rattle.nv_words.specs.Words.{IsWord};
 ghost use Rattle.command_values.specs.Names.{IsClassName, Text};
 ghost use Rattle.program_translation.specs.declared.built.Built.{Built};
-ghost use Rattle.program_translation.specs.Translation.{IsTranslation};
-ghost use Rattle.nv_translate.specs.Images.{OfTranslations};
+ghost use Rattle.program_translation.specs.Translation.{IsTranslation, IsTranslationBy};
+ghost use Rattle.nv_translate.specs.Images.{IsImage, OfTranslations};
+ghost use Rattle.nv_translate.specs.Metered.{TranslatedMetered};
 ghost use Rattle.nv_translate.specs.Running.{RunsAlike};
 ghost use Rattle.nv_translate.specs.Translated.{Translated};
 
@@ -16,6 +17,7 @@ use crate::entered_translations::translations_go_on;
 use crate::linked_translations::translations_link;
 use crate::repeated_translations::translations_run_again;
 use crate::sized_translations::{translated_spans_are_least, translated_spans_keep_to_the_limit};
+use crate::stopped_translations::{metered_translations_have_no_blocks, metered_translations_stop};
 use crate::translated_loading::{others_do_not_load, translations_load};
 use crate::translated_methods::translations_stand;
 use crate::warm_translations::translations_are_warm;
@@ -41,9 +43,7 @@ pub fn images_are_translated(image: &Image)
         → IsTranslation image.now name method_bytes built
         → Translated image.now name method_bytes built }
 {
-    image.laws();
-    let _mapped = image.mapped();
-    is_word(image.entry());
+    is_image(image);
     translations_link();
     translations_are_accepted();
     translations_are_sets();
@@ -55,6 +55,32 @@ pub fn images_are_translated(image: &Image)
     translations_go_on();
     translations_count_alike();
     translations_are_warm();
+}
+
+/// So is every translation of an image with a meter: its classes are accepted, run as the image's program does, and stop by the meter.
+pub fn metered_images_are_translated(image: &Image)
+    ensures { (name : Text) (method_bytes turns : ℕ) (built : Built)
+        → IsClassName name → 4096 ≤ method_bytes → turns < 2 ^ 31
+        → IsTranslationBy (Some turns) image.now name method_bytes built
+        → TranslatedMetered image.now name method_bytes turns built }
+{
+    is_image(image);
+    translations_link();
+    translations_are_accepted();
+    translations_are_sets();
+    translated_spans_keep_to_the_limit();
+    translated_spans_are_least();
+    metered_translations_have_no_blocks();
+    metered_translations_stop();
+}
+
+// It does nothing: an image is so by its laws.
+fn is_image(image: &Image)
+    ensures { IsImage image.now }
+{
+    image.laws();
+    let _mapped = image.mapped();
+    is_word(image.entry());
 }
 
 // It does nothing: an address that code has at hand is a word.

@@ -9,8 +9,10 @@ pub mod entered_translations;
 pub mod laws;
 mod layouts;
 pub mod linked_translations;
+mod metered_translation;
 pub mod repeated_translations;
 pub mod sized_translations;
+pub mod stopped_translations;
 pub mod translated_loading;
 pub mod translated_methods;
 pub mod translated_types;
@@ -18,7 +20,8 @@ mod translation;
 pub mod warm_translations;
 
 pub use layouts::layouts_are_one;
+pub use metered_translation::translate_metered;
 pub use program_translation::{
-    BlockInfo, Built, Layout, NamedFile, NoMemory, SpanInfo, allow, need,
+    BlockInfo, Built, Layout, NamedFile, NoMemory, SpanInfo, allow, meter_allow, need,
 };
 pub use translation::translate;

@@ -1,21 +1,21 @@
 //! How many bytes of code the methods of a translation's spans have, and how few spans there are. Each call here does nothing: its contract is
 //! the law.
 
-ghost use Rattle.std.specs.Prelude.{ℕ, List};
+ghost use Rattle.std.specs.Prelude.{ℕ, Bool, List, Option};
 ghost use Rattle.command_values.specs.Names.{Text};
 ghost use Rattle.elf_image.specs.Start.{Source};
 ghost use Rattle.jvm_link.specs.Linking.{program_of};
 ghost use Rattle.program_translation.specs.Classes.{Placed, AreCodeClasses};
 ghost use Rattle.program_translation.specs.declared.built.Built.{Built};
-ghost use Rattle.nv_translate.specs.Linked.{IsLinked};
+ghost use Rattle.nv_translate.specs.Linked.{IsLinkedBy};
 ghost use Rattle.nv_translate.specs.Sizes.{AreLeast, AreSized};
 
 use code_limits::size_laws::divided_words_keep_to_the_limit;
 
 /// The method of each span of a linked translation has at most as many bytes of code as a method may have.
 pub fn translated_spans_keep_to_the_limit()
-    ensures { (source : Source) (name : Text) (method_bytes : ℕ) (built : Built)
-        → (l : IsLinked source name method_bytes built)
+    ensures { (meter : Option ℕ) (source : Source) (name : Text) (method_bytes : ℕ) (built : Built)
+        → (l : IsLinkedBy meter source name method_bytes built)
         → AreSized method_bytes l.code (program_of l.classes) }
 {
     divided_words_keep_to_the_limit();
@@ -23,6 +23,6 @@ pub fn translated_spans_keep_to_the_limit()
 
 /// There are as few spans as there can be, by the weights of words.
 pub fn translated_spans_are_least()
-    ensures { (source : Source) (method_bytes : ℕ) (code : List Placed)
-        → AreCodeClasses source method_bytes code → AreLeast method_bytes code }
+    ensures { (metered : Bool) (source : Source) (method_bytes : ℕ) (code : List Placed)
+        → AreCodeClasses metered source method_bytes code → AreLeast method_bytes code }
 {}

@@ -1,6 +1,6 @@
 //! How a linked translation loads. Each call here does nothing: its contract is the law.
 
-ghost use Rattle.std.specs.Prelude.{ℕ, ◌<◌, ◌≤◌, List};
+ghost use Rattle.std.specs.Prelude.{ℕ, ◌<◌, ◌≤◌, Bool, List, Option};
 ghost use Rattle.command_values.specs.Names.{Text};
 ghost use Rattle.elf_image.specs.Start.{Source, image_of};
 ghost use Rattle.jvm_link.specs.Linking.{program_of};
@@ -10,20 +10,21 @@ ghost use Rattle.program_translation.specs.DataFiles.{class_count, filled_pages,
 ghost use Rattle.program_translation.specs.declared.built.Built.{Built};
 ghost use Rattle.program_translation.specs.Bounds.{need};
 ghost use Rattle.program_translation.specs.Translation.{code_methods};
-ghost use Rattle.nv_translate.specs.Linked.{IsLinked};
+ghost use Rattle.nv_translate.specs.Linked.{IsLinkedBy};
 ghost use Rattle.nv_translate.specs.MappedPages.{HasMappedPages};
 ghost use Rattle.nv_translate.specs.Loading.{TakesNoPart, LoadsSource};
 
 use method_splitter::share_laws::shares_are_all;
 use running_laws::{images_are_pages, loading_takes, shares_tell_runs};
 
-/// A linked translation of a program that was accepted makes that program's memory and begins as it does, in a region of as many words as are
+/// A linked translation, with a meter or without, of a program that was accepted makes that program's memory and begins as it does, in a region of as many words as are
 /// needed, and no method that takes no part is run meanwhile.
 pub fn translations_load()
-    ensures { (source : Source) (name : Text) (method_bytes : ℕ) (built : Built)
-        → HasMappedPages source → (l : IsLinked source name method_bytes built)
+    ensures { (meter : Option ℕ) (source : Source) (name : Text) (method_bytes : ℕ) (built : Built)
+        → HasMappedPages source → (l : IsLinkedBy meter source name method_bytes built)
         → (words m : ℕ) → need (image_of source).mapped ≤ words → TakesNoPart source l.code m
-        → LoadsSource source l.code (program_of l.classes) words m l.texts l.main.runs.now }
+        → LoadsSource meter source l.code (program_of l.classes) words m l.texts
+        l.main.runs.now }
 {
     shares_are_all();
     shares_tell_runs();
@@ -36,8 +37,8 @@ pub fn others_do_not_load()
     ensures code { (source : Source) (code : List Placed) (m : ℕ)
         → main_methods ≤ m → m < code_methods code
         → TakesNoPart source code m }
-    ensures behind { (source : Source) (method_bytes : ℕ) (code : List Placed) (m : ℕ)
-        → AreCodeClasses source method_bytes code
+    ensures behind { (metered : Bool) (source : Source) (method_bytes : ℕ) (code : List Placed) (m : ℕ)
+        → AreCodeClasses metered source method_bytes code
         → first_method (code_methods code) (class_count (filled_pages source)) ≤ m
         → TakesNoPart source code m }
 {}

@@ -1,19 +1,19 @@
 //! How the methods of a translation stand in its program. Each call here does nothing: its contract is the law.
 
-ghost use Rattle.std.specs.Prelude.{ℕ, ◌≤◌};
+ghost use Rattle.std.specs.Prelude.{ℕ, ◌≤◌, Option, is_some};
 ghost use Rattle.command_values.specs.Names.{Text};
 ghost use Rattle.elf_image.specs.Start.{Source};
 ghost use Rattle.jvm_link.specs.Linking.{program_of};
 ghost use Rattle.program_translation.specs.declared.built.Built.{Built};
-ghost use Rattle.nv_translate.specs.Linked.{IsLinked};
+ghost use Rattle.nv_translate.specs.Linked.{IsLinkedBy};
 ghost use Rattle.nv_translate.specs.AcceptedCode.{HasAcceptedCode};
 ghost use Rattle.nv_translate.specs.Standing.{Stands};
 
-/// The methods of a linked translation of a program that was accepted, whose spans may have 4,096 bytes or more, are those of a program
-/// that translates the program's code.
+/// The methods of a linked translation, with a meter or without, of a program that was accepted, whose spans may have 4,096 bytes or more, are
+/// those of a program that translates the program's code.
 pub fn translations_stand()
-    ensures { (source : Source) (name : Text) (method_bytes : ℕ) (built : Built)
+    ensures { (meter : Option ℕ) (source : Source) (name : Text) (method_bytes : ℕ) (built : Built)
         → HasAcceptedCode source → 4096 ≤ method_bytes
-        → (l : IsLinked source name method_bytes built)
-        → Stands source l.code (program_of l.classes) }
+        → (l : IsLinkedBy meter source name method_bytes built)
+        → Stands (is_some meter) source l.code (program_of l.classes) }
 {}

@@ -1,5 +1,5 @@
 -- The main class of a translation asks for the other classes, in order, and no class asks for more.
-use Rattle.std.proofs.Common.{◌≡◌, ℕ, suc, ◌+◌, ◌<◌, ◌≤◌, Bool, true, false, ◌&&◌, List, [], ◌∷◌, ◌++◌, map, length, Some, None, refl, sym, ap, subst, ◌∙◌, slice_get, length-append, arith}
+use Rattle.std.proofs.Common.{◌≡◌, ℕ, suc, ◌+◌, ◌<◌, ◌≤◌, Bool, true, false, ◌&&◌, List, [], ◌∷◌, ◌++◌, map, length, Option, Some, None, refl, sym, ap, subst, ◌∙◌, slice_get, length-append, arith}
 use Rattle.std.specs.Prelude.{codes, not, nat_lt, unwrap_or, decimal}
 use Rattle.std.specs.List.{AllZip, IsDistinct, list_all, range_with_len}
 use Rattle.std.proofs.lemmas.Bool.{and_parts, or_from, true≢false}
@@ -14,17 +14,18 @@ use Rattle.name_resolution.specs.Faults.{twice_fault}
 use Rattle.class_set.specs.ClassSets.{is_among, names_asked}
 use Rattle.class_set.specs.Waiting.{fresh}
 use Rattle.guest_layout.specs.ClassNames.{code_class_name, data_class_name, span_name}
-use Rattle.guest_layout.specs.Fields.{field_name, field_descriptor}
 use Rattle.guest_layout.specs.Helpers.{helper_name, helper_descriptor}
 use Rattle.guest_layout.specs.Numbers.{main_methods}
 use Rattle.class_builder.specs.Sound.{IsPool}
-use Rattle.class_builder.specs.Mentioned.{OfClass, method_mention, field_mention, classes_among}
+use Rattle.class_builder.specs.Mentioned.{OfClass, method_mention, classes_among}
 use Rattle.class_builder.proofs.Classes.{class-parts}
+use Rattle.whole_methods.specs.Naming.{fields_of}
 use Rattle.program_classes.specs.Making.{nothing}
 use Rattle.program_classes.specs.Mentioned.{called}
 use Rattle.program_classes.specs.declared.content.MainClass.{MainClass}
 use Rattle.program_classes.specs.declared.other_class.OtherClass.TheVariants.{Code, Data}
 use Rattle.program_classes.specs.Called.{class_name}
+use Rattle.program_classes.specs.Content.{has_meter, main_fields}
 use Rattle.program_classes.specs.MainMentioned.{main_mentions}
 use Rattle.program_classes.proofs.MainClasses.ClassLemmas.{main-classes}
 use Rattle.program_classes.specs.CodeNaming.{code_mentions}
@@ -35,7 +36,7 @@ use Rattle.program_classes_laws.proofs.LinkedNumbers.Programs.{get-front, get-be
 use Rattle.program_translation.specs.declared.named_file.NamedFile.{NamedFile}
 use Rattle.program_translation.specs.Classes.{Placed, IsCodeFile}
 use Rattle.program_translation.specs.declared.built.Built.{Built}
-use Rattle.program_translation.specs.Translation.{IsTranslation}
+use Rattle.program_translation.specs.Translation.{IsTranslationBy}
 use Rattle.program_translation.proofs.Counts.PageLemmas.{data-few}
 use Rattle.nv_translate.specs.AcceptedCode.{HasAcceptedCode}
 use Rattle.nv_translate.proofs.LinkedTranslations.Lists.{mapped-get, mapped-length}
@@ -44,6 +45,7 @@ use Rattle.nv_translate.proofs.AcceptedTranslations.Asking.{asked_of, names-aske
 use Rattle.nv_translate.proofs.AcceptedTranslations.Few.{code-few}
 use Rattle.nv_translate.proofs.AcceptedTranslations.Mentions.{NamesPass, three, code-pass, data-pass, own-pass, main-pass}
 use Rattle.nv_translate.proofs.AcceptedTranslations.Classes.{IsSpelled, count, IsData, main-there, each-class}
+use Rattle.nv_translate.proofs.LinkedTranslations.Metered.{class-fields, fields-least}
 use Rattle.nv_translate.proofs.LinkedTranslations.Whole.{number-follows}
 use Rattle.nv_translate.proofs.AcceptedTranslations.Linking.{runs-long, fills-long}
 
@@ -69,11 +71,11 @@ no-array x is =
 
 -- ---- what every class names is known, if the main class is
 
-names-old : (known : List (List ℕ)) (name : List ℕ) → is_among known name ≡ true → NamesPass (is_old known) name
-names-old known name is = record {
+names-old : (known : List (List ℕ)) (name : List ℕ) (fields : ℕ) → is_among known name ≡ true → NamesPass (is_old known) name fields
+names-old known name fields is = record {
   class = old-known known name is;
   object = refl;
-  fields = pass-range (is_old known) (λ k. field_mention name (field_name k) (field_descriptor k)) 0 38 (λ k below. refl);
+  each_field = λ k below. refl;
   host = three (is_old known) name (OfClass host_name) (called host_name host_call_signature) (called host_name host_fault_signature) refl refl refl;
   string = three (is_old known) name (OfClass string_name) (called string_name length_signature) (called string_name char_at_signature) refl refl refl;
   ints = refl;
@@ -96,7 +98,7 @@ main-new name m =
 
 -- ---- the classes of a translation
 
-module _ (source : Source) (name : Text) (method_bytes : ℕ) (built : Built) (t : IsTranslation source name method_bytes built)
+module _ {meter : Option ℕ} (source : Source) (name : Text) (method_bytes : ℕ) (built : Built) (t : IsTranslationBy meter source name method_bytes built)
     (classes : List Class) (spelled : AllZip IsSpelled built.files.items classes) where
   abbrev main : MainClass
   main = t.main_is.main
@@ -126,8 +128,8 @@ module _ (source : Source) (name : Text) (method_bytes : ℕ) (built : Built) (t
       among-there all_names (suc (length code_names + k)) (data_class_name name k)
       (get-behind code_names data_names k ∙ mapped-get (data_class_name name) data_classes k below)
 
-  all-old : NamesPass (is_old all_names) name
-  all-old = names-old all_names name (among-there all_names 0 name refl)
+  all-old : NamesPass (is_old all_names) name (main_fields main)
+  all-old = names-old all_names name (main_fields main) (among-there all_names 0 name refl)
 
   sound : (bytes : List ℕ) (c : Class) → Spells bytes c → IsPool c.pool
   sound bytes c spells = (class-parts c spells.fits).pool_is
@@ -139,7 +141,7 @@ module _ (source : Source) (name : Text) (method_bytes : ℕ) (built : Built) (t
       let fills = fills-long source name method_bytes built t classes spelled in
       names-asked is.class (main_mentions name main) (sound t.main_file.bytes.items is.class is.spells) is.mentions all_names
       ∙ nothing-asked all_names (main_mentions name main)
-      (main-pass (is_old all_names) name all-old main (own-pass (is_old all_names) name all-old refl refl refl)
+      (main-pass (is_old all_names) name main all-old (own-pass (is_old all_names) name (main_fields main) all-old refl refl refl)
       (λ i below. record { class = old-known all_names (code_class_name name i) (code-among i (omega (arith, below, runs))); method = refl })
       (λ k below. record { class = old-known all_names (data_class_name name k) (data-among k (omega (arith, below, fills))); method = refl }))
 
@@ -150,9 +152,10 @@ module _ (source : Source) (name : Text) (method_bytes : ℕ) (built : Built) (t
       let number : c.number ≡ i = number-follows 0 main_methods t.code t.code_is.placed.follow i c at ∙ none in
       let own = code_class_name name c.number in
       let there : is_among all_names own ≡ true = subst (λ j. is_among all_names (code_class_name name j) ≡ true) (sym number) (code-among i below) in
-      names-asked is.class.class (code_mentions own name (length c.spans)) (sound file.bytes.items is.class.class is.class.spells) is.class.mentions all_names
-      ∙ nothing-asked all_names (code_mentions own name (length c.spans))
-      (code-pass (is_old all_names) name all-old own (length c.spans) (old-known all_names own there)
+      names-asked is.class.class (code_mentions (fields_of c.part.metered) own name (length c.spans)) (sound file.bytes.items is.class.class is.class.spells) is.class.mentions all_names
+      ∙ nothing-asked all_names (code_mentions (fields_of c.part.metered) own name (length c.spans))
+      (code-pass (is_old all_names) name (main_fields main) (fields_of c.part.metered) all-old
+      (class-fields source method_bytes t.code t.code_is main t.main_is.content.meter_is i c at) own (length c.spans) (old-known all_names own there)
       (pass-range (is_old all_names) (λ k. method_mention own (span_name k) nothing) 0 (length c.spans) (λ k low. refl)))
 
   data-nothing : (k : ℕ) (file : NamedFile) (is : IsData source name method_bytes built t classes spelled k file) → k < data_classes
@@ -161,7 +164,7 @@ module _ (source : Source) (name : Text) (method_bytes : ℕ) (built : Built) (t
       let own = data_class_name name k in
       names-asked is.class_is.class (data_mentions own name) (sound file.bytes.items is.class_is.class is.class_is.spells) is.class_is.mentions all_names
       ∙ nothing-asked all_names (data_mentions own name)
-      (data-pass (is_old all_names) name all-old own (old-known all_names own (data-among k below)) refl)
+      (data-pass (is_old all_names) name (main_fields main) all-old (fields-least (has_meter main)) own (old-known all_names own (data-among k below)) refl)
 
   pub nothing-new : (n : ℕ) (d : Class) → slice_get classes n ≡ Some d → fresh all_names (names_asked d) ≡ []
   nothing-new n d at =

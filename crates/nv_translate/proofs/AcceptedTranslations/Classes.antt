@@ -1,5 +1,5 @@
 -- The classes that the files of a translation spell are the main class, the classes of code and those of data.
-use Rattle.std.proofs.Common.{◌≡◌, ℕ, zero, suc, ◌+◌, ◌<◌, List, ◌∷◌, ◌++◌, length, Some, refl, sym, ap, subst, ◌∙◌, slice_get, inl, inr}
+use Rattle.std.proofs.Common.{◌≡◌, ℕ, zero, suc, ◌+◌, ◌<◌, List, ◌∷◌, ◌++◌, length, Option, Some, refl, sym, ap, subst, ◌∙◌, slice_get, inl, inr}
 use Rattle.std.specs.List.{AllZip, range_with_len}
 use Rattle.std.proofs.lemmas.List.FromFn.{length-range_with_len}
 use Rattle.std.proofs.lemmas.Slice.Zip.{AllZip-long}
@@ -13,7 +13,7 @@ use Rattle.program_translation.specs.declared.named_file.NamedFile.{NamedFile}
 use Rattle.program_translation.specs.Classes.{Placed, IsCodeFile}
 use Rattle.program_translation.specs.DataFiles.{IsDataFile, class_count, filled_pages}
 use Rattle.program_translation.specs.declared.built.Built.{Built}
-use Rattle.program_translation.specs.Translation.{IsTranslation, code_methods}
+use Rattle.program_translation.specs.Translation.{IsTranslationBy, code_methods}
 use Rattle.nv_translate.proofs.LinkedTranslations.Lists.{zip-first, zip-second, range-first, range-below, get-either}
 
 abbrev pub IsSpelled : NamedFile → Class → Type 0
@@ -26,7 +26,7 @@ class-of files classes spelled n f c at is =
     let found = zip-first IsSpelled files classes n f spelled at in
     found.1 ∙ ap (λ d. Some d) (same_class f.bytes.items c found.0 is found.2)
 
-module _ (source : Source) (name : Text) (method_bytes : ℕ) (built : Built) (t : IsTranslation source name method_bytes built)
+module _ {meter : Option ℕ} (source : Source) (name : Text) (method_bytes : ℕ) (built : Built) (t : IsTranslationBy meter source name method_bytes built)
     (classes : List Class) (spelled : AllZip IsSpelled built.files.items classes) where
   abbrev pub main_class : Class
   main_class = t.main_is.class_is.class

@@ -1,5 +1,5 @@
 -- The classes of a translation link.
-use Rattle.std.proofs.Common.{◌≡◌, ℕ, zero, suc, ◌+◌, ◌<◌, ◌≤◌, true, List, [], ◌∷◌, ◌++◌, length, Some, None, refl, ap, subst, ◌∙◌, slice_get, length-append, arith}
+use Rattle.std.proofs.Common.{◌≡◌, ℕ, zero, suc, ◌+◌, ◌<◌, ◌≤◌, true, List, [], ◌∷◌, ◌++◌, length, Option, Some, None, refl, ap, subst, ◌∙◌, slice_get, length-append, arith}
 use Rattle.std.specs.Prelude.{codes}
 use Rattle.std.specs.List.{AllZip}
 use Rattle.std.proofs.lemmas.List.{length-map}
@@ -13,9 +13,11 @@ use Rattle.name_resolution.specs.Faults.{entry_fault, run_signature, twice_fault
 use Rattle.guest_layout.specs.ClassNames.{code_class_name, data_class_name}
 use Rattle.guest_layout.specs.Numbers.{main_methods}
 use Rattle.class_builder.specs.Mentioned.{OfClass, method_mention}
+use Rattle.whole_methods.specs.Naming.{fields_of}
 use Rattle.program_classes.specs.Making.{nothing}
 use Rattle.program_classes.specs.declared.content.MainClass.{MainClass}
 use Rattle.program_classes.specs.declared.other_class.OtherClass.TheVariants.{Code, Data}
+use Rattle.program_classes.specs.Content.{has_meter, main_fields}
 use Rattle.program_classes.specs.MainMentioned.{main_mentions}
 use Rattle.program_classes.specs.CodeNaming.{code_mentions}
 use Rattle.program_classes.specs.DataNaming.{data_mentions}
@@ -24,10 +26,11 @@ use Rattle.program_translation.specs.Classes.{Placed, IsCodeFile, run_of}
 use Rattle.program_translation.specs.DataFiles.{class_number, filled_pages, first_method, pages_of_class, fill_of}
 use Rattle.program_translation.specs.declared.named_file.NamedFile.{NamedFile}
 use Rattle.program_translation.specs.declared.built.Built.{Built}
-use Rattle.program_translation.specs.Translation.{IsTranslation, code_methods}
+use Rattle.program_translation.specs.Translation.{IsTranslationBy, code_methods}
 use Rattle.program_translation.proofs.Counts.PageLemmas.{data-few}
 use Rattle.nv_translate.specs.AcceptedCode.{HasAcceptedCode}
 use Rattle.nv_translate.proofs.LinkedTranslations.Lists.{mapped-length}
+use Rattle.nv_translate.proofs.LinkedTranslations.Metered.{class-fields, fields-least}
 use Rattle.nv_translate.proofs.LinkedTranslations.Whole.{number-follows}
 use Rattle.nv_translate.proofs.AcceptedTranslations.Meant.{is_meant, entries-meant}
 use Rattle.nv_translate.proofs.AcceptedTranslations.Few.{code-few}
@@ -53,7 +56,7 @@ links-from (d ∷ others) c k first few once each run =
     let one : c ≡ d = cc in
     links d others k few once each (subst (λ (x : Class). slice_get (methods_of x) k ≡ Some run_signature) one run)
 
-module _ (source : Source) (name : Text) (method_bytes : ℕ) (built : Built) (t : IsTranslation source name method_bytes built)
+module _ {meter : Option ℕ} (source : Source) (name : Text) (method_bytes : ℕ) (built : Built) (t : IsTranslationBy meter source name method_bytes built)
     (classes : List Class) (spelled : AllZip IsSpelled built.files.items classes) where
   abbrev main : MainClass
   main = t.main_is.main
@@ -83,7 +86,7 @@ module _ (source : Source) (name : Text) (method_bytes : ℕ) (built : Built) (t
     there : slice_get classes 0 ≡ Some t.main_is.class_is.class
     there = main-there source name method_bytes built t classes spelled
 
-    names : NamesPass (is_meant classes) name
+    names : NamesPass (is_meant classes) name (main_fields main)
     names = names-meant name main t.main_file.bytes.items t.main_is.class_is classes once there
 
     code-other : (i : ℕ) → i < 0 + length main.code.now → OtherPasses (is_meant classes) name Code i
@@ -124,13 +127,14 @@ module _ (source : Source) (name : Text) (method_bytes : ℕ) (built : Built) (t
     main-entries : (slot : ℕ) (e : Entry) → slice_get t.main_is.class_is.class.pool slot ≡ Some e → entry_fault classes t.main_is.class_is.class e ≡ None
     main-entries =
         entries-meant classes t.main_is.class_is.class (main_mentions name main) t.main_is.class_is.mentions
-        (main-pass (is_meant classes) name names main (own-meant name main t.main_file.bytes.items t.main_is.class_is classes once there) code-other data-other)
+        (main-pass (is_meant classes) name main names (own-meant name main t.main_file.bytes.items t.main_is.class_is classes once there) code-other data-other)
 
     code-entries : (i : ℕ) (c : Placed) (file : NamedFile) (is : IsCodeFile name c file) → slice_get t.code i ≡ Some c
         → slice_get classes (suc i) ≡ Some is.class.class → (slot : ℕ) (e : Entry) → slice_get is.class.class.pool slot ≡ Some e → entry_fault classes is.class.class e ≡ None
     code-entries i c file is at stands =
-        entries-meant classes is.class.class (code_mentions (code_class_name name c.number) name (length c.spans)) is.class.mentions
-        (code-meant name c file.bytes.items is.class classes once (suc i) stands names)
+        entries-meant classes is.class.class (code_mentions (fields_of c.part.metered) (code_class_name name c.number) name (length c.spans)) is.class.mentions
+        (code-meant name c file.bytes.items is.class classes once (suc i) stands (main_fields main) names
+        (class-fields source method_bytes t.code t.code_is main t.main_is.content.meter_is i c at))
 
     data-entries : (k : ℕ) (file : NamedFile) (is : IsData source name method_bytes built t classes spelled k file)
         → k < count source name method_bytes built t classes spelled → slice_get classes (suc (length t.code_files + k)) ≡ Some is.class_is.class
@@ -138,7 +142,7 @@ module _ (source : Source) (name : Text) (method_bytes : ℕ) (built : Built) (t
     data-entries k file is below stands =
         entries-meant classes is.class_is.class (data_mentions (data_class_name name k) name) is.class_is.mentions
         (data-meant name k (number_of k) (first_of k) (pages_of_class (filled_pages source) k) file.bytes.items is.class_is classes once
-        (suc (length t.code_files + k)) stands names)
+        (suc (length t.code_files + k)) stands (main_fields main) names (fields-least (has_meter main)))
 
     entries : (n slot : ℕ) (d : Class) (e : Entry) → slice_get classes n ≡ Some d → slice_get d.pool slot ≡ Some e → entry_fault classes d e ≡ None
     entries n slot d e at here =

@@ -11,9 +11,10 @@ use Rattle.guest_layout.specs.Helpers.{helper_name, helper_descriptor}
 use Rattle.code_assembly.specs.declared.references.References.{References}
 use Rattle.class_builder.specs.Mentioned.{OfClass, method_mention, field_mention}
 use Rattle.program_classes.specs.Making.{Plan}
-use Rattle.program_classes.specs.Mentioned.{called, field_mentions, helper_mentions}
+use Rattle.program_classes.specs.Mentioned.{called, helper_mentions}
 use Rattle.program_classes.specs.Tables.{references_of}
 use Rattle.program_classes.specs.declared.content.MainClass.{MainClass}
+use Rattle.program_classes.specs.Content.{has_meter, main_fields}
 use Rattle.program_classes.specs.MainMentioned.{own_mentions}
 use Rattle.program_classes.specs.Main.{IsMainClass, helper_plan, helper_plans, run_plan, choose_plan, pages_plan, missing_plan, other_plans, main_plans}
 use Rattle.program_classes_laws.specs.Planned.{planned, numbered}
@@ -54,23 +55,22 @@ module _ (name : List ℕ) (main : MainClass) (bytes : List ℕ) (is : IsMainCla
     other-meant : (k : ℕ) (p : Plan) → slice_get (other_plans main is.texts by) k ≡ Some p → is_meant classes (method_mention name p.name p.descriptor) ≡ true
     other-meant k p at = planned-meant classes once 0 is.class there name is.named plans is.methods (20 + k) p (other-at k p at)
 
-    fields-pass : list_all (is_meant classes) (field_mentions name 38) ≡ true
-    fields-pass =
-        pass-range (is_meant classes) (λ k. field_mention name (field_name k) (field_descriptor k)) 0 38 (λ k below.
+    each-field : (k : ℕ) → k < main_fields main → is_meant classes (field_mention name (field_name k) (field_descriptor k)) ≡ true
+    each-field k below =
         field-meant classes once 0 is.class there name is.named k (signature (field_name k) (field_descriptor k))
-        (ap (λ (fs : List Signature). slice_get fs k) (fields-made is.class field_name field_descriptor is.class.fields (range_with_len 0 38) is.fields_are)
-        ∙ mapped-get (numbered field_name field_descriptor) 38 k below))
+        (ap (λ (fs : List Signature). slice_get fs k) (fields-made is.class field_name field_descriptor is.class.fields (range_with_len 0 (main_fields main)) is.fields_are)
+        ∙ mapped-get (numbered field_name field_descriptor) (main_fields main) k below)
 
     helpers-pass : list_all (is_meant classes) (helper_mentions name 20) ≡ true
     helpers-pass =
         pass-range (is_meant classes) (λ k. method_mention name (helper_name k) (helper_descriptor k)) 0 20 (λ k below.
         planned-meant classes once 0 is.class there name is.named plans is.methods k (helper_plan main.beginning.order by k) (helper-at k below))
 
-    pub names-meant : NamesPass (is_meant classes) name
+    pub names-meant : NamesPass (is_meant classes) name (main_fields main)
     names-meant = record {
       class = class-meant classes once 0 is.class there name is.named;
       object = object-meant classes once;
-      fields = fields-pass;
+      each_field = each-field;
       host =
           three (is_meant classes) name (OfClass host_name) (called host_name host_call_signature) (called host_name host_fault_signature)
           (host-meant classes once) (call-meant classes once) (fault-meant classes once);
@@ -83,5 +83,5 @@ module _ (name : List ℕ) (main : MainClass) (bytes : List ℕ) (is : IsMainCla
 
     pub own-meant : list_all (is_meant classes) (own_mentions name) ≡ true
     own-meant =
-        own-pass (is_meant classes) name names-meant (other-meant 1 (choose_plan main by) refl) (other-meant 2 (pages_plan by) refl)
-        (other-meant 3 (missing_plan by) refl)
+        own-pass (is_meant classes) name (main_fields main) names-meant (other-meant 1 (choose_plan main by) refl) (other-meant 2 (pages_plan by) refl)
+        (other-meant 3 (missing_plan (has_meter main) by) refl)

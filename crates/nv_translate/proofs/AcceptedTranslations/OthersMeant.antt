@@ -1,5 +1,5 @@
 -- The classes of code and of data have the methods that their plans name.
-use Rattle.std.proofs.Common.{◌≡◌, ℕ, ◌+◌, ◌<◌, true, List, [], ◌∷◌, ◌++◌, length, Some, None, refl, slice_get, arith}
+use Rattle.std.proofs.Common.{◌≡◌, ℕ, ◌+◌, ◌<◌, ◌≤◌, true, List, [], ◌∷◌, ◌++◌, length, Some, None, refl, slice_get, arith}
 use Rattle.std.specs.Prelude.{codes}
 use Rattle.std.specs.List.{list_all}
 use Rattle.command_values.specs.Names.{Text}
@@ -9,6 +9,7 @@ use Rattle.name_resolution.specs.Faults.{twice_fault}
 use Rattle.guest_layout.specs.ClassNames.{code_class_name, data_class_name, span_name}
 use Rattle.code_assembly.specs.declared.references.References.{References}
 use Rattle.class_builder.specs.Mentioned.{OfClass, method_mention}
+use Rattle.whole_methods.specs.Naming.{fields_of}
 use Rattle.program_classes.specs.Making.{Plan, nothing}
 use Rattle.program_classes.specs.Tables.{references_of}
 use Rattle.program_classes.specs.Code.{IsCodeClass, span_plan, span_plans, run_plan}
@@ -52,9 +53,10 @@ module _ (name : Text) (c : Placed) (bytes : List ℕ) (is : IsCodeClass name c.
   code-run =
       planned-meant classes once n is.class there own is.named (spans ++ run ∷ []) is.methods (length spans + 0) run (get-behind spans (run ∷ []) 0)
 
-  pub code-meant : NamesPass (is_meant classes) name → list_all (is_meant classes) (code_mentions own name (length c.spans)) ≡ true
-  code-meant all =
-      code-pass (is_meant classes) name all own (length c.spans) code-class
+  pub code-meant : (fields : ℕ) → NamesPass (is_meant classes) name fields → fields_of c.part.metered ≤ fields
+      → list_all (is_meant classes) (code_mentions (fields_of c.part.metered) own name (length c.spans)) ≡ true
+  code-meant fields all few =
+      code-pass (is_meant classes) name fields (fields_of c.part.metered) all few own (length c.spans) code-class
       (pass-range (is_meant classes) (λ k. method_mention own (span_name k) nothing) 0 (length c.spans) span-meant)
 
 -- ---- a class of data
@@ -76,7 +78,7 @@ module _ (name : Text) (k number first : ℕ) (pages : List Page) (bytes : List 
   pub data-fill : is_meant classes (method_mention data_own (codes "fill") nothing) ≡ true
   data-fill = planned-meant classes once n is.class there data_own is.named data_plans is.methods 1 (fill_plan is.texts number first data_by) refl
 
-  pub data-meant : NamesPass (is_meant classes) name → list_all (is_meant classes) (data_mentions data_own name) ≡ true
-  data-meant all =
-      data-pass (is_meant classes) name all data_own data-class
+  pub data-meant : (fields : ℕ) → NamesPass (is_meant classes) name fields → 38 ≤ fields → list_all (is_meant classes) (data_mentions data_own name) ≡ true
+  data-meant fields all few =
+      data-pass (is_meant classes) name fields all few data_own data-class
       (planned-meant classes once n is.class there data_own is.named data_plans is.methods 0 (words_plan data_by) refl)

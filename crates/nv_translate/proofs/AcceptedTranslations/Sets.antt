@@ -1,5 +1,5 @@
 -- The classes of a translation are those that are loaded by the name of its main class.
-use Rattle.std.proofs.Common.{◌≡◌, ℕ, suc, ◌+◌, ◌≤◌, List, [], ◌∷◌, ◌++◌, map, length, Some, None, refl, sym, ap, subst, ◌∙◌, slice_get}
+use Rattle.std.proofs.Common.{◌≡◌, ℕ, suc, ◌+◌, ◌≤◌, List, [], ◌∷◌, ◌++◌, map, length, Option, Some, None, refl, sym, ap, subst, ◌∙◌, slice_get}
 use Rattle.std.specs.List.{AllZip, range_with_len}
 use Rattle.nv_outside.specs.Files.{Files}
 use Rattle.command_values.specs.Names.{Text, IsClassName}
@@ -17,7 +17,7 @@ use Rattle.program_translation.specs.declared.named_file.NamedFile.{NamedFile}
 use Rattle.program_translation.specs.Files.{name_of}
 use Rattle.program_translation.specs.Classes.{Placed, Follow, IsCodeFile, run_of}
 use Rattle.program_translation.specs.declared.built.Built.{Built}
-use Rattle.program_translation.specs.Translation.{IsTranslation}
+use Rattle.program_translation.specs.Translation.{IsTranslationBy}
 use Rattle.nv_translate.specs.AcceptedCode.{HasAcceptedCode}
 use Rattle.nv_translate.specs.Stored.{AreStored}
 use Rattle.nv_translate.proofs.AcceptedTranslations.Growing.{GivesClass, set-grown}
@@ -74,7 +74,7 @@ set-from files name rest main (c ∷ ds) fs gives there others f spelled few onc
     let one : main ≡ c = cc in
     set-grown files name rest main ds gives (others ds spelled.1) few once asks (λ k d at. nothing (suc k) d at) ∙ ap (λ (x : Class). Classes (x ∷ ds)) one
 
-module _ (source : Source) (name : Text) (method_bytes : ℕ) (built : Built) (t : IsTranslation source name method_bytes built)
+module _ {meter : Option ℕ} (source : Source) (name : Text) (method_bytes : ℕ) (built : Built) (t : IsTranslationBy meter source name method_bytes built)
     (classes : List Class) (spelled : AllZip IsSpelled built.files.items classes) where
   pub set-is : twice_fault [] 0 classes ≡ None → HasAcceptedCode source → IsClassName name → (files : Files) → AreStored files built.files.items
       → class_set files name ≡ Classes classes

@@ -1,5 +1,5 @@
 -- A linked translation beside its guest, and what is counted of both in terms of the layout.
-use Rattle.std.proofs.Common.{◌≡◌, ℕ, ◌+◌, ◌≤◌, Bool, List, refl, ap, subst}
+use Rattle.std.proofs.Common.{◌≡◌, ℕ, ◌+◌, ◌≤◌, Bool, false, List, None, refl, ap, subst}
 use Rattle.std.specs.List.{sum_by}
 use Rattle.nv_events.specs.Answer.{Answer, next_answer}
 use Rattle.nv_events.specs.Memory.{Memory}
@@ -12,69 +12,36 @@ use Rattle.image_parts.specs.Pages.{page_words}
 use Rattle.jvm_program.specs.declared.instruction.Instruction.{Instruction}
 use Rattle.jvm_program.specs.Program.{Program}
 use Rattle.jvm_link.specs.Linking.{program_of}
-use Rattle.guest_layout.specs.Numbers.{main_methods, run_number, choose_number, pages_number, missing_number}
 use Rattle.code_paths.specs.Classes.{reads, switches, entries, executed}
 use Rattle.code_paths.specs.Guest.{crossings, partial}
-use Rattle.running_laws.specs.LoadingCodeLaws.Loaded.{run_shares, paged}
+use Rattle.running_laws.specs.LoadingCodeLaws.Loaded.{paged}
 use Rattle.running_laws.specs.TrampolineLaws.Classes.{is_span, counted_spans}
 use Rattle.running_laws.specs.Translated as runs
 use Rattle.running_laws.specs.Translated.{TranslatedProgram, IsTranslatedProgram}
-use Rattle.program_classes.specs.Content.{text_runs}
-use Rattle.program_translation.specs.Classes.{Placed}
-use Rattle.program_translation.specs.DataFiles.{class_count, filled_pages, first_method}
-use Rattle.program_translation.specs.MainFile.{beginning_of}
-use Rattle.program_translation.specs.Translation.{code_methods}
 use Rattle.program_translation.specs.declared.built.Built.{Built}
 use Rattle.nv_translate.specs.Linked.{IsLinked}
 use Rattle.nv_translate.specs.Images.{IsImage}
 use Rattle.nv_translate.specs.Loading.{LoadsSource}
 use Rattle.nv_translate.specs.Standing.{Stands}
 use Rattle.nv_translate.specs.Counts.{layout_spans, is_span_method, guest_trail, class_trail, whole_class_trail}
-use Rattle.nv_translate.proofs.CountedTranslations.Spans.{number-within, spans-counted, spans-tested}
-use Rattle.nv_translate.proofs.TranslatedLoading.Others.{code-takes-no-part}
-
--- the number behind those of all methods
-abbrev pub behind_all : Source → List Placed → ℕ
-behind_all source code = first_method (code_methods code) (class_count (filled_pages source))
+use Rattle.nv_translate.proofs.CountedTranslations.Spans.{spans-counted, spans-tested}
+use Rattle.nv_translate.proofs.PairedTranslations.{behind_all, makers-none, paired}
 
 module _ (source : Source) (name : Text) (method_bytes : ℕ) (built : Built) (image : IsImage source) (l : IsLinked source name method_bytes built)
-    (stands : Stands source l.code (program_of l.classes)) (words : ℕ)
-    (loads : LoadsSource source l.code (program_of l.classes) words (behind_all source l.code) l.texts l.main.runs.now) where
+    (stands : Stands false source l.code (program_of l.classes)) (words : ℕ)
+    (loads : LoadsSource None source l.code (program_of l.classes) words (behind_all source l.code) l.texts l.main.runs.now) where
   abbrev program : Program
   program = program_of l.classes
 
-  -- ---- the program of classes, which is to run as the guest
+  abbrev pub plain : TranslatedProgram
+  plain = paired source name method_bytes built l stands words loads
 
-  abbrev pub paired : TranslatedProgram
-  paired = record {
-    program = program;
-    words = words;
-    beginning = beginning_of source;
-    order = (image_of source).order;
-    code = (image_of source).code;
-    readable = readable source;
-    writable = writable source;
-    page_words = page_words source;
-    own = run_number;
-    choose = choose_number;
-    missing = missing_number;
-    pages = pages_number;
-    apart = behind_all source l.code;
-    classes = stands.classes;
-    texts = l.texts;
-    shares = run_shares text_runs l.main.runs.now;
-    fillers = loads.fillers;
-  }
-
-  pub are-paired : IsTranslatedProgram paired
+  pub are-paired : IsTranslatedProgram plain
   are-paired = record {
     code_is = stands.translated;
     begins = loads.begins;
     memory_is = loads.makes;
-    makers_are_none = loads.others (is_span stands.classes)
-        (λ m is.
-        let within = number-within m l.code stands.classes stands.classes_are 0 main_methods l.code_is.placed.follow is in
-        code-takes-no-part source l.code m within.0 within.1);
+    makers_are_none = makers-none source name method_bytes built l stands words loads;
     order_is = refl;
     entry_word = image.entry;
   }
@@ -86,7 +53,7 @@ module _ (source : Source) (name : Text) (method_bytes : ℕ) (built : Built) (i
     guest_starts memory =
         guest.start (image_of source).order (image_of source).entry memory (image_of source).code (image_of source).heap_start (image_of source).heap_bytes
 
-    trails : runs.guest_trail paired m answers ≡ guest_trail source m answers
+    trails : runs.guest_trail plain m answers ≡ guest_trail source m answers
     trails = ap (λ memory. after_call guest_step.turn (trail_of guest_step.turn next_answer m (guest_starts memory) answers)) same
 
     spans : counted_spans stands.classes ≡ layout_spans built.layout
@@ -98,17 +65,17 @@ module _ (source : Source) (name : Text) (method_bytes : ℕ) (built : Built) (i
     abbrev crossed : ℕ
     crossed = crossings (layout_spans built.layout) (guest_trail source m answers)
 
-    crossed-is : crossings (counted_spans stands.classes) (runs.guest_trail paired m answers) ≡ crossed
+    crossed-is : crossings (counted_spans stands.classes) (runs.guest_trail plain m answers) ≡ crossed
     crossed-is = λ i. crossings (spans i) (trails i)
 
     -- what is counted of the classes
     abbrev sum_of : (Instruction → ℕ) → ℕ
     sum_of weight = sum_by (executed program weight) (class_trail program words m answers)
 
-    pub counted-reads : sum_of reads ≤ partial (runs.guest_trail paired m answers) → sum_of reads ≤ partial (guest_trail source m answers)
+    pub counted-reads : sum_of reads ≤ partial (runs.guest_trail plain m answers) → sum_of reads ≤ partial (guest_trail source m answers)
     counted-reads few = subst (λ trail. sum_of reads ≤ partial trail) trails few
 
-    pub counted-switches : sum_of switches ≤ crossings (counted_spans stands.classes) (runs.guest_trail paired m answers) + 1
+    pub counted-switches : sum_of switches ≤ crossings (counted_spans stands.classes) (runs.guest_trail plain m answers) + 1
         → sum_of switches ≤ crossed + 1
     counted-switches few = subst (λ n. sum_of switches ≤ n + 1) crossed-is few
 
@@ -116,7 +83,7 @@ module _ (source : Source) (name : Text) (method_bytes : ℕ) (built : Built) (i
     abbrev all_of : (Instruction → ℕ) → ℕ
     all_of weight = sum_by (executed program weight) (whole_class_trail program words m answers)
 
-    pub counted-entries : all_of (entries (is_span stands.classes)) ≤ crossings (counted_spans stands.classes) (runs.guest_trail paired m answers) + 1
+    pub counted-entries : all_of (entries (is_span stands.classes)) ≤ crossings (counted_spans stands.classes) (runs.guest_trail plain m answers) + 1
         → all_of (entries (is_span_method built.layout)) ≤ crossed + 1
     counted-entries few =
         subst (λ (test : ℕ → Bool). all_of (entries test) ≤ crossed + 1) tests

@@ -1,5 +1,5 @@
 -- The methods of a class of code are what they were planned to be.
-use Rattle.std.proofs.Common.{◌≡◌, ℕ, ◌+◌, ◌-◌, ◌<◌, true, false, List, [], ◌∷◌, ◌++◌, map, length, Some, None, refl, ap, subst, ◌∙◌, slice_get, inl, inr, arith}
+use Rattle.std.proofs.Common.{◌≡◌, ℕ, ◌+◌, ◌-◌, ◌<◌, ◌≤◌, true, false, List, [], ◌∷◌, ◌++◌, map, length, Some, None, refl, ap, subst, ◌∙◌, slice_get, inl, inr, arith}
 use Rattle.std.specs.Prelude.{codes}
 use Rattle.std.specs.List.{All, range_with_len}
 use Rattle.std.specs.Cmp.Derive.{both_true}
@@ -17,6 +17,8 @@ use Rattle.code_assembly.specs.declared.references.References.{References}
 use Rattle.code_assembly.specs.Assembling.{has_method}
 use Rattle.code_assembly.proofs.Pools.{extends-itself}
 use Rattle.running_laws.specs.SpanCodeLaws.Lawful.{IsLawful}
+use Rattle.whole_methods.specs.Naming.{fields_of}
+use Rattle.whole_methods.proofs.NamedCode.Steps.{plain-more}
 use Rattle.whole_methods.proofs.NamedCode.Spans.{span-well}
 use Rattle.whole_methods.proofs.NamedCode.Choosing.{IsCalled, class-well}
 use Rattle.program_classes.specs.Tables.{references_of}
@@ -34,7 +36,7 @@ use Rattle.program_classes_laws.proofs.NamedCode.Known.{code-known}
 use Rattle.program_translation.specs.Classes.{Placed, run_of}
 use Rattle.nv_translate.specs.Linked.{HasCodeClass}
 use Rattle.nv_translate.proofs.LinkedTranslations.Lists.{mapped-get, mapped-length, mapped-from, range-member, get-either, get-one, all-got}
-use Rattle.nv_translate.proofs.LinkedTranslations.Knowing.{HasMain, slot-law, owner-no-host, methods-numbered, method-at}
+use Rattle.nv_translate.proofs.LinkedTranslations.Knowing.{HasMain, fewer-fields, slot-law, owner-no-host, methods-numbered, method-at}
 use Rattle.nv_translate.proofs.LinkedTranslations.Planned.{Knows, are-planned}
 
 -- the names of its methods
@@ -77,11 +79,15 @@ module _ (name : List ℕ) (c : Placed) (bytes : List ℕ) (is : IsCodeClass nam
 
   -- ---- in the program
 
-  module _ (law : NamesAreMeant) (classes : List Class) (has : HasMain classes name) (once : twice_fault [] 0 classes ≡ None) (n : ℕ)
+  module _ (law : NamesAreMeant) (classes : List Class) (count : ℕ) (few : fields_of c.part.metered ≤ count) (has : HasMain count classes name) (once : twice_fault [] 0 classes ≡ None) (n : ℕ)
       (there : slice_get classes n ≡ Some is.class) (before : methods_before classes n ≡ c.first_method) (lawful : All IsLawful c.part.units.now) where
-    meant : (first : ℕ) (methods : List ℕ) → AreMeant (references_of is.names first methods) classes n is.class
+    abbrev own_fields : ℕ
+    own_fields = fields_of c.part.metered
+
+    meant : (first : ℕ) (methods : List ℕ) → AreMeant own_fields (references_of is.names first methods) classes n is.class
     meant first methods =
-        law classes n is.class is.class.pool name is.names first methods (extends-itself is.class.pool) is.names_are has.fields
+        law own_fields classes n is.class is.class.pool name is.names first methods (extends-itself is.class.pool) is.names_are
+        (fewer-fields count own_fields classes name few has)
 
     helpers-are-called : AreCalled spans_by classes n is.class is_helper
     helpers-are-called =
@@ -106,8 +112,8 @@ module _ (name : List ℕ) (c : Placed) (bytes : List ℕ) (is : IsCodeClass nam
     span-knows : (k : ℕ) → Knows classes n is.class there (span_plan c.part c.spans spans_by k)
     span-knows k =
         let s = span_at c.spans k in
-        let at = span_of c.part.start (c.part.first + s.first) s.words in
-        code-known spans_by classes n is.class is_helper false (meant 0 is.helpers) helpers-are-called (code_of_span c.part s)
+        let at = span_of c.part.metered c.part.start (c.part.first + s.first) s.words in
+        code-known own_fields spans_by classes n is.class is_helper false (meant 0 is.helpers) helpers-are-called (code_of_span c.part s)
         (span-well n c.part.units.now (flagged c.part.leads.now) at lawful)
 
     start-has : (k : ℕ) → k < length c.spans → has_method run_by (c.first_method + k) ≡ true
@@ -122,8 +128,9 @@ module _ (name : List ℕ) (c : Placed) (bytes : List ℕ) (is : IsCodeClass nam
 
     run-knows : Knows classes n is.class there run_planned
     run-knows =
-        code-known run_by classes n is.class (has_method run_by) false (meant c.first_method is.own_methods) spans-are-called run_planned.code
-        (class-well (has_method run_by) n (starts_of c.part c.spans c.first_method (length c.spans)) (address c.part 0) (address c.part c.part.words) starts-have)
+        code-known own_fields run_by classes n is.class (has_method run_by) false (meant c.first_method is.own_methods) spans-are-called run_planned.code
+        (plain-more c.part.metered (has_method run_by) n false run_planned.code
+        (class-well (has_method run_by) n (starts_of c.part c.spans c.first_method (length c.spans)) (address c.part 0) (address c.part c.part.words) starts-have))
 
     knows : (k : ℕ) (p : Plan) → slice_get (spans_planned ++ run_planned ∷ []) k ≡ Some p → Knows classes n is.class there p
     knows k p e = elim (get-either spans_planned (run_planned ∷ []) k p e) [

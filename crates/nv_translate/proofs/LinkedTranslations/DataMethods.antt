@@ -1,5 +1,5 @@
 -- The methods of a class of data are what they were planned to be.
-use Rattle.std.proofs.Common.{◌≡◌, ℕ, zero, suc, ◌+◌, ◌-◌, ◌<◌, true, false, List, [], ◌∷◌, Some, None, refl, ap, subst, ◌∙◌, slice_get, arith}
+use Rattle.std.proofs.Common.{◌≡◌, ℕ, zero, suc, ◌+◌, ◌-◌, ◌<◌, ◌≤◌, true, false, List, [], ◌∷◌, Some, None, refl, ap, subst, ◌∙◌, slice_get, arith}
 use Rattle.std.specs.Prelude.{codes, slice_index_or}
 use Rattle.std.specs.Cmp.Derive.{both_true}
 use Rattle.std.proofs.lemmas.Bool.{le-leb, lt-ltb}
@@ -34,7 +34,7 @@ use Rattle.program_classes_laws.proofs.NamedCode.Meant.{members-called}
 use Rattle.program_classes_laws.proofs.NamedCode.Known.{code-known}
 use Rattle.program_translation.specs.DataFiles.{class_number, first_method, fill_of, pages_of_class}
 use Rattle.nv_translate.specs.Linked.{SpellsPage, HasDataClass}
-use Rattle.nv_translate.proofs.LinkedTranslations.Knowing.{HasMain, slot-law, owner-no-host, methods-numbered, method-at}
+use Rattle.nv_translate.proofs.LinkedTranslations.Knowing.{HasMain, fewer-fields, slot-law, owner-no-host, methods-numbered, method-at}
 use Rattle.nv_translate.proofs.LinkedTranslations.Planned.{Knows, are-planned, text-is}
 
 module _ (name : List ℕ) (code_classes methods : ℕ) (pages : List Page) (i : ℕ) (bytes : List ℕ)
@@ -70,13 +70,15 @@ module _ (name : List ℕ) (code_classes methods : ℕ) (pages : List Page) (i :
 
   -- ---- in the program
 
-  module _ (law : NamesAreMeant) (classes : List Class) (has : HasMain classes name) (once : twice_fault [] 0 classes ≡ None)
+  module _ (law : NamesAreMeant) (classes : List Class) (count : ℕ) (few : 38 ≤ count) (has : HasMain count classes name) (once : twice_fault [] 0 classes ≡ None)
       (there : slice_get classes n ≡ Some is.class) (before : methods_before classes n ≡ first) where
     abbrev own : List ℕ
     own = data_class_name name i
 
-    meant : AreMeant by classes n is.class
-    meant = law classes n is.class is.class.pool name is.names first (is.words ∷ []) (extends-itself is.class.pool) is.names_are.names_are has.fields
+    meant : AreMeant 38 by classes n is.class
+    meant =
+        law 38 classes n is.class is.class.pool name is.names first (is.words ∷ []) (extends-itself is.class.pool) is.names_are.names_are
+        (fewer-fields count 38 classes name few has)
 
     called : AreCalled by classes n is.class (has_method by)
     called =
@@ -95,11 +97,11 @@ module _ (name : List ℕ) (code_classes methods : ℕ) (pages : List Page) (i :
     knows zero p e =
         let one : words_plan by ≡ p = cc in
         subst (Knows classes n is.class there) one
-        (code-known by classes n is.class (has_method by) false meant called words_code (words-well (has_method by) n))
+        (code-known 38 by classes n is.class (has_method by) false meant called words_code (words-well (has_method by) n))
     knows (suc zero) p e =
         let one : fill_plan is.texts n first by ≡ p = cc in
         subst (Knows classes n is.class there) one
-        (code-known by classes n is.class (has_method by) false meant called (fill_code is.texts n first)
+        (code-known 38 by classes n is.class (has_method by) false meant called (fill_code is.texts n first)
         (fill-well (has_method by) n is.texts first words-has))
     knows (suc (suc k)) p e = absurd cc
 

@@ -1,5 +1,5 @@
 -- A translation has few classes, and a class of code few spans.
-use Rattle.std.proofs.Common.{◌≡◌, ℕ, ◌+◌, ◌≤◌, ◌^◌, List, [], ◌∷◌, length, drop, Some, subst, slice_get, inl, inr, length-append, length-drop, arith}
+use Rattle.std.proofs.Common.{◌≡◌, ℕ, ◌+◌, ◌≤◌, ◌^◌, Bool, List, [], ◌∷◌, length, drop, Some, subst, slice_get, inl, inr, length-append, length-drop, arith}
 use Rattle.std.specs.List.{range_with_len}
 use Rattle.std.proofs.lemmas.List.Sums.{sum_by-cons}
 use Rattle.std.proofs.lemmas.Slice.Zip.{AllZip-long}
@@ -28,10 +28,10 @@ places-few (r ∷ ranges) =
     let own : length (places_in r) ≡ share_count class_words r.words = mapped-length (place_at r) (share_count class_words r.words) in
     omega (arith, own, shares-few r.words, length-append (places_in r) (places_of ranges), sum_by-cons (λ (x : Range). x.words) r ranges, places-few ranges)
 
-pub code-few : (source : Source) (method_bytes : ℕ) (code : List Placed) → HasWholeCode source → AreCodeClasses source method_bytes code
+pub code-few : {metered : Bool} (source : Source) (method_bytes : ℕ) (code : List Placed) → HasWholeCode source → AreCodeClasses metered source method_bytes code
     → length code ≤ 2 ^ 64
-code-few source method_bytes code whole are =
-    let long = AllZip-long (IsPlaced (image_of source).code method_bytes) (places_of are.ranges) code are.placed.each in
+code-few {metered} source method_bytes code whole are =
+    let long = AllZip-long (IsPlaced metered (image_of source).code method_bytes) (places_of are.ranges) code are.placed.each in
     omega (arith, long, places-few are.ranges, whole.words are.ranges are.ranges_are)
 
 -- ---- spans
@@ -51,10 +51,10 @@ place-few (r ∷ ranges) k p e = elim (get-either (places_in r) (places_of range
   | inr behind ↦ place-few ranges behind.0 p behind.2
 ]
 
-pub spans-few : (source : Source) (method_bytes : ℕ) (code : List Placed) → AreCodeClasses source method_bytes code
+pub spans-few : {metered : Bool} (source : Source) (method_bytes : ℕ) (code : List Placed) → AreCodeClasses metered source method_bytes code
     → (i : ℕ) (c : Placed) → slice_get code i ≡ Some c → length c.spans ≤ 2 ^ 64
-spans-few source method_bytes code are i c at =
-    let found = zip-second (IsPlaced (image_of source).code method_bytes) (places_of are.ranges) code i c are.placed.each at in
+spans-few {metered} source method_bytes code are i c at =
+    let found = zip-second (IsPlaced metered (image_of source).code method_bytes) (places_of are.ranges) code i c are.placed.each at in
     let few : length c.spans ≤ length (weights_of c.part c.part.words) =
     cuts-few 0 method_bytes (weights_of c.part c.part.words) c.spans found.2.spans_are.cuts in
     omega (arith, few, mapped-length (weight_at c.part) c.part.words, found.2.part_is.words_are, place-few are.ranges i found.0 found.1)

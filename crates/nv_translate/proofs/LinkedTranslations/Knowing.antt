@@ -1,5 +1,5 @@
 -- What the classes of a translation know of each other.
-use Rattle.std.proofs.Common.{◌≡◌, ℕ, ◌+◌, ◌<◌, ◌||◌, false, List, [], Some, None, ap, subst, ◌∙◌, slice_get}
+use Rattle.std.proofs.Common.{◌≡◌, ℕ, ◌+◌, ◌<◌, ◌≤◌, ◌||◌, false, List, [], Some, None, ap, subst, ◌∙◌, slice_get, arith}
 use Rattle.std.specs.Prelude.{unwrap_or}
 use Rattle.std.proofs.lemmas.Bool.{or_parts}
 use Rattle.constant_pool.specs.Names.{same_text}
@@ -18,11 +18,16 @@ pub slot-law : MethodsAreMeant
 slot-law classes number c pool slot class n owner name descriptor goes_on of is other numbered =
     call-meant c pool goes_on classes slot class n owner name descriptor of is other numbered
 
--- what the other classes use of the main one
-pub record HasMain (classes : List Class) (main : List ℕ) : Type 0 where
+-- what the other classes use of the main one, which has so many fields
+pub record HasMain (count : ℕ) (classes : List Class) (main : List ℕ) : Type 0 where
   pub no_host : same_text main host_name ≡ false
-  pub fields : HaveFieldNumbers classes main
+  pub fields : HaveFieldNumbers count classes main
   pub helpers : HaveMethodNumbers classes main helper_name helper_descriptor 0 20
+
+-- they may use fewer of its fields
+pub fewer-fields : (count fewer : ℕ) (classes : List Class) (main : List ℕ) → fewer ≤ count → HasMain count classes main
+    → HaveFieldNumbers fewer classes main
+fewer-fields count fewer classes main few has f below = has.fields f (omega (arith, below, few))
 
 pub unknown-is-no-host : (name : List ℕ) → is_known name ≡ false → same_text name host_name ≡ false
 unknown-is-no-host name unknown =

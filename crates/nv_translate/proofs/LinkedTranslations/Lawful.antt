@@ -47,10 +47,11 @@ module _ (law : UnitsAreLawful) (code : ℕ → Option ℕ) (range : Range) (uni
       let plain : HasNoFloat is.words = all-pass (λ w. not (is_float w)) is.words (λ k w e. ap not (plain-word k w e).1) in
       subst (All IsLawful) (sym is.units_are) (law is.words fit plain)
 
-pub code-lawful : UnitsAreLawful → (source : Source) (method_bytes : ℕ) (code : List Placed) → HasWholeCode source → AreCodeClasses source method_bytes code
+pub code-lawful : {metered : Bool} → UnitsAreLawful → (source : Source) (method_bytes : ℕ) (code : List Placed) → HasWholeCode source
+    → AreCodeClasses metered source method_bytes code
     → (i : ℕ) (c : Placed) → slice_get code i ≡ Some c → All IsLawful c.part.units.now
-code-lawful law source method_bytes code whole are i c at =
+code-lawful {metered} law source method_bytes code whole are i c at =
     let words = (image_of source).code in
-    let found = zip-second (IsPlaced words method_bytes) (places_of are.ranges) code i c are.placed.each at in
+    let found = zip-second (IsPlaced metered words method_bytes) (places_of are.ranges) code i c are.placed.each at in
     range-lawful law words found.0.range c.part.units.now c.part.leads.now
     (range-of (IsWholeRange words) are.ranges (whole.whole are.ranges are.ranges_are) i found.0 found.1) found.2.part_is.range_is

@@ -1,6 +1,6 @@
 -- A translation links.
-use Rattle.std.proofs.Common.{◌≡◌, ℕ, zero, suc, ◌+◌, ◌<◌, ◌==◌, Bool, true, false, if◌then◌else◌, List, [], ◌∷◌, ◌++◌, map, length, get_or, Some, None, refl, sym, ap, subst, ◌∙◌, slice_get, ◌⊎◌, inl, inr, arith}
-use Rattle.std.specs.Prelude.{codes, option_map}
+use Rattle.std.proofs.Common.{◌≡◌, ℕ, zero, suc, ◌+◌, ◌<◌, ◌≤◌, ◌==◌, Bool, true, false, if◌then◌else◌, List, [], ◌∷◌, ◌++◌, map, length, get_or, Option, Some, None, refl, sym, ap, subst, ◌∙◌, slice_get, ◌⊎◌, inl, inr, arith}
+use Rattle.std.specs.Prelude.{codes, is_some, option_map}
 use Rattle.std.proofs.lemmas.Bool.{or_left, or_right, eq-eqb}
 use Rattle.std.proofs.lemmas.List.{length-map}
 use Rattle.std.proofs.lemmas.Option.{slice_get-map, get_or_from_slice_get}
@@ -8,23 +8,27 @@ use Rattle.command_values.specs.Names.{Text, IsClassName}
 use Rattle.elf_image.specs.Start.{Source}
 use Rattle.jvm_code.specs.declared.class.Class.{Class}
 use Rattle.name_resolution.specs.Faults.{twice_fault}
-use Rattle.jvm_link.specs.Linking.{program_of}
+use Rattle.jvm_link.specs.Linking.{kind_of, program_of}
 use Rattle.running_laws.specs.SpanCodeLaws.LawfulUnits.{UnitsAreLawful}
 use Rattle.guest_layout.specs.ClassNames.{code_class_name, data_class_name}
+use Rattle.guest_layout.specs.Fields.{field_descriptor}
 use Rattle.guest_layout.specs.Numbers.{main_methods, missing_number}
 use Rattle.trampoline.specs.declared.start.Start.{Start}
+use Rattle.whole_methods.specs.Naming.{fields_of}
 use Rattle.program_classes.specs.Tables.{references_of}
 use Rattle.program_classes.specs.declared.content.MainClass.{MainClass}
+use Rattle.program_classes.specs.Content.{has_meter, main_fields}
 use Rattle.program_classes.specs.Code.{address}
 use Rattle.program_translation.specs.Classes.{Placed, run_of, is_last, starts_of_class, starts_of}
 use Rattle.program_translation.specs.DataFiles.{class_count, class_number, filled_pages, fill_of}
 use Rattle.program_translation.specs.declared.built.Built.{Built}
-use Rattle.program_translation.specs.Translation.{IsTranslation, code_methods}
+use Rattle.program_translation.specs.Translation.{IsTranslationBy, code_methods}
 use Rattle.program_classes_laws.specs.Meaning.{NamesAreMeant}
 use Rattle.nv_translate.specs.WholeCode.{HasWholeCode}
-use Rattle.nv_translate.specs.Linked.{IsLinked, HasCodeClass, HasDataClass}
+use Rattle.nv_translate.specs.Linked.{IsLinkedBy, HasCodeClass, HasDataClass}
 use Rattle.nv_translate.proofs.LinkedTranslations.Lists.{mapped-get, mapped-length, get-either, get-one}
 use Rattle.nv_translate.proofs.LinkedTranslations.Knowing.{HasMain, owner-no-host}
+use Rattle.nv_translate.proofs.LinkedTranslations.Metered.{class-fields, fields-least}
 use Rattle.nv_translate.proofs.LinkedTranslations.Lawful.{code-lawful}
 use Rattle.nv_translate.proofs.LinkedTranslations.CodeMethods.{has-code, run-number}
 use Rattle.nv_translate.proofs.LinkedTranslations.DataMethods.{has-data, fill-number}
@@ -63,8 +67,8 @@ there-is (c ∷ code) (suc i) below = there-is code i (omega (arith, below))
 
 -- ---- the whole
 
-module _ (names-law : NamesAreMeant) (lawful-law : UnitsAreLawful) (source : Source) (name : Text) (method_bytes : ℕ) (built : Built) (whole : HasWholeCode source)
-    (class_name : IsClassName name) (t : IsTranslation source name method_bytes built) where
+module _ {meter : Option ℕ} (names-law : NamesAreMeant) (lawful-law : UnitsAreLawful) (source : Source) (name : Text) (method_bytes : ℕ) (built : Built) (whole : HasWholeCode source)
+    (class_name : IsClassName name) (t : IsTranslationBy meter source name method_bytes built) where
   abbrev main : MainClass
   main = t.main_is.main
 
@@ -77,21 +81,24 @@ module _ (names-law : NamesAreMeant) (lawful-law : UnitsAreLawful) (source : Sou
   once : twice_fault [] 0 classes ≡ None
   once = nothing-stands-twice source name method_bytes built t whole class_name
 
-  main-there : HasMain classes name
+  main-there : HasMain (main_fields main) classes name
   main-there = has-main name main t.main_file.bytes.items t.main_is.class_is others once
+
+  fields-few : (i : ℕ) (c : Placed) → slice_get t.code i ≡ Some c → fields_of c.part.metered ≤ main_fields main
+  fields-few = class-fields source method_bytes t.code t.code_is main t.main_is.content.meter_is
 
   code-there : (i : ℕ) (c : Placed) → slice_get t.code i ≡ Some c → HasCodeClass (program_of classes) c
   code-there i c e =
       let at = code-stands source name method_bytes built t i c e in
-      has-code name c at.file.bytes.items at.is.class names-law classes main-there once (suc i) at.there
+      has-code name c at.file.bytes.items at.is.class names-law classes (main_fields main) (fields-few i c e) main-there once (suc i) at.there
       (code-first source name method_bytes built t i c e) (code-lawful lawful-law source method_bytes t.code whole t.code_is i c e)
 
   data-there : (k : ℕ) → k < class_count (filled_pages source)
       → HasDataClass (program_of classes) (length t.code) (code_methods t.code) (filled_pages source) k
   data-there k below =
       let at = data-stands source name method_bytes built t k below in
-      has-data name (length t.code) (code_methods t.code) (filled_pages source) k at.file.bytes.items at.is.class_is names-law classes main-there once
-      at.there (data-first source name method_bytes built t k (omega (arith, below)))
+      has-data name (length t.code) (code_methods t.code) (filled_pages source) k at.file.bytes.items at.is.class_is names-law classes (main_fields main)
+      (fields-least (has_meter main)) main-there once at.there (data-first source name method_bytes built t k (omega (arith, below)))
 
   -- ---- what the main class calls of the others
 
@@ -104,7 +111,7 @@ module _ (names-law : NamesAreMeant) (lawful-law : UnitsAreLawful) (source : Sou
       subst (λ j. HasNumber classes (code_class_name name j) (codes "run") (run_of c)) number (record {
         no_host = owner-no-host classes once (suc i) is.class at.there (code_class_name name c.number) is.named;
         number_is =
-            run-number name c at.file.bytes.items is names-law classes main-there once (suc i) at.there
+            run-number name c at.file.bytes.items is names-law classes (main_fields main) (fields-few i c e) main-there once (suc i) at.there
             (code-first source name method_bytes built t i c e) (code-lawful lawful-law source method_bytes t.code whole t.code_is i c e);
       })
 
@@ -132,7 +139,8 @@ module _ (names-law : NamesAreMeant) (lawful-law : UnitsAreLawful) (source : Sou
       subst (HasNumber classes (data_class_name name i) (codes "fill")) (sym (get_or_from_slice_get main.data.now i (fill_of methods i) 0 fill)) (record {
         no_host = owner-no-host classes once (class_number (length t.code) i) is.class at.there (data_class_name name i) is.named;
         number_is =
-            fill-number name (length t.code) methods (filled_pages source) i at.file.bytes.items is names-law classes main-there once at.there
+            fill-number name (length t.code) methods (filled_pages source) i at.file.bytes.items is names-law classes (main_fields main)
+            (fields-least (has_meter main)) main-there once at.there
             (data-first source name method_bytes built t i (omega (arith, within)));
       })
 
@@ -145,7 +153,14 @@ module _ (names-law : NamesAreMeant) (lawful-law : UnitsAreLawful) (source : Sou
       subst (λ ns. (has_number ns s.method ≡ true) ⊎ (s.method ≡ missing_number)) (sym content.code_is)
       (starts-called t.code k s (ap (λ (ss : List Start). slice_get ss k) (sym content.starts_are) ∙ e))
 
-  pub translation-links : IsLinked source name method_bytes built
+  -- the program has so many fields
+  abbrev HasFields : ℕ → Type 0
+  HasFields count = (f : ℕ) → f < count → (program_of classes).field f ≡ Some (kind_of (field_descriptor f))
+
+  abbrev HasNoMore : ℕ → Type 0
+  HasNoMore count = (f : ℕ) → count ≤ f → (program_of classes).field f ≡ None
+
+  pub translation-links : IsLinkedBy meter source name method_bytes built
   translation-links =
       let is = t.main_is.class_is in
       let bytes = t.main_file.bytes.items in
@@ -161,8 +176,9 @@ module _ (names-law : NamesAreMeant) (lawful-law : UnitsAreLawful) (source : Sou
         classes = classes;
         spelled = all-spelled source name method_bytes built t;
         distinct = once;
-        fields_are = fields-are name main bytes is others once without;
-        no_more_fields = no-more-fields name main bytes is others once without;
+        fields_are = subst (λ turns. HasFields (fields_of (is_some turns))) t.main_is.content.meter_is (fields-are name main bytes is others once without);
+        no_more_fields = subst (λ turns. HasNoMore (fields_of (is_some turns))) t.main_is.content.meter_is
+            (no-more-fields name main bytes is others once without);
         first_is = first-is name main bytes is others once;
         texts = is.texts;
         texts_are = texts-are name main bytes is others once;

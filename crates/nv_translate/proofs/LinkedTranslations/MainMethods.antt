@@ -20,7 +20,7 @@ use Rattle.trampoline.specs.declared.start.Start.{Start}
 use Rattle.code_assembly.specs.declared.references.References.{References}
 use Rattle.code_assembly.proofs.Pools.{extends-itself}
 use Rattle.class_builder.specs.Named.{IsMethodAt, IsTextAt}
-use Rattle.whole_methods.proofs.NamedCode.Steps.{code-more}
+use Rattle.whole_methods.proofs.NamedCode.Steps.{code-more, plain-more}
 use Rattle.whole_methods.proofs.NamedCode.Helpers.{helper-well}
 use Rattle.whole_methods.proofs.NamedCode.Loading.{pages-well, run-well}
 use Rattle.whole_methods.proofs.NamedCode.Choosing.{IsCalled, main-well, missing-well}
@@ -29,7 +29,7 @@ use Rattle.program_classes.specs.Making.{Plan, nothing}
 use Rattle.program_classes.proofs.ClassMaking.ZipLemmas.{zip-through}
 use Rattle.program_classes.specs.declared.content.MainClass.{MainClass}
 use Rattle.program_classes.specs.Called.{slot_of, pages_descriptor, AreOwnMethods}
-use Rattle.program_classes.specs.Content.{share_texts}
+use Rattle.program_classes.specs.Content.{has_meter, main_fields, share_texts}
 use Rattle.program_classes.specs.Fields.{IsField}
 use Rattle.program_classes.specs.Main.{IsMainClass, helper_plan, helper_plans, run_plan, choose_plan, pages_plan, missing_plan, other_plans, main_plans}
 use Rattle.program_classes_laws.specs.Planned.{numbered}
@@ -42,7 +42,7 @@ use Rattle.program_classes_laws.specs.Meaning.{AreCalled, AreMeant, HaveFieldNum
 use Rattle.program_classes_laws.proofs.NamedCode.Meant.{numbered-called}
 use Rattle.program_classes_laws.proofs.NamedCode.Known.{code-known}
 use Rattle.nv_translate.specs.Linked.{ArePlanned}
-use Rattle.nv_translate.proofs.LinkedTranslations.Lists.{mapped-get, mapped-from, range-member, get-either, all-got, zip-mapped}
+use Rattle.nv_translate.proofs.LinkedTranslations.Lists.{mapped-get, mapped-length, mapped-from, range-member, get-either, all-got, zip-mapped}
 use Rattle.nv_translate.proofs.LinkedTranslations.Knowing.{HasMain, slot-law, own-is, owner-no-host, methods-numbered, method-at}
 use Rattle.nv_translate.proofs.LinkedTranslations.Planned.{Knows, are-planned, text-is}
 
@@ -108,8 +108,8 @@ module _ (name : List ℕ) (main : MainClass) (bytes : List ℕ) (is : IsMainCla
   pub main-methods-are : methods_of is.class ≡ methods_of_main
   main-methods-are = methods-made is.class is.class.methods (main_plans main is.texts by) is.methods
 
-  pub main-fields-are : fields_of is.class ≡ fields_of_main
-  main-fields-are = fields-made is.class field_name field_descriptor is.class.fields (range_with_len 0 38) is.fields_are
+  pub main-fields-are : fields_of is.class ≡ fields_of_main (has_meter main)
+  main-fields-are = fields-made is.class field_name field_descriptor is.class.fields (range_with_len 0 (main_fields main)) is.fields_are
 
   main-method : (k : ℕ) (s : Signature) → slice_get methods_of_main k ≡ Some s → slice_get (methods_of is.class) k ≡ Some s
   main-method k s at = ap (λ (ms : List Signature). slice_get ms k) main-methods-are ∙ at
@@ -133,10 +133,10 @@ module _ (name : List ℕ) (main : MainClass) (bytes : List ℕ) (is : IsMainCla
     abbrev classes : List Class
     classes = is.class ∷ others
 
-    fields-numbered : HaveFieldNumbers classes name
+    fields-numbered : HaveFieldNumbers (main_fields main) classes name
     fields-numbered f below =
         let s = numbered field_name field_descriptor f in
-        let at = ap (λ (fs : List Signature). slice_get fs f) main-fields-are ∙ mapped-get (numbered field_name field_descriptor) 38 f below in
+        let at = ap (λ (fs : List Signature). slice_get fs f) main-fields-are ∙ mapped-get (numbered field_name field_descriptor) (main_fields main) f below in
         let none : 0 + f ≡ f = omega arith in
         subst (λ x. field_number classes (reference x s) ≡ Some f) (own-is is.class name is.named)
         (field-number classes 0 f is.class s once refl at ∙ ap (λ n. Some n) none)
@@ -144,7 +144,7 @@ module _ (name : List ℕ) (main : MainClass) (bytes : List ℕ) (is : IsMainCla
     helpers-numbered : HaveMethodNumbers classes name helper_name helper_descriptor 0 20
     helpers-numbered = methods-numbered classes once 0 is.class refl name is.named helper_name helper_descriptor 0 20 refl helper-method
 
-    pub has-main : HasMain classes name
+    pub has-main : HasMain (main_fields main) classes name
     has-main = record {
       no_host = owner-no-host classes once 0 is.class refl name is.named;
       fields = fields-numbered;
@@ -156,21 +156,22 @@ module _ (name : List ℕ) (main : MainClass) (bytes : List ℕ) (is : IsMainCla
     abbrev kind_at : ℕ → Kind
     kind_at k = kind_of (field_descriptor k)
 
-    kinds-are : map (field_kind is.class) is.class.fields ≡ map kind_at (range_with_len 0 38)
+    kinds-are : map (field_kind is.class) is.class.fields ≡ map kind_at (range_with_len 0 (main_fields main))
     kinds-are =
-        zip-mapped (field_kind is.class) kind_at is.class.fields (range_with_len 0 38)
+        zip-mapped (field_kind is.class) kind_at is.class.fields (range_with_len 0 (main_fields main))
         (zip-through (IsField is.class.pool) (λ f k. field_kind is.class f ≡ kind_at k)
-        (λ (f : Member) k named. ap kind_of (text-is is.class f.desc (field_descriptor k) named.descriptor_is)) is.class.fields (range_with_len 0 38)
+        (λ (f : Member) k named. ap kind_of (text-is is.class f.desc (field_descriptor k) named.descriptor_is)) is.class.fields (range_with_len 0 (main_fields main))
         is.fields_are)
 
-    pub fields-are : All (λ (d : Class). d.fields ≡ []) others → (f : ℕ) → f < 38 → (program_of classes).field f ≡ Some (kind_at f)
+    pub fields-are : All (λ (d : Class). d.fields ≡ []) others → (f : ℕ) → f < main_fields main → (program_of classes).field f ≡ Some (kind_at f)
     fields-are none f below =
-        ap (λ (ks : List Kind). slice_get ks f) (first-kinds is.class others none ∙ kinds-are) ∙ mapped-get kind_at 38 f below
+        ap (λ (ks : List Kind). slice_get ks f) (first-kinds is.class others none ∙ kinds-are) ∙ mapped-get kind_at (main_fields main) f below
 
-    pub no-more-fields : All (λ (d : Class). d.fields ≡ []) others → (f : ℕ) → 38 ≤ f → (program_of classes).field f ≡ None
+    pub no-more-fields : All (λ (d : Class). d.fields ≡ []) others → (f : ℕ) → main_fields main ≤ f → (program_of classes).field f ≡ None
     no-more-fields none f above =
         ap (λ (ks : List Kind). slice_get ks f) (first-kinds is.class others none ∙ kinds-are)
-        ∙ slice_get_past (map kind_at (range_with_len 0 38)) f above
+        ∙ slice_get_past (map kind_at (range_with_len 0 (main_fields main))) f
+        (let long = mapped-length kind_at (main_fields main) in omega (arith, above, long))
 
     pub first-is : (program_of classes).first ≡ run_number
     first-is =
@@ -281,9 +282,9 @@ module _ (name : List ℕ) (main : MainClass) (bytes : List ℕ) (is : IsMainCla
           (λ m called. let same : m ≡ m - 0 = omega arith in
           subst (λ k. IsMethodNumber classes is.class.pool (slice_index is.slots k) m) same (numbers m called))
 
-      meant : AreMeant by classes 0 is.class
+      meant : AreMeant (main_fields main) by classes 0 is.class
       meant =
-          law classes 0 is.class is.class.pool name is.names 0 is.slots (extends-itself is.class.pool) is.names_are.names_are fields-numbered
+          law (main_fields main) classes 0 is.class is.class.pool name is.names 0 is.slots (extends-itself is.class.pool) is.names_are.names_are fields-numbered
 
       -- ---- what the code names
 
@@ -294,13 +295,14 @@ module _ (name : List ℕ) (main : MainClass) (bytes : List ℕ) (is : IsMainCla
       helper-knows k below =
           let gives = gives_int (helper_descriptor k) in
           let code = helper_code main.beginning.order k in
-          code-known by classes 0 is.class (calls main) gives meant are-called code
-          (code-more is_fault (calls main) 0 gives (fault-calls main) code (helper-well main.beginning.order 0 k below))
+          code-known (main_fields main) by classes 0 is.class (calls main) gives meant are-called code
+          (plain-more (has_meter main) (calls main) 0 gives code
+          (code-more is_fault (calls main) 0 gives (fault-calls main) code (helper-well main.beginning.order 0 k below)))
 
       run-knows : KnowsPlan (run_plan main is.texts by)
       run-knows =
-          code-known by classes 0 is.class (calls main) false meant are-called (run_plan main is.texts by).code
-          (run-well (calls main) 0 main.beginning is.texts pages_number main.data.now choose_number
+          code-known (main_fields main) by classes 0 is.class (calls main) false meant are-called (run_plan main is.texts by).code
+          (run-well (calls main) 0 main.meter main.beginning is.texts pages_number main.data.now choose_number
           (own-calls main pages_number refl)
           (all-got (λ m. calls main m ≡ true) main.data.now (λ k m e. data-calls main m (number-there main.data.now k m e)))
           (own-calls main choose_number refl))
@@ -314,23 +316,25 @@ module _ (name : List ℕ) (main : MainClass) (bytes : List ℕ) (is : IsMainCla
 
         choose-knows : KnowsPlan (choose_plan main by)
         choose-knows =
-            code-known by classes 0 is.class (calls main) false meant are-called (choose_plan main by).code
+            code-known (main_fields main) by classes 0 is.class (calls main) false meant are-called (choose_plan main by).code
+            (plain-more (has_meter main) (calls main) 0 false (choose_plan main by).code
             (main-well (calls main) 0 main.starts.now missing_number (all-got (IsCalled (calls main) 0) main.starts.now start-called)
-            (own-calls main missing_number refl))
+            (own-calls main missing_number refl)))
 
         pages-knows : KnowsPlan (pages_plan by)
         pages-knows =
-            code-known by classes 0 is.class (calls main) false meant are-called (pages_plan by).code (pages-well (calls main) 0)
+            code-known (main_fields main) by classes 0 is.class (calls main) false meant are-called (pages_plan by).code
+            (plain-more (has_meter main) (calls main) 0 false (pages_plan by).code (pages-well (calls main) 0))
 
-        missing-knows : KnowsPlan (missing_plan by)
+        missing-knows : KnowsPlan (missing_plan (has_meter main) by)
         missing-knows =
-            code-known by classes 0 is.class (calls main) false meant are-called (missing_plan by).code (missing-well (calls main) 0)
+            code-known (main_fields main) by classes 0 is.class (calls main) false meant are-called (missing_plan (has_meter main) by).code (missing-well (calls main) 0 (has_meter main))
 
         others-know : (k : ℕ) (p : Plan) → slice_get (other_plans main is.texts by) k ≡ Some p → KnowsPlan p
         others-know zero p e = let one : run_plan main is.texts by ≡ p = cc in subst KnowsPlan one run-knows
         others-know (suc zero) p e = let one : choose_plan main by ≡ p = cc in subst KnowsPlan one choose-knows
         others-know (suc (suc zero)) p e = let one : pages_plan by ≡ p = cc in subst KnowsPlan one pages-knows
-        others-know (suc (suc (suc zero))) p e = let one : missing_plan by ≡ p = cc in subst KnowsPlan one missing-knows
+        others-know (suc (suc (suc zero))) p e = let one : missing_plan (has_meter main) by ≡ p = cc in subst KnowsPlan one missing-knows
         others-know (suc (suc (suc (suc k)))) p e = absurd cc
 
         knows : (k : ℕ) (p : Plan) → slice_get (main_plans main is.texts by) k ≡ Some p → KnowsPlan p

@@ -1,5 +1,5 @@
 -- The classes of a translation, their names, and that nothing stands twice in them.
-use Rattle.std.proofs.Common.{◌≡◌, ℕ, zero, suc, ◌+◌, ◌<◌, ◌≤◌, false, ◌||◌, List, [], ◌∷◌, ◌++◌, map, length, Some, None, refl, sym, ap, subst, ◌∙◌, slice_get, inl, inr, length-append, arith}
+use Rattle.std.proofs.Common.{◌≡◌, ℕ, zero, suc, ◌+◌, ◌<◌, ◌≤◌, false, ◌||◌, List, [], ◌∷◌, ◌++◌, map, length, Option, Some, None, refl, sym, ap, subst, ◌∙◌, slice_get, inl, inr, length-append, arith}
 use Rattle.std.specs.List.{All, AllZip, IsDistinct, range_with_len}
 use Rattle.std.proofs.lemmas.Bool.{or_from, true≢false}
 use Rattle.std.proofs.lemmas.List.{map-append}
@@ -17,6 +17,7 @@ use Rattle.guest_layout.specs.ClassNames.{code_class_name, data_class_name}
 use Rattle.guest_layout.specs.Numbers.{main_methods}
 use Rattle.program_classes.proofs.ClassMaking.ZipLemmas.{zip-joined}
 use Rattle.program_classes.specs.Tables.{references_of}
+use Rattle.program_classes.specs.Content.{has_meter}
 use Rattle.program_classes.specs.Main.{main_plans}
 use Rattle.program_classes_laws.specs.Before.{methods_before}
 use Rattle.program_classes_laws.specs.Distinct.{HasDistinctMembers}
@@ -31,7 +32,7 @@ use Rattle.program_translation.specs.declared.named_file.NamedFile.{NamedFile}
 use Rattle.program_translation.specs.Classes.{Placed, Follow, IsCodeFile}
 use Rattle.program_translation.specs.DataFiles.{IsDataFile, class_count, class_number, filled_pages, first_method}
 use Rattle.program_translation.specs.declared.built.Built.{Built}
-use Rattle.program_translation.specs.Translation.{IsTranslation, code_methods}
+use Rattle.program_translation.specs.Translation.{IsTranslationBy, code_methods}
 use Rattle.nv_translate.specs.WholeCode.{HasWholeCode}
 use Rattle.nv_translate.proofs.LinkedTranslations.Lists.{get-either, all-got, range-first}
 use Rattle.nv_translate.proofs.LinkedTranslations.Few.{code-few, spans-few, data-few}
@@ -82,7 +83,7 @@ stands-behind c front back n k d place there = ap (slice_get (c ∷ (front ++ ba
 
 -- ---- the classes
 
-module _ (source : Source) (name : Text) (method_bytes : ℕ) (built : Built) (t : IsTranslation source name method_bytes built) where
+module _ {meter : Option ℕ} (source : Source) (name : Text) (method_bytes : ℕ) (built : Built) (t : IsTranslationBy meter source name method_bytes built) where
   abbrev pub main_class : Class
   main_class = t.main_is.class_is.class
 
@@ -149,7 +150,7 @@ module _ (source : Source) (name : Text) (method_bytes : ℕ) (built : Built) (t
         let is = t.main_is.class_is in
         let one : main_class ≡ c = cc in
         subst HasDistinctMembers one (record {
-          fields = ap has_equal (main-fields-are name t.main_is.main t.main_file.bytes.items is) ∙ fields-differ;
+          fields = ap has_equal (main-fields-are name t.main_is.main t.main_file.bytes.items is) ∙ fields-differ (has_meter t.main_is.main);
           methods = ap has_equal (main-methods-are name t.main_is.main t.main_file.bytes.items is);
         })
     distinct-of (suc k) c e = elim (get-either of_code of_data k c e) [

@@ -1,5 +1,5 @@
 -- The classes of code of a program are one list, but for where the units and leaders of their ranges are kept.
-use Rattle.std.proofs.Common.{◌≡◌, ℕ, ◌+◌, List, [], ◌∷◌, ◌++◌, length, map, Option, refl, ap, sym, ◌∙◌, subst}
+use Rattle.std.proofs.Common.{◌≡◌, ℕ, ◌+◌, List, [], ◌∷◌, ◌++◌, length, map, Option, refl, ap, sym, ◌∙◌, subst, Bool}
 use Rattle.std.specs.List.{AllZip}
 use Rattle.elf_image.specs.Start.{Source, image_of}
 use Rattle.elf_image.proofs.RunsLemmas.{runs_one}
@@ -31,15 +31,15 @@ placed_spans method_bytes c d alike are are' =
 runs_same : (c d : Placed) → AreSame c d → run_of c ≡ run_of d
 runs_same c d same = ap (λ n. n + length c.spans) same.first ∙ ap (λ l. d.first_method + length l) same.spans
 
-classes_same : (code : ℕ → Option ℕ) (method_bytes : ℕ) (places : List Place) (number first : ℕ) (a b : List Placed) → Follow number first a
-    → Follow number first b → AllZip (IsPlaced code method_bytes) places a → AllZip (IsPlaced code method_bytes) places b → AllZip AreSame a b
-classes_same code method_bytes [] number first [] [] follow follow' each each' = tt
-classes_same code method_bytes [] number first [] (d ∷ b) follow follow' each each' = absurd each'
-classes_same code method_bytes [] number first (c ∷ a) b follow follow' each each' = absurd each
-classes_same code method_bytes (place ∷ places) number first [] b follow follow' each each' = absurd each
-classes_same code method_bytes (place ∷ places) number first (c ∷ a) [] follow follow' each each' = absurd each'
-classes_same code method_bytes (place ∷ places) number first (c ∷ a) (d ∷ b) follow follow' each each' =
-    let alike = parts_alike code place c.part d.part each.0.part_is each'.0.part_is in
+classes_same : (metered : Bool) (code : ℕ → Option ℕ) (method_bytes : ℕ) (places : List Place) (number first : ℕ) (a b : List Placed) → Follow number first a
+    → Follow number first b → AllZip (IsPlaced metered code method_bytes) places a → AllZip (IsPlaced metered code method_bytes) places b → AllZip AreSame a b
+classes_same metered code method_bytes [] number first [] [] follow follow' each each' = tt
+classes_same metered code method_bytes [] number first [] (d ∷ b) follow follow' each each' = absurd each'
+classes_same metered code method_bytes [] number first (c ∷ a) b follow follow' each each' = absurd each
+classes_same metered code method_bytes (place ∷ places) number first [] b follow follow' each each' = absurd each
+classes_same metered code method_bytes (place ∷ places) number first (c ∷ a) [] follow follow' each each' = absurd each'
+classes_same metered code method_bytes (place ∷ places) number first (c ∷ a) (d ∷ b) follow follow' each each' =
+    let alike = parts_alike code place c.part d.part each.0.part_is each'.0.part_is (each.0.metered_is ∙ sym each'.0.metered_is) in
     let same : AreSame c d = record {
       number = follow.0 ∙ sym follow'.0;
       first = follow.1 ∙ sym follow'.1;
@@ -47,7 +47,7 @@ classes_same code method_bytes (place ∷ places) number first (c ∷ a) (d ∷ 
       spans = placed_spans method_bytes c d alike each.0.spans_are each'.0.spans_are;
     } in
     let next = subst (λ n. Follow (number + 1) (n + 1) b) (sym (runs_same c d same)) follow'.2 in
-    (same, classes_same code method_bytes places (number + 1) (run_of c + 1) a b follow.2 next each.1 each'.1)
+    (same, classes_same metered code method_bytes places (number + 1) (run_of c + 1) a b follow.2 next each.1 each'.1)
 
 -- ---- what is told of them
 
@@ -82,13 +82,13 @@ all_blocks before (c ∷ a) (d ∷ b) same =
 
 -- ---- those of a program
 
-module _ (source : Source) (method_bytes : ℕ) (a b : List Placed) (are : AreCodeClasses source method_bytes a)
-    (are' : AreCodeClasses source method_bytes b) where
+module _ {metered : Bool} (source : Source) (method_bytes : ℕ) (a b : List Placed) (are : AreCodeClasses metered source method_bytes a)
+    (are' : AreCodeClasses metered source method_bytes b) where
   same : AllZip AreSame a b
   same =
       let ranges = runs_one (area source.file) are.ranges are'.ranges are.ranges_are are'.ranges_are in
-      let each = subst (λ l. AllZip (IsPlaced (image_of source).code method_bytes) (places_of l) b) (sym ranges) are'.placed.each in
-      classes_same (image_of source).code method_bytes (places_of are.ranges) 0 _ a b are.placed.follow are'.placed.follow
+      let each = subst (λ l. AllZip (IsPlaced metered (image_of source).code method_bytes) (places_of l) b) (sym ranges) are'.placed.each in
+      classes_same metered (image_of source).code method_bytes (places_of are.ranges) 0 _ a b are.placed.follow are'.placed.follow
       are.placed.each each
 
   pub spans_are_one : spans_of a ≡ spans_of b

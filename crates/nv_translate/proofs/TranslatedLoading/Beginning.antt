@@ -1,5 +1,5 @@
 -- How the program of a linked translation begins.
-use Rattle.std.proofs.Common.{◌≡◌, ◌≢◌, ℕ, ◌+◌, ◌<◌, ◌==◌, ◌||◌, Bool, false, if◌then◌else◌, List, [], ◌∷◌, slice_get, codes, Some, refl, ap, subst, ◌∙◌, arith, ne_eqb}
+use Rattle.std.proofs.Common.{◌≡◌, ◌≢◌, ℕ, ◌+◌, ◌<◌, ◌==◌, ◌||◌, Bool, false, if◌then◌else◌, List, [], ◌∷◌, slice_get, codes, Option, Some, refl, ap, subst, ◌∙◌, arith, ne_eqb}
 use Rattle.jvm_program.specs.declared.kind.Kind.TheVariants as kinds
 use Rattle.jvm_program.specs.Program.{Program}
 use Rattle.jvm_link.specs.Linking.{kind_of}
@@ -46,17 +46,18 @@ module _ (program : Program) (main : MainClass) (texts : List ℕ) (by : Referen
   pub choose-method : IsMethod program choose_number []
   choose-method = planned-method program choose_number (choose_plan main by) [] (other-planned 1 (choose_plan main by) refl) no-parameters
 
-  run-lies : LiesAt program run_number 0 (run_code main.beginning texts 0 pages_number main.data.now choose_number)
+  run-lies : LiesAt program run_number 0 (run_code main.meter main.beginning texts 0 pages_number main.data.now choose_number)
   run-lies = planned-lies program run_number (run_plan main texts by) (other-planned 0 (run_plan main texts by) refl)
 
-  pub main-begins : (m : ℕ) (b : Beginning) (fillers : List Filler) → main.beginning ≡ b → main.data.now ≡ numbers_of fillers
+  pub main-begins : (m : ℕ) (meter : Option ℕ) (b : Beginning) (fillers : List Filler) → main.meter ≡ meter → main.beginning ≡ b → main.data.now ≡ numbers_of fillers
       → program.first ≡ run_number → run_number ≢ m → ((f : ℕ) → f < 38 → program.field f ≡ Some (kind_of (field_descriptor f)))
-      → IsProgram program run_number m choose_number pages_number b texts fillers
-  main-begins m b fillers begins fills first apart fields = record {
+      → IsProgram program run_number m choose_number pages_number meter b texts fillers
+  main-begins m meter b fillers counts begins fills first apart fields = record {
     first = first;
     apart = apart;
-    run_lies = subst (λ numbers. LiesAt program run_number 0 (run_code b texts 0 pages_number numbers choose_number)) fills
-        (subst (λ beginning. LiesAt program run_number 0 (run_code beginning texts 0 pages_number main.data.now choose_number)) begins run-lies);
+    run_lies = subst (λ numbers. LiesAt program run_number 0 (run_code meter b texts 0 pages_number numbers choose_number)) fills
+        (subst (λ beginning. LiesAt program run_number 0 (run_code meter beginning texts 0 pages_number main.data.now choose_number)) begins
+        (subst (λ turns. LiesAt program run_number 0 (run_code turns main.beginning texts 0 pages_number main.data.now choose_number)) counts run-lies));
     choose_is = choose-method;
     ints = λ f low. fields f (omega (arith, low)) ∙ ap Some (int-field f low);
     linked = fields linked_field (omega arith);

@@ -1,5 +1,5 @@
 -- Methods that take no part in loading.
-use Rattle.std.proofs.Common.{ℕ, ◌+◌, ◌<◌, ◌≤◌, List, [], ◌∷◌, arith}
+use Rattle.std.proofs.Common.{ℕ, ◌+◌, ◌<◌, ◌≤◌, Bool, List, [], ◌∷◌, arith}
 use Rattle.elf_image.specs.Start.{Source}
 use Rattle.guest_layout.specs.Numbers.{main_methods}
 use Rattle.program_translation.specs.Classes.{Placed, AreCodeClasses, Follow, methods_behind, run_of}
@@ -22,7 +22,7 @@ no-fewer number first (c ∷ code) follow =
     let here = follow.1 in
     omega (arith, rest, here)
 
-pub behind-takes-no-part : (source : Source) (method_bytes : ℕ) (code : List Placed) (m : ℕ) → AreCodeClasses source method_bytes code
+pub behind-takes-no-part : {metered : Bool} (source : Source) (method_bytes : ℕ) (code : List Placed) (m : ℕ) → AreCodeClasses metered source method_bytes code
     → first_method (code_methods code) (class_count (filled_pages source)) ≤ m → TakesNoPart source code m
 behind-takes-no-part source method_bytes code m is from =
     let more = no-fewer 0 main_methods code is.placed.follow in

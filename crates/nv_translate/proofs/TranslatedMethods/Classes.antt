@@ -1,5 +1,5 @@
 -- One class of a translation.
-use Rattle.std.proofs.Common.{◌≡◌, ℕ, suc, ◌+◌, ◌*◌, ◌%◌, ◌<◌, ◌≤◌, true, false, not, ◌&&◌, List, [], ◌∷◌, ◌++◌, length, slice_get, get_or, Option, Some, refl, ap, sym, subst, ◌∙◌, arith}
+use Rattle.std.proofs.Common.{◌≡◌, ℕ, suc, ◌+◌, ◌*◌, ◌%◌, ◌<◌, ◌≤◌, Bool, true, false, not, ◌&&◌, List, [], ◌∷◌, ◌++◌, length, slice_get, get_or, Option, Some, refl, ap, sym, subst, ◌∙◌, arith}
 use Rattle.std.specs.List.{list_all}
 use Rattle.std.proofs.lemmas.List.Elements.{All-from_get_or}
 use Rattle.std.proofs.lemmas.List.FromFn.{length-map-range_with_len}
@@ -29,7 +29,7 @@ none-floats (w ∷ words) none =
     ap (λ b. not b && list_all (λ word. not (is_float word)) words) (none 0 (omega arith))
     ∙ none-floats words (λ k lt. none (suc k) (omega (arith, lt)))
 
-module _ (code : ℕ → Option ℕ) (method_bytes : ℕ) (place : Place) (p : Placed) (is : IsPlaced code method_bytes place p) (good : IsGood code place) where
+module _ {metered : Bool} (code : ℕ → Option ℕ) (method_bytes : ℕ) (place : Place) (p : Placed) (is : IsPlaced metered code method_bytes place p) (good : IsGood code place) where
   abbrev pub words : List ℕ
   words = is.part_is.range_is.words
 

@@ -22,7 +22,7 @@ joined first weights limit (s ∷ spans) cuts =
 pub few-spans : (part : Part) (limit : ℕ) (spans : List Span) → 4096 ≤ limit → part.words ≤ 6144 → Cuts 0 (weights_of part part.words) limit spans
     → Fills (weights_of part part.words) limit spans → length spans ≤ 2048
 few-spans part limit spans large short cuts fills =
-    let small = all-counted (λ (w : ℕ). w ≤ 512) (weight_at part) 0 part.words (λ j from below. weight-small (unit_at part.units.now (part.first + j))) in
+    let small = all-counted (λ (w : ℕ). w ≤ 540) (weight_at part) 0 part.words (λ j from below. weight-small part.metered (unit_at part.units.now (part.first + j))) in
     let most = cut-few 0 (weights_of part part.words) limit spans large small cuts fills in
     omega (arith, most, length-map-range_with_len (weight_at part) 0 part.words, short)
 

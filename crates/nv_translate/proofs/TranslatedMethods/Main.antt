@@ -9,12 +9,13 @@ use Rattle.code_steps.specs.Placing.{LiesAt}
 use Rattle.guest_layout.specs.Helpers.{helper_descriptor}
 use Rattle.guest_layout.specs.Numbers.{choose_number, missing_number}
 use Rattle.mem_helpers.specs.Methods.{helper_code}
-use Rattle.trampoline.specs.Choosers.{main_chooser, missing_code}
+use Rattle.trampoline.specs.Choosers.{main_chooser, missing_method}
 use Rattle.code_assembly.specs.declared.references.References.{References}
 use Rattle.running_laws.specs.TrampolineLaws.Choosing.{IsMethod}
 use Rattle.running_laws.specs.SpanCodeLaws.Helpers.{HasHelpers, IsHelper, helper_parameters, helper_count}
 use Rattle.program_classes.specs.Making.{Plan}
 use Rattle.program_classes.specs.declared.content.MainClass.{MainClass}
+use Rattle.program_classes.specs.Content.{has_meter}
 use Rattle.program_classes.specs.Main.{helper_plan, helper_plans, choose_plan, missing_plan, other_plans, main_plans}
 use Rattle.nv_translate.specs.Linked.{IsPlanned, ArePlanned}
 use Rattle.nv_translate.proofs.TranslatedMethods.Lines.{lies}
@@ -53,14 +54,14 @@ module _ (program : Program) (main : MainClass) (texts : List ℕ) (by : Referen
   chooses : IsPlanned program choose_number (choose_plan main by)
   chooses = planned-as choose_number (choose_plan main by) refl
 
-  misses : IsPlanned program missing_number (missing_plan by)
-  misses = planned-as missing_number (missing_plan by) refl
+  misses : IsPlanned program missing_number (missing_plan (has_meter main) by)
+  misses = planned-as missing_number (missing_plan (has_meter main) by) refl
 
   pub choose-lies : LiesAt program choose_number 0 (main_chooser main.starts.now missing_number)
   choose-lies = planned-lies program choose_number (choose_plan main by) chooses
 
   pub missing-is : IsMethod program missing_number
-  missing-is = planned-method program missing_number (missing_plan by) misses refl
+  missing-is = planned-method program missing_number (missing_plan (has_meter main) by) misses refl
 
-  pub missing-lies : LiesAt program missing_number 0 missing_code
-  missing-lies = planned-lies program missing_number (missing_plan by) misses
+  pub missing-lies : LiesAt program missing_number 0 (missing_method (has_meter main))
+  missing-lies = planned-lies program missing_number (missing_plan (has_meter main) by) misses

@@ -1,5 +1,6 @@
 -- The methods of a linked translation stand in its program.
 use Rattle.std.proofs.Common.{◌≡◌, ℕ, ◌%◌, ◌≤◌, List, length, Option, Some, ap, sym, subst, ◌∙◌, arith}
+use Rattle.std.specs.Prelude.{is_some}
 use Rattle.std.specs.List.{AllByRecursion}
 use Rattle.std.proofs.lemmas.List.Elements.{recursion_from_All}
 use Rattle.std.proofs.lemmas.Slice.Zip.{AllZip-long}
@@ -11,24 +12,24 @@ use Rattle.jvm_program.specs.Program.{Program}
 use Rattle.jvm_link.specs.Linking.{program_of}
 use Rattle.code_steps.specs.Placing.{LiesAt}
 use Rattle.guest_layout.specs.Numbers.{main_methods, choose_number, missing_number}
-use Rattle.trampoline.specs.Choosers.{main_chooser}
+use Rattle.trampoline.specs.Choosers.{main_chooser, missing_method}
 use Rattle.running_laws.specs.SpanCodeLaws.Helpers.{HasHelpers}
 use Rattle.running_laws.specs.TrampolineLaws.Classes.{CodeClass, starts_of}
 use Rattle.running_laws.specs.TrampolineLaws.Programs.{IsInClass, IsTranslated}
 use Rattle.program_translation.specs.Places.{Place, places_of}
 use Rattle.program_translation.specs.Classes.{IsPlaced}
 use Rattle.program_translation.specs.declared.built.Built.{Built}
-use Rattle.nv_translate.specs.Linked.{IsLinked}
+use Rattle.nv_translate.specs.Linked.{IsLinkedBy}
 use Rattle.nv_translate.specs.AcceptedCode.{HasAcceptedCode}
 use Rattle.nv_translate.specs.Standing.{Stands}
 use Rattle.nv_translate.proofs.TranslatedMethods.Main.{has-helpers, choose-lies, missing-is, missing-lies}
 use Rattle.nv_translate.proofs.TranslatedMethods.Places.{IsGood, good-places, places-rise, places-few}
 use Rattle.nv_translate.proofs.TranslatedMethods.Words.{words-at}
 use Rattle.nv_translate.proofs.TranslatedMethods.Areas.{in-area}
-use Rattle.nv_translate.proofs.TranslatedMethods.Together.{classes_of, are-classes, have-classes, have-ranges, as-many, numbered, ordered, starts-are, has-words, few-starts}
+use Rattle.nv_translate.proofs.TranslatedMethods.Together.{classes_of, are-classes, have-classes, are-metered, have-ranges, as-many, numbered, ordered, starts-are, has-words, few-starts}
 
-module _ (source : Source) (name : Text) (method_bytes : ℕ) (built : Built) (guest : HasAcceptedCode source) (large : 4096 ≤ method_bytes)
-    (l : IsLinked source name method_bytes built) where
+module _ {meter : Option ℕ} (source : Source) (name : Text) (method_bytes : ℕ) (built : Built) (guest : HasAcceptedCode source) (large : 4096 ≤ method_bytes)
+    (l : IsLinkedBy meter source name method_bytes built) where
   abbrev program : Program
   program = program_of l.classes
 
@@ -42,7 +43,7 @@ module _ (source : Source) (name : Text) (method_bytes : ℕ) (built : Built) (g
   places = places_of ranges
 
   abbrev classes : List CodeClass
-  classes = classes_of code method_bytes places l.code l.code_is.placed.each
+  classes = classes_of (is_some meter) code method_bytes places l.code l.code_is.placed.each
 
   filled : AllByRecursion (λ (r : Range). 1 ≤ r.words) ranges
   filled = recursion_from_All (λ (r : Range). 1 ≤ r.words) ranges l.code_is.ranges_are.filled
@@ -63,13 +64,13 @@ module _ (source : Source) (name : Text) (method_bytes : ℕ) (built : Built) (g
   chooses : LiesAt program choose_number 0 (main_chooser (starts_of missing_number classes) missing_number)
   chooses =
       subst (λ starts. LiesAt program choose_number 0 (main_chooser starts missing_number))
-      (l.content.starts_are ∙ starts-are code method_bytes places l.code l.code_is.placed.each)
+      (l.content.starts_are ∙ starts-are (is_some meter) code method_bytes places l.code l.code_is.placed.each)
       (choose-lies program l.main l.texts l.main_by l.main_planned)
 
   only : (a word : ℕ) → code a ≡ Some word → IsInClass classes a
   only a word there =
       let in_code = in-area source a word there in
-      has-words code method_bytes places l.code l.code_is.placed.each a
+      has-words (is_some meter) code method_bytes places l.code l.code_is.placed.each a
       (words-at ranges a aligned in_code.0 (sym (l.code_is.ranges_are.same a) ∙ in_code.1))
 
   few : length (starts_of missing_number classes) ≤ 2048
@@ -77,41 +78,43 @@ module _ (source : Source) (name : Text) (method_bytes : ℕ) (built : Built) (g
       omega (
         arith,
         few-starts missing_number classes,
-        as-many code method_bytes places l.code l.code_is.placed.each,
+        as-many (is_some meter) code method_bytes places l.code l.code_is.placed.each,
         places-few ranges,
         guest.whole.words ranges l.code_is.ranges_are,
         guest.few ranges l.code_is.ranges_are,
       )
 
-  translated : IsTranslated program (image_of source).order choose_number missing_number classes code
+  translated : IsTranslated (is_some meter) program (image_of source).order choose_number missing_number classes code
   translated = record {
     helpers = helpers;
     choose_lies = chooses;
     missing_is = missing-is program l.main l.texts l.main_by l.main_planned;
-    missing_lies = missing-lies program l.main l.texts l.main_by l.main_planned;
+    missing_lies = subst (λ turns. LiesAt program missing_number 0 (missing_method (is_some turns))) l.content.meter_is
+        (missing-lies program l.main l.texts l.main_by l.main_planned);
     low = main_methods;
     helpers_low = omega arith;
     choose_above = omega arith;
     choose_low = omega arith;
     missing_above = omega arith;
     missing_low = omega arith;
-    has = have-classes code method_bytes program large places l.code l.code_is.placed.each good l.code_has;
+    has = have-classes (is_some meter) code method_bytes program large places l.code l.code_is.placed.each good l.code_has;
+    metered_are = are-metered (is_some meter) code method_bytes places l.code l.code_is.placed.each;
     some =
         omega (
           arith,
-          as-many code method_bytes places l.code l.code_is.placed.each,
-          AllZip-long (IsPlaced code method_bytes) places l.code l.code_is.placed.each,
+          as-many (is_some meter) code method_bytes places l.code l.code_is.placed.each,
+          AllZip-long (IsPlaced (is_some meter) code method_bytes) places l.code l.code_is.placed.each,
           l.some,
         );
     few = few;
-    numbered = numbered code method_bytes places l.code l.code_is.placed.each 0 main_methods l.code_is.placed.follow;
-    ordered = ordered code method_bytes places l.code l.code_is.placed.each good (places-rise ranges filled l.code_is.ranges_are.apart);
-    code_is = record { ranges = have-ranges code method_bytes places l.code l.code_is.placed.each good; only = only };
+    numbered = numbered (is_some meter) code method_bytes places l.code l.code_is.placed.each 0 main_methods l.code_is.placed.follow;
+    ordered = ordered (is_some meter) code method_bytes places l.code l.code_is.placed.each good (places-rise ranges filled l.code_is.ranges_are.apart);
+    code_is = record { ranges = have-ranges (is_some meter) code method_bytes places l.code l.code_is.placed.each good; only = only };
   }
 
-  pub stands : Stands source l.code program
+  pub stands : Stands (is_some meter) source l.code program
   stands = record {
     classes = classes;
-    classes_are = are-classes code method_bytes places l.code l.code_is.placed.each;
+    classes_are = are-classes (is_some meter) code method_bytes places l.code l.code_is.placed.each;
     translated = translated;
   }

@@ -24,14 +24,14 @@ long-units : (words : List ℕ) → length (units_of words) ≡ length words
 long-units [] = refl
 long-units (w ∷ words) = ap suc (long-units words)
 
-module _ (code : ℕ → Option ℕ) (method_bytes : ℕ) where
-  abbrev pub classes_of : (places : List Place) (placed : List Placed) → AllZip (IsPlaced code method_bytes) places placed → List CodeClass
+module _ (metered : Bool) (code : ℕ → Option ℕ) (method_bytes : ℕ) where
+  abbrev pub classes_of : (places : List Place) (placed : List Placed) → AllZip (IsPlaced metered code method_bytes) places placed → List CodeClass
   classes_of [] [] are = []
   classes_of [] (c ∷ placed) are = []
   classes_of (p ∷ places) [] are = []
   classes_of (p ∷ places) (c ∷ placed) are = class_of c are.0.part_is.range_is.words ∷ classes_of places placed are.1
 
-  pub are-classes : (places : List Place) (placed : List Placed) (are : AllZip (IsPlaced code method_bytes) places placed)
+  pub are-classes : (places : List Place) (placed : List Placed) (are : AllZip (IsPlaced metered code method_bytes) places placed)
       → AllZip IsClassOf placed (classes_of places placed are)
   are-classes [] [] are = tt
   are-classes [] (c ∷ placed) are = absurd are
@@ -41,7 +41,7 @@ module _ (code : ℕ → Option ℕ) (method_bytes : ℕ) where
 
   -- ---- each stands
 
-  pub have-classes : (program : Program) → 4096 ≤ method_bytes → (places : List Place) (placed : List Placed) (are : AllZip (IsPlaced code method_bytes) places placed)
+  pub have-classes : (program : Program) → 4096 ≤ method_bytes → (places : List Place) (placed : List Placed) (are : AllZip (IsPlaced metered code method_bytes) places placed)
       → AllByRecursion (IsGood code) places → ((i : ℕ) (c : Placed) → slice_get placed i ≡ Some c → HasCodeClass program c)
       → All (HasClass program) (classes_of places placed are)
   have-classes program large [] [] are good has = All-nil (HasClass program)
@@ -52,7 +52,16 @@ module _ (code : ℕ → Option ℕ) (method_bytes : ℕ) where
       (has-class code method_bytes p c are.0 good.0 program (has 0 c refl) large)
       (have-classes program large places placed are.1 good.1 (λ i d at. has (suc i) d at))
 
-  pub have-ranges : (places : List Place) (placed : List Placed) (are : AllZip (IsPlaced code method_bytes) places placed)
+  pub are-metered : (places : List Place) (placed : List Placed) (are : AllZip (IsPlaced metered code method_bytes) places placed)
+      → All (λ (c : CodeClass). c.metered ≡ metered) (classes_of places placed are)
+  are-metered [] [] are = All-nil (λ (c : CodeClass). c.metered ≡ metered)
+  are-metered [] (c ∷ placed) are = absurd are
+  are-metered (p ∷ places) [] are = absurd are
+  are-metered (p ∷ places) (c ∷ placed) are =
+      All-cons (λ (c : CodeClass). c.metered ≡ metered) (class_of c are.0.part_is.range_is.words) (classes_of places placed are.1) are.0.metered_is
+      (are-metered places placed are.1)
+
+  pub have-ranges : (places : List Place) (placed : List Placed) (are : AllZip (IsPlaced metered code method_bytes) places placed)
       → AllByRecursion (IsGood code) places → All (λ (c : CodeClass). HasRange code c.start c.words) (classes_of places placed are)
   have-ranges [] [] are good = All-nil (λ (c : CodeClass). HasRange code c.start c.words)
   have-ranges [] (c ∷ placed) are good = absurd are
@@ -63,7 +72,7 @@ module _ (code : ℕ → Option ℕ) (method_bytes : ℕ) where
 
   -- ---- they are as many as the places
 
-  pub as-many : (places : List Place) (placed : List Placed) (are : AllZip (IsPlaced code method_bytes) places placed)
+  pub as-many : (places : List Place) (placed : List Placed) (are : AllZip (IsPlaced metered code method_bytes) places placed)
       → length (classes_of places placed are) ≡ length places
   as-many [] [] are = refl
   as-many [] (c ∷ placed) are = absurd are
@@ -72,7 +81,7 @@ module _ (code : ℕ → Option ℕ) (method_bytes : ℕ) where
 
   -- ---- their numbers rise
 
-  pub numbered : (places : List Place) (placed : List Placed) (are : AllZip (IsPlaced code method_bytes) places placed) (number first : ℕ)
+  pub numbered : (places : List Place) (placed : List Placed) (are : AllZip (IsPlaced metered code method_bytes) places placed) (number first : ℕ)
       → Follow number first placed → AreNumbered first (classes_of places placed are)
   numbered [] [] are number first follow = tt
   numbered [] (c ∷ placed) are number first follow = absurd are
@@ -82,13 +91,13 @@ module _ (code : ℕ → Option ℕ) (method_bytes : ℕ) where
 
   -- ---- they stand in order
 
-  last-if : (p : Place) (c : Placed) (is : IsPlaced code method_bytes p c) → IsGood code p → Ends p → is_last (class_of c is.part_is.range_is.words) ≡ true
+  last-if : (p : Place) (c : Placed) (is : IsPlaced metered code method_bytes p c) → IsGood code p → Ends p → is_last (class_of c is.part_is.range_is.words) ≡ true
   last-if p c is good ends =
       let part = is.part_is in
       eq-eqb (c.part.first + c.part.words) (length part.range_is.words)
       (omega (arith, part.first_is, part.words_are, count code method_bytes p c is good, ends))
 
-  inner-if : (p : Place) (c : Placed) (is : IsPlaced code method_bytes p c) → IsGood code p → p.share.first + p.share.count < p.range.words
+  inner-if : (p : Place) (c : Placed) (is : IsPlaced metered code method_bytes p c) → IsGood code p → p.share.first + p.share.count < p.range.words
       → is_last (class_of c is.part_is.range_is.words) ≡ false
   inner-if p c is good more =
       let part = is.part_is in
@@ -96,7 +105,7 @@ module _ (code : ℕ → Option ℕ) (method_bytes : ℕ) where
       ne_eqb (c.part.first + c.part.words) (length part.range_is.words)
       (λ same. omega (arith, part.first_is, part.words_are, long, more, same))
 
-  goes-on : (p q : Place) (c d : Placed) (is : IsPlaced code method_bytes p c) (next : IsPlaced code method_bytes q d) → IsGood code p
+  goes-on : (p q : Place) (c d : Placed) (is : IsPlaced metered code method_bytes p c) (next : IsPlaced metered code method_bytes q d) → IsGood code p
       → GoesOnIn p q ⊎ BeginsBehind p q → GoesOn (class_of c is.part_is.range_is.words) (class_of d next.part_is.range_is.words)
   goes-on p q c d is next good (inl goes) =
       let a = is.part_is in
@@ -116,7 +125,7 @@ module _ (code : ℕ → Option ℕ) (method_bytes : ℕ) where
         next_range = λ yes. omega (arith, a.start_is, a.first_is, a.words_are, b.start_is, b.first_is, begins.ends, begins.behind, begins.first);
       }
 
-  pub ordered : (places : List Place) (placed : List Placed) (are : AllZip (IsPlaced code method_bytes) places placed)
+  pub ordered : (places : List Place) (placed : List Placed) (are : AllZip (IsPlaced metered code method_bytes) places placed)
       → AllByRecursion (IsGood code) places → AreRising places → AreOrdered (classes_of places placed are)
   ordered [] [] are good rising = tt
   ordered [] (c ∷ placed) are good rising = absurd are
@@ -129,14 +138,14 @@ module _ (code : ℕ → Option ℕ) (method_bytes : ℕ) where
 
   -- ---- where they begin
 
-  starts-one : (p : Place) (c : Placed) (is : IsPlaced code method_bytes p c)
+  starts-one : (p : Place) (c : Placed) (is : IsPlaced metered code method_bytes p c)
       → files.starts_of_class c ≡ class_starts missing_number (class_of c is.part_is.range_is.words)
   starts-one p c is =
       let long : length c.part.units.now ≡ length is.part_is.range_is.words = ap length is.part_is.range_is.units_are ∙ long-units is.part_is.range_is.words in
       ap (λ (n : ℕ). record { first = codes.address c.part 0; method = files.run_of c }
       ∷ (if c.part.first + c.part.words == n then record { first = codes.address c.part c.part.words; method = missing_number } ∷ [] else [])) long
 
-  pub starts-are : (places : List Place) (placed : List Placed) (are : AllZip (IsPlaced code method_bytes) places placed)
+  pub starts-are : (places : List Place) (placed : List Placed) (are : AllZip (IsPlaced metered code method_bytes) places placed)
       → files.starts_of placed ≡ starts_of missing_number (classes_of places placed are)
   starts-are [] [] are = refl
   starts-are [] (c ∷ placed) are = absurd are
@@ -157,7 +166,7 @@ module _ (code : ℕ → Option ℕ) (method_bytes : ℕ) where
     is_there = at.is_there;
   }
 
-  in-first : (p : Place) (c : Placed) (is : IsPlaced code method_bytes p c) (classes : List CodeClass) (q : Place) (a word : ℕ) → p ≡ q → word < q.share.count
+  in-first : (p : Place) (c : Placed) (is : IsPlaced metered code method_bytes p c) (classes : List CodeClass) (q : Place) (a word : ℕ) → p ≡ q → word < q.share.count
       → a ≡ q.range.first + 4 * (q.share.first + word) → IsInClass (class_of c is.part_is.range_is.words ∷ classes) a
   in-first p c is classes q a word same below is_there =
       let part = is.part_is in
@@ -173,7 +182,7 @@ module _ (code : ℕ → Option ℕ) (method_bytes : ℕ) where
         is_there = omega (arith, part.start_is, part.first_is, start, first, is_there);
       }
 
-  in-class : (places : List Place) (placed : List Placed) (are : AllZip (IsPlaced code method_bytes) places placed) (number : ℕ) (q : Place) (a word : ℕ)
+  in-class : (places : List Place) (placed : List Placed) (are : AllZip (IsPlaced metered code method_bytes) places placed) (number : ℕ) (q : Place) (a word : ℕ)
       → slice_get places number ≡ Some q → word < q.share.count → a ≡ q.range.first + 4 * (q.share.first + word)
       → IsInClass (classes_of places placed are) a
   in-class [] placed are number q a word at below is_there = absurd (cc)
@@ -184,7 +193,7 @@ module _ (code : ℕ → Option ℕ) (method_bytes : ℕ) where
       next-class (class_of c are.0.part_is.range_is.words) (classes_of places placed are.1) a
       (in-class places placed are.1 number q a word at below is_there)
 
-  pub has-words : (places : List Place) (placed : List Placed) (are : AllZip (IsPlaced code method_bytes) places placed) (a : ℕ)
+  pub has-words : (places : List Place) (placed : List Placed) (are : AllZip (IsPlaced metered code method_bytes) places placed) (a : ℕ)
       → IsAtPlace places a → IsInClass (classes_of places placed are) a
   has-words places placed are a at = in-class places placed are at.number at.place a at.word at.there at.below at.is_there
 

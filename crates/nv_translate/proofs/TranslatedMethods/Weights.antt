@@ -1,5 +1,5 @@
 -- No word weighs much.
-use Rattle.std.proofs.Common.{ℕ, ◌≤◌, length, arith}
+use Rattle.std.proofs.Common.{ℕ, ◌≤◌, Bool, true, false, length, arith}
 use Rattle.mips_decode.specs.declared.names.load_name.LoadName.{LoadName}
 use Rattle.mips_decode.specs.declared.names.load_name.LoadName.TheVariants.{Lb, Lh, Lwl, Lw, Lbu, Lhu, Lwr}
 use Rattle.mips_decode.specs.declared.names.branch_sign_name.BranchSignName.{BranchSignName}
@@ -11,7 +11,7 @@ use Rattle.mips_decode.specs.declared.inst.Inst.TheVariants as inst
 use Rattle.delay_slots.specs.declared.unit.Unit.{Unit}
 use Rattle.delay_slots.specs.declared.unit.Unit.TheVariants.{Plain, Branch, SlotMissing, SlotIsBranch, Call, Trap}
 use Rattle.block_builder.specs.Registers.{read_by, read_by_load, written_by, written_by_branch_sign, written_by_jump}
-use Rattle.code_limits.specs.Weights.{branch_exit_bytes, weight}
+use Rattle.code_limits.specs.Weights.{branch_exit_bytes, weight, weight_of}
 use Rattle.code_limits.proofs.SmallInstructions.{instruction-small}
 
 -- ---- bytes
@@ -59,11 +59,16 @@ writes-few _ = omega arith
 
 -- ---- units
 
-pub weight-small : (u : Unit) → weight u ≤ 512
-weight-small (Plain i) = omega (arith, instruction-small i, reads-few i, writes-few i)
-weight-small (Branch i slot) =
+plain-small : (u : Unit) → weight u ≤ 412
+plain-small (Plain i) = omega (arith, instruction-small i, reads-few i, writes-few i)
+plain-small (Branch i slot) =
     omega (arith, instruction-small i, reads-few i, writes-few i, instruction-small slot, reads-few slot, writes-few slot, exit-small i)
-weight-small (SlotMissing i) = omega (arith, instruction-small i, reads-few i, writes-few i)
-weight-small (SlotIsBranch i word) = omega (arith, instruction-small i, reads-few i, writes-few i)
-weight-small Call = omega arith
-weight-small (Trap kind value) = omega arith
+plain-small (SlotMissing i) = omega (arith, instruction-small i, reads-few i, writes-few i)
+plain-small (SlotIsBranch i word) = omega (arith, instruction-small i, reads-few i, writes-few i)
+plain-small Call = omega arith
+plain-small (Trap kind value) = omega arith
+
+-- with a meter the guard of a word weighs too
+pub weight-small : (metered : Bool) (u : Unit) → weight_of metered u ≤ 540
+weight-small true u = let plain = plain-small u in omega (arith, plain)
+weight-small false u = let plain = plain-small u in omega (arith, plain)

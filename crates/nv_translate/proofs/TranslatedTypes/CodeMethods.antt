@@ -57,7 +57,7 @@ module _ (program : Program) (c : Placed) (has : HasCodeClass program c) where
     span-typed k below =
         let none : Span = record { first = 0; words = 0 } in
         let s : Span = span_at c.spans k in
-        let span : SpanWords = span_of c.part.start (c.part.first + s.first) s.words in
+        let span : SpanWords = span_of c.part.metered c.part.start (c.part.first + s.first) s.words in
         let own : SpanTyped program (units_of w.words) (flagged c.part.leads.now) span =
         laws.spans program w.words (flagged c.part.leads.now) span helpers w.are_words w.no_float (w.within k none below) in
         let typed : SpanTyped program c.part.units.now (flagged c.part.leads.now) span =

@@ -1,5 +1,5 @@
 -- The words of the classes of code of a program that was accepted.
-use Rattle.std.proofs.Common.{◌≡◌, ℕ, ◌+◌, ◌-◌, ◌*◌, ◌<◌, ◌≤◌, min, List, length, All, Option, Some, slice_get, arith}
+use Rattle.std.proofs.Common.{◌≡◌, ℕ, ◌+◌, ◌-◌, ◌*◌, ◌<◌, ◌≤◌, min, Bool, List, length, All, Option, Some, slice_get, arith}
 use Rattle.std.proofs.lemmas.Grind.{div_ceil_times}
 use Rattle.std.proofs.lemmas.List.Elements.{All-weaker}
 use Rattle.std.proofs.lemmas.List.FromFn.{length-map-range_with_len}
@@ -34,7 +34,7 @@ inside code ranges whole =
       within = share-fits r.words k (share_count class_words r.words) ((div_ceil_times r.words 6144 (omega arith)).1) (omega (arith, high));
     }))
 
-module _ (code : ℕ → Option ℕ) (method_bytes : ℕ) (p : Place) (c : Placed) (is : IsInside code p) (placed : IsPlaced code method_bytes p c) where
+module _ {metered : Bool} (code : ℕ → Option ℕ) (method_bytes : ℕ) (p : Place) (c : Placed) (is : IsInside code p) (placed : IsPlaced metered code method_bytes p c) where
   pub class-words : HasWords c
   class-words =
       let weights = weights_of c.part c.part.words in
@@ -51,7 +51,7 @@ module _ (code : ℕ → Option ℕ) (method_bytes : ℕ) (p : Place) (c : Place
             c.spans (cut-within 0 weights method_bytes c.spans placed.spans_are.cuts);
       }
 
-pub words-inside : (code : ℕ → Option ℕ) (ranges : List Range) (i : ℕ) (p : Place) → All (IsWholeRange code) ranges
-    → slice_get (places_of ranges) i ≡ Some p → (method_bytes : ℕ) (c : Placed) → IsPlaced code method_bytes p c → HasWords c
+pub words-inside : {metered : Bool} (code : ℕ → Option ℕ) (ranges : List Range) (i : ℕ) (p : Place) → All (IsWholeRange code) ranges
+    → slice_get (places_of ranges) i ≡ Some p → (method_bytes : ℕ) (c : Placed) → IsPlaced metered code method_bytes p c → HasWords c
 words-inside code ranges i p whole there method_bytes c placed =
     class-words code method_bytes p c (all-at (IsInside code) (places_of ranges) i p (inside code ranges whole) there) placed

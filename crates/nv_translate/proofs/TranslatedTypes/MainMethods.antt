@@ -14,6 +14,7 @@ use Rattle.code_types.specs.Methods.{IsStart, owes_nothing, owes_beginning, owes
 use Rattle.program_classes.specs.Making.{Plan}
 use Rattle.program_classes.specs.declared.content.MainClass.{MainClass}
 use Rattle.program_classes.specs.Called.{pages_descriptor}
+use Rattle.program_classes.specs.Content.{has_meter}
 use Rattle.program_classes.specs.Main.{helper_plan, helper_plans, run_plan, choose_plan, pages_plan, missing_plan, other_plans, main_plans}
 use Rattle.nv_translate.specs.Linked.{IsPlanned, ArePlanned}
 use Rattle.nv_translate.proofs.TranslatedTypes.Lists.{left-of, counted-first}
@@ -104,11 +105,11 @@ module _ (program : Program) (main : MainClass) (texts : List ℕ) (by : Referen
   pages-as : IsPlanned program pages_number (pages_plan by)
   pages-as = planned-as pages_number (pages_plan by) refl
 
-  missing-as : IsPlanned program missing_number (missing_plan by)
-  missing-as = planned-as missing_number (missing_plan by) refl
+  missing-as : IsPlanned program missing_number (missing_plan (has_meter main) by)
+  missing-as = planned-as missing_number (missing_plan (has_meter main) by) refl
 
   pub missing-takes : TakesGives program missing_number [] false
-  missing-takes = plan-quiet program missing_number (missing_plan by) missing-as refl
+  missing-takes = plan-quiet program missing_number (missing_plan (has_meter main) by) missing-as refl
 
   module _ (laws : TypingLaws) where
     helper-typed : (number : ℕ) → number < 20 → HasType program number
@@ -120,7 +121,7 @@ module _ (program : Program) (main : MainClass) (texts : List ℕ) (by : Referen
     run-typed : All (λ (m : ℕ). TakesGives program m [] false) main.data.now → HasType program run_number
     run-typed fills =
         quiet-typed laws.bodies program run_number (run_plan main texts by) owes_nothing (planned-as run_number (run_plan main texts by) refl) refl
-        (laws.run program main.beginning texts 0 pages_number main.data.now choose_number
+        (laws.run program main.meter main.beginning texts 0 pages_number main.data.now choose_number
         (plan-takes program pages_number (pages_plan by) (Text ∷ []) false pages-as text-taken refl) fills
         (plan-quiet program choose_number (choose_plan main by) choose-as refl))
 
@@ -134,7 +135,7 @@ module _ (program : Program) (main : MainClass) (texts : List ℕ) (by : Referen
         plan-typed laws.bodies program pages_number (pages_plan by) owes_pages (Text ∷ []) pages-as text-taken (omega arith) (laws.pages program)
 
     missing-typed : HasType program missing_number
-    missing-typed = quiet-typed laws.bodies program missing_number (missing_plan by) owes_nothing missing-as refl (laws.missing program)
+    missing-typed = quiet-typed laws.bodies program missing_number (missing_plan (has_meter main) by) owes_nothing missing-as refl (laws.missing program (has_meter main))
 
     pub main-typed : All (IsStart program) main.starts.now → All (λ (m : ℕ). TakesGives program m [] false) main.data.now
         → (m : ℕ) → m < 24 → HasType program m

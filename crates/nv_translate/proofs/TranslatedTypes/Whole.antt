@@ -1,5 +1,6 @@
 -- All methods of a linked translation.
-use Rattle.std.proofs.Common.{◌≡◌, ℕ, ◌<◌, inl, inr, Bool, true, false, if◌then◌else◌, [], ◌∷◌, length, All, slice_get, Some, sym, subst, ◌∙◌, ◌+◌, arith}
+use Rattle.std.proofs.Common.{◌≡◌, ℕ, ◌<◌, inl, inr, Bool, true, false, if◌then◌else◌, [], ◌∷◌, length, All, slice_get, Option, Some, sym, subst, ◌∙◌, ◌+◌, arith}
+use Rattle.std.specs.Prelude.{is_some}
 use Rattle.std.proofs.lemmas.Bool.{cases_lt}
 use Rattle.std.proofs.lemmas.Option.{none-some}
 use Rattle.std.proofs.lemmas.List.Elements.{All-nil, All-cons}
@@ -20,7 +21,7 @@ use Rattle.program_translation.specs.DataFiles.{class_count, filled_pages, first
 use Rattle.program_translation.specs.declared.built.Built.{Built}
 use Rattle.program_translation.specs.Translation.{code_methods}
 use Rattle.nv_translate.specs.WholeCode.{HasWholeCode}
-use Rattle.nv_translate.specs.Linked.{IsLinked}
+use Rattle.nv_translate.specs.Linked.{IsLinkedBy}
 use Rattle.nv_translate.proofs.TranslatedTypes.Lists.{all-counted, all-joined, against}
 use Rattle.nv_translate.proofs.TranslatedTypes.Planned.{HasType}
 use Rattle.nv_translate.proofs.TranslatedTypes.Lower.{TypingLaws}
@@ -41,8 +42,8 @@ class-starts program c runs misses =
     let behind : Start = record { first = address c.part c.part.words; method = missing_number } in
     All-cons (IsStart program) own (if is_last c.part then behind ∷ [] else []) runs (last-starts program (is_last c.part) behind misses)
 
-module _ (laws : TypingLaws) (source : Source) (name : Text) (method_bytes : ℕ) (built : Built) (whole : HasWholeCode source)
-    (l : IsLinked source name method_bytes built) where
+module _ {meter : Option ℕ} (laws : TypingLaws) (source : Source) (name : Text) (method_bytes : ℕ) (built : Built) (whole : HasWholeCode source)
+    (l : IsLinkedBy meter source name method_bytes built) where
   abbrev program : Program
   program = program_of l.classes
 
@@ -56,7 +57,7 @@ module _ (laws : TypingLaws) (source : Source) (name : Text) (method_bytes : ℕ
   words-at i c there =
       let code = (image_of source).code in
       let ranges = l.code_is.ranges in
-      let a = against (IsPlaced code method_bytes) (places_of ranges) l.code i c l.code_is.placed.each there in
+      let a = against (IsPlaced (is_some meter) code method_bytes) (places_of ranges) l.code i c l.code_is.placed.each there in
       words-inside code ranges i a.one (whole.whole ranges l.code_is.ranges_are) a.there method_bytes c a.related
 
   starts-are : All (IsStart program) l.main.starts.now

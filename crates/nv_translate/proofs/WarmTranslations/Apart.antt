@@ -11,7 +11,7 @@ use Rattle.span_code.proofs.BodyLemmas.{kept-more, size-more, size-rises}
 pub stretches-apart : (units : List Unit) (leads : ℕ → Bool) (span : SpanWords) (k l : ℕ) → span.first ≤ k → k < l → begins leads span k ≡ true
     → (stretch_at units leads span k).to ≤ (stretch_at units leads span l).from
 stretches-apart units leads span k l above less begin =
-    let up_to : SpanWords = record { start = span.start; first = span.first; end = l } in
+    let up_to : SpanWords = record { metered = span.metered; start = span.start; first = span.first; end = l } in
     let test = begins leads span in
     let own = warm_part units leads span in
     let more = size-more own (filter test (words_before span k)) (filter test (words_before span (k + 1))) k (kept-more test span k above begin) in

@@ -41,7 +41,7 @@ use Rattle.nv_translate.proofs.WarmTranslations.Ending.{piece-plain}
 use Rattle.nv_translate.proofs.WarmTranslations.Pieces.{one-span}
 
 module _ (laws : WarmLaws) (program : Program) (order : Order) (choose missing : ℕ) (classes : List CodeClass) (code : ℕ → Option ℕ)
-    (translated : IsTranslated program order choose missing classes code) (layout : Layout) where
+    (translated : IsTranslated false program order choose missing classes code) (layout : Layout) where
   class-has : (n : ℕ) (c : CodeClass) → slice_get classes n ≡ Some c → HasClass program c
   class-has n c there = all-at (HasClass program) classes n c translated.has there
 
@@ -85,7 +85,7 @@ module _ (laws : WarmLaws) (program : Program) (order : Order) (choose missing :
     ready : (words : ℕ) (others : List Frame) → length others < 62 → IsReady (site_of program words p others) order
     ready words others few = record {
       helpers = translated.helpers;
-      no_helper = (let above = (laws.numbered program order choose missing classes code translated).above p.number p.class p.there in
+      no_helper = (let above = (laws.numbered false program order choose missing classes code translated).above p.number p.class p.there in
           omega (arith, above, translated.helpers_low));
       few = few;
     }

@@ -1,5 +1,5 @@
 -- A linked translation is warm.
-use Rattle.std.proofs.Common.{◌≡◌, ℕ, ◌+◌, ◌*◌, ◌≤◌, true, List, None, All, ap, subst, arith}
+use Rattle.std.proofs.Common.{◌≡◌, ℕ, ◌+◌, ◌*◌, ◌≤◌, true, false, List, None, All, ap, subst, arith}
 use Rattle.nv_events.specs.Answer.{Answer, next_answer}
 use Rattle.nv_events.specs.Memory.{Memory}
 use Rattle.nv_events.specs.Run.{Run, run_of}
@@ -30,7 +30,8 @@ use Rattle.nv_translate.specs.Loading.{LoadsSource}
 use Rattle.nv_translate.specs.Standing.{Stands}
 use Rattle.nv_translate.specs.Warm.{IsPieceOf, AtBlock, IsWarm, guest_run}
 use Rattle.nv_translate.proofs.LinkedTranslations.Lists.{all-got}
-use Rattle.nv_translate.proofs.CountedTranslations.Paired.{behind_all, paired, are-paired}
+use Rattle.nv_translate.proofs.PairedTranslations.{behind_all}
+use Rattle.nv_translate.proofs.CountedTranslations.Paired.{plain, are-paired}
 use Rattle.nv_translate.proofs.WarmTranslations.Given.{WarmLaws}
 use Rattle.nv_translate.proofs.WarmTranslations.Rising.{firsts-rise}
 use Rattle.nv_translate.proofs.WarmTranslations.Pieces.{block-piece, piece-block, pieces-apart}
@@ -41,10 +42,10 @@ use Rattle.nv_translate.proofs.WarmTranslations.Coming.{marks_block, is-marked, 
 
 -- a linked translation makes its memory
 abbrev pub Loads : (source : Source) (name : Text) (method_bytes : ℕ) (built : Built) → IsLinked source name method_bytes built → ℕ → Type 0
-Loads source name method_bytes built l words = LoadsSource source l.code (program_of l.classes) words (behind_all source l.code) l.texts l.main.runs.now
+Loads source name method_bytes built l words = LoadsSource None source l.code (program_of l.classes) words (behind_all source l.code) l.texts l.main.runs.now
 
 module _ (laws : WarmLaws) (marks-law : TranslatedProgramsComeToMarks) (source : Source) (name : Text) (method_bytes : ℕ) (built : Built) (image : IsImage source)
-    (l : IsLinked source name method_bytes built) (stands : Stands source l.code (program_of l.classes)) where
+    (l : IsLinked source name method_bytes built) (stands : Stands false source l.code (program_of l.classes)) where
   abbrev program : Program
   program = program_of l.classes
 
@@ -60,7 +61,7 @@ module _ (laws : WarmLaws) (marks-law : TranslatedProgramsComeToMarks) (source :
       (loads : Loads source name method_bytes built l words) (b : BlockInfo) (p : IsPieceOf classes built.layout b) (n : ℕ) (answers : List Answer)
       (one : 1 ≤ n) where
     abbrev t : TranslatedProgram
-    t = paired source name method_bytes built image l stands words loads
+    t = plain source name method_bytes built image l stands words loads
 
     abbrev starts : Memory → guest.State
     starts memory =

@@ -1,3 +1,4 @@
+use Rattle.std.specs.Prelude.{None}
 use Rattle.elf_image.specs.Start.{image_of}
 use Rattle.jvm_link.specs.Linking.{program_of}
 use Rattle.guest_layout.specs.Numbers.{choose_number, missing_number}
@@ -6,6 +7,6 @@ use Rattle.nv_translate.proofs.entered_translations.translations_go_on.Goals as 
 pub returns : goal.returns
 returns c source name method_bytes built image large l = record {
   same = λ words fields heap t answers held.
-      let stands = c.translations_stand.ensures source name method_bytes built image.code large l in
+      let stands = c.translations_stand.ensures None source name method_bytes built image.code large l in
       c.entered_programs_go_on.ensures (program_of l.classes) words (image_of source).order choose_number missing_number stands.classes (image_of source).code fields heap t answers stands.translated held;
 }

@@ -1,37 +1,25 @@
-use Rattle.std.proofs.Common.{sym, subst, ◌∙◌}
-use Rattle.nv_words.specs.Words.{IsWord}
+use Rattle.std.specs.Prelude.{false, None}
 use Rattle.elf_image.specs.Start.{Source}
 use Rattle.jvm_link.specs.Linking.{Accepted, program_of}
-use Rattle.nv_translate.specs.WholeCode.{HasWholeCode}
 use Rattle.nv_translate.specs.Linked.{IsLinked}
 use Rattle.nv_translate.specs.Running.{RunsAlike}
-use Rattle.nv_translate.specs.AcceptedCode.{HasAcceptedCode}
 use Rattle.nv_translate.specs.Images.{IsImage}
 use Rattle.nv_translate.proofs.laws.images_are_translated.Goals as goal
 
 pub returns : goal.returns
 returns c name method_bytes built lawful large is =
     let source : Source = c.args.image.now in
-    let whole : HasWholeCode source = record { words = c.laws.ensures.words; whole = c.laws.ensures.whole } in
-    let code : HasAcceptedCode source = record { whole = whole; few = c.laws.ensures.runs } in
-    let image : IsImage source = record {
-      code = code;
-      pages = record {
-        whole = record { lanes = c.laws.ensures.lanes; zeros = c.laws.ensures.zeros; low = c.laws.ensures.pages };
-        mapped = sym c.mapped-mapped.ensures.sum ∙ c.mapped-mapped.ensures.count;
-      };
-      entry = subst IsWord c.entry.ensures c.is_word.ensures;
-    } in
-    let linked : IsLinked source name method_bytes built = c.translations_link.ensures source name method_bytes built whole lawful is in
+    let image : IsImage source = c.is_image.ensures in
+    let linked : IsLinked source name method_bytes built = c.translations_link.ensures None source name method_bytes built image.code.whole lawful is in
     let alike : RunsAlike source (program_of linked.classes) = c.translations_run_alike.ensures source name method_bytes built image large linked in
-    let accepted : Accepted linked.classes = (c.translations_are_accepted.ensures source name method_bytes built code lawful is).all linked in
+    let accepted : Accepted linked.classes = (c.translations_are_accepted.ensures None source name method_bytes built image.code lawful is).all linked in
     record {
       is = is;
       linked = linked;
       accepted = accepted;
-      stored = λ files stored. c.translations_are_sets.ensures source name method_bytes built files code lawful is linked stored;
-      sized = c.translated_spans_keep_to_the_limit.ensures source name method_bytes built linked;
-      least = c.translated_spans_are_least.ensures source method_bytes linked.code linked.code_is;
+      stored = λ files stored. c.translations_are_sets.ensures None source name method_bytes built files image.code lawful is linked stored;
+      sized = c.translated_spans_keep_to_the_limit.ensures None source name method_bytes built linked;
+      least = c.translated_spans_are_least.ensures false source method_bytes linked.code linked.code_is;
       runs = alike;
       ends = c.runs_end_alike.ensures source linked.classes alike;
       again = c.translations_run_again.ensures source linked.classes accepted alike;

@@ -1,4 +1,4 @@
-use Rattle.std.proofs.Common.{ℕ, ◌+◌, ◌*◌, subst, arith}
+use Rattle.std.proofs.Common.{ℕ, ◌+◌, ◌*◌, false, None, subst, arith}
 use Rattle.nv_events.specs.Answer.{next_answer}
 use Rattle.nv_events.specs.Memory.{Memory}
 use Rattle.run_laws.specs.Runs.{SameRuns}
@@ -10,7 +10,8 @@ use Rattle.jvm_program.specs.Step.{start, turn}
 use Rattle.jvm_link.specs.Linking.{program_of}
 use Rattle.running_laws.specs.Translated.{TranslatedProgram, LoadsWithin}
 use Rattle.program_translation.specs.Bounds.{allow}
-use Rattle.nv_translate.proofs.CountedTranslations.Paired.{behind_all, paired, are-paired}
+use Rattle.nv_translate.proofs.PairedTranslations.{behind_all}
+use Rattle.nv_translate.proofs.CountedTranslations.Paired.{plain, are-paired}
 use Rattle.nv_translate.proofs.laws.translations_run_alike.Goals as goal
 
 pub returns : goal.returns
@@ -19,10 +20,10 @@ returns c source name method_bytes built image large l = record {
       let program : Program = program_of l.classes in
       let mapped : ℕ = (image_of source).mapped in
       let behind : ℕ = behind_all source l.code in
-      let stands = c.translations_stand.ensures source name method_bytes built image.code large l in
-      let apart = c.others_do_not_load.ensures.behind source method_bytes l.code behind l.code_is (omega arith) in
-      let loads = c.translations_load.ensures source name method_bytes built image.pages l words behind room apart in
-      let translated : TranslatedProgram = paired source name method_bytes built image l stands words loads in
+      let stands = c.translations_stand.ensures None source name method_bytes built image.code large l in
+      let apart = c.others_do_not_load.ensures.behind false source method_bytes l.code behind l.code_is (omega arith) in
+      let loads = c.translations_load.ensures None source name method_bytes built image.pages l words behind room apart in
+      let translated : TranslatedProgram = plain source name method_bytes built image l stands words loads in
       let time = loads.in_time in
       let within : LoadsWithin translated (131072 * (mapped + 4)) = omega (arith, time) in
       subst (λ (memory : Memory). SameRuns guest.turn (turn program words) next_answer (allow mapped) (guest_state.start (image_of source).order (image_of source).entry memory (image_of source).code (image_of source).heap_start (image_of source).heap_bytes) (start program) answers)

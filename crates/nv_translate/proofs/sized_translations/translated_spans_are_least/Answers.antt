@@ -7,7 +7,7 @@ use Rattle.nv_translate.proofs.LinkedTranslations.Lists.{zip-second}
 use Rattle.nv_translate.proofs.sized_translations.translated_spans_are_least.Goals as goal
 
 pub returns : goal.returns
-returns c source method_bytes code are i class others there cuts =
-    let placed = zip-second (IsPlaced (image_of source).code method_bytes) (places_of are.ranges) code i class are.placed.each there in
+returns c metered source method_bytes code are i class others there cuts =
+    let placed = zip-second (IsPlaced metered (image_of source).code method_bytes) (places_of are.ranges) code i class are.placed.each there in
     let spans = placed.2.spans_are in
     least (weights_of class.part class.part.words) method_bytes class.spans others spans.cuts spans.fills cuts

@@ -1,4 +1,5 @@
 use Rattle.std.proofs.Common.{◌≡◌, ℕ, ◌+◌, ◌≤◌, List, [], ◌∷◌, All, length, Some, sym, subst, ◌∙◌, arith}
+use Rattle.std.specs.Prelude.{is_some}
 use Rattle.std.proofs.lemmas.List.Elements.{All-nil, All-cons}
 use Rattle.std.proofs.lemmas.Option.{slice_get-get_or}
 use Rattle.elf_image.specs.Start.{image_of}
@@ -36,10 +37,10 @@ planned-within program m limit p method is there within =
     subst (HasBytes limit) one (subst (All (λ (l : LinkedLine). l.next ≤ limit)) (sym is.lines_are) (lines-within 0 limit p.code (omega (arith, within))))
 
 pub returns : goal.returns
-returns c source name method_bytes built l i k class method there below at =
+returns c meter source name method_bytes built l i k class method there below at =
     let part = class.part in
-    let placed = zip-second (IsPlaced (image_of source).code method_bytes) (places_of l.code_is.ranges) l.code i class l.code_is.placed.each there in
-    let sizes = c.divided_words_keep_to_the_limit.ensures part.units.now (flagged part.leads.now) part.start part.first part.words method_bytes class.spans
+    let placed = zip-second (IsPlaced (is_some meter) (image_of source).code method_bytes) (places_of l.code_is.ranges) l.code i class l.code_is.placed.each there in
+    let sizes = c.divided_words_keep_to_the_limit.ensures part.metered part.units.now (flagged part.leads.now) part.start part.first part.words method_bytes class.spans
     placed.2.spans_are.cuts in
     let few : size (code_of_span part (span_at class.spans k)) ≤ method_bytes =
     all-at (λ s. size (code_of_span part s) ≤ method_bytes) class.spans k (span_at class.spans k) sizes

@@ -5,4 +5,4 @@ pub returns-clause-code : goal.returns-clause-code
 returns-clause-code c = code-takes-no-part
 
 pub returns-clause-behind : goal.returns-clause-behind
-returns-clause-behind c = behind-takes-no-part
+returns-clause-behind c metered = behind-takes-no-part

@@ -1,4 +1,5 @@
 use Rattle.std.proofs.Common.{◌≡◌, ℕ, ◌+◌, ◌*◌, ◌^◌, ◌<◌, ◌≤◌, Bool, true, false, List, length, refl, ap, sym, subst, ◌∙◌, arith}
+use Rattle.std.specs.Prelude.{is_some}
 use Rattle.std.specs.List.{AllZip}
 use Rattle.elf_image.specs.Start.{image_of, readable, writable}
 use Rattle.image_parts.specs.declared.page_run.PageRun.{PageRun}
@@ -15,6 +16,7 @@ use Rattle.program_translation.specs.Bounds.{need}
 use Rattle.program_translation.specs.DataFiles.{fill_of, first_method}
 use Rattle.program_translation.specs.MainFile.{beginning_of}
 use Rattle.program_translation.specs.Translation.{code_methods}
+use Rattle.nv_translate.proofs.LinkedTranslations.Metered.{fields-least}
 use Rattle.nv_translate.proofs.TranslatedLoading.Pages.{numbers_of_pages, pages_of_slots, pages-counted}
 use Rattle.nv_translate.proofs.TranslatedLoading.Fillers.{fillers, all-apart, all-fill, all-have-slots, all-numbers, all-slots}
 use Rattle.nv_translate.proofs.TranslatedLoading.Beginning.{pages-method, pages-lie, main-begins}
@@ -35,7 +37,7 @@ fails test m true is none = absurd (none is)
 fails test m false is none = is
 
 pub returns : goal.returns
-returns c source name method_bytes built image l words m room apart =
+returns c meter source name method_bytes built image l words m room apart =
     let program : Program = program_of l.classes in
     let runs : List PageRun = l.main.runs.now in
     let shares : List (List PageRun) = run_shares text_runs runs in
@@ -51,10 +53,10 @@ returns c source name method_bytes built image l words m room apart =
     c.shares_tell_runs.ensures.tell program text_runs runs l.texts text-few l.content.runs_are l.texts_are in
     let few : length (slots_of made) ≤ length (pages_told shares) =
     subst (λ n. length (slots_of made) ≤ n) (sym (ap length told)) (pages.few (slots_of made) same) in
-    let begins : IsProgram program 20 m 21 22 (beginning_of source) l.texts made =
-    main-begins program l.main l.texts l.main_by l.main_planned m (beginning_of source) made l.content.beginning_is
+    let begins : IsProgram program 20 m 21 22 meter (beginning_of source) l.texts made =
+    main-begins program l.main l.texts l.main_by l.main_planned m meter (beginning_of source) made l.content.meter_is l.content.beginning_is
     (l.content.data_is ∙ sym (all-numbers program source (length l.code) (code_methods l.code) l.data_has))
-    l.first_is apart.first l.fields_are in
+    l.first_is apart.first (λ f below. let least = fields-least (is_some meter) in l.fields_are f (omega (arith, below, least))) in
     let makes : MakesMemory program words m pages_number l.texts shares made (readable source) (writable source) (page_words source) = record {
       apart = apart.pages;
       pages_is = pages-method program l.main l.texts l.main_by l.main_planned;

@@ -3,7 +3,7 @@ use Rattle.nv_translate.proofs.TranslatedTypes.Whole.{all-typed}
 use Rattle.nv_translate.proofs.translated_types.translations_are_typed.Goals as goal
 
 pub returns : goal.returns
-returns c source name method_bytes built whole l =
+returns c meter source name method_bytes built whole l =
     let laws : TypingLaws = record {
       helpers = c.helpers_are_typed.ensures;
       main = c.choosers_are_typed.ensures.main;

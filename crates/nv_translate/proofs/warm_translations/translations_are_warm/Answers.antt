@@ -1,5 +1,5 @@
-use Rattle.std.proofs.Common.{ℕ, arith}
-use Rattle.nv_translate.proofs.CountedTranslations.Paired.{behind_all}
+use Rattle.std.proofs.Common.{ℕ, false, None, arith}
+use Rattle.nv_translate.proofs.PairedTranslations.{behind_all}
 use Rattle.nv_translate.proofs.WarmTranslations.Given.{WarmLaws}
 use Rattle.nv_translate.proofs.WarmTranslations.Whole.{is-warm}
 use Rattle.nv_translate.proofs.warm_translations.translations_are_warm.Goals as goal
@@ -17,9 +17,9 @@ returns c source name method_bytes built image large l =
       helpers_call = c.helpers_name_well.ensures;
       numbered = c.spans_are_numbered.ensures;
     } in
-    let stands = c.translations_stand.ensures source name method_bytes built image.code large l in
+    let stands = c.translations_stand.ensures None source name method_bytes built image.code large l in
     let behind : ℕ = behind_all source l.code in
-    let apart = c.others_do_not_load.ensures.behind source method_bytes l.code behind l.code_is (omega arith) in
+    let apart = c.others_do_not_load.ensures.behind false source method_bytes l.code behind l.code_is (omega arith) in
     is-warm laws c.translated_programs_come_to_marks.ensures source name method_bytes built image l stands
     (c.images_are_pages.ensures source image.pages.whole).memory_is
-    (λ words room. c.translations_load.ensures source name method_bytes built image.pages l words behind room apart)
+    (λ words room. c.translations_load.ensures None source name method_bytes built image.pages l words behind room apart)
