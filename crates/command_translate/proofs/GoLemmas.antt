@@ -1,5 +1,5 @@
 -- What is due of `go`, by what its stages came to.
-use Rattle.std.proofs.Common.{◌≡◌, ◌∙◌, ℕ, true, List, Option, Result, Ok, Err, refl, sym, subst}
+use Rattle.std.proofs.Common.{◌≡◌, ◌∙◌, ℕ, true, List, Option, Some, None, Result, Ok, Err, refl, sym, subst}
 use Rattle.nv_outside.specs.Files.{AgreeWith, Files}
 use Rattle.nv_outside.proofs.FilesLemmas.{agree_before}
 use Rattle.command_words.specs.declared.named.Named.{Named}
@@ -8,40 +8,30 @@ use Rattle.elf_image.specs.Start.{Source, image_of}
 use Rattle.unix_calls.specs.Held.{Held}
 use Rattle.unix_calls.specs.Starting.{Begins}
 use Rattle.jvm_program.specs.Step.{loaded, loaded_turn}
-use Rattle.jvm_code.specs.declared.class.Class.{Class}
 use Rattle.jvm_link.specs.Linking.{program_of}
-use Rattle.program_translation.specs.Bounds.{allow, need}
+use Rattle.program_translation.specs.Bounds.{need}
 use Rattle.program_translation.specs.declared.built.Built.{Built}
 use Rattle.nv_translate.specs.Translated.{Translated}
-use Rattle.command_deeds.proofs.DeedLemmas.{due_as, gives_ends, gives_then, stays_then, stays_then_comes}
+use Rattle.command_deeds.proofs.DeedLemmas.{gives_ends, gives_then, stays_then, stays_then_comes}
 use Rattle.command_deeds.proofs.PlayLemmas.{StartsAs, held_due}
 use Rattle.command_deeds.specs.Checks.{file_named}
-use Rattle.command_deeds.specs.Ends.{CommandAnswer, Comes, Due, GivesEnd, Over, answers}
+use Rattle.command_deeds.specs.Ends.{CommandAnswer, Comes, Due, GivesEnd, Over, WorksOn, answers}
 use Rattle.command_deeds.specs.Readying.{IsReady}
-use Rattle.command_deeds.specs.Runs.{GivenFile, IsDueOfHeld, Plan, arguments_of, found_for}
+use Rattle.command_deeds.specs.Runs.{GivenFile, Plan, arguments_of, found_for}
 use Rattle.command_deeds.specs.World.{OnlyShelf, World}
 use Rattle.command_deeds.specs.declared.stop.Stop.{Stop}
 use Rattle.command_guest.specs.Imaging.{IsImagedFrom}
+use Rattle.command_translate.proofs.MeteredRuns.{metered_due}
 use Rattle.command_translate.proofs.RunLemmas.{run_due}
-use Rattle.command_translate.proofs.StoreLemmas.{IsDueBehind}
-use Rattle.command_translate.specs.Go.{IsDueOfGo, IsDueOfTranslated}
-
--- the run of classes over a system as it is held
-abbrev pub IsDueOfHeldRun : Plan → Source → Held → List Class → Option (List ℕ) → Due → Type 0
-IsDueOfHeldRun plan image unix classes rest due =
-    let mapped = (image_of image).mapped in
-    IsDueOfHeld (allow mapped plan.session.steps) loaded_turn (loaded (program_of classes) (need mapped)) unix plan.session.keep.names rest due
-
--- a translation, its files, and the run of its classes
-abbrev pub IsDueOfHeldGo : Plan → ℕ → Source → Held → Option (List ℕ) → Due → Type 0
-IsDueOfHeldGo plan method_bytes image unix rest due =
-    (built : Built) × (t : Translated image plan.name method_bytes built)
-    × IsDueBehind built.files.items (IsDueOfHeldRun plan image unix t.linked.classes rest) due
+use Rattle.command_translate.specs.Go.{IsDueOfGo, IsDueOfTranslated, IsDueOfTranslatedBy, allowed}
+use Rattle.command_translate.specs.Held.{IsDueOfHeldGo, IsDueOfHeldMetered, IsDueOfHeldRun}
+use Rattle.command_translate.specs.Metered.{IsDueOfMetered, allowed_by_meter}
+use Rattle.command_translate.specs.Stores.{IsDueBehind}
 
 -- the image was refused
-pub go_refused : (input : Named) (pages : Pages) (method_bytes : ℕ) (plan : Plan) (w : World) (files : Files) (answer : CommandAnswer)
-    → AgreeWith w.shelf.told files → IsImagedFrom input pages files (Err answer) → IsDueOfGo input pages method_bytes plan w (answers answer)
-go_refused input pages method_bytes plan w files answer agree h = record {
+pub go_refused : (input : Named) (pages : Pages) (method_bytes : ℕ) (meter : Option ℕ) (plan : Plan) (w : World) (files : Files) (answer : CommandAnswer)
+    → AgreeWith w.shelf.told files → IsImagedFrom input pages files (Err answer) → IsDueOfGo input pages method_bytes meter plan w (answers answer)
+go_refused input pages method_bytes meter plan w files answer agree h = record {
   files = files;
   agree = agree;
   with_files = files;
@@ -62,12 +52,12 @@ IsUnready plan w due = (files : Files) × (answer : CommandAnswer) × AgreeWith 
     × (due ≡ answers answer)
 
 -- the image was made, and arguments or files were refused
-pub go_unready : (plan : Plan) (input : Named) (pages : Pages) (method_bytes : ℕ) (image : Source) (w u v : World) (end : Result CommandAnswer Stop)
+pub go_unready : (plan : Plan) (input : Named) (pages : Pages) (method_bytes : ℕ) (meter : Option ℕ) (image : Source) (w u v : World) (end : Result CommandAnswer Stop)
     → Over (λ files. IsImagedFrom input pages files (Ok image)) w.shelf u.shelf → OnlyShelf w u
     → GivesEnd (λ files answer. found_for plan files ≡ Err answer) u.shelf v.shelf end → OnlyShelf u v
-    → Comes true (IsDueOfGo input pages method_bytes plan) w v end
-go_unready plan input pages method_bytes image w u v end imaged only ends only' =
-    gives_then (IsDueOfGo input pages method_bytes plan) (IsUnready plan) (λ files. IsImagedFrom input pages files (Ok image)) w u v end imaged only
+    → Comes true (IsDueOfGo input pages method_bytes meter plan) w v end
+go_unready plan input pages method_bytes meter image w u v end imaged only ends only' =
+    gives_then (IsDueOfGo input pages method_bytes meter plan) (IsUnready plan) (λ files. IsImagedFrom input pages files (Ok image)) w u v end imaged only
     (λ files due agree h later. record {
       files = files;
       agree = agree;
@@ -91,16 +81,27 @@ module _ (plan : Plan) (starts : (held : Held) → StartsAs plan held) where
       → IsDueOfTranslated plan method_bytes image given rest due
   translated_due method_bytes image unix given rest due begins h =
       run_due plan method_bytes image h.0 h.1 given rest h.2.0 due
-      (held_due (allow (image_of image).mapped plan.session.steps) loaded_turn (loaded (program_of h.1.linked.classes) (need (image_of image).mapped))
+      (held_due (allowed plan image) loaded_turn (loaded (program_of h.1.linked.classes) (need (image_of image).mapped))
       plan unix given rest h.2.0 (starts unix) begins h.2.1) h.2.2
 
-  -- the image was made and the system is ready, and the rest came to this
-  pub go_comes : (input : Named) (pages : Pages) (method_bytes : ℕ) (image : Source) (unix : Held) (w u x v : World) (end : Result CommandAnswer Stop)
+  by_meter_due : (method_bytes turns : ℕ) (image : Source) (unix : Held) (given : List GivenFile) (rest : Option (List ℕ)) (due : Due)
+      → Begins unix plan.session.disk plan.moment given (arguments_of plan) → IsDueOfHeldMetered plan method_bytes turns image unix rest due
+      → IsDueOfMetered plan method_bytes turns image given rest due
+  by_meter_due method_bytes turns image unix given rest due begins h =
+      metered_due plan method_bytes turns image h.0 h.1 given rest h.3.0 h.2 due
+      (held_due (allowed_by_meter turns image) loaded_turn (loaded (program_of h.1.linked.classes) (need (image_of image).mapped))
+      plan unix given rest h.3.0 (starts unix) begins h.3.1) h.3.2 h.4
+
+  -- the image was made and the system is ready, and the rest came to what is due of it
+  came : (meter : Option ℕ) (IsHeldDue : Option (List ℕ) → Due → Type 0) (method_bytes : ℕ) (input : Named) (pages : Pages) (image : Source) (unix : Held)
+      (w u x v : World) (end : Result CommandAnswer Stop)
+      → ((given : List GivenFile) (rest : Option (List ℕ)) (due : Due) → Begins unix plan.session.disk plan.moment given (arguments_of plan)
+      → IsHeldDue rest due → IsDueOfTranslatedBy meter plan method_bytes image given rest due)
       → Over (λ files. IsImagedFrom input pages files (Ok image)) w.shelf u.shelf → OnlyShelf w u → Over (λ files. IsReady plan files unix) u.shelf x.shelf
-      → OnlyShelf u x → Comes true (λ y. IsDueOfHeldGo plan method_bytes image unix y.input.told) x v end
-      → Comes true (IsDueOfGo input pages method_bytes plan) w v end
-  go_comes input pages method_bytes image unix w u x v end imaged only ready only' comes =
-      stays_then_comes true (λ y. IsDueOfHeldGo plan method_bytes image unix y.input.told) (IsDueOfGo input pages method_bytes plan) w x v end
+      → OnlyShelf u x → Comes true (λ y. IsHeldDue y.input.told) x v end
+      → Comes true (IsDueOfGo input pages method_bytes meter plan) w v end
+  came meter IsHeldDue method_bytes input pages image unix w u x v end is imaged only ready only' comes =
+      stays_then_comes true (λ y. IsHeldDue y.input.told) (IsDueOfGo input pages method_bytes meter plan) w x v end
       (stays_then w u x (imaged.same, only) (ready.same, only'))
       (λ due later. record {
         files = imaged.files;
@@ -114,15 +115,30 @@ module _ (plan : Plan) (starts : (held : Held) → StartsAs plan held) where
         found = Ok ready.is.given;
         found_is = sym ready.is.finds;
         refused = tt;
-        done = translated_due method_bytes image unix ready.is.given w.input.told due ready.is.begins
-            (subst (λ i. IsDueOfHeldGo plan method_bytes image unix i.told due) (only'.0 ∙ only.0) later);
+        done = is ready.is.given w.input.told due ready.is.begins (subst (λ i. IsHeldDue i.told due) (only'.0 ∙ only.0) later);
       }) comes
 
+  pub go_comes : (method_bytes : ℕ) (input : Named) (pages : Pages) (image : Source) (unix : Held) (w u x v : World) (end : Result CommandAnswer Stop)
+      → Over (λ files. IsImagedFrom input pages files (Ok image)) w.shelf u.shelf → OnlyShelf w u → Over (λ files. IsReady plan files unix) u.shelf x.shelf
+      → OnlyShelf u x → Comes true (λ y. IsDueOfHeldGo plan method_bytes image unix y.input.told) x v end
+      → Comes true (IsDueOfGo input pages method_bytes None plan) w v end
+  go_comes method_bytes input pages image unix w u x v end =
+      came None (IsDueOfHeldGo plan method_bytes image unix) method_bytes input pages image unix w u x v end
+      (λ given rest due begins h. translated_due method_bytes image unix given rest due begins h)
+
+  pub go_comes_by_meter : (method_bytes turns : ℕ) (input : Named) (pages : Pages) (image : Source) (unix : Held) (w u x v : World)
+      (end : Result CommandAnswer Stop)
+      → Over (λ files. IsImagedFrom input pages files (Ok image)) w.shelf u.shelf → OnlyShelf w u → Over (λ files. IsReady plan files unix) u.shelf x.shelf
+      → OnlyShelf u x → Comes true (λ y. IsDueOfHeldMetered plan method_bytes turns image unix y.input.told) x v end
+      → Comes true (IsDueOfGo input pages method_bytes (Some turns) plan) w v end
+  go_comes_by_meter method_bytes turns input pages image unix w u x v end =
+      came (Some turns) (IsDueOfHeldMetered plan method_bytes turns image unix) method_bytes input pages image unix w u x v end
+      (λ given rest due begins h. by_meter_due method_bytes turns image unix given rest due begins h)
+
 -- a translation was made, and its files and classes worked on
-pub built_comes : (plan : Plan) (method_bytes : ℕ) (image : Source) (unix : Held) (built : Built) (w v : World) (end : Result CommandAnswer Stop)
-    → (t : Translated image plan.name method_bytes built) → Comes true (λ x. IsDueBehind built.files.items
-    (IsDueOfHeldRun plan image unix t.linked.classes w.input.told)) w v end
-    → Comes true (λ x. IsDueOfHeldGo plan method_bytes image unix x.input.told) w v end
-built_comes plan method_bytes image unix built w v end t comes =
-    due_as true (λ x. IsDueBehind built.files.items (IsDueOfHeldRun plan image unix t.linked.classes w.input.told))
-    (λ x. IsDueOfHeldGo plan method_bytes image unix x.input.told) w v end (λ due h. (built, t, h)) comes
+pub built_works : (plan : Plan) (method_bytes : ℕ) (image : Source) (unix : Held) (built : Built) (w v : World) (end : Result CommandAnswer Stop)
+    → (t : Translated image plan.name method_bytes built)
+    → WorksOn (λ x. IsDueBehind built.files.items (IsDueOfHeldRun (allowed plan image) image unix plan.session.keep.names t.linked.classes
+    x.input.told)) w v end
+    → WorksOn (λ x. IsDueOfHeldGo plan method_bytes image unix x.input.told) w v end
+built_works plan method_bytes image unix built w v end t q = (q.0, (built, t, q.1), q.2)

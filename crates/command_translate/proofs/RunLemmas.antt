@@ -4,8 +4,11 @@ use Rattle.std.specs.Prelude.{option_map}
 use Rattle.nv_events.specs.Answer.{Answer as Answered, fits}
 use Rattle.nv_events.specs.Question.{Question}
 use Rattle.nv_events.specs.Run.{Run}
+use Rattle.nv_events.specs.declared.fault.Fault.{Fault}
 use Rattle.nv_events.specs.declared.outcome.Outcome.{Outcome}
 use Rattle.nv_events.specs.declared.outcome.Outcome.TheVariants.{Exited, Faulted, Trapped, Waiting, Going}
+use Rattle.guest_faults.proofs.FaultKinds.{run-faults}
+use Rattle.guest_faults.specs.Kinds.{IsGuestKind}
 use Rattle.mips_decode.specs.Step.{turn}
 use Rattle.elf_image.specs.Start.{Source, image_of}
 use Rattle.unix_system.specs.System.{System}
@@ -26,8 +29,9 @@ use Rattle.command_deeds.specs.declared.done.Done.TheVariants as done
 use Rattle.command_deeds.proofs.PlayLemmas.{IsDueOfSteps}
 use Rattle.command_deeds.specs.Runs.{GivenFile, Plan, answer_of, arguments_of, of_runs, run_alone}
 use Rattle.mips_decode.proofs.GuestEnds.{guest-untrapped}
-use Rattle.command_translate.specs.Go.{IsDueOfTranslated, classes_for, program_for}
+use Rattle.command_translate.specs.Go.{IsDueOfTranslated}
 use Rattle.command_translate.specs.Make.{classes_end, interp_end, made_name}
+use Rattle.command_translate.specs.Runs.{classes_for, program_for}
 use Rattle.command_translate.specs.Stores.{after_stores}
 
 -- a trap is told of a run that ended in one
@@ -46,7 +50,7 @@ trap_is (Trapped t) k h = cc
 trap_is Waiting k h = cc
 trap_is Going k h = cc
 
-trap_told : (o : Outcome) (k : ℕ) → option_map says (answer_of o) ≡ Some (says (done.Trapped k)) → o ≡ Trapped k
+pub trap_told : (o : Outcome) (k : ℕ) → option_map says (answer_of o) ≡ Some (says (done.Trapped k)) → o ≡ Trapped k
 trap_told o k h = trap_is o k (said (answer_of o) (done.Trapped k) h)
 
 trap_ends : (o : Outcome) (k : ℕ) → o ≡ Trapped k → o ≢ Going
@@ -73,20 +77,29 @@ behind_fits s [] l q a is = given_fits (reply s q) [] l q a (λ m so. system_fit
 behind_fits s (piece ∷ pieces) l q a is =
     given_fits (reply (arrived s piece) q) pieces l q a (λ m so. system_fits (arrived s piece) m q a so) is
 
-arriving_fits : (k l : Arriving) (q : Question) (a : Answered) → reply_arriving k q ≡ Some (a, l) → IsTrue (fits a q)
+pub arriving_fits : (k l : Arriving) (q : Question) (a : Answered) → reply_arriving k q ≡ Some (a, l) → IsTrue (fits a q)
 arriving_fits k l q a is = behind_fits k.system k.pieces l q a is
 
 without : {S T : Type 0} (run : Run S Arriving) (other : Run T Arriving) → EndsAs run other → EndsAs (without_pieces run) (without_pieces other)
 without run other ends = record { calls = ends.calls; outcome = ends.outcome; system = ap (λ k. k.system) ends.system }
 
+module _ (plan : Plan) (source : Source) (found : List GivenFile) (pieces : List (List ℕ)) where
+  -- the system before its first call, where this is left of input
+  abbrev pub system : List ℕ → System
+  system input = start plan.session.disk plan.moment found (arguments_of plan) input
+
+  pub program_traps_not : (input : Option (List ℕ)) (m k : ℕ) → (program_for plan source found input pieces m).outcome ≢ Trapped k
+  program_traps_not (Some input) m k = guest-untrapped reply m k (start_of (image_of source)) (system input)
+  program_traps_not None m k = guest-untrapped reply_arriving m k (start_of (image_of source)) (arriving (system []) pieces)
+
+  pub program_faults_so : (input : Option (List ℕ)) (m : ℕ) (f : Fault) → (program_for plan source found input pieces m).outcome ≡ Faulted f → IsGuestKind f.kind
+  program_faults_so (Some input) m f = run-faults reply m (start_of (image_of source)) (system input) f
+  program_faults_so None m f = run-faults reply_arriving m (start_of (image_of source)) (arriving (system []) pieces) f
+
 module _ (plan : Plan) (method_bytes : ℕ) (source : Source) (built : Built) (t : Translated source plan.name method_bytes built)
     (found : List GivenFile) (pieces : List (List ℕ)) where
   abbrev mapped : ℕ
   mapped = (image_of source).mapped
-
-  -- the system before its first call, where this is left of input
-  abbrev system : List ℕ → System
-  system input = start plan.session.disk plan.moment found (arguments_of plan) input
 
   enough : need mapped ≤ need mapped
   enough = omega arith
@@ -94,22 +107,20 @@ module _ (plan : Plan) (method_bytes : ℕ) (source : Source) (built : Built) (t
   as_program : (input : Option (List ℕ)) (n : ℕ) → (program_for plan source found input pieces n).outcome ≢ Going
       → EndsAs (program_for plan source found input pieces n) (classes_for plan source found t.linked.classes input pieces (allow mapped n))
   as_program (Some input) n over =
-      forth reply system_fits source (program_of t.linked.classes) (need mapped) (system input) t.runs n enough over
+      forth reply system_fits source (program_of t.linked.classes) (need mapped) (system plan source found pieces input) t.runs n enough over
   as_program None n over =
-      without _ _ (forth reply_arriving arriving_fits source (program_of t.linked.classes) (need mapped) (arriving (system []) pieces) t.runs
+      without _ _ (forth reply_arriving arriving_fits source (program_of t.linked.classes) (need mapped)
+      (arriving (system plan source found pieces []) pieces) t.runs
       n enough over)
 
   as_classes : (input : Option (List ℕ)) (m : ℕ) → (classes_for plan source found t.linked.classes input pieces m).outcome ≢ Going
       → EndsAs (classes_for plan source found t.linked.classes input pieces m) (program_for plan source found input pieces m)
   as_classes (Some input) m over =
-      back reply system_fits source (program_of t.linked.classes) (need mapped) (system input) t.runs m enough over
+      back reply system_fits source (program_of t.linked.classes) (need mapped) (system plan source found pieces input) t.runs m enough over
   as_classes None m over =
-      without _ _ (back reply_arriving arriving_fits source (program_of t.linked.classes) (need mapped) (arriving (system []) pieces) t.runs
+      without _ _ (back reply_arriving arriving_fits source (program_of t.linked.classes) (need mapped)
+      (arriving (system plan source found pieces []) pieces) t.runs
       m enough over)
-
-  program_traps_not : (input : Option (List ℕ)) (m k : ℕ) → (program_for plan source found input pieces m).outcome ≢ Trapped k
-  program_traps_not (Some input) m k = guest-untrapped reply m k (start_of (image_of source)) (system input)
-  program_traps_not None m k = guest-untrapped reply_arriving m k (start_of (image_of source)) (arriving (system []) pieces)
 
   no_trap : (input : Option (List ℕ)) (due : Due)
       → due ≡ of_runs loaded_turn (allow mapped plan.session.steps) (classes_for plan source found t.linked.classes input pieces) plan.session.keep.names
@@ -118,7 +129,7 @@ module _ (plan : Plan) (method_bytes : ℕ) (source : Source) (built : Built) (t
       let bound = allow mapped plan.session.steps in
       let run = classes_for plan source found t.linked.classes input pieces bound in
       let trapped : run.outcome ≡ Trapped k = trap_told run.outcome k (sym (ap (λ d. d.answer) is) ∙ h) in
-      program_traps_not input bound k ((as_classes input bound (trap_ends run.outcome k trapped)).outcome ∙ trapped)
+      program_traps_not plan source found pieces input bound k ((as_classes input bound (trap_ends run.outcome k trapped)).outcome ∙ trapped)
 
 -- what is due of a translation, whose files are stored and whose classes run
 pub run_due : (plan : Plan) (method_bytes : ℕ) (source : Source) (built : Built) (t : Translated source plan.name method_bytes built)

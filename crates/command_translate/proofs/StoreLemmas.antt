@@ -1,16 +1,16 @@
 -- Files that are stored one after the other, and work behind them.
-use Rattle.std.proofs.Common.{◌≡◌, ℕ, ◌+◌, ◌<◌, true, List, [], ◌∷◌, ◌++◌, length, map, take, drop, get_or, Result, Ok, Err, refl, sym, ap, ◌∙◌, subst, inl, inr}
+use Rattle.std.proofs.Common.{◌≡◌, ℕ, ◌+◌, ◌<◌, List, [], ◌∷◌, ◌++◌, length, map, take, drop, get_or, Result, Ok, Err, refl, sym, ap, ◌∙◌, subst, inl}
 use Rattle.std.proofs.lemmas.List.{map-append, map_more, take-append-drop}
 use Rattle.nv_outside.specs.Files.{Files}
 use Rattle.program_translation.specs.declared.named_file.NamedFile.{NamedFile}
 use Rattle.command_deeds.proofs.DeedLemmas.{all_then_stops, all_then_works, stays, stops_before, works_more}
 use Rattle.command_deeds.specs.Deeds.{DoesAll, StopsIn, prepares}
-use Rattle.command_deeds.specs.Ends.{CommandAnswer, Comes, Due, ShelfDoes, WorksOn}
+use Rattle.command_deeds.specs.Ends.{CommandAnswer, Due, ShelfDoes, WorksOn}
 use Rattle.command_deeds.specs.World.{Seen, World}
 use Rattle.command_deeds.specs.declared.stop.Stop.{Stop}
 use Rattle.command_deeds.specs.declared.stop.Stop.TheVariants.{NoMemory}
 use Rattle.command_deeds.proofs.ReadyLemmas.{shelf_does_then, shelf_stops_before}
-use Rattle.command_translate.specs.Stores.{after_stores, file_stored, stored}
+use Rattle.command_translate.specs.Stores.{IsDueBehind, after_stores, file_stored, stored}
 
 -- ---- the files
 
@@ -33,33 +33,27 @@ store_stops files k a b stop p =
 
 -- ---- work behind them
 
--- what is due behind stored files
-abbrev pub IsDueBehind : List NamedFile → (Due → Type 0) → Due → Type 0
-IsDueBehind files IsDue due = (later : Due) × IsDue later × (due ≡ after_stores files later)
-
 -- all files are stored, and then it goes on
-pub comes_behind : (files : List NamedFile) (IsDue : World → Due → Type 0) (w u v : World) (end : Result CommandAnswer Stop) → DoesAll (stored files) w u
-    → WorksOn IsDue u v end → Comes true (λ x. IsDueBehind files (IsDue u)) w v end
-comes_behind files IsDue w u v end p q =
-    inr (
-      after_stores files q.0,
-      (q.0, q.1, refl),
-      all_then_works (stored files) (prepares ∷ q.0.deeds) q.0.answer w u v end p
-          (works_more prepares q.0.deeds q.0.answer u u v end (stays u) q.2),
-    )
+pub works_behind : (files : List NamedFile) (IsDue : World → Due → Type 0) (w u v : World) (end : Result CommandAnswer Stop) → DoesAll (stored files) w u
+    → WorksOn IsDue u v end → ((due : Due) → IsDue u due → IsDue w due)
+    → WorksOn (λ x. IsDueBehind files (IsDue x)) w v end
+works_behind files IsDue w u v end p q here = (
+  after_stores files q.0,
+  (q.0, here q.0 q.1, refl),
+  all_then_works (stored files) (prepares ∷ q.0.deeds) q.0.answer w u v end p (works_more prepares q.0.deeds q.0.answer u u v end (stays u) q.2),
+)
 
 -- all are stored, and memory runs out
-pub no_memory_behind : (files : List NamedFile) (IsDue : Due → Type 0) (w v : World) → (some : Due) × IsDue some → DoesAll (stored files) w v
-    → Comes true (λ x. IsDueBehind files IsDue) w v (Err NoMemory)
-no_memory_behind files IsDue w v some p =
-    inr (
-      after_stores files some.0,
-      (some.0, some.1, refl),
-      all_then_stops (stored files) (prepares ∷ some.0.deeds) w v v NoMemory p (inl (refl, stays v)),
-    )
+pub no_memory_behind : (files : List NamedFile) (IsDue : World → Due → Type 0) (w v : World) → (some : Due) × IsDue w some → DoesAll (stored files) w v
+    → WorksOn (λ x. IsDueBehind files (IsDue x)) w v (Err NoMemory)
+no_memory_behind files IsDue w v some p = (
+  after_stores files some.0,
+  (some.0, some.1, refl),
+  all_then_stops (stored files) (prepares ∷ some.0.deeds) w v v NoMemory p (inl (refl, stays v)),
+)
 
 -- not all are
-pub comes_stopped : (files : List NamedFile) (IsDue : Due → Type 0) (w v : World) (stop : Stop) → (some : Due) × IsDue some
-    → StopsIn (stored files) w v stop → Comes true (λ x. IsDueBehind files IsDue) w v (Err stop)
-comes_stopped files IsDue w v stop some p =
-    inr (after_stores files some.0, (some.0, some.1, refl), stops_before (stored files) (prepares ∷ some.0.deeds) w v stop p)
+pub works_stopped : (files : List NamedFile) (IsDue : World → Due → Type 0) (w v : World) (stop : Stop) → (some : Due) × IsDue w some
+    → StopsIn (stored files) w v stop → WorksOn (λ x. IsDueBehind files (IsDue x)) w v (Err stop)
+works_stopped files IsDue w v stop some p =
+    (after_stores files some.0, (some.0, some.1, refl), stops_before (stored files) (prepares ∷ some.0.deeds) w v stop p)

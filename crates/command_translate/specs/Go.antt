@@ -1,43 +1,25 @@
 -- What `go` is to do.
-use Rattle.std.specs.Prelude.{◌≡◌, ◌≢◌, ℕ, List, Option, Some, IfErr, IfOk}
+use Rattle.std.specs.Prelude.{◌≡◌, ◌≢◌, ℕ, List, Option, Some, None, IfErr, IfOk}
 use Rattle.nv_outside.specs.Files.{AgreeWith, Files}
-use Rattle.nv_events.specs.Run.{Run}
 use Rattle.nv_events.specs.declared.outcome.Outcome.TheVariants.{Going}
 use Rattle.command_words.specs.declared.named.Named.{Named}
 use Rattle.command_words.specs.declared.pages.Pages.{Pages}
-use Rattle.mips_decode.specs.State.{State}
-use Rattle.mips_decode.specs.Step.{turn}
 use Rattle.elf_image.specs.Start.{Source, image_of}
-use Rattle.unix_system.specs.System.{System}
-use Rattle.mips_machine.specs.Loading.{start_of}
-use Rattle.jvm_program.specs.Step.{Loaded, loaded, loaded_turn}
+use Rattle.jvm_program.specs.Step.{loaded_turn}
 use Rattle.jvm_code.specs.declared.class.Class.{Class}
-use Rattle.jvm_link.specs.Linking.{program_of}
-use Rattle.program_translation.specs.Bounds.{allow, need}
+use Rattle.program_translation.specs.Bounds.{allow}
 use Rattle.program_translation.specs.declared.built.Built.{Built}
 use Rattle.nv_translate.specs.Ends.{EndsAs}
 use Rattle.nv_translate.specs.Translated.{Translated}
 use Rattle.command_deeds.specs.Checks.{Behind, Check, after, file_named}
 use Rattle.command_deeds.specs.Ends.{Due, answers, says}
 use Rattle.command_deeds.specs.declared.done.Done.TheVariants.{Trapped}
-use Rattle.command_deeds.specs.Runs.{GivenFile, Plan, found_for, of_runs, run_for}
+use Rattle.command_deeds.specs.Runs.{GivenFile, Plan, found_for, of_runs}
 use Rattle.command_deeds.specs.World.{World}
 use Rattle.command_guest.specs.Imaging.{IsImaged}
+use Rattle.command_translate.specs.Metered.{IsDueOfMetered}
+use Rattle.command_translate.specs.Runs.{classes_for, program_for}
 use Rattle.command_translate.specs.Stores.{after_stores}
-
--- the run of a program's classes from their start, for at most n instructions: in the region that
--- they need, over these files, and over this input, or these pieces of it
-abbrev pub classes_for : Plan → Source → List GivenFile → List Class → Option (List ℕ)
-    → List (List ℕ) → ℕ → Run Loaded System
-classes_for plan source given classes input pieces n =
-    run_for n loaded_turn (loaded (program_of classes) (need (image_of source).mapped))
-    plan given input pieces
-
--- the run of the program itself over the same, for at most n steps, as `interp` makes it
-abbrev pub program_for : Plan → Source → List GivenFile → Option (List ℕ) → List (List ℕ) → ℕ
-    → Run State System
-program_for plan source given input pieces n =
-    run_for n turn (start_of (image_of source)) plan given input pieces
 
 -- how many instructions the program's steps allow its classes
 abbrev pub allowed : Plan → Source → ℕ
@@ -75,9 +57,17 @@ pub record IsDueOfTranslated (plan : Plan) (method_bytes : ℕ) (source : Source
   -- they never end in a trap
   pub no_trap : (k : ℕ) → due.answer ≢ Some (says (Trapped k))
 
+-- the same, with a meter or without one
+abbrev pub IsDueOfTranslatedBy : Option ℕ → Plan → ℕ → Source → List GivenFile → Option (List ℕ)
+    → Due → Type 0
+IsDueOfTranslatedBy None plan method_bytes source given input due =
+    IsDueOfTranslated plan method_bytes source given input due
+IsDueOfTranslatedBy (Some turns) plan method_bytes source given input due =
+    IsDueOfMetered plan method_bytes turns source given input due
+
 -- What `go` is to do with the program of a file that the words name.
-pub record IsDueOfGo (input : Named) (pages : Pages) (method_bytes : ℕ) (plan : Plan) (w : World)
-    (due : Due) : Type 0 where
+pub record IsDueOfGo (input : Named) (pages : Pages) (method_bytes : ℕ) (meter : Option ℕ)
+    (plan : Plan) (w : World) (due : Due) : Type 0 where
   -- the files as the program is loaded: those of the shelf, where it tells them
   pub files : Files
   pub agree : AgreeWith w.shelf.told files
@@ -97,4 +87,4 @@ pub record IsDueOfGo (input : Named) (pages : Pages) (method_bytes : ℕ) (plan 
   pub refused : IfErr found (λ answer. due ≡ answers answer)
   -- where all passed, a translation of the program and the run of its classes
   pub done : IfOk source (λ image. IfOk found (λ given.
-      IsDueOfTranslated plan method_bytes image given w.input.told due))
+      IsDueOfTranslatedBy meter plan method_bytes image given w.input.told due))

@@ -1,9 +1,12 @@
 -- The files of a translation are stored one after the other, and then a command goes on.
-use Rattle.std.specs.Prelude.{List, ◌∷◌, ◌++◌, map}
+use Rattle.std.specs.Prelude.{◌≡◌, ℕ, List, [], ◌∷◌, ◌++◌, length, map, codes, decimal, Some}
+use Rattle.program_translation.specs.declared.built.Built.{Built}
 use Rattle.program_translation.specs.Files.{name_of}
 use Rattle.program_translation.specs.declared.named_file.NamedFile.{NamedFile}
-use Rattle.command_deeds.specs.Deeds.{Deed, prepares, stores}
-use Rattle.command_deeds.specs.Ends.{Due}
+use Rattle.command_deeds.specs.Deeds.{Deed, prepares, prints, stores}
+use Rattle.command_deeds.specs.Ends.{Due, says}
+use Rattle.command_deeds.specs.Line.{joined}
+use Rattle.command_deeds.specs.declared.done.Done.TheVariants.{Good}
 
 abbrev pub file_stored : NamedFile → Deed
 file_stored file = stores (name_of file) file.bytes.items
@@ -18,4 +21,22 @@ after_stores files due = record {
   deeds = stored files
       ++ prepares ∷ due.deeds;
   answer = due.answer;
+}
+
+-- files are stored, and this is due behind them
+abbrev pub IsDueBehind : List NamedFile → (Due → Type 0) → Due → Type 0
+IsDueBehind files IsDue due = (later : Due) × IsDue later × (due ≡ after_stores files later)
+
+-- how many files there are, and the words of the region in which they run
+abbrev pub counts_line : Built → List ℕ
+counts_line built =
+    joined (codes "classes " ∷ decimal (length built.files.items) ∷ codes " need "
+    ∷ decimal built.layout.need ∷ codes "\n" ∷ [])
+
+-- the files are stored, and counted
+abbrev pub counted : Built → Due
+counted built = record {
+  deeds = stored built.files.items
+      ++ prints (counts_line built) ∷ [];
+  answer = Some (says Good);
 }

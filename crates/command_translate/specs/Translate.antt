@@ -1,5 +1,5 @@
 -- What `translate` is to do.
-use Rattle.std.specs.Prelude.{◌≡◌, ℕ, List, [], ◌∷◌, ◌++◌, length, codes, decimal, Some, IfErr, IfOk}
+use Rattle.std.specs.Prelude.{◌≡◌, ℕ, List, Option, Some, None, IfErr, IfOk}
 use Rattle.nv_outside.specs.Files.{AgreeWith, Files}
 use Rattle.command_values.specs.Names.{Text}
 use Rattle.command_words.specs.declared.named.Named.{Named}
@@ -8,27 +8,11 @@ use Rattle.elf_image.specs.Start.{Source}
 use Rattle.program_translation.specs.declared.built.Built.{Built}
 use Rattle.nv_translate.specs.Translated.{Translated}
 use Rattle.command_deeds.specs.Checks.{Behind, Check, file_named}
-use Rattle.command_deeds.specs.Deeds.{prints}
-use Rattle.command_deeds.specs.Ends.{Due, answers, says}
-use Rattle.command_deeds.specs.Line.{joined}
+use Rattle.command_deeds.specs.Ends.{Due, answers}
 use Rattle.command_deeds.specs.World.{World}
-use Rattle.command_deeds.specs.declared.done.Done.TheVariants.{Good}
 use Rattle.command_guest.specs.Imaging.{IsImaged}
-use Rattle.command_translate.specs.Stores.{stored}
-
--- how many files there are, and the words of the region in which they run
-abbrev pub counts_line : Built → List ℕ
-counts_line built =
-    joined (codes "classes " ∷ decimal (length built.files.items) ∷ codes " need "
-    ∷ decimal built.layout.need ∷ codes "\n" ∷ [])
-
--- the files are stored, and counted
-abbrev pub counted : Built → Due
-counted built = record {
-  deeds = stored built.files.items
-      ++ prints (counts_line built) ∷ [];
-  answer = Some (says Good);
-}
+use Rattle.command_translate.specs.Metered.{IsDueOfMeteredImage}
+use Rattle.command_translate.specs.Stores.{counted}
 
 -- What is due of a program that has an image: every one is translated.
 pub record IsDueOfImage (source : Source) (name : Text) (method_bytes : ℕ) (due : Due)
@@ -39,9 +23,15 @@ pub record IsDueOfImage (source : Source) (name : Text) (method_bytes : ℕ) (du
   -- its files are stored, and counted
   pub is : due ≡ counted built
 
+-- the same, with a meter or without one
+abbrev pub IsDueOfImageBy : Option ℕ → Source → Text → ℕ → Due → Type 0
+IsDueOfImageBy None source name method_bytes due = IsDueOfImage source name method_bytes due
+IsDueOfImageBy (Some turns) source name method_bytes due =
+    IsDueOfMeteredImage source name method_bytes turns due
+
 -- What `translate` is to do with the program of a file that the words name.
 pub record IsDueOfTranslate (input : Named) (name : Text) (pages : Pages) (method_bytes : ℕ)
-    (w : World) (due : Due) : Type 0 where
+    (meter : Option ℕ) (w : World) (due : Due) : Type 0 where
   -- the files: those of the shelf, where it tells them
   pub files : Files
   pub agree : AgreeWith w.shelf.told files
@@ -54,4 +44,4 @@ pub record IsDueOfTranslate (input : Named) (name : Text) (pages : Pages) (metho
   -- the answer where one of these refused
   pub refused : IfErr source (λ answer. due ≡ answers answer)
   -- where all passed, a translation of the program
-  pub done : IfOk source (λ image. IsDueOfImage image name method_bytes due)
+  pub done : IfOk source (λ image. IsDueOfImageBy meter image name method_bytes due)

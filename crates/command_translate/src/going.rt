@@ -1,24 +1,30 @@
-ghost use Rattle.std.specs.Prelude.{◌≤◌, ◌^◌};
+ghost use Rattle.std.specs.Prelude.{◌≤◌, ◌^◌, true};
 ghost use Rattle.command_words.specs.Limits.{AreFileNames, ArePages};
-ghost use Rattle.command_deeds.specs.Ends.{Ends};
+ghost use Rattle.command_deeds.specs.Ends.{Comes, Ends, ended};
 ghost use Rattle.command_deeds.specs.Runs.{plan_of};
+ghost use Rattle.command_deeds.specs.World.{SameParts, seen};
 ghost use Rattle.command_translate.specs.Go.{IsDueOfGo};
+ghost use Rattle.command_translate.specs.Held.{IsDueOfHeldGo, IsDueOfHeldMetered};
 
-use crate::classes::machine_of;
-use crate::storing::store_files;
-use command_deeds::{Done, Ending, Outside, play_for, ready};
+use crate::metering::end_by_meter;
+use crate::playing::play_stored;
+use command_deeds::{Done, Ending, Launch, Outside, ready};
 use command_guest::{Guest, load_image};
-use command_values::MethodBytes;
+use command_values::{MeterTurns, MethodBytes};
+use elf_image::Image;
 use nv_outside::{Shelf, Sink, Source};
-use nv_translate::{allow, translate};
+use nv_translate::{allow, meter_allow, translate, translate_metered};
 use std::alloc::Global;
+use unix_calls::Unix;
 use unix_calls::laws::begins_at_start;
 
-/// Loads a program, translates it, stores its classes, runs them, and keeps files of the run.
+/// Loads a program, translates it, stores its classes, runs them, and keeps files of the run. Where the classes have a meter, they run until
+/// the program ends, or so many of its steps are spent.
 pub fn go<H: Shelf, S: Source, O: Sink, E: Sink>(
     alloc: Global,
     guest: &Guest<'_>,
     method_bytes: MethodBytes,
+    meter: Option<MeterTurns>,
     outside: &mut Outside<'_, H, S, O, E>,
 ) -> Result<Done, Ending>
     requires pages { ArePages guest.now.pages }
@@ -26,18 +32,72 @@ pub fn go<H: Shelf, S: Source, O: Sink, E: Sink>(
     requires disk { guest.now.launch.session.now.disk ≤ 65536 }
     requires names { AreFileNames guest.now.launch.session.now.with.names }
     ensures ends { Ends H.Shelf S.Source O.Sink E.Sink
-        (IsDueOfGo guest.now.input.now guest.now.pages method_bytes (plan_of guest.now.launch))
-        outside.old outside.new result }
+        (IsDueOfGo guest.now.input.now guest.now.pages method_bytes meter
+        (plan_of guest.now.launch)) outside.old outside.new result }
 {
     begins_at_start();
     let launch = &guest.launch;
-    let session = launch.session;
     let image = load_image(alloc, guest.input, guest.pages, outside.shelf)?;
     let unix = ready(alloc, launch, outside.shelf)?;
-    let built = translate(alloc, &image, launch.name, method_bytes)?;
-    store_files(built.files.as_slice(), outside.shelf)?;
-    let jvm = machine_of(alloc, &image, built.files.as_slice())?;
+    match meter {
+        Some(turns) => go_by_meter(alloc, launch, &image, method_bytes, turns, unix, outside),
+        None => go_by_steps(alloc, launch, &image, method_bytes, unix, outside),
+    }
+}
+
+/// Translates a program, stores its classes, runs them over a system as long as the program's steps allow it, and keeps files of the run.
+fn go_by_steps<H: Shelf, S: Source, O: Sink, E: Sink>(
+    alloc: Global,
+    launch: &Launch<'_>,
+    image: &Image,
+    method_bytes: MethodBytes,
+    unix: Unix,
+    outside: &mut Outside<'_, H, S, O, E>,
+) -> Result<Done, Ending>
+    requires steps { launch.now.session.now.steps ≤ 2 ^ 40 }
+    ensures same { SameParts outside.old outside.new }
+    ensures comes { Comes true
+        (λ w. IsDueOfHeldGo (plan_of launch.now) method_bytes image.now unix w.input.told)
+        (seen H.Shelf S.Source O.Sink E.Sink outside.old)
+        (seen H.Shelf S.Source O.Sink E.Sink outside.new) (ended result) }
+{
+    let session = launch.session;
+    let built = translate(alloc, image, launch.name, method_bytes)?;
     image.laws();
-    let steps = allow(image.mapped(), session.steps);
-    play_for(alloc, steps, jvm, unix, &session.keep, outside)
+    let bound = allow(image.mapped(), session.steps);
+    let files = built.files.as_slice();
+    play_stored(alloc, image, files, bound, unix, &session.keep, outside)
+}
+
+/// The same with classes that have a meter, which are run until it is spent.
+fn go_by_meter<H: Shelf, S: Source, O: Sink, E: Sink>(
+    alloc: Global,
+    launch: &Launch<'_>,
+    image: &Image,
+    method_bytes: MethodBytes,
+    turns: MeterTurns,
+    unix: Unix,
+    outside: &mut Outside<'_, H, S, O, E>,
+) -> Result<Done, Ending>
+    ensures same { SameParts outside.old outside.new }
+    ensures comes { Comes true
+        (λ w. IsDueOfHeldMetered (plan_of launch.now) method_bytes turns image.now unix
+        w.input.told)
+        (seen H.Shelf S.Source O.Sink E.Sink outside.old)
+        (seen H.Shelf S.Source O.Sink E.Sink outside.new) (ended result) }
+{
+    let built = translate_metered(alloc, image, launch.name, method_bytes, turns)?;
+    image.laws();
+    let bound = meter_allow(image.mapped(), turns);
+    let files = built.files.as_slice();
+    let end = play_stored(
+        alloc,
+        image,
+        files,
+        bound,
+        unix,
+        &launch.session.keep,
+        outside,
+    );
+    end_by_meter(end)
 }

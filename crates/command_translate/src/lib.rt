@@ -5,6 +5,8 @@ mod alone_runs;
 mod classes;
 mod going;
 mod making;
+mod metering;
+mod playing;
 mod statuses;
 mod storing;
 mod translating;

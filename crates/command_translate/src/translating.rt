@@ -1,38 +1,59 @@
+ghost use Rattle.std.specs.Prelude.{IfOk};
 ghost use Rattle.command_words.specs.Limits.{ArePages};
 ghost use Rattle.command_deeds.specs.Ends.{Ends};
 ghost use Rattle.command_deeds.specs.World.{Writes, output_seen};
-ghost use Rattle.command_translate.specs.Translate.{IsDueOfTranslate, counts_line};
+ghost use Rattle.command_translate.specs.Metered.{TranslatedBy};
+ghost use Rattle.command_translate.specs.Stores.{counts_line};
+ghost use Rattle.command_translate.specs.Translate.{IsDueOfTranslate};
 
 use crate::storing::store_files;
 use command_deeds::{Done, Ending, Outside, decimal_long, write_pieces};
 use command_guest::load_image;
-use command_values::{ClassName, MethodBytes};
+use command_values::{ClassName, MeterTurns, MethodBytes};
 use command_words::{Named, Pages};
+use elf_image::Image;
 use itoa::Buffer;
 use nv_outside::{Failed, Shelf, Sink, Source};
-use nv_translate::Built;
+use nv_translate::{Built, NoMemory, translate_metered};
 use std::alloc::Global;
 
-/// Loads a program, translates it, stores its classes under a name, and writes how many files they are and how many
-/// words of a region they need.
+/// Loads a program, translates it with a meter or without one, stores its classes under a name, and writes how many files they are and
+/// how many words of a region they need.
 pub fn translate<H: Shelf, S: Source, O: Sink, E: Sink>(
     alloc: Global,
     input: &Named,
     name: &ClassName,
     pages: Pages,
     method_bytes: MethodBytes,
+    meter: Option<MeterTurns>,
     outside: &mut Outside<'_, H, S, O, E>,
 ) -> Result<Done, Ending>
     requires pages { ArePages pages }
     ensures ends { Ends H.Shelf S.Source O.Sink E.Sink
-        (IsDueOfTranslate input.now name.now pages method_bytes)
+        (IsDueOfTranslate input.now name.now pages method_bytes meter)
         outside.old outside.new result }
 {
     let image = load_image(alloc, input, pages, outside.shelf)?;
-    let built = nv_translate::translate(alloc, &image, name, method_bytes)?;
+    let built = translation(alloc, &image, name, method_bytes, meter)?;
     store_files(built.files.as_slice(), outside.shelf)?;
     write_counts(&built, outside.out)?;
     Ok(Done::Good)
+}
+
+/// A translation of a program, with a meter or without one.
+fn translation(
+    alloc: Global,
+    image: &Image,
+    name: &ClassName,
+    method_bytes: MethodBytes,
+    meter: Option<MeterTurns>,
+) -> Result<Built, NoMemory>
+    ensures { IfOk result (TranslatedBy meter image.now name.now method_bytes) }
+{
+    match meter {
+        Some(turns) => translate_metered(alloc, image, name, method_bytes, turns),
+        None => nv_translate::translate(alloc, image, name, method_bytes),
+    }
 }
 
 /// Writes the line of the counts of a translation. Takes no memory.

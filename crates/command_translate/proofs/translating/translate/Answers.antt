@@ -8,8 +8,8 @@ use Rattle.command_deeds.specs.declared.done.Done.TheVariants.{Good}
 use Rattle.command_deeds.specs.declared.stop.Stop.TheVariants.{WriteFault}
 use Rattle.command_guest.specs.Imaging.{IsImagedFrom}
 use Rattle.command_translate.proofs.TranslationLemmas.{translate_due, translate_refused}
-use Rattle.command_translate.specs.Stores.{stored}
-use Rattle.command_translate.specs.Translate.{IsDueOfTranslate, counted, counts_line}
+use Rattle.command_translate.specs.Stores.{counted, counts_line, stored}
+use Rattle.command_translate.specs.Translate.{IsDueOfTranslate}
 use Rattle.command_translate.proofs.translating.translate.Goals as goal
 
 pub returns-in_err-image : goal.returns-in_err-image
@@ -22,10 +22,10 @@ returns-in_err-image g c =
     record {
       ends = (
         (refl, refl, refl, refl),
-        rw (p.1, p.2) (gives_ends (IsDueOfTranslate input name c.args.pages c.args.method_bytes)
+        rw (p.1, p.2) (gives_ends (IsDueOfTranslate input name c.args.pages c.args.method_bytes c.args.meter)
             (λ files answer. IsImagedFrom input c.args.pages files (Err answer)) w v (end_of c.in_err-image.field-0.0) c.in_err-image.ensures.gives
             (refl, refl, refl)
-            (λ files answer agree h. translate_refused input name c.args.pages c.args.method_bytes w files answer agree h)),
+            (λ files answer agree h. translate_refused input name c.args.pages c.args.method_bytes c.args.meter w files answer agree h)),
       );
     }
 
@@ -48,9 +48,9 @@ returns-in_err-store_files g c =
     record {
       ends = (
         (refl, refl, refl, refl),
-        rw (p.1, p.2) (gives_then (IsDueOfTranslate input name c.args.pages c.args.method_bytes) (λ x d. d ≡ counted built)
+        rw (p.1, p.2) (gives_then (IsDueOfTranslate input name c.args.pages c.args.method_bytes c.args.meter) (λ x d. d ≡ counted built)
             (λ files. IsImagedFrom input c.args.pages files (Ok image)) w u v (Err stop) c.in_ok-image.ensures.gives (refl, refl, refl)
-            (λ files d agree h later. translate_due input name c.args.pages c.args.method_bytes w files image built d agree h c.in_ok-built.ensures
+            (λ files d agree h later. translate_due input name c.args.pages c.args.method_bytes c.args.meter w files image built d agree h c.in_ok-built.ensures
             later)
             (inr (
               counted built,
@@ -75,9 +75,9 @@ returns-in_err-write_counts g c =
     record {
       ends = (
         (refl, refl, refl, refl),
-        rw (p.1, p.2) (gives_then (IsDueOfTranslate input name c.args.pages c.args.method_bytes) (λ x d. d ≡ counted built)
+        rw (p.1, p.2) (gives_then (IsDueOfTranslate input name c.args.pages c.args.method_bytes c.args.meter) (λ x d. d ≡ counted built)
             (λ files. IsImagedFrom input c.args.pages files (Ok image)) w u v (Err WriteFault) c.in_ok-image.ensures.gives (refl, refl, refl)
-            (λ files d agree h later. translate_due input name c.args.pages c.args.method_bytes w files image built d agree h c.in_ok-built.ensures
+            (λ files d agree h later. translate_due input name c.args.pages c.args.method_bytes c.args.meter w files image built d agree h c.in_ok-built.ensures
             later)
             (inr (
               counted built,
@@ -102,9 +102,9 @@ returns g c =
     record {
       ends = (
         (refl, refl, refl, refl),
-        gives_then (IsDueOfTranslate input name c.args.pages c.args.method_bytes) (λ x d. d ≡ counted built)
+        gives_then (IsDueOfTranslate input name c.args.pages c.args.method_bytes c.args.meter) (λ x d. d ≡ counted built)
             (λ files. IsImagedFrom input c.args.pages files (Ok image)) w u v (Ok (says Good)) c.in_ok-image.ensures.gives (refl, refl, refl)
-            (λ files d agree h later. translate_due input name c.args.pages c.args.method_bytes w files image built d agree h c.in_ok-built.ensures
+            (λ files d agree h later. translate_due input name c.args.pages c.args.method_bytes c.args.meter w files image built d agree h c.in_ok-built.ensures
             later)
             (inr (
               counted built,

@@ -1,0 +1,105 @@
+-- What is due of a program whose classes have a meter.
+use Rattle.std.specs.Prelude.{◌≡◌, ◌≢◌, ◌==◌, if◌then◌else◌, ℕ, Bool, false, List, Option, Some, None, option_map, Result, Ok, Err}
+use Rattle.nv_events.specs.Run.{Run}
+use Rattle.command_values.specs.Names.{Text}
+use Rattle.run_laws.specs.Meter.{IsMetered}
+use Rattle.mips_decode.specs.State.{State}
+use Rattle.elf_image.specs.Start.{Source, image_of}
+use Rattle.unix_system.specs.System.{System}
+use Rattle.unix_calls.specs.Stages.{stage_of}
+use Rattle.meter.specs.Guards.{spent_kind}
+use Rattle.metered_programs.specs.Metering.{spent}
+use Rattle.jvm_program.specs.Step.{loaded_turn}
+use Rattle.jvm_code.specs.declared.class.Class.{Class}
+use Rattle.program_translation.specs.Bounds.{meter_allow}
+use Rattle.program_translation.specs.declared.built.Built.{Built}
+use Rattle.nv_translate.specs.Metered.{TranslatedMetered}
+use Rattle.nv_translate.specs.Translated.{Translated}
+use Rattle.command_deeds.specs.Ends.{CommandAnswer, Due, says}
+use Rattle.command_deeds.specs.Runs.{GivenFile, Plan, played}
+use Rattle.command_deeds.specs.declared.done.Done.{Done}
+use Rattle.command_deeds.specs.declared.done.Done.TheVariants as done
+use Rattle.command_deeds.specs.declared.stop.Stop.{Stop}
+use Rattle.command_translate.specs.Runs.{classes_for, program_for}
+use Rattle.command_translate.specs.Stores.{after_stores, counted}
+
+-- what is proved of a translation, with a meter or without one
+abbrev pub TranslatedBy : Option ℕ → Source → Text → ℕ → Built → Type 0
+TranslatedBy None source name method_bytes built = Translated source name method_bytes built
+TranslatedBy (Some turns) source name method_bytes built =
+    TranslatedMetered source name method_bytes turns built
+
+-- ---- answers
+
+-- the fault of a spent meter, which a program itself never has
+abbrev pub is_spent : Done → Bool
+is_spent (done.Faulted f) = f.kind == spent_kind
+is_spent other = false
+
+-- The answer of classes with a meter, by that of any run: it tells that the program's steps are
+-- spent.
+abbrev pub by_meter : Done → Done
+by_meter answer = if is_spent answer then done.Spent else answer
+
+abbrev pub said_by_meter : CommandAnswer → CommandAnswer
+said_by_meter answer = record { done = by_meter answer.done; name = answer.name }
+
+abbrev pub ended_by_meter : Result CommandAnswer Stop → Result CommandAnswer Stop
+ended_by_meter (Ok answer) = Ok (said_by_meter answer)
+ended_by_meter (Err stop) = Err stop
+
+-- the same work with this answer
+abbrev pub told_by_meter : Due → Due
+told_by_meter due = record {
+  deeds = due.deeds;
+  answer = option_map said_by_meter due.answer;
+}
+
+-- ---- what is due
+
+-- how many instructions the turns on the meter allow the classes
+abbrev pub allowed_by_meter : ℕ → Source → ℕ
+allowed_by_meter turns source = meter_allow (image_of source).mapped turns
+
+-- What is due of the run of the classes, beside the program's own of as many turns as are on the
+-- meter: they run, and then the answer is how the program ended, or that its steps are spent, and
+-- the files are kept that it has then.
+abbrev pub metered_run : Plan → ℕ → Source → List GivenFile → List Class → Option (List ℕ)
+    → List (List ℕ) → Due
+metered_run plan turns source given classes input pieces =
+    let program : Run State System = program_for plan source given input pieces turns in
+    played (allowed_by_meter turns source)
+    (λ n. stage_of loaded_turn (classes_for plan source given classes input pieces n))
+    program.system.files plan.session.keep.names program.outcome
+
+-- What is due of a program that has an image, with the files of --with, where so many turns are put
+-- on a meter of its classes.
+pub record IsDueOfMetered (plan : Plan) (method_bytes turns : ℕ) (source : Source)
+    (given : List GivenFile) (input : Option (List ℕ)) (due : Due) : Type 0 where
+  -- a translation: its files spell classes that are accepted, and that run as the program does
+  -- until its turns are spent
+  pub built : Built
+  pub translated : TranslatedMetered source plan.name method_bytes turns built
+  -- pieces of input, of which one comes before each call where it does not tell what it has left
+  pub pieces : List (List ℕ)
+  -- its files are stored, and then its classes run
+  pub is : due ≡ after_stores built.files.items
+      (metered_run plan turns source given translated.linked.classes input pieces)
+  -- Their run has come to where the program's own stands after so many steps, as `interp` makes it:
+  -- after the same calls, and with the same files, input and output. It has ended in the same way,
+  -- or where the program goes on, in the fault of a spent meter.
+  pub as_program : IsMetered spent (program_for plan source given input pieces turns)
+      (classes_for plan source given translated.linked.classes input pieces
+      (allowed_by_meter turns source))
+  -- they never end in a trap
+  pub no_trap : (k : ℕ) → due.answer ≢ Some (says (done.Trapped k))
+
+-- The same where its classes are stored alone: every program that has an image is translated.
+pub record IsDueOfMeteredImage (source : Source) (name : Text) (method_bytes turns : ℕ) (due : Due)
+    : Type 0 where
+  -- a translation: its files spell classes that are accepted, and that run as the program does
+  -- until its turns are spent
+  pub built : Built
+  pub translated : TranslatedMetered source name method_bytes turns built
+  -- its files are stored, and counted
+  pub is : due ≡ counted built
