@@ -28,10 +28,12 @@ use Rattle.command_deeds.specs.declared.done.Done.TheVariants as done
 use Rattle.command_deeds.specs.declared.stop.Stop.{Stop}
 use Rattle.command_deeds.specs.declared.stop.Stop.TheVariants.{ReadFault, WriteFault, ShelfFault, NoMemory}
 use Rattle.command_guest.specs.Imaging.{IsImageChecked, IsImaged, elf_checked, source_of}
-use Rattle.command_translate.specs.Go.{IsDueOfGo, IsDueOfTranslated, allowed, classes_for, program_for}
+use Rattle.command_translate.specs.Go.{IsDueOfGo, IsDueOfTranslated, IsDueOfTranslatedBy, allowed}
+use Rattle.command_translate.specs.Metered.{IsDueOfMetered}
+use Rattle.command_translate.specs.Runs.{classes_for, program_for}
 use Rattle.nested_cli.specs.Commands.{Does, plan}
 use Rattle.nested_cli.specs.Faults.{ErrFailed, Failed, OutFailed}
-use Rattle.nested_cli.specs.Laws.{AnswersAs, GoIsComplete, GoesAhead, NoCountRose, Sound, own_bound, own_run}
+use Rattle.nested_cli.specs.Laws.{AnswersAs, AnswersFor, GoIsComplete, GoesAhead, NoCountRose, Sound}
 use Rattle.nested_cli.proofs.CheckLemmas.{not-told}
 
 -- ---- the checks pass
@@ -95,21 +97,36 @@ translated-answers p method_bytes source given bytes due answer t is =
     answers-as (program_for p source given (Some bytes) []) ran p.session.steps (allowed p source) answer.done
     (told-answer (answer_of ran.outcome) answer (sym (ap (λ (d : Due). d.answer) t.is) ∙ is)) t.as_program t.as_classes
 
+metered-answers : (p : Plan) (method_bytes turns : ℕ) (source : Source) (given : List GivenFile) (bytes : List ℕ) (due : Due) (answer : CommandAnswer)
+    → IsDueOfMetered p method_bytes turns source given (Some bytes) due → due.answer ≡ Some answer
+    → answer_of (program_for p source given (Some bytes) [] turns).outcome ≡ Some answer.done
+metered-answers p method_bytes turns source given bytes due answer t is =
+    told-answer (answer_of (program_for p source given (Some bytes) [] turns).outcome) answer (sym (ap (λ (d : Due). d.answer) t.is) ∙ is)
+
+-- with a meter or without one
+answers-by : (words : List Text) (moment : ℕ) (w : World) (g : GoesAhead words moment w) (meter : Option ℕ) (due : Due) (answer : CommandAnswer)
+    → IsDueOfTranslatedBy meter (plan g.name g.session moment) g.method_bytes (source_of g.pages g.file) g.given (Some g.bytes) due
+    → due.answer ≡ Some answer → AnswersFor g meter answer.done
+answers-by words moment w g None due answer t is =
+    translated-answers (plan g.name g.session moment) g.method_bytes (source_of g.pages g.file) g.given g.bytes due answer t is
+answers-by words moment w g (Some turns) due answer t is =
+    metered-answers (plan g.name g.session moment) g.method_bytes turns (source_of g.pages g.file) g.given g.bytes due answer t is
+
 work-answers : (words : List Text) (moment : ℕ) (w : World) (g : GoesAhead words moment w) (due : Due) (answer : CommandAnswer)
-    → IsDueOfGo g.input g.pages g.method_bytes (plan g.name g.session moment) w due → due.answer ≡ Some answer
-    → AnswersAs (own_run g) g.session.steps (own_bound g) answer.done
+    → IsDueOfGo g.input g.pages g.method_bytes g.meter (plan g.name g.session moment) w due → due.answer ≡ Some answer
+    → AnswersFor g g.meter answer.done
 work-answers words moment w g due answer d is =
     let p : Plan = plan g.name g.session moment in
     let source : Source = source_of g.pages g.file in
     let file : d.file ≡ Ok g.file = d.file_is ∙ file-passes w g.files g.input g.file w.shelf.told g.files_told d.files d.agree g.there in
     let passed : d.source ≡ Ok source = source-passes g.pages g.file d.file d.source file g.is_program g.has_image d.source_is in
     let found : d.found ≡ Ok g.given = found-passes p source g.files g.given d.source d.found w.shelf.told g.files_told d.with_files d.with_agree passed g.fit d.found_is in
-    let behind : IfOk d.found (λ given. IsDueOfTranslated p g.method_bytes source given w.input.told due) =
-    subst (λ (c : Check Source). IfOk c (λ image. IfOk d.found (λ given. IsDueOfTranslated p g.method_bytes image given w.input.told due))) passed d.done in
-    let t : IsDueOfTranslated p g.method_bytes source g.given w.input.told due =
-    subst (λ (c : Check (List GivenFile)). IfOk c (λ given. IsDueOfTranslated p g.method_bytes source given w.input.told due)) found behind in
-    translated-answers p g.method_bytes source g.given g.bytes due answer
-    (subst (λ told. IsDueOfTranslated p g.method_bytes source g.given told due) g.bytes_told t) is
+    let behind : IfOk d.found (λ given. IsDueOfTranslatedBy g.meter p g.method_bytes source given w.input.told due) =
+    subst (λ (c : Check Source). IfOk c (λ image. IfOk d.found (λ given. IsDueOfTranslatedBy g.meter p g.method_bytes image given w.input.told due))) passed
+    d.done in
+    let t : IsDueOfTranslatedBy g.meter p g.method_bytes source g.given w.input.told due =
+    subst (λ (c : Check (List GivenFile)). IfOk c (λ given. IsDueOfTranslatedBy g.meter p g.method_bytes source given w.input.told due)) found behind in
+    answers-by words moment w g g.meter due answer (subst (λ told. IsDueOfTranslatedBy g.meter p g.method_bytes source g.given told due) g.bytes_told t) is
 
 -- ---- no call failed
 
@@ -133,7 +150,7 @@ write-rose w v none (inr failed) = err-rose w v none failed
 -- ---- the whole call
 
 abbrev Completes : {words : List Text} {moment : ℕ} {w : World} → GoesAhead words moment w → Done → Type 0
-Completes g said = (said ≡ done.NoMemory) ⊎ AnswersAs (own_run g) g.session.steps (own_bound g) said
+Completes g said = (said ≡ done.NoMemory) ⊎ AnswersFor g g.meter said
 
 go-completes : (words : List Text) (moment : ℕ) (w v : World) (said : Done) (g : GoesAhead words moment w) → Does words moment w v said
     → NoCountRose w v → Completes g said
@@ -150,10 +167,10 @@ go-completes words moment w v said g does none = by does.end refl (does.due _ g.
     stopped NoMemory e = inl e
 
     by : (end : Result CommandAnswer Stop) → does.end ≡ end
-        → Comes true (λ u due. IsDueOfGo g.input g.pages g.method_bytes (plan g.name g.session moment) u due) w does.worked end → Completes g said
+        → Comes true (λ u due. IsDueOfGo g.input g.pages g.method_bytes g.meter (plan g.name g.session moment) u due) w does.worked end → Completes g said
     by (Err stop) e comes = stopped stop (is ∙ ap (λ x. (final x).done) e)
     by (Ok answer) e (inl early) = absurd early
-    by (Ok answer) e (inr work) = inr (subst (AnswersAs (own_run g) g.session.steps (own_bound g)) (sym (is ∙ ap (λ x. (final x).done) e))
+    by (Ok answer) e (inr work) = inr (subst (AnswersFor g g.meter) (sym (is ∙ ap (λ x. (final x).done) e))
         (work-answers words moment w g work.0 answer work.1 work.2.0))
 
 pub completes : GoIsComplete

@@ -29,7 +29,9 @@ use Rattle.command_deeds.specs.declared.done.Done.{Done}
 use Rattle.command_deeds.specs.declared.done.Done.TheVariants as done
 use Rattle.command_deeds.specs.declared.stop.Stop.{Stop}
 use Rattle.command_deeds.specs.declared.stop.Stop.TheVariants.{ReadFault, WriteFault, ShelfFault, NoMemory}
-use Rattle.command_translate.specs.Go.{IsDueOfTranslated, allowed, classes_for}
+use Rattle.command_translate.specs.Go.{IsDueOfTranslated, IsDueOfTranslatedBy, allowed}
+use Rattle.command_translate.specs.Metered.{IsDueOfMetered, allowed_by_meter}
+use Rattle.command_translate.specs.Runs.{classes_for, program_for}
 use Rattle.command_translate.specs.Stores.{stored}
 use Rattle.nested_cli.specs.Commands.{Does, IsDueOf, loads, plan}
 use Rattle.nested_cli.specs.Laws.{RanWhole, RunsTakeNoMemory, kept_by}
@@ -144,14 +146,34 @@ translated plan method_bytes due input source given t =
       is = ap (λ (d : Due). d.deeds) t.is ∙ sym (append_assoc (stored t.built.files.items) (prepares ∷ []) rear);
     })
 
+metered : (plan : Plan) (method_bytes turns : ℕ) (due : Due) (input : Option (List ℕ)) (source : Source) (given : List GivenFile)
+    → IsDueOfMetered plan method_bytes turns source given input due → RunsOnceAtMost due plan.session.keep.names
+metered plan method_bytes turns due input source given t =
+    let run : ℕ → Run Loaded System = λ n. classes_for plan source given t.translated.linked.classes input t.pieces n in
+    let files : GuestFiles = (program_for plan source given input t.pieces turns).system.files in
+    let rear : List Deed = plays (allowed_by_meter turns source) (λ n. stage_of loaded_turn (run n)) ∷ kept files plan.session.keep.names in
+    inr (record {
+      front = stored t.built.files.items ++ prepares ∷ [];
+      quiet = stored-quiet t.built.files.items;
+      turns = allowed_by_meter turns source;
+      stage = λ n. stage_of loaded_turn (run n);
+      files = files;
+      is = ap (λ (d : Due). d.deeds) t.is ∙ sym (append_assoc (stored t.built.files.items) (prepares ∷ []) rear);
+    })
+
+translated-by : (meter : Option ℕ) (plan : Plan) (method_bytes : ℕ) (due : Due) (input : Option (List ℕ)) (source : Source) (given : List GivenFile)
+    → IsDueOfTranslatedBy meter plan method_bytes source given input due → RunsOnceAtMost due plan.session.keep.names
+translated-by None plan method_bytes due input source given t = translated plan method_bytes due input source given t
+translated-by (Some turns) plan method_bytes due input source given t = metered plan method_bytes turns due input source given t
+
 runs-once : (c : Command) (moment : ℕ) (w : World) (due : Due) (names : List Text) → kept_by c ≡ Some names → IsDueOf c moment w due
     → RunsOnceAtMost due names
-runs-once (command.Go input name pages method_bytes session) moment w due names is d =
+runs-once (command.Go input name pages method_bytes meter session) moment w due names is d =
     subst (RunsOnceAtMost due) (same_Some session.keep.names names is)
     (checked-twice (RunsOnceAtMost due session.keep.names)
-    (λ image given. IsDueOfTranslated (plan name session moment) method_bytes image given w.input.told due) due d.source d.found
+    (λ image given. IsDueOfTranslatedBy meter (plan name session moment) method_bytes image given w.input.told due) due d.source d.found
     (λ image. found_for (plan name session moment) d.with_files) (refusing due session.keep.names) d.found_is d.refused d.done
-    (translated (plan name session moment) method_bytes due w.input.told))
+    (translated-by meter (plan name session moment) method_bytes due w.input.told))
 runs-once (command.Interp input name pages session) moment w due names is d =
     let made : Plan = plan name session moment in
     subst (RunsOnceAtMost due) (same_Some session.keep.names names is)
@@ -166,7 +188,7 @@ runs-once (command.Run class words session) moment w due names is d =
     (λ accepted given. due ≡ session_run loaded_turn (loaded (program_of accepted) words) made given w.input.told d.pieces) due d.classes d.found
     (λ accepted. found_for made d.with_files) (refusing due session.keep.names) d.found_is d.refused d.done
     (λ accepted given. running loaded_turn (loaded (program_of accepted) words) made given w.input.told d.pieces due))
-runs-once (command.Translate input name pages method_bytes) moment w due names is d = cc
+runs-once (command.Translate input name pages method_bytes meter) moment w due names is d = cc
 runs-once (command.Verify class) moment w due names is d = cc
 runs-once (command.Frames class) moment w due names is d = cc
 runs-once (command.Check class) moment w due names is d = cc

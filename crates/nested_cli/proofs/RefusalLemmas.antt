@@ -40,9 +40,11 @@ use Rattle.command_frames.specs.Frames as frames
 use Rattle.command_link.specs.Linking.{linked}
 use Rattle.command_pipe.specs.Pipe.{IsDueOfPipe, each, ended_so, of_stages, piped, pipeline_for}
 use Rattle.command_pipe.specs.declared.launch.PipeLaunch.{PipeLaunch}
-use Rattle.command_translate.specs.Go.{IsDueOfGo, IsDueOfTranslated, allowed, classes_for}
+use Rattle.command_translate.specs.Go.{IsDueOfGo, IsDueOfTranslated, IsDueOfTranslatedBy, allowed}
 use Rattle.command_translate.specs.Make.{IsDueOfMake, told}
-use Rattle.command_translate.specs.Translate.{IsDueOfImage, IsDueOfTranslate}
+use Rattle.command_translate.specs.Metered.{IsDueOfMetered}
+use Rattle.command_translate.specs.Runs.{classes_for, program_for}
+use Rattle.command_translate.specs.Translate.{IsDueOfImageBy, IsDueOfTranslate}
 use Rattle.nested_cli.specs.Commands.{Does, IsDueOf, loads, plan, pipe_launch}
 use Rattle.nested_cli.specs.Laws.{RefusalsLeaveAll, is_refusal}
 use Rattle.nested_cli.specs.Usage.{Misuses}
@@ -91,16 +93,31 @@ translated : (plan : Plan) (method_bytes : ℕ) (due : Due) (input : Option (Lis
 translated plan method_bytes due input source given t =
     running due (classes_for plan source given t.translated.linked.classes input t.pieces (allowed plan source)).outcome (ap (λ (d : Due). d.answer) t.is)
 
+metered : (plan : Plan) (method_bytes turns : ℕ) (due : Due) (input : Option (List ℕ)) (source : Source) (given : List GivenFile)
+    → IsDueOfMetered plan method_bytes turns source given input due → LeavesAll due
+metered plan method_bytes turns due input source given t =
+    running due (program_for plan source given input t.pieces turns).outcome (ap (λ (d : Due). d.answer) t.is)
+
+translated-by : (meter : Option ℕ) (plan : Plan) (method_bytes : ℕ) (due : Due) (input : Option (List ℕ)) (source : Source) (given : List GivenFile)
+    → IsDueOfTranslatedBy meter plan method_bytes source given input due → LeavesAll due
+translated-by None plan method_bytes due input source given t = translated plan method_bytes due input source given t
+translated-by (Some turns) plan method_bytes due input source given t = metered plan method_bytes turns due input source given t
+
+-- a translation is stored and counted, with a meter or without one
+imaged : (meter : Option ℕ) (name : Text) (method_bytes : ℕ) (due : Due) (source : Source) → IsDueOfImageBy meter source name method_bytes due → LeavesAll due
+imaged None name method_bytes due source t = accepting due done.Good (ap (λ (e : Due). e.answer) t.is) refl
+imaged (Some turns) name method_bytes due source t = accepting due done.Good (ap (λ (e : Due). e.answer) t.is) refl
+
 due-answer : (due other : Due) → due ≡ other → due.answer ≡ other.answer
 due-answer due other is = ap (λ (d : Due). d.answer) is
 
 -- ---- command by command
 
-go-leaves : (input : Named) (pages : Pages) (method_bytes : ℕ) (plan : Plan) (w : World) (due : Due)
-    → IsDueOfGo input pages method_bytes plan w due → LeavesAll due
-go-leaves input pages method_bytes plan w due d =
-    checked-twice (LeavesAll due) (λ image given. IsDueOfTranslated plan method_bytes image given w.input.told due) due d.source d.found
-    (λ image. found_for plan d.with_files) (refusing due) d.found_is d.refused d.done (translated plan method_bytes due w.input.told)
+go-leaves : (input : Named) (pages : Pages) (method_bytes : ℕ) (meter : Option ℕ) (plan : Plan) (w : World) (due : Due)
+    → IsDueOfGo input pages method_bytes meter plan w due → LeavesAll due
+go-leaves input pages method_bytes meter plan w due d =
+    checked-twice (LeavesAll due) (λ image given. IsDueOfTranslatedBy meter plan method_bytes image given w.input.told due) due d.source d.found
+    (λ image. found_for plan d.with_files) (refusing due) d.found_is d.refused d.done (translated-by meter plan method_bytes due w.input.told)
 
 interp-leaves : (input : Named) (pages : Pages) (plan : Plan) (w : World) (due : Due) → IsDueOfInterp input pages plan w due → LeavesAll due
 interp-leaves input pages plan w due d =
@@ -126,11 +143,11 @@ checked-good : {A : Type 0} (due : Due) (other : A → Due) (check : Check A) �
 checked-good due other check answer refused done =
     checked (LeavesAll due) due check (refusing due) refused (passing (λ a. due ≡ other a) (λ a. LeavesAll due) check (λ a is. good due (other a) (answer a) is) done)
 
-translate-leaves : (input : Named) (name : Text) (pages : Pages) (method_bytes : ℕ) (w : World) (due : Due)
-    → IsDueOfTranslate input name pages method_bytes w due → LeavesAll due
-translate-leaves input name pages method_bytes w due d =
-    checked (LeavesAll due) due d.source (refusing due) d.refused (passing (λ image. IsDueOfImage image name method_bytes due) (λ image. LeavesAll due) d.source
-    (λ image t. accepting due done.Good (ap (λ (e : Due). e.answer) t.is) refl) d.done)
+translate-leaves : (input : Named) (name : Text) (pages : Pages) (method_bytes : ℕ) (meter : Option ℕ) (w : World) (due : Due)
+    → IsDueOfTranslate input name pages method_bytes meter w due → LeavesAll due
+translate-leaves input name pages method_bytes meter w due d =
+    checked (LeavesAll due) due d.source (refusing due) d.refused (passing (λ image. IsDueOfImageBy meter image name method_bytes due) (λ image. LeavesAll due)
+    d.source (imaged meter name method_bytes due) d.done)
 
 -- where all stages of a pipeline ended
 staged : (due : Due) (count : ℕ) (run : ℕ → Run Loaded System) → due ≡ of_stages count run → LeavesAll due
@@ -146,8 +163,9 @@ pipe-leaves stages launch w due d =
     staged due (length stages) (run_alone_of p (first_run_over p w.input.told d.pieces)) is) d.done)
 
 leaves : (c : Command) (moment : ℕ) (w : World) (due : Due) → IsDueOf c moment w due → LeavesAll due
-leaves (command.Go input name pages method_bytes session) moment w due d = go-leaves input pages method_bytes (plan name session moment) w due d
-leaves (command.Translate input name pages method_bytes) moment w due d = translate-leaves input name pages method_bytes w due d
+leaves (command.Go input name pages method_bytes meter session) moment w due d =
+    go-leaves input pages method_bytes meter (plan name session moment) w due d
+leaves (command.Translate input name pages method_bytes meter) moment w due d = translate-leaves input name pages method_bytes meter w due d
 leaves (command.Interp input name pages session) moment w due d = interp-leaves input pages (plan name session moment) w due d
 leaves (command.Asm input output) moment w due d = checked-good due (assembled output) d.program (λ bytes. refl) d.refused d.done
 leaves (command.List input) moment w due d =

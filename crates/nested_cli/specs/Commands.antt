@@ -39,10 +39,10 @@ pipe_launch words steps disk pipe moment =
 -- What a command is to do in a world: by its words, and by files and input that are those that are
 -- told, where any are.
 abbrev pub IsDueOf : Command → ℕ → World → Due → Type 0
-IsDueOf (command.Go input name pages method_bytes session) moment w due =
-    IsDueOfGo input pages method_bytes (plan name session moment) w due
-IsDueOf (command.Translate input name pages method_bytes) moment w due =
-    IsDueOfTranslate input name pages method_bytes w due
+IsDueOf (command.Go input name pages method_bytes meter session) moment w due =
+    IsDueOfGo input pages method_bytes meter (plan name session moment) w due
+IsDueOf (command.Translate input name pages method_bytes meter) moment w due =
+    IsDueOfTranslate input name pages method_bytes meter w due
 IsDueOf (command.Interp input name pages session) moment w due =
     IsDueOfInterp input pages (plan name session moment) w due
 IsDueOf (command.Asm input output) moment w due = IsDueOfAsm input output w due

@@ -25,7 +25,8 @@ use Rattle.command_deeds.specs.World.{SameShelf, Seen, Takes, World}
 use Rattle.command_deeds.specs.declared.done.Done.{Done}
 use Rattle.command_deeds.specs.declared.done.Done.TheVariants as done
 use Rattle.command_guest.specs.Imaging.{source_of}
-use Rattle.command_translate.specs.Go.{allowed, program_for}
+use Rattle.command_translate.specs.Go.{allowed}
+use Rattle.command_translate.specs.Runs.{program_for}
 use Rattle.nested_cli.specs.Commands.{Does, IsDueOf, plan}
 
 -- ---- refusals
@@ -73,8 +74,9 @@ pub record GoesAhead (words : List Text) (moment : ℕ) (w : World) : Type 0 whe
   pub name : Text
   pub pages : Pages
   pub method_bytes : ℕ
+  pub meter : Option ℕ
   pub session : Session
-  pub means : command_of words ≡ Ok (command.Go input name pages method_bytes session)
+  pub means : command_of words ≡ Ok (command.Go input name pages method_bytes meter session)
   -- the files of the shelf, and what input has
   pub files : Files
   pub files_told : w.shelf.told ≡ Some files
@@ -109,6 +111,13 @@ pub record AnswersAs (run : ℕ → Run State System) (steps more : ℕ) (said :
   pub goes_on : (run steps).outcome ≡ Going
       → (said ≡ done.Spent) ⊎ (answer_of (run more).outcome ≡ Some said)
 
+-- With a meter, it is exactly how the program's own run of as many steps ends, or that these are
+-- spent.
+abbrev pub AnswersFor : {words : List Text} {moment : ℕ} {w : World} → GoesAhead words moment w
+    → Option ℕ → Done → Type 0
+AnswersFor g None said = AnswersAs (own_run g) g.session.steps (own_bound g) said
+AnswersFor g (Some turns) said = answer_of (own_run g turns).outcome ≡ Some said
+
 -- a part of the outside that did not fail, and whose count tells it
 abbrev pub Sound : {A : Type 0} → Seen A → Seen A → Type 0
 Sound old new = (new.faults ≡ old.faults) × (old.faults < 2 ^ 64 - 1)
@@ -125,16 +134,16 @@ pub record NoCountRose (w v : World) : Type 0 where
 abbrev pub GoIsComplete : Type 0
 GoIsComplete = (words : List Text) (moment : ℕ) (w v : World) (said : Done)
     (g : GoesAhead words moment w) → Does words moment w v said → NoCountRose w v
-    → (said ≡ done.NoMemory) ⊎ AnswersAs (own_run g) g.session.steps (own_bound g) said
+    → (said ≡ done.NoMemory) ⊎ AnswersFor g g.meter said
 
 -- ---- a run takes no memory
 
 -- the names of the files that a command keeps which runs a guest
 abbrev pub kept_by : Command → Option (List Text)
-kept_by (command.Go input name pages method_bytes session) = Some session.keep.names
+kept_by (command.Go input name pages method_bytes meter session) = Some session.keep.names
 kept_by (command.Interp input name pages session) = Some session.keep.names
 kept_by (command.Run class words session) = Some session.keep.names
-kept_by (command.Translate input name pages method_bytes) = None
+kept_by (command.Translate input name pages method_bytes meter) = None
 kept_by (command.Verify class) = None
 kept_by (command.Frames class) = None
 kept_by (command.Check class) = None

@@ -128,6 +128,7 @@ fn perform_command<H: Shelf, S: Source, O: Sink, E: Sink>(
             name,
             pages,
             method_bytes,
+            meter,
             session,
         } => {
             let guest = Guest {
@@ -135,14 +136,15 @@ fn perform_command<H: Shelf, S: Source, O: Sink, E: Sink>(
                 pages: *pages,
                 launch: Launch::new(name, session, moment),
             };
-            go(alloc, &guest, *method_bytes, outside)
+            go(alloc, &guest, *method_bytes, *meter, outside)
         }
         Command::Translate {
             input: file,
             name,
             pages,
             method_bytes,
-        } => translate(alloc, file, name, *pages, *method_bytes, outside),
+            meter,
+        } => translate(alloc, file, name, *pages, *method_bytes, *meter, outside),
         Command::Interp {
             input: file,
             name,

@@ -22,6 +22,7 @@ const HELP: &str = "nested: runs MIPS programs without native code
     --heap N            of go, translate, interp: pages of heap, 0 to 32768 (256)
     --stack N           of go, translate, interp: pages of stack, 1 to 32768 (64)
     --method-bytes N    of go, translate, make: the most bytes of a method, 4096 to 65535 (65535)
+    --meter N           of go, translate: classes that stop after N instructions of the program, 0 to 2147483647 (none)
     --steps N           of go, interp, run, pipe: the most instructions, 0 to 2^40, of run and pipe 2^50 (the most)
     --words N           of run, pipe: words for arrays, 1 to 68288580 (4194304)
     --disk N            of go, interp, run, pipe: blocks of 4096 bytes for files, 0 to 65536 (1024)
