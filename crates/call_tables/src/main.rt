@@ -5,7 +5,8 @@
 mod alike;
 mod outside;
 mod rows;
-mod setting;
+mod shelf;
+mod words;
 
 use rows::Rows;
 use table_rows::print_answers;

@@ -1,22 +1,22 @@
 //! The rows of the table.
 use crate::alike::alike;
-use crate::outside::{Outside, words_of};
-use crate::setting::Setting;
-use anyhow::{Result, bail};
+use crate::outside::Outside;
+use crate::words::words_row;
+use anyhow::Result;
 use nested_cli::Done;
 use nv_outside::MemShelf;
 use std::alloc::Global;
 use std::fmt::Write;
-use table_rows::{Answers, Files};
+use table_rows::{Answers, Files, rest, word};
 
-/// What answers them: the files that stand beside each call, as `NAME=FILE`.
+/// What answers them: what stands around each call, beside what its row says.
 #[derive(Drop)]
 pub struct Rows {
     beside: String,
 }
 
 impl Rows {
-    /// No files.
+    /// Nothing.
     pub fn new(alloc: Global) -> Rows {
         Rows {
             beside: String::new(alloc),
@@ -26,39 +26,51 @@ impl Rows {
 
 impl Answers for Rows {
     fn answer(&mut self, alloc: Global, files: &Files, row: &str) -> Result<String> {
-        if let Some(beside) = row.strip_prefix("beside") {
-            self.beside = String::from_str(alloc, beside)?;
-            return Ok(String::from_str(alloc, "set")?);
-        }
-        let whole = format!(in alloc; "{row}{}", self.beside)?;
-        let words: Vec<&str> = whole.as_str().split(' ').collect(alloc)?;
-        match words.as_slice() {
-            ["status", what, number, ..] => status_row(alloc, *what, number.parse()?),
-            ["alike", first, others @ ..] => {
-                let mut dones = Vec::new(alloc);
-                for call in first.split('/') {
-                    let setting = Setting::of_words(alloc, files, others)?;
-                    let mut outside = Outside::new(alloc, setting)?;
-                    dones.push(outside.call(alloc, call)?)?;
-                }
-                alike(alloc, dones.as_slice())
+        match word(row, 0) {
+            "beside" => {
+                self.beside = String::from_str(alloc, rest(row, 1))?;
+                Ok(String::from_str(alloc, "set")?)
             }
-            ["then", calls, others @ ..] => then_row(alloc, files, *calls, others),
-            [call, others @ ..] => {
-                let setting = Setting::of_words(alloc, files, others)?;
-                let mut outside = Outside::new(alloc, setting)?;
-                let done = outside.call(alloc, *call)?;
-                outside.shown(alloc, done)
+            "command" => words_row(alloc, rest(row, 1)),
+            "status" => status_row(alloc, word(row, 1), word(row, 2).parse().unwrap_or(0)),
+            "alike" => {
+                let around = around(alloc, rest(row, 2), &self.beside)?;
+                alike_row(alloc, files, word(row, 1), around.as_str())
             }
-            [] => bail!("a call is wanted"),
+            "then" => {
+                let around = around(alloc, rest(row, 2), &self.beside)?;
+                then_row(alloc, files, word(row, 1), around.as_str())
+            }
+            call => {
+                let around = around(alloc, rest(row, 1), &self.beside)?;
+                call_row(alloc, files, call, around.as_str())
+            }
         }
     }
 }
 
+fn around(alloc: Global, own: &str, beside: &String) -> Result<String> {
+    Ok(format!(in alloc; "{own} {beside}")?)
+}
+
+fn call_row(alloc: Global, files: &Files, call: &str, around: &str) -> Result<String> {
+    let mut outside = Outside::new(alloc, files, around)?;
+    let done = outside.call(alloc, call)?;
+    outside.shown(alloc, done)
+}
+
+fn alike_row(alloc: Global, files: &Files, calls: &str, around: &str) -> Result<String> {
+    let mut dones = Vec::new(alloc);
+    for call in calls.split('/') {
+        let mut outside = Outside::new(alloc, files, around)?;
+        dones.push(outside.call(alloc, call)?)?;
+    }
+    alike(alloc, dones.as_slice())
+}
+
 /// Calls over one shelf, one after the other, with `/` between them; `keep:NAME,NAME` leaves these files alone.
-fn then_row(alloc: Global, files: &Files, calls: &str, others: &[&str]) -> Result<String> {
-    let setting = Setting::of_words(alloc, files, others)?;
-    let mut outside = Outside::new(alloc, setting)?;
+fn then_row(alloc: Global, files: &Files, calls: &str, around: &str) -> Result<String> {
+    let mut outside = Outside::new(alloc, files, around)?;
     let mut text = String::new(alloc);
     for call in calls.split('/') {
         match call.strip_prefix("keep:") {

@@ -1,6 +1,8 @@
-//! Prints the table of classes with its answers: class files, linking, typings, code that is cut, and runs of the class machine.
+//! Prints the table of classes with its answers: class files, linking, typings, code that is cut, and runs of the class
+//! machine; constant pools as they are made, and steps that are assembled.
 #![tactic(auto)]
 
+mod emitted;
 mod reading;
 mod rows;
 mod runs;

@@ -9,10 +9,10 @@ use constant_pool::{Entry, read_pool, text_of};
 use jvm_code::{Class, Line, decode_ops, encode_ops};
 use std::alloc::Global;
 use std::fmt::Write;
-use table_rows::{bytes_of, hex_of};
+use table_rows::{Files, bytes_of, hex_of};
 
 /// The slots of a pool that begins at a place, and where it ends.
-pub fn pool_row(alloc: Global, place: usize, pieces: &[&str]) -> Result<String> {
+pub fn pool_row(alloc: Global, place: usize, pieces: &str) -> Result<String> {
     let bytes = bytes_of(alloc, pieces)?;
     let (entries, end) = entries_of(alloc, bytes.as_slice(), place)?;
     let mut text = String::new(alloc);
@@ -30,7 +30,8 @@ fn entries_of(alloc: Global, bytes: &[u8], place: usize) -> Result<(Vec<Entry>, 
     }
 }
 
-fn push_entry(text: &mut String, entry: &Entry) -> Result<()> {
+/// Shows what stands in a slot.
+pub fn push_entry(text: &mut String, entry: &Entry) -> Result<()> {
     match entry {
         Entry::Utf8(characters) => {
             text.push_str("text")?;
@@ -52,22 +53,24 @@ fn push_entry(text: &mut String, entry: &Entry) -> Result<()> {
 }
 
 /// What a class has, and whether it is written again as it stands, with its code.
-pub fn class_row(alloc: Global, file: &[u8]) -> Result<String> {
-    let (class, again) = written_again(alloc, file)?;
+pub fn class_row(alloc: Global, files: &Files, name: &str) -> Result<String> {
+    let file = files.get(alloc, name)?;
+    let class = class_of(alloc, file.as_slice())?;
+    let same = is_again(alloc, &class, file.as_slice())?;
     let (this, super_class) = (class.this_class, class.super_class);
     let (slots, fields) = (class.pool.as_slice().len(), class.fields.as_slice().len());
     let methods = class.methods.as_slice().len();
-    let same = again.as_slice() == file;
     let code = is_code_again(alloc, &class)?;
     Ok(format!(in alloc;
         "this {this}, super {super_class}, {slots} slots, {fields} fields, {methods} methods; again {same}, code {code}"
     )?)
 }
 
-fn written_again(alloc: Global, file: &[u8]) -> Result<(Class, Vec<u8>)> {
-    let class = class_of(alloc, file)?;
-    match write_class(alloc, &class) {
-        Ok(again) => Ok((class, again)),
+fn is_again(alloc: Global, class: &Class, file: &[u8]) -> Result<bool>
+    requires { IsClass class.now }
+{
+    match write_class(alloc, class) {
+        Ok(again) => Ok(again.as_slice() == file),
         Err(error) => bail!("{error:?}"),
     }
 }
@@ -105,8 +108,9 @@ fn code_again(alloc: Global, code: &[u8]) -> Result<(Vec<Line>, Vec<u8>)> {
 }
 
 /// The parts of a class's first method.
-pub fn method_row(alloc: Global, file: &[u8]) -> Result<String> {
-    let class = class_of(alloc, file)?;
+pub fn method_row(alloc: Global, files: &Files, name: &str) -> Result<String> {
+    let file = files.get(alloc, name)?;
+    let class = class_of(alloc, file.as_slice())?;
     let it = class
         .methods
         .as_slice()
@@ -121,8 +125,9 @@ pub fn method_row(alloc: Global, file: &[u8]) -> Result<String> {
 }
 
 /// The characters of the text in a slot.
-pub fn text_row(alloc: Global, file: &[u8], slot: u16) -> Result<String> {
-    let class = class_of(alloc, file)?;
+pub fn text_row(alloc: Global, files: &Files, name: &str, slot: u16) -> Result<String> {
+    let file = files.get(alloc, name)?;
+    let class = class_of(alloc, file.as_slice())?;
     let characters = text_of(class.pool.as_slice(), slot).context("the slot has no text")?;
     let mut text = String::new(alloc);
     for character in characters {
@@ -132,7 +137,7 @@ pub fn text_row(alloc: Global, file: &[u8], slot: u16) -> Result<String> {
 }
 
 /// The places of instructions, and whether these are the same bytes again.
-pub fn code_row(alloc: Global, pieces: &[&str]) -> Result<String> {
+pub fn code_row(alloc: Global, pieces: &str) -> Result<String> {
     let code = bytes_of(alloc, pieces)?;
     let (lines, again) = code_again(alloc, code.as_slice())?;
     let mut text = String::new(alloc);

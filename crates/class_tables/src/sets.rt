@@ -12,13 +12,13 @@ use jvm_program::{Instruction, Kind, LinkedMethod};
 use nv_outside::{MemShelf, ShelfError};
 use std::alloc::Global;
 use std::fmt::Write;
-use table_rows::Files;
+use table_rows::{Files, count, rest, slot};
 
 /// What loading the set of `Main` comes to, from files `NAME=FILE`, where a call of the shelf fails, counted from 1; 0: none.
-pub fn set_row(alloc: Global, files: &Files, fails: u64, named: &[&str]) -> Result<String> {
+pub fn set_row(alloc: Global, files: &Files, fails: u64, named: &str) -> Result<String> {
     let mut shelf = MemShelf::new(alloc, [fails].to_vec(alloc)?);
-    for word in named {
-        let (name, file) = word.split_once('=').context("a file is wanted")?;
+    for word in named.split(' ') {
+        let (name, file) = word.split_once('=').unwrap_or((word, ""));
         shelf.add(name, files.get(alloc, file)?.as_slice())?;
     }
     let mut text = String::new(alloc);
@@ -49,18 +49,18 @@ fn push_name(text: &mut String, class: &Class) -> Result<()> {
     Ok(())
 }
 
-fn classes_of(alloc: Global, files: &Files, names: &[&str]) -> Result<Vec<Class>>
+fn classes_of(alloc: Global, files: &Files, names: &str) -> Result<Vec<Class>>
     ensures { IfOk result (λ classes. All IsClass classes.items) }
 {
     let mut classes = Vec::new(alloc);
-    for name in names {
-        let class = class_of(alloc, files.get(alloc, *name)?.as_slice())?;
-        classes.push(class)?;
+    for name in names.split_whitespace() {
+        let file = files.get(alloc, name)?;
+        classes.push(class_of(alloc, file.as_slice())?)?;
     }
     Ok(classes)
 }
 
-pub fn linked_of(alloc: Global, files: &Files, names: &[&str]) -> Result<Linked> {
+fn linked_of(alloc: Global, files: &Files, names: &str) -> Result<Linked> {
     match link(alloc, classes_of(alloc, files, names)?) {
         Ok(linked) => Ok(linked),
         Err(LinkError::Refused(fault)) => bail!("{fault:?}"),
@@ -68,18 +68,17 @@ pub fn linked_of(alloc: Global, files: &Files, names: &[&str]) -> Result<Linked>
     }
 }
 
-/// Whether classes link that stand so many times.
-pub fn link_row(alloc: Global, files: &Files, times: u32, named: &[&str]) -> Result<String> {
-    let mut names = Vec::new(alloc);
-    for _ in 0..times {
-        names.extend_from_slice(named)?;
-    }
-    linked_of(alloc, files, names.as_slice())?;
+/// Whether classes link that stand so many times: `link TIMES FILES`.
+pub fn link_row(alloc: Global, files: &Files, row: &str) -> Result<String> {
+    let named = rest(row, 2);
+    let once = format!(in alloc; "{named} ")?;
+    let all = once.as_str().repeat(alloc, count(row, 1) as usize)?;
+    linked_of(alloc, files, all.as_str())?;
     Ok(String::from_str(alloc, "linked")?)
 }
 
 /// What classes are that link: their counts, and what each instruction of each method names.
-pub fn linked_row(alloc: Global, files: &Files, named: &[&str]) -> Result<String> {
+pub fn linked_row(alloc: Global, files: &Files, named: &str) -> Result<String> {
     let linked = linked_of(alloc, files, named)?;
     let (first, classes) = (linked.first, linked.classes.as_slice().len());
     let (fields, methods) = (linked.fields.as_slice().len(), linked.methods.as_slice());
@@ -105,15 +104,10 @@ fn push_named(text: &mut String, method: &LinkedMethod) -> Result<()> {
     Ok(())
 }
 
-/// How many characters the text in a slot of a class has, and which.
-pub fn characters_row(
-    alloc: Global,
-    files: &Files,
-    class: u16,
-    slot: u16,
-    named: &[&str],
-) -> Result<String> {
-    let linked = linked_of(alloc, files, named)?;
+/// How many characters the text in a slot of a class has, and which: `characters CLASS SLOT FILES`.
+pub fn characters_row(alloc: Global, files: &Files, row: &str) -> Result<String> {
+    let (class, slot) = (slot(row, 1), slot(row, 2));
+    let linked = linked_of(alloc, files, rest(row, 3))?;
     let count = linked.characters_len(class, slot);
     let mut text = format!(in alloc; "{count}:")?;
     for i in 0..100 {

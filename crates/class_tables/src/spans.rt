@@ -5,11 +5,13 @@ use anyhow::{Result, ensure};
 use method_splitter::cut;
 use std::alloc::Global;
 use std::fmt::Write;
+use table_rows::{count, rest};
 
-/// How many spans there are, and each as `FIRST+WORDS`, of words with these weights where a method has so many bytes.
-pub fn cut_row(alloc: Global, limit: u32, words: &[&str]) -> Result<String> {
+/// How many spans there are, and each as `FIRST+WORDS`, of words with these weights where a method has so many bytes: `cut LIMIT WEIGHTS`.
+pub fn cut_row(alloc: Global, row: &str) -> Result<String> {
+    let limit = count(row, 1);
     let mut weights = Vec::new(alloc);
-    for word in words {
+    for word in rest(row, 2).split_whitespace() {
         weights.push(word.parse::<u32>()?)?;
     }
     ensure!(weights.len() <= 12_288, "there are too many words");

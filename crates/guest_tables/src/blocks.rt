@@ -16,7 +16,7 @@ use table_rows::words_of;
 const START: u32 = 0x0040_0000;
 
 /// The units of code, one for each word: some and not many, and none of the floating-point coprocessor.
-fn units_of(alloc: Global, pieces: &[&str]) -> Result<Vec<Unit>>
+fn units_of(alloc: Global, pieces: &str) -> Result<Vec<Unit>>
     ensures are { IfOk result (λ units. AreUnits units.items) }
     ensures few { IfOk result (λ units. length units.items ≤ 1024) }
 {
@@ -38,7 +38,7 @@ fn has_no_float(words: &[u32]) -> bool
 }
 
 /// The units as texts.
-pub fn units_row(alloc: Global, pieces: &[&str]) -> Result<String> {
+pub fn units_row(alloc: Global, pieces: &str) -> Result<String> {
     let mut text = String::new(alloc);
     let mut at = START;
     for unit in units_of(alloc, pieces)? {
@@ -74,7 +74,7 @@ fn shown_unit(alloc: Global, unit: &Unit, at: u32) -> Result<String> {
 }
 
 /// The blocks, each as `FIRST+WORDS` with the registers that it reads and writes.
-pub fn blocks_row(alloc: Global, pieces: &[&str]) -> Result<String> {
+pub fn blocks_row(alloc: Global, pieces: &str) -> Result<String> {
     let units = units_of(alloc, pieces)?;
     let mut text = String::new(alloc);
     for block in blocks(alloc, units.as_slice(), START)? {
@@ -84,7 +84,7 @@ pub fn blocks_row(alloc: Global, pieces: &[&str]) -> Result<String> {
 }
 
 /// So many words of the first block, from one on.
-pub fn part_row(alloc: Global, first: u32, words: u32, pieces: &[&str]) -> Result<String> {
+pub fn part_row(alloc: Global, first: u32, words: u32, pieces: &str) -> Result<String> {
     let units = units_of(alloc, pieces)?;
     let found = blocks(alloc, units.as_slice(), START)?;
     ensure!(0 < found.len(), "there is no block");
@@ -100,7 +100,7 @@ pub fn part_row(alloc: Global, first: u32, words: u32, pieces: &[&str]) -> Resul
 }
 
 /// Where the first unit goes, if its instruction says so.
-pub fn target_row(alloc: Global, pieces: &[&str]) -> Result<String> {
+pub fn target_row(alloc: Global, pieces: &str) -> Result<String> {
     let units = units_of(alloc, pieces)?;
     let first = units.first().context("there is no unit")?;
     Ok(match direct(first, START) {

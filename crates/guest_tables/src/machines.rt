@@ -1,93 +1,79 @@
 //! Runs of the guest machine over written answers.
-ghost use Rattle.std.specs.Prelude.{◌≡◌, false, IfOk};
-ghost use Rattle.mips_machine.specs.Guest.{has_ended};
-
 use anyhow::{Result, bail, ensure};
 use elf_image::image;
 use elf_reader::read_elf;
 use mips_machine::Mips;
-use nv_events::{Outcome, Reply, Scripted, View};
+use nv_events::{Outcome, Scripted, View};
 use std::alloc::Global;
 use std::fmt::Write;
-use table_rows::{Files, bytes_of, number_of, outcome_text, program_of};
+use table_rows::{Files, bytes_of, outcome_text, program_of, replies_of, rest, word};
 
-/// Runs of a program: `STEPS ANSWERS PROGRAM` and what is shown after each run.
+/// Runs of a program: `run STEPS ANSWERS PROGRAM`, and behind a `?` what is shown after each run.
 ///
 /// `STEPS` are bounds with commas between runs of new machines over the same answers, and `+` between runs of one machine; a bound such as
 /// `9s` is gone step by step. `ANSWERS` are `none`, or numbers with commas between them, each with bytes as in `1:41` where the call has
 /// room; the first is for the loader's call. The program is `file NAME`, or its words at 00400000. It has a page of heap and one of stack.
-pub fn machine_row(
-    alloc: Global,
-    files: &Files,
-    asked: [&str; 3],
-    program: &[&str],
-) -> Result<String> {
-    let [steps, answers, shown] = asked;
-    let file = match program {
-        ["file", name] => files.get(alloc, *name)?,
-        words => program_of(alloc, bytes_of(alloc, words)?)?,
-    };
-    let mut server = Scripted::new(replies_of(alloc, answers)?);
+pub fn machine_row(alloc: Global, files: &Files, row: &str) -> Result<String> {
+    let (asked, shown) = row.split_once(" ? ").unwrap_or((row, ""));
+    let file = program(alloc, files, rest(asked, 3))?;
+    let mut server = Scripted::new(replies_of(alloc, word(asked, 2))?);
     let mut text = String::new(alloc);
-    for runs in steps.split(',') {
+    for runs in word(asked, 1).split(',') {
         let mut mips = loaded(alloc, file.as_slice())?;
-        for bound in runs.split('+') {
-            run(alloc, &mut mips, &mut server, bound, &mut text)?;
-        }
-        for it in shown.split_whitespace() {
-            show(&mut mips, it, &mut text)?;
-        }
+        run_each(alloc, &mut mips, &mut server, runs, &mut text)?;
+        show_each(&mut mips, shown, &mut text)?;
     }
     Ok(text)
 }
 
-fn loaded(alloc: Global, file: &[u8]) -> Result<Mips>
-    ensures { IfOk result (λ mips. has_ended mips ≡ false) }
-{
+fn program(alloc: Global, files: &Files, words: &str) -> Result<Vec<u8>> {
+    if word(words, 0) == "file" {
+        files.get(alloc, word(words, 1))
+    } else {
+        program_of(alloc, bytes_of(alloc, words)?)
+    }
+}
+
+fn loaded(alloc: Global, file: &[u8]) -> Result<Mips> {
     let elf = read_elf(alloc, file)?;
     let image = image(alloc, &elf, 1, 1)?;
     Ok(Mips::load(alloc, &image)?)
 }
 
-fn replies_of(alloc: Global, answers: &str) -> Result<Vec<Reply>> {
-    let mut replies = Vec::new(alloc);
-    if answers == "none" {
-        return Ok(replies);
-    }
-    for answer in answers.split(',') {
-        let (value, bytes) = answer.split_once(':').unwrap_or((answer, ""));
-        replies.push(Reply {
-            value: value.parse()?,
-            patch: bytes_of(alloc, &[bytes])?,
-        })?;
-    }
-    Ok(replies)
-}
-
-fn run(
+fn run_each(
     alloc: Global,
     mips: &mut Mips,
     server: &mut Scripted,
-    bound: &str,
+    bounds: &str,
     text: &mut String,
 ) -> Result<()> {
-    ensure!(!mips.ended(), "the program has ended");
-    let outcome = match bound.strip_suffix('s') {
-        Some(steps) => step(mips, server, steps.parse()?, text)?,
-        None => match mips.run(bound.parse()?, server) {
-            Ok(outcome) => outcome,
-            Err(fault) => bail!("{fault:?}"),
-        },
-    };
-    let shown = outcome_text(alloc, outcome)?;
-    let ended = if mips.ended() { "" } else { ", not ended" };
-    write!(text, "{shown}{ended}; ")?;
+    for bound in bounds.split('+') {
+        let outcome = match bound.strip_suffix('s') {
+            Some(steps) => step(mips, server, number(steps), text)?,
+            None => run(mips, server, number(bound))?,
+        };
+        let shown = outcome_text(alloc, outcome)?;
+        let ended = if mips.ended() { "" } else { ", not ended" };
+        write!(text, "{shown}{ended}; ")?;
+    }
     Ok(())
 }
 
+fn number(digits: &str) -> u64 {
+    digits.parse().unwrap_or(0)
+}
+
+fn run(mips: &mut Mips, server: &mut Scripted, bound: u64) -> Result<Outcome> {
+    ensure!(!mips.ended(), "the program has ended");
+    match mips.run(bound, server) {
+        Ok(outcome) => Ok(outcome),
+        Err(fault) => bail!("{fault:?}"),
+    }
+}
+
 /// Goes step by step, and tells how many steps went.
-fn step(mips: &mut Mips, server: &mut Scripted, steps: u32, text: &mut String) -> Result<Outcome> {
-    let mut went = 0u32;
+fn step(mips: &mut Mips, server: &mut Scripted, steps: u64, text: &mut String) -> Result<Outcome> {
+    let mut went = 0u64;
     let mut end = Outcome::Going;
     for _ in 0..steps {
         if mips.ended() {
@@ -105,22 +91,30 @@ fn step(mips: &mut Mips, server: &mut Scripted, steps: u32, text: &mut String) -
     Ok(end)
 }
 
-/// Shows a register, as `$8`, `hi`, `lo` or `pc`; a byte of memory, as `byte:00401000`; whether it may be written, as `may:00401000`; or
+/// Shows registers, as `$8`, `hi`, `lo` or `pc`; a byte of memory, as `byte:00401000`; whether it may be written, as `may:00401000`; or
 /// whether a byte is put there, as `put:00401000=FF`.
+fn show_each(mips: &mut Mips, asked: &str, text: &mut String) -> Result<()> {
+    for one in asked.split_whitespace() {
+        show(mips, one, text)?;
+    }
+    Ok(())
+}
+
 fn show(mips: &mut Mips, asked: &str, text: &mut String) -> Result<()> {
     let (what, place) = asked.split_once(':').unwrap_or((asked, ""));
+    let (place, byte) = place.split_once('=').unwrap_or((place, ""));
+    let at = u32::from_str_radix(place, 16).unwrap_or(0);
     match what {
-        "byte" => match mips.byte(number_of(place)?) {
+        "byte" => match mips.byte(at) {
             Some(byte) => write!(text, "{asked} {byte:02X}; ")?,
             None => write!(text, "{asked} none; ")?,
         },
         "may" => {
-            let may = mips.writable(number_of(place)?);
+            let may = mips.writable(at);
             write!(text, "{asked} {may}; ")?
         }
         "put" => {
-            let (place, digits) = place.split_once('=').unwrap_or((place, "0"));
-            let is_put = mips.put(number_of(place)?, u8::try_from(number_of(digits)?)?);
+            let is_put = mips.put(at, u8::from_str_radix(byte, 16).unwrap_or(0));
             write!(text, "{asked} {is_put}; ")?
         }
         _ => {
@@ -132,17 +126,14 @@ fn show(mips: &mut Mips, asked: &str, text: &mut String) -> Result<()> {
 }
 
 fn register(mips: &Mips, name: &str) -> Result<u32> {
-    match name.strip_prefix('$') {
-        Some(number) => {
-            let number = number.parse::<u32>()?;
+    match name {
+        "hi" => Ok(mips.hi()),
+        "lo" => Ok(mips.lo()),
+        "pc" => Ok(mips.pc()),
+        _ => {
+            let number = name.strip_prefix('$').unwrap_or("32").parse().unwrap_or(32);
             ensure!(number < 32, "there is no such register");
             Ok(mips.register(number))
         }
-        None => match name {
-            "hi" => Ok(mips.hi()),
-            "lo" => Ok(mips.lo()),
-            "pc" => Ok(mips.pc()),
-            _ => bail!("there is no such register"),
-        },
     }
 }

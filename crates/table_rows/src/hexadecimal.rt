@@ -1,37 +1,24 @@
-//! Numbers and bytes in hexadecimal digits.
+//! Bytes in hexadecimal digits.
 use anyhow::{Context, Result};
 use std::alloc::Global;
 
-/// The number that the digits are.
-///
-/// # Errors
-/// Where they are no digits of 32 bits.
-pub fn number_of(digits: &str) -> Result<u32> {
-    u32::from_str_radix(digits, 16).context(format_args!("{digits} is no number"))
-}
-
-/// The bytes of pieces of digits. A piece such as `3*00,FF` stands for three times the bytes `00` and `FF`.
+/// The bytes of pieces of digits, with blanks between them. A piece such as `3*00,FF` stands for three times the bytes `00` and `FF`.
 ///
 /// # Errors
 /// Where a piece is no such text.
-pub fn bytes_of(alloc: Global, pieces: &[&str]) -> Result<Vec<u8>> {
+pub fn bytes_of(alloc: Global, pieces: &str) -> Result<Vec<u8>> {
     let mut bytes = Vec::new(alloc);
-    for piece in pieces {
-        push_piece(alloc, &mut bytes, *piece)?;
+    for piece in pieces.split_whitespace() {
+        push_piece(alloc, &mut bytes, piece)?;
     }
     Ok(bytes)
 }
 
 fn push_piece(alloc: Global, bytes: &mut Vec<u8>, piece: &str) -> Result<()> {
-    let (count, digits) = match piece.split_once('*') {
-        Some((count, digits)) => (count.parse::<u32>()?, digits),
-        None => (1, piece),
-    };
-    let mut once = Vec::new(alloc);
-    for part in digits.split(',') {
-        let decoded = hex::decode(alloc, part).context(format_args!("{part} is no bytes"))?;
-        once.extend_from_slice(decoded.as_slice())?;
-    }
+    let (count, digits) = piece.split_once('*').unwrap_or(("1", piece));
+    let count = count.parse::<u32>().unwrap_or(0);
+    let digits = digits.replace(alloc, ',', "")?;
+    let once = hex::decode(alloc, digits.as_str()).context("these are no bytes")?;
     for _ in 0..count {
         bytes.extend_from_slice(once.as_slice())?;
     }
@@ -42,7 +29,7 @@ fn push_piece(alloc: Global, bytes: &mut Vec<u8>, piece: &str) -> Result<()> {
 ///
 /// # Errors
 /// As `bytes_of`.
-pub fn words_of(alloc: Global, pieces: &[&str]) -> Result<Vec<u32>> {
+pub fn words_of(alloc: Global, pieces: &str) -> Result<Vec<u32>> {
     let bytes = bytes_of(alloc, pieces)?;
     let mut words = Vec::new(alloc);
     for word in bytes.as_slice().chunks_exact(4) {
@@ -58,12 +45,7 @@ pub fn words_of(alloc: Global, pieces: &[&str]) -> Result<Vec<u32>> {
 /// # Errors
 /// Want of memory.
 pub fn hex_of(alloc: Global, bytes: &[u8]) -> Result<String> {
-    let mut text = String::new(alloc);
-    for byte in bytes {
-        let digits = format!(in alloc; "{byte:02X}")?;
-        text.push_str(digits.as_str())?;
-    }
-    Ok(text)
+    Ok(hex::encode_upper(alloc, bytes)?)
 }
 
 /// A text, or so many, as `4078*x`.

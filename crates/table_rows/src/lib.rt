@@ -5,18 +5,20 @@
 #![tactic(auto)]
 
 mod class_file;
-mod definition;
 mod edit;
 mod files;
 mod hexadecimal;
-mod kind;
 mod outcomes;
+mod replies;
+mod row;
 mod segments;
 mod table;
 
 pub use class_file::class_file_of;
 pub use files::Files;
-pub use hexadecimal::{bytes_of, hex_of, number_of, repeated, words_of};
+pub use hexadecimal::{bytes_of, hex_of, repeated, words_of};
 pub use outcomes::outcome_text;
+pub use replies::replies_of;
+pub use row::{address, count, long_count, rest, slot, word};
 pub use segments::{parts_of, program_of};
 pub use table::{Answers, print_answers};

@@ -1,5 +1,6 @@
 //! Programs as ELF files, by their segments and sections.
-use crate::hexadecimal::{bytes_of, number_of};
+use crate::hexadecimal::bytes_of;
+use crate::row::{address, count, rest, word};
 use anyhow::{Result, bail};
 use elf_writer::{Part, Parts, Sec, is_writable, write_elf};
 use std::alloc::Global;
@@ -22,53 +23,45 @@ pub fn parts_of(alloc: Global, lines: &str) -> Result<Parts> {
         sections: Vec::new(alloc),
     };
     for line in lines.split('\n') {
-        let words: Vec<&str> = line.split_whitespace().collect(alloc)?;
-        push_line(alloc, &mut parts, words.as_slice())?;
+        push_line(alloc, &mut parts, line)?;
     }
     Ok(parts)
 }
 
-fn push_line(alloc: Global, parts: &mut Parts, words: &[&str]) -> Result<()> {
-    match words {
-        [] => {}
-        ["segment", address, memory, flags, bytes @ ..] => {
-            let part = part_of(alloc, number_of(*address)?, *memory, *flags, bytes)?;
-            parts.segments.push(part)?;
-        }
-        [
-            "segments",
-            count,
-            stride,
-            address,
-            memory,
-            flags,
-            bytes @ ..,
-        ] => {
-            let (first, stride) = (number_of(*address)?, number_of(*stride)?);
-            for number in 0..count.parse::<u32>()? {
-                let address = first.wrapping_add(stride.wrapping_mul(number));
-                let part = part_of(alloc, address, *memory, *flags, bytes)?;
-                parts.segments.push(part)?;
+fn push_line(alloc: Global, parts: &mut Parts, line: &str) -> Result<()> {
+    match word(line, 0) {
+        "" => Ok(()),
+        "segment" => push_segment(alloc, &mut parts.segments, 0, rest(line, 1)),
+        "segments" => {
+            for number in 0..count(line, 1) {
+                let before = address(line, 2).wrapping_mul(number);
+                push_segment(alloc, &mut parts.segments, before, rest(line, 3))?;
             }
+            Ok(())
         }
-        ["section", kind, flags, address, size] => parts.sections.push(Sec {
-            kind: kind.parse()?,
-            flags: flags.parse()?,
-            addr: number_of(*address)?,
-            size: size.parse()?,
-        })?,
+        "section" => push_section(&mut parts.sections, rest(line, 1)),
         _ => bail!("a segment or a section is wanted"),
     }
+}
+
+fn push_segment(alloc: Global, segments: &mut Vec<Part>, before: u32, line: &str) -> Result<()> {
+    segments.push(Part {
+        vaddr: address(line, 0).wrapping_add(before),
+        mem: count(line, 1),
+        flags: count(line, 2),
+        bytes: bytes_of(alloc, rest(line, 3))?,
+    })?;
     Ok(())
 }
 
-fn part_of(alloc: Global, vaddr: u32, memory: &str, flags: &str, bytes: &[&str]) -> Result<Part> {
-    Ok(Part {
-        vaddr,
-        mem: memory.parse()?,
-        flags: flags.parse()?,
-        bytes: bytes_of(alloc, bytes)?,
-    })
+fn push_section(sections: &mut Vec<Sec>, line: &str) -> Result<()> {
+    sections.push(Sec {
+        kind: count(line, 0),
+        flags: count(line, 1),
+        addr: address(line, 2),
+        size: count(line, 3),
+    })?;
+    Ok(())
 }
 
 /// The file of a program of these segments and sections.
@@ -89,7 +82,7 @@ pub fn file_of(alloc: Global, parts: &Parts) -> Result<Vec<u8>> {
 pub fn program_of(alloc: Global, code: Vec<u8>) -> Result<Vec<u8>> {
     let text = Part {
         vaddr: ENTRY,
-        mem: u32::try_from(code.len())?,
+        mem: u32::try_from(code.len()).unwrap_or(0),
         flags: CODE,
         bytes: code,
     };

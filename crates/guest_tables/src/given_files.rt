@@ -4,30 +4,27 @@ ghost use Rattle.std.specs.Prelude.{◌≤◌, length};
 use anyhow::{Result, ensure};
 use std::alloc::{AllocError, Global};
 use std::fmt::Write;
-use table_rows::{bytes_of, repeated};
+use table_rows::{bytes_of, count, repeated, word};
 use unix_calls::{Unix, UnixError};
 
-/// A file on a disk of so many blocks, and what is found by names.
-pub fn file_row(alloc: Global, blocks: u32, file: [&str; 2], asked: &[&str]) -> Result<String> {
-    let [name, bytes] = file;
+/// A file on a disk of so many blocks, and whether it is found by its name: `file BLOCKS NAME BYTES NAME`.
+pub fn file_row(alloc: Global, row: &str) -> Result<String> {
+    let bytes = bytes_of(alloc, word(row, 3))?;
+    let mut text = String::new(alloc);
+    push_file(alloc, &mut text, row, bytes.as_slice())?;
+    Ok(text)
+}
+
+fn push_file(alloc: Global, text: &mut String, row: &str, bytes: &[u8]) -> Result<()> {
+    let (blocks, name) = (count(row, 1), word(row, 2));
     ensure!(
         blocks <= 65_536 && name.len() <= 255,
         "no lawful disk or name"
     );
-    let bytes = bytes_of(alloc, &[bytes])?;
-    let (unix, added) = with_file(alloc, blocks, name, bytes.as_slice())?;
-    let mut text = String::new(alloc);
-    push_added(&mut text, added)?;
-    for name in asked {
-        match file_of(&unix, alloc, *name)? {
-            Some(found) => {
-                let (length, same) = (found.len(), found.as_slice() == bytes.as_slice());
-                write!(text, "{length} bytes, the same {same}; ")?
-            }
-            None => text.push_str("none; ")?,
-        }
-    }
-    Ok(text)
+    let (unix, added) = with_file(alloc, blocks, name, bytes)?;
+    push_added(text, added)?;
+    push_found(alloc, text, &unix, name, bytes)?;
+    push_found(alloc, text, &unix, word(row, 4), bytes)
 }
 
 fn with_file(
@@ -44,8 +41,21 @@ fn with_file(
     Ok((unix, added))
 }
 
-fn file_of(unix: &Unix, alloc: Global, name: &str) -> Result<Option<Vec<u8>>, AllocError> {
-    unix.file(alloc, name.as_bytes())
+fn push_found(
+    alloc: Global,
+    text: &mut String,
+    unix: &Unix,
+    name: &str,
+    bytes: &[u8],
+) -> Result<()> {
+    match unix.file(alloc, name.as_bytes())? {
+        Some(found) => {
+            let (length, same) = (found.len(), found.as_slice() == bytes);
+            write!(text, "{length} bytes, the same {same}; ")?
+        }
+        None => text.push_str("none; ")?,
+    }
+    Ok(())
 }
 
 fn push_added(text: &mut String, added: Result<(), UnixError>) -> Result<()> {
@@ -59,21 +69,14 @@ fn push_added(text: &mut String, added: Result<(), UnixError>) -> Result<()> {
 }
 
 /// Arguments, one after the other; one such as `4078*a` stands for so many letters.
-pub fn arguments_row(alloc: Global, texts: &[&str]) -> Result<String> {
-    let mut unix = begun(alloc, 0, 0)?;
+pub fn arguments_row(alloc: Global, texts: &str) -> Result<String> {
+    let mut unix = Unix::new(alloc, 0, 0)?;
     let mut text = String::new(alloc);
-    for argument in texts {
-        let argument = repeated(alloc, *argument)?;
+    for argument in texts.split_whitespace() {
+        let argument = repeated(alloc, argument)?;
         push_added(&mut text, give(&mut unix, argument.as_str()))?;
     }
     Ok(text)
-}
-
-/// A system before its first call.
-pub fn begun(alloc: Global, blocks: u32, moment: u64) -> Result<Unix, AllocError>
-    requires { blocks ≤ 65536 }
-{
-    Unix::new(alloc, blocks, moment)
 }
 
 /// Gives an argument.

@@ -1,7 +1,6 @@
 //! The words of commands.
 use anyhow::Result;
-use command_forms::WordsError;
-use command_words::{Command, read_words};
+use command_words::read_words;
 use std::alloc::Global;
 
 /// The command that words mean, or what is wrong with them. They have `|` between two; `\0` is the byte 0, and `\e` no letter. No text
@@ -14,16 +13,8 @@ pub fn words_row(alloc: Global, text: &str) -> Result<String> {
             words.push(word.replace(alloc, "\\e", "")?)?;
         }
     }
-    shown(alloc, read(alloc, words.as_slice()))
-}
-
-fn read(alloc: Global, words: &[String]) -> Result<Command, WordsError> {
-    read_words(alloc, words)
-}
-
-fn shown(alloc: Global, read: Result<Command, WordsError>) -> Result<String> {
-    Ok(match read {
-        Ok(command) => format!(in alloc; "{command:?}")?,
-        Err(error) => format!(in alloc; "{error:?}")?,
-    })
+    match read_words(alloc, words.as_slice()) {
+        Ok(command) => Ok(format!(in alloc; "{command:?}")?),
+        Err(error) => Ok(format!(in alloc; "{error:?}")?),
+    }
 }

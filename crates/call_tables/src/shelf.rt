@@ -1,0 +1,49 @@
+//! Files beside a call.
+use crate::outside::number;
+use anyhow::{Result, bail};
+use nv_outside::MemShelf;
+use std::alloc::Global;
+use table_rows::{Files, class_file_of};
+
+/// The shelf of words, as `Outside::new` reads them.
+///
+/// # Errors
+/// Where a word is none.
+pub fn shelf_of(alloc: Global, files: &Files, words: &str) -> Result<MemShelf> {
+    let mut shelf = MemShelf::new(alloc, [number(words, "shelf:", 0)].to_vec(alloc)?);
+    for word in words.split_whitespace() {
+        match word.split_once('=') {
+            Some((name, file)) if !name.contains(':') => {
+                if shelf.get(name).is_none() {
+                    shelf.add(name, files.get(alloc, file)?.as_slice())?;
+                }
+            }
+            _ if word.contains(':') => {}
+            _ => bail!("{word} says nothing of a call"),
+        }
+    }
+    let last = number(words, "chain:", 0);
+    if 0 < last {
+        add_chain(alloc, &mut shelf, last)?;
+    }
+    Ok(shelf)
+}
+
+/// The classes `1001` to the last one, and `Main`. Each calls the one before it, and `Main` the last.
+fn add_chain(alloc: Global, shelf: &mut MemShelf, last: u64) -> Result<()> {
+    let mut named = String::from_str(alloc, "Main")?;
+    for number in 1001..=last {
+        let own = format!(in alloc; "{number}")?;
+        add_calling(alloc, shelf, own.as_str(), named.as_str())?;
+        named = own;
+    }
+    add_calling(alloc, shelf, "Main", named.as_str())
+}
+
+fn add_calling(alloc: Global, shelf: &mut MemShelf, own: &str, named: &str) -> Result<()> {
+    let lines = format!(in alloc; "{own}\ntext {named}\nclass 8\npair 5 6\nmethod 9 10\n")?;
+    let bytes = class_file_of(alloc, lines.as_str(), "B8000BB1")?;
+    let file = format!(in alloc; "{own}.class")?;
+    shelf.add(file.as_str(), bytes.as_slice())?;
+    Ok(())
+}

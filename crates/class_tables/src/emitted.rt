@@ -1,0 +1,93 @@
+//! Constant pools as they are made, and steps that are assembled to the code of a method.
+ghost use Rattle.std.specs.Prelude.{◌≡◌, IfOk, false};
+ghost use Rattle.constant_pool.specs.Slots.{is_rest};
+
+use crate::reading::push_entry;
+use anyhow::{Result, bail};
+use code_assembly::{References, method_code};
+use code_steps::Step;
+use constant_pool::{Entry, Pool};
+use jvm_names::{BranchName, IntArithmetic, ReturnName, Sequence, StackName};
+use jvm_program::{Constant, Instruction, Kind, LocalKind};
+use std::alloc::Global;
+use std::fmt::Write;
+use table_rows::hex_of;
+
+/// The slots that texts and longs get in a new pool, one after the other, how many are left, and the pool: `added ENTRIES`, each as
+/// `text:HEX` or `long:NUMBER`.
+pub fn added_row(alloc: Global, entries: &str) -> Result<String> {
+    let mut pool = Pool::new(alloc);
+    let mut text = String::new(alloc);
+    for word in entries.split(' ') {
+        let slot = added(alloc, &mut pool, word)?;
+        write!(text, "{slot} ")?;
+    }
+    let left = pool.left();
+    write!(text, "and {left} left; ")?;
+    let all = pool.entries(alloc)?;
+    for entry in all.as_slice() {
+        push_entry(&mut text, entry)?;
+    }
+    Ok(text)
+}
+
+fn added(alloc: Global, pool: &mut Pool, word: &str) -> Result<u16> {
+    match pool.add(entry_of(alloc, word)?) {
+        Ok(slot) => Ok(slot),
+        Err(error) => bail!("{error:?}"),
+    }
+}
+
+fn entry_of(alloc: Global, word: &str) -> Result<Entry>
+    ensures { IfOk result (λ entry. is_rest entry ≡ false) }
+{
+    let (kind, value) = word.split_once(':').unwrap_or((word, ""));
+    match kind {
+        "long" => Ok(Entry::Long(value.parse::<i64>().unwrap_or(0))),
+        _ => {
+            let character = u16::from_str_radix(value, 16).unwrap_or(0);
+            Ok(Entry::Utf8(Sequence::new(vec![in alloc; character]?)))
+        }
+    }
+}
+
+/// The bytes of the steps below, and how many slots are left of a new pool. The int takes one slot, although it is pushed twice, and the
+/// long two.
+pub fn assembled_row(alloc: Global) -> Result<String> {
+    let references = References {
+        fields: Sequence::new(vec![in alloc; 9, 10]?),
+        first_method: 6,
+        methods: Sequence::new(vec![in alloc; 20, 21]?),
+        host_call: 30,
+        host_fault: 31,
+        string_length: 32,
+        string_char_at: 33,
+        ints_class: 34,
+    };
+    let code = [
+        Step::Does(Instruction::Push(Constant::Int(0xFFFF_FFFF))),
+        Step::Does(Instruction::Store(LocalKind::Int, 3)),
+        Step::Does(Instruction::Push(Constant::Int(300))),
+        Step::Does(Instruction::Store(LocalKind::Int, 4)),
+        Step::Does(Instruction::Push(Constant::Int(100_000))),
+        Step::Does(Instruction::Load(LocalKind::Int, 4)),
+        Step::Skips(BranchName::IfIcmplt, 2),
+        Step::Does(Instruction::Increment(4, 0xFFFF_FFFF)),
+        Step::Leaves(0),
+        Step::Does(Instruction::Push(Constant::Long(5))),
+        Step::Does(Instruction::Stack(StackName::Pop2)),
+        Step::Does(Instruction::Get(1, Kind::Int)),
+        Step::Does(Instruction::Push(Constant::Int(100_000))),
+        Step::Does(Instruction::IntArithmetic(IntArithmetic::Iadd)),
+        Step::Does(Instruction::Call(7)),
+        Step::Does(Instruction::Return(ReturnName::Return)),
+    ];
+    let mut pool = Pool::new(alloc);
+    match method_code(alloc, &code, &references, &mut pool) {
+        Ok(bytes) => {
+            let (digits, left) = (hex_of(alloc, bytes.as_slice())?, pool.left());
+            Ok(format!(in alloc; "{digits}, {left} left")?)
+        }
+        Err(error) => bail!("{error:?}"),
+    }
+}

@@ -1,0 +1,195 @@
+//! A system with a memory of 8,192 bytes that may all be written, an input, two outputs and a shelf.
+use crate::given_files::give;
+use crate::std_streams::{got_text, written};
+use anyhow::{Context, Result, bail, ensure};
+use guest_memory::GuestMemory;
+use nv_events::{Call, IoFault, View};
+use nv_outside::{MemShelf, MemSink, MemSource, Shelf, ShelfError, Sink, Source};
+use std::alloc::Global;
+use table_rows::{count, hex_of, long_count, rest, word};
+use unix_calls::Unix;
+
+/// A system beside its memory, which has `f` at 4096, `g` at 4104 and zeros, its input, its outputs, and a shelf without files.
+#[derive(Drop)]
+pub struct Session {
+    unix: Unix,
+    memory: GuestMemory,
+    source: MemSource,
+    out: MemSink,
+    err: MemSink,
+    shelf: MemShelf,
+}
+
+impl Session {
+    /// A system of so many blocks at a moment, with arguments: `system BLOCKS MOMENT FAILS ROOM INPUT ARGUMENTS`. This call of input, of
+    /// output and of the shelf fails, counted from 1; 0: none. Output has so much room. In the input `\n` is an end of line.
+    pub fn new(alloc: Global, row: &str) -> Result<Session> {
+        let fails = long_count(row, 3);
+        Ok(Session {
+            source: source_of(alloc, word(row, 5), fails)?,
+            out: sink_of(alloc, count(row, 4), fails)?,
+            err: sink_of(alloc, 16, 0)?,
+            shelf: shelf_of(alloc, fails)?,
+            memory: memory(alloc)?,
+            unix: unix_of(alloc, row)?,
+        })
+    }
+
+    /// The answer to a row: `call NUMBER A0 A1 A2`, `name NUMBER`, `output`, `byte ADDRESS`; without the system, `read COUNT` of input and
+    /// `write TEXT` to output; and of the shelf `add NAME TEXT`, `store NAME TEXT`, `load NAME` and `get NAME`.
+    pub fn answer(&mut self, alloc: Global, row: &str) -> Result<String> {
+        match word(row, 0) {
+            "call" => self.call(
+                alloc,
+                count(row, 1),
+                value(row, 2),
+                value(row, 3),
+                value(row, 4),
+            ),
+            "name" => self.name(alloc, count(row, 1)),
+            "output" => hex_of(alloc, self.out.bytes()),
+            "byte" => self.byte(alloc, value(row, 1)),
+            "read" => self.read(alloc, count(row, 1)),
+            "write" => written(alloc, self.out.write(letters(word(row, 1)).as_bytes())),
+            "add" => self.add(alloc, word(row, 1), word(row, 2)),
+            "store" => self.store(alloc, word(row, 1), word(row, 2)),
+            "load" => self.load(alloc, word(row, 1)),
+            "get" => shown(alloc, self.shelf.get(word(row, 1))),
+            _ => bail!("no such row"),
+        }
+    }
+
+    fn call(&mut self, alloc: Global, number: u32, a0: u32, a1: u32, a2: u32) -> Result<String> {
+        let call = Call {
+            number,
+            a0,
+            a1,
+            a2,
+            a3: 0,
+        };
+        match self.serve(&call) {
+            Ok(value) => Ok(format!(in alloc; "{value}")?),
+            Err(IoFault::ReadFault) => Ok(String::from_str(alloc, "read fault")?),
+            Err(IoFault::WriteFault) => Ok(String::from_str(alloc, "write fault")?),
+        }
+    }
+
+    fn serve(&mut self, call: &Call) -> Result<i32, IoFault> {
+        let (source, out, err) = (&mut self.source, &mut self.out, &mut self.err);
+        self.unix.serve(call, &mut self.memory, source, out, err)
+    }
+
+    /// Opens a new file of a name by its number, 0 to 255, and closes it.
+    fn name(&mut self, alloc: Global, number: u32) -> Result<String> {
+        let number = u8::try_from(number).unwrap_or(0);
+        let _first = self.memory.put(4096, 1 + number / 16);
+        let _second = self.memory.put(4097, 1 + number % 16);
+        let opened = self.call(alloc, 2, 4096, 0x200, 0)?;
+        let closed = self.call(alloc, 3, 3, 0, 0)?;
+        Ok(format!(in alloc; "{opened}, {closed}")?)
+    }
+
+    fn byte(&self, alloc: Global, at: u32) -> Result<String> {
+        let byte = self.memory.byte(at).context("no such byte")?;
+        Ok(format!(in alloc; "{byte}")?)
+    }
+
+    /// What a read of at most three bytes gives, with the bytes of a buffer of three.
+    fn read(&mut self, alloc: Global, count: u32) -> Result<String> {
+        let mut buffer = [0u8; 3];
+        let count = match buffer.get_mut(..count as usize) {
+            Some(part) => self.source.read(part),
+            None => bail!("there is no such room"),
+        };
+        got_text(alloc, count, &buffer)
+    }
+
+    fn add(&mut self, alloc: Global, name: &str, text: &str) -> Result<String> {
+        self.shelf.add(name, text.as_bytes())?;
+        shown(alloc, None)
+    }
+
+    fn store(&mut self, alloc: Global, name: &str, text: &str) -> Result<String> {
+        match self.shelf.store(name, text.as_bytes()) {
+            Ok(()) => shown(alloc, None),
+            Err(ShelfError::Failed) => bail!("failed"),
+            Err(ShelfError::NoMemory) => bail!("no memory"),
+        }
+    }
+
+    fn load(&mut self, alloc: Global, name: &str) -> Result<String> {
+        match self.shelf.load(alloc, name) {
+            Ok(Some(bytes)) => hex_of(alloc, bytes.as_slice()),
+            Ok(None) => shown(alloc, None),
+            Err(ShelfError::Failed) => bail!("failed"),
+            Err(ShelfError::NoMemory) => bail!("no memory"),
+        }
+    }
+}
+
+/// Bytes as digits, or `-` where there are none.
+fn shown(alloc: Global, bytes: Option<&[u8]>) -> Result<String> {
+    hex_or(alloc, bytes.unwrap_or(&[]))
+}
+
+fn hex_or(alloc: Global, bytes: &[u8]) -> Result<String> {
+    if bytes.is_empty() {
+        return Ok(String::from_str(alloc, "-")?);
+    }
+    hex_of(alloc, bytes)
+}
+
+/// The letters of a word; `-` has none.
+fn letters(word: &str) -> &str {
+    if word == "-" { "" } else { word }
+}
+
+/// A word in decimal digits, or in hexadecimal ones behind `0x`.
+fn value(row: &str, number: usize) -> u32 {
+    match word(row, number).strip_prefix("0x") {
+        Some(digits) => u32::from_str_radix(digits, 16).unwrap_or(0),
+        None => count(row, number),
+    }
+}
+
+fn source_of(alloc: Global, input: &str, fails: u64) -> Result<MemSource> {
+    let input = letters(input).replace(alloc, "\\n", "\n")?;
+    let bytes = input.as_bytes().to_vec(alloc)?;
+    Ok(MemSource::new(bytes, [fails].to_vec(alloc)?))
+}
+
+fn sink_of(alloc: Global, room: u32, fails: u64) -> Result<MemSink> {
+    let fails = [fails].to_vec(alloc)?;
+    Ok(MemSink::new(alloc, room as usize, fails)?)
+}
+
+fn shelf_of(alloc: Global, fails: u64) -> Result<MemShelf> {
+    Ok(MemShelf::new(alloc, [fails].to_vec(alloc)?))
+}
+
+fn unix_of(alloc: Global, row: &str) -> Result<Unix> {
+    let blocks = count(row, 1);
+    ensure!(blocks <= 65_536, "no lawful disk");
+    let mut unix = Unix::new(alloc, blocks, long_count(row, 2))?;
+    for argument in rest(row, 6).split_whitespace() {
+        ensure!(give(&mut unix, argument).is_ok(), "no lawful argument");
+    }
+    Ok(unix)
+}
+
+fn memory(alloc: Global) -> Result<GuestMemory> {
+    let mut words = vec![in alloc; 0u32; 1024]?;
+    let mut memory = GuestMemory::new(alloc)?;
+    map(&mut memory, 0, words.as_slice())?;
+    words[0] = 0x6600_0000;
+    words[2] = 0x6700_0000;
+    map(&mut memory, 1, words.as_slice())?;
+    Ok(memory)
+}
+
+fn map(memory: &mut GuestMemory, page: u32, words: &[u32]) -> Result<()> {
+    let is_fresh = page < 2 && memory.byte(page << 12).is_none();
+    ensure!(is_fresh && words.len() == 1024, "no page");
+    memory.map_page(page, true, words)?;
+    Ok(())
+}
