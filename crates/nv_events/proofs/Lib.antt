@@ -4,3 +4,4 @@ pub mod Progress
 pub mod Rooms
 pub mod RunLaws
 pub mod TurnLaws
+pub mod MoveLaws
