@@ -3,8 +3,8 @@ ghost use Rattle.std.specs.Prelude.{◌≡◌, ◌++◌, ◌<◌, ◌+◌, ◌*�
 ghost use Rattle.word_emitter.specs.Pieces as emitted;
 
 use crate::NoMemory;
-use crate::registers::{is_needed, is_written};
-use block_builder::{unit_reads, unit_writes};
+use crate::registers::{has, needed, written};
+use block_builder::unit_reads;
 use code_steps::Step;
 use delay_slots::Unit;
 use guest_code::{Bank, append_steps, append_unit, fields, get_field, put_field};
@@ -45,8 +45,9 @@ fn append_fetches(units: &[Unit], code: &mut Vec<Step>) -> Result<(), NoMemory>
     ensures { OnOk result (code.new.items ≡ code.old.items
         ++ emitted.for_registers (emitted.is_needed units.now) emitted.fetched) }
 {
+    let needed = needed(units);
     for r in 1..32 {
-        append_fetched(is_needed(units, r), r, code)?;
+        append_fetched(has(needed, r), r, code)?;
     }
     Ok(())
 }
@@ -56,8 +57,9 @@ fn append_put_backs(units: &[Unit], code: &mut Vec<Step>) -> Result<(), NoMemory
     ensures { OnOk result (code.new.items ≡ code.old.items
         ++ emitted.for_registers (emitted.is_written units.now) emitted.put_back) }
 {
+    let written = written(units);
     for r in 1..32 {
-        append_put_back(is_written(units, r), r, code)?;
+        append_put_back(has(written, r), r, code)?;
     }
     Ok(())
 }
@@ -67,12 +69,10 @@ fn bank_of(units: &[Unit]) -> Bank
     ensures { result ≡ emitted.bank_of units.now }
 {
     let mut reads = 0;
-    let mut writes = 0;
     for unit in units {
         reads |= unit_reads(unit);
-        writes |= unit_writes(unit);
     }
-    Bank::keeping(reads | writes)
+    Bank::keeping(reads | written(units))
 }
 
 fn append_units(

@@ -1,0 +1,19 @@
+use Rattle.std.proofs.Common.{◌+◌, ◌∙◌, arith, drop}
+use Rattle.std.specs.Prelude.{bit_or}
+use Rattle.std.specs.List.{flat_map}
+use Rattle.block_builder.specs.Registers.{register_set, unit_writes}
+use Rattle.block_builder.proofs.SetLemmas.{union_more, union_all}
+use Rattle.word_emitter.proofs.registers.written.Goals as goal
+
+pub loop-unit-preserved : goal.loop-unit-preserved
+loop-unit-preserved c =
+    let units = c.args.units.now in
+    let k = c.loop-unit.unit-index in
+    (λ i. bit_or (bit_or c.loop-unit.writes (c.unit_writes-writes.ensures i)) (register_set (flat_map unit_writes (drop (k + 1) units))))
+    ∙ union_more unit_writes units k _ c.loop-unit.writes (register_set (flat_map unit_writes units)) c.loop-unit-test.true c.loop-unit.invariant
+
+pub returns : goal.returns
+returns c =
+    let units = c.args.units.now in
+    union_all unit_writes units c.loop-unit.unit-index c.loop-unit.writes (register_set (flat_map unit_writes units))
+    (omega (arith, c.loop-unit-test.false)) c.loop-unit.invariant
