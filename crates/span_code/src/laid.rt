@@ -1,8 +1,9 @@
 //! Code that is laid down part by part.
-ghost use Rattle.std.specs.Prelude.{◌≡◌, ◌+◌, ◌≤◌, ◌<◌, ◌++◌, [], IfNone, IfSome, OnOk, Err};
+ghost use Rattle.std.specs.Prelude.{◌≡◌, ◌+◌, ◌≤◌, ◌<◌, ◌++◌, [], IfNone, IfOk, IfSome, OnOk, Err};
 ghost use Rattle.code_steps.specs.Widths.{size};
 ghost use Rattle.span_code.specs.declared.span_error.SpanError.TheVariants.{TooLong};
 
+use crate::NoMemory;
 use crate::span_error::SpanError;
 use code_steps::{Step, code_size};
 use std::alloc::Global;
@@ -18,15 +19,15 @@ pub struct Laid {
 }
 
 impl Laid {
-    /// No steps at an offset.
-    pub fn at(alloc: Global, end: u32) -> Laid
-        ensures steps { result.steps.items ≡ [] }
-        ensures end { result.end ≡ end }
+    /// No steps at an offset, with room for so many.
+    pub fn at(alloc: Global, end: u32, room: usize) -> Result<Laid, NoMemory>
+        ensures steps { IfOk result (λ laid. laid.steps.items ≡ []) }
+        ensures end { IfOk result (λ laid. laid.end ≡ end) }
     {
-        Laid {
-            steps: Vec::new(alloc),
+        Ok(Laid {
+            steps: Vec::with_capacity(alloc, room)?,
             end,
-        }
+        })
     }
 
     /// Lays steps down behind the others, as far as a method goes.

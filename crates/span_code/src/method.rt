@@ -27,6 +27,9 @@ use std::alloc::Global;
 /// A switch has 4 bytes for each word, so the code of more words than these is too long.
 const MOST_WORDS: u32 = 16_380;
 
+/// Room for the steps of a word: warm code has about as many, and cold code fewer.
+const WORD_STEPS: usize = 8;
+
 /// The method of a span, of no arguments and no result. It is entered where field pc has the address of a word of the span, with no branch
 /// pending, and returns with the address of a word outside, or of any word whose address a register gave, in field pc.
 #[derive(Drop)]
@@ -123,10 +126,11 @@ fn begun(alloc: Global, span: SpanWords) -> Result<Body, SpanError>
     if base > MOST_BYTES {
         return Err(SpanError::TooLong);
     }
+    let words = (span.end - span.first) as usize;
     Ok(Body {
-        warm: Laid::at(alloc, base),
-        cold: Laid::at(alloc, 0),
-        offsets: Vec::new(alloc),
+        warm: Laid::at(alloc, base, WORD_STEPS * words)?,
+        cold: Laid::at(alloc, 0, WORD_STEPS * words)?,
+        offsets: Vec::with_capacity(alloc, words)?,
         pieces: Vec::new(alloc),
         stretches: Vec::new(alloc),
     })

@@ -16,6 +16,9 @@ use meter::append_guard;
 use std::alloc::Global;
 use word_emitter::{Extent, append_exit, append_warm};
 
+/// Room for the steps of most words, so that few parts have to grow.
+const STEPS: usize = 16;
+
 /// The warm code of a piece, which begins with a word, and its exit.
 ///
 /// # Errors
@@ -38,7 +41,7 @@ pub fn warm_part(
 {
     let own = own_units(units, piece);
     let last = k + (own.len() - 1) as u32;
-    let mut code = Vec::new(alloc);
+    let mut code = Vec::with_capacity(alloc, STEPS)?;
     append_warm(alloc, own, span.address(k), &mut code)?;
     append_exit_of(units, span, next_piece(leads, span, k), last, &mut code)?;
     Ok(code)
@@ -62,7 +65,7 @@ pub fn cold_part(
     ensures { IfOk result (λ code. code.items
         ≡ parts.cold_part units.now (flagged leads.now) span k) }
 {
-    let mut code = Vec::new(alloc);
+    let mut code = Vec::with_capacity(alloc, STEPS)?;
     append_front(span.metered, &units[k as usize], span.address(k), &mut code)?;
     append_unit(
         alloc,

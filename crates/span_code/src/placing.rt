@@ -80,6 +80,7 @@ fn append_laid(
     ensures { OnOk result (code.new.items ≡ code.old.items
         ++ map (laying.laid_step span targets.now otherwise) steps.items) }
 {
+    code.reserve(steps.len())?;
     for step in steps {
         code.push(laid_step(span, targets, otherwise, step))?;
     }

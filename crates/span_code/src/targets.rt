@@ -32,7 +32,7 @@ pub fn targets_of(
     ensures { IfOk result (λ targets. targets.items
         ≡ laying.targets_of units.now (flagged leads.now) span) }
 {
-    let mut targets = Vec::new(alloc);
+    let mut targets = Vec::with_capacity(alloc, (span.end - span.first) as usize)?;
     for k in span.first..span.end {
         targets.push(target_of(units, leads, span, offsets, cold_base, k))?;
     }
