@@ -1,6 +1,6 @@
 -- Code as operations of a class file: which code can be made into them, what it takes of the pool, when a class knows what it names,
 -- and where the operations stand.
-use Rattle.std.specs.Prelude.{◌≡◌, ℕ, ◌+◌, ◌-◌, ◌%◌, ◌^◌, pos, negsuc, ◌&&◌, ◌||◌, ◌==◌, nat_lt, nat_le, Bool, true, false, if◌then◌else◌, List, [], ◌∷◌, ◌++◌, map, length, slice_index, Option, Some, None, is_some, IfSome, IsTrue}
+use Rattle.std.specs.Prelude.{◌≡◌, ℕ, ◌+◌, ◌-◌, ◌^◌, pos, negsuc, ◌&&◌, ◌||◌, ◌==◌, nat_lt, nat_le, Bool, true, false, if◌then◌else◌, List, [], ◌∷◌, ◌++◌, map, length, slice_index, Option, Some, None, is_some, IfSome, IsTrue}
 use Rattle.std.specs.List.{flat_map, list_all, list_any}
 use Rattle.std.specs.Int.{w32}
 use Rattle.nv_words.specs.Words.{signed_of}
@@ -27,7 +27,7 @@ use Rattle.jvm_link.specs.Linking.{pool_instruction, return_instruction, linked_
 use Rattle.code_steps.specs.declared.step.Step.{Step}
 use Rattle.code_steps.specs.declared.step.Step.TheVariants.{Does, Skips, Leaves, Selects}
 use Rattle.code_steps.specs.Offsets.{CodeOffset}
-use Rattle.code_steps.specs.Widths.{lies_from, width, bytes_before, size}
+use Rattle.code_steps.specs.Widths.{lies_from, bytes_before, size}
 use Rattle.code_steps.specs.Placing.{laid}
 use Rattle.code_steps.specs.Switches.{switches_are_placed}
 use Rattle.code_assembly.specs.declared.references.References.{References}

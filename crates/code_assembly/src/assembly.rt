@@ -52,7 +52,9 @@ pub fn assemble(
     let Ok(ends) = ends_of(alloc, code) else {
         return Err(PoolError::NoMemory);
     };
-    let mut ops = Vec::new(alloc);
+    let Ok(mut ops) = Vec::with_capacity(alloc, code.len()) else {
+        return Err(PoolError::NoMemory);
+    };
     for (i, step) in code.iter().enumerate() {
         let op = step_operation(alloc, step, i, &ends, references, pool)?;
         ops.push(op)?;

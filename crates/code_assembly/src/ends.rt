@@ -13,7 +13,7 @@ pub fn ends_of(alloc: Global, code: &[Step]) -> Result<Vec<u32>, NoMemory>
     ensures ends { IfOk result (λ ends. (k : ℕ) → k < length code.now
         → slice_index ends.items k ≡ bytes_before code.now (suc k)) }
 {
-    let mut ends = Vec::new(alloc);
+    let mut ends = Vec::with_capacity(alloc, code.len())?;
     let mut end = 0;
     for step in code {
         end += width(step);

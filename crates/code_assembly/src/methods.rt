@@ -66,7 +66,7 @@ fn lines_of(alloc: Global, ops: Vec<Op>) -> Result<Vec<Line>, NoMemory>
     requires { AreLaid 0 (lines_at 0 ops.items) }
     ensures { IfOk result (λ lines. lines.items ≡ lines_at 0 ops.items) }
 {
-    let mut lines = Vec::new(alloc);
+    let mut lines = Vec::with_capacity(alloc, ops.len())?;
     let mut at = 0;
     for op in ops {
         let next = at + size(&op, at);
