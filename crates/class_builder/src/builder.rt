@@ -1,5 +1,5 @@
 //! Classes that are made.
-ghost use Rattle.std.specs.Prelude.{◌≡◌, ◌≢◌, ◌+◌, ◌≤◌, ◌⊎◌, ◌&&◌, true, false, [], ◌∷◌, ◌++◌, length, None, IfOk, OnOk, OnErr, Err};
+ghost use Rattle.std.specs.Prelude.{◌≡◌, ◌≢◌, ◌+◌, ◌<◌, ◌≤◌, ◌⊎◌, ◌&&◌, true, false, [], ◌∷◌, ◌++◌, length, None, IfOk, OnOk, OnErr, Err};
 ghost use Rattle.constant_pool.specs.Names.{is_class_name, is_member_name, is_field_descriptor};
 ghost use Rattle.class_file.specs.Named.{is_own_descriptor};
 ghost use Rattle.class_file.specs.ClassFile.{Spells, class_fault};
@@ -224,6 +224,35 @@ impl ClassBuilder {
         if !self.pool.has_code(alloc, code, references)? {
             return Err(BuildError::Unlawful);
         }
+        self.put_method(alloc, name, descriptor, locals, code, references)
+    }
+
+    /// Puts a method behind the others as `add_method` does, where the steps are known to be the code of a method, each text that they
+    /// push stands in its slot, and there are less than 65,535 methods.
+    ///
+    /// # Errors
+    /// Full, Unlawful where the name or the descriptor is none of a method of the class itself, NoMemory. After each, entries may stand
+    /// in the pool behind what was there.
+    pub fn put_method(
+        &mut self,
+        alloc: Global,
+        name: &str,
+        descriptor: &str,
+        locals: u16,
+        code: &[Step],
+        references: &References,
+    ) -> Result<(), BuildError>
+        requires few { length self.old.methods < 65535 }
+        requires code { is_code references.now self.old.pool code.now ≡ true }
+        ensures added { OnOk result
+            (AddsMethod self.old self.new name.now descriptor.now locals references.now
+            code.now) }
+        ensures err { OnErr result (GrowsPool self.old self.new (2 + slots_of code.now)) }
+        ensures full { result ≡ Err Full
+            → LacksRoom self.old.pool (2 + slots_of code.now) (name.now ∷ descriptor.now ∷ []) }
+        ensures unlawful { result ≡ Err Unlawful
+            → (is_member_name name.now && is_own_descriptor descriptor.now) ≡ false }
+    {
         let slots = method_slots(alloc, &mut self.pool, name, descriptor)?;
         let bytes = self.pool.add_code(alloc, code, references)?;
         self.methods.push(Method {
