@@ -127,7 +127,7 @@ pub fn put_method(
     ensures { OnOk result
         (AddsMethod class.old class.new name.now descriptor.now locals references.now code.now) }
 {
-    sure(class.add_method(alloc, name, descriptor, locals, code, references))
+    sure(class.put_method(alloc, name, descriptor, locals, code, references))
 }
 
 /// The slot of a text, which code may push.

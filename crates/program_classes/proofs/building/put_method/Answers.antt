@@ -1,10 +1,9 @@
-use Rattle.std.proofs.Common.{◌+◌, length}
+use Rattle.std.proofs.Common.{◌+◌, length, inr}
 use Rattle.std.specs.Prelude.{◌&&◌}
-use Rattle.std.proofs.lemmas.Bool.{and_from, and_parts}
+use Rattle.std.proofs.lemmas.Bool.{and_parts}
 use Rattle.constant_pool.specs.Names.{is_member_name}
 use Rattle.class_file.specs.Named.{is_own_descriptor}
 use Rattle.code_assembly.specs.Assembling.{slots_of}
-use Rattle.class_builder.specs.Code.{is_code}
 use Rattle.program_classes.specs.Room.{is_short}
 use Rattle.program_classes.proofs.Rooms.RefusalLemmas.{either-way, added-fits}
 use Rattle.program_classes.proofs.building.put_method.Goals as goal
@@ -16,15 +15,12 @@ sure-requires-clause-room c =
     let class = c.args.class.now in
     λ is.
     added-fits (length class.methods) class.pool (2 + slots_of c.args.code.now) name descriptor
-    (is_member_name name && is_own_descriptor descriptor) c.requires.few c.requires.room c.requires.name (c.add_method.ensures.full is)
+    (is_member_name name && is_own_descriptor descriptor) c.requires.few c.requires.room c.requires.name (inr (c.put_method.ensures.full is))
 
 pub sure-requires-clause-lawful : goal.sure-requires-clause-lawful
 sure-requires-clause-lawful c =
     let name = c.args.name.now in
     let descriptor = c.args.descriptor.now in
     let lawful = is_member_name name && is_own_descriptor descriptor in
-    let is_whole = is_code c.args.references.now c.args.class.now.pool c.args.code.now in
     λ is.
-    either-way (lawful && is_whole)
-    (and_from lawful is_whole (and_parts lawful (is_short name && is_short descriptor) c.requires.name).0 c.requires.code)
-    (c.add_method.ensures.unlawful is)
+    either-way lawful (and_parts lawful (is_short name && is_short descriptor) c.requires.name).0 (c.put_method.ensures.unlawful is)
