@@ -5,6 +5,7 @@ mod accessing;
 mod arithmetic;
 mod branching;
 mod code_loader;
+mod code_page;
 mod computing;
 mod execute;
 mod executed;
@@ -17,7 +18,9 @@ mod onward;
 mod processor;
 mod registers;
 mod step;
+mod stretch;
 mod trapping;
+mod tried;
 mod turning;
 
 pub use mips::Mips;
