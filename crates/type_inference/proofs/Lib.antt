@@ -7,3 +7,4 @@ pub mod StepLaws
 pub mod SettleLaws
 pub mod CallLaws
 pub mod LeastLaws
+pub mod SameLaws

@@ -1,3 +1,4 @@
+pub mod Kinds
 pub mod Verdict
 pub mod Joins
 pub mod Frames

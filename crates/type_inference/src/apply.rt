@@ -8,9 +8,10 @@ ghost use Rattle.type_inference.specs.Frames.{type_frame};
 
 use crate::action::Action;
 use crate::frame::Frame;
-use crate::kinds::{is_array, is_below, is_moved, is_reference};
+use crate::kind_list::KindList;
+use crate::kinds::{is_array, is_below, is_moved, is_reference, is_same};
+use crate::shared_kinds::SharedKinds;
 use crate::shuffle::shuffled;
-use jvm_names::Sequence;
 use jvm_program::{Kind, LinkedMethod, LocalKind};
 use std::alloc::{AllocError, Global};
 
@@ -143,14 +144,14 @@ fn pushed(
     with_stack(alloc, frame, Some(stack))
 }
 
-fn above(alloc: Global, given: Option<Kind>, below: &[Kind]) -> Result<Vec<Kind>, AllocError>
-    ensures { IfOk result (λ v. v.items ≡ option_to_list given ++ below.now) }
+fn above(alloc: Global, given: Option<Kind>, below: &[Kind]) -> Result<KindList, AllocError>
+    ensures { IfOk result (λ k. k ≡ option_to_list given ++ below.now) }
 {
-    let mut stack = Vec::new(alloc);
+    let mut stack = KindList::new();
     if let Some(kind) = given {
-        stack.push(kind)?;
+        stack.push(alloc, kind)?;
     }
-    stack.extend_from_slice(below)?;
+    stack.append(alloc, below)?;
     Ok(stack)
 }
 
@@ -158,20 +159,17 @@ fn above(alloc: Global, given: Option<Kind>, below: &[Kind]) -> Result<Vec<Kind>
 fn with_stack(
     alloc: Global,
     frame: &Frame,
-    stack: Option<Vec<Kind>>,
+    stack: Option<KindList>,
 ) -> Result<Option<Frame>, AllocError>
     ensures fits { IfOk result (λ o. option_map type_frame o
-        ≡ option_map (λ v. typing.with_stack (type_frame frame.now) v.items) stack) }
+        ≡ option_map (λ k. typing.with_stack (type_frame frame.now) k) stack) }
     ensures sized { IfOk result (λ o. IfSome o (λ f. f.locals ≡ frame.now.locals)) }
 {
     let Some(stack) = stack else {
         return Ok(None);
     };
-    let locals = Sequence::new(Vec::from_slice(alloc, frame.locals.as_slice())?);
-    Ok(Some(Frame {
-        locals,
-        stack: Sequence::new(stack),
-    }))
+    let locals = frame.locals.shared()?;
+    Ok(Some(Frame { locals, stack }))
 }
 
 // The type of a local variable.
@@ -228,12 +226,9 @@ fn stored(
 {
     match frame.stack.as_slice().split_first() {
         Some((kind, below)) if is_moved(moved, *kind) => {
-            let locals = with_local(alloc, frame.locals.as_slice(), index, *kind)?;
-            let stack = Vec::from_slice(alloc, below)?;
-            Ok(Some(Frame {
-                locals: Sequence::new(locals),
-                stack: Sequence::new(stack),
-            }))
+            let locals = with_local(alloc, &frame.locals, index, *kind)?;
+            let stack = KindList::from_slice(alloc, below)?;
+            Ok(Some(Frame { locals, stack }))
         }
         _ => Ok(None),
     }
@@ -242,20 +237,23 @@ fn stored(
 // Local variables of which one has another type.
 fn with_local(
     alloc: Global,
-    locals: &[Kind],
+    locals: &SharedKinds,
     index: usize,
     kind: Kind,
-) -> Result<Vec<Kind>, AllocError>
+) -> Result<SharedKinds, AllocError>
     requires { index < 2 ^ 8 }
-    ensures kinds { IfOk result (λ v. (i : ℕ) → slice_index_or v.items i kinds.Top
+    ensures kinds { IfOk result (λ s. (i : ℕ) → slice_index_or s i kinds.Top
         ≡ (if i == index then kind else slice_index_or locals.now i kinds.Top)) }
-    ensures sized { IfOk result (λ v. (n : ℕ) → length locals.now ≤ n → index < n
-        → length v.items ≤ n) }
+    ensures sized { IfOk result (λ s. (n : ℕ) → length locals.now ≤ n → index < n
+        → length s ≤ n) }
 {
-    let mut kinds = Vec::from_slice(alloc, locals)?;
+    if is_same(local_at(locals.as_slice(), index), kind) {
+        return locals.shared();
+    }
+    let mut kinds = Vec::from_slice(alloc, locals.as_slice())?;
     while kinds.len() <= index {
         kinds.push(Kind::Top)?;
     }
     kinds[index] = kind;
-    Ok(kinds)
+    SharedKinds::new(alloc, kinds)
 }

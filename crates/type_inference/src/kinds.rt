@@ -1,6 +1,6 @@
 //! Types and the order between them (JVM Specification, 4.10.1.2).
 ghost use Rattle.std.specs.Prelude.{◌≡◌, ◌≤◌, IsTrue, ◌↔◌};
-ghost use Rattle.jvm_program.specs.Typing.{below, is_reference_kind, is_long_kind, is_array_kind, moves_kind, no_top, slots_of, stack_below};
+ghost use Rattle.jvm_program.specs.Typing.{below, is_reference_kind, is_long_kind, is_array_kind, moves_kind, no_top, same_kind, slots_of, stack_below};
 ghost use Rattle.type_inference.specs.Joins as joins;
 
 use jvm_program::{Kind, LocalKind};
@@ -17,6 +17,21 @@ pub fn is_below(kind: Kind, other: Kind) -> bool
         Kind::Ints => matches!(other, Kind::Ints | Kind::Top),
         Kind::Pages => matches!(other, Kind::Pages | Kind::Top),
         Kind::Text => matches!(other, Kind::Text | Kind::Top),
+    }
+}
+
+/// Whether two types are the same.
+pub fn is_same(kind: Kind, other: Kind) -> bool
+    ensures { result ≡ same_kind kind other }
+{
+    match kind {
+        Kind::Top => is_top(other),
+        Kind::Int => matches!(other, Kind::Int),
+        Kind::Long => is_long(other),
+        Kind::Null => matches!(other, Kind::Null),
+        Kind::Ints => matches!(other, Kind::Ints),
+        Kind::Pages => matches!(other, Kind::Pages),
+        Kind::Text => matches!(other, Kind::Text),
     }
 }
 

@@ -6,9 +6,10 @@ ghost use Rattle.type_inference.specs.Frames.{type_frame, IsMeeting};
 ghost use Rattle.type_inference.specs.declared.meeting.Meeting.{Meeting};
 
 use crate::frame::Frame;
+use crate::kind_list::KindList;
 use crate::kinds::{are_locals_below, has_no_top, is_stack_below, is_top, join};
 use crate::meeting::Meeting;
-use jvm_names::Sequence;
+use crate::shared_kinds::SharedKinds;
 use jvm_program::Kind;
 use std::alloc::{AllocError, Global};
 
@@ -56,21 +57,18 @@ fn joined_frame(alloc: Global, old: &Frame, frame: &Frame) -> Result<Meeting, Al
         return Ok(Meeting::Refused);
     };
     let locals = joined_locals(alloc, old.locals.as_slice(), frame.locals.as_slice())?;
-    Ok(Meeting::Changed(Frame {
-        locals: Sequence::new(locals),
-        stack: Sequence::new(stack),
-    }))
+    Ok(Meeting::Changed(Frame { locals, stack }))
 }
 
 fn joined_stack(
     alloc: Global,
     stack: &[Kind],
     others: &[Kind],
-) -> Result<Option<Vec<Kind>>, AllocError>
-    ensures { IfOk result (λ o. option_map (λ v. v.items) o
+) -> Result<Option<KindList>, AllocError>
+    ensures { IfOk result (λ o. o
         ≡ joins.joined_stacks stack.now others.now) }
 {
-    let mut kinds = Vec::new(alloc);
+    let mut kinds = KindList::new();
     let mut rest = stack;
     let mut beside = others;
     while let Some((kind, behind)) = rest.split_first() {
@@ -81,7 +79,7 @@ fn joined_stack(
         if is_top(above) {
             return Ok(None);
         }
-        kinds.push(above)?;
+        kinds.push(alloc, above)?;
         rest = behind;
         beside = more;
     }
@@ -92,19 +90,19 @@ fn joined_stack(
     }
 }
 
-fn joined_locals(alloc: Global, locals: &[Kind], others: &[Kind]) -> Result<Vec<Kind>, AllocError>
-    ensures { IfOk result (λ v. v.items ≡ joins.joined_locals locals.now others.now) }
+fn joined_locals(alloc: Global, locals: &[Kind], others: &[Kind]) -> Result<SharedKinds, AllocError>
+    ensures { IfOk result (λ s. s ≡ joins.joined_locals locals.now others.now) }
 {
     let mut kinds = Vec::new(alloc);
     let mut rest = locals;
     let mut beside = others;
     while let Some((kind, behind)) = rest.split_first() {
         let Some((other, more)) = beside.split_first() else {
-            return Ok(kinds);
+            return SharedKinds::new(alloc, kinds);
         };
         kinds.push(join(*kind, *other))?;
         rest = behind;
         beside = more;
     }
-    Ok(kinds)
+    SharedKinds::new(alloc, kinds)
 }

@@ -9,6 +9,8 @@ use crate::code::{Code, starts_of};
 use crate::flow::Flow;
 use crate::frame::Frame;
 use crate::inferred::Inferred;
+use crate::kind_list::KindList;
+use crate::shared_kinds::SharedKinds;
 use jvm_names::Sequence;
 use jvm_program::LinkedMethod;
 use std::alloc::{AllocError, Global};
@@ -62,10 +64,10 @@ fn entered(alloc: Global, code: &Code<'_>) -> Result<Flow, AllocError>
     ensures done { IfOk result (λ f. f.work.items ≡ []) }
 {
     let mut frames = no_frames(alloc, code.starts.len())?;
-    let locals = Vec::from_slice(alloc, code.method.parameters.as_slice())?;
+    let locals = SharedKinds::from_slice(alloc, code.method.parameters.as_slice())?;
     frames[0] = Some(Frame {
-        locals: Sequence::new(locals),
-        stack: Sequence::new(Vec::new(alloc)),
+        locals,
+        stack: KindList::new(),
     });
     Ok(Flow {
         frames,
@@ -78,7 +80,7 @@ fn no_frames(alloc: Global, count: usize) -> Result<Vec<Option<Frame>>, AllocErr
 {
     let mut frames = Vec::with_capacity(alloc, count)?;
     while frames.len() < count {
-        frames.push(None)?;
+        frames.push_reserved(None);
     }
     Ok(frames)
 }

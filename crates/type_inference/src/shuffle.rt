@@ -4,6 +4,7 @@ ghost use Rattle.jvm_program.specs.Shuffles as forms;
 ghost use Rattle.jvm_program.specs.Typing.{is_long_kind};
 ghost use Rattle.type_inference.specs.Joins as joins;
 
+use crate::kind_list::KindList;
 use crate::kinds::is_long;
 use jvm_names::StackName;
 use jvm_program::Kind;
@@ -14,8 +15,8 @@ pub fn shuffled(
     alloc: Global,
     name: StackName,
     stack: &[Kind],
-) -> Result<Option<Vec<Kind>>, AllocError>
-    ensures { IfOk result (λ o. option_map (λ v. v.items) o
+) -> Result<Option<KindList>, AllocError>
+    ensures { IfOk result (λ o. o
         ≡ forms.shuffled is_long_kind (forms.forms_of name) stack.now) }
 {
     match name {
@@ -49,8 +50,8 @@ fn by_form(
     stack: &[Kind],
     longs: &[bool],
     given: &[usize],
-) -> Result<Option<Vec<Kind>>, AllocError>
-    ensures { IfOk result (λ o. option_map (λ v. v.items) o
+) -> Result<Option<KindList>, AllocError>
+    ensures { IfOk result (λ o. o
         ≡ forms.shuffled is_long_kind (record { longs = longs.now; given = given.now } ∷ [])
         stack.now) }
 {
@@ -68,8 +69,8 @@ fn by_forms(
     given: &[usize],
     other_longs: &[bool],
     other_given: &[usize],
-) -> Result<Option<Vec<Kind>>, AllocError>
-    ensures { IfOk result (λ o. option_map (λ v. v.items) o
+) -> Result<Option<KindList>, AllocError>
+    ensures { IfOk result (λ o. o
         ≡ forms.shuffled is_long_kind (record { longs = longs.now; given = given.now }
         ∷ record { longs = other_longs.now; given = other_given.now } ∷ []) stack.now) }
 {
@@ -102,18 +103,18 @@ fn above(
     given: &[usize],
     stack: &[Kind],
     below: &[Kind],
-) -> Result<Vec<Kind>, AllocError>
-    ensures { IfOk result (λ v. v.items ≡ forms.picked given.now stack.now ++ below.now) }
+) -> Result<KindList, AllocError>
+    ensures { IfOk result (λ k. k ≡ forms.picked given.now stack.now ++ below.now) }
 {
-    let mut kinds = Vec::new(alloc);
+    let mut kinds = KindList::new();
     let mut places = given;
     while let Some((place, others)) = places.split_first() {
         if let Some(kind) = operand_at(stack, *place) {
-            kinds.push(kind)?;
+            kinds.push(alloc, kind)?;
         }
         places = others;
     }
-    kinds.extend_from_slice(below)?;
+    kinds.append(alloc, below)?;
     Ok(kinds)
 }
 
