@@ -9,10 +9,9 @@ use crate::table_type::TableType;
 use crate::types::kind_of;
 use class_format::Failure;
 use constant_pool::Entry;
-use jvm_names::Sequence;
 use jvm_program::{Kind, LinkedMethod};
 use std::alloc::{AllocError, Global};
-use type_inference::{Frame, has_room};
+use type_inference::{Frame, KindList, SharedKinds, has_room};
 
 /// The frames that bytes list for a method of a class with a pool, each with its offset, which rise; None exactly where the
 /// bytes are no table of the method. No bytes list no frame.
@@ -59,8 +58,8 @@ fn frames_from(
             return Ok(None);
         }
         let at = offset_of(last, frame);
-        let locals = Sequence::new(locals);
-        let stack = Sequence::new(stack);
+        let locals = SharedKinds::new(alloc, locals)?;
+        let stack = KindList::from_slice(alloc, &stack)?;
         listed.push((at, Frame { locals, stack }))?;
         last = Some(at);
         rest = others;

@@ -17,7 +17,7 @@ loop-frame-preserved c =
     let is : locals_of a.pool.now (last_locals m.parameters l.listed.items) f ≡ Some ls = ap (λ x. locals_of a.pool.now x f) (sym before) ∙ (sym c.in_ok-locals.ensures ∙ ap (option_map (λ v. v.items)) c.in-Some-2.is) in
     let fits = rw (c.deref-in-Some.ensures.value, c.deref-in-Some-2.ensures.value ∙ c.in_ok-stack.ensures) at c.is_within.ensures in
     let within : is_within m.locals m.stack ls (operands_of a.pool.now f) ≡ true = sym fits ∙ c.if-not-is_within.false in
-    let frame : Frame = record { locals = c.new-locals.result; stack = c.new-stack.result } in
-    let given : frame ≡ record { locals = ls; stack = operands_of a.pool.now f } = λ i. record { locals = c.new-locals.ensures i; stack = (c.new-stack.ensures ∙ c.in_ok-stack.ensures) i } in
+    let frame : Frame = record { locals = c.in_ok-locals-2.locals; stack = c.in_ok-stack-2.stack } in
+    let given : frame ≡ record { locals = ls; stack = operands_of a.pool.now f } = λ i. record { locals = c.in_ok-locals-2.ensures i; stack = (c.in_ok-stack-2.ensures ∙ (c.deref-in-Some-3.ensures.value ∙ c.in_ok-stack.ensures)) i } in
     subst (λ x. IsReading a.pool.now m.locals m.stack m.parameters a.frames.now c.in-Some.others.now x (Some c.offset_of-at.result)) (sym c.in_ok-push.ensures.items)
     (next-reading a.pool.now m.locals m.stack m.parameters a.frames.now l.rest.now c.in-Some.others.now f l.listed.items l.last c.in-Some.ensures.cases.0 l.invariant ls is c.offset_of-at.result frame c.offset_of-at.ensures.offset given c.offset_of-at.ensures.near c.offset_of-at.ensures.nearer within)
