@@ -1,7 +1,7 @@
 -- Arguments are taken from the last one on.
 use Rattle.std.proofs.Common.{◌≡◌, ◌≤◌, Bool, true, false, List, [], ◌∷◌, ◌++◌, length, refl, ap, ◌∙◌, Option, Some, None, arith}
 use Rattle.std.specs.Prelude.{if◌then◌else◌, is_some}
-use Rattle.std.proofs.lemmas.Bool.{cond-true, cond-false, false≢true}
+use Rattle.std.proofs.lemmas.Bool.{cond-true, cond-false, false≢true, true≢false}
 use Rattle.std.proofs.lemmas.List.{nil_from_length}
 use Rattle.jvm_program.specs.declared.kind.Kind.{Kind}
 use Rattle.jvm_program.specs.Effect.{last_first}
@@ -38,3 +38,7 @@ length-slots (k ∷ ks) = omega (arith, length-slots ks, slots-some k)
 pub some-there : {A : Type 0} (o : Option A) → is_some o ≡ true → (x : A) × (o ≡ Some x)
 some-there None e = absurd (false≢true e)
 some-there (Some x) e = (x, refl)
+
+pub none-there : {A : Type 0} (o : Option A) → is_some o ≡ false → o ≡ None
+none-there None e = refl
+none-there (Some x) e = absurd (true≢false e)

@@ -158,6 +158,37 @@ admitted program method at frames work e keeps = record {
       keeps.rules x (omega (arith, other, less)) refl;
 }
 
+-- no instruction stands at the next offset
+pub nothing-admitted : (program : Program) (method : LinkedMethod) (at : ℕ) (frames : Slots) → line_in method.lines at ≡ None → Keeps program method at frames [] → Settles program method (suc at) frames frames
+nothing-admitted program method at frames none keeps = record {
+  rises = Rises-refl frames;
+  keeps = record {
+    formed = keeps.formed;
+    waits = record { each = λ x h. absurd (false≢true h) };
+    rules = λ x less idle line f l is.
+        ⊎_elim
+        (λ here. absurd (none-some line (sym none ∙ subst (λ y. line_in method.lines y ≡ Some line) here l)))
+        (λ there. keeps.rules x (omega (arith, there, less)) refl line f l is)
+        (cases_eq x at);
+  };
+}
+
+pub nothing-changed : (program : Program) (method : LinkedMethod) (limit : ℕ) (frames : Slots) → KeepsBelow program method limit frames true frames
+nothing-changed program method limit frames = record { each = λ others last to typing under. (refl, under) }
+
+-- the instruction at the next offset was looked at, where no work waited
+pub visited-admitted : (program : Program) (method : LinkedMethod) (at : ℕ) (frames : Slots) (work : List ℕ) (after : Slots) (later : List ℕ) → work ≡ [] → Keeps program method at frames [] → Visits program method (suc at) at frames work after later → KeepsBelow program method (suc at) frames true after → IsSettling program method (suc at) frames after later
+visited-admitted program method at frames work after later e keeps v k =
+    settled-more program method (suc at) at frames frames [] (at ∷ []) after later refl
+    (settling program method (suc at) frames (at ∷ []) (admitted program method at frames (at ∷ []) refl keeps))
+    (subst (λ w. Visits program method (suc at) at frames w after later) e v) k
+
+pub settled-admitted : (program : Program) (method : LinkedMethod) (limit : ℕ) (frames after : Slots) (later : List ℕ) (last : Slots) → IsSettling program method limit frames after later → Settles program method limit after last → Settles program method limit frames last
+settled-admitted program method limit frames after later last s t = record {
+  rises = Rises-trans frames after last s.rises t.rises;
+  keeps = t.keeps;
+}
+
 -- ---- frames at rest
 
 pub rests-more : (program : Program) (method : LinkedMethod) (at : ℕ) (frames after : Slots) → Rests program method at frames → Settles program method (suc at) frames after → KeepsBelow program method (suc at) frames true after → Rests program method (suc at) after

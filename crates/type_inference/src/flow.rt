@@ -209,7 +209,12 @@ impl Flow {
             self.old.frames.items good self.new.frames.items) }
         ensures done { IfOk result (λ good. good ≡ true → self.new.work.items ≡ []) }
     {
-        self.work.push(at)?;
+        if !code.has_line(at) {
+            return Ok(true);
+        }
+        if !self.visit(alloc, code, at + 1, at)? {
+            return Ok(false);
+        }
         self.settle(alloc, code, at + 1)
     }
 
