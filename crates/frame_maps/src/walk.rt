@@ -10,10 +10,11 @@ ghost use Rattle.frame_maps.specs.declared.way.Way.TheVariants.{GoesOn, Stops};
 ghost use Rattle.jvm_program.specs.Program as program;
 
 use crate::way::Way;
-use jvm_names::Sequence;
 use jvm_program::{Instruction, LinkedLine};
 use std::alloc::{AllocError, Global};
-use type_inference::{Code, Frame, falls_through, has_no_top, is_frame_below, targets_of};
+use type_inference::{
+    Code, Frame, KindList, SharedKinds, falls_through, has_no_top, is_frame_below, targets_of,
+};
 
 /// Whether a method is typed by the frames that are listed for some of its offsets, each of which has an instruction.
 pub fn is_framed(
@@ -48,10 +49,10 @@ fn entry_frame(alloc: Global, code: &Code<'_>) -> Result<Frame, AllocError>
     ensures locals { IfOk result (λ f. f.locals ≡ code.now.method.now.parameters) }
     ensures stack { IfOk result (λ f. f.stack ≡ []) }
 {
-    let locals = Vec::from_slice(alloc, code.method.parameters.as_slice())?;
+    let locals = SharedKinds::from_slice(alloc, code.method.parameters.as_slice())?;
     Ok(Frame {
-        locals: Sequence::new(locals),
-        stack: Sequence::new(Vec::new(alloc)),
+        locals,
+        stack: KindList::new(),
     })
 }
 

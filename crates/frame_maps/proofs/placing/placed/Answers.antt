@@ -43,6 +43,15 @@ loop-at-preserved-else-not-has_line c =
       next-placing m c.args.listed.items c.pop.new.self.items c.loop-at.rest.items c.loop-at.frames.items c.in-Some.at c.in-Some.frame c.in-Some.ensures.items c.loop-at.invariant.1 inside (sym c.has_line.ensures.found ∙ c.if-not-has_line.false),
     )
 
+pub loop-at-preserved-else-not-has_line-2 : goal.loop-at-preserved-else-not-has_line-2
+loop-at-preserved-else-not-has_line-2 c =
+    let m = c.args.code.now.method.now in
+    let at = c.has_line.ensures.within c.if-not-has_line.false in
+    let inside : c.in-Some.at < length c.loop-at.frames.items = omega (arith, at, c.loop-at.invariant.0) in (
+      omega (arith, length-set c.loop-at.frames.items c.in-Some.at (Some c.in-Some.frame), c.loop-at.invariant.0),
+      next-placing m c.args.listed.items c.pop.new.self.items c.loop-at.rest.items c.loop-at.frames.items c.in-Some.at c.in-Some.frame c.in-Some.ensures.items c.loop-at.invariant.1 inside (sym c.has_line.ensures.found ∙ c.if-not-has_line.false),
+    )
+
 pub returns : goal.returns
 returns c =
     let none : c.loop-at.rest.items ≡ [] = search (rules, c.in_default.ensures) in
