@@ -12,10 +12,9 @@ ghost use Rattle.pruned_code.specs.Pruned as pruned;
 
 use crate::marks::{is_marked, listed_marks, mark};
 use crate::pruning::listed_at;
-use jvm_names::Sequence;
 use jvm_program::{Kind, LinkedLine, LinkedMethod};
 use std::alloc::{AllocError, Global};
-use type_inference::{Frame, falls_through, targets_of};
+use type_inference::{Frame, KindList, SharedKinds, falls_through, targets_of};
 
 /// The frames that the table of a method's pruned code lists, with their offsets, which rise: one for each instruction to which a
 /// branch or a switch may lead, and for each that stands behind one which does not go on to it. The method is the one before it is
@@ -239,7 +238,7 @@ fn frame_for(
         ≡ listing.listed_frame (option_map (λ x. x.now) reached.entry) gives_int before.now) }
 {
     match reached {
-        Some(frame) => made(alloc, frame.locals.as_slice(), frame.stack.as_slice()),
+        Some(frame) => frame.copied(alloc),
         None => {
             let stack = given_by(alloc, gives_int)?;
             made(alloc, before, &stack)
@@ -251,8 +250,8 @@ fn made(alloc: Global, locals: &[Kind], stack: &[Kind]) -> Result<Frame, AllocEr
     ensures locals { IfOk result (λ f. f.locals ≡ locals.now) }
     ensures stack { IfOk result (λ f. f.stack ≡ stack.now) }
 {
-    let locals = Sequence::new(Vec::from_slice(alloc, locals)?);
-    let stack = Sequence::new(Vec::from_slice(alloc, stack)?);
+    let locals = SharedKinds::from_slice(alloc, locals)?;
+    let stack = KindList::from_slice(alloc, stack)?;
     Ok(Frame { locals, stack })
 }
 
