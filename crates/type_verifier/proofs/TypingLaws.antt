@@ -12,7 +12,7 @@ use Rattle.type_inference.specs.Frames.{type_frame, frame_at, IsFormed}
 use Rattle.type_verifier.specs.Refusal.{methods_before}
 use Rattle.type_inference.specs.Inferred.{AreInferred}
 use Rattle.type_inference.specs.Actions.{program_over}
-use Rattle.type_inference.specs.Verdict.{FailsAt, AreLeast, AllLeastTyped}
+use Rattle.type_inference.specs.Verdict.{FailsAt, AreLeast, LeastTyping}
 use Rattle.type_inference.proofs.LeastLaws.{typed-exactly}
 use Rattle.jvm_program.specs.Program.{Program}
 use Rattle.jvm_link.specs.Linking.{program_of, linked_methods}
@@ -106,11 +106,8 @@ listed-is classes methods e method frames listed i h =
     }
 
 -- a method that has a least typing does not fail
-pub not-failing : (classes : List Class) (methods : List LinkedMethod) → methods ≡ linked_methods classes → AllLeastTyped (program_of classes) → (number at : ℕ) (method : LinkedMethod) → slice_get methods number ≡ Some method → FailsAt (program_over methods) method at → ⊥
-not-failing classes methods e typed number at method is f =
-    let same = same-methods classes methods e in
-    let l = typed number method (sym (same number) ∙ is) in
-    f.fails l.frames (typing-same (program_of classes) (program_over methods) (λ m. sym (same m)) method l.frames at (l.typing at))
+pub least-not-failing : (program : Program) (method : LinkedMethod) (at : ℕ) → LeastTyping program method → FailsAt program method at → ⊥
+least-not-failing program method at l f = f.fails l.frames (l.typing at)
 
 -- ---- the loop
 

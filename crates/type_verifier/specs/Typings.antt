@@ -9,7 +9,9 @@ use Rattle.type_inference.specs.declared.frame.Frame.{Frame}
 use Rattle.type_inference.specs.Flow.{AreFormed}
 use Rattle.type_inference.specs.Frames.{type_frame, frame_at, IsFormed}
 use Rattle.type_inference.specs.Reached.{Reached}
-use Rattle.type_inference.specs.Verdict.{AreLeast}
+use Rattle.type_inference.specs.Verdict.{AreLeast, FailsAt}
+use Rattle.type_verifier.specs.declared.method_typing.MethodTyping.{MethodTyping}
+use Rattle.type_verifier.specs.declared.method_typing.MethodTyping.TheVariants.{Listed, Fails}
 use Rattle.type_verifier.specs.Refusal.{methods_before}
 
 -- a class has a method, both numbered from 0
@@ -55,3 +57,15 @@ IsListedOf classes class method listed =
     (m : LinkedMethod)
     → (program_of classes).method (methods_before classes class + method) ≡ Some m
     → IsListed (program_of classes) m listed
+
+-- a class's method has no typing up to an offset
+abbrev pub FailsOf : List Class → ℕ → ℕ → ℕ → Type 0
+FailsOf classes class method at =
+    (m : LinkedMethod)
+    → (program_of classes).method (methods_before classes class + method) ≡ Some m
+    → FailsAt (program_of classes) m at
+
+-- what is inferred of it
+abbrev pub IsTypingOf : List Class → ℕ → ℕ → MethodTyping → Type 0
+IsTypingOf classes class method (Listed listed) = IsListedOf classes class method listed.items
+IsTypingOf classes class method (Fails at) = FailsOf classes class method at

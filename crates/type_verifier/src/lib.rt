@@ -1,6 +1,7 @@
 //! The verifier of linked classes: each method has a typing, or the first that has none is named (JVM Specification, 4.10).
 #![tactic(auto)]
 
+mod method_typing;
 mod typing;
 mod verification;
 mod verified;
@@ -8,8 +9,10 @@ mod verify_error;
 
 pub use jvm_link::NoMemory;
 pub use jvm_program::Kind;
+pub use method_typing::MethodTyping;
 pub use nv_faults::VerifyFault;
 pub use type_inference::Frame;
+pub use typing::typing_of;
 pub use verification::verify;
 pub use verified::Verified;
 pub use verify_error::VerifyError;

@@ -1,11 +1,12 @@
 //! The least typing of a method that was verified (JVM Specification, 4.10.2.2).
 ghost use Rattle.std.specs.Prelude.{◌≡◌, ◌+◌, ◌<◌, ◌≤◌, ◌^◌, IfOk, length};
 ghost use Rattle.type_verifier.specs.Refusal.{methods_before};
-ghost use Rattle.type_verifier.specs.Typings.{HasMethod, IsListedOf, AreListed};
+ghost use Rattle.type_verifier.specs.Typings.{HasMethod, IsListedOf, IsTypingOf, AreListed};
 
+use crate::method_typing::MethodTyping;
 use crate::verified::Verified;
 use jvm_code::Class;
-use jvm_link::NoMemory;
+use jvm_link::{Linked, NoMemory};
 use std::alloc::Global;
 use type_inference::{Frame, Inferred, infer};
 
@@ -21,13 +22,32 @@ impl Verified {
         requires { HasMethod self.now.linked.classes class method }
         ensures { IfOk result (λ v. IsListedOf self.now.linked.classes class method v.items) }
     {
-        let methods = self.linked.methods.as_slice();
-        let classes = self.linked.classes.as_slice();
-        let number = number_of(classes, class, method, methods.len());
-        match infer(alloc, methods, number)? {
-            Inferred::Typed(frames) => listing(alloc, frames.into_vec()),
-            Inferred::Fails(_at) => unreachable!(),
+        match typing_of(alloc, &self.linked, class, method)? {
+            MethodTyping::Listed(listed) => Ok(listed),
+            MethodTyping::Fails(_at) => unreachable!(),
         }
+    }
+}
+
+/// What is inferred of a method of classes that link. A class and its method are numbered from 0.
+pub fn typing_of(
+    alloc: Global,
+    linked: &Linked,
+    class: u32,
+    method: u32,
+) -> Result<MethodTyping, NoMemory>
+    requires { HasMethod linked.now.classes class method }
+    ensures { IfOk result (IsTypingOf linked.now.classes class method) }
+{
+    let methods = linked.methods.as_slice();
+    let classes = linked.classes.as_slice();
+    let number = number_of(classes, class, method, methods.len());
+    match infer(alloc, methods, number)? {
+        Inferred::Typed(frames) => {
+            let listed = listing(alloc, frames.into_vec())?;
+            Ok(MethodTyping::Listed(listed))
+        }
+        Inferred::Fails(at) => Ok(MethodTyping::Fails(at)),
     }
 }
 
