@@ -2,6 +2,7 @@
 ghost use Rattle.std.specs.Prelude.{◌≡◌, ◌∷◌, [], ℕ, Option, IsTrue, OnOk, OnErr, IfErr};
 ghost use Rattle.jvm_names.specs.declared.array_name.ArrayName.TheVariants.{Iaload, Aaload, Iastore, Aastore};
 ghost use Rattle.jvm_program.specs.declared.instruction.Instruction.TheVariants as instructions;
+ghost use Rattle.jvm_program.specs.declared.value.Value.TheVariants.{Int as int};
 ghost use Rattle.jvm_program.specs.Values.{is_int, is_ints_reference, is_pages_reference, reference as reference_to};
 ghost use Rattle.jvm_frames.specs.Stack.{on_top};
 ghost use Rattle.jvm_frames.specs.Trap.{trap_kind};
@@ -60,6 +61,50 @@ pub fn load_page(operands: &mut Operands, region: &Region) -> Result<(), Trap>
     };
     if region.len(Place(place)) <= i {
         operands.push(Value::Int(i));
+        return Err(Trap::Index);
+    }
+    operands.pop();
+    operands.push(reference(region.get(Place(place), i)));
+    Ok(())
+}
+
+/// `iaload` at an index that is not pushed. Where it traps, the operands are as they were without it.
+#[inline(always)]
+pub fn int_at(operands: &mut Operands, region: &Region, i: u32) -> Result<(), Trap>
+    requires { IsTrue
+        (on_top (is_ints_reference (heap_of region.now.arrays) ∷ []) operands.old.items) }
+    ensures ok { OnOk result (Does region.now.size (instructions.Array Iaload)
+        (int i ∷ operands.old.items) (heap_of region.now.arrays) operands.new.items
+        (heap_of region.now.arrays)) }
+    ensures unchanged { OnErr result (operands.new ≡ operands.old) }
+    ensures limit { operands.new.limit ≡ operands.old.limit }
+{
+    let Value::Array(place) = operands.peek(0) else {
+        return Err(Trap::Null);
+    };
+    if region.len(Place(place)) <= i {
+        return Err(Trap::Index);
+    }
+    operands.pop();
+    operands.push(Value::Int(region.get(Place(place), i)));
+    Ok(())
+}
+
+/// `aaload` at an index that is not pushed. Where it traps, the operands are as they were without it.
+#[inline(always)]
+pub fn page_at(operands: &mut Operands, region: &Region, i: u32) -> Result<(), Trap>
+    requires { IsTrue
+        (on_top (is_pages_reference (heap_of region.now.arrays) ∷ []) operands.old.items) }
+    ensures ok { OnOk result (Does region.now.size (instructions.Array Aaload)
+        (int i ∷ operands.old.items) (heap_of region.now.arrays) operands.new.items
+        (heap_of region.now.arrays)) }
+    ensures unchanged { OnErr result (operands.new ≡ operands.old) }
+    ensures limit { operands.new.limit ≡ operands.old.limit }
+{
+    let Value::Array(place) = operands.peek(0) else {
+        return Err(Trap::Null);
+    };
+    if region.len(Place(place)) <= i {
         return Err(Trap::Index);
     }
     operands.pop();

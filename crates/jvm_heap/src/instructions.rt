@@ -2,6 +2,7 @@
 ghost use Rattle.std.specs.Prelude.{◌≡◌, ◌∷◌, [], IsTrue, OnOk, OnErr, IfErr};
 ghost use Rattle.jvm_names.specs.declared.array_name.ArrayName.TheVariants.{Iaload, Aaload, Iastore, Aastore};
 ghost use Rattle.jvm_program.specs.declared.instruction.Instruction.TheVariants as instructions;
+ghost use Rattle.jvm_program.specs.declared.value.Value.TheVariants.{Int as int};
 ghost use Rattle.jvm_program.specs.Values.{is_int, is_ints_reference, is_pages_reference};
 ghost use Rattle.jvm_frames.specs.Stack.{on_top};
 ghost use Rattle.jvm_frames.specs.Trap.{trap_kind};
@@ -48,6 +49,36 @@ impl Heap {
         ensures limit { operands.new.limit ≡ operands.old.limit }
     {
         access::load_page(operands, &self.region)
+    }
+
+    /// `iaload` at an index that is not pushed. Where it traps, the operands are as they were without it.
+    #[inline(always)]
+    pub fn int_at(&self, operands: &mut Operands, i: u32) -> Result<(), Trap>
+        requires { IsTrue (on_top (is_ints_reference (heap_of self.now.region.arrays) ∷ [])
+            operands.old.items) }
+        ensures ok { OnOk result
+            (Does self.now.region.size (instructions.Array Iaload) (int i ∷ operands.old.items)
+            (heap_of self.now.region.arrays) operands.new.items
+            (heap_of self.now.region.arrays)) }
+        ensures unchanged { OnErr result (operands.new ≡ operands.old) }
+        ensures limit { operands.new.limit ≡ operands.old.limit }
+    {
+        access::int_at(operands, &self.region, i)
+    }
+
+    /// `aaload` at an index that is not pushed. Where it traps, the operands are as they were without it.
+    #[inline(always)]
+    pub fn page_at(&self, operands: &mut Operands, i: u32) -> Result<(), Trap>
+        requires { IsTrue (on_top (is_pages_reference (heap_of self.now.region.arrays) ∷ [])
+            operands.old.items) }
+        ensures ok { OnOk result
+            (Does self.now.region.size (instructions.Array Aaload) (int i ∷ operands.old.items)
+            (heap_of self.now.region.arrays) operands.new.items
+            (heap_of self.now.region.arrays)) }
+        ensures unchanged { OnErr result (operands.new ≡ operands.old) }
+        ensures limit { operands.new.limit ≡ operands.old.limit }
+    {
+        access::page_at(operands, &self.region, i)
     }
 
     /// `arraylength`.
