@@ -6,6 +6,10 @@ pub mod Finding
 pub mod Arriving
 pub mod Readiness
 pub mod Taking
+pub mod Leading
+pub mod Stacking
+pub mod Grouped
+pub mod KeptGroups
 pub mod Frequent
 pub mod Calls
 pub mod Returns

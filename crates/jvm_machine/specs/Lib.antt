@@ -5,6 +5,9 @@ pub mod Ops
 pub mod Makes
 pub mod Standing
 pub mod Settling
+pub mod Leading
+pub mod Stacking
+pub mod Groups
 pub mod Hosting
 pub mod Rooms
 pub mod Loading
