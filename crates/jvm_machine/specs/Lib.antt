@@ -8,6 +8,7 @@ pub mod Settling
 pub mod Leading
 pub mod Stacking
 pub mod Groups
+pub mod Comparing
 pub mod Hosting
 pub mod Rooms
 pub mod Loading
