@@ -19,11 +19,10 @@ use Rattle.jvm_link.specs.Order.{IsInOrder}
 use Rattle.jvm_link.specs.Linking.{gives_int, linked_method, linked_methods, program_of}
 use Rattle.type_inference.specs.declared.frame.Frame.{Frame}
 use Rattle.type_verifier.specs.Refusal.{methods_before}
-use Rattle.type_verifier.specs.Typings.{IsListed}
+use Rattle.type_verifier.specs.Typings.{IsListed, FailsOf}
+use Rattle.type_verifier.proofs.TypingLaws.{least-not-failing}
 use Rattle.frame_tables.specs.declared.reference_slots.ReferenceSlots.{ReferenceSlots}
 use Rattle.frame_tables.specs.Shortest.{AreReferences, AreTabled}
-use Rattle.frame_maps.specs.declared.frame_error.FrameError.{FrameError}
-use Rattle.frame_maps.specs.declared.frame_error.FrameError.TheVariants.{Refused, TooLarge, NoMemory}
 use Rattle.framed_pools.specs.Longer.{framed_pool, class_slot}
 use Rattle.framed_pools.proofs.PoolLaws.{framed-references}
 use Rattle.pruned_code.specs.Code.{is_listed, IsPrunedMethod}
@@ -32,7 +31,9 @@ use Rattle.pruned_code.proofs.TabledLaws.{ready-tabled}
 use Rattle.framed_classes.proofs.ClassLaws.{parts-of, AllFit}
 use Rattle.framed_classes.proofs.FramedLaws.{place-from, fit-of-all}
 use Rattle.framed_classes.proofs.MethodLaws.{IsPair, numbers-few, is-ready, listing-behind}
-use Rattle.pruned_classes.specs.Full.{IsFull, IsFaultOf, IsFullRefusal}
+use Rattle.pruned_classes.specs.declared.unmade.Unmade.{Unmade}
+use Rattle.pruned_classes.specs.declared.unmade.Unmade.TheVariants.{Untyped, Full, NoMemory}
+use Rattle.pruned_classes.specs.Full.{AreNotTyped, IsFull, IsUnmadeAt, IsUnmade}
 use Rattle.pruned_classes.specs.Made.{IsMade, AreMade, IsClassMade, AreClassesMadeFrom}
 
 made-push : (cs : List Class) (number : ℕ) (c : Class) (pool : List Entry) (ms ns : List Method) (ts : List (List ℕ)) (m n : Method) (t : List ℕ) → AreMade cs number c pool ms ns ts → IsMade cs number c pool m n t → AreMade cs number c pool (ms ++ m ∷ []) (ns ++ n ∷ []) (ts ++ t ∷ [])
@@ -99,10 +100,10 @@ room-next cs n c d is i room k other less there =
     (λ (apart : k ≡ n → ⊥). room k other (omega (arith, less, apart)) there)
     (cases_eq k n)
 
-pub full-at : (cs : List Class) (n : ℕ) (c : Class) (r : FrameError) → slice_get cs n ≡ Some c → 65534 < length (framed_pool c.pool) → AllRoom cs n → IsFaultOf n r → IsFullRefusal cs r
-full-at cs n c (Refused fault) is full room h = (h.0, h.1, subst (IsFull cs) (sym h.2) (record { of = c; of_is = is; full = full; earlier = room }))
-full-at cs n c (TooLarge _ _) is full room h = absurd h
-full-at cs n c NoMemory is full room h = absurd h
+pub unmade-at : (cs : List Class) (n : ℕ) (c : Class) (u : Unmade) → slice_get cs n ≡ Some c → AllRoom cs n → IsUnmadeAt cs n c u → IsUnmade cs u
+unmade-at cs n c Untyped is room h = h
+unmade-at cs n c (Full k) is room h = subst (IsFull cs) (sym h.0) (record { of = c; of_is = is; full = h.1; earlier = room })
+unmade-at cs n c NoMemory is room h = tt
 
 -- ---- methods
 
@@ -120,6 +121,14 @@ pub place-of : (cs : List Class) (number : ℕ) (c : Class) (i : ℕ) (m : Metho
 place-of cs number c i m is there =
     let e : 0 + number ≡ number = omega arith in
     place-from cs 0 cs number c i m is there ∙ ap (λ k. Some (linked_method cs k c m)) e
+
+-- a method of a class has no typing
+pub not-typed : (cs : List Class) (number : ℕ) (c : Class) (i : ℕ) (m : Method) (method at : ℕ) → slice_get cs number ≡ Some c → slice_get c.methods i ≡ Some m → method ≡ i → FailsOf cs number method at → AreNotTyped cs
+not-typed cs number c i m method at is there same fails typed =
+    let k = methods_before cs number in
+    let place = ap (λ j. slice_get (linked_methods cs) (k + j)) same ∙ place-of cs number c i m is there in
+    let own = linked_method cs number c m in
+    least-not-failing (program_of cs) own at (typed (k + method) own place) (fails own place)
 
 -- the method at a place of the program
 pub own-of : (cs : List Class) (methods : List LinkedMethod) (number : ℕ) (c : Class) (i : ℕ) (m : Method) (first : ℕ) (own : LinkedMethod) → methods ≡ linked_methods cs → slice_get cs number ≡ Some c → slice_get c.methods i ≡ Some m → first ≡ methods_before cs number → slice_get methods (first + i) ≡ Some own → own ≡ linked_method cs number c m

@@ -1,9 +1,16 @@
--- Why classes cannot have tables: a pool has too few slots for the entries that they name.
+-- Why classes cannot have tables: a method is not typed, or a pool has too few slots for the
+-- entries that tables name.
 use Rattle.std.specs.Prelude.{◌≡◌, ℕ, ◌<◌, ◌≤◌, List, length, slice_get, Some}
 use Rattle.jvm_code.specs.declared.class.Class.{Class}
-use Rattle.frame_maps.specs.declared.frame_error.FrameError.{FrameError}
-use Rattle.frame_maps.specs.declared.frame_error.FrameError.TheVariants.{Refused, TooLarge, NoMemory}
+use Rattle.jvm_link.specs.Linking.{program_of}
+use Rattle.type_inference.specs.Verdict.{AllLeastTyped}
 use Rattle.framed_pools.specs.Longer.{framed_pool}
+use Rattle.pruned_classes.specs.declared.unmade.Unmade.{Unmade}
+use Rattle.pruned_classes.specs.declared.unmade.Unmade.TheVariants.{Untyped, Full, NoMemory}
+
+-- not each method has a least typing
+abbrev pub AreNotTyped : List Class → Type 0
+AreNotTyped classes = AllLeastTyped (program_of classes) → ⊥
 
 -- the first class of which the pool would have more slots than a pool can have
 pub record IsFull (classes : List Class) (class : ℕ) : Type 0 where
@@ -13,14 +20,15 @@ pub record IsFull (classes : List Class) (class : ℕ) : Type 0 where
   pub earlier : (c : ℕ) (other : Class) → c < class → slice_get classes c ≡ Some other
       → length (framed_pool other.pool) ≤ 65534
 
--- the fault of a class
-abbrev pub IsFaultOf : ℕ → FrameError → Type 0
-IsFaultOf class (Refused fault) = (fault.kind ≡ 3) × (fault.method ≡ 0) × (fault.class ≡ class)
-IsFaultOf class _ = ⊥
+-- why a class with a number has none; want of memory may come anywhere
+abbrev pub IsUnmadeAt : List Class → ℕ → Class → Unmade → Type 0
+IsUnmadeAt classes number class Untyped = AreNotTyped classes
+IsUnmadeAt classes number class (Full full) = (full ≡ number)
+    × (65534 < length (framed_pool class.pool))
+IsUnmadeAt classes number class NoMemory = Unit {0}
 
--- want of memory may come anywhere
-abbrev pub IsFullRefusal : List Class → FrameError → Type 0
-IsFullRefusal classes (Refused fault) = (fault.kind ≡ 3) × (fault.method ≡ 0)
-    × IsFull classes fault.class
-IsFullRefusal classes (TooLarge class bytes) = ⊥
-IsFullRefusal classes NoMemory = Unit {0}
+-- why classes have none
+abbrev pub IsUnmade : List Class → Unmade → Type 0
+IsUnmade classes Untyped = AreNotTyped classes
+IsUnmade classes (Full class) = IsFull classes class
+IsUnmade classes NoMemory = Unit {0}

@@ -1,40 +1,37 @@
 //! Classes, one after the other.
-ghost use Rattle.std.specs.Prelude.{◌≡◌, ◌+◌, ◌<◌, ◌≤◌, ◌++◌, ℕ, [], ◌∷◌, IfOk, IfErr, OnOk, MatchOption, Some, length, slice_get};
+ghost use Rattle.std.specs.Prelude.{◌≡◌, ◌+◌, ◌≤◌, ◌++◌, [], ◌∷◌, IfOk, IfErr, OnOk, Some, length, slice_get};
 ghost use Rattle.type_verifier.specs.Refusal.{methods_before};
-ghost use Rattle.framed_pools.specs.Longer as longer;
 ghost use Rattle.pruned_classes.specs.Full as full;
 ghost use Rattle.pruned_classes.specs.Made as made;
 
 use crate::methods::{methods_with_tables, number_of};
-use frame_maps::FrameError;
+use crate::unmade::Unmade;
 use framed_class_file::FramedClass;
 use framed_pools::framed_pool;
 use jvm_code::Class;
+use jvm_link::Linked;
 use jvm_names::Sequence;
-use nv_faults::FrameFault;
 use std::alloc::{AllocError, Global};
-use type_verifier::Verified;
 
-/// The classes with pruned code, longer pools, and tables.
+/// The classes with pruned code, longer pools, and tables. Each method is inferred once, so that what is made shows that all are
+/// typed.
 ///
 /// # Errors
 ///
-/// Refused: the first class whose pool has too few slots, of kind [`POOL`](FrameFault::POOL) and method 0. NoMemory.
-pub fn classes_with_tables(alloc: Global, v: &Verified) -> Result<Vec<FramedClass>, FrameError>
+/// Untyped: a method is not typed. Full: the first class whose pool has too few slots. NoMemory.
+pub fn classes_with_tables(alloc: Global, linked: &Linked) -> Result<Vec<FramedClass>, Unmade>
     ensures made { IfOk result (λ framed.
-        made.AreClassesMade v.now.linked.classes framed.items) }
-    ensures refused { IfErr result (full.IsFullRefusal v.now.linked.classes) }
+        made.AreClassesMade linked.now.classes framed.items) }
+    ensures unmade { IfErr result (full.IsUnmade linked.now.classes) }
 {
-    let classes = v.linked.classes.as_slice();
-    let methods = v.linked.methods.as_slice();
+    let classes = linked.classes.as_slice();
+    let methods = linked.methods.as_slice();
     let mut framed = Vec::new(alloc);
     let mut first = 0;
     for number in 0..classes.len() {
         let class = &classes[number];
         let name = number_of(number)?;
-        let Some(tabled) = class_with_tables(alloc, v, name, first, class)? else {
-            return Err(refusal(name));
-        };
+        let tabled = class_with_tables(alloc, linked, name, first, class)?;
         add(&mut framed, tabled)?;
         first = behind(first, class, methods.len());
     }
@@ -56,33 +53,25 @@ fn behind(first: usize, class: &Class, count: usize) -> usize
     first + class.methods.as_slice().len()
 }
 
-fn refusal(class: u32) -> FrameError
-    ensures { full.IsFaultOf class result }
-{
-    FrameError::Refused(FrameFault {
-        class,
-        method: 0,
-        kind: FrameFault::POOL,
-    })
-}
-
-// A class, whose first method has a number in the program; None where its pool has too few slots.
+// A class, whose first method has a number in the program.
 fn class_with_tables(
     alloc: Global,
-    v: &Verified,
+    linked: &Linked,
     number: u32,
     first: usize,
     class: &Class,
-) -> Result<Option<FramedClass>, AllocError>
-    requires there { slice_get v.now.linked.classes number ≡ Some class.now }
-    requires first { first ≡ methods_before v.now.linked.classes number }
-    ensures { IfOk result (λ o. MatchOption o (65534 < length (longer.framed_pool class.now.pool))
-        (made.IsClassMade v.now.linked.classes number class.now)) }
+) -> Result<FramedClass, Unmade>
+    requires there { slice_get linked.now.classes number ≡ Some class.now }
+    requires first { first ≡ methods_before linked.now.classes number }
+    ensures made { IfOk result (made.IsClassMade linked.now.classes number class.now) }
+    ensures unmade { IfErr result (full.IsUnmadeAt linked.now.classes number class.now) }
 {
     let Some(pool) = framed_pool(alloc, class.pool.as_slice())? else {
-        return Ok(None);
+        return Err(Unmade::Full(number));
     };
-    let tabled = methods_with_tables(alloc, v, number, first, class, &pool)?;
+    let Some(tabled) = methods_with_tables(alloc, linked, number, first, class, &pool)? else {
+        return Err(Unmade::Untyped);
+    };
     let fields = Vec::from_slice(alloc, class.fields.as_slice())?;
     let class = Class {
         pool: Sequence::new(pool),
@@ -91,8 +80,8 @@ fn class_with_tables(
         fields: Sequence::new(fields),
         methods: Sequence::new(tabled.methods),
     };
-    Ok(Some(FramedClass {
+    Ok(FramedClass {
         class,
         tables: Sequence::new(tabled.tables),
-    }))
+    })
 }

@@ -5,5 +5,7 @@ mod classes;
 mod methods;
 mod tabled_method;
 mod tabled_methods;
+mod unmade;
 
 pub use classes::classes_with_tables;
+pub use unmade::Unmade;

@@ -1,5 +1,5 @@
 //! The methods of a class, one after the other: each is inferred once, and nothing of it is kept but its code and its table.
-ghost use Rattle.std.specs.Prelude.{◌≡◌, ◌+◌, ◌<◌, ◌≤◌, List, IfOk, None, Some, length, slice_get};
+ghost use Rattle.std.specs.Prelude.{◌≡◌, ◌+◌, ◌<◌, ◌≤◌, List, IfOk, MatchOption, None, Some, length, slice_get};
 ghost use Rattle.constant_pool.specs.declared.entry.Entry.{Entry};
 ghost use Rattle.jvm_code.specs.declared.line.Line.{Line};
 ghost use Rattle.jvm_code.specs.declared.method.Method.{Method};
@@ -11,6 +11,7 @@ ghost use Rattle.frame_tables.specs.Shortest.{AreReferences, AreTabled, IsTableO
 ghost use Rattle.framed_pools.specs.Longer.{framed_pool};
 ghost use Rattle.pruned_code.specs.Code as code;
 ghost use Rattle.pruned_code.specs.Linked.{listing_behind};
+ghost use Rattle.pruned_classes.specs.Full.{AreNotTyped};
 ghost use Rattle.pruned_classes.specs.Made as made;
 
 use crate::tabled_method::TabledMethod;
@@ -19,63 +20,75 @@ use constant_pool::Entry;
 use frame_tables::{ReferenceSlots, table_of_frames};
 use framed_pools::reference_slots;
 use jvm_code::{Class, Method};
+use jvm_link::Linked;
 use jvm_names::Sequence;
 use jvm_program::LinkedMethod;
 use pruned_code::{listing_of, pruned_method};
 use std::alloc::{AllocError, Global};
-use type_verifier::{Frame, Verified};
+use type_verifier::{Frame, MethodTyping, typing_of};
 
 /// The methods of a class, whose first one has a number in the program, with their tables over a pool.
 pub fn methods_with_tables(
     alloc: Global,
-    v: &Verified,
+    linked: &Linked,
     number: u32,
     first: usize,
     class: &Class,
     pool: &[Entry],
-) -> Result<TabledMethods, AllocError>
-    requires there { slice_get v.now.linked.classes number ≡ Some class.now }
-    requires first { first ≡ methods_before v.now.linked.classes number }
+) -> Result<Option<TabledMethods>, AllocError>
+    requires there { slice_get linked.now.classes number ≡ Some class.now }
+    requires first { first ≡ methods_before linked.now.classes number }
     requires pool { pool.now ≡ framed_pool class.now.pool }
     requires few { length pool.now ≤ 65534 }
-    ensures { IfOk result (λ t. made.AreMade v.now.linked.classes number class.now pool.now
-        class.now.methods t.methods.items t.tables.items) }
+    ensures { IfOk result (λ o. MatchOption o (AreNotTyped linked.now.classes)
+        (λ t. made.AreMade linked.now.classes number class.now pool.now
+        class.now.methods t.methods.items t.tables.items)) }
 {
     let slots = reference_slots(pool);
     let count = class.methods.as_slice().len();
     let mut methods = Vec::new(alloc);
     let mut tables = Vec::new(alloc);
     for method in 0..count {
-        let tabled = method_with_table(alloc, v, number, first, class, pool, slots, method)?;
+        let Some(tabled) = method_with_table(
+            alloc, linked, number, first, class, pool, slots, method,
+        )?
+        else {
+            return Ok(None);
+        };
         methods.push(tabled.method)?;
         tables.push(tabled.table)?;
     }
-    Ok(TabledMethods { methods, tables })
+    Ok(Some(TabledMethods { methods, tables }))
 }
 
-// A method of a class, the first of which has a number in the program.
+// A method of a class, the first of which has a number in the program; None where it is not typed.
 fn method_with_table(
     alloc: Global,
-    v: &Verified,
+    linked: &Linked,
     number: u32,
     first: usize,
     class: &Class,
     pool: &[Entry],
     slots: ReferenceSlots,
     method: usize,
-) -> Result<TabledMethod, AllocError>
-    requires there { slice_get v.now.linked.classes number ≡ Some class.now }
-    requires first { first ≡ methods_before v.now.linked.classes number }
+) -> Result<Option<TabledMethod>, AllocError>
+    requires there { slice_get linked.now.classes number ≡ Some class.now }
+    requires first { first ≡ methods_before linked.now.classes number }
     requires references { AreReferences pool.now slots }
     requires within { method < length class.now.methods }
-    ensures { IfOk result (λ t. (m : Method) → slice_get class.now.methods method ≡ Some m
-        → made.IsMade v.now.linked.classes number class.now pool.now m t.method t.table) }
+    ensures { IfOk result (λ o. MatchOption o (AreNotTyped linked.now.classes)
+        (λ t. (m : Method) → slice_get class.now.methods method ≡ Some m
+        → made.IsMade linked.now.classes number class.now pool.now m t.method t.table)) }
 {
     let own = own_at(class, method);
-    let linked = method_at(v.linked.methods.as_slice(), first, method);
-    let reached = v.typing(alloc, number, number_of(method)?)?;
-    let tabled = pruned_with_table(alloc, own, linked, &reached, pool, slots)?;
-    Ok(tabled)
+    let program = method_at(linked.methods.as_slice(), first, method);
+    match typing_of(alloc, linked, number, number_of(method)?)? {
+        MethodTyping::Listed(reached) => {
+            let tabled = pruned_with_table(alloc, own, program, &reached, pool, slots)?;
+            Ok(Some(tabled))
+        }
+        MethodTyping::Fails(_at) => Ok(None),
+    }
 }
 
 fn own_at(class: &Class, method: usize) -> &Method

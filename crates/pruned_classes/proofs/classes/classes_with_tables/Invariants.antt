@@ -6,7 +6,7 @@ use Rattle.pruned_classes.proofs.classes.classes_with_tables.Given as goal
 
 abbrev pub invariant-loop-number : goal.invariant-loop-number
 invariant-loop-number l = record {
-  first : l.first ≡ methods_before l.v.linked.classes l.number;
-  are : AreClassesMadeFrom l.v.linked.classes 0 (take l.number l.v.linked.classes) l.framed.items;
-  room : AllRoom l.v.linked.classes l.number;
+  first : l.first ≡ methods_before l.linked.classes l.number;
+  are : AreClassesMadeFrom l.linked.classes 0 (take l.number l.linked.classes) l.framed.items;
+  room : AllRoom l.linked.classes l.number;
 }

@@ -6,7 +6,7 @@ use Rattle.pruned_classes.proofs.methods.methods_with_tables.Goals as goal
 
 pub loop-method-init : goal.loop-method-init
 loop-method-init c =
-    made-none c.args.v.now.linked.classes c.args.number c.args.class.now c.args.pool.now c.args.class.now.methods c.new-methods.result.items c.new-tables.result.items c.new-methods.ensures.items c.new-tables.ensures.items
+    made-none c.args.linked.now.classes c.args.number c.args.class.now c.args.pool.now c.args.class.now.methods c.new-methods.result.items c.new-tables.result.items c.new-methods.ensures.items c.new-tables.ensures.items
 
 pub method_with_table-requires-clause-references : goal.method_with_table-requires-clause-references
 method_with_table-requires-clause-references c =
@@ -21,12 +21,12 @@ loop-method-preserved c =
     let class = c.args.class.now in
     let i = c.loop-method.method in
     let m = get-of class.methods i (omega (arith, c.loop-method-test.true, ap length c.as_slice-count.ensures)) in
-    made-next c.args.v.now.linked.classes c.args.number class c.args.pool.now class.methods i m.0 c.in_ok-tabled.tabled.method c.in_ok-tabled.tabled.table
-    c.loop-method.methods.items c.push.new.self.items c.loop-method.tables.items c.push-in-loop-method.new.self.items m.1 c.in_ok-push.ensures.items c.in_ok-push-2.ensures.items c.loop-method.invariant (c.in_ok-tabled.ensures m.0 m.1)
+    made-next c.args.linked.now.classes c.args.number class c.args.pool.now class.methods i m.0 c.in-Some.tabled.method c.in-Some.tabled.table
+    c.loop-method.methods.items c.push.new.self.items c.loop-method.tables.items c.push-in-loop-method.new.self.items m.1 c.in_ok-push.ensures.items c.in_ok-push-2.ensures.items c.loop-method.invariant ((rw c.in-Some.is at c.in_ok-tabled.ensures) m.0 m.1)
 
 pub returns : goal.returns
 returns c =
     let class = c.args.class.now in
     let i = c.loop-method.method in
     let end : i ≡ length class.methods = omega (arith, c.loop-method-test.false, c.loop-method.auto.method-end, ap length c.as_slice-count.ensures) in
-    subst (λ z. AreMade c.args.v.now.linked.classes c.args.number class c.args.pool.now z c.loop-method.methods.items c.loop-method.tables.items) (take-all class.methods i end) c.loop-method.invariant
+    subst (λ z. AreMade c.args.linked.now.classes c.args.number class c.args.pool.now z c.loop-method.methods.items c.loop-method.tables.items) (take-all class.methods i end) c.loop-method.invariant
