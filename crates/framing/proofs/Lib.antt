@@ -2,3 +2,4 @@ pub mod TableSteps
 pub mod MadeLaws
 pub mod Kept
 pub mod Bounds
+pub mod TypedLaws

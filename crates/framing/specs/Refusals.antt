@@ -6,8 +6,11 @@ use Rattle.framed_class_file.specs.FramedClassFile.{IsTabled}
 use Rattle.name_resolution.specs.Kept.{IsClass}
 use Rattle.frame_maps.specs.declared.frame_error.FrameError.{FrameError}
 use Rattle.frame_maps.specs.declared.frame_error.FrameError.TheVariants.{Refused, TooLarge, NoMemory}
-use Rattle.pruned_classes.specs.Full.{IsFull}
+use Rattle.pruned_classes.specs.Full.{AreNotTyped, IsFull}
 use Rattle.framed_classes.specs.Framed.{AreFramed, AreTables}
+use Rattle.framing.specs.declared.unframed.Unframed.{Unframed}
+use Rattle.framing.specs.declared.unframed.Unframed.TheVariants.{Untyped}
+use Rattle.framing.specs.declared.unframed.Unframed.TheVariants as unframed
 use Rattle.framing.specs.Sizes.{IsFirstLarge}
 
 abbrev pub class_of : FramedClass → Class
@@ -38,3 +41,13 @@ IsRefusal classes (Refused fault) = (fault.kind ≡ 3) × (fault.method ≡ 0)
     × IsFull classes fault.class
 IsRefusal classes (TooLarge class bytes) = IsTooLarge classes class bytes
 IsRefusal classes NoMemory = Unit {0}
+
+-- the refusal of a class whose pool has too few slots
+abbrev pub IsFullFault : ℕ → FrameError → Type 0
+IsFullFault class (Refused fault) = (fault.kind ≡ 3) × (fault.method ≡ 0) × (fault.class ≡ class)
+IsFullFault class _ = ⊥
+
+-- classes that link do not become classes with tables
+abbrev pub IsUnframed : List Class → Unframed → Type 0
+IsUnframed classes Untyped = AreNotTyped classes
+IsUnframed classes (unframed.Refused error) = IsRefusal classes error

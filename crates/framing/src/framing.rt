@@ -1,12 +1,18 @@
-//! Classes of version 51.0 for classes that were verified.
+//! Classes of version 51.0 for classes that link, and for those that were verified.
 ghost use Rattle.std.specs.Prelude.{◌≡◌, ◌≤◌, IfOk, IfErr, All};
+ghost use Rattle.jvm_link.specs.Linking.{program_of};
+ghost use Rattle.type_inference.specs.Verdict.{AllLeastTyped};
+ghost use Rattle.pruned_classes.specs.Made.{AreClassesMade};
 ghost use Rattle.framing.specs.Refusals as refusals;
 ghost use Rattle.framing.specs.Sizes as sizes;
 
 use crate::sizes::first_too_large;
+use crate::unframed::Unframed;
 use frame_maps::FrameError;
 use framed_class_file::FramedClass;
-use pruned_classes::classes_with_tables;
+use jvm_link::Linked;
+use nv_faults::FrameFault;
+use pruned_classes::{Unmade, classes_with_tables};
 use std::alloc::Global;
 use type_verifier::Verified;
 
@@ -27,9 +33,58 @@ pub fn frames(alloc: Global, v: &Verified) -> Result<Vec<FramedClass>, FrameErro
         All (λ f. sizes.file_size f ≤ sizes.most) framed.items) }
     ensures refused { IfErr result (refusals.IsRefusal v.now.linked.classes) }
 {
-    let framed = classes_with_tables(alloc, v)?;
+    match verified_frames(alloc, &v.linked) {
+        Ok(framed) => Ok(framed),
+        Err(Unframed::Untyped) => unreachable!(),
+        Err(Unframed::Refused(error)) => Err(error),
+    }
+}
+
+/// The same for classes that link, which are verified as their tables are made: each method is inferred once.
+///
+/// # Errors
+///
+/// Untyped: a method is not typed. Refused: as by [`frames`].
+pub fn verified_frames(alloc: Global, linked: &Linked) -> Result<Vec<FramedClass>, Unframed>
+    ensures typed { IfOk result (λ _. AllLeastTyped (program_of linked.now.classes)) }
+    ensures framed { IfOk result (λ framed.
+        refusals.AreWithTables linked.now.classes framed.items) }
+    ensures writable { IfOk result (λ framed. All refusals.IsWritable framed.items) }
+    ensures small { IfOk result (λ framed.
+        All (λ f. sizes.file_size f ≤ sizes.most) framed.items) }
+    ensures unframed { IfErr result (refusals.IsUnframed linked.now.classes) }
+{
+    match classes_with_tables(alloc, linked) {
+        Ok(framed) => small_enough(linked, framed),
+        Err(Unmade::Untyped) => Err(Unframed::Untyped),
+        Err(Unmade::Full(class)) => Err(Unframed::Refused(full(class))),
+        Err(Unmade::NoMemory) => Err(Unframed::Refused(FrameError::NoMemory)),
+    }
+}
+
+// The refusal of a class whose pool has too few slots.
+fn full(class: u32) -> FrameError
+    ensures { refusals.IsFullFault class result }
+{
+    FrameError::Refused(FrameFault {
+        class,
+        method: 0,
+        kind: FrameFault::POOL,
+    })
+}
+
+// Classes with tables, unless the file of one would be too large.
+fn small_enough(linked: &Linked, framed: Vec<FramedClass>) -> Result<Vec<FramedClass>, Unframed>
+    requires made { AreClassesMade linked.now.classes framed.items }
+    ensures framed { IfOk result (λ framed.
+        refusals.AreWithTables linked.now.classes framed.items) }
+    ensures writable { IfOk result (λ framed. All refusals.IsWritable framed.items) }
+    ensures small { IfOk result (λ framed.
+        All (λ f. sizes.file_size f ≤ sizes.most) framed.items) }
+    ensures unframed { IfErr result (refusals.IsUnframed linked.now.classes) }
+{
     match first_too_large(&framed) {
-        Some((class, bytes)) => Err(FrameError::TooLarge { class, bytes }),
+        Some((class, bytes)) => Err(Unframed::Refused(FrameError::TooLarge { class, bytes })),
         None => Ok(framed),
     }
 }

@@ -1,40 +1,4 @@
-use Rattle.std.proofs.Common.{◌≤◌, ◌<◌, ◌^◌, List, length, sym, ap, subst, arith}
-use Rattle.std.specs.Prelude.{All}
-use Rattle.framed_class_file.specs.declared.framed_class.FramedClass.{FramedClass}
-use Rattle.framing.specs.Sizes.{file_size, most, IsFirstLarge}
-use Rattle.framing.proofs.Bounds.{all-counted, few-framed}
-use Rattle.framing.proofs.Kept.{all-writable}
-use Rattle.framing.proofs.MadeLaws.{with-tables}
 use Rattle.framing.proofs.framing.frames.Goals as goal
 
-pub first_too_large-requires : goal.first_too_large-requires
-first_too_large-requires c =
-    let linked = c.args.v.now.linked in
-    let fs = c.in_ok-framed.framed.items in
-    let w = with-tables linked.classes fs linked.kept c.in_ok-framed.ensures.made in
-    record {
-      few = omega (arith, few-framed linked.classes fs linked.faultless w, ap length c.deref.ensures.value);
-      counted = subst (λ (xs : List FramedClass). All (λ f. file_size f < 2 ^ 64) xs) (sym c.deref.ensures.value) (all-counted linked.classes fs linked.kept w);
-    }
-
-pub returns-in-None-clause-writable : goal.returns-in-None-clause-writable
-returns-in-None-clause-writable c =
-    let linked = c.args.v.now.linked in
-    let fs = c.in_ok-framed.framed.items in
-    all-writable linked.classes fs linked.kept (with-tables linked.classes fs linked.kept c.in_ok-framed.ensures.made)
-    (subst (λ (fs : List FramedClass). All (λ f. file_size f ≤ most) fs) c.deref.ensures.value (rw c.in-None.is at c.first_too_large.ensures))
-
-pub returns-in-None-clause-framed : goal.returns-in-None-clause-framed
-returns-in-None-clause-framed c =
-    let linked = c.args.v.now.linked in
-    with-tables linked.classes c.in_ok-framed.framed.items linked.kept c.in_ok-framed.ensures.made
-
-pub returns-in-Some-clause-refused : goal.returns-in-Some-clause-refused
-returns-in-Some-clause-refused c =
-    let linked = c.args.v.now.linked in
-    let fs = c.in_ok-framed.framed.items in
-    record {
-      framed = fs;
-      are = with-tables linked.classes fs linked.kept c.in_ok-framed.ensures.made;
-      large = subst (λ (xs : List FramedClass). IsFirstLarge xs c.in-Some.class c.in-Some.bytes) c.deref.ensures.value (rw c.in-Some.is at c.first_too_large.ensures);
-    }
+pub unreachable-requires : goal.unreachable-requires
+unreachable-requires c = (rw c.in-Err-Untyped.field-0-is at c.in-Err-Untyped.ensures.unframed) c.args.v.now.typed
