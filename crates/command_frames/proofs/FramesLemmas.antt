@@ -27,7 +27,7 @@ use Rattle.command_deeds.specs.World.{OnlyShelf, World}
 use Rattle.command_deeds.specs.declared.stop.Stop.{Stop}
 use Rattle.command_deeds.proofs.DeedLemmas.{gives_then, makes_end_as}
 use Rattle.command_guest.specs.Classes.{IsAcceptedLoaded, IsTypeChecked, link_checked, set_loaded, set_named}
-use Rattle.command_frames.specs.Frames.{AreFilesOfSet, AreFilesOf, AreWritten, IsDueOfFrames, IsFramedTo, counted}
+use Rattle.command_frames.specs.Frames.{AreFilesOfSet, AreFilesOf, AreWritten, IsDueOfFrames, IsFramedBehind, IsFramedLoaded, IsFramedTo, counted}
 
 -- ---- the set
 
@@ -63,25 +63,31 @@ names-as-many named set plain vs names slice framed is kept accepted names-are s
 
 -- ---- stages that refused, or passed
 
-pub accept-refused : (named : NamedClass) (set : NamedSet) (plain : Loaded) (end : Result CommandAnswer Stop) → plain ≡ loaded_of set → MakesEnd (λ answer. IsAcceptedLoaded named plain (Err answer)) end → MakesEnd (λ answer. AreFilesOfSet named set (Err answer)) end
-accept-refused named set plain end is makes =
-    makes_end_as (λ answer. IsAcceptedLoaded named plain (Err answer)) (λ answer. AreFilesOfSet named set (Err answer)) end
-    (λ answer h. record {
-      classes = Err answer;
-      accepted = subst (λ l. IsAcceptedLoaded named l (Err answer)) is h;
-      framed = Err answer;
-      framed_is = refl;
-      written = refl;
-    }) makes
+behind-verified : (linked : Check (List Class)) (check : Check (List FramedClass)) → IsFramedBehind linked check → (classes : Check (List Class)) × Behind linked IsTypeChecked classes × Behind classes IsFramedTo check
+behind-verified (Ok cs) check h = (h.typed, h.typed_is, h.framed)
+behind-verified (Err answer) check h = (Err answer, refl, h)
 
-pub tables-refused : (named : NamedClass) (set : NamedSet) (plain : Loaded) (cs : List Class) (end : Result CommandAnswer Stop) → plain ≡ loaded_of set → IsAcceptedLoaded named plain (Ok cs) → MakesEnd (λ answer. IsFramedTo cs (Err answer)) end → MakesEnd (λ answer. AreFilesOfSet named set (Err answer)) end
-tables-refused named set plain cs end is accepted makes =
-    makes_end_as (λ answer. IsFramedTo cs (Err answer)) (λ answer. AreFilesOfSet named set (Err answer)) end
-    (λ answer h. record {
-      classes = Ok cs;
-      accepted = subst (λ l. IsAcceptedLoaded named l (Ok cs)) is accepted;
+typed-framed : (linked typed : Check (List Class)) (framed : List FramedClass) → Behind linked IsTypeChecked typed → Behind typed IsFramedTo (Ok framed) → (cs : List Class) × Behind linked IsTypeChecked (Ok cs) × IsFramedTo cs (Ok framed)
+typed-framed linked (Ok cs) framed t f = (cs, t, f)
+typed-framed linked (Err answer) framed t f = absurd (ok-err framed answer f)
+
+-- the classes that got tables were accepted
+pub loaded-framed : (named : NamedClass) (plain : Loaded) (framed : List FramedClass) → IsFramedLoaded named plain (Ok framed) → (cs : List Class) × IsAcceptedLoaded named plain (Ok cs) × IsFramedTo cs (Ok framed)
+loaded-framed named plain framed h =
+    let linked = after (set_loaded named plain) link_checked in
+    let b = behind-verified linked (Ok framed) h in
+    typed-framed linked b.0 framed b.1 b.2
+
+pub tables-refused : (named : NamedClass) (set : NamedSet) (plain : Loaded) (end : Result CommandAnswer Stop) → plain ≡ loaded_of set → MakesEnd (λ answer. IsFramedLoaded named plain (Err answer)) end → MakesEnd (λ answer. AreFilesOfSet named set (Err answer)) end
+tables-refused named set plain end is makes =
+    makes_end_as (λ answer. IsFramedLoaded named plain (Err answer)) (λ answer. AreFilesOfSet named set (Err answer)) end
+    (λ answer h.
+    let b = behind-verified (after (set_loaded named plain) link_checked) (Err answer) h in
+    record {
+      classes = b.0;
+      accepted = subst (λ l. IsAcceptedLoaded named l b.0) is b.1;
       framed = Err answer;
-      framed_is = h;
+      framed_is = b.2;
       written = refl;
     }) makes
 

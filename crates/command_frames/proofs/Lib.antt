@@ -2,3 +2,4 @@ pub mod FramesLemmas
 pub mod CheckLemmas
 pub mod StoreLemmas
 pub mod WriteLemmas
+pub mod TablingLemmas

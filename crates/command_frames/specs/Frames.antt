@@ -8,6 +8,7 @@ use Rattle.framed_class_file.specs.declared.framed_class.FramedClass.{FramedClas
 use Rattle.framed_class_file.specs.FramedClassFile.{Spells}
 use Rattle.frame_maps.specs.declared.frame_error.FrameError.{FrameError}
 use Rattle.class_set.specs.ClassSets.{class_set, file_of}
+use Rattle.class_set.specs.declared.loaded.Loaded.{Loaded}
 use Rattle.named_sets.specs.NamedSets.{named_set}
 use Rattle.named_sets.specs.Plain.{loaded_of, names_of}
 use Rattle.named_sets.specs.declared.named_set.NamedSet.{NamedSet}
@@ -21,7 +22,7 @@ use Rattle.command_deeds.specs.Deeds.{Deed, stores, prints}
 use Rattle.command_deeds.specs.Ends.{Due, answers, says}
 use Rattle.command_deeds.specs.Line.{number_line}
 use Rattle.command_deeds.specs.World.{World}
-use Rattle.command_guest.specs.Classes.{IsAcceptedLoaded, IsTypeChecked, link_checked, set_named}
+use Rattle.command_guest.specs.Classes.{IsAcceptedLoaded, IsTypeChecked, link_checked, set_loaded, set_named}
 use Rattle.command_frames.specs.Told.{IsTold}
 use Rattle.command_frames.specs.declared.stored_class.StoredClass.{StoredClass}
 
@@ -36,6 +37,22 @@ IsFramedTo classes (Err answer) = (error : FrameError) × IsRefusal classes erro
 
 abbrev pub framed_of : Check (Vec FramedClass Global) → Check (List FramedClass)
 framed_of check = shown (λ (v : Vec FramedClass Global). v.items) check
+
+-- ---- from classes that link to such with tables
+
+-- all methods are typed, and then the classes get tables
+pub record AreVerifiedTo (classes : List Class) (check : Check (List FramedClass)) : Type 0 where
+  pub typed : Check (List Class)
+  pub typed_is : IsTypeChecked classes typed
+  pub framed : Behind typed IsFramedTo check
+
+-- the same behind a check
+abbrev pub IsFramedBehind : Check (List Class) → Check (List FramedClass) → Type 0
+IsFramedBehind linked check = Behind linked AreVerifiedTo check
+
+-- the same of what loading a set came to
+abbrev pub IsFramedLoaded : NamedClass → Loaded → Check (List FramedClass) → Type 0
+IsFramedLoaded class set check = IsFramedBehind (after (set_loaded class set) link_checked) check
 
 -- ---- files
 

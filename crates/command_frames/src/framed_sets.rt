@@ -1,27 +1,23 @@
 //! The command `frames`.
-ghost use Rattle.std.specs.Prelude.{◌≡◌, All, IfOk};
+ghost use Rattle.std.specs.Prelude.{◌≡◌};
 ghost use Rattle.named_sets.specs.Kept.{IsKeptSet};
 ghost use Rattle.named_sets.specs.Plain.{loaded_of, names_of};
 ghost use Rattle.named_sets.specs.declared.version.Version.TheVariants.{V48};
-ghost use Rattle.framing.specs.Refusals.{IsWritable};
 ghost use Rattle.command_deeds.specs.Ends.{Ends, Gives, Makes};
 ghost use Rattle.command_deeds.specs.World.{shelf_seen};
-ghost use Rattle.command_frames.specs.Frames.{AreFilesOfSet, AreFilesOf, IsDueOfFrames, IsFramedTo, deeds_of, framed_of};
+ghost use Rattle.command_frames.specs.Frames.{AreFilesOfSet, AreFilesOf, IsDueOfFrames, deeds_of};
 
 use crate::stored_class::StoredClass;
 use crate::storing::store_classes;
+use crate::tabling::framed_loaded;
 use crate::writing::write_classes;
 use class_set::Loaded;
-use command_deeds::{Done, Ending, Outside, Stop, write_number};
-use command_guest::accept_loaded;
+use command_deeds::{Done, Ending, Outside, write_number};
 use command_words::NamedClass;
-use frame_maps::FrameError;
-use framed_class_file::FramedClass;
 use jvm_names::Sequence;
 use named_sets::{Name, NamedSet, Version, load_named_set};
 use nv_outside::{Shelf, Sink, Source};
 use std::alloc::Global;
-use type_verifier::Verified;
 
 /// Loads the set of a class, links it and verifies it, stores its classes with tables of frames under the names by which they were
 /// loaded, and writes how many they are.
@@ -57,8 +53,7 @@ fn framed_set(alloc: Global, named: &NamedClass, set: NamedSet) -> Result<Vec<St
     ensures makes { Makes (λ check. AreFilesOfSet named.now set (deeds_of check)) result }
 {
     let (names, loaded) = apart(alloc, set);
-    let verified = accept_loaded(alloc, named, loaded)?;
-    let framed = with_tables(alloc, verified)?;
+    let framed = framed_loaded(alloc, named, loaded)?;
     Ok(write_classes(alloc, names.as_slice(), &framed)?)
 }
 
@@ -76,20 +71,5 @@ fn apart(alloc: Global, set: NamedSet) -> (Sequence<Name>, Loaded)
             )
         }
         NamedSet::Classes(members) => (members.names, Loaded::Classes(members.classes)),
-    }
-}
-
-/// Verified classes with their tables. What they were linked to is let go, before files are made.
-fn with_tables(alloc: Global, verified: Verified) -> Result<Vec<FramedClass>, Ending>
-    ensures makes { Makes (λ check. IsFramedTo verified.linked.classes (framed_of check)) result }
-    ensures writable { IfOk result (λ framed. All IsWritable framed.items) }
-{
-    match framing::frames(alloc, &verified) {
-        Ok(framed) => Ok(framed),
-        Err(FrameError::Refused(fault)) => Err(Ending::Refused(Done::FrameRefused(fault))),
-        Err(FrameError::TooLarge { class, bytes }) => {
-            Err(Ending::Refused(Done::FramesTooLarge { class, bytes }))
-        }
-        Err(FrameError::NoMemory) => Err(Ending::Stopped(Stop::NoMemory)),
     }
 }

@@ -6,6 +6,7 @@ mod checking;
 mod framed_sets;
 mod stored_class;
 mod storing;
+mod tabling;
 mod writing;
 
 pub use checking::check;

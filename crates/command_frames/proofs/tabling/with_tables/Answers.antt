@@ -1,6 +1,6 @@
 use Rattle.std.proofs.Common.{refl}
 use Rattle.frame_maps.specs.declared.frame_error.FrameError.TheVariants.{Refused, TooLarge}
-use Rattle.command_frames.proofs.framed_sets.with_tables.Goals as goal
+use Rattle.command_frames.proofs.tabling.with_tables.Goals as goal
 
 pub returns-in-Err-Refused : goal.returns-in-Err-Refused
 returns-in-Err-Refused c = record {
