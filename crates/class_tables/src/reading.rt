@@ -6,64 +6,76 @@ use anyhow::{Context, Result, bail};
 use class_reader::read_class;
 use class_writer::write_class;
 use constant_pool::{Entry, read_pool, text_of};
-use jvm_code::{Class, Line, decode_ops, encode_ops};
-use std::alloc::Global;
+use jvm_code::{Class, Line, Method, decode_ops, encode_ops};
+use std::alloc::{AllocError, Global};
 use std::fmt::Write;
-use table_rows::{Files, bytes_of, hex_of};
+use table_rows::{Files, bytes_of, hex_of, rest, slot, word};
 
-/// The slots of a pool that begins at a place, and where it ends.
-pub fn pool_row(alloc: Global, place: usize, pieces: &str) -> Result<String> {
-    let bytes = bytes_of(alloc, pieces)?;
-    let (entries, end) = entries_of(alloc, bytes.as_slice(), place)?;
-    let mut text = String::new(alloc);
-    for entry in entries.as_slice() {
-        push_entry(&mut text, entry)?;
-    }
-    write!(text, "ends {end}")?;
-    Ok(text)
-}
-
-fn entries_of(alloc: Global, bytes: &[u8], place: usize) -> Result<(Vec<Entry>, usize)> {
-    match read_pool(alloc, bytes, place) {
-        Ok(found) => Ok(found),
+/// The slots of a pool that begins at a place, and where it ends: `pool PLACE BYTES`.
+pub fn pool_row(alloc: Global, text: &mut String, row: &str) -> Result<()> {
+    let bytes = bytes_of(alloc, rest(row, 2))?;
+    match read_pool(alloc, bytes.as_slice(), slot(row, 1).into()) {
+        Ok((entries, end)) => push_entries(text, entries.as_slice(), end)?,
         Err(error) => bail!("{error:?}"),
-    }
-}
-
-/// Shows what stands in a slot.
-pub fn push_entry(text: &mut String, entry: &Entry) -> Result<()> {
-    match entry {
-        Entry::Utf8(characters) => {
-            text.push_str("text")?;
-            for character in characters.as_slice() {
-                write!(text, " {character:X}")?;
-            }
-            text.push_str("; ")?;
-        }
-        Entry::Integer(number) => write!(text, "int {number}; ")?,
-        Entry::Long(number) => write!(text, "long {number}; ")?,
-        Entry::LongRest => text.push_str("rest; ")?,
-        Entry::ClassName(name) => write!(text, "class {name}; ")?,
-        Entry::Text(name) => write!(text, "string {name}; ")?,
-        Entry::FieldRef(class, pair) => write!(text, "field {class} {pair}; ")?,
-        Entry::MethodRef(class, pair) => write!(text, "method {class} {pair}; ")?,
-        Entry::NameAnd(name, kind) => write!(text, "pair {name} {kind}; ")?,
     }
     Ok(())
 }
 
+fn push_entries(text: &mut String, entries: &[Entry], end: usize) -> Result<(), AllocError> {
+    for entry in entries {
+        push_entry(text, entry)?;
+    }
+    write!(text, "ends {end}")
+}
+
+/// Shows what stands in a slot.
+pub fn push_entry(text: &mut String, entry: &Entry) -> Result<(), AllocError> {
+    match entry {
+        Entry::Utf8(characters) => push_text(text, characters.as_slice()),
+        Entry::Integer(number) => write!(text, "int {number}; "),
+        Entry::Long(number) => write!(text, "long {number}; "),
+        Entry::LongRest => text.push_str("rest; "),
+        Entry::ClassName(name) => push_one(text, "class", *name),
+        Entry::Text(name) => push_one(text, "string", *name),
+        Entry::FieldRef(class, pair) => push_pair(text, "field", *class, *pair),
+        Entry::MethodRef(class, pair) => push_pair(text, "method", *class, *pair),
+        Entry::NameAnd(name, kind) => push_pair(text, "pair", *name, *kind),
+    }
+}
+
+fn push_text(text: &mut String, characters: &[u16]) -> Result<(), AllocError> {
+    text.push_str("text")?;
+    for character in characters {
+        write!(text, " {character:X}")?;
+    }
+    text.push_str("; ")
+}
+
+fn push_one(text: &mut String, name: &str, slot: u16) -> Result<(), AllocError> {
+    write!(text, "{name} {slot}; ")
+}
+
+fn push_pair(text: &mut String, name: &str, one: u16, other: u16) -> Result<(), AllocError> {
+    write!(text, "{name} {one} {other}; ")
+}
+
 /// What a class has, and whether it is written again as it stands, with its code.
-pub fn class_row(alloc: Global, files: &Files, name: &str) -> Result<String> {
+pub fn read_row(alloc: Global, text: &mut String, files: &Files, name: &str) -> Result<()> {
     let file = files.get(alloc, name)?;
     let class = class_of(alloc, file.as_slice())?;
+    push_class(text, &class)?;
     let same = is_again(alloc, &class, file.as_slice())?;
+    let code = is_code_again(alloc, class.methods.as_slice())?;
+    write!(text, "again {same}, code {code}")?;
+    Ok(())
+}
+
+fn push_class(text: &mut String, class: &Class) -> Result<(), AllocError> {
     let (this, super_class) = (class.this_class, class.super_class);
     let (slots, fields) = (class.pool.as_slice().len(), class.fields.as_slice().len());
     let methods = class.methods.as_slice().len();
-    let code = is_code_again(alloc, &class)?;
-    Ok(format!(in alloc;
-        "this {this}, super {super_class}, {slots} slots, {fields} fields, {methods} methods; again {same}, code {code}"
-    )?)
+    write!(text, "this {this}, super {super_class}, {slots} slots, ")?;
+    write!(text, "{fields} fields, {methods} methods; ")
 }
 
 fn is_again(alloc: Global, class: &Class, file: &[u8]) -> Result<bool>
@@ -86,14 +98,18 @@ pub fn class_of(alloc: Global, file: &[u8]) -> Result<Class>
 }
 
 /// Whether the code of each method is made again of its instructions.
-fn is_code_again(alloc: Global, class: &Class) -> Result<bool> {
+fn is_code_again(alloc: Global, methods: &[Method]) -> Result<bool> {
     let mut same = true;
-    for method in class.methods.as_slice() {
-        let code = method.code.as_slice();
-        let (_lines, again) = code_again(alloc, code)?;
-        same = same && again.as_slice() == code;
+    for method in methods {
+        let again = is_same_again(alloc, method.code.as_slice())?;
+        same = same && again;
     }
     Ok(same)
+}
+
+fn is_same_again(alloc: Global, code: &[u8]) -> Result<bool> {
+    let (_lines, again) = code_again(alloc, code)?;
+    Ok(again.as_slice() == code)
 }
 
 /// The instructions of code, and the bytes that they are made to again.
@@ -108,44 +124,52 @@ fn code_again(alloc: Global, code: &[u8]) -> Result<(Vec<Line>, Vec<u8>)> {
 }
 
 /// The parts of a class's first method.
-pub fn method_row(alloc: Global, files: &Files, name: &str) -> Result<String> {
+pub fn method_row(alloc: Global, text: &mut String, files: &Files, name: &str) -> Result<()> {
     let file = files.get(alloc, name)?;
     let class = class_of(alloc, file.as_slice())?;
-    let it = class
-        .methods
-        .as_slice()
-        .first()
-        .context("there is no method")?;
-    let (name, desc, attr) = (it.name, it.desc, it.attr);
-    let (stack, locals) = (it.stack, it.locals);
-    let code = hex_of(alloc, it.code.as_slice())?;
-    Ok(format!(in alloc;
-        "slots {name} {desc} {attr}, stack {stack}, locals {locals}, code {code}"
-    )?)
+    let first = class.methods.as_slice().first();
+    push_method(alloc, text, first.context("there is no method")?)
 }
 
-/// The characters of the text in a slot.
-pub fn text_row(alloc: Global, files: &Files, name: &str, slot: u16) -> Result<String> {
-    let file = files.get(alloc, name)?;
+fn push_method(alloc: Global, text: &mut String, it: &Method) -> Result<()> {
+    let (name, desc, attr) = (it.name, it.desc, it.attr);
+    write!(text, "slots {name} {desc} {attr}, ")?;
+    let (stack, locals) = (it.stack, it.locals);
+    let code = hex_of(alloc, it.code.as_slice())?;
+    write!(text, "stack {stack}, locals {locals}, code {code}")?;
+    Ok(())
+}
+
+/// The characters of the text in a slot: `string FILE SLOT`.
+pub fn string_row(alloc: Global, text: &mut String, files: &Files, row: &str) -> Result<()> {
+    let file = files.get(alloc, word(row, 1))?;
     let class = class_of(alloc, file.as_slice())?;
-    let characters = text_of(class.pool.as_slice(), slot).context("the slot has no text")?;
-    let mut text = String::new(alloc);
+    let characters = text_of(class.pool.as_slice(), slot(row, 2));
+    push_characters(text, characters.context("the slot has no text")?)?;
+    Ok(())
+}
+
+fn push_characters(text: &mut String, characters: &[u16]) -> Result<(), AllocError> {
     for character in characters {
         write!(text, "{character:X} ")?;
     }
-    Ok(text)
+    Ok(())
 }
 
 /// The places of instructions, and whether these are the same bytes again.
-pub fn code_row(alloc: Global, pieces: &str) -> Result<String> {
+pub fn code_row(alloc: Global, text: &mut String, pieces: &str) -> Result<()> {
     let code = bytes_of(alloc, pieces)?;
     let (lines, again) = code_again(alloc, code.as_slice())?;
-    let mut text = String::new(alloc);
-    for line in lines.as_slice() {
+    push_places(text, lines.as_slice())?;
+    let same = again.as_slice() == code.as_slice();
+    write!(text, "again {same}")?;
+    Ok(())
+}
+
+fn push_places(text: &mut String, lines: &[Line]) -> Result<(), AllocError> {
+    for line in lines {
         let at = line.at;
         write!(text, "{at} ")?;
     }
-    let same = again.as_slice() == code.as_slice();
-    write!(text, "again {same}")?;
-    Ok(text)
+    Ok(())
 }

@@ -8,36 +8,51 @@ use class_set::{Loaded, load_set};
 use constant_pool::class_name_of;
 use jvm_code::Class;
 use jvm_link::{LinkError, Linked, link};
-use jvm_program::{Instruction, Kind, LinkedMethod};
+use jvm_program::{Instruction, Kind, LinkedLine, LinkedMethod};
 use nv_outside::{MemShelf, ShelfError};
-use std::alloc::Global;
+use std::alloc::{AllocError, Global};
 use std::fmt::Write;
-use table_rows::{Files, count, rest, slot};
+use table_rows::{Files, count, long_count, rest, slot};
 
-/// What loading the set of `Main` comes to, from files `NAME=FILE`, where a call of the shelf fails, counted from 1; 0: none.
-pub fn set_row(alloc: Global, files: &Files, fails: u64, named: &str) -> Result<String> {
-    let mut shelf = MemShelf::new(alloc, [fails].to_vec(alloc)?);
-    for word in named.split(' ') {
-        let (name, file) = word.split_once('=').unwrap_or((word, ""));
-        shelf.add(name, files.get(alloc, file)?.as_slice())?;
+/// What loading the set of `Main` comes to, from files `NAME=FILE`, where a call of the shelf fails, counted from 1; 0: none: `set FAILS
+/// FILES`.
+pub fn set_row(alloc: Global, text: &mut String, files: &Files, row: &str) -> Result<()> {
+    let mut shelf = MemShelf::new(alloc, [long_count(row, 1)].to_vec(alloc)?);
+    for word in rest(row, 2).split(' ') {
+        add_file(alloc, &mut shelf, files, word)?;
     }
-    let mut text = String::new(alloc);
     match load(alloc, &mut shelf) {
-        Ok(Loaded::NoFile) => text.push_str("no file")?,
-        Ok(Loaded::Faulty { class, fault }) => write!(text, "class {class} {fault:?}")?,
-        Ok(Loaded::Classes(classes)) => {
-            for class in classes.as_slice() {
-                push_name(&mut text, class)?;
-            }
-        }
+        Ok(loaded) => push_loaded(text, &loaded)?,
         Err(ShelfError::Failed) => text.push_str("failed")?,
         Err(ShelfError::NoMemory) => text.push_str("no memory")?,
     }
-    Ok(text)
+    Ok(())
+}
+
+fn add_file(alloc: Global, shelf: &mut MemShelf, files: &Files, word: &str) -> Result<()> {
+    let (name, file) = word.split_once('=').unwrap_or((word, ""));
+    shelf.add(name, files.get(alloc, file)?.as_slice())?;
+    Ok(())
 }
 
 fn load(alloc: Global, shelf: &mut MemShelf) -> Result<Loaded, ShelfError> {
     load_set(alloc, shelf, "Main")
+}
+
+fn push_loaded(text: &mut String, loaded: &Loaded) -> Result<()> {
+    match loaded {
+        Loaded::NoFile => text.push_str("no file")?,
+        Loaded::Faulty { class, fault } => write!(text, "class {class} {fault:?}")?,
+        Loaded::Classes(classes) => push_names(text, classes.as_slice())?,
+    }
+    Ok(())
+}
+
+fn push_names(text: &mut String, classes: &[Class]) -> Result<()> {
+    for class in classes {
+        push_name(text, class)?;
+    }
+    Ok(())
 }
 
 fn push_name(text: &mut String, class: &Class) -> Result<()> {
@@ -54,14 +69,27 @@ fn classes_of(alloc: Global, files: &Files, names: &str) -> Result<Vec<Class>>
 {
     let mut classes = Vec::new(alloc);
     for name in names.split_whitespace() {
-        let file = files.get(alloc, name)?;
-        classes.push(class_of(alloc, file.as_slice())?)?;
+        classes.push(class_named(alloc, files, name)?)?;
     }
     Ok(classes)
 }
 
+fn class_named(alloc: Global, files: &Files, name: &str) -> Result<Class>
+    ensures { IfOk result IsClass }
+{
+    let file = files.get(alloc, name)?;
+    class_of(alloc, file.as_slice())
+}
+
 fn linked_of(alloc: Global, files: &Files, names: &str) -> Result<Linked> {
-    match link(alloc, classes_of(alloc, files, names)?) {
+    linked(alloc, classes_of(alloc, files, names)?)
+}
+
+/// The program of classes.
+pub fn linked(alloc: Global, classes: Vec<Class>) -> Result<Linked>
+    requires { All IsClass classes.items }
+{
+    match link(alloc, classes) {
         Ok(linked) => Ok(linked),
         Err(LinkError::Refused(fault)) => bail!("{fault:?}"),
         Err(LinkError::NoMemory) => bail!("there is not enough memory"),
@@ -69,52 +97,68 @@ fn linked_of(alloc: Global, files: &Files, names: &str) -> Result<Linked> {
 }
 
 /// Whether classes link that stand so many times: `link TIMES FILES`.
-pub fn link_row(alloc: Global, files: &Files, row: &str) -> Result<String> {
+pub fn link_row(alloc: Global, text: &mut String, files: &Files, row: &str) -> Result<()> {
     let named = rest(row, 2);
     let once = format!(in alloc; "{named} ")?;
     let all = once.as_str().repeat(alloc, count(row, 1) as usize)?;
     linked_of(alloc, files, all.as_str())?;
-    Ok(String::from_str(alloc, "linked")?)
-}
-
-/// What classes are that link: their counts, and what each instruction of each method names.
-pub fn linked_row(alloc: Global, files: &Files, named: &str) -> Result<String> {
-    let linked = linked_of(alloc, files, named)?;
-    let (first, classes) = (linked.first, linked.classes.as_slice().len());
-    let (fields, methods) = (linked.fields.as_slice().len(), linked.methods.as_slice());
-    let count = methods.len();
-    let mut text = format!(in alloc;
-        "first {first}, {classes} classes, {fields} fields, {count} methods; "
-    )?;
-    for method in methods {
-        push_named(&mut text, method)?;
-    }
-    Ok(text)
-}
-
-fn push_named(text: &mut String, method: &LinkedMethod) -> Result<()> {
-    for line in method.lines.as_slice() {
-        match &line.instruction {
-            Instruction::Get(field, Kind::Int) => write!(text, "gets int {field}, ")?,
-            Instruction::Call(method) => write!(text, "calls {method}, ")?,
-            _ => text.push_str("other, ")?,
-        }
-    }
-    text.push_str("end; ")?;
+    text.push_str("linked")?;
     Ok(())
 }
 
+/// What classes are that link: their counts, and what each instruction of each method names.
+pub fn linked_row(alloc: Global, text: &mut String, files: &Files, named: &str) -> Result<()> {
+    let linked = linked_of(alloc, files, named)?;
+    push_counts(text, &linked)?;
+    for method in linked.methods.as_slice() {
+        push_method(text, method)?;
+    }
+    Ok(())
+}
+
+fn push_counts(text: &mut String, linked: &Linked) -> Result<(), AllocError> {
+    let (first, classes) = (linked.first, linked.classes.as_slice().len());
+    write!(text, "first {first}, {classes} classes, ")?;
+    let fields = linked.fields.as_slice().len();
+    let methods = linked.methods.as_slice().len();
+    write!(text, "{fields} fields, {methods} methods; ")
+}
+
+fn push_method(text: &mut String, method: &LinkedMethod) -> Result<(), AllocError> {
+    for line in method.lines.as_slice() {
+        push_named(text, line)?;
+    }
+    text.push_str("end; ")
+}
+
+fn push_named(text: &mut String, line: &LinkedLine) -> Result<(), AllocError> {
+    match &line.instruction {
+        Instruction::Get(field, Kind::Int) => write!(text, "gets int {field}, "),
+        Instruction::Call(method) => write!(text, "calls {method}, "),
+        _ => text.push_str("other, "),
+    }
+}
+
 /// How many characters the text in a slot of a class has, and which: `characters CLASS SLOT FILES`.
-pub fn characters_row(alloc: Global, files: &Files, row: &str) -> Result<String> {
-    let (class, slot) = (slot(row, 1), slot(row, 2));
+pub fn characters_row(alloc: Global, text: &mut String, files: &Files, row: &str) -> Result<()> {
     let linked = linked_of(alloc, files, rest(row, 3))?;
+    push_characters(text, &linked, slot(row, 1), slot(row, 2))?;
+    Ok(())
+}
+
+fn push_characters(
+    text: &mut String,
+    linked: &Linked,
+    class: u16,
+    slot: u16,
+) -> Result<(), AllocError> {
     let count = linked.characters_len(class, slot);
-    let mut text = format!(in alloc; "{count}:")?;
+    write!(text, "{count}:")?;
     for i in 0..100 {
         match linked.character(class, slot, i) {
             Some(character) => write!(text, " {character}")?,
             None => break,
         }
     }
-    Ok(text)
+    Ok(())
 }

@@ -1,28 +1,36 @@
 //! Methods made by hand, with their verdicts.
-use anyhow::{Result, bail};
+use anyhow::{Context, Result};
 use jvm_names::{
     ArrayName, BranchName, IntArithmetic, Kept, ReturnName, Sequence, StackName, TableSwitch,
 };
 use jvm_program::{ArrayKind, Constant, Instruction, Kind, LinkedLine, LinkedMethod, LocalKind};
 use std::alloc::{AllocError, Global};
+use std::fmt::Write;
 use table_rows::{rest, slot, word};
 use type_inference::check_method;
 
 /// Whether a method is typed, or where not: `verdict KINDS STACK LOCALS INSTRUCTIONS`. The kinds of its parameters have commas between
 /// them, or are `none`. An instruction is `NAME`, `NAME:NUMBER` or that with `/BYTES`, where it has more than one; `COUNT*` before it stands
 /// for so many.
-pub fn verdict_row(alloc: Global, row: &str) -> Result<String> {
+pub fn verdict_row(alloc: Global, text: &mut String, row: &str) -> Result<()> {
+    let kinds = kinds_of(alloc, word(row, 1))?;
+    let lines = lines_of(alloc, rest(row, 4))?;
     let method = LinkedMethod {
-        parameters: Sequence::new(kinds_of(alloc, word(row, 1))?),
+        parameters: Sequence::new(kinds),
         gives_int: false,
         stack: slot(row, 2),
         locals: slot(row, 3),
-        lines: Sequence::new(lines_of(alloc, rest(row, 4))?),
+        lines: Sequence::new(lines),
     };
-    Ok(match verdict(alloc, method)? {
-        Some(at) => format!(in alloc; "at {at}")?,
-        None => String::from_str(alloc, "typed")?,
-    })
+    push_verdict(text, verdict(alloc, method)?)?;
+    Ok(())
+}
+
+fn push_verdict(text: &mut String, found: Option<u32>) -> Result<(), AllocError> {
+    match found {
+        Some(at) => write!(text, "at {at}"),
+        None => text.push_str("typed"),
+    }
 }
 
 fn verdict(alloc: Global, method: LinkedMethod) -> Result<Option<u32>, AllocError> {
@@ -30,7 +38,7 @@ fn verdict(alloc: Global, method: LinkedMethod) -> Result<Option<u32>, AllocErro
     check_method(alloc, methods.as_slice(), 0)
 }
 
-fn kinds_of(alloc: Global, names: &str) -> Result<Vec<Kind>> {
+fn kinds_of(alloc: Global, names: &str) -> Result<Vec<Kind>, AllocError> {
     let mut kinds = Vec::new(alloc);
     for name in names.split(',') {
         if let Some(kind) = kind_of(name) {
@@ -63,15 +71,31 @@ fn push_lines(alloc: Global, lines: &mut Vec<LinkedLine>, piece: &str) -> Result
     let (word, bytes) = one.split_once('/').unwrap_or((one, "1"));
     let (count, bytes) = (number(count), number(bytes));
     for _ in 0..count {
-        let at = lines.last().map_or(0, |line| line.next);
-        let instruction = instruction_of(alloc, word)?;
-        lines.push(LinkedLine {
-            at,
-            next: at.saturating_add(bytes),
-            instruction,
-        })?;
+        push_line(lines, instruction_of(alloc, word)?, bytes)?;
     }
     Ok(())
+}
+
+/// Adds an instruction of so many bytes behind the last one.
+fn push_line(
+    lines: &mut Vec<LinkedLine>,
+    instruction: Instruction,
+    bytes: u32,
+) -> Result<(), AllocError> {
+    let at = end_of(lines.as_slice());
+    lines.push(LinkedLine {
+        at,
+        next: at.saturating_add(bytes),
+        instruction,
+    })?;
+    Ok(())
+}
+
+fn end_of(lines: &[LinkedLine]) -> u32 {
+    match lines.last() {
+        Some(line) => line.next,
+        None => 0,
+    }
 }
 
 fn number(digits: &str) -> u32 {
@@ -81,35 +105,55 @@ fn number(digits: &str) -> u32 {
 fn instruction_of(alloc: Global, word: &str) -> Result<Instruction> {
     let (name, number) = word.split_once(':').unwrap_or((word, "0"));
     let number = number.parse::<u32>().unwrap_or(0);
+    if name == "switch" {
+        return Ok(switch_of(alloc, number)?);
+    }
+    match plain(name) {
+        Some(found) => Ok(found),
+        None => numbered(name, number).context("no instruction"),
+    }
+}
+
+/// The instruction of a name that has no number.
+fn plain(name: &str) -> Option<Instruction> {
+    match name {
+        "nop" => Some(Instruction::Nop),
+        "int" => Some(Instruction::Push(Constant::Int(0))),
+        "long" => Some(Instruction::Push(Constant::Long(0))),
+        "null" => Some(Instruction::Push(Constant::Null)),
+        "iaload" => Some(Instruction::Array(ArrayName::Iaload)),
+        "aaload" => Some(Instruction::Array(ArrayName::Aaload)),
+        "pop" => Some(Instruction::Stack(StackName::Pop)),
+        "pop2" => Some(Instruction::Stack(StackName::Pop2)),
+        "dup2" => Some(Instruction::Stack(StackName::Dup2)),
+        "iadd" => Some(Instruction::IntArithmetic(IntArithmetic::Iadd)),
+        "length" => Some(Instruction::Length),
+        "arraylength" => Some(Instruction::ArrayLength),
+        "newarray" => Some(Instruction::NewArray(ArrayKind::Ints)),
+        "return" => Some(Instruction::Return(ReturnName::Return)),
+        _ => None,
+    }
+}
+
+/// The instruction of a name with a local variable or a target.
+fn numbered(name: &str, number: u32) -> Option<Instruction> {
     let local = u8::try_from(number).unwrap_or(0);
-    Ok(match name {
-        "nop" => Instruction::Nop,
-        "int" => Instruction::Push(Constant::Int(0)),
-        "long" => Instruction::Push(Constant::Long(0)),
-        "null" => Instruction::Push(Constant::Null),
-        "iload" => Instruction::Load(LocalKind::Int, local),
-        "aload" => Instruction::Load(LocalKind::Reference, local),
-        "astore" => Instruction::Store(LocalKind::Reference, local),
-        "iaload" => Instruction::Array(ArrayName::Iaload),
-        "aaload" => Instruction::Array(ArrayName::Aaload),
-        "pop" => Instruction::Stack(StackName::Pop),
-        "pop2" => Instruction::Stack(StackName::Pop2),
-        "dup2" => Instruction::Stack(StackName::Dup2),
-        "iadd" => Instruction::IntArithmetic(IntArithmetic::Iadd),
-        "ifeq" => Instruction::Branch(BranchName::Ifeq, number),
-        "goto" => Instruction::Branch(BranchName::Goto, number),
-        "switch" => {
-            let switch = TableSwitch {
-                default: 2,
-                low: 0,
-                targets: Sequence::new(vec![in alloc; number]?),
-            };
-            Instruction::TableSwitch(Kept::new(alloc, switch)?)
-        }
-        "length" => Instruction::Length,
-        "arraylength" => Instruction::ArrayLength,
-        "newarray" => Instruction::NewArray(ArrayKind::Ints),
-        "return" => Instruction::Return(ReturnName::Return),
-        _ => bail!("{word} is no instruction"),
-    })
+    match name {
+        "iload" => Some(Instruction::Load(LocalKind::Int, local)),
+        "aload" => Some(Instruction::Load(LocalKind::Reference, local)),
+        "astore" => Some(Instruction::Store(LocalKind::Reference, local)),
+        "ifeq" => Some(Instruction::Branch(BranchName::Ifeq, number)),
+        "goto" => Some(Instruction::Branch(BranchName::Goto, number)),
+        _ => None,
+    }
+}
+
+/// A switch of one target.
+fn switch_of(alloc: Global, target: u32) -> Result<Instruction, AllocError> {
+    let switch = TableSwitch {
+        default: 2,
+        low: 0,
+        targets: Sequence::new(vec![in alloc; target]?),
+    };
+    Ok(Instruction::TableSwitch(Kept::new(alloc, switch)?))
 }
