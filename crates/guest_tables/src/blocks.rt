@@ -1,5 +1,5 @@
 //! The units and the basic blocks of code at 00400000.
-ghost use Rattle.std.specs.Prelude.{◌≡◌, ◌≤◌, not, IfOk, length};
+ghost use Rattle.std.specs.Prelude.{◌≡◌, ◌≤◌, ◌<◌, ◌+◌, not, true, IfOk, length};
 ghost use Rattle.std.specs.List.{list_all};
 ghost use Rattle.mips_decode.specs.Table.{is_float};
 ghost use Rattle.block_builder.specs.Blocks.{AreUnits};
@@ -7,8 +7,8 @@ ghost use Rattle.block_builder.specs.Blocks.{AreUnits};
 use anyhow::{Context, Result, ensure};
 use block_builder::{Block, blocks, direct, part};
 use delay_slots::{Unit, units};
-use mips_decode::{is_float, print_inst};
-use std::alloc::Global;
+use mips_decode::{Inst, is_float, print_inst};
+use std::alloc::{AllocError, Global};
 use std::fmt::Write;
 use table_rows::words_of;
 
@@ -21,14 +21,18 @@ fn units_of(alloc: Global, pieces: &str) -> Result<Vec<Unit>>
     ensures few { IfOk result (λ units. length units.items ≤ 1024) }
 {
     let words = words_of(alloc, pieces)?;
-    ensure!(0 < words.len(), "some words are wanted");
-    ensure!(
-        has_no_float(words.as_slice()),
-        "there is a floating-point word"
-    );
+    ensure!(is_lawful(words.as_slice()), "these are no words of blocks");
     let units = units(alloc, words.as_slice())?;
     ensure!(units.len() <= 1024, "there are too many words");
     Ok(units)
+}
+
+/// Whether there are words, and none is of the floating-point coprocessor.
+fn is_lawful(words: &[u32]) -> bool
+    ensures some { result ≡ true → 0 < length words.now }
+    ensures no_float { result ≡ true → list_all (λ word. not (is_float word)) words.now ≡ true }
+{
+    0 < words.len() && has_no_float(words)
 }
 
 fn has_no_float(words: &[u32]) -> bool
@@ -38,99 +42,129 @@ fn has_no_float(words: &[u32]) -> bool
 }
 
 /// The units as texts.
-pub fn units_row(alloc: Global, pieces: &str) -> Result<String> {
-    let mut text = String::new(alloc);
-    let mut at = START;
-    for unit in units_of(alloc, pieces)? {
-        let shown = shown_unit(alloc, &unit, at)?;
-        write!(text, "{shown}; ")?;
-        at = at.wrapping_add(4);
-    }
-    Ok(text)
+pub fn units_row(alloc: Global, text: &mut String, pieces: &str) -> Result<()> {
+    let units = units_of(alloc, pieces)?;
+    push_units(alloc, text, units.as_slice())?;
+    Ok(())
 }
 
-fn shown_unit(alloc: Global, unit: &Unit, at: u32) -> Result<String> {
-    let after = at.wrapping_add(4);
-    Ok(match *unit {
-        Unit::Plain(inst) => print_inst(alloc, &inst, at)?,
-        Unit::Branch { inst, slot } => {
-            let (inst, slot) = (
-                print_inst(alloc, &inst, at)?,
-                print_inst(alloc, &slot, after)?,
-            );
-            format!(in alloc; "{inst} / {slot}")?
-        }
+fn push_units(alloc: Global, text: &mut String, units: &[Unit]) -> Result<(), AllocError> {
+    let mut at = START;
+    for unit in units {
+        push_unit(alloc, text, unit, at)?;
+        text.push_str("; ")?;
+        at = at.wrapping_add(4);
+    }
+    Ok(())
+}
+
+fn push_unit(alloc: Global, text: &mut String, unit: &Unit, at: u32) -> Result<(), AllocError> {
+    match unit {
+        Unit::Plain(inst) => push_inst(alloc, text, inst, at),
+        Unit::Branch { inst, slot } => push_branch(alloc, text, inst, slot, at),
         Unit::SlotMissing(inst) => {
-            let inst = print_inst(alloc, &inst, at)?;
-            format!(in alloc; "{inst} / no slot")?
+            push_inst(alloc, text, inst, at)?;
+            text.push_str(" / no slot")
         }
         Unit::SlotIsBranch { inst, word } => {
-            let inst = print_inst(alloc, &inst, at)?;
-            format!(in alloc; "{inst} / branch {word:08X}")?
+            push_inst(alloc, text, inst, at)?;
+            write!(text, " / branch {word:08X}")
         }
-        Unit::Call => String::from_str(alloc, "call")?,
-        Unit::Trap { kind, value } => format!(in alloc; "trap {kind} {value:X}")?,
-    })
+        Unit::Call => text.push_str("call"),
+        Unit::Trap { kind, value } => write!(text, "trap {kind} {value:X}"),
+    }
+}
+
+fn push_branch(
+    alloc: Global,
+    text: &mut String,
+    inst: &Inst,
+    slot: &Inst,
+    at: u32,
+) -> Result<(), AllocError> {
+    push_inst(alloc, text, inst, at)?;
+    text.push_str(" / ")?;
+    push_inst(alloc, text, slot, at.wrapping_add(4))
+}
+
+fn push_inst(alloc: Global, text: &mut String, inst: &Inst, at: u32) -> Result<(), AllocError> {
+    let shown = print_inst(alloc, inst, at)?;
+    text.push_str(shown.as_str())
 }
 
 /// The blocks, each as `FIRST+WORDS` with the registers that it reads and writes.
-pub fn blocks_row(alloc: Global, pieces: &str) -> Result<String> {
+pub fn blocks_row(alloc: Global, text: &mut String, pieces: &str) -> Result<()> {
     let units = units_of(alloc, pieces)?;
-    let mut text = String::new(alloc);
-    for block in blocks(alloc, units.as_slice(), START)? {
-        push_block(&mut text, &block)?;
+    let found = blocks(alloc, units.as_slice(), START)?;
+    push_blocks(text, found.as_slice())?;
+    Ok(())
+}
+
+fn push_blocks(text: &mut String, blocks: &[Block]) -> Result<(), AllocError> {
+    for block in blocks {
+        push_block(text, block)?;
     }
-    Ok(text)
+    Ok(())
 }
 
 /// So many words of the first block, from one on.
-pub fn part_row(alloc: Global, first: u32, words: u32, pieces: &str) -> Result<String> {
+pub fn part_row(
+    alloc: Global,
+    text: &mut String,
+    first: u32,
+    words: u32,
+    pieces: &str,
+) -> Result<()> {
     let units = units_of(alloc, pieces)?;
     let found = blocks(alloc, units.as_slice(), START)?;
-    ensure!(0 < found.len(), "there is no block");
-    let whole = found[0];
-    let end = u64::from(first) + u64::from(words);
+    let whole = found.first().context("there is no block")?;
     ensure!(
-        whole.first <= first && end <= u64::from(whole.first) + u64::from(whole.words),
+        has_words(whole, first, words),
         "the block has no such words"
     );
-    let mut text = String::new(alloc);
-    push_block(&mut text, &part(units.as_slice(), &whole, first, words))?;
-    Ok(text)
+    push_block(text, &part(units.as_slice(), whole, first, words))?;
+    Ok(())
+}
+
+fn has_words(whole: &Block, first: u32, words: u32) -> bool
+    ensures begins { result ≡ true → whole.now.first ≤ first }
+    ensures ends { result ≡ true → first + words ≤ whole.now.first + whole.now.words }
+{
+    let end = u64::from(first) + u64::from(words);
+    whole.first <= first && end <= u64::from(whole.first) + u64::from(whole.words)
 }
 
 /// Where the first unit goes, if its instruction says so.
-pub fn target_row(alloc: Global, pieces: &str) -> Result<String> {
+pub fn target_row(alloc: Global, text: &mut String, pieces: &str) -> Result<()> {
     let units = units_of(alloc, pieces)?;
     let first = units.first().context("there is no unit")?;
-    Ok(match direct(first, START) {
-        Some(target) => format!(in alloc; "{target:08X}")?,
-        None => String::from_str(alloc, "none")?,
-    })
+    push_target(text, direct(first, START))?;
+    Ok(())
 }
 
-fn push_block(text: &mut String, block: &Block) -> Result<()> {
+fn push_target(text: &mut String, target: Option<u32>) -> Result<(), AllocError> {
+    match target {
+        Some(target) => write!(text, "{target:08X}"),
+        None => text.push_str("none"),
+    }
+}
+
+fn push_block(text: &mut String, block: &Block) -> Result<(), AllocError> {
     let (first, words) = (block.first, block.words);
     write!(text, "{first}+{words} reads")?;
     push_registers(text, block.reads)?;
     text.push_str(" writes")?;
     push_registers(text, block.writes)?;
-    text.push_str("; ")?;
-    Ok(())
+    text.push_str("; ")
 }
 
 /// The numbers of the registers of a set, `hi` and `lo`.
-fn push_registers(text: &mut String, set: u64) -> Result<()> {
+fn push_registers(text: &mut String, set: u64) -> Result<(), AllocError> {
     for number in 0u32..32 {
         if set >> number & 1 == 1 {
             write!(text, " ${number}")?;
         }
     }
-    if set >> 32 & 1 == 1 {
-        text.push_str(" hi")?;
-    }
-    if set >> 33 & 1 == 1 {
-        text.push_str(" lo")?;
-    }
-    Ok(())
+    text.push_str(if set >> 32 & 1 == 1 { " hi" } else { "" })?;
+    text.push_str(if set >> 33 & 1 == 1 { " lo" } else { "" })
 }

@@ -8,23 +8,18 @@ use table_rows::{bytes_of, count, repeated, word};
 use unix_calls::{Unix, UnixError};
 
 /// A file on a disk of so many blocks, and whether it is found by its name: `file BLOCKS NAME BYTES NAME`.
-pub fn file_row(alloc: Global, row: &str) -> Result<String> {
-    let bytes = bytes_of(alloc, word(row, 3))?;
-    let mut text = String::new(alloc);
-    push_file(alloc, &mut text, row, bytes.as_slice())?;
-    Ok(text)
-}
-
-fn push_file(alloc: Global, text: &mut String, row: &str, bytes: &[u8]) -> Result<()> {
+pub fn disk_file_row(alloc: Global, text: &mut String, row: &str) -> Result<()> {
     let (blocks, name) = (count(row, 1), word(row, 2));
     ensure!(
         blocks <= 65_536 && name.len() <= 255,
         "no lawful disk or name"
     );
-    let (unix, added) = with_file(alloc, blocks, name, bytes)?;
+    let bytes = bytes_of(alloc, word(row, 3))?;
+    let (unix, added) = with_file(alloc, blocks, name, bytes.as_slice())?;
     push_added(text, added)?;
-    push_found(alloc, text, &unix, name, bytes)?;
-    push_found(alloc, text, &unix, word(row, 4), bytes)
+    push_found(alloc, text, &unix, name, bytes.as_slice())?;
+    push_found(alloc, text, &unix, word(row, 4), bytes.as_slice())?;
+    Ok(())
 }
 
 fn with_file(
@@ -47,36 +42,33 @@ fn push_found(
     unix: &Unix,
     name: &str,
     bytes: &[u8],
-) -> Result<()> {
+) -> Result<(), AllocError> {
     match unix.file(alloc, name.as_bytes())? {
         Some(found) => {
             let (length, same) = (found.len(), found.as_slice() == bytes);
-            write!(text, "{length} bytes, the same {same}; ")?
+            write!(text, "{length} bytes, the same {same}; ")
         }
-        None => text.push_str("none; ")?,
+        None => text.push_str("none; "),
     }
-    Ok(())
 }
 
-fn push_added(text: &mut String, added: Result<(), UnixError>) -> Result<()> {
+fn push_added(text: &mut String, added: Result<(), UnixError>) -> Result<(), AllocError> {
     match added {
-        Ok(()) => text.push_str("added; ")?,
-        Err(UnixError::FilesTooLarge(blocks)) => write!(text, "too large: {blocks} blocks; ")?,
-        Err(UnixError::ArgsTooLong(bytes)) => write!(text, "too long: {bytes} bytes; ")?,
-        Err(_) => text.push_str("no memory; ")?,
+        Ok(()) => text.push_str("added; "),
+        Err(UnixError::FilesTooLarge(blocks)) => write!(text, "too large: {blocks} blocks; "),
+        Err(UnixError::ArgsTooLong(bytes)) => write!(text, "too long: {bytes} bytes; "),
+        Err(_) => text.push_str("no memory; "),
     }
-    Ok(())
 }
 
 /// Arguments, one after the other; one such as `4078*a` stands for so many letters.
-pub fn arguments_row(alloc: Global, texts: &str) -> Result<String> {
+pub fn arguments_row(alloc: Global, text: &mut String, texts: &str) -> Result<()> {
     let mut unix = Unix::new(alloc, 0, 0)?;
-    let mut text = String::new(alloc);
     for argument in texts.split_whitespace() {
         let argument = repeated(alloc, argument)?;
-        push_added(&mut text, give(&mut unix, argument.as_str()))?;
+        push_added(text, give(&mut unix, argument.as_str()))?;
     }
-    Ok(text)
+    Ok(())
 }
 
 /// Gives an argument.

@@ -1,11 +1,12 @@
 //! A system with a memory of 8,192 bytes that may all be written, an input, two outputs and a shelf.
 use crate::given_files::give;
-use crate::std_streams::{got_text, written};
+use crate::std_streams::{push_got, push_written};
 use anyhow::{Context, Result, bail, ensure};
 use guest_memory::GuestMemory;
 use nv_events::{Call, IoFault, View};
 use nv_outside::{MemShelf, MemSink, MemSource, Shelf, ShelfError, Sink, Source};
-use std::alloc::Global;
+use std::alloc::{AllocError, Global};
+use std::fmt::Write;
 use table_rows::{count, hex_of, long_count, rest, word};
 use unix_calls::Unix;
 
@@ -37,29 +38,28 @@ impl Session {
 
     /// The answer to a row: `call NUMBER A0 A1 A2`, `name NUMBER`, `output`, `byte ADDRESS`; without the system, `read COUNT` of input and
     /// `write TEXT` to output; and of the shelf `add NAME TEXT`, `store NAME TEXT`, `load NAME` and `get NAME`.
-    pub fn answer(&mut self, alloc: Global, row: &str) -> Result<String> {
+    pub fn push_answer(&mut self, alloc: Global, text: &mut String, row: &str) -> Result<()> {
         match word(row, 0) {
-            "call" => self.call(
-                alloc,
-                count(row, 1),
-                value(row, 2),
-                value(row, 3),
-                value(row, 4),
-            ),
-            "name" => self.name(alloc, count(row, 1)),
-            "output" => hex_of(alloc, self.out.bytes()),
-            "byte" => self.byte(alloc, value(row, 1)),
-            "read" => self.read(alloc, count(row, 1)),
-            "write" => written(alloc, self.out.write(letters(word(row, 1)).as_bytes())),
-            "add" => self.add(alloc, word(row, 1), word(row, 2)),
-            "store" => self.store(alloc, word(row, 1), word(row, 2)),
-            "load" => self.load(alloc, word(row, 1)),
-            "get" => shown(alloc, self.shelf.get(word(row, 1))),
+            "call" => Ok(self.push_call(text, row)?),
+            "name" => Ok(self.push_name(text, count(row, 1))?),
+            "output" => push_hex(alloc, text, self.out.bytes()),
+            "byte" => self.push_byte(text, value(row, 1)),
+            "read" => self.push_read(alloc, text, count(row, 1)),
+            "write" => Ok(self.push_write(text, letters(word(row, 1)))?),
+            "add" => self.push_add(text, word(row, 1), word(row, 2)),
+            "store" => self.push_store(text, word(row, 1), word(row, 2)),
+            "load" => self.push_load(alloc, text, word(row, 1)),
+            "get" => self.push_file(alloc, text, word(row, 1)),
             _ => bail!("no such row"),
         }
     }
 
-    fn call(&mut self, alloc: Global, number: u32, a0: u32, a1: u32, a2: u32) -> Result<String> {
+    fn push_call(&mut self, text: &mut String, row: &str) -> Result<(), AllocError> {
+        let (a0, a1, a2) = (value(row, 2), value(row, 3), value(row, 4));
+        push_value(text, self.serve(count(row, 1), a0, a1, a2))
+    }
+
+    fn serve(&mut self, number: u32, a0: u32, a1: u32, a2: u32) -> Result<i32, IoFault> {
         let call = Call {
             number,
             a0,
@@ -67,76 +67,87 @@ impl Session {
             a2,
             a3: 0,
         };
-        match self.serve(&call) {
-            Ok(value) => Ok(format!(in alloc; "{value}")?),
-            Err(IoFault::ReadFault) => Ok(String::from_str(alloc, "read fault")?),
-            Err(IoFault::WriteFault) => Ok(String::from_str(alloc, "write fault")?),
-        }
-    }
-
-    fn serve(&mut self, call: &Call) -> Result<i32, IoFault> {
         let (source, out, err) = (&mut self.source, &mut self.out, &mut self.err);
-        self.unix.serve(call, &mut self.memory, source, out, err)
+        self.unix.serve(&call, &mut self.memory, source, out, err)
     }
 
     /// Opens a new file of a name by its number, 0 to 255, and closes it.
-    fn name(&mut self, alloc: Global, number: u32) -> Result<String> {
+    fn push_name(&mut self, text: &mut String, number: u32) -> Result<(), AllocError> {
         let number = u8::try_from(number).unwrap_or(0);
         let _first = self.memory.put(4096, 1 + number / 16);
         let _second = self.memory.put(4097, 1 + number % 16);
-        let opened = self.call(alloc, 2, 4096, 0x200, 0)?;
-        let closed = self.call(alloc, 3, 3, 0, 0)?;
-        Ok(format!(in alloc; "{opened}, {closed}")?)
+        push_value(text, self.serve(2, 4096, 0x200, 0))?;
+        text.push_str(", ")?;
+        push_value(text, self.serve(3, 3, 0, 0))
     }
 
-    fn byte(&self, alloc: Global, at: u32) -> Result<String> {
+    fn push_byte(&self, text: &mut String, at: u32) -> Result<()> {
         let byte = self.memory.byte(at).context("no such byte")?;
-        Ok(format!(in alloc; "{byte}")?)
+        write!(text, "{byte}")?;
+        Ok(())
     }
 
     /// What a read of at most three bytes gives, with the bytes of a buffer of three.
-    fn read(&mut self, alloc: Global, count: u32) -> Result<String> {
+    fn push_read(&mut self, alloc: Global, text: &mut String, count: u32) -> Result<()> {
         let mut buffer = [0u8; 3];
-        let count = match buffer.get_mut(..count as usize) {
-            Some(part) => self.source.read(part),
-            None => bail!("there is no such room"),
-        };
-        got_text(alloc, count, &buffer)
+        let part = buffer
+            .get_mut(..count as usize)
+            .context("there is no such room")?;
+        let count = self.source.read(part);
+        push_got(alloc, text, count, &buffer)
     }
 
-    fn add(&mut self, alloc: Global, name: &str, text: &str) -> Result<String> {
-        self.shelf.add(name, text.as_bytes())?;
-        shown(alloc, None)
+    fn push_write(&mut self, text: &mut String, letters: &str) -> Result<(), AllocError> {
+        push_written(text, self.out.write(letters.as_bytes()))
     }
 
-    fn store(&mut self, alloc: Global, name: &str, text: &str) -> Result<String> {
-        match self.shelf.store(name, text.as_bytes()) {
-            Ok(()) => shown(alloc, None),
+    fn push_add(&mut self, text: &mut String, name: &str, bytes: &str) -> Result<()> {
+        self.shelf.add(name, bytes.as_bytes())?;
+        text.push('-')?;
+        Ok(())
+    }
+
+    fn push_store(&mut self, text: &mut String, name: &str, bytes: &str) -> Result<()> {
+        match self.shelf.store(name, bytes.as_bytes()) {
+            Ok(()) => text.push('-')?,
             Err(ShelfError::Failed) => bail!("failed"),
             Err(ShelfError::NoMemory) => bail!("no memory"),
         }
+        Ok(())
     }
 
-    fn load(&mut self, alloc: Global, name: &str) -> Result<String> {
+    fn push_load(&mut self, alloc: Global, text: &mut String, name: &str) -> Result<()> {
         match self.shelf.load(alloc, name) {
-            Ok(Some(bytes)) => hex_of(alloc, bytes.as_slice()),
-            Ok(None) => shown(alloc, None),
+            Ok(Some(bytes)) => push_hex(alloc, text, bytes.as_slice())?,
+            Ok(None) => text.push('-')?,
             Err(ShelfError::Failed) => bail!("failed"),
             Err(ShelfError::NoMemory) => bail!("no memory"),
         }
+        Ok(())
+    }
+
+    /// The bytes of a file as digits, or `-` where there are none.
+    fn push_file(&self, alloc: Global, text: &mut String, name: &str) -> Result<()> {
+        let bytes = self.shelf.get(name).unwrap_or(&[]);
+        if bytes.is_empty() {
+            text.push('-')?;
+        }
+        push_hex(alloc, text, bytes)
     }
 }
 
-/// Bytes as digits, or `-` where there are none.
-fn shown(alloc: Global, bytes: Option<&[u8]>) -> Result<String> {
-    hex_or(alloc, bytes.unwrap_or(&[]))
+fn push_value(text: &mut String, answer: Result<i32, IoFault>) -> Result<(), AllocError> {
+    match answer {
+        Ok(value) => write!(text, "{value}"),
+        Err(IoFault::ReadFault) => text.push_str("read fault"),
+        Err(IoFault::WriteFault) => text.push_str("write fault"),
+    }
 }
 
-fn hex_or(alloc: Global, bytes: &[u8]) -> Result<String> {
-    if bytes.is_empty() {
-        return Ok(String::from_str(alloc, "-")?);
-    }
-    hex_of(alloc, bytes)
+fn push_hex(alloc: Global, text: &mut String, bytes: &[u8]) -> Result<()> {
+    let digits = hex_of(alloc, bytes)?;
+    text.push_str(digits.as_str())?;
+    Ok(())
 }
 
 /// The letters of a word; `-` has none.

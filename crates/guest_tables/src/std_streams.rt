@@ -1,41 +1,54 @@
 //! Streams over std.
 use anyhow::Result;
 use nv_outside::{Failed, Sink, Source, StdSink, StdSource};
-use std::alloc::Global;
+use std::alloc::{AllocError, Global};
+use std::fmt::Write;
 use table_rows::{hex_of, word};
 
 /// A read of two bytes over a reader of std, and two writes to a writer of std with room for two: `BYTES TEXT TEXT`.
-pub fn std_row(alloc: Global, row: &str) -> Result<String> {
-    let mut source = StdSource::new(word(row, 0).as_bytes());
-    let got = got(alloc, &mut source)?;
-    let mut room = [0u8; 2];
-    let mut sink = StdSink::new(room.as_mut_slice());
-    let first = written(alloc, sink.write(word(row, 1).as_bytes()))?;
-    let second = written(alloc, sink.write(word(row, 2).as_bytes()))?;
-    Ok(format!(in alloc; "{got}; {first}; {second}")?)
+pub fn std_row(alloc: Global, text: &mut String, row: &str) -> Result<()> {
+    push_std_read(alloc, text, word(row, 1))?;
+    push_std_writes(text, word(row, 2), word(row, 3))?;
+    Ok(())
 }
 
-fn got<S: Source>(alloc: Global, source: &mut S) -> Result<String> {
+fn push_std_read(alloc: Global, text: &mut String, bytes: &str) -> Result<()> {
+    let mut source = StdSource::new(bytes.as_bytes());
     let mut buffer = [0u8; 3];
     let count = source.read(&mut buffer[..2]);
-    got_text(alloc, count, &buffer)
+    push_got(alloc, text, count, &buffer)
+}
+
+fn push_std_writes(text: &mut String, first: &str, second: &str) -> Result<(), AllocError> {
+    let mut room = [0u8; 2];
+    let mut sink = StdSink::new(room.as_mut_slice());
+    text.push_str("; ")?;
+    push_written(text, sink.write(first.as_bytes()))?;
+    text.push_str("; ")?;
+    push_written(text, sink.write(second.as_bytes()))
 }
 
 /// What a read came to, and the bytes of its buffer then.
-pub fn got_text(alloc: Global, count: Result<usize, Failed>, buffer: &[u8]) -> Result<String> {
+pub fn push_got(
+    alloc: Global,
+    text: &mut String,
+    count: Result<usize, Failed>,
+    buffer: &[u8],
+) -> Result<()> {
     match count {
         Ok(count) => {
             let digits = hex_of(alloc, buffer)?;
-            Ok(format!(in alloc; "{count} {digits}")?)
+            write!(text, "{count} {digits}")?
         }
-        Err(Failed) => Ok(String::from_str(alloc, "failed")?),
+        Err(Failed) => text.push_str("failed")?,
     }
+    Ok(())
 }
 
 /// What a write came to.
-pub fn written(alloc: Global, count: Result<usize, Failed>) -> Result<String> {
+pub fn push_written(text: &mut String, count: Result<usize, Failed>) -> Result<(), AllocError> {
     match count {
-        Ok(count) => Ok(format!(in alloc; "{count}")?),
-        Err(Failed) => Ok(String::from_str(alloc, "failed")?),
+        Ok(count) => write!(text, "{count}"),
+        Err(Failed) => text.push_str("failed"),
     }
 }
