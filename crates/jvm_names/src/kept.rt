@@ -30,11 +30,4 @@ impl<T: Drop> Kept<T> {
     {
         &self.value
     }
-
-    /// The value, off the heap.
-    pub fn into_value(self) -> T
-        ensures { result ≡ self }
-    {
-        Box::into_inner(self.value)
-    }
 }
