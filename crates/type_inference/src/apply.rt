@@ -250,10 +250,40 @@ fn with_local(
     if is_same(local_at(locals.as_slice(), index), kind) {
         return locals.shared();
     }
-    let mut kinds = Vec::from_slice(alloc, locals.as_slice())?;
+    let kinds = with_kind(alloc, locals.as_slice(), index, kind)?;
+    SharedKinds::new(alloc, kinds)
+}
+
+// The types with another one at an index.
+fn with_kind(
+    alloc: Global,
+    locals: &[Kind],
+    index: usize,
+    kind: Kind,
+) -> Result<Vec<Kind>, AllocError>
+    requires { index < 2 ^ 8 }
+    ensures kinds { IfOk result (λ v. (i : ℕ) → slice_index_or v.items i kinds.Top
+        ≡ (if i == index then kind else slice_index_or locals.now i kinds.Top)) }
+    ensures sized { IfOk result (λ v. (n : ℕ) → length locals.now ≤ n → index < n
+        → length v.items ≤ n) }
+{
+    let mut kinds = padded(alloc, locals, index)?;
+    kinds[index] = kind;
+    Ok(kinds)
+}
+
+// The types, and behind them `Top` as far as an index.
+fn padded(alloc: Global, locals: &[Kind], index: usize) -> Result<Vec<Kind>, AllocError>
+    requires { index < 2 ^ 8 }
+    ensures kinds { IfOk result (λ v. (i : ℕ) → slice_index_or v.items i kinds.Top
+        ≡ slice_index_or locals.now i kinds.Top) }
+    ensures room { IfOk result (λ v. index < length v.items) }
+    ensures sized { IfOk result (λ v. (n : ℕ) → length locals.now ≤ n → index < n
+        → length v.items ≤ n) }
+{
+    let mut kinds = Vec::from_slice(alloc, locals)?;
     while kinds.len() <= index {
         kinds.push(Kind::Top)?;
     }
-    kinds[index] = kind;
-    SharedKinds::new(alloc, kinds)
+    Ok(kinds)
 }

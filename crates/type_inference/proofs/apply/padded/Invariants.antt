@@ -1,6 +1,6 @@
 use Rattle.std.proofs.Common.{◌≡◌, ℕ, suc, ◌-◌, ◌<◌, ◌≤◌, length, get_or}
 use Rattle.jvm_program.specs.declared.kind.Kind.TheVariants.{Top}
-use Rattle.type_inference.proofs.apply.with_local.Given as goal
+use Rattle.type_inference.proofs.apply.padded.Given as goal
 
 abbrev pub invariant-loop-kinds : goal.invariant-loop-kinds
 invariant-loop-kinds l =
