@@ -193,42 +193,8 @@ impl ClassBuilder {
     }
 
     /// Puts a method behind the others, with at most 16 operands and so many local variables. Its code is made of the steps, as
-    /// [`method_code`](code_assembly::method_code) makes it.
-    ///
-    /// # Errors
-    /// Full. Unlawful where the name or the descriptor is none of a method of the class itself, where the steps are not the code of a
-    /// method ([`is_code`](code_assembly::is_code)), or where a text that they push does not stand in its slot. NoMemory. After each,
-    /// entries may stand in the pool behind what was there.
-    pub fn add_method(
-        &mut self,
-        alloc: Global,
-        name: &str,
-        descriptor: &str,
-        locals: u16,
-        code: &[Step],
-        references: &References,
-    ) -> Result<(), BuildError>
-        ensures added { OnOk result
-            (AddsMethod self.old self.new name.now descriptor.now locals references.now
-            code.now) }
-        ensures err { OnErr result (GrowsPool self.old self.new (2 + slots_of code.now)) }
-        ensures full { result ≡ Err Full → (65535 ≤ length self.old.methods)
-            ⊎ LacksRoom self.old.pool (2 + slots_of code.now) (name.now ∷ descriptor.now ∷ []) }
-        ensures unlawful { result ≡ Err Unlawful
-            → ((is_member_name name.now && is_own_descriptor descriptor.now)
-            && is_code references.now self.old.pool code.now) ≡ false }
-    {
-        if MAX_MEMBERS <= self.methods.len() {
-            return Err(BuildError::Full);
-        }
-        if !self.pool.has_code(alloc, code, references)? {
-            return Err(BuildError::Unlawful);
-        }
-        self.put_method(alloc, name, descriptor, locals, code, references)
-    }
-
-    /// Puts a method behind the others as `add_method` does, where the steps are known to be the code of a method, each text that they
-    /// push stands in its slot, and there are less than 65,535 methods.
+    /// [`method_code`](code_assembly::method_code) makes it. They are known to be the code of a method
+    /// ([`is_code`](code_assembly::is_code)), each text that they push stands in its slot, and there are less than 65,535 methods.
     ///
     /// # Errors
     /// Full, Unlawful where the name or the descriptor is none of a method of the class itself, NoMemory. After each, entries may stand

@@ -8,18 +8,17 @@ ghost use Rattle.jvm_code.specs.Code.{code_fault};
 ghost use Rattle.jvm_link.specs.Linking.{lines_of};
 ghost use Rattle.code_assembly.specs.Assembling.{slots_of, AreLinked};
 ghost use Rattle.class_builder.specs.Named.{IsTextAt};
-ghost use Rattle.class_builder.specs.Lawful.{has_class, has_text};
-ghost use Rattle.class_builder.specs.Code.{has_texts, has_its_text, is_code};
+ghost use Rattle.class_builder.specs.Lawful.{has_class};
+ghost use Rattle.class_builder.specs.Code.{is_code};
 ghost use Rattle.class_builder.specs.Sound.{kind_of, MayJoin};
 ghost use Rattle.class_builder.specs.Mentioned.{Mentions, mentioned, mentions_in};
 ghost use Rattle.class_builder.specs.Built.{Grows, LacksRoom, is_long_text};
 
 use crate::slot_kind::SlotKind;
-use code_assembly::{References, is_code, method_code};
+use code_assembly::{References, method_code};
 use code_steps::Step;
 use constant_pool::{Entry, NoMemory, Pool, PoolError, text_size};
 use jvm_names::Sequence;
-use jvm_program::{Constant, Instruction};
 use std::alloc::Global;
 use std::marker::Model;
 
@@ -75,13 +74,6 @@ impl SoundPool {
         matches!(self.kind(slot), SlotKind::Class)
     }
 
-    /// Whether a text stands in a slot.
-    pub fn has_text(&self, slot: u16) -> bool
-        ensures { result ≡ has_text self.now slot }
-    {
-        matches!(self.kind(slot), SlotKind::Text)
-    }
-
     /// The slot of an entry, which is put behind the others where it is not among them.
     pub fn add(&mut self, entry: Entry) -> Result<u16, PoolError>
         requires { MayJoin self.old entry }
@@ -108,40 +100,6 @@ impl SoundPool {
             return Err(PoolError::Full);
         }
         self.add(Entry::Utf8(Sequence::new(characters)))
-    }
-
-    /// Whether steps can be the code of a method, and each text that they push stands in its slot.
-    pub fn has_code(
-        &self,
-        alloc: Global,
-        code: &[Step],
-        references: &References,
-    ) -> Result<bool, NoMemory>
-        ensures { IfOk result (λ b. b ≡ is_code references.now self.now code.now) }
-    {
-        Ok(is_code(alloc, code, references)? && self.has_texts(code))
-    }
-
-    fn has_texts(&self, code: &[Step]) -> bool
-        ensures { result ≡ has_texts self.now code.now }
-    {
-        let mut rest = code;
-        while let Some((step, others)) = rest.split_first() {
-            if !self.has_its_text(step) {
-                return false;
-            }
-            rest = others;
-        }
-        true
-    }
-
-    fn has_its_text(&self, step: &Step) -> bool
-        ensures { result ≡ has_its_text self.now step.now }
-    {
-        match step {
-            Step::Does(Instruction::Push(Constant::Text(_, slot))) => self.has_text(*slot),
-            _ => true,
-        }
     }
 
     /// The bytes of the code of a method, whose constants are put behind the entries.
