@@ -31,14 +31,12 @@ impl<'a> Names<'a> {
         requires once { twice_fault [] 0 (classes_in numbered.classes.items) ≡ None }
         ensures { IfOk result (λ names. names.numbered ≡ numbered.entry) }
     {
-        let class_names = class_names_of(alloc, numbered.classes.as_slice())?;
-        let fields = Members::new(alloc, field_keys_of(alloc, numbered.classes.as_slice())?)?;
-        let methods = Members::new(alloc, method_keys_of(alloc, numbered.classes.as_slice())?)?;
+        let found = found_in(alloc, numbered.classes.as_slice())?;
         Ok(Names {
             numbered,
-            class_names,
-            fields,
-            methods,
+            class_names: found.class_names,
+            fields: found.fields,
+            methods: found.methods,
         })
     }
 
@@ -64,6 +62,47 @@ impl<'a> Names<'a> {
     {
         self.methods.number(&class.key(owner, name))
     }
+}
+
+/// What is found by numbers in classes.
+#[derive(Drop)]
+struct Found {
+    class_names: IndexSet<usize>,
+    fields: Members,
+    methods: Members,
+}
+
+fn found_in(alloc: Global, classes: &[NumberedClass]) -> Result<Found, NoMemory>
+    requires { length classes.now ≤ 1024 }
+    ensures names { IfOk result (λ found. (n : ℕ) → list_any (nat_eq n) found.class_names.keys
+        ≡ list_any (nat_eq n) (map own_number classes.now)) }
+    ensures fields { IfOk result (λ found. found.fields ≡ flat_map field_keys classes.now) }
+    ensures methods { IfOk result (λ found. found.methods ≡ flat_map method_keys classes.now) }
+{
+    let class_names = class_names_of(alloc, classes)?;
+    let fields = fields_of(alloc, classes)?;
+    let methods = methods_of(alloc, classes)?;
+    Ok(Found {
+        class_names,
+        fields,
+        methods,
+    })
+}
+
+fn fields_of(alloc: Global, classes: &[NumberedClass]) -> Result<Members, NoMemory>
+    requires { length classes.now ≤ 1024 }
+    ensures { IfOk result (λ fields. fields ≡ flat_map field_keys classes.now) }
+{
+    let keys = field_keys_of(alloc, classes)?;
+    Members::new(alloc, keys)
+}
+
+fn methods_of(alloc: Global, classes: &[NumberedClass]) -> Result<Members, NoMemory>
+    requires { length classes.now ≤ 1024 }
+    ensures { IfOk result (λ methods. methods ≡ flat_map method_keys classes.now) }
+{
+    let keys = method_keys_of(alloc, classes)?;
+    Members::new(alloc, keys)
 }
 
 fn class_names_of(alloc: Global, classes: &[NumberedClass]) -> Result<IndexSet<usize>, NoMemory>
