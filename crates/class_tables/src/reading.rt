@@ -3,9 +3,9 @@ ghost use Rattle.std.specs.Prelude.{IfOk};
 ghost use Rattle.name_resolution.specs.Kept.{IsClass};
 
 use anyhow::{Context, Result, bail};
-use class_reader::read_class;
+use class_reader::{read_class, read_class_51};
 use class_writer::write_class;
-use constant_pool::{Entry, read_pool, text_of};
+use constant_pool::{Entry, ReadError, read_pool, text_of};
 use jvm_code::{Class, Line, Method, decode_ops, encode_ops};
 use std::alloc::{AllocError, Global};
 use std::fmt::Write;
@@ -85,6 +85,25 @@ fn is_again(alloc: Global, class: &Class, file: &[u8]) -> Result<bool>
         Ok(again) => Ok(again.as_slice() == file),
         Err(error) => bail!("{error:?}"),
     }
+}
+
+/// Whether a file is a class of version 51.0, or else the first field at fault.
+pub fn framed_row(alloc: Global, text: &mut String, files: &Files, name: &str) -> Result<()> {
+    let file = files.get(alloc, name)?;
+    push_framed(alloc, text, file.as_slice())?;
+    Ok(())
+}
+
+fn push_framed(alloc: Global, text: &mut String, file: &[u8]) -> Result<(), AllocError> {
+    match read_class_51(alloc, file) {
+        Ok(_) => text.push_str("a class"),
+        Err(ReadError::Refused(fault)) => push_fault(text, fault.kind, fault.at),
+        Err(ReadError::NoMemory) => Err(AllocError),
+    }
+}
+
+fn push_fault(text: &mut String, kind: u32, at: u32) -> Result<(), AllocError> {
+    write!(text, "kind {kind} at {at}")
 }
 
 /// A class of a file.

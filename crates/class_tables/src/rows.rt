@@ -1,6 +1,6 @@
 //! The rows of the table.
 use crate::emitted::{added_row, assembled_row};
-use crate::reading::{code_row, method_row, pool_row, read_row, string_row};
+use crate::reading::{code_row, framed_row, method_row, pool_row, read_row, string_row};
 use crate::runs::run_row;
 use crate::sets::{characters_row, link_row, linked_row, set_row};
 use crate::spans::cut_row;
@@ -25,6 +25,7 @@ fn push_answer(alloc: Global, text: &mut String, files: &Files, row: &str) -> Re
     match word(row, 0) {
         "pool" => pool_row(alloc, text, row),
         "read" => read_row(alloc, text, files, word(row, 1)),
+        "framed" => framed_row(alloc, text, files, word(row, 1)),
         "method" => method_row(alloc, text, files, word(row, 1)),
         "string" => string_row(alloc, text, files, row),
         "code" => code_row(alloc, text, rest(row, 1)),
