@@ -1,12 +1,14 @@
 //! Calls of the program, and what stands around them.
+use crate::alike::push_done;
+use crate::folder::{contents, push_hex};
 use crate::shelf::shelf_of;
 use anyhow::Result;
 use nested_cli::{Done, nested};
-use nv_outside::{MemShelf, MemSink, MemSource};
-use std::alloc::Global;
+use nv_outside::{MemShelf, MemSink, MemSource, Shelf};
+use std::alloc::{AllocError, Global};
 use std::fmt::Write;
 use std::str;
-use table_rows::{Files, hex_of, repeated};
+use table_rows::{Files, repeated};
 
 /// Files that commands store, in order.
 const STORED: [&str; 3] = ["Main.class", "Main_0.class", "Main_D0.class"];
@@ -14,7 +16,7 @@ const STORED: [&str; 3] = ["Main.class", "Main_0.class", "Main_D0.class"];
 /// The parts of the outside that a call is given.
 #[derive(Drop)]
 pub struct Outside {
-    pub shelf: MemShelf,
+    shelf: MemShelf,
     input: MemSource,
     out: MemSink,
     err: MemSink,
@@ -22,15 +24,20 @@ pub struct Outside {
 
 impl Outside {
     /// What words say of the outside: `NAME=FILE` for a file, `shelf:N`, `in:N`, `out:N` and `err:N` for failing calls, counted from 1,
-    /// `room:N` for the room of output, `typed:TEXT` for input, with `\n` for an end of line, and `chain:N` for classes that name each other.
-    /// Where a word comes twice, the first counts.
+    /// `room:N` for the room of output, `typed:TEXT` for input, with `\n` for an end of line, `from:NAME` for input from a file of the
+    /// folder, and `chain:N` for classes that name each other. Where a word comes twice, the first counts.
     ///
     /// # Errors
     /// Where a word is none of these.
-    pub fn new(alloc: Global, files: &Files, words: &str) -> Result<Outside> {
+    pub fn new<H: Shelf>(
+        alloc: Global,
+        files: &Files,
+        folder: &mut H,
+        words: &str,
+    ) -> Result<Outside> {
         Ok(Outside {
-            shelf: shelf_of(alloc, files, words)?,
-            input: input_of(alloc, words)?,
+            shelf: shelf_of(alloc, files, folder, words)?,
+            input: input_of(alloc, folder, words)?,
             out: sink_of(alloc, number(words, "room:", 200), number(words, "out:", 0))?,
             err: sink_of(alloc, 100, number(words, "err:", 0))?,
         })
@@ -47,51 +54,106 @@ impl Outside {
         Ok(nested(alloc, words.as_slice(), 0, shelf, input, out, err))
     }
 
-    /// An answer, with what output and error output took, the classes that are there, and the bytes of the file `f`.
+    /// Calls the program, and shows its answer, with what output and error output took, the classes that are there, and the bytes of the
+    /// file `f`.
     ///
     /// # Errors
-    /// Where a text is none.
-    pub fn shown(&self, alloc: Global, done: Done) -> Result<String> {
-        let mut text = format!(in alloc; "{done:?}")?;
-        push_taken(&mut text, "out", self.out.bytes())?;
-        push_taken(&mut text, "err", self.err.bytes())?;
-        self.push_files(alloc, &mut text)?;
-        Ok(text)
+    /// Want of memory.
+    pub fn push_call(&mut self, alloc: Global, text: &mut String, words: &str) -> Result<()> {
+        let done = self.call(alloc, words)?;
+        write!(text, "{done:?}")?;
+        self.push_streams(text)?;
+        self.push_classes(text)?;
+        self.push_f(alloc, text)
     }
 
-    fn push_files(&self, alloc: Global, text: &mut String) -> Result<()> {
+    /// Calls the program, and shows its answer; or `keep:NAME,NAME`, which takes all other files away.
+    ///
+    /// # Errors
+    /// Want of memory.
+    pub fn push_next(&mut self, alloc: Global, text: &mut String, words: &str) -> Result<()> {
+        match words.strip_prefix("keep:") {
+            Some(names) => self.shelf = kept(alloc, &self.shelf, names)?,
+            None => push_done(text, &self.call(alloc, words)?)?,
+        }
+        Ok(())
+    }
+
+    /// Calls the program, and shows the status of its answer.
+    ///
+    /// # Errors
+    /// Want of memory.
+    pub fn push_status(&mut self, alloc: Global, text: &mut String, words: &str) -> Result<()> {
+        let status = self.call(alloc, words)?.status();
+        let between = if text.is_empty() { "" } else { " " };
+        write!(text, "{between}{status}")?;
+        Ok(())
+    }
+
+    /// What output and error output took.
+    ///
+    /// # Errors
+    /// Want of memory.
+    pub fn push_streams(&self, text: &mut String) -> Result<(), AllocError> {
+        push_taken(text, "out", self.out.bytes())?;
+        push_taken(text, "err", self.err.bytes())
+    }
+
+    fn push_classes(&self, text: &mut String) -> Result<(), AllocError> {
         for name in STORED {
             if self.shelf.get(name).is_some() {
                 write!(text, ", {name}")?;
             }
         }
+        Ok(())
+    }
+
+    fn push_f(&self, alloc: Global, text: &mut String) -> Result<()> {
         if let Some(bytes) = self.shelf.get("f") {
-            let digits = hex_of(alloc, bytes)?;
-            write!(text, ", f {digits}")?;
+            text.push_str(", f ")?;
+            push_hex(alloc, text, bytes)?;
         }
         Ok(())
     }
 }
 
-fn push_taken(text: &mut String, name: &str, bytes: &[u8]) -> Result<()> {
-    if !bytes.is_empty() {
-        let taken = str::from_utf8(bytes)?;
-        write!(text, ", {name} {taken:?}")?;
+fn push_taken(text: &mut String, name: &str, bytes: &[u8]) -> Result<(), AllocError> {
+    if bytes.is_empty() {
+        return Ok(());
     }
-    Ok(())
+    match str::from_utf8(bytes) {
+        Ok(taken) => write!(text, ", {name} {taken:?}"),
+        Err(_) => write!(text, ", {name} is no text"),
+    }
 }
 
-fn input_of(alloc: Global, words: &str) -> Result<MemSource> {
-    let typed = said(words, "typed:")
-        .unwrap_or("")
-        .replace(alloc, "\\n", "\n")?;
-    let fails = [number(words, "in:", 0)].to_vec(alloc)?;
-    Ok(MemSource::new(typed.as_bytes().to_vec(alloc)?, fails))
+/// A shelf with these files of another one alone.
+fn kept(alloc: Global, shelf: &MemShelf, names: &str) -> Result<MemShelf, AllocError> {
+    let mut other = MemShelf::new(alloc, Vec::new(alloc));
+    for name in names.split(',') {
+        if let Some(bytes) = shelf.get(name) {
+            other.add(name, bytes)?;
+        }
+    }
+    Ok(other)
 }
 
-fn sink_of(alloc: Global, room: u64, fails: u64) -> Result<MemSink> {
+fn input_of<H: Shelf>(alloc: Global, folder: &mut H, words: &str) -> Result<MemSource> {
+    let bytes = match said(words, "from:") {
+        Some(name) => contents(alloc, folder, name)?,
+        None => typed(alloc, said(words, "typed:").unwrap_or(""))?,
+    };
+    Ok(MemSource::new(bytes, [number(words, "in:", 0)].to_vec(alloc)?))
+}
+
+fn typed(alloc: Global, text: &str) -> Result<Vec<u8>, AllocError> {
+    let typed = text.replace(alloc, "\\n", "\n")?;
+    typed.as_bytes().to_vec(alloc)
+}
+
+fn sink_of(alloc: Global, room: u64, fails: u64) -> Result<MemSink, AllocError> {
     let room = usize::try_from(room).unwrap_or(0);
-    Ok(MemSink::new(alloc, room, [fails].to_vec(alloc)?)?)
+    MemSink::new(alloc, room, [fails].to_vec(alloc)?)
 }
 
 /// What the first word with this name says.

@@ -1,106 +1,147 @@
 //! The rows of the table.
-use crate::alike::alike;
+use crate::alike::push_alike;
+use crate::folder::folder_row;
 use crate::outside::Outside;
 use crate::words::words_row;
 use anyhow::Result;
 use nested_cli::Done;
-use nv_outside::MemShelf;
-use std::alloc::Global;
+use nv_outside::Shelf;
+use std::alloc::{AllocError, Global};
 use std::fmt::Write;
 use table_rows::{Answers, Files, rest, word};
 
-/// What answers them: what stands around each call, beside what its row says.
+/// What answers them: what stands around each call, beside what its row says, and the folder in which files lie.
 #[derive(Drop)]
-pub struct Rows {
+pub struct Rows<H> {
     beside: String,
+    folder: H,
 }
 
-impl Rows {
-    /// Nothing.
-    pub fn new(alloc: Global) -> Rows {
+impl<H: Shelf> Rows<H> {
+    /// Nothing around a call.
+    pub fn new(alloc: Global, folder: H) -> Rows<H> {
         Rows {
             beside: String::new(alloc),
+            folder,
         }
     }
-}
 
-impl Answers for Rows {
-    fn answer(&mut self, alloc: Global, files: &Files, row: &str) -> Result<String> {
+    fn push_answer(
+        &mut self,
+        alloc: Global,
+        text: &mut String,
+        files: &Files,
+        row: &str,
+    ) -> Result<()> {
         match word(row, 0) {
-            "beside" => {
-                self.beside = String::from_str(alloc, rest(row, 1))?;
-                Ok(String::from_str(alloc, "set")?)
-            }
-            "command" => words_row(alloc, rest(row, 1)),
-            "status" => status_row(alloc, word(row, 1), word(row, 2).parse().unwrap_or(0)),
-            "alike" => {
-                let around = around(alloc, rest(row, 2), &self.beside)?;
-                alike_row(alloc, files, word(row, 1), around.as_str())
-            }
-            "then" => {
-                let around = around(alloc, rest(row, 2), &self.beside)?;
-                then_row(alloc, files, word(row, 1), around.as_str())
-            }
-            call => {
-                let around = around(alloc, rest(row, 1), &self.beside)?;
-                call_row(alloc, files, call, around.as_str())
-            }
+            "beside" => Ok(self.set(alloc, text, rest(row, 1))?),
+            "command" => words_row(alloc, text, rest(row, 1)),
+            "status" => Ok(status_row(text, row)?),
+            "folder" => folder_row(alloc, text, &mut self.folder, row),
+            _ => self.push_calls(alloc, text, files, row),
+        }
+    }
+
+    fn set(&mut self, alloc: Global, text: &mut String, words: &str) -> Result<(), AllocError> {
+        self.beside = String::from_str(alloc, words)?;
+        text.push_str("set")
+    }
+
+    fn push_calls(
+        &mut self,
+        alloc: Global,
+        text: &mut String,
+        files: &Files,
+        row: &str,
+    ) -> Result<()> {
+        let around = around(alloc, row, self.beside.as_str())?;
+        let (folder, around) = (&mut self.folder, around.as_str());
+        match word(row, 0) {
+            "alike" => alike_row(alloc, text, files, folder, word(row, 1), around),
+            "then" => then_row(alloc, text, files, folder, word(row, 1), around),
+            "over" => over_row(alloc, text, files, folder, word(row, 1), around),
+            call => Outside::new(alloc, files, folder, around)?.push_call(alloc, text, call),
         }
     }
 }
 
-fn around(alloc: Global, own: &str, beside: &String) -> Result<String> {
-    Ok(format!(in alloc; "{own} {beside}")?)
+impl<H: Shelf> Answers for Rows<H> {
+    fn answer(&mut self, alloc: Global, files: &Files, row: &str) -> Result<String> {
+        let mut text = String::new(alloc);
+        self.push_answer(alloc, &mut text, files, row)?;
+        Ok(text)
+    }
 }
 
-fn call_row(alloc: Global, files: &Files, call: &str, around: &str) -> Result<String> {
-    let mut outside = Outside::new(alloc, files, around)?;
-    let done = outside.call(alloc, call)?;
-    outside.shown(alloc, done)
+/// What stands around the calls of a row: what it says itself, and what stands beside it.
+fn around(alloc: Global, row: &str, beside: &str) -> Result<String, AllocError> {
+    let own = match word(row, 0) {
+        "alike" | "then" | "over" => rest(row, 2),
+        _ => rest(row, 1),
+    };
+    format!(in alloc; "{own} {beside}")
 }
 
-fn alike_row(alloc: Global, files: &Files, calls: &str, around: &str) -> Result<String> {
+/// Calls over the same outside each, with `/` between them.
+fn alike_row<H: Shelf>(
+    alloc: Global,
+    text: &mut String,
+    files: &Files,
+    folder: &mut H,
+    calls: &str,
+    around: &str,
+) -> Result<()> {
     let mut dones = Vec::new(alloc);
     for call in calls.split('/') {
-        let mut outside = Outside::new(alloc, files, around)?;
-        dones.push(outside.call(alloc, call)?)?;
+        dones.push(Outside::new(alloc, files, folder, around)?.call(alloc, call)?)?;
     }
-    alike(alloc, dones.as_slice())
+    push_alike(text, dones.as_slice())?;
+    Ok(())
 }
 
 /// Calls over one shelf, one after the other, with `/` between them; `keep:NAME,NAME` leaves these files alone.
-fn then_row(alloc: Global, files: &Files, calls: &str, around: &str) -> Result<String> {
-    let mut outside = Outside::new(alloc, files, around)?;
-    let mut text = String::new(alloc);
+fn then_row<H: Shelf>(
+    alloc: Global,
+    text: &mut String,
+    files: &Files,
+    folder: &mut H,
+    calls: &str,
+    around: &str,
+) -> Result<()> {
+    let mut outside = Outside::new(alloc, files, folder, around)?;
     for call in calls.split('/') {
-        match call.strip_prefix("keep:") {
-            Some(names) => outside.shelf = kept(alloc, &outside.shelf, names)?,
-            None => {
-                let done = outside.call(alloc, call)?;
-                write!(text, "{done:?}; ")?
-            }
-        }
+        outside.push_next(alloc, text, call)?;
     }
-    Ok(text)
+    Ok(())
 }
 
-fn kept(alloc: Global, shelf: &MemShelf, names: &str) -> Result<MemShelf> {
-    let mut other = MemShelf::new(alloc, Vec::new(alloc));
-    for name in names.split(',') {
-        if let Some(bytes) = shelf.get(name) {
-            other.add(name, bytes)?;
-        }
+/// Calls over one outside, one after the other: the statuses of their answers, and what they printed.
+fn over_row<H: Shelf>(
+    alloc: Global,
+    text: &mut String,
+    files: &Files,
+    folder: &mut H,
+    calls: &str,
+    around: &str,
+) -> Result<()> {
+    let mut outside = Outside::new(alloc, files, folder, around)?;
+    for call in calls.split('/') {
+        outside.push_status(alloc, text, call)?;
     }
-    Ok(other)
+    outside.push_streams(text)?;
+    Ok(())
 }
 
-/// The status of an answer.
-fn status_row(alloc: Global, what: &str, number: i32) -> Result<String> {
-    let done = match what {
-        "exited" => Done::Exited(number),
+/// The status of an answer: `status ANSWER NUMBER`.
+fn status_row(text: &mut String, row: &str) -> Result<(), AllocError> {
+    let status = done_of(row).status();
+    write!(text, "{status}")
+}
+
+fn done_of(row: &str) -> Done {
+    match word(row, 1) {
+        "exited" => Done::Exited(word(row, 2).parse().unwrap_or(0)),
         "memory" => Done::NoMemory,
         _ => Done::Good,
-    };
-    let status = done.status();
-    Ok(format!(in alloc; "{status}")?)
+    }
 }
