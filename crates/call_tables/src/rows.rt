@@ -1,6 +1,7 @@
 //! The rows of the table.
 use crate::alike::push_alike;
 use crate::folder::folder_row;
+use crate::linking::objects_row;
 use crate::outside::Outside;
 use crate::words::words_row;
 use anyhow::Result;
@@ -38,6 +39,7 @@ impl<H: Shelf> Rows<H> {
             "command" => words_row(alloc, text, rest(row, 1)),
             "status" => Ok(status_row(text, row)?),
             "folder" => folder_row(alloc, text, &mut self.folder, row),
+            "objects" => objects_row(alloc, text, &mut self.folder, row),
             _ => self.push_calls(alloc, text, files, row),
         }
     }

@@ -1,14 +1,16 @@
-//! The objects of a line.
-
-use anyhow::{Context, bail};
-use std::fs;
-use std::rt::Files;
+//! Objects of the folder.
+use crate::folder::contents;
+use anyhow::{Context, Result, bail};
+use nv_outside::Shelf;
+use std::alloc::Global;
 
 /// Reads an object of a word `NAME,CHANGE,..`: the file of that name with the changes.
-pub fn read_object<R: Files + AllocGlobal>(rt: &R, word: &str) -> anyhow::Result<Vec<u8>> {
+///
+/// # Errors
+/// Where there is no such file, or a change is none.
+pub fn object_of<H: Shelf>(alloc: Global, folder: &mut H, word: &str) -> Result<Vec<u8>> {
     let mut parts = word.split(',');
-    let name = parts.next().context("no name")?;
-    let mut file = fs::read(rt, name)?;
+    let mut file = contents(alloc, folder, parts.next().context("no name")?)?;
     for part in parts {
         change(&mut file, part)?;
     }
@@ -16,7 +18,7 @@ pub fn read_object<R: Files + AllocGlobal>(rt: &R, word: &str) -> anyhow::Result
 }
 
 /// Makes a change: `AT=HEX` puts bytes from an offset on, and `N` leaves the first bytes.
-fn change(file: &mut Vec<u8>, change: &str) -> anyhow::Result<()> {
+fn change(file: &mut Vec<u8>, change: &str) -> Result<()> {
     match change.split_once('=') {
         Some((at, digits)) => put(file.as_mut_slice(), at.parse::<usize>()?, digits),
         None => {
@@ -27,7 +29,7 @@ fn change(file: &mut Vec<u8>, change: &str) -> anyhow::Result<()> {
 }
 
 /// Puts bytes from an offset on, two digits each.
-fn put(file: &mut [u8], at: usize, digits: &str) -> anyhow::Result<()> {
+fn put(file: &mut [u8], at: usize, digits: &str) -> Result<()> {
     let Some(place) = file.get_mut(at..) else {
         bail!("no byte {at}");
     };

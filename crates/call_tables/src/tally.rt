@@ -1,4 +1,4 @@
-use crate::answer::Answer;
+use crate::linked::Answer;
 use md5::{Digest, Md5};
 use std::alloc::{AllocError, Global};
 use std::fmt::Write;
@@ -22,6 +22,15 @@ impl Tally {
 
     /// Counts an answer.
     pub fn add(&mut self, alloc: Global, answer: &Answer) -> Result<(), AllocError> {
+        self.count(answer);
+        let mut text = String::new(alloc);
+        answer.push_to(alloc, &mut text)?;
+        self.digest.update(text.as_bytes());
+        self.digest.update(b"\n".as_slice());
+        Ok(())
+    }
+
+    fn count(&mut self, answer: &Answer) {
         let kind = match answer {
             Answer::Refused(fault) => fault.kind,
             Answer::Program(_) | Answer::NoMemory | Answer::TooMuch => 0,
@@ -29,22 +38,23 @@ impl Tally {
         if let Some(count) = self.counts.get_mut(kind as usize) {
             *count = count.saturating_add(1);
         }
-        let text = answer.text(alloc)?;
-        self.digest.update(text.as_bytes());
-        self.digest.update(b"\n".as_slice());
-        Ok(())
     }
 
-    /// The counts in words, and the digest.
-    pub fn text(self, alloc: Global) -> Result<String, AllocError> {
-        let mut text = format!(in alloc; "programs {}", self.counts[0])?;
-        for (kind, count) in self.counts.iter().enumerate().skip(1) {
-            if *count > 0 {
-                write!(text, ", kind {kind} {count}")?;
-            }
-        }
+    /// Puts the counts into a text, and the digest.
+    pub fn push_to(self, alloc: Global, text: &mut String) -> Result<(), AllocError> {
+        push_counts(text, &self.counts)?;
         let digits = hex::encode(alloc, self.digest.finalize().as_slice())?;
-        write!(text, ", {digits}")?;
-        Ok(text)
+        write!(text, ", {digits}")
     }
+}
+
+fn push_counts(text: &mut String, counts: &[u32; 16]) -> Result<(), AllocError> {
+    let programs = counts[0];
+    write!(text, "programs {programs}")?;
+    for (kind, count) in counts.iter().enumerate().skip(1) {
+        if *count > 0 {
+            write!(text, ", kind {kind} {count}")?;
+        }
+    }
+    Ok(())
 }

@@ -1,7 +1,9 @@
+//! What comes of linking objects.
 use md5::{Digest, Md5};
 use nv_faults::ObjFault;
 use obj_linker::{ObjError, first_too_large, link_objects};
 use std::alloc::{AllocError, Global};
+use std::fmt::Write;
 
 /// What came of a link.
 #[derive(Drop)]
@@ -29,25 +31,25 @@ impl Answer {
         }
     }
 
-    /// The answer in words: of a program its length and its digest.
-    pub fn text(&self, alloc: Global) -> Result<String, AllocError> {
+    /// Puts the answer into a text: of a program its length and its digest.
+    pub fn push_to(&self, alloc: Global, text: &mut String) -> Result<(), AllocError> {
         match self {
-            Answer::Program(file) => digest_text(alloc, file.as_slice()),
-            Answer::Refused(fault) => fault_text(alloc, fault),
-            Answer::NoMemory => String::from_str(alloc, "no memory"),
-            Answer::TooMuch => String::from_str(alloc, "too much"),
+            Answer::Program(file) => push_digest(alloc, text, file.as_slice()),
+            Answer::Refused(fault) => push_fault(text, fault),
+            Answer::NoMemory => text.push_str("no memory"),
+            Answer::TooMuch => text.push_str("too much"),
         }
     }
 }
 
-fn digest_text(alloc: Global, file: &[u8]) -> Result<String, AllocError> {
+fn push_digest(alloc: Global, text: &mut String, file: &[u8]) -> Result<(), AllocError> {
     let length = file.len();
     let digest = Md5::digest(file);
     let digits = hex::encode(alloc, digest.as_slice())?;
-    format!(in alloc; "program {length} {digits}")
+    write!(text, "program {length} {digits}")
 }
 
-fn fault_text(alloc: Global, fault: &ObjFault) -> Result<String, AllocError> {
+fn push_fault(text: &mut String, fault: &ObjFault) -> Result<(), AllocError> {
     let (object, kind, at) = (fault.object, fault.kind, fault.at);
-    format!(in alloc; "object {object} {kind} {at}")
+    write!(text, "object {object} {kind} {at}")
 }
