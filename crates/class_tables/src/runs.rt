@@ -77,7 +77,7 @@ fn push_run(
 
 fn run(jvm: &mut Jvm, server: &mut Scripted, bound: u64) -> Result<Outcome> {
     ensure!(!jvm.ended(), "the program has ended");
-    match jvm.run(bound, server) {
+    match nv_events::run(jvm, bound, server) {
         Ok(outcome) => Ok(outcome),
         Err(fault) => bail!("{fault:?}"),
     }

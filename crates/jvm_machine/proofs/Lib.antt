@@ -1,6 +1,3 @@
-pub mod Results
-pub mod Targets
-pub mod Places
 pub mod Ordered
 pub mod Finding
 pub mod Arriving
@@ -19,7 +16,6 @@ pub mod LoadLemmas
 pub mod BeginLemmas
 pub mod OpeningLemmas
 pub mod TurnLemmas
-pub mod Counting
 pub mod Lines
 pub mod Methods
 pub mod Fetching

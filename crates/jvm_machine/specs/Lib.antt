@@ -1,14 +1,6 @@
-pub mod Workings
-pub mod Ready
-pub mod Executes
-pub mod Ops
-pub mod Makes
 pub mod Standing
 pub mod Settling
 pub mod Leading
-pub mod Stacking
-pub mod Groups
-pub mod Comparing
 pub mod Hosting
 pub mod Rooms
 pub mod Loading

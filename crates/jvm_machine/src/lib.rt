@@ -2,34 +2,21 @@
 //! The instructions of all methods stand in one array, in which branches name their targets by index.
 #![tactic(auto)]
 
-mod accessing;
 mod calling;
 pub mod code_laws;
-mod computing;
 mod decoding;
 mod ending;
 mod executable;
-mod executed;
-mod execution;
-mod fields;
-mod group;
-mod grouping;
 mod host_words;
 mod hurrying;
-mod jumping;
 mod jvm;
 mod loading;
 mod machine_code;
 mod machine_method;
-mod made;
-mod making;
-mod naming;
-mod op;
 mod retargeting;
 mod room;
 mod search;
 mod turning;
-mod working;
 
 pub use jvm::Jvm;
 pub use loading::NoMemory;

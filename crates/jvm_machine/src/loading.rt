@@ -11,13 +11,12 @@ ghost use Rattle.jvm_machine.specs.Loading.{IsLoaded};
 ghost use Rattle.jvm_machine.specs.Rooms.{IsRoomFor};
 
 use crate::executable::Executable;
-use crate::fields::Fields;
 use crate::machine_code::MachineCode;
 use crate::room::room_for;
-use crate::working::Working;
 use command_values::RegionWords;
 use jvm_frames::{Callee, Frames};
 use jvm_heap::Heap;
+use jvm_instructions::{Fields, Working};
 use jvm_program::{Kind, LinkedMethod};
 use std::alloc::{AllocError, Global};
 

@@ -5,7 +5,7 @@ use Rattle.std.proofs.lemmas.Int.{to_z-of_z}
 use Rattle.nv_words.specs.Words.{unsigned_of}
 use Rattle.jvm_heap.specs.Heaps.{Held}
 use Rattle.jvm_heap.specs.Regions.{heap_of}
-use Rattle.jvm_machine.specs.declared.working.Working.{Working}
+use Rattle.jvm_instructions.specs.declared.working.Working.{Working}
 use Rattle.jvm_machine.specs.Hosting.{host_tests}
 use Rattle.jvm_machine.proofs.Taking.{still_roomy}
 use Rattle.nv_words.proofs.WrapLemmas.{wrapped-fits}

@@ -1,0 +1,5 @@
+use Rattle.jvm_instructions.specs.Workings.{workspace}
+use Rattle.jvm_instructions.proofs.working.Working.long_compare.Goals as goal
+
+pub returns-clause-does : goal.returns-clause-does
+returns-clause-does c = λ program. c.long_compare.ensures.does program c.args.self.now.heap.region.size (workspace c.args.self.now)

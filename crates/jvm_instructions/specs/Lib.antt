@@ -1,0 +1,9 @@
+pub mod Workings
+pub mod Ready
+pub mod Executes
+pub mod Ops
+pub mod Makes
+pub mod Stacking
+pub mod Groups
+pub mod Comparing
+pub mod Grouping
