@@ -5,5 +5,6 @@ pub mod Ops
 pub mod Makes
 pub mod Stacking
 pub mod Groups
+pub mod Parts
 pub mod Comparing
 pub mod Grouping

@@ -14,6 +14,7 @@ mod made;
 mod making;
 mod naming;
 mod op;
+mod part;
 mod working;
 
 pub use executed::Executed;
