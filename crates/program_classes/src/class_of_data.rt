@@ -1,13 +1,18 @@
 //! A class of data.
-ghost use Rattle.std.specs.Prelude.{◌≤◌, ◌<◌, ◌^◌, All, IfOk, length, map};
+ghost use Rattle.std.specs.Prelude.{◌≡◌, ◌+◌, ◌≤◌, ◌<◌, ◌^◌, ◌∷◌, [], All, IfOk, OnOk, length, map};
 ghost use Rattle.program_classes.specs.Pages.{page_of};
-ghost use Rattle.program_classes.specs.Data.{IsDataClass};
+ghost use Rattle.program_classes.specs.Making.{AddsMethods};
+ghost use Rattle.program_classes.specs.Tables.{references_of};
+ghost use Rattle.program_classes.specs.Data.{IsDataClass, words_plan};
 
 use crate::NoMemory;
 use crate::data_naming::named_class;
 use crate::filling::{add_fill, add_words};
+use crate::names::Names;
 use crate::other_class::OtherClass;
 use crate::page_data::PageData;
+use class_builder::ClassBuilder;
+use code_assembly::References;
 use command_values::ClassName;
 use std::alloc::Global;
 
@@ -34,10 +39,7 @@ pub fn data_class(
     let name = OtherClass::Data.name(alloc, main, number)?;
     let named = named_class(alloc, name.as_str(), main, pages)?;
     let mut made = named.class;
-    let mut methods = Vec::new(alloc);
-    methods.push(named.words)?;
-    let references = named.names.with_methods(first_method, methods);
-    add_words(alloc, &mut made, &references)?;
+    let references = with_words(alloc, &mut made, named.names, named.words, first_method)?;
     add_fill(
         alloc,
         &mut made,
@@ -47,4 +49,28 @@ pub fn data_class(
         &references,
     )?;
     Ok(made.finish(alloc)?)
+}
+
+// Adds `words`, which has that slot and is the method of a number, and gives the table for the class's code.
+fn with_words(
+    alloc: Global,
+    class: &mut ClassBuilder,
+    names: Names,
+    words: u16,
+    first_method: u32,
+) -> Result<References, NoMemory>
+    requires fields { 38 ≤ length names.fields.items }
+    requires none { class.old.methods ≡ [] }
+    requires room { length class.old.pool ≤ 1215 }
+    ensures references { IfOk result (λ references.
+        references ≡ references_of names first_method (words ∷ [])) }
+    ensures method { OnOk result (AddsMethods class.old class.new
+        (words_plan (references_of names first_method (words ∷ [])) ∷ [])) }
+    ensures few { OnOk result (length class.new.pool ≤ length class.old.pool + 10) }
+{
+    let mut methods = Vec::new(alloc);
+    methods.push(words)?;
+    let references = names.with_methods(first_method, methods);
+    add_words(alloc, class, &references)?;
+    Ok(references)
 }

@@ -1,4 +1,4 @@
-use Rattle.std.proofs.Common.{◌≡◌, ◌∷◌, [], ◌++◌, ap, ◌∙◌, subst, map, true, length, sym, All, arith}
+use Rattle.std.proofs.Common.{◌≡◌, ◌∷◌, [], ap, ◌∙◌, subst, map, true, length, sym, All, arith}
 use Rattle.class_builder.specs.Named.{IsClassAt}
 use Rattle.class_builder.specs.Mentioned.{Mentions}
 use Rattle.class_builder.proofs.Mentions.{mentions-still}
@@ -24,16 +24,14 @@ pub returns : goal.returns
 returns c =
     let named = c.in_ok-named.named in
     let told = c.in_ok-named.ensures.names in
-    let middle = c.add_words.new.class in
+    let middle = c.with_words.new.class in
     let final = c.add_fill.new.class in
     let references = references_of named.names c.args.first_method (named.words ∷ []) in
-    let same : c.with_methods-references.result ≡ references =
-    c.with_methods-references.ensures
-    ∙ ap (references_of named.names c.args.first_method) (c.in_ok-push.ensures.items ∙ ap (λ l. l ++ named.words ∷ []) c.new-methods.ensures.items) in
+    let same : c.in_ok-references.references ≡ references = c.in_ok-references.ensures.references in
     let texts : c.as_slice.result.now ≡ named.texts.items = c.as_slice.ensures.value in
     let number = c.args.class in
     let words = c.args.first_method in
-    let first_added = subst (λ r. AddsMethods named.class middle (words_plan r ∷ [])) same c.in_ok-add_words.ensures.method in
+    let first_added = c.in_ok-references.ensures.method in
     let second_added =
     subst (λ t. AddsMethods middle final (fill_plan t number words references ∷ [])) texts
     (subst (λ r. AddsMethods middle final (fill_plan c.as_slice.result.now number words r ∷ [])) same c.in_ok-add_fill.ensures) in
@@ -66,35 +64,28 @@ pub named_class-requires-clause-name : goal.named_class-requires-clause-name
 named_class-requires-clause-name c =
     subst (λ name. is_own_name name ≡ true) (sym c.as_str.ensures.value) c.in_ok-name.ensures.own
 
-pub add_words-requires-clause-fields : goal.add_words-requires-clause-fields
-add_words-requires-clause-fields c =
-    omega (
-      arith,
-      ap (λ (r : References). length r.fields) c.with_methods-references.ensures,
-      c.in_ok-named.ensures.names.names.names_are.fields_are.count_is,
-    )
+pub with_words-requires-clause-fields : goal.with_words-requires-clause-fields
+with_words-requires-clause-fields c = omega (arith, c.in_ok-named.ensures.names.names.names_are.fields_are.count_is)
 
-pub add_words-requires-clause-few : goal.add_words-requires-clause-few
-add_words-requires-clause-few c = omega (arith, ap length c.in_ok-named.ensures.names.no_methods)
+pub with_words-requires-clause-none : goal.with_words-requires-clause-none
+with_words-requires-clause-none c = c.in_ok-named.ensures.names.no_methods
 
-pub add_words-requires-clause-room : goal.add_words-requires-clause-room
-add_words-requires-clause-room c = omega (arith, c.in_ok-named.ensures.few)
+pub with_words-requires-clause-room : goal.with_words-requires-clause-room
+with_words-requires-clause-room c = c.in_ok-named.ensures.few
 
 pub add_fill-requires-clause-fields : goal.add_fill-requires-clause-fields
 add_fill-requires-clause-fields c =
     omega (
       arith,
-      ap (λ (r : References). length r.fields) c.with_methods-references.ensures,
+      ap (λ (r : References). length r.fields) c.in_ok-references.ensures.references,
       c.in_ok-named.ensures.names.names.names_are.fields_are.count_is,
     )
 
 pub add_fill-requires-clause-words : goal.add_fill-requires-clause-words
 add_fill-requires-clause-words c =
     let first = c.args.first_method in
-    let methods = c.in_ok-push.ensures.items ∙ ap (λ l. l ++ c.in_ok-named.named.words ∷ []) c.new-methods.ensures.items in
-    subst (λ r. has_method r first ≡ true) (sym c.with_methods-references.ensures)
-    (subst (λ l. has_method (references_of c.in_ok-named.named.names first l) first ≡ true) (sym methods)
-    (has-numbered (references_of c.in_ok-named.named.names first (c.in_ok-named.named.words ∷ [])) first (omega arith) (omega arith)))
+    subst (λ r. has_method r first ≡ true) (sym c.in_ok-references.ensures.references)
+    (has-numbered (references_of c.in_ok-named.named.names first (c.in_ok-named.named.words ∷ [])) first (omega arith) (omega arith))
 
 pub add_fill-requires-clause-few : goal.add_fill-requires-clause-few
 add_fill-requires-clause-few c =
@@ -111,21 +102,23 @@ add_fill-requires-clause-few c =
 pub add_fill-requires-clause-texts : goal.add_fill-requires-clause-texts
 add_fill-requires-clause-texts c =
     let named = c.in_ok-named.named in
-    let middle = c.add_words.new.class in
+    let middle = c.with_words.new.class in
     let pages = map page_of c.args.pages.now in
     subst (All (λ (s : PageSlot). has_text middle.pool s.slot ≡ true)) (sym c.as_slice.ensures.value)
     (pages-there middle.pool named.texts.items pages
-    (slots-later named.class.pool middle.pool c.in_ok-add_words.ensures.method.pool named.texts.items pages
+    (slots-later named.class.pool middle.pool c.in_ok-references.ensures.method.pool named.texts.items pages
     c.in_ok-named.ensures.names.names.texts_are))
 
 pub add_fill-requires-clause-few_methods : goal.add_fill-requires-clause-few_methods
 add_fill-requires-clause-few_methods c =
+    let named = c.in_ok-named.named in
+    let words = words_plan (references_of named.names c.args.first_method (named.words ∷ [])) in
     omega (
       arith,
-      adds-count c.in_ok-named.named.class c.add_words.new.class (words_plan c.with_methods-references.result ∷ []) c.in_ok-add_words.ensures.method,
+      adds-count named.class c.with_words.new.class (words ∷ []) c.in_ok-references.ensures.method,
       ap length c.in_ok-named.ensures.names.no_methods,
     )
 
 pub add_fill-requires-clause-room : goal.add_fill-requires-clause-room
 add_fill-requires-clause-room c =
-    omega (arith, add_fill-requires-clause-few c, c.in_ok-named.ensures.few, c.in_ok-add_words.ensures.few)
+    omega (arith, add_fill-requires-clause-few c, c.in_ok-named.ensures.few, c.in_ok-references.ensures.few)
