@@ -15,25 +15,25 @@ pub fn disk_file_row(alloc: Global, text: &mut String, row: &str) -> Result<()> 
         "no lawful disk or name"
     );
     let bytes = bytes_of(alloc, word(row, 3))?;
-    let (unix, added) = with_file(alloc, blocks, name, bytes.as_slice())?;
-    push_added(text, added)?;
-    push_found(alloc, text, &unix, name, bytes.as_slice())?;
-    push_found(alloc, text, &unix, word(row, 4), bytes.as_slice())?;
+    push_disk_file(alloc, text, blocks, name, bytes.as_slice(), word(row, 4))?;
     Ok(())
 }
 
-fn with_file(
+fn push_disk_file(
     alloc: Global,
+    text: &mut String,
     blocks: u32,
     name: &str,
     bytes: &[u8],
-) -> Result<(Unix, Result<(), UnixError>), AllocError>
+    other: &str,
+) -> Result<(), AllocError>
     requires blocks { blocks ≤ 65536 }
     requires short { length name.now ≤ 255 }
 {
     let mut unix = Unix::new(alloc, blocks, 0)?;
-    let added = unix.add_file(name.as_bytes(), bytes);
-    Ok((unix, added))
+    push_added(text, unix.add_file(name.as_bytes(), bytes))?;
+    push_found(alloc, text, &unix, name, bytes)?;
+    push_found(alloc, text, &unix, other, bytes)
 }
 
 fn push_found(

@@ -13,6 +13,7 @@ mod numbers;
 mod rows;
 mod session;
 mod std_streams;
+mod streams;
 mod texts;
 
 use rows::Rows;

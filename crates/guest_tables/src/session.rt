@@ -1,10 +1,11 @@
 //! A system with a memory of 8,192 bytes that may all be written, an input, two outputs and a shelf.
 use crate::given_files::give;
 use crate::std_streams::{push_got, push_written};
+use crate::streams::Streams;
 use anyhow::{Context, Result, bail, ensure};
 use guest_memory::GuestMemory;
 use nv_events::{Call, IoFault, View};
-use nv_outside::{MemShelf, MemSink, MemSource, Shelf, ShelfError, Sink, Source};
+use nv_outside::{MemShelf, Shelf, ShelfError, Sink, Source};
 use std::alloc::{AllocError, Global};
 use std::fmt::Write;
 use table_rows::{count, hex_of, long_count, rest, word};
@@ -15,9 +16,7 @@ use unix_calls::Unix;
 pub struct Session {
     unix: Unix,
     memory: GuestMemory,
-    source: MemSource,
-    out: MemSink,
-    err: MemSink,
+    streams: Streams,
     shelf: MemShelf,
 }
 
@@ -25,14 +24,15 @@ impl Session {
     /// A system of so many blocks at a moment, with arguments: `system BLOCKS MOMENT FAILS ROOM INPUT ARGUMENTS`. This call of input, of
     /// output and of the shelf fails, counted from 1; 0: none. Output has so much room. In the input `\n` is an end of line.
     pub fn new(alloc: Global, row: &str) -> Result<Session> {
-        let fails = long_count(row, 3);
+        let unix = unix_of(alloc, row)?;
+        let memory = memory(alloc)?;
+        let streams = Streams::of_row(alloc, row)?;
+        let shelf = shelf_of(alloc, long_count(row, 3))?;
         Ok(Session {
-            source: source_of(alloc, word(row, 5), fails)?,
-            out: sink_of(alloc, count(row, 4), fails)?,
-            err: sink_of(alloc, 16, 0)?,
-            shelf: shelf_of(alloc, fails)?,
-            memory: memory(alloc)?,
-            unix: unix_of(alloc, row)?,
+            unix,
+            memory,
+            streams,
+            shelf,
         })
     }
 
@@ -42,7 +42,7 @@ impl Session {
         match word(row, 0) {
             "call" => Ok(self.push_call(text, row)?),
             "name" => Ok(self.push_name(text, count(row, 1))?),
-            "output" => push_hex(alloc, text, self.out.bytes()),
+            "output" => push_hex(alloc, text, self.streams.out.bytes()),
             "byte" => self.push_byte(text, value(row, 1)),
             "read" => self.push_read(alloc, text, count(row, 1)),
             "write" => Ok(self.push_write(text, letters(word(row, 1)))?),
@@ -67,7 +67,7 @@ impl Session {
             a2,
             a3: 0,
         };
-        let (source, out, err) = (&mut self.source, &mut self.out, &mut self.err);
+        let Streams { source, out, err } = &mut self.streams;
         self.unix.serve(&call, &mut self.memory, source, out, err)
     }
 
@@ -93,12 +93,12 @@ impl Session {
         let part = buffer
             .get_mut(..count as usize)
             .context("there is no such room")?;
-        let count = self.source.read(part);
+        let count = self.streams.source.read(part);
         push_got(alloc, text, count, &buffer)
     }
 
     fn push_write(&mut self, text: &mut String, letters: &str) -> Result<(), AllocError> {
-        push_written(text, self.out.write(letters.as_bytes()))
+        push_written(text, self.streams.out.write(letters.as_bytes()))
     }
 
     fn push_add(&mut self, text: &mut String, name: &str, bytes: &str) -> Result<()> {
@@ -151,7 +151,7 @@ fn push_hex(alloc: Global, text: &mut String, bytes: &[u8]) -> Result<()> {
 }
 
 /// The letters of a word; `-` has none.
-fn letters(word: &str) -> &str {
+pub fn letters(word: &str) -> &str {
     if word == "-" { "" } else { word }
 }
 
@@ -161,17 +161,6 @@ fn value(row: &str, number: usize) -> u32 {
         Some(digits) => u32::from_str_radix(digits, 16).unwrap_or(0),
         None => count(row, number),
     }
-}
-
-fn source_of(alloc: Global, input: &str, fails: u64) -> Result<MemSource> {
-    let input = letters(input).replace(alloc, "\\n", "\n")?;
-    let bytes = input.as_bytes().to_vec(alloc)?;
-    Ok(MemSource::new(bytes, [fails].to_vec(alloc)?))
-}
-
-fn sink_of(alloc: Global, room: u32, fails: u64) -> Result<MemSink> {
-    let fails = [fails].to_vec(alloc)?;
-    Ok(MemSink::new(alloc, room as usize, fails)?)
 }
 
 fn shelf_of(alloc: Global, fails: u64) -> Result<MemShelf> {
