@@ -1,5 +1,5 @@
 -- Counting and searching the numbers below a limit, one more at a time.
-use Rattle.std.proofs.Common.{◌≡◌, ℕ, zero, suc, ◌+◌, ◌<◌, Bool, true, false, Some, None, refl, ◌⊎◌, inl, inr, arith, add-one}
+use Rattle.std.proofs.Common.{◌≡◌, ℕ, zero, suc, ◌+◌, ◌<◌, ◌≤◌, Bool, true, false, Some, None, refl, sym, ap, ◌∙◌, ◌⊎◌, inl, inr, arith, add-one}
 use Rattle.elf_reader.specs.Check.{least_below}
 use Rattle.elf_image.specs.Pages.{count_below}
 
@@ -33,4 +33,41 @@ least_found test n (suc m) none on within =
     ]
   where
     split : (n m : ℕ) → n < suc m → (n < m) ⊎ (n ≡ m)
+    split n m h = grind arith
+
+pub least_past : (test : ℕ → Bool) (n m : ℕ) → least_below test n ≡ None → n ≤ m → ((p : ℕ) → n ≤ p → p < m → test p ≡ false) → least_below test m ≡ None
+unfolding least_below
+least_past test n zero none within off = refl
+least_past test n (suc m) none within off =
+    elim (split n m within) [
+      | inl le ↦ rw (least_past test n m none le (λ p ge lt. off p ge (omega (arith, lt)))) (rw (off m le (omega arith)) refl)
+      | inr same ↦ ap (least_below test) (sym same) ∙ none
+    ]
+  where
+    split : (n m : ℕ) → n ≤ suc m → (n ≤ m) ⊎ (n ≡ suc m)
+    split n m h = grind arith
+
+pub least_stays : (test : ℕ → Bool) (n m k : ℕ) → least_below test n ≡ Some k → n ≤ m → least_below test m ≡ Some k
+unfolding least_below
+least_stays test n zero k some within = ap (least_below test) (let same : 0 ≡ n = omega (arith, within) in same) ∙ some
+least_stays test n (suc m) k some within =
+    elim (split n m within) [
+      | inl le ↦ rw (least_stays test n m k some le) refl
+      | inr same ↦ ap (least_below test) (sym same) ∙ some
+    ]
+  where
+    split : (n m : ℕ) → n ≤ suc m → (n ≤ m) ⊎ (n ≡ suc m)
+    split n m h = grind arith
+
+-- no number past those that are counted passes
+pub count_past : (test : ℕ → Bool) (n m : ℕ) → n ≤ m → ((p : ℕ) → n ≤ p → test p ≡ false) → count_below test n ≡ count_below test m
+unfolding count_below
+count_past test n zero within off = ap (count_below test) (let same : n ≡ 0 = omega (arith, within) in same)
+count_past test n (suc m) within off =
+    elim (split n m within) [
+      | inl le ↦ rw (off m le) (let same = count_past test n m le off in omega (arith, same))
+      | inr same ↦ ap (count_below test) same
+    ]
+  where
+    split : (n m : ℕ) → n ≤ suc m → (n ≤ m) ⊎ (n ≡ suc m)
     split n m h = grind arith

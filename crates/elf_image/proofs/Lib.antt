@@ -1,4 +1,5 @@
 pub mod Counting
+pub mod Layouts
 pub mod FloatLemmas
 pub mod Accepted
 pub mod TableLemmas

@@ -1,5 +1,5 @@
 //! The checks that a file's image passes.
-ghost use Rattle.std.specs.Prelude.{◌≡◌, ◌%◌, All, length};
+ghost use Rattle.std.specs.Prelude.{◌≡◌, ◌%◌, ◌≤◌, All, length};
 ghost use Rattle.elf_reader.specs.declared.range.Range.{Range};
 ghost use Rattle.elf_image.specs.Content.{is_filled_page};
 ghost use Rattle.elf_image.specs.Pages.{count_below};
@@ -67,6 +67,7 @@ pub fn check_pages(layout: &Layout) -> Option<ImageFault>
 
 /// The check of how many pages of the segments hold a byte that is not 0.
 pub fn check_data(filled: &[bool]) -> Option<ImageFault>
+    requires { length filled.now ≤ 524288 }
     ensures { result ≡ exceeds 5 16_384 (count_below (marked filled.now) 524288) }
 {
     fault_above(

@@ -8,6 +8,7 @@ ghost use Rattle.elf_image.specs.Content.{file_byte, has_data, is_filled_page};
 ghost use Rattle.elf_image.specs.PageTable.{marked};
 
 use crate::page_marks::{mark, unmarked};
+use crate::pages::heap_page;
 use elf_reader::Segment;
 use std::alloc::{AllocError, Global};
 
@@ -69,7 +70,7 @@ pub fn page_behind_data(segment: &Segment) -> u32
 
 /// Marks the pages that hold a byte of a segment's bytes in the file that is not 0.
 fn mark_data(marks: &mut [bool], file: &[u8], segment: &Segment)
-    requires len { length marks.old ≡ 524288 }
+    requires within { (file_end segment.now + 4095) / 4096 ≤ length marks.old }
     requires sound { IsSound (length file.now) segment.now }
     ensures len { length marks.new ≡ length marks.old }
     ensures marks { (p : ℕ) → marked marks.new p
@@ -88,11 +89,11 @@ pub fn filled_marks(
 ) -> Result<Vec<bool>, AllocError>
     requires sound { All (IsSound (length file.now)) segments.now }
     requires apart { AllPairs IsApart segments.now }
-    ensures len { IfOk result (λ marks. length marks.items ≡ 524288) }
+    ensures len { IfOk result (λ marks. length marks.items ≤ 524288) }
     ensures marks { IfOk result (λ marks. (page : ℕ)
         → marked marks.items page ≡ is_filled_page file.now segments.now page) }
 {
-    let mut marks = unmarked(alloc)?;
+    let mut marks = unmarked(alloc, heap_page(segments))?;
     for segment in segments {
         mark_data(marks.as_mut_slice(), file, segment);
     }

@@ -12,6 +12,7 @@ ghost use Rattle.elf_image.specs.Start.{image_of, readable, writable};
 ghost use Rattle.elf_image.specs.Whole.{IsWholeRange};
 ghost use Rattle.elf_reader.specs.declared.range.Range.{Range};
 
+use crate::gap::Gap;
 use crate::layout::Layout;
 use crate::page_table::PageTable;
 use elf_reader::{Elf, Range};
@@ -125,6 +126,16 @@ impl Image {
         ensures { result ≡ writable self.now page }
     {
         self.layout.is_writable(page)
+    }
+
+    /// Pages that cannot be read, one behind the other: those between the heap and the stack, which are most of all.
+    pub fn gap(&self) -> Gap
+        ensures end { result.end ≤ 524288 }
+        ensures ordered { result.start ≤ result.end }
+        ensures unused { (page : ℕ) → result.start ≤ page → page < result.end
+            → readable self.now page ≡ false }
+    {
+        self.layout.gap()
     }
 
     /// The byte at an address, where its page can be read.

@@ -1,10 +1,11 @@
-ghost use Rattle.std.specs.Prelude.{◌≡◌, ℕ, ◌≤◌, All, IfOk, length};
+ghost use Rattle.std.specs.Prelude.{◌≡◌, ℕ, ◌≤◌, ◌<◌, None, false, All, IfOk, length};
 ghost use Rattle.elf_reader.specs.Check.{least_below};
 ghost use Rattle.elf_reader.specs.Segments.{segment_end};
 ghost use Rattle.elf_reader.specs.declared.segment.Segment.{Segment};
 ghost use Rattle.elf_image.specs.Pages.{pages_below, heap_page, is_segment_page, is_data_page, is_heap_page, is_stack_page, is_readable_page, is_writable_page, is_shared, segment_pages, mapped_pages};
 ghost use Rattle.elf_image.specs.PageTable.{marked};
 
+use crate::gap::Gap;
 use crate::page_marks::{count_marks, data_marks, is_marked, segment_marks};
 use crate::pages::{PAGES, heap_page};
 use elf_reader::Segment;
@@ -30,6 +31,7 @@ pub struct Layout {
         ≡ is_segment_page segments.value.items page },
     ghost data_are: { (page : ℕ) → marked data.items page
         ≡ is_data_page segments.value.items page },
+    ghost len: { length pages.items ≡ heap_first },
     ghost first: { heap_first ≡ heap_page segments.value.items },
     ghost low: { heap_first ≤ 0x7F000 },
     ghost heap_fits: { heap ≤ 32768 },
@@ -146,17 +148,49 @@ impl Layout {
     }
 
     /// The lowest page that belongs to two of segments, heap, stack and argument page.
-    #[tactic(auto, using(crate::proofs::Counting::least_none, crate::proofs::Counting::least_more, crate::proofs::Counting::least_found))]
+    #[tactic(auto, using(crate::proofs::Counting::least_none))]
     pub fn first_shared(&self) -> Option<u32>
         ensures { result
             ≡ least_below (is_shared self.now.segments.value.items self.now.heap self.now.stack)
             pages_below }
     {
-        for page in 0..PAGES {
+        let gap = self.gap();
+        match self.first_shared_from(0, gap.start) {
+            Some(page) => Some(page),
+            None => self.first_shared_from(gap.end, PAGES),
+        }
+    }
+
+    /// The lowest such page, where there is none below the first one of these.
+    #[tactic(auto, using(crate::proofs::Counting::least_more, crate::proofs::Counting::least_found))]
+    fn first_shared_from(&self, first: u32, end: u32) -> Option<u32>
+        requires ordered { first ≤ end }
+        requires none { least_below
+            (is_shared self.now.segments.value.items self.now.heap self.now.stack) first ≡ None }
+        ensures { result
+            ≡ least_below (is_shared self.now.segments.value.items self.now.heap self.now.stack)
+            end }
+    {
+        for page in first..end {
             if self.is_shared(page) {
                 return Some(page);
             }
         }
         None
+    }
+
+    /// The pages between segments and heap on the one side and the stack on the other, which are for nothing.
+    pub fn gap(&self) -> Gap
+        ensures end { result.end ≤ 524288 }
+        ensures ordered { result.start ≤ result.end }
+        ensures unused { (page : ℕ) → result.start ≤ page → page < result.end
+            → is_readable_page self.now.segments.value.items self.now.heap self.now.stack page
+            ≡ false }
+    {
+        let start = (self.heap_first + self.heap).min(PAGES);
+        Gap {
+            start,
+            end: (Layout::ARGUMENT_PAGE - self.stack).max(start),
+        }
     }
 }

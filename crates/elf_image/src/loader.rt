@@ -23,8 +23,8 @@ use std::alloc::Global;
 /// The heap begins at the first page past the highest segment, and the stack ends where the argument page begins, at 7FFFF000
 /// (hexadecimal).
 ///
-/// Memory is taken for the pages that are not all zero, and some three megabytes besides; time goes with the length of the
-/// segments' bytes in the file.
+/// Memory is taken for the pages that are not all zero, and some seven bytes for each page below the end of the highest segment; time
+/// goes with the number of these pages and the length of the segments' bytes in the file.
 ///
 /// # Errors
 /// `Refused` with the first check that fails, as `ImageFault` lists them; `NoMemory` where there is not enough memory.

@@ -45,7 +45,7 @@ impl PageTable {
         filled: &[bool],
     ) -> Result<PageTable, AllocError>
         requires sound { All (IsSound (length file.now)) segments.now.items }
-        requires len { length filled.now ≡ 524288 }
+        requires len { length filled.now ≤ 524288 }
         requires filled { (page : ℕ) → marked filled.now page
             ≡ is_filled_page file.now segments.now.items page }
         ensures file { IfOk result (λ table. table.file.bytes ≡ file.now) }

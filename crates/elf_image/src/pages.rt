@@ -24,6 +24,7 @@ pub fn heap_page(segments: &[Segment]) -> u32
     requires low { All (λ (s : Segment). segment_end s ≤ 0x7F00_0000) segments.now }
     ensures page { result ≡ heap_page segments.now }
     ensures bound { result ≤ 0x7F000 }
+    ensures behind { All (λ s. page_behind s ≤ result) segments.now }
 {
     let mut page = 0;
     for s in segments {

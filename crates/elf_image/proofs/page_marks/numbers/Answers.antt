@@ -7,7 +7,7 @@ use Rattle.elf_image.proofs.page_marks.numbers.Goals.{then-is_marked+in_ok-push,
 
 pub loop-page-init : goal.loop-page-init
 loop-page-init c = record {
-  size = ap length c.new-numbers.ensures.items;
+  size = ap length c.in_ok-numbers.ensures.items;
   value = sym (count_none (marked c.args.marks.now));
   bound = omega arith;
   numbers = λ p lt. absurd (omega (arith, lt));

@@ -19,6 +19,6 @@ loop-segment-preserved c =
           (c.mark_segment.ensures.marks page) (ap (λ marks. marked marks page) c.as_mut_slice.ensures.value ∙ c.loop-segment.invariant.marks page);
     }
 
-pub returns : goal.returns
+pub returns-clause-marks : goal.returns-clause-marks
 unfolding is_segment_page
-returns c = λ page. any_done (is_on_page page) c.args.segments.now c.loop-segment.segment-index _ c.loop-segment-test.false (c.loop-segment.invariant.marks page)
+returns-clause-marks c = λ page. any_done (is_on_page page) c.args.segments.now c.loop-segment.segment-index _ c.loop-segment-test.false (c.loop-segment.invariant.marks page)
