@@ -39,13 +39,17 @@ impl Model for GuestMemory {
 }
 
 impl GuestMemory {
-    /// A memory of no pages.
-    pub fn new(alloc: Global) -> Result<GuestMemory, NoMemory>
+    /// A memory of no pages, with room for the words of so many.
+    ///
+    /// # Errors
+    ///
+    /// NoMemory.
+    pub fn new(alloc: Global, room: u32) -> Result<GuestMemory, NoMemory>
         ensures { IfOk result (λ m. memory_of m ≡ no_memory) }
     {
         Ok(GuestMemory {
             table: no_pages(alloc, PAGES)?,
-            words: Vec::new(alloc),
+            words: Vec::with_capacity(alloc, PAGE_WORDS * room as usize)?,
         })
     }
 

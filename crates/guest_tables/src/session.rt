@@ -179,7 +179,7 @@ fn unix_of(alloc: Global, row: &str) -> Result<Unix> {
 
 fn memory(alloc: Global) -> Result<GuestMemory> {
     let mut words = vec![in alloc; 0u32; 1024]?;
-    let mut memory = GuestMemory::new(alloc)?;
+    let mut memory = GuestMemory::new(alloc, 2)?;
     map(&mut memory, 0, words.as_slice())?;
     words[0] = 0x6600_0000;
     words[2] = 0x6700_0000;

@@ -1,5 +1,5 @@
 -- A memory that is made page by page.
-use Rattle.std.proofs.Common.{◌≡◌, ℕ, ◌+◌, ◌*◌, ◌/◌, ◌%◌, ◌≤◌, Bool, true, false, ◌==◌, ◌&&◌, nat_lt, if◌then◌else◌, List, Option, Some, None, refl, ap, sym, ◌∙◌, arith}
+use Rattle.std.proofs.Common.{◌≡◌, ℕ, zero, suc, ◌+◌, ◌*◌, ◌/◌, ◌%◌, ◌<◌, ◌≤◌, ◌⊎◌, inl, inr, Bool, true, false, ◌==◌, ◌&&◌, nat_lt, if◌then◌else◌, List, Option, Some, None, refl, ap, sym, ◌∙◌, arith}
 use Rattle.std.specs.Prelude.{slice_index}
 use Rattle.std.proofs.lemmas.Bool.{eqb-true, eqb-false, lt-ltb, le-ltb, ltb-true, ltb-false}
 use Rattle.nv_words.specs.Words.{lane_of_word}
@@ -97,3 +97,20 @@ module _ (m : Memory) (n : ℕ) where
       same_memory (memory_below m n) m
       (λ a. last_byte bytes a (nat_lt (a / 4096) n) refl)
       (λ a. last_writable writes a (nat_lt (a / 4096) n) refl)
+
+-- pages that the memory does not have
+pub below_gap : (m : Memory) (start end : ℕ) → start ≤ end
+    → ((a : ℕ) → start ≤ a / 4096 → a / 4096 < end → m.byte a ≡ None) → ((a : ℕ) → start ≤ a / 4096 → a / 4096 < end → m.writable a ≡ false)
+    → memory_below m start ≡ memory_below m end
+below_gap m start zero ordered bytes writes = ap (memory_below m) (let same : start ≡ 0 = omega (arith, ordered) in same)
+below_gap m start (suc end) ordered bytes writes =
+    elim (split start end ordered) [
+      | inl le ↦
+          below_gap m start end le (λ a ge lt. bytes a ge (omega (arith, lt))) (λ a ge lt. writes a ge (omega (arith, lt)))
+          ∙ below_absent m end (λ a here. bytes a (omega (arith, le, here)) (omega (arith, here))) (λ a here. writes a (omega (arith, le, here)) (omega (arith, here)))
+          ∙ ap (memory_below m) (let same : end + 1 ≡ suc end = omega arith in same)
+      | inr same ↦ ap (memory_below m) same
+    ]
+  where
+    split : (n m : ℕ) → n ≤ suc m → (n ≤ m) ⊎ (n ≡ suc m)
+    split n m h = grind arith

@@ -1,5 +1,5 @@
 //! The memory with which a program starts.
-ghost use Rattle.std.specs.Prelude.{◌≡◌, ℕ, ◌+◌, ◌<◌, true, IfOk, OnOk, length, slice_index};
+ghost use Rattle.std.specs.Prelude.{◌≡◌, ℕ, ◌+◌, ◌<◌, ◌≤◌, true, IfOk, OnOk, length, slice_index};
 ghost use Rattle.elf_image.specs.Start.{image_of, readable};
 ghost use Rattle.guest_memory.specs.Pages.{memory_of};
 ghost use Rattle.mips_machine.specs.Loading.{memory_below, AreZeros, ArePageWords};
@@ -19,12 +19,32 @@ pub(crate) fn load_memory(alloc: Global, image: &Image) -> Result<GuestMemory, N
     ensures { IfOk result (λ m. memory_of m ≡ (image_of image.now).memory) }
 {
     let zeros = zero_words(alloc, PAGE_WORDS)?;
-    let mut memory = GuestMemory::new(alloc)?;
+    let mut memory = GuestMemory::new(alloc, image.mapped())?;
+    let gap = image.gap();
     image.laws();
-    for page in 0..PAGES {
-        add_page(&mut memory, image, page, &zeros)?;
-    }
+    add_pages(&mut memory, image, 0, gap.start, &zeros)?;
+    add_pages(&mut memory, image, gap.end, PAGES, &zeros)?;
     Ok(memory)
+}
+
+/// Adds the pages from a number on and before another that the image has.
+fn add_pages(
+    memory: &mut GuestMemory,
+    image: &Image,
+    first: u32,
+    end: u32,
+    zeros: &[u32],
+) -> Result<(), NoMemory>
+    requires ordered { first ≤ end }
+    requires low { end ≤ 524288 }
+    requires earlier { memory_of memory.old ≡ memory_below (image_of image.now).memory first }
+    requires zeros { AreZeros zeros.now }
+    ensures { OnOk result (memory_of memory.new ≡ memory_below (image_of image.now).memory end) }
+{
+    for page in first..end {
+        add_page(memory, image, page, zeros)?;
+    }
+    Ok(())
 }
 
 /// Adds the page of a number, if the image has one.
