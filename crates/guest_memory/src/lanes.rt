@@ -11,7 +11,7 @@ use mips_decode::{LoadName, StoreName, word_of_lanes};
 use nv_words::{Order, lane, with_lane};
 
 /// What a register holds after a load from byte `place` of `word`, by what it held before.
-#[inline]
+#[inline(always)]
 pub(crate) fn from_word(name: LoadName, order: Order, place: u32, word: u32, old: u32) -> u32
     requires place { place < 4 }
     requires aligned { IsTrue (load_aligned name place) }
@@ -29,7 +29,7 @@ pub(crate) fn from_word(name: LoadName, order: Order, place: u32, word: u32, old
 }
 
 /// What the word in memory becomes by a store of `w` to its byte `place`.
-#[inline]
+#[inline(always)]
 pub(crate) fn into_word(name: StoreName, order: Order, place: u32, word: u32, w: u32) -> u32
     requires place { place < 4 }
     requires aligned { IsTrue (store_aligned name place) }
@@ -45,7 +45,7 @@ pub(crate) fn into_word(name: StoreName, order: Order, place: u32, word: u32, w:
     }
 }
 
-#[inline]
+#[inline(always)]
 fn signed_byte(b: u8) -> u32
     ensures { result ≡ sign_extended 8 b }
 {
@@ -56,7 +56,7 @@ fn signed_byte(b: u8) -> u32
     }
 }
 
-#[inline]
+#[inline(always)]
 fn signed_half(h: u32) -> u32
     requires { h < 65536 }
     ensures { result ≡ sign_extended 16 h }
@@ -65,7 +65,7 @@ fn signed_half(h: u32) -> u32
 }
 
 /// The half-word at byte `place` of a word.
-#[inline]
+#[inline(always)]
 fn half(order: Order, word: u32, place: u32) -> u32
     requires place { place < 4 }
     requires aligned { IsTrue (load_aligned LoadName.Lh place) }
@@ -80,7 +80,7 @@ fn half(order: Order, word: u32, place: u32) -> u32
 }
 
 /// The upper half of a word at 0, the lower half at 2.
-#[inline]
+#[inline(always)]
 fn big_half(word: u32, place: u32) -> u32
     requires place { place < 4 }
     requires aligned { IsTrue (load_aligned LoadName.Lh place) }
@@ -95,7 +95,7 @@ fn big_half(word: u32, place: u32) -> u32
 }
 
 /// The word with the half at `place` replaced by the lower half of `w`.
-#[inline]
+#[inline(always)]
 fn with_half(order: Order, word: u32, place: u32, w: u32) -> u32
     requires place { place < 4 }
     requires aligned { IsTrue (store_aligned StoreName.Sh place) }
@@ -109,7 +109,7 @@ fn with_half(order: Order, word: u32, place: u32, w: u32) -> u32
 }
 
 /// The word with the half at `place` replaced by the lower half of `w`, whose upper byte comes first.
-#[inline]
+#[inline(always)]
 fn with_big_half(word: u32, place: u32, w: u32) -> u32
     requires place { place < 4 }
     requires aligned { IsTrue (store_aligned StoreName.Sh place) }
@@ -124,7 +124,7 @@ fn with_big_half(word: u32, place: u32, w: u32) -> u32
 }
 
 /// What a register holds after LWL from byte `place` of a word.
-#[inline]
+#[inline(always)]
 fn left(order: Order, word: u32, place: u32, old: u32) -> u32
     requires { place < 4 }
     ensures { result ≡ merged (one_word word) (left_part order place) old }
@@ -136,7 +136,7 @@ fn left(order: Order, word: u32, place: u32, old: u32) -> u32
 }
 
 /// What a register holds after LWR from byte `place` of a word.
-#[inline]
+#[inline(always)]
 fn right(order: Order, word: u32, place: u32, old: u32) -> u32
     requires { place < 4 }
     ensures { result ≡ merged (one_word word) (right_part order place) old }
@@ -148,7 +148,7 @@ fn right(order: Order, word: u32, place: u32, old: u32) -> u32
 }
 
 /// What a word becomes by SWL of `w` to its byte `place`.
-#[inline]
+#[inline(always)]
 fn with_left(order: Order, word: u32, place: u32, w: u32) -> u32
     requires { place < 4 }
     ensures { (j : ℕ) → j < 4 → (stored StoreName.Swl order (one_word word) place w).byte j
@@ -161,7 +161,7 @@ fn with_left(order: Order, word: u32, place: u32, w: u32) -> u32
 }
 
 /// What a word becomes by SWR of `w` to its byte `place`.
-#[inline]
+#[inline(always)]
 fn with_right(order: Order, word: u32, place: u32, w: u32) -> u32
     requires { place < 4 }
     ensures { (j : ℕ) → j < 4 → (stored StoreName.Swr order (one_word word) place w).byte j
@@ -174,7 +174,7 @@ fn with_right(order: Order, word: u32, place: u32, w: u32) -> u32
 }
 
 /// The bytes of a word from `place` on, and then the last bytes of the other.
-#[inline]
+#[inline(always)]
 fn from_on(word: u32, place: u32, other: u32) -> u32
     requires { place < 4 }
     ensures { result ≡ merged (one_word word) (left_part Big place) other }
@@ -188,7 +188,7 @@ fn from_on(word: u32, place: u32, other: u32) -> u32
 }
 
 /// The first bytes of the other, and then the bytes of a word up to `place`.
-#[inline]
+#[inline(always)]
 fn up_to(word: u32, place: u32, other: u32) -> u32
     requires { place < 4 }
     ensures { result ≡ merged (one_word word) (right_part Big place) other }

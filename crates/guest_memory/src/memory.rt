@@ -77,7 +77,7 @@ impl GuestMemory {
 
     /// What a register holds after a load from an address, in the given order of bytes, by what it held before; None where the address
     /// cannot be read.
-    #[inline]
+    #[inline(always)]
     pub fn load(&self, name: LoadName, order: Order, at: u32, old: u32) -> Option<u32>
         requires { IsTrue (load_aligned name at) }
         ensures { result ≡ (if is_none ((memory_of self.now).byte at) then None
@@ -91,7 +91,7 @@ impl GuestMemory {
 
     /// Stores a register's word at an address, in the given order of bytes; false, with nothing changed, where a byte of it may not be
     /// written.
-    #[inline]
+    #[inline(always)]
     pub fn store(&mut self, name: StoreName, order: Order, at: u32, w: u32) -> bool
         requires { IsTrue (store_aligned name at) }
         ensures answer { result ≡ store_allowed name order (memory_of self.old) at }
@@ -142,7 +142,7 @@ impl GuestMemory {
     }
 
     /// The page of a number.
-    #[inline]
+    #[inline(always)]
     #[tactic(auto, unfolding(crate::specs::Pages::entry))]
     fn page(&self, number: u32) -> Page
         ensures { result ≡ entry self.now number }
@@ -156,7 +156,7 @@ impl GuestMemory {
     }
 
     /// Where the word that an address lies in stands, if it can be read.
-    #[inline]
+    #[inline(always)]
     #[tactic(auto, unfolding(crate::specs::Pages::cell))]
     fn readable_cell(&self, at: u32) -> Option<usize>
         ensures { result ≡ cell self.now (at / 4) }
@@ -168,7 +168,7 @@ impl GuestMemory {
     }
 
     /// Where the word that an address lies in stands, if it may be written.
-    #[inline]
+    #[inline(always)]
     #[tactic(auto, unfolding(crate::specs::Pages::cell, crate::specs::Pages::memory_of))]
     fn writable_cell(&self, at: u32) -> Option<usize>
         ensures { MatchOption result ((memory_of self.now).writable at
@@ -182,7 +182,7 @@ impl GuestMemory {
     }
 
     /// The word that an address lies in, if it can be read.
-    #[inline]
+    #[inline(always)]
     fn word_around(&self, at: u32) -> Option<u32>
         ensures { result ≡ word_in self.now (at / 4) }
     {
@@ -206,7 +206,7 @@ impl View for GuestMemory {
 
     ghost put_at = { put_byte_at };
 
-    #[inline]
+    #[inline(always)]
     #[tactic(auto, unfolding(crate::specs::Pages::memory_of))]
     fn byte(&self, at: u32) -> Option<u8> {
         match self.word_around(at) {

@@ -8,7 +8,7 @@ pub(crate) const PAGES: usize = 524288;
 pub(crate) const PAGE_WORDS: usize = 1024;
 
 /// Where the word of an address stands, whose page stands after so many others.
-#[inline]
+#[inline(always)]
 pub(crate) fn word_place(place: u32, at: u32) -> usize
     ensures { result ≡ place * 1024 + at / 4 % 1024 }
 {
