@@ -15,7 +15,7 @@ pub type NoMemory = AllocError;
 pub fn page_text(alloc: Global, words: &[u32]) -> Result<Vec<u16>, NoMemory>
     ensures { IfOk result (λ text. text.items ≡ texts.page_text words.now) }
 {
-    let mut text = Vec::new(alloc);
+    let mut text = Vec::with_capacity(alloc, 5 * words.len())?;
     for word in words {
         append_word(*word, &mut text)?;
     }
