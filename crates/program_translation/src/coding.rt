@@ -51,10 +51,12 @@ pub fn code_file(
     let infos = span_infos(alloc, part, number, spans.as_slice())?;
     let class_name = code_class_name(alloc, name.as_str(), number)?;
     let file_name = file_name(alloc, class_name.as_str())?;
+    let mut bytes = made.bytes;
+    bytes.shrink_to_fit();
     Ok(FileOfCode {
         file: NamedFile {
             name: file_name,
-            bytes: made.bytes,
+            bytes,
         },
         spans: infos,
         pieces: made.pieces,

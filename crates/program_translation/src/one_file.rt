@@ -26,7 +26,8 @@ pub fn data_file(
     ensures { IfOk result
         (IsFileOfPages name.now number class first_method (map page_of pages.now)) }
 {
-    let bytes = data_class(alloc, name, u32::from(number), class, first_method, pages)?;
+    let mut bytes = data_class(alloc, name, u32::from(number), class, first_method, pages)?;
+    bytes.shrink_to_fit();
     let class_name = data_class_name(alloc, name.as_str(), u32::from(number))?;
     Ok(NamedFile {
         name: file_name(alloc, class_name.as_str())?,

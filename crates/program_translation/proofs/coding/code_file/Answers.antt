@@ -1,4 +1,4 @@
-use Rattle.std.proofs.Common.{◌<◌, ◌≤◌, length, refl, ap, ◌∙◌, arith, subst}
+use Rattle.std.proofs.Common.{◌<◌, ◌≤◌, length, refl, ap, sym, ◌∙◌, arith, subst}
 use Rattle.std.proofs.lemmas.List.Elements.{All-weaker}
 use Rattle.std.proofs.lemmas.List.FromFn.{length-map-range_with_len}
 use Rattle.guest_layout.specs.ClassNames.{code_class_name, file_name}
@@ -21,7 +21,8 @@ returns-clause-value c =
       class_is = record { number_is = refl; first_is = refl; part_is = refl; spans_are = c.in_ok-spans.ensures.value };
       file_is = record {
         named = c.in_ok-file_name.ensures ∙ ap file_name (c.as_str-2.ensures.value ∙ c.in_ok-class_name.ensures ∙ ap (λ main. code_class_name main number) c.as_str.ensures.value);
-        class = subst (λ s. IsCodeClass name number part s first c.in_ok-made.made.bytes.items) c.as_slice-2.ensures.value c.in_ok-made.ensures.class;
+        class = subst (λ bytes. IsCodeClass name number part spans first bytes) (sym c.shrink_to_fit.ensures.items)
+            (subst (λ s. IsCodeClass name number part s first c.in_ok-made.made.bytes.items) c.as_slice-2.ensures.value c.in_ok-made.ensures.class);
       };
       spans_are = c.in_ok-infos.ensures ∙ ap (λ s. span_infos number part s (length s)) c.as_slice-3.ensures.value;
       pieces_are = c.in_ok-made.ensures.pieces ∙ ap (pieces_of_class part) c.as_slice-2.ensures.value;
