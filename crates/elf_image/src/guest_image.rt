@@ -1,4 +1,4 @@
-ghost use Rattle.std.specs.Prelude.{◌≡◌, ℕ, ◌+◌, ◌*◌, ◌/◌, ◌%◌, ◌^◌, ◌<◌, ◌≤◌, false, List, All, None, IfOk, IfSome, is_some, length, slice_index};
+ghost use Rattle.std.specs.Prelude.{◌≡◌, ℕ, ◌+◌, ◌-◌, ◌*◌, ◌/◌, ◌%◌, ◌^◌, ◌<◌, ◌≤◌, max, min, false, List, All, None, IfOk, IfSome, is_some, length, slice_index};
 ghost use Rattle.std.specs.List.{list_any};
 ghost use Rattle.elf_reader.specs.Header.{header_of};
 ghost use Rattle.elf_reader.specs.Segments.{live};
@@ -6,7 +6,7 @@ ghost use Rattle.elf_reader.specs.Area.{area, has_address};
 ghost use Rattle.elf_reader.specs.Fault.{elf_fault, IsRunsOf};
 ghost use Rattle.elf_image.specs.Content.{stored_byte, stored_word, is_filled_page};
 ghost use Rattle.nv_words.specs.Words.{lane_of_word};
-ghost use Rattle.elf_image.specs.Pages.{pages_below, count_below};
+ghost use Rattle.elf_image.specs.Pages.{pages_below, argument_page, heap_page, count_below};
 ghost use Rattle.elf_image.specs.Refusals.{code_words, image_fault};
 ghost use Rattle.elf_image.specs.Start.{image_of, readable, writable};
 ghost use Rattle.elf_image.specs.Whole.{IsWholeRange};
@@ -130,7 +130,10 @@ impl Image {
 
     /// Pages that cannot be read, one behind the other: those between the heap and the stack, which are most of all.
     pub fn gap(&self) -> Gap
-        ensures end { result.end ≤ 524288 }
+        ensures start { result.start
+            ≡ min (heap_page (live self.now.file) + self.now.heap) pages_below }
+        ensures end { result.end ≡ max (argument_page - self.now.stack) result.start }
+        ensures low { result.end ≤ 524288 }
         ensures ordered { result.start ≤ result.end }
         ensures unused { (page : ℕ) → result.start ≤ page → page < result.end
             → readable self.now page ≡ false }

@@ -1,8 +1,8 @@
-ghost use Rattle.std.specs.Prelude.{◌≡◌, ℕ, ◌≤◌, ◌<◌, None, false, All, IfOk, length};
+ghost use Rattle.std.specs.Prelude.{◌≡◌, ℕ, ◌+◌, ◌-◌, ◌≤◌, ◌<◌, max, min, None, false, All, IfOk, length};
 ghost use Rattle.elf_reader.specs.Check.{least_below};
 ghost use Rattle.elf_reader.specs.Segments.{segment_end};
 ghost use Rattle.elf_reader.specs.declared.segment.Segment.{Segment};
-ghost use Rattle.elf_image.specs.Pages.{pages_below, heap_page, is_segment_page, is_data_page, is_heap_page, is_stack_page, is_readable_page, is_writable_page, is_shared, segment_pages, mapped_pages};
+ghost use Rattle.elf_image.specs.Pages.{pages_below, argument_page, heap_page, is_segment_page, is_data_page, is_heap_page, is_stack_page, is_readable_page, is_writable_page, is_shared, segment_pages, mapped_pages};
 ghost use Rattle.elf_image.specs.PageTable.{marked};
 
 use crate::gap::Gap;
@@ -181,7 +181,10 @@ impl Layout {
 
     /// The pages between segments and heap on the one side and the stack on the other, which are for nothing.
     pub fn gap(&self) -> Gap
-        ensures end { result.end ≤ 524288 }
+        ensures start { result.start
+            ≡ min (heap_page self.now.segments.value.items + self.now.heap) pages_below }
+        ensures end { result.end ≡ max (argument_page - self.now.stack) result.start }
+        ensures low { result.end ≤ 524288 }
         ensures ordered { result.start ≤ result.end }
         ensures unused { (page : ℕ) → result.start ≤ page → page < result.end
             → is_readable_page self.now.segments.value.items self.now.heap self.now.stack page

@@ -7,7 +7,7 @@ use Rattle.elf_image.proofs.layout.Layout.first_shared.Goals as goal
 pub returns-in-Some : goal.returns-in-Some
 returns-in-Some c =
     let l = c.args.self.now in
-    sym (least_stays (is_shared l.segments.value.items l.heap l.stack) c.gap-gap.result.start 524288 c.in-Some.page (sym c.in-Some.ensures) (omega (arith, c.gap-gap.ensures.end, c.gap-gap.ensures.ordered)))
+    sym (least_stays (is_shared l.segments.value.items l.heap l.stack) c.gap-gap.result.start 524288 c.in-Some.page (sym c.in-Some.ensures) (omega (arith, c.gap-gap.ensures.low, c.gap-gap.ensures.ordered)))
 
 pub first_shared_from-requires-in-None-clause-none : goal.first_shared_from-requires-in-None-clause-none
 first_shared_from-requires-in-None-clause-none c =
