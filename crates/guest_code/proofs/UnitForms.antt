@@ -2,7 +2,7 @@
 use Rattle.std.proofs.Common.{◌≡◌, ℕ, ◌+◌, ◌≤◌, Bool, true, false, List, [], ◌∷◌, ◌++◌, length, Option, Some, None, refl, ap, ◌∙◌, arith}
 use Rattle.mips_decode.specs.Branches.{equal_likely, zero_likely, sign_likely}
 use Rattle.mips_decode.specs.Effect.{fetch_fault, branch_in_slot_fault}
-use Rattle.mips_decode.specs.Targets.{branch_target, jump_target}
+use Rattle.mips_decode.specs.Targets.{branch_target}
 use Rattle.mips_decode.specs.declared.names.branch_equal_name.BranchEqualName.TheVariants.{Beq}
 use Rattle.mips_decode.specs.declared.names.branch_zero_name.BranchZeroName.TheVariants.{Blez}
 use Rattle.mips_decode.specs.declared.names.branch_sign_name.BranchSignName.TheVariants.{Bltz}
@@ -16,7 +16,7 @@ use Rattle.jvm_names.specs.declared.branch_name.BranchName.{BranchName}
 use Rattle.jvm_names.specs.declared.branch_name.BranchName.TheVariants.{Goto}
 use Rattle.jvm_program.specs.declared.kind.Kind.TheVariants as kinds
 use Rattle.jvm_program.specs.declared.local_kind.LocalKind.TheVariants as local_kinds
-use Rattle.jvm_program.specs.declared.instruction.Instruction.TheVariants.{Stack, Store, Put}
+use Rattle.jvm_program.specs.declared.instruction.Instruction.TheVariants.{Nop, Stack, Store, Put}
 use Rattle.guest_layout.specs.FieldNumbers.{pc_field}
 use Rattle.guest_code.specs.Branching.{behind_slot, equal_test, zero_test, sign_test, sign_link, jump_link, transfer_code}
 use Rattle.guest_code.specs.Units.{unit_code, next_address}
@@ -37,8 +37,7 @@ abbrev conditional : Bool → BranchName → ℕ → ℕ → List Part → Form 
 conditional true test target behind link slot =
     let over = Passes Goto (λ bank. 4 + length link + length (code_of bank slot)) in
     Both (Straight (passes test (5 + length link) ∷ Word behind ∷ settles ++ link ++ over ∷ Word target ∷ settles ++ link)) slot
-conditional false test target behind link slot =
-    Both (Straight (passes test 2 ∷ Word behind ∷ passes Goto 1 ∷ Word target ∷ settles ++ link)) slot
+conditional false test target behind link slot = Both (Straight link) slot
 
 abbrev pub transfer_form : Inst → ℕ → Form → Form
 transfer_form (inst.BranchEqual name rs rt imm) at slot =
@@ -49,10 +48,9 @@ transfer_form (inst.BranchZero name rs imm) at slot =
 transfer_form (inst.BranchSign name rs imm) at slot =
     Both (Straight (Reads rs ∷ []))
     (conditional (sign_likely name) (sign_test name) (branch_target at imm) (behind_slot at) (link_parts (sign_link name) at) slot)
-transfer_form (inst.Jump name index) at slot =
-    Both (Straight (Word (jump_target at index) ∷ settles ++ link_parts (jump_link name) at)) slot
-transfer_form (inst.JumpRegister rs) at slot = Both (Straight (Reads rs ∷ settles)) slot
-transfer_form (inst.JumpAndLinkRegister rs rd) at slot = Both (Straight (Reads rs ∷ settles ++ link_parts (Some rd) at)) slot
+transfer_form (inst.Jump name index) at slot = Both (Straight (Acts Nop ∷ link_parts (jump_link name) at)) slot
+transfer_form (inst.JumpRegister rs) at slot = Both (Straight (Reads rs ∷ [])) slot
+transfer_form (inst.JumpAndLinkRegister rs rd) at slot = Both (Straight (Reads rs ∷ link_parts (Some rd) at)) slot
 transfer_form other at slot = slot
 
 transfer-is : (bank : ℕ) (i : Inst) (at : ℕ) (slot : Form)

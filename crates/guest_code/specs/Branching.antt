@@ -1,6 +1,7 @@
--- The code of branches and jumps. Where the guest goes is put into field pc and local variable 0 before the code of the delay slot.
+-- The code of branches and jumps, up to behind their delay slots. Before the code of the slot a branch pushes what it compares, and a jump by a
+-- register where it goes: the way from the unit takes that. A likely branch puts where the guest goes into field pc and local variable 0.
 use Rattle.std.specs.Prelude.{ℕ, ◌+◌, ◌%◌, ◌^◌, Bool, if◌then◌else◌, List, [], ◌∷◌, ◌++◌, length, Option, Some, None}
-use Rattle.mips_decode.specs.Targets.{branch_target, jump_target}
+use Rattle.mips_decode.specs.Targets.{branch_target}
 use Rattle.mips_decode.specs.Branches.{equal_likely, zero_likely, sign_likely}
 use Rattle.mips_decode.specs.declared.names.branch_equal_name.BranchEqualName.{BranchEqualName}
 use Rattle.mips_decode.specs.declared.names.branch_equal_name.BranchEqualName.TheVariants.{Beq, Bne, Beql, Bnel}
@@ -17,7 +18,7 @@ use Rattle.jvm_names.specs.declared.stack_name.StackName.TheVariants.{Dup}
 use Rattle.jvm_names.specs.declared.branch_name.BranchName.{BranchName}
 use Rattle.jvm_names.specs.declared.branch_name.BranchName.TheVariants.{Iflt, Ifge, Ifgt, Ifle, IfIcmpeq, IfIcmpne, Goto}
 use Rattle.jvm_program.specs.declared.local_kind.LocalKind.TheVariants as local_kinds
-use Rattle.jvm_program.specs.declared.instruction.Instruction.TheVariants.{Stack, Store}
+use Rattle.jvm_program.specs.declared.instruction.Instruction.TheVariants.{Nop, Stack, Store}
 use Rattle.code_steps.specs.declared.step.Step.{Step}
 use Rattle.code_steps.specs.declared.step.Step.TheVariants.{Does, Skips}
 use Rattle.guest_layout.specs.FieldNumbers.{pc_field}
@@ -75,12 +76,6 @@ jump_link Jal = Some 31
 
 -- ---- branches with the code of their delay slots
 
--- the goal is chosen, then the link is written, then comes the slot
-abbrev pub branch_code : BranchName → Address → Address → List Step → List Step → List Step
-branch_code test target behind link slot =
-    Skips test 2 ∷ push_word behind ∷ Skips Goto 1 ∷ push_word target
-    ∷ (settle_code ++ link ++ slot)
-
 -- a likely branch that is not taken passes its slot over: a goal has four steps
 abbrev pub likely_code : BranchName → Address → Address → List Step → List Step → List Step
 likely_code test target behind link slot =
@@ -90,10 +85,10 @@ likely_code test target behind link slot =
 abbrev pub conditional_code : Bool → BranchName → Address → Address → List Step → List Step
     → List Step
 conditional_code likely test target behind link slot =
-    if likely then likely_code test target behind link slot
-    else branch_code test target behind link slot
+    if likely then likely_code test target behind link slot else link ++ slot
 
--- a branch or jump at an address, before the code of its slot; every other instruction has no such code
+-- A branch or jump at an address, before the code of its slot; every other instruction has no such code. One that pushes nothing has an
+-- instruction in any case, as it is a turn of the guest.
 abbrev pub transfer_code : ℕ → Inst → Address → List Step → List Step
 transfer_code bank (inst.BranchEqual name rs rt imm) at slot =
     get_register bank rs ∷ get_register bank rt
@@ -107,8 +102,8 @@ transfer_code bank (inst.BranchSign name rs imm) at slot =
     ∷ conditional_code (sign_likely name) (sign_test name) (branch_target at imm) (behind_slot at)
     (link_code bank (sign_link name) at) slot
 transfer_code bank (inst.Jump name index) at slot =
-    goes_to_code (jump_target at index) ++ link_code bank (jump_link name) at ++ slot
-transfer_code bank (inst.JumpRegister rs) at slot = get_register bank rs ∷ (settle_code ++ slot)
+    Does Nop ∷ (link_code bank (jump_link name) at ++ slot)
+transfer_code bank (inst.JumpRegister rs) at slot = get_register bank rs ∷ slot
 transfer_code bank (inst.JumpAndLinkRegister rs rd) at slot =
-    get_register bank rs ∷ (settle_code ++ link_code bank (Some rd) at ++ slot)
+    get_register bank rs ∷ (link_code bank (Some rd) at ++ slot)
 transfer_code bank other at slot = slot

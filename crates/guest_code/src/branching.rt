@@ -11,7 +11,7 @@ use crate::transfer::Transfer;
 use code_steps::Step;
 use jvm_names::{BranchName, StackName};
 use jvm_program::{Instruction, LocalKind};
-use mips_decode::{Inst, jump_target};
+use mips_decode::Inst;
 
 /// A branch or jump at an address with the code of its slot. Of every other instruction it is that code alone.
 pub fn append_transfer(
@@ -38,18 +38,16 @@ pub fn append_transfer(
             code.push(get_register(bank, rs))?;
             append_conditional(bank, sign_branch(name, at, imm), at, slot, code)
         }
-        Inst::Jump { name, index } => {
-            append_goal(jump_target(at, index), code)?;
+        Inst::Jump { name, .. } => {
+            code.push(Step::Does(Instruction::Nop))?;
             append_linked(bank, jump_link(name), at, slot, code)
         }
         Inst::JumpRegister { rs } => {
             code.push(get_register(bank, rs))?;
-            append_settled(code)?;
             append_linked(bank, None, at, slot, code)
         }
         Inst::JumpAndLinkRegister { rs, rd } => {
             code.push(get_register(bank, rs))?;
-            append_settled(code)?;
             append_linked(bank, Some(rd), at, slot, code)
         }
         _ => append_all(slot, code),
@@ -71,33 +69,8 @@ fn append_conditional(
     if branch.likely {
         append_likely(bank, branch, at, slot, code)
     } else {
-        append_branch(bank, branch, at, slot, code)
+        append_linked(bank, branch.link, at, slot, code)
     }
-}
-
-// The goal is chosen, then the link is written, then comes the slot.
-fn append_branch(
-    bank: &Bank,
-    branch: Transfer,
-    at: u32,
-    slot: Vec<Step>,
-    code: &mut Vec<Step>,
-) -> Result<(), NoMemory>
-    ensures { OnOk result (code.new.items ≡ code.old.items
-        ++ emitted.branch_code branch.test branch.target (emitted.behind_slot at)
-        (emitted.link_code bank.now branch.link at) slot.items) }
-{
-    append_steps(
-        [
-            Step::Skips(branch.test, 2),
-            push_word(behind_slot(at)),
-            Step::Skips(BranchName::Goto, 1),
-            push_word(branch.target),
-        ],
-        code,
-    )?;
-    append_settled(code)?;
-    append_linked(bank, branch.link, at, slot, code)
 }
 
 // A likely branch that is not taken passes its slot over. A goal has four steps.

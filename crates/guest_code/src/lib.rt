@@ -20,6 +20,8 @@ pub use access::{
     append_steps, arithmetic, get_field, get_register, push_word, put_field, put_register,
 };
 pub use bank::Bank;
+pub use conditions::{equal_branch, sign_branch, zero_branch};
+pub use transfer::Transfer;
 pub use units::{append_instruction, append_unit};
 
 /// Want of memory, the one error of what appends code.

@@ -23,8 +23,8 @@ use mips_decode::fault_kinds::{BRANCH_IN_SLOT, BREAK, FETCH, RESERVED};
 use mips_decode::{Inst, encode};
 use std::alloc::Global;
 
-/// Appends the code of a unit at an address, over a bank. It leads from before the unit to behind it, with where the guest goes in field
-/// pc and local variable 0 where the unit is a branch or jump, or to the run's end.
+/// Appends the code of a unit at an address, over a bank. It leads from before the unit to behind it, or to the run's end. Behind a branch or
+/// jump stands on the stack what the way from it takes; a likely branch has put where the guest goes into field pc and local variable 0.
 ///
 /// # Errors
 /// Want of memory for the code.
