@@ -1,5 +1,6 @@
 //! Where code goes behind a unit.
-ghost use Rattle.std.specs.Prelude.{◌≡◌, ◌++◌, OnOk};
+ghost use Rattle.std.specs.Prelude.{◌≡◌, ◌++◌, OnOk, length};
+ghost use Rattle.guest_code.specs.Branching.{behind_slot};
 ghost use Rattle.code_steps.specs.Returning.{returns};
 ghost use Rattle.word_emitter.specs.Exits as emitted;
 
@@ -8,10 +9,12 @@ use crate::extent::Extent;
 use crate::registers::is_likely;
 use code_steps::Step;
 use delay_slots::Unit;
-use guest_code::{append_steps, fields, push_word, put_field};
+use guest_code::{
+    Transfer, append_steps, equal_branch, fields, push_word, put_field, sign_branch, zero_branch,
+};
 use jvm_names::{BranchName, ReturnName};
 use jvm_program::{Instruction, LocalKind};
-use mips_decode::{Inst, branch_target, jump_target};
+use mips_decode::{Inst, jump_target};
 
 /// Appends the code behind that of a unit at an address, in the method of a span. `behind` is the address whose code is directly behind,
 /// where there is one. A step that leaves names the address of a word of the span.
@@ -51,19 +54,71 @@ fn append_branch(
         ++ emitted.branch_exit span behind inst.now at) }
 {
     match *inst {
-        Inst::BranchSign { imm, .. }
-        | Inst::BranchEqual { imm, .. }
-        | Inst::BranchZero { imm, .. } => {
-            append_two(
-                span,
-                behind,
-                branch_target(at, imm),
-                at.wrapping_add(8),
-                code,
-            )
+        Inst::BranchSign { name, imm, .. } => {
+            append_conditional(span, behind, sign_branch(name, at, imm), at, code)
         }
-        Inst::Jump { index, .. } => append_last(span, behind, jump_target(at, index), code),
+        Inst::BranchEqual { name, imm, .. } => {
+            append_conditional(span, behind, equal_branch(name, at, imm), at, code)
+        }
+        Inst::BranchZero { name, imm, .. } => {
+            append_conditional(span, behind, zero_branch(name, at, imm), at, code)
+        }
+        Inst::Jump { index, .. } => append_next(span, behind, jump_target(at, index), code),
+        Inst::JumpRegister { .. } | Inst::JumpAndLinkRegister { .. } => {
+            append_steps([put_field(fields::PC), returns()], code)
+        }
         _ => Ok(code.push(returns())?),
+    }
+}
+
+fn append_conditional(
+    span: Extent,
+    behind: Option<u32>,
+    branch: Transfer,
+    at: u32,
+    code: &mut Vec<Step>,
+) -> Result<(), NoMemory>
+    ensures { OnOk result (code.new.items ≡ code.old.items
+        ++ emitted.conditional_exit span behind branch.likely branch.test branch.target
+        (behind_slot at)) }
+{
+    let second = at.wrapping_add(8);
+    if branch.likely {
+        append_two(span, behind, branch.target, second, code)
+    } else {
+        append_chosen(span, behind, branch.test, branch.target, second, code)
+    }
+}
+
+// What is compared is on the stack.
+fn append_chosen(
+    span: Extent,
+    behind: Option<u32>,
+    test: BranchName,
+    target: u32,
+    second: u32,
+    code: &mut Vec<Step>,
+) -> Result<(), NoMemory>
+    ensures { OnOk result (code.new.items ≡ code.old.items
+        ++ emitted.chosen_ways span behind test target second) }
+{
+    code.push(Step::Skips(unless(test), go_steps(span, target)))?;
+    append_go(span, target, code)?;
+    append_next(span, behind, second, code)
+}
+
+// The test that is passed where the other is not.
+fn unless(test: BranchName) -> BranchName
+    ensures { result ≡ emitted.unless test }
+{
+    match test {
+        BranchName::Iflt => BranchName::Ifge,
+        BranchName::Ifge => BranchName::Iflt,
+        BranchName::Ifgt => BranchName::Ifle,
+        BranchName::Ifle => BranchName::Ifgt,
+        BranchName::IfIcmpeq => BranchName::IfIcmpne,
+        BranchName::IfIcmpne => BranchName::IfIcmpeq,
+        _ => test,
     }
 }
 
@@ -122,7 +177,7 @@ fn arrive(span: Extent, goal: u32) -> Step
     }
 }
 
-// The next word follows. Field pc is set where that is outside.
+// An address is known, where the guest goes on.
 fn append_next(
     span: Extent,
     behind: Option<u32>,
@@ -133,12 +188,26 @@ fn append_next(
 {
     if behind == Some(next) {
         Ok(())
-    } else if span.has(next) {
-        code.push(Step::Leaves(next))?;
-        Ok(())
     } else {
-        append_steps([push_word(next), put_field(fields::PC), returns()], code)
+        append_go(span, next, code)
     }
+}
+
+// Field pc is set where the address is outside.
+fn append_go(span: Extent, goal: u32, code: &mut Vec<Step>) -> Result<(), NoMemory>
+    ensures { OnOk result (code.new.items ≡ code.old.items ++ emitted.go span goal) }
+{
+    if span.has(goal) {
+        Ok(code.push(Step::Leaves(goal))?)
+    } else {
+        append_steps([push_word(goal), put_field(fields::PC), returns()], code)
+    }
+}
+
+fn go_steps(span: Extent, goal: u32) -> u32
+    ensures { result ≡ length (emitted.go span goal) }
+{
+    if span.has(goal) { 1 } else { 3 }
 }
 
 // The method ends, and field pc says where the guest goes.
