@@ -52,13 +52,18 @@ with_value bank r v w operands =
     else if keeps bank r then with_local w r v operands
     else with_field w (register_field r) v operands
 
--- Code over a bank has left the fields of the bank's registers alone, and the operands.
+-- code over a bank has left the fields of the bank's registers alone
+abbrev pub KeepsFields : ℕ → Workspace → Workspace → Type 0
+KeepsFields bank old new =
+    (r : ℕ) → 0 < r → r < 32 → keeps bank r ≡ true
+    → new.fields (register_field r) ≡ old.fields (register_field r)
+
+-- and the operands
 pub record Keeps (bank : ℕ) (old new : Workspace) : Type 0 where
-  pub fields_kept : (r : ℕ) → 0 < r → r < 32 → keeps bank r ≡ true
-      → new.fields (register_field r) ≡ old.fields (register_field r)
+  pub fields_kept : KeepsFields bank old new
   pub operands_kept : new.operands ≡ old.operands
 
--- It has left field pc and local variable 0 alone, where the goal of a branch is.
+-- It has left field pc and local variable 0 alone, where the goal of a likely branch is.
 pub record KeepsGoal (old new : Workspace) : Type 0 where
   pub pc_kept : new.fields pc_field ≡ old.fields pc_field
   pub goal_kept : new.locals 0 ≡ old.locals 0
