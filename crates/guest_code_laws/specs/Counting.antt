@@ -62,7 +62,7 @@ pub record UnitCounts (site : Site) (bank : ℕ) (known : ℕ → Bool) (at : Co
   pub counts : Counts is_span (unit_reads unit x) 0 total
   pub follows : Follows site at (at + size (unit_code bank unit x.pc))
       (turn_count (unit_turns unit x)) (132 * turn_count (unit_turns unit x)) total
-      (UnitArrives bank known unit w) (stands site at w) (last_turn (unit_turns unit x))
+      (UnitArrives bank known unit x.pc w) (stands site at w) (last_turn (unit_turns unit x))
   pub asking : ReadsNoneToCall total (last_turn (unit_turns unit x))
 
 -- so does the code of every lawful unit, wherever it lies, from each workspace that holds the state

@@ -41,5 +41,5 @@ SlotsArePassedOver =
     → HoldsOn bank known w x
     → turn_count (unit_turns (Branch i slot) x) ≡ 1
     → FollowsPast site order at (unit_code bank (Branch i slot) x.pc)
-    (instruction_code bank slot (next_address x.pc)) (UnitArrives bank known (Branch i slot) w) w
+    (instruction_code bank slot (next_address x.pc)) (UnitArrives bank known (Branch i slot) x.pc w) w
     (unit_turns (Branch i slot) x)

@@ -5,18 +5,18 @@ use Rattle.nv_events.specs.Turn.{Turn, moves}
 use Rattle.mips_decode.specs.State.{State}
 use Rattle.delay_slots.specs.declared.unit.Unit.{Unit}
 use Rattle.delay_slots.specs.declared.unit.Unit.TheVariants as units
+use Rattle.delay_slots.specs.Places.{Address}
 use Rattle.delay_slots.specs.Turns.{unit_turns, turn_count, last_turn}
 use Rattle.block_builder.specs.Leaders.{is_plain}
-use Rattle.jvm_program.specs.declared.value.Value.TheVariants.{Int as int}
 use Rattle.jvm_program.specs.Effect.{Workspace}
 use Rattle.code_steps.specs.Widths.{size}
 use Rattle.code_steps.specs.Offsets.{CodeOffset}
 use Rattle.code_steps.specs.Placing.{LiesAt}
-use Rattle.guest_layout.specs.FieldNumbers.{pc_field}
 use Rattle.guest_code.specs.Access.{keeps}
 use Rattle.word_emitter.specs.Pieces.{bank_of, is_needed, warm_code}
 use Rattle.lawful_units.specs.Lawful.{IsLawful}
-use Rattle.guest_follows.specs.Holding.{HoldsOn, KeepsGoal}
+use Rattle.guest_follows.specs.Behind.{SaysGoal}
+use Rattle.guest_follows.specs.Holding.{HoldsOn}
 use Rattle.guest_follows.specs.Sites.{Site, stands, whole_weight}
 use Rattle.guest_follows.specs.Following.{Follows}
 use Rattle.guest_code_laws.specs.Instructions.{IsReady}
@@ -50,22 +50,23 @@ known_first piece r = not (keeps (bank_of piece) r) || is_needed piece r
 abbrev pub HoldsAll : Workspace → State → Type 0
 HoldsAll w s = HoldsOn 0 (λ r. true) w s
 
--- behind a branch or jump field pc and local variable 0 say where the guest is; another unit leaves them alone
-abbrev pub UnitGoal : Unit → Workspace → Workspace → State → Type 0
-UnitGoal (units.Plain i) before after t = KeepsGoal before after
-UnitGoal units.Call before after t = KeepsGoal before after
-UnitGoal unit before after t = (after.fields pc_field ≡ int t.pc) × (after.locals 0 ≡ int t.pc)
+-- a branch or jump at an address says where the guest is; another unit leaves the operands alone
+abbrev pub UnitGoal : Unit → Address → Workspace → Workspace → State → Type 0
+UnitGoal (units.Branch i slot) at before after t = SaysGoal i at before after t.pc
+UnitGoal (units.SlotMissing i) at before after t = SaysGoal i at before after t.pc
+UnitGoal (units.SlotIsBranch i word) at before after t = SaysGoal i at before after t.pc
+UnitGoal unit at before after t = after.operands ≡ before.operands
 
-abbrev pub PieceGoal : List Unit → Workspace → Workspace → State → Type 0
-PieceGoal [] before after t = KeepsGoal before after
-PieceGoal (unit ∷ []) before after t = UnitGoal unit before after t
-PieceGoal (unit ∷ units) before after t = PieceGoal units before after t
+abbrev pub PieceGoal : List Unit → Address → Workspace → Workspace → State → Type 0
+PieceGoal [] at before after t = after.operands ≡ before.operands
+PieceGoal (unit ∷ []) at before after t = UnitGoal unit at before after t
+PieceGoal (unit ∷ units) at before after t = PieceGoal units (at + 4) before after t
 
--- Where the code of a piece has come to its end.
-pub record PieceArrives (piece : List Unit) (before after : Workspace) (t : State) : Type 0 where
+-- Where the code of a piece at an address has come to its end.
+pub record PieceArrives (piece : List Unit) (at : Address) (before after : Workspace) (t : State)
+    : Type 0 where
   pub held : HoldsAll after t
-  pub operands_kept : after.operands ≡ before.operands
-  pub goal : PieceGoal piece before after t
+  pub goal : PieceGoal piece at before after t
 
 -- The code of a piece of units follows all their turns, wherever it lies, from each workspace that holds the state: with at least as many turns as
 -- the guest, and at most 256 for each of them.
@@ -80,7 +81,7 @@ PieceFollows piece =
     → HoldsAll w x
     → Follows site at (at + size (warm_code piece x.pc)) (piece_turns piece x).0
     (256 * (piece_turns piece x).0) (whole_weight order (warm_code piece x.pc))
-    (PieceArrives piece w) (stands site at w) (piece_turns piece x).1
+    (PieceArrives piece x.pc w) (stands site at w) (piece_turns piece x).1
 
 -- every piece of lawful units is followed by its code
 abbrev pub AllPiecesFollow : Type 0

@@ -5,6 +5,7 @@ use Rattle.mips_decode.specs.State.{State}
 use Rattle.mips_decode.specs.declared.inst.Inst.{Inst}
 use Rattle.delay_slots.specs.declared.unit.Unit.{Unit}
 use Rattle.delay_slots.specs.declared.unit.Unit.TheVariants.{Branch, SlotMissing, SlotIsBranch}
+use Rattle.delay_slots.specs.Places.{Address}
 use Rattle.delay_slots.specs.Turns.{unit_turns, turn_count, last_turn}
 use Rattle.block_builder.specs.Registers.{unit_writes}
 use Rattle.jvm_program.specs.Effect.{Workspace}
@@ -21,15 +22,16 @@ use Rattle.guest_code_laws.specs.Instructions.{IsReady, InstructionFollows}
 
 -- ---- the law
 
--- where the code of a unit has come to its end
-abbrev pub UnitArrives : ℕ → (ℕ → Bool) → Unit → Workspace → Workspace → State → Type 0
-UnitArrives bank known (Branch i slot) before after t =
-    HasGone bank known (unit_writes (Branch i slot)) before after t
-UnitArrives bank known (SlotMissing i) before after t =
-    HasGone bank known (unit_writes (SlotMissing i)) before after t
-UnitArrives bank known (SlotIsBranch i word) before after t =
-    HasGone bank known (unit_writes (SlotIsBranch i word)) before after t
-UnitArrives bank known unit before after t = IsDone bank known (unit_writes unit) before after t
+-- where the code of a unit at an address has come to its end
+abbrev pub UnitArrives : ℕ → (ℕ → Bool) → Unit → Address → Workspace → Workspace → State → Type 0
+UnitArrives bank known (Branch i slot) at before after t =
+    HasGone bank known (unit_writes (Branch i slot)) i at before after t
+UnitArrives bank known (SlotMissing i) at before after t =
+    HasGone bank known (unit_writes (SlotMissing i)) i at before after t
+UnitArrives bank known (SlotIsBranch i word) at before after t =
+    HasGone bank known (unit_writes (SlotIsBranch i word)) i at before after t
+UnitArrives bank known unit at before after t =
+    IsDone bank known (unit_writes unit) before after t
 
 -- every instruction that can stand alone or in a delay slot is followed by its code
 abbrev pub AllFollow : Type 0
@@ -48,7 +50,7 @@ UnitFollows unit =
     → HoldsOn bank known w x
     → Follows site at (at + size (unit_code bank unit x.pc)) (turn_count (unit_turns unit x))
     (132 * turn_count (unit_turns unit x)) (whole_weight order (unit_code bank unit x.pc))
-    (UnitArrives bank known unit w) (stands site at w) (last_turn (unit_turns unit x))
+    (UnitArrives bank known unit x.pc w) (stands site at w) (last_turn (unit_turns unit x))
 
 -- every unit that words spell is followed by its code
 abbrev pub AllUnitsFollow : Type 0

@@ -1,5 +1,5 @@
 -- The registers before the code of a piece's units, and behind it.
-use Rattle.std.proofs.Common.{◌≡◌, ℕ, ◌<◌, ◌≤◌, ◌||◌, Bool, true, false, not, if◌then◌else◌, inl, inr, List, [], ◌∷◌, Option, Some, None, refl, ap, subst, sym, ◌∙◌, arith}
+use Rattle.std.proofs.Common.{◌≡◌, ℕ, ◌+◌, ◌<◌, ◌≤◌, ◌||◌, Bool, true, false, not, if◌then◌else◌, inl, inr, List, [], ◌∷◌, Option, Some, None, refl, ap, subst, sym, ◌∙◌, arith}
 use Rattle.std.specs.List.{flat_map}
 use Rattle.std.proofs.lemmas.Bool.{cases_Bool, not_from_false, or_left, or_right, true≢false}
 use Rattle.mips_decode.specs.State.{State}
@@ -17,8 +17,9 @@ use Rattle.word_emitter.specs.Pieces.{bank_of, fetched, is_needed, is_written, p
 use Rattle.lawful_units.specs.Knowing.{gained}
 use Rattle.lawful_units.proofs.PieceSets.{AreLawful, SetLaws, known-behind, written-kept}
 use Rattle.guest_follows.specs.Match.{HoldsMemory}
-use Rattle.guest_follows.specs.Holding.{HoldsOn, IsLink, reached}
-use Rattle.guest_code_laws.specs.Pieces.{HoldsAll, PieceArrives, PieceGoal, known_first}
+use Rattle.guest_follows.specs.Holding.{HoldsOn, IsLink, KeepsGoal, reached}
+use Rattle.guest_code_laws.specs.Pieces.{HoldsAll, PieceArrives, PieceGoal, UnitGoal, known_first}
+use Rattle.guest_code_laws.proofs.UnitLaws.Reaching.{says-still, says-from}
 use Rattle.guest_code_laws.proofs.PieceLaws.Fetching.{AreInFields, Fetches, PutsBack, each_code}
 use Rattle.guest_code_laws.proofs.PieceLaws.Running.{HasRun}
 use Rattle.guest_code_laws.proofs.PieceLaws.Sets.{none-kept}
@@ -30,7 +31,6 @@ pub record HasBegun (piece : List Word) (x : State) (before after : Workspace) :
   pub held : HoldsOn (bank_of piece) (known_first piece) after x
   pub fields_kept : after.fields ≡ before.fields
   pub operands_kept : after.operands ≡ before.operands
-  pub goal_kept : after.locals 0 ≡ before.locals 0
 
 -- all registers are in their fields
 pub all-in-fields : (w : Workspace) (s : State) → HoldsAll w s → AreInFields w.fields s.registers
@@ -63,7 +63,6 @@ module _ (program : Program) (words : ℕ) (piece : List Word) (w : Workspace) (
     };
     fields_kept = f.fields_kept;
     operands_kept = f.operands_kept;
-    goal_kept = f.locals_kept 0 (omega arith);
   }
     where
       same : (g : ℕ) → f.after.fields g ≡ w.fields g
@@ -124,17 +123,23 @@ module _ (program : Program) (words : ℕ) (piece : List Word) (u : Workspace) (
 
 -- ---- behind the units
 
--- where the goal is kept before and behind the code of units, it is theirs
-goal-moved : (before v u after : Workspace) (t : State) → v.fields pc_field ≡ before.fields pc_field → v.locals 0 ≡ before.locals 0
-    → after.fields pc_field ≡ u.fields pc_field → after.locals 0 ≡ u.locals 0 → (rest : List Word) (unit : Word) → PieceGoal (unit ∷ rest) v u t
-    → PieceGoal (unit ∷ rest) before after t
-goal-moved before v u after t a b c d [] (units.Plain i) goal = record { pc_kept = c ∙ goal.pc_kept ∙ a; goal_kept = d ∙ goal.goal_kept ∙ b }
-goal-moved before v u after t a b c d [] units.Call goal = record { pc_kept = c ∙ goal.pc_kept ∙ a; goal_kept = d ∙ goal.goal_kept ∙ b }
-goal-moved before v u after t a b c d [] (units.Branch i slot) goal = (c ∙ goal.0, d ∙ goal.1)
-goal-moved before v u after t a b c d [] (units.SlotMissing i) goal = (c ∙ goal.0, d ∙ goal.1)
-goal-moved before v u after t a b c d [] (units.SlotIsBranch i word) goal = (c ∙ goal.0, d ∙ goal.1)
-goal-moved before v u after t a b c d [] (units.Trap kind value) goal = (c ∙ goal.0, d ∙ goal.1)
-goal-moved before v u after t a b c d (next ∷ rest) unit goal = goal-moved before v u after t a b c d rest next goal
+-- where the operands are kept before the code of units, and those and the goal behind it, the goal is theirs
+pub unit-moved : (before v u after : Workspace) (t : State) → v.operands ≡ before.operands → after.operands ≡ u.operands → KeepsGoal u after
+    → (unit : Word) (at : ℕ) → UnitGoal unit at v u t → UnitGoal unit at before after t
+unit-moved before v u after t first last kept (units.Plain i) at goal = last ∙ goal ∙ first
+unit-moved before v u after t first last kept (units.Branch i slot) at goal =
+    says-still i at before u after t.pc last kept (says-from i at before v u t.pc first goal)
+unit-moved before v u after t first last kept (units.SlotMissing i) at goal =
+    says-still i at before u after t.pc last kept (says-from i at before v u t.pc first goal)
+unit-moved before v u after t first last kept (units.SlotIsBranch i word) at goal =
+    says-still i at before u after t.pc last kept (says-from i at before v u t.pc first goal)
+unit-moved before v u after t first last kept units.Call at goal = last ∙ goal ∙ first
+unit-moved before v u after t first last kept (units.Trap kind value) at goal = last ∙ goal ∙ first
+
+goal-moved : (before v u after : Workspace) (t : State) → v.operands ≡ before.operands → after.operands ≡ u.operands → KeepsGoal u after
+    → (rest : List Word) (unit : Word) (at : ℕ) → PieceGoal (unit ∷ rest) at v u t → PieceGoal (unit ∷ rest) at before after t
+goal-moved before v u after t first last kept [] unit at goal = unit-moved before v u after t first last kept unit at goal
+goal-moved before v u after t first last kept (next ∷ rest) unit at goal = goal-moved before v u after t first last kept rest next (at + 4) goal
 
 module _ (sets : SetLaws) (program : Program) (words : ℕ) (unit : Word) (rest : List Word) (lawful : AreLawful (unit ∷ rest)) (w v u : Workspace)
     (x t : State) (h : HoldsAll w x) (first : HasBegun (unit ∷ rest) x w v)
@@ -159,7 +164,7 @@ module _ (sets : SetLaws) (program : Program) (words : ℕ) (unit : Word) (rest 
   unwritten-there : (r : ℕ) → 0 < r → r < 32 → is_written piece r ≡ false → u.fields (register_field r) ≡ int (t.registers r)
   unwritten-there r positive below none = elim (cases_Bool (keeps bank r)) [
     | inl kept ↦
-        run.kept.fields_kept r positive below kept
+        run.fields_kept r positive below kept
         ∙ ap (λ (fields : ℕ → Value). fields (register_field r)) first.fields_kept
         ∙ all-in-fields w x h r positive below
         ∙ ap int (sym (run.left r positive below none))
@@ -170,10 +175,13 @@ module _ (sets : SetLaws) (program : Program) (words : ℕ) (unit : Word) (rest 
   ]
 
   pub arrived : (p : PutsBack program words (is_written piece) t.registers 1 31 (each_code (is_written piece) put_back 1 31) u)
-      → PieceArrives piece w p.after t
+      → PieceArrives piece x.pc w p.after t
   arrived p = record {
     held = put-held program words piece u t p unwritten-there (gained (flat_map unit_writes piece) (known_first piece)) run.held;
-    operands_kept = p.operands_kept ∙ run.kept.operands_kept ∙ first.operands_kept;
-    goal = goal-moved w v u p.after t (ap (λ (fields : ℕ → Value). fields pc_field) first.fields_kept) first.goal_kept
-        (put-field program words piece u t p pc_field (omega arith)) (ap (λ (locals : ℕ → Value). locals 0) p.locals_kept) rest unit run.goal;
+    goal = goal-moved w v u p.after t first.operands_kept p.operands_kept
+        (record {
+          pc_kept = put-field program words piece u t p pc_field (omega arith);
+          goal_kept = ap (λ (locals : ℕ → Value). locals 0) p.locals_kept;
+        })
+        rest unit x.pc run.goal;
   }

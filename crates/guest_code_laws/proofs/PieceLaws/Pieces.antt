@@ -60,7 +60,7 @@ module _ (laws : PathLaws) (sets : SetLaws) (change : InstructionsChangeWhatThey
     abbrev CodeFollows : List Step → Type 0
     CodeFollows code =
         LiesAt site.program site.method at code
-        → Follows site at (at + size code) (piece_turns piece x).0 (256 * (piece_turns piece x).0) (whole_weight order code) (PieceArrives piece w)
+        → Follows site at (at + size code) (piece_turns piece x).0 (256 * (piece_turns piece x).0) (whole_weight order code) (PieceArrives piece x.pc w)
         (stands site at w) (piece_turns piece x).1
 
     parts-follow : CodeFollows (front ++ (middle ++ back))
@@ -69,7 +69,7 @@ module _ (laws : PathLaws) (sets : SetLaws) (change : InstructionsChangeWhatThey
         let second = laws.parts site.program site.method (at + size front) middle back (units-stay (bank_of piece) piece x.pc) first.1 in
         let f = fetches site.program site.words (is_needed piece) x.registers 31 1 w (omega arith) (omega arith) (all-in-fields w x h) in
         three-parts site order at (piece_turns piece x).0 front middle back w (piece_turns piece x).1 (HasBegun piece x w)
-        (HasRun (bank_of piece) (known_first piece) piece x) (PieceArrives piece w)
+        (HasRun (bank_of piece) (known_first piece) piece x) (PieceArrives piece x.pc w)
         (some-more (turn_count (unit_turns unit x)) (last_turn (unit_turns unit x)) (piece_turns rest) (some-turn (unit_turns unit x)))
         ((code-laws laws).end_follows site order at 0 62 f.turns front w f.after (HasBegun piece x w) first.0 f.comes (omega arith) f.few
         (begun site.program site.words piece w x h f))
@@ -79,7 +79,7 @@ module _ (laws : PathLaws) (sets : SetLaws) (change : InstructionsChangeWhatThey
         (λ v u t begins runs.
         let p = puts-back site.program site.words (is_written piece) t.registers 31 1 u (omega arith) (omega arith)
         (written-there sets site.program site.words unit rest lawful w v u x t h begins runs) in
-        (code-laws laws).end_follows site order (at + size front + size middle) 0 62 p.turns back u p.after (λ z. PieceArrives piece w z t) second.1
+        (code-laws laws).end_follows site order (at + size front + size middle) 0 62 p.turns back u p.after (λ z. PieceArrives piece x.pc w z t) second.1
         p.comes (omega arith) p.few
         (arrived sets site.program site.words unit rest lawful w v u x t h begins runs p))
 

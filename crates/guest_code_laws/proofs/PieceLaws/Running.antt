@@ -22,15 +22,16 @@ use Rattle.lawful_units.specs.Knowing.{gained}
 use Rattle.lawful_units.specs.Lawful.{AreAllKnown, IsLawful, KnownByUnit, has_register}
 use Rattle.lawful_units.proofs.PieceSets.{AreLawful, SetLaws, NeedLaws}
 use Rattle.code_paths.proofs.Joining.{no-turns, path-wider}
-use Rattle.guest_follows.specs.Holding.{HoldsOn, Keeps, KeepsGoal}
+use Rattle.guest_follows.specs.Holding.{HoldsOn, KeepsFields}
 use Rattle.guest_follows.specs.Sites.{Site, stands, turn_in, whole_weight}
 use Rattle.guest_follows.specs.Following.{LastTurn, Follows}
-use Rattle.guest_follows.specs.Behind.{IsHeld, IsDone}
+use Rattle.guest_follows.specs.Behind.{IsDone}
 use Rattle.guest_follows.specs.Laws.{PathLaws}
 use Rattle.guest_follows.proofs.GuestFollows.Weights.{whole-both, size-both}
 use Rattle.guest_code_laws.specs.Instructions.{IsReady}
 use Rattle.guest_code_laws.specs.Units.{UnitArrives, UnitFollows}
 use Rattle.guest_code_laws.proofs.UnitLaws.Joining.{Maps, follows-after}
+use Rattle.guest_code_laws.proofs.UnitLaws.Reaching.{says-from}
 use Rattle.guest_code_laws.specs.Pieces.{AreStraight, PieceGoal, UnitGoal, piece_turns, then_turns}
 use Rattle.guest_code_laws.proofs.PieceLaws.Behind.{maps-all}
 use Rattle.guest_code_laws.proofs.PieceLaws.Turns.{GoesOrEnds, IsPast, LeavesOthers, Reaches, plain-past, unit-leaves}
@@ -39,9 +40,9 @@ use Rattle.guest_code_laws.proofs.PieceLaws.Within.{unit-stays}
 -- Where the code of units has come to its end, over a bank.
 pub record HasRun (bank : ℕ) (known : ℕ → Bool) (piece : List Word) (x : State) (before after : Workspace) (t : State) : Type 0 where
   pub held : HoldsOn bank (gained (flat_map unit_writes piece) known) after t
-  pub kept : Keeps bank before after
+  pub fields_kept : KeepsFields bank before after
   pub left : LeavesOthers (is_written piece) x t
-  pub goal : PieceGoal piece before after t
+  pub goal : PieceGoal piece x.pc before after t
 
 -- ---- the last unit
 
@@ -74,11 +75,11 @@ module _ (sets : SetLaws) (bank : ℕ) (known : ℕ → Bool) (w : Workspace) (x
   abbrev LeavesBy : Word → State → Type 0
   LeavesBy unit t = LeavesOthers (has_register (unit_writes unit)) x t
 
-  one-run : (unit : Word) → IsLawful unit → (u : Workspace) (t : State) → LeavesBy unit t → IsHeld bank known (unit_writes unit) w u t
-      → UnitGoal unit w u t → HasRun bank known (unit ∷ []) x w u t
-  one-run unit is u t leaves_others state goal = record {
-    held = subst (λ written. HoldsOn bank (gained written known) u t) (sym (append-nil (unit_writes unit))) state.held;
-    kept = state.kept;
+  one-run : (unit : Word) → IsLawful unit → (u : Workspace) (t : State) → LeavesBy unit t → HoldsOn bank (gained (unit_writes unit) known) u t
+      → KeepsFields bank w u → UnitGoal unit x.pc w u t → HasRun bank known (unit ∷ []) x w u t
+  one-run unit is u t leaves_others held fields_kept goal = record {
+    held = subst (λ written. HoldsOn bank (gained written known) u t) (sym (append-nil (unit_writes unit))) held;
+    fields_kept = fields_kept;
     left = λ r positive below none.
         leaves_others r positive below
         (sym (sets.is_membership (unit_writes unit) r (sets.writes_numbers unit is) positive below) ∙ (or_parts _ false none).0);
@@ -86,28 +87,28 @@ module _ (sets : SetLaws) (bank : ℕ) (known : ℕ → Bool) (w : Workspace) (x
   }
 
   maps-last : (unit : Word) → IsLawful unit → Reaches (LeavesBy unit) (last_turn (unit_turns unit x))
-      → Maps (last_turn (unit_turns unit x)) (UnitArrives bank known unit w) (HasRun bank known (unit ∷ []) x w)
+      → Maps (last_turn (unit_turns unit x)) (UnitArrives bank known unit x.pc w) (HasRun bank known (unit ∷ []) x w)
   maps-last (units.Plain i) is at =
-      maps-reached (LeavesBy (units.Plain i)) (UnitArrives bank known (units.Plain i) w) (HasRun bank known (units.Plain i ∷ []) x w)
-      (λ u t leaves_others done. one-run (units.Plain i) is u t leaves_others done.state done.goal) (done i x) at
+      maps-reached (LeavesBy (units.Plain i)) (UnitArrives bank known (units.Plain i) x.pc w) (HasRun bank known (units.Plain i ∷ []) x w)
+      (λ u t leaves_others done. one-run (units.Plain i) is u t leaves_others done.state.held done.state.kept.fields_kept done.state.kept.operands_kept) (done i x) at
   maps-last (units.Branch i slot) is at =
-      maps-reached (LeavesBy (units.Branch i slot)) (UnitArrives bank known (units.Branch i slot) w)
+      maps-reached (LeavesBy (units.Branch i slot)) (UnitArrives bank known (units.Branch i slot) x.pc w)
       (HasRun bank known (units.Branch i slot ∷ []) x w)
-      (λ u t leaves_others gone. one-run (units.Branch i slot) is u t leaves_others gone.state (gone.field_is, gone.local_is))
+      (λ u t leaves_others gone. one-run (units.Branch i slot) is u t leaves_others gone.held gone.fields_kept gone.goal)
       (last_turn (unit_turns (units.Branch i slot) x)) at
   maps-last (units.SlotMissing i) is at =
-      maps-reached (LeavesBy (units.SlotMissing i)) (UnitArrives bank known (units.SlotMissing i) w)
+      maps-reached (LeavesBy (units.SlotMissing i)) (UnitArrives bank known (units.SlotMissing i) x.pc w)
       (HasRun bank known (units.SlotMissing i ∷ []) x w)
-      (λ u t leaves_others gone. one-run (units.SlotMissing i) is u t leaves_others gone.state (gone.field_is, gone.local_is))
+      (λ u t leaves_others gone. one-run (units.SlotMissing i) is u t leaves_others gone.held gone.fields_kept gone.goal)
       (last_turn (unit_turns (units.SlotMissing i) x)) at
   maps-last (units.SlotIsBranch i word) is at =
-      maps-reached (LeavesBy (units.SlotIsBranch i word)) (UnitArrives bank known (units.SlotIsBranch i word) w)
+      maps-reached (LeavesBy (units.SlotIsBranch i word)) (UnitArrives bank known (units.SlotIsBranch i word) x.pc w)
       (HasRun bank known (units.SlotIsBranch i word ∷ []) x w)
-      (λ u t leaves_others gone. one-run (units.SlotIsBranch i word) is u t leaves_others gone.state (gone.field_is, gone.local_is))
+      (λ u t leaves_others gone. one-run (units.SlotIsBranch i word) is u t leaves_others gone.held gone.fields_kept gone.goal)
       (last_turn (unit_turns (units.SlotIsBranch i word) x)) at
   maps-last units.Call is at =
-      maps-reached (LeavesBy units.Call) (UnitArrives bank known units.Call w) (HasRun bank known (units.Call ∷ []) x w)
-      (λ u t leaves_others done. one-run units.Call is u t leaves_others done.state done.goal) (last_turn (unit_turns units.Call x)) at
+      maps-reached (LeavesBy units.Call) (UnitArrives bank known units.Call x.pc w) (HasRun bank known (units.Call ∷ []) x w)
+      (λ u t leaves_others done. one-run units.Call is u t leaves_others done.state.held done.state.kept.fields_kept done.state.kept.operands_kept) (last_turn (unit_turns units.Call x)) at
   maps-last (units.Trap kind value) is at = tt
 
 -- ---- a Plain unit before others
@@ -164,31 +165,35 @@ module _ (site : Site) (order : Order) (at : ℕ) (first second : List Step) (w 
 
 -- ---- all units
 
+-- what a piece says of its goal is said of the operands alone that were there before
+unit-from : (unit : Word) (at : ℕ) (before first after : Workspace) (t : State) → first.operands ≡ before.operands → UnitGoal unit at first after t
+    → UnitGoal unit at before after t
+unit-from (units.Plain i) at before first after t operands goal = goal ∙ operands
+unit-from (units.Branch i slot) at before first after t operands goal = says-from i at before first after t.pc operands goal
+unit-from (units.SlotMissing i) at before first after t operands goal = says-from i at before first after t.pc operands goal
+unit-from (units.SlotIsBranch i word) at before first after t operands goal = says-from i at before first after t.pc operands goal
+unit-from units.Call at before first after t operands goal = goal ∙ operands
+unit-from (units.Trap kind value) at before first after t operands goal = goal ∙ operands
+
+goal-from : (piece : List Word) (at : ℕ) (before first after : Workspace) (t : State) → first.operands ≡ before.operands
+    → PieceGoal piece at first after t → PieceGoal piece at before after t
+goal-from [] at before first after t operands goal = goal ∙ operands
+goal-from (unit ∷ []) at before first after t operands goal = unit-from unit at before first after t operands goal
+goal-from (unit ∷ next ∷ rest) at before first after t operands goal = goal-from (next ∷ rest) (at + 4) before first after t operands goal
+
 -- what has run behind a Plain unit has run behind it and the others
 run-more : (sets : SetLaws) (bank : ℕ) (known : ℕ → Bool) (i : _) (next : Word) (rest : List Word) (x t s : State) (w u v : Workspace)
-    → IsLawful (units.Plain i) → LeavesOthers (has_register (written_by i)) x t → IsDone bank known (written_by i) w u t
+    → t.pc ≡ x.pc + 4 → IsLawful (units.Plain i) → LeavesOthers (has_register (written_by i)) x t → IsDone bank known (written_by i) w u t
     → HasRun bank (gained (written_by i) known) (next ∷ rest) t u v s → HasRun bank known (units.Plain i ∷ next ∷ rest) x w v s
-run-more sets bank known i next rest x t s w u v is leaves_others done run = record {
+run-more sets bank known i next rest x t s w u v there is leaves_others done run = record {
   held = subst (λ k. HoldsOn bank k v s) (sym (sets.gained_joined (written_by i) (flat_map unit_writes (next ∷ rest)) known)) run.held;
-  kept = record {
-    fields_kept = λ r positive below keeps. run.kept.fields_kept r positive below keeps ∙ done.state.kept.fields_kept r positive below keeps;
-    operands_kept = run.kept.operands_kept ∙ done.state.kept.operands_kept;
-  };
+  fields_kept = λ r positive below keeps. run.fields_kept r positive below keeps ∙ done.state.kept.fields_kept r positive below keeps;
   left = λ r positive below none.
       let parts = or_parts _ _ none in
       run.left r positive below parts.1
       ∙ leaves_others r positive below (sym (sets.is_membership (written_by i) r (sets.writes_numbers (units.Plain i) is) positive below) ∙ parts.0);
-  goal = goal-more next rest done.goal run.goal;
+  goal = subst (λ pc. PieceGoal (next ∷ rest) pc w v s) there (goal-from (next ∷ rest) t.pc w u v s done.state.kept.operands_kept run.goal);
 }
-  where
-    goal-more : (next : Word) (rest : List Word) → KeepsGoal w u → PieceGoal (next ∷ rest) u v s → PieceGoal (next ∷ rest) w v s
-    goal-more (units.Plain i) [] first goal = record { pc_kept = goal.pc_kept ∙ first.pc_kept; goal_kept = goal.goal_kept ∙ first.goal_kept }
-    goal-more units.Call [] first goal = record { pc_kept = goal.pc_kept ∙ first.pc_kept; goal_kept = goal.goal_kept ∙ first.goal_kept }
-    goal-more (units.Branch i slot) [] first goal = goal
-    goal-more (units.SlotMissing i) [] first goal = goal
-    goal-more (units.SlotIsBranch i word) [] first goal = goal
-    goal-more (units.Trap kind value) [] first goal = goal
-    goal-more next (other ∷ rest) first goal = goal-more other rest first goal
 
 module _ (laws : PathLaws) (sets : SetLaws) (change : InstructionsChangeWhatTheyWrite) (need : NeedLaws)
     (unit_follows : (unit : Word) → IsLawful unit → UnitFollows unit) (site : Site) (order : Order) (bank : ℕ) (ready : IsReady site order) where
@@ -208,7 +213,7 @@ module _ (laws : PathLaws) (sets : SetLaws) (change : InstructionsChangeWhatThey
       (follows-after site at at (at + size code) 0 n (132 * n) n (132 * n) (λ weight. 0) (whole_weight order code) (whole_weight order code)
       (stands site at w) (stands site at w) (no-turns site.program site.words site.method at at (stands site at w) (omega arith)) (omega arith)
       (omega arith) (λ weight. omega arith)
-      (UnitArrives bank known unit w) (HasRun bank known (unit ∷ []) x w) (last_turn (unit_turns unit x))
+      (UnitArrives bank known unit x.pc w) (HasRun bank known (unit ∷ []) x w) (last_turn (unit_turns unit x))
       (maps-last sets bank known w x unit is (unit-leaves change unit x))
       (unit_follows unit is site order bank known at w x ready order_is lies knows h))
 
@@ -237,14 +242,14 @@ module _ (laws : PathLaws) (sets : SetLaws) (change : InstructionsChangeWhatThey
       subst (λ high. Follows site at high (piece_turns (unit ∷ next ∷ rest) x).0 (132 * (piece_turns (unit ∷ next ∷ rest) x).0)
       (whole_weight order (first ++ second)) (HasRun bank known (unit ∷ next ∷ rest) x w) (stands site at w)
       (piece_turns (unit ∷ next ∷ rest) x).1) end
-      (one-more site order at first second w (IsPast (written_by i) x) (piece_turns (next ∷ rest)) (UnitArrives bank known unit w)
+      (one-more site order at first second w (IsPast (written_by i) x) (piece_turns (next ∷ rest)) (UnitArrives bank known unit x.pc w)
       (HasRun bank known (unit ∷ next ∷ rest) x w) (λ u t. HasRun bank known_then (next ∷ rest) t u)
       (λ t u past arrives.
       subst (λ pc. RunsFrom (next ∷ rest) known_then (at + size first) u t pc) (there t past)
       (units-follow rest next known_then (at + size first) u t lawful.1 straight.1 (past.next.order ∙ order_is) past.next.pending (fits t past)
       (subst (λ pc. LiesAt site.program site.method (at + size first) (units_code bank (next ∷ rest) pc)) (sym (there t past)) parts.1)
       (need.others_known unit (next ∷ rest) known lawful.0 knows) arrives.state.held))
-      (λ t u past arrives v s run. run-more sets bank known i next rest x t s w u v lawful.0 past.left arrives run)
+      (λ t u past arrives v s run. run-more sets bank known i next rest x t s w u v (there t past) lawful.0 past.left arrives run)
       (done i x) (plain-past change i x free lawful.0.0.is_none lawful.0.1)
       (unit_follows unit lawful.0 site order bank known at w x ready order_is parts.0
       (need.unit_known unit known lawful.0 (need.first_known unit (next ∷ rest) known knows)) h))

@@ -275,8 +275,7 @@ module _ (bank : ℕ) where
 
     conditional-within : (likely : Bool) (test : BranchName) (target behind : ℕ) (link : List Step) → Within link
         → Within (conditional_code likely test target behind link slot)
-    conditional-within false test target behind link a =
-        (omega arith, (tt, (omega arith, (tt, goal-within link a))))
+    conditional-within false test target behind link a = both link slot a slot-stays
     conditional-within true test target behind link a =
         let taken : List Step = goes_to_code target ++ link ++ slot in
         let skip : Step = Skips Goto (4 + length link + length slot) in
@@ -294,9 +293,11 @@ module _ (bank : ℕ) where
       conditional-within (sign_likely name) (sign_test name) (branch_target at imm) (behind_slot at)
           (link_code bank (sign_link name) at) (link-within (sign_link name) at),
     )
-    transfer-within (inst.Jump name index) at = (tt, goal-within (link_code bank (jump_link name) at) (link-within (jump_link name) at))
-    transfer-within (inst.JumpRegister rs) at = (get bank rs _, (tt, (tt, (tt, slot-stays))))
-    transfer-within (inst.JumpAndLinkRegister rs rd) at = (get bank rs _, goal-within (link_code bank (Some rd) at) (link-within (Some rd) at))
+    transfer-within (inst.Jump name index) at =
+        (tt, both (link_code bank (jump_link name) at) slot (link-within (jump_link name) at) slot-stays)
+    transfer-within (inst.JumpRegister rs) at = (get bank rs _, slot-stays)
+    transfer-within (inst.JumpAndLinkRegister rs rd) at =
+        (get bank rs _, both (link_code bank (Some rd) at) slot (link-within (Some rd) at) slot-stays)
     transfer-within _ at = slot-stays
 
   unit-within : (unit : Word) (at : ℕ) → Within (unit_code bank unit at)

@@ -1,16 +1,17 @@
 -- The code of a branch or jump counts what the code of its slot does.
 use Rattle.std.proofs.Common.{◌≡◌, ℕ, ◌+◌, Bool, true, false, List, [], ◌∷◌, ◌++◌, length, Option, Some, None, refl, ap, subst, sym, append_assoc, arith}
 use Rattle.nv_words.specs.declared.order.Order.{Order}
-use Rattle.mips_decode.specs.Targets.{branch_target, jump_target}
+use Rattle.mips_decode.specs.Targets.{branch_target}
 use Rattle.mips_decode.specs.Branches.{equal_likely, zero_likely, sign_likely}
 use Rattle.mips_decode.specs.declared.inst.Inst.{Inst}
 use Rattle.mips_decode.specs.declared.inst.Inst.TheVariants as inst
 use Rattle.jvm_names.specs.declared.branch_name.BranchName.{BranchName}
 use Rattle.jvm_names.specs.declared.branch_name.BranchName.TheVariants.{Goto}
 use Rattle.code_steps.specs.declared.step.Step.{Step}
-use Rattle.code_steps.specs.declared.step.Step.TheVariants.{Skips}
-use Rattle.guest_code.specs.Access.{push_word, get_register}
-use Rattle.guest_code.specs.Branching.{settle_code, goes_to_code, behind_slot, link_code, equal_test, zero_test, sign_test, sign_link, jump_link, conditional_code, transfer_code}
+use Rattle.jvm_program.specs.declared.instruction.Instruction.TheVariants.{Nop}
+use Rattle.code_steps.specs.declared.step.Step.TheVariants.{Does, Skips}
+use Rattle.guest_code.specs.Access.{get_register}
+use Rattle.guest_code.specs.Branching.{goes_to_code, behind_slot, link_code, equal_test, zero_test, sign_test, sign_link, jump_link, conditional_code, transfer_code}
 use Rattle.code_paths.specs.Paths.{weigh}
 use Rattle.code_paths.proofs.Weighing.{weigh-both}
 use Rattle.guest_follows.specs.Sites.{whole_weight}
@@ -29,9 +30,9 @@ link-quiet bank at (Some r) = omega (arith, put-quiet bank r)
 
 conditional-slot : (likely : Bool) (test : BranchName) (target behind : ℕ) (link slot : List Step) → weigh loud link ≡ 0 → EndsWithSlot (conditional_code likely test target behind link slot) slot
 conditional-slot false test target behind link slot quiet = record {
-  front = Skips test 2 ∷ push_word behind ∷ Skips Goto 1 ∷ push_word target ∷ (settle_code ++ link);
+  front = link;
   is = refl;
-  quiet = omega (arith, quiet);
+  quiet = quiet;
 }
 conditional-slot true test target behind link slot quiet =
     let over : ℕ = 4 + length link + length slot in
@@ -67,17 +68,17 @@ transfer-slot bank at (inst.BranchSign name rs imm) slot =
       quiet = omega (arith, c.quiet, get-quiet bank rs);
     }
 transfer-slot bank at (inst.Jump name index) slot = record {
-  front = goes_to_code (jump_target at index) ++ link_code bank (jump_link name) at;
+  front = Does Nop ∷ link_code bank (jump_link name) at;
   is = refl;
   quiet = omega (arith, link-quiet bank at (jump_link name));
 }
 transfer-slot bank at (inst.JumpRegister rs) slot = record {
-  front = get_register bank rs ∷ settle_code;
+  front = get_register bank rs ∷ [];
   is = refl;
   quiet = omega (arith, get-quiet bank rs);
 }
 transfer-slot bank at (inst.JumpAndLinkRegister rs rd) slot = record {
-  front = get_register bank rs ∷ (settle_code ++ link_code bank (Some rd) at);
+  front = get_register bank rs ∷ link_code bank (Some rd) at;
   is = refl;
   quiet = omega (arith, get-quiet bank rs, put-quiet bank rd);
 }

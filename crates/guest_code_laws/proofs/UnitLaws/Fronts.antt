@@ -1,5 +1,5 @@
 -- What the code of a branch or jump does up to its slot, or past it.
-use Rattle.std.proofs.Common.{◌≡◌, ℕ, suc, ◌+◌, ◌%◌, ◌^◌, ◌≤◌, Bool, true, false, if◌then◌else◌, List, [], ◌∷◌, ◌++◌, length, drop, Option, Some, None, IsTrue, refl, ap, subst, ◌∙◌, length-append, arith}
+use Rattle.std.proofs.Common.{◌≡◌, ℕ, suc, ◌+◌, ◌%◌, ◌^◌, ◌≤◌, Bool, true, false, List, [], ◌∷◌, ◌++◌, length, drop, Option, Some, None, IsTrue, append_assoc, refl, ap, subst, sym, length-append, arith}
 use Rattle.std.proofs.lemmas.List.{append-nil}
 use Rattle.nv_words.specs.declared.order.Order.{Order}
 use Rattle.nv_events.specs.Turn.{Turn, moves}
@@ -8,19 +8,18 @@ use Rattle.mips_decode.specs.Step.{into_slot, past_slot}
 use Rattle.jvm_names.specs.declared.branch_name.BranchName.{BranchName}
 use Rattle.jvm_names.specs.declared.branch_name.BranchName.TheVariants.{Goto}
 use Rattle.jvm_program.specs.declared.value.Value.{Value}
-use Rattle.jvm_program.specs.declared.value.Value.TheVariants.{Int as int}
 use Rattle.jvm_program.specs.declared.instruction.Instruction.{Instruction}
 use Rattle.jvm_program.specs.Effect.{Workspace, with_operands, branches, chooses}
 use Rattle.code_steps.specs.declared.step.Step.{Step}
 use Rattle.code_steps.specs.declared.step.Step.TheVariants.{Skips}
 use Rattle.code_steps.specs.Widths.{bytes_before, size}
-use Rattle.code_steps.specs.Outcomes.{ended, later, beyond, outcome, outcome_from, after_branch, stays_within}
+use Rattle.code_steps.specs.Outcomes.{ended, later, outcome, stays_within}
 use Rattle.code_steps.specs.Placing.{LiesAt}
-use Rattle.guest_code.specs.Access.{push_word}
-use Rattle.guest_code.specs.Branching.{settle_code, goes_to_code, link_code}
+use Rattle.guest_code.specs.Branching.{goes_to_code, link_code}
 use Rattle.lawful_units.specs.Knowing.{AreNumbers}
 use Rattle.code_paths.specs.Paths.{step_weight}
 use Rattle.code_paths.proofs.Joining.{paths-join}
+use Rattle.guest_follows.specs.Behind.{IsSettled}
 use Rattle.guest_follows.specs.Holding.{HoldsOn}
 use Rattle.guest_follows.specs.Sites.{Site, PathIn, stands, whole_weight}
 use Rattle.guest_follows.specs.Following.{ComesToEnd}
@@ -28,16 +27,16 @@ use Rattle.guest_follows.specs.Laws.{PathLaws}
 use Rattle.guest_follows.proofs.GuestFollows.CodeLaws.{code-laws}
 use Rattle.guest_follows.proofs.GuestFollows.Weights.{whole-both, size-both}
 use Rattle.guest_code_laws.proofs.UnitLaws.Joining.{end-after}
-use Rattle.guest_code_laws.proofs.UnitLaws.Links.{HasSettled, has-settled, link_written, link_state, link_turns, gone, goal-ends, few-links}
+use Rattle.guest_code_laws.proofs.UnitLaws.Links.{HasPut, has-settled, settled-put, has-pushed, pushed-ends, linked_workspace, link_written, link_state, link_turns, gone, goal-ends, few-links}
 use Rattle.guest_code_laws.proofs.UnitLaws.Reaching.{ReachesSlot, front-reaches}
-use Rattle.guest_code_laws.proofs.UnitLaws.Within.{within-goal, within-conditional}
+use Rattle.guest_code_laws.proofs.UnitLaws.Within.{within-goal, within-link}
 use Rattle.guest_code_laws.proofs.UnitLaws.Suffixes.{suffix-lies, size-split, whole-drop, bytes-all, passed-path, taken-path}
 
 -- the branch is done, and the guest comes to its slot
-pub record GoesIn (site : Site) (order : Order) (bank : ℕ) (known : ℕ → Bool) (link : Option ℕ) (at : ℕ) (w : Workspace) (x : State) (code slot : List Step) (last : Turn State) : Type 0 where
+pub record GoesIn (site : Site) (order : Order) (bank : ℕ) (known : ℕ → Bool) (link : Option ℕ) (Goal : Workspace → ℕ → Type 0) (at : ℕ) (w : Workspace) (x : State) (code slot : List Step) (last : Turn State) : Type 0 where
   pub target : ℕ
   pub done_is : last ≡ moves (into_slot (link_state link x) target)
-  pub reaches : ReachesSlot site order bank known link target 16 at w x code slot
+  pub reaches : ReachesSlot site order (λ u. HasPut bank known link Goal target w u x) 16 at w code slot
 
 -- code comes to its end past the code of a slot that lies in it, and weighs nothing of that
 pub record ComesPast (site : Site) (order : Order) (at : ℕ) (w : Workspace) (code slot : List Step) (Arrives : Workspace → Type 0) : Type 0 where
@@ -46,62 +45,31 @@ pub record ComesPast (site : Site) (order : Order) (at : ℕ) (w : Workspace) (c
   pub comes : ComesToEnd site at (at + size code) 1 132 total Arrives (stands site at w)
 
 -- a likely branch is done that is not taken, and the guest goes on behind its slot
-pub record PassesOver (site : Site) (order : Order) (bank : ℕ) (known : ℕ → Bool) (link : Option ℕ) (at : ℕ) (w : Workspace) (x : State) (code slot : List Step) (last : Turn State) : Type 0 where
+pub record PassesOver (site : Site) (order : Order) (bank : ℕ) (known : ℕ → Bool) (link : Option ℕ) (Goal : Workspace → ℕ → Type 0) (at : ℕ) (w : Workspace) (x : State) (code slot : List Step) (last : Turn State) : Type 0 where
   pub done_is : last ≡ moves (past_slot (link_state link x))
-  pub past : ComesPast site order at w code slot (λ u. HasSettled bank known link ((x.pc + 8) % 2 ^ 32) w u x)
-
--- ---- jumps
+  pub past : ComesPast site order at w code slot (λ u. HasPut bank known link Goal ((x.pc + 8) % 2 ^ 32) w u x)
 
 module _ (laws : PathLaws) (site : Site) (order : Order) (bank : ℕ) (known : ℕ → Bool) (link : Option ℕ) (w : Workspace) (x : State) (numbers : AreNumbers (link_written link)) (h : HoldsOn bank known w x) where
-  abbrev goal-code : List Step
-  goal-code = settle_code ++ link_code bank link x.pc
+  -- ---- what says the goal is pushed. So many steps push it.
 
-  -- a step that pushes the target comes first
-  pub jump-reaches : (first : Step) (target at : ℕ) (slot : List Step) → ((code : List Step) → IsTrue (stays_within code) → IsTrue (stays_within (first ∷ code))) → ((code : List Step) → outcome site.program site.words (first ∷ code) w ≡ later (outcome site.program site.words code (with_operands w (int target ∷ w.operands)))) → LiesAt site.program site.method at (first ∷ (goal-code ++ slot)) → ReachesSlot site order bank known link target 16 at w x (first ∷ (goal-code ++ slot)) slot
-  jump-reaches first target at slot within pushes lies =
-      let few = few-links link in
-      front-reaches laws site order bank known link target 16 at (suc (suc (suc (suc (link_turns link))))) w (gone bank link x.pc w target) x (first ∷ goal-code) slot
-      (within goal-code (within-goal bank x.pc link)) lies
-      (pushes goal-code ∙ ap later (goal-ends site.program site.words bank x.pc target link w))
-      (omega arith) (omega (arith, few)) (has-settled bank target known link w x numbers h)
+  module _ (before : List Value) (pushes : List Step) (more : ℕ → ℕ) (pushed : (code : List Step) (n : ℕ) (v : Workspace) → outcome site.program site.words code (with_operands w before) ≡ ended n v → outcome site.program site.words (pushes ++ code) w ≡ ended (more n) v) (pushes_within : (code : List Step) → IsTrue (stays_within code) → IsTrue (stays_within (pushes ++ code))) (few : (n : ℕ) → more n ≤ n + 2) (some : (n : ℕ) → 1 ≤ more n) where
+    pub pushes-reach : (Goal : Workspace → ℕ → Type 0) (target at : ℕ) (slot : List Step) → ((u : Workspace) → u.operands ≡ before → Goal u target) → LiesAt site.program site.method at (pushes ++ (link_code bank link x.pc ++ slot)) → ReachesSlot site order (λ u. HasPut bank known link Goal target w u x) 16 at w (pushes ++ (link_code bank link x.pc ++ slot)) slot
+    pushes-reach Goal target at slot says lies =
+        let link_steps = link_code bank link x.pc in
+        let n = link_turns link in
+        let links = few-links link in
+        let most = few n in
+        let same = append_assoc pushes link_steps slot in
+        let after = linked_workspace bank link x.pc (with_operands w before) in
+        subst (λ code. ReachesSlot site order (λ u. HasPut bank known link Goal target w u x) 16 at w code slot) same
+        (front-reaches laws site order (λ u. HasPut bank known link Goal target w u x) 16 at (more n) w after (pushes ++ link_steps) slot
+        (pushes_within link_steps (within-link bank x.pc link)) (subst (LiesAt site.program site.method at) (sym same) lies)
+        (pushed link_steps n after (pushed-ends site.program site.words bank x.pc link (with_operands w before)))
+        (some n) (omega (arith, links, most)) (has-pushed bank target known link Goal w x before numbers h says))
 
-  -- ---- conditions. So many steps push what is compared.
+  -- ---- likely branches. So many steps push what is compared.
 
-  module _ (test : BranchName) (taken : Bool) (target behind : ℕ) (before : List Value) (pushes : List Step) (more : ℕ → ℕ) (pushed : (code : List Step) (n : ℕ) (v : Workspace) → outcome site.program site.words code (with_operands w before) ≡ ended n v → outcome site.program site.words (pushes ++ code) w ≡ ended (more n) v) (pushes_within : (code : List Step) → IsTrue (stays_within code) → IsTrue (stays_within (pushes ++ code))) (few : (n : ℕ) → more n ≤ n + 2) (least : (n : ℕ) → n ≤ more n) (tests : branches test (with_operands w before) ≡ chooses taken (with_operands w before) w.operands) where
-    abbrev goal : ℕ
-    goal = if taken then target else behind
-
-    abbrev conditional : List Step
-    conditional = Skips test 2 ∷ push_word behind ∷ Skips Goto 1 ∷ push_word target ∷ goal-code
-
-    abbrev rest : List Step
-    rest = push_word behind ∷ Skips Goto 1 ∷ push_word target ∷ goal-code
-
-    -- the goal is chosen and put down
-    conditional-runs : (t : Bool) → branches test (with_operands w before) ≡ chooses t (with_operands w before) w.operands → outcome site.program site.words conditional (with_operands w before) ≡ ended (suc (suc (if t then suc (suc (suc (link_turns link))) else suc (suc (suc (suc (link_turns link))))))) (gone bank link x.pc w (if t then target else behind))
-    conditional-runs true is =
-        ap (λ e. after_branch (with_operands w before) e (outcome_from site.program site.words rest 0) (outcome_from site.program site.words rest 2)) is
-        ∙ ap (λ o. later (beyond (beyond (later o)))) (goal-ends site.program site.words bank x.pc target link w)
-    conditional-runs false is =
-        ap (λ e. after_branch (with_operands w before) e (outcome_from site.program site.words rest 0) (outcome_from site.program site.words rest 2)) is
-        ∙ ap (λ o. later (later (later (beyond o)))) (goal-ends site.program site.words bank x.pc behind link w)
-
-    at-most : (t : Bool) → (if t then suc (suc (suc (link_turns link))) else suc (suc (suc (suc (link_turns link))))) ≤ 6
-    at-most true = let few = few-links link in omega (arith, few)
-    at-most false = let few = few-links link in omega (arith, few)
-
-    pub branch-reaches : (at : ℕ) (slot : List Step) → LiesAt site.program site.method at ((pushes ++ conditional) ++ slot) → ReachesSlot site order bank known link goal 16 at w x ((pushes ++ conditional) ++ slot) slot
-    branch-reaches at slot lies =
-        let one = at-most taken in
-        let some = least (suc (suc (if taken then suc (suc (suc (link_turns link))) else suc (suc (suc (suc (link_turns link))))))) in
-        let most = few (suc (suc (if taken then suc (suc (suc (link_turns link))) else suc (suc (suc (suc (link_turns link))))))) in
-        front-reaches laws site order bank known link goal 16 at (more (suc (suc (if taken then suc (suc (suc (link_turns link))) else suc (suc (suc (suc (link_turns link)))))))) w (gone bank link x.pc w goal) x (pushes ++ conditional) slot
-        (pushes_within conditional (within-conditional bank x.pc behind target link test)) lies
-        (pushed conditional (suc (suc (if taken then suc (suc (suc (link_turns link))) else suc (suc (suc (suc (link_turns link))))))) (gone bank link x.pc w goal) (conditional-runs taken tests))
-        (omega (arith, some)) (omega (arith, one, most)) (has-settled bank goal known link w x numbers h)
-
-    -- ---- likely branches
-
+  module _ (test : BranchName) (target behind : ℕ) (before : List Value) (pushes : List Step) (more : ℕ → ℕ) (pushed : (code : List Step) (n : ℕ) (v : Workspace) → outcome site.program site.words code (with_operands w before) ≡ ended n v → outcome site.program site.words (pushes ++ code) w ≡ ended (more n) v) (pushes_within : (code : List Step) → IsTrue (stays_within code) → IsTrue (stays_within (pushes ++ code))) (few : (n : ℕ) → more n ≤ n + 2) where
     module _ (slot : List Step) where
       abbrev front : List Step
       front = goes_to_code target ++ link_code bank link x.pc
@@ -139,7 +107,7 @@ module _ (laws : PathLaws) (site : Site) (order : Order) (bank : ℕ) (known : �
       abbrev goal_code : List Step
       goal_code = goes_to_code behind ++ link_code bank link x.pc
 
-      pub likely-passes : (at : ℕ) → branches test (with_operands w before) ≡ chooses false (with_operands w before) w.operands → LiesAt site.program site.method at (pushes ++ likely) → ComesPast site order at w (pushes ++ likely) slot (λ u. HasSettled bank known link behind w u x)
+      pub likely-passes : (at : ℕ) → branches test (with_operands w before) ≡ chooses false (with_operands w before) w.operands → LiesAt site.program site.method at (pushes ++ likely) → ComesPast site order at w (pushes ++ likely) slot (λ u. HasPut bank known link (IsSettled w) behind w u x)
       likely-passes at is lies =
           let after = gone bank link x.pc w behind in
           let parts = laws.parts site.program site.method at pushes likely (nil-within (pushes_within [] refl)) lies in
@@ -174,14 +142,14 @@ module _ (laws : PathLaws) (site : Site) (order : Order) (bank : ℕ) (known : �
                 let c = whole-both order weight front slot in
                 omega (arith, a, b, c);
             comes =
-                subst (λ high. ComesToEnd site at high 1 132 (λ weight. whole_weight order pushes weight + test_total weight + (whole_weight order goal_code weight + skip_total weight)) (λ u. HasSettled bank known link behind w u x) (stands site at w)) ends
+                subst (λ high. ComesToEnd site at high 1 132 (λ weight. whole_weight order pushes weight + test_total weight + (whole_weight order goal_code weight + skip_total weight)) (λ u. HasPut bank known link (IsSettled w) behind w u x) (stands site at w)) ends
                 (record {
                   turns = first.turns + 1 + (goal.turns + 1);
                   after = after;
                   path = whole;
                   no_sooner = omega arith;
                   in_time = omega (arith, early, soon);
-                  arrives = has-settled bank behind known link w x numbers h;
+                  arrives = settled-put bank behind known link w after x (has-settled bank behind known link w x numbers h);
                 });
           }
 
@@ -190,7 +158,7 @@ module _ (laws : PathLaws) (site : Site) (order : Order) (bank : ℕ) (known : �
       drops-middle None = refl
       drops-middle (Some r) = refl
 
-      pub likely-reaches : (at : ℕ) → branches test (with_operands w before) ≡ chooses true (with_operands w before) w.operands → LiesAt site.program site.method at (pushes ++ likely) → ReachesSlot site order bank known link target 16 at w x (pushes ++ likely) slot
+      pub likely-reaches : (at : ℕ) → branches test (with_operands w before) ≡ chooses true (with_operands w before) w.operands → LiesAt site.program site.method at (pushes ++ likely) → ReachesSlot site order (λ u. HasPut bank known link (IsSettled w) target w u x) 16 at w (pushes ++ likely) slot
       likely-reaches at is lies =
           let parts = laws.parts site.program site.method at pushes likely (nil-within (pushes_within [] refl)) lies in
           let branch_at = at + size pushes in
@@ -199,7 +167,7 @@ module _ (laws : PathLaws) (site : Site) (order : Order) (bank : ℕ) (known : �
           let first = pushes-come at parts.0 in
           let first_path = subst (λ u. PathIn site at branch_at first.turns (whole_weight order pushes) (stands site at w) (stands site branch_at u)) first.arrives first.path in
           let taken_path = taken-path site branch_at target_step test middle (with_operands w before) w parts.1 is in
-          let to_front = front-reaches laws site order bank known link target 8 there (suc (suc (suc (suc (link_turns link))))) w (gone bank link x.pc w target) x front slot (within-goal bank x.pc link) lies_tail (ap later (goal-ends site.program site.words bank x.pc target link w)) (omega arith) (let links = few-links link in omega (arith, links)) (has-settled bank target known link w x numbers h) in
+          let to_front = front-reaches laws site order (λ u. HasPut bank known link (IsSettled w) target w u x) 8 there (suc (suc (suc (suc (link_turns link))))) w (gone bank link x.pc w target) front slot (within-goal bank x.pc link) lies_tail (ap later (goal-ends site.program site.words bank x.pc target link w)) (omega arith) (let links = few-links link in omega (arith, links)) (settled-put bank target known link w (gone bank link x.pc w target) x (has-settled bank target known link w x numbers h)) in
           let split = size-split target_step middle in
           let sizes : size (drop target_step middle) ≡ size tail = ap size (drops-middle link) in
           let all = size-both pushes likely in
@@ -218,5 +186,5 @@ module _ (laws : PathLaws) (site : Site) (order : Order) (bank : ℕ) (known : �
             comes = end-after site at there to_front.place (first.turns + 1) 1 8 1 16 (λ weight. whole_weight order pushes weight + step_weight weight (Skips test target_step)) to_front.total (λ weight. whole_weight order pushes weight + step_weight weight (Skips test target_step) + to_front.total weight) (stands site at w) (stands site there w)
                 (paths-join site.program site.words site.method at branch_at there first.turns 1 (whole_weight order pushes) (λ weight. step_weight weight (Skips test target_step)) (stands site at w) (stands site branch_at (with_operands w before)) (stands site there w) first_path taken_path)
                 (omega arith) (omega (arith, early)) (λ weight. omega arith)
-                (λ u t. HasSettled bank known link target w u x) (λ u t. HasSettled bank known link target w u x) x (λ u has. has) to_front.comes;
+                (λ u t. HasPut bank known link (IsSettled w) target w u x) (λ u t. HasPut bank known link (IsSettled w) target w u x) x (λ u has. has) to_front.comes;
           }

@@ -1,4 +1,4 @@
--- The goal of a branch is put down, and then its link.
+-- What a branch puts down before its slot, and its link.
 use Rattle.std.proofs.Common.{◌≡◌, ℕ, suc, ◌^◌, ◌==◌, ◌<◌, ◌≤◌, lit≤, Bool, if◌then◌else◌, List, [], ◌∷◌, ◌++◌, Option, Some, None, refl, ap, ◌∙◌, arith}
 use Rattle.std.proofs.lemmas.Grind.{common_steps}
 use Rattle.mips_decode.specs.State.{State}
@@ -12,7 +12,8 @@ use Rattle.code_steps.specs.Outcomes.{ended, later, outcome}
 use Rattle.guest_layout.specs.FieldNumbers.{pc_field}
 use Rattle.guest_code.specs.Branching.{settle_code, link_code, behind_slot}
 use Rattle.lawful_units.specs.Knowing.{gained, AreNumbers}
-use Rattle.guest_follows.specs.Holding.{HoldsOn, Keeps, IsLink, reached, with_value}
+use Rattle.guest_follows.specs.Behind.{IsSettled}
+use Rattle.guest_follows.specs.Holding.{HoldsOn, Keeps, KeepsFields, IsLink, reached, with_value}
 use Rattle.guest_follows.proofs.RegisterLaws.Writing.{register-put, register-held, register-kept, register-goal-kept}
 
 -- ---- the goal
@@ -102,6 +103,38 @@ has-settled bank target known (Some r) w x below h =
       local_is = goal.goal_kept;
     }
 
+-- ---- what stands before a slot, wherever the goal is said
+
+-- A link is written behind what a branch pushed or settled, which says its goal.
+pub record HasPut (bank : ℕ) (known : ℕ → Bool) (link : Option ℕ) (Goal : Workspace → ℕ → Type 0) (target : ℕ) (before after : Workspace) (x : State) : Type 0 where
+  pub held : HoldsOn bank (gained (link_written link) known) after (link_state link x)
+  pub fields_kept : KeepsFields bank before after
+  pub goal : Goal after target
+
+pub settled-put : (bank target : ℕ) (known : ℕ → Bool) (link : Option ℕ) (w u : Workspace) (x : State) → HasSettled bank known link target w u x → HasPut bank known link (IsSettled w) target w u x
+settled-put bank target known link w u x has = record {
+  held = has.held;
+  fields_kept = has.kept.fields_kept;
+  goal = record { operands_kept = has.kept.operands_kept; field_is = has.field_is; local_is = has.local_is };
+}
+
+-- what a branch pushed is above the operands, and its link is written
+pub has-pushed : (bank target : ℕ) (known : ℕ → Bool) (link : Option ℕ) (Goal : Workspace → ℕ → Type 0) (w : Workspace) (x : State) (operands : List Value) → AreNumbers (link_written link) → HoldsOn bank known w x → ((u : Workspace) → u.operands ≡ operands → Goal u target) → HasPut bank known link Goal target w (linked_workspace bank link x.pc (with_operands w operands)) x
+has-pushed bank target known None Goal w x operands below h says = record {
+  held = h;
+  fields_kept = λ r above least keeps. refl;
+  goal = says (with_operands w operands) refl;
+}
+has-pushed bank target known (Some r) Goal w x operands below h says =
+    let first = with_operands w operands in
+    let word : behind_slot x.pc < 2 ^ 32 = omega arith in
+    let kept = register-kept bank r (behind_slot x.pc) first in
+    record {
+      held = register-held bank r (behind_slot x.pc) known first x operands below.0 word h;
+      fields_kept = λ g above least keeps. kept.fields_kept g above least keeps;
+      goal = says (with_value bank r (int (behind_slot x.pc)) first operands) kept.operands_kept;
+    }
+
 -- ---- the same where nothing stands behind them
 
 abbrev pub link_turns : Option ℕ → ℕ
@@ -111,6 +144,10 @@ link_turns (Some r) = 2
 link-ends : (program : Program) (words bank at : ℕ) (link : Option ℕ) (v : Workspace) → outcome program words (link_code bank link at) v ≡ ended (link_turns link) (linked_workspace bank link at v)
 link-ends program words bank at None v = refl
 link-ends program words bank at (Some r) v = ap later (register-put program words bank r (behind_slot at) [] v v.operands)
+
+-- the link alone
+pub pushed-ends : (program : Program) (words bank at : ℕ) (link : Option ℕ) (v : Workspace) → outcome program words (link_code bank link at) v ≡ ended (link_turns link) (linked_workspace bank link at v)
+pushed-ends program words bank at link v = link-ends program words bank at link v
 
 pub goal-ends : (program : Program) (words bank at target : ℕ) (link : Option ℕ) (w : Workspace) → outcome program words (settle_code ++ link_code bank link at) (with_operands w (int target ∷ w.operands)) ≡ ended (suc (suc (suc (link_turns link)))) (gone bank link at w target)
 goal-ends program words bank at target link w = ap (λ o. later (later (later o))) (link-ends program words bank at link (settled w target w.operands))

@@ -25,7 +25,7 @@ use Rattle.lawful_units.specs.Lawful.{IsTransfer, IsInstruction, KnownByBranch}
 use Rattle.guest_follows.specs.Holding.{HoldsOn}
 use Rattle.guest_follows.specs.Sites.{Site, stands, whole_weight}
 use Rattle.guest_follows.specs.Following.{LastTurn, Follows}
-use Rattle.guest_follows.specs.Behind.{IsDone, HasGone}
+use Rattle.guest_follows.specs.Behind.{IsDone, HasGone, SaysGoal}
 use Rattle.guest_follows.specs.Laws.{PathLaws}
 use Rattle.guest_follows.proofs.GuestFollows.CodeLaws.{CodeLaws, code-laws}
 use Rattle.guest_code_laws.specs.Instructions.{IsReady, most_turns}
@@ -34,7 +34,7 @@ use Rattle.guest_code_laws.specs.Past.{FollowsPast, SlotsArePassedOver}
 use Rattle.guest_code_laws.proofs.UnitLaws.Goals.{GoesTo, slot-goes}
 use Rattle.guest_code_laws.proofs.UnitLaws.Joining.{follows-wider}
 use Rattle.guest_code_laws.proofs.UnitLaws.Fronts.{PassesOver}
-use Rattle.guest_code_laws.proofs.UnitLaws.Links.{HasSettled, link_written, link_state}
+use Rattle.guest_code_laws.proofs.UnitLaws.Links.{HasPut, link_written, link_state}
 use Rattle.guest_code_laws.proofs.UnitLaws.Reaching.{slot-joined}
 use Rattle.guest_code_laws.proofs.UnitLaws.Transfers.{Does, link_of, link-written, transfer-does}
 use Rattle.guest_code_laws.proofs.UnitLaws.Calls.{call-follows}
@@ -94,7 +94,7 @@ module _ (laws : PathLaws) (site : Site) (order : Order) (bank : ℕ) (known : �
   linked_state = link_state (link_of i) x
 
   abbrev FollowsBy : ((Instruction → ℕ) → ℕ) → UnitTurns → Type 0
-  FollowsBy total turns = Follows site at (at + size code) (turn_count turns) (132 * turn_count turns) total (HasGone bank known written w) (stands site at w) (last_turn turns)
+  FollowsBy total turns = Follows site at (at + size code) (turn_count turns) (132 * turn_count turns) total (HasGone bank known written i x.pc w) (stands site at w) (last_turn turns)
 
   abbrev FollowsTurns : UnitTurns → Type 0
   FollowsTurns turns = FollowsBy (whole_weight order code) turns
@@ -102,14 +102,14 @@ module _ (laws : PathLaws) (site : Site) (order : Order) (bank : ℕ) (known : �
   -- a likely branch that is not taken
 
   module _ (passed_over : is_likely i ≡ true → (r : ℕ) → 0 < r → r < 32 → gained written known r ≡ true → after_branch r ≡ true) where
-    passes-gone : is_likely i ≡ true → (u : Workspace) → HasSettled bank known (link_of i) ((x.pc + 8) % 2 ^ 32) w u x → HasGone bank known written w u (past_slot linked_state)
+    passes-gone : is_likely i ≡ true → (u : Workspace) → HasPut bank known (link_of i) (SaysGoal i x.pc w) ((x.pc + 8) % 2 ^ 32) w u x → HasGone bank known written i x.pc w u (past_slot linked_state)
     passes-gone likely u has = record {
-      state = record { held = holds-known bank u linked_state (passed_over likely) has.held; kept = has.kept };
-      field_is = has.field_is ∙ ap (λ pc. int ((pc + 8) % 2 ^ 32)) (sym (link-pc (link_of i) x));
-      local_is = has.local_is ∙ ap (λ pc. int ((pc + 8) % 2 ^ 32)) (sym (link-pc (link_of i) x));
+      held = holds-known bank u linked_state (passed_over likely) has.held;
+      fields_kept = has.fields_kept;
+      goal = subst (SaysGoal i x.pc w u) (ap (λ pc. (pc + 8) % 2 ^ 32) (sym (link-pc (link_of i) x))) has.goal;
     }
 
-    passes-follows : is_likely i ≡ true → (last : Turn State) → (passes : PassesOver site order bank known (link_of i) at w x code slot last) → FollowsBy passes.past.total (then_slot last second)
+    passes-follows : is_likely i ≡ true → (last : Turn State) → (passes : PassesOver site order bank known (link_of i) (SaysGoal i x.pc w) at w x code slot last) → FollowsBy passes.past.total (then_slot last second)
     passes-follows likely last passes =
         let c = passes.past.comes in
         subst (λ (d : Turn State). FollowsBy passes.past.total (then_slot d second)) (sym passes.done_is)
@@ -122,7 +122,7 @@ module _ (laws : PathLaws) (site : Site) (order : Order) (bank : ℕ) (known : �
           arrives = passes-gone likely c.after c.arrives;
         })
 
-    past-does : (last : Turn State) → Does site order bank known (link_of i) at w x code slot (is_likely i) last → turn_count (then_slot last second) ≡ 1 → FollowsPast site order at code slot (HasGone bank known written w) w (then_slot last second)
+    past-does : (last : Turn State) → Does site order bank known (link_of i) (SaysGoal i x.pc w) at w x code slot (is_likely i) last → turn_count (then_slot last second) ≡ 1 → FollowsPast site order at code slot (HasGone bank known written i x.pc w) w (then_slot last second)
     past-does last (inl goes) one =
         let two : 2 ≡ 1 = subst (λ (d : Turn State). turn_count (then_slot d second) ≡ 1) goes.done_is one in
         absurd (omega (arith, two))
@@ -132,20 +132,20 @@ module _ (laws : PathLaws) (site : Site) (order : Order) (bank : ℕ) (known : �
       follows = passes-follows passes.0 last passes.1;
     }
 
-    pub branch-past : turn_count (then_slot (done i x) second) ≡ 1 → FollowsPast site order at code slot (HasGone bank known written w) w (then_slot (done i x) second)
+    pub branch-past : turn_count (then_slot (done i x) second) ≡ 1 → FollowsPast site order at code slot (HasGone bank known written i x.pc w) w (then_slot (done i x) second)
     branch-past one = past-does (done i x) (transfer-does laws site order bank known w x h at slot i is reads lies) one
 
   -- any branch
 
-  module _ (slot_goes : (target : ℕ) → GoesTo target (second (into_slot linked_state target))) (slot_follows : (target place : ℕ) (v : Workspace) → LiesAt site.program site.method place slot → HasSettled bank known (link_of i) target w v x → Follows site place (place + size slot) 1 most_turns (whole_weight order slot) (IsDone bank after_branch slot_written v) (stands site place v) (second (into_slot linked_state target))) (passed_over : is_likely i ≡ true → (r : ℕ) → 0 < r → r < 32 → gained written known r ≡ true → after_branch r ≡ true) where
-    by-turn : Does site order bank known (link_of i) at w x code slot (is_likely i) (done i x) → FollowsTurns (then_slot (done i x) second)
+  module _ (slot_goes : (target : ℕ) → GoesTo target (second (into_slot linked_state target))) (slot_follows : (target place : ℕ) (v : Workspace) → LiesAt site.program site.method place slot → HasPut bank known (link_of i) (SaysGoal i x.pc w) target w v x → Follows site place (place + size slot) 1 most_turns (whole_weight order slot) (IsDone bank after_branch slot_written v) (stands site place v) (second (into_slot linked_state target))) (passed_over : is_likely i ≡ true → (r : ℕ) → 0 < r → r < 32 → gained written known r ≡ true → after_branch r ≡ true) where
+    by-turn : Does site order bank known (link_of i) (SaysGoal i x.pc w) at w x code slot (is_likely i) (done i x) → FollowsTurns (then_slot (done i x) second)
     by-turn (inl goes) =
         subst (λ (d : Turn State). FollowsTurns (then_slot d second)) (sym goes.done_is)
-        (slot-joined site order bank known (link_of i) goes.target 16 at w x code slot goes.reaches (lit≤ tt) written slot_written same (second (into_slot linked_state goes.target)) (slot_goes goes.target)
+        (slot-joined site order bank known (link_of i) i goes.target 16 at w x code slot goes.reaches (lit≤ tt) written slot_written same (second (into_slot linked_state goes.target)) (slot_goes goes.target)
         (λ v has. slot_follows goes.target goes.reaches.place v goes.reaches.lies has))
     by-turn (inr passes) =
         let past = passes.1.past in
-        follows-wider site (at + size code) past.total (whole_weight order code) (HasGone bank known written w) (λ weight. let a = past.weighs weight in omega (arith, a)) at (turn_count (then_slot (done i x) second)) (132 * turn_count (then_slot (done i x) second)) (stands site at w) (last_turn (then_slot (done i x) second))
+        follows-wider site (at + size code) past.total (whole_weight order code) (HasGone bank known written i x.pc w) (λ weight. let a = past.weighs weight in omega (arith, a)) at (turn_count (then_slot (done i x) second)) (132 * turn_count (then_slot (done i x) second)) (stands site at w) (last_turn (then_slot (done i x) second))
         (passes-follows passed_over passes.0 (done i x) passes.1)
 
     pub branch-follows : FollowsTurns (then_slot (done i x) second)

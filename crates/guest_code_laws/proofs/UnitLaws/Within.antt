@@ -1,12 +1,10 @@
 -- No branch of a branch's code before its slot goes past that code's end.
 use Rattle.std.proofs.Common.{ℕ, ◌==◌, Bool, true, false, if◌then◌else◌, List, [], ◌∷◌, ◌++◌, Option, Some, None, IsTrue, refl}
-use Rattle.jvm_names.specs.declared.branch_name.BranchName.{BranchName}
-use Rattle.jvm_names.specs.declared.branch_name.BranchName.TheVariants.{Goto}
 use Rattle.jvm_names.specs.declared.stack_name.StackName.TheVariants.{Pop}
 use Rattle.jvm_program.specs.declared.local_kind.LocalKind.TheVariants as local_kinds
 use Rattle.jvm_program.specs.declared.instruction.Instruction.TheVariants as instructions
 use Rattle.code_steps.specs.declared.step.Step.{Step}
-use Rattle.code_steps.specs.declared.step.Step.TheVariants.{Does, Skips}
+use Rattle.code_steps.specs.declared.step.Step.TheVariants.{Does}
 use Rattle.code_steps.specs.Outcomes.{stays_within}
 use Rattle.guest_layout.specs.FieldNumbers.{register_field}
 use Rattle.guest_code.specs.Access.{get_register, put_register, get_field, put_field, push_word, keeps}
@@ -38,6 +36,6 @@ pub within-goal : (bank at : ℕ) (link : Option ℕ) → IsTrue (stays_within (
 within-goal bank at None = refl
 within-goal bank at (Some r) = within-put bank r [] refl
 
-pub within-conditional : (bank at behind target : ℕ) (link : Option ℕ) (test : BranchName) → IsTrue (stays_within (Skips test 2 ∷ push_word behind ∷ Skips Goto 1 ∷ push_word target ∷ (settle_code ++ link_code bank link at)))
-within-conditional bank at behind target None test = refl
-within-conditional bank at behind target (Some r) test = within-put bank r [] refl
+pub within-link : (bank at : ℕ) (link : Option ℕ) → IsTrue (stays_within (link_code bank link at))
+within-link bank at None = refl
+within-link bank at (Some r) = within-put bank r [] refl
