@@ -2,12 +2,14 @@
 use Rattle.std.proofs.Common.{◌≡◌, ℕ, zero, suc, ◌+◌, ◌-◌, ◌*◌, ◌%◌, ◌≤◌, ◌==◌, Bool, true, false, ◌||◌, if◌then◌else◌, List, [], ◌∷◌, ◌++◌, length, map, replicate, Option, refl, ap, ◌∙◌, arith, append_assoc}
 use Rattle.std.specs.List.{flat_map, list_all}
 use Rattle.std.proofs.lemmas.Bool.{and_from, and_parts, eq-eqb}
+use Rattle.mips_decode.specs.Branches.{equal_likely, zero_likely, sign_likely}
 use Rattle.mips_decode.specs.Targets.{branch_target, jump_target}
 use Rattle.mips_decode.specs.declared.inst.Inst.{Inst}
 use Rattle.mips_decode.specs.declared.inst.Inst.TheVariants as inst
 use Rattle.delay_slots.specs.declared.unit.Unit.{Unit}
 use Rattle.delay_slots.specs.declared.unit.Unit.TheVariants.{Plain, Branch, SlotMissing, SlotIsBranch, Call, Trap}
 use Rattle.block_builder.specs.Blocks.{unit_at}
+use Rattle.jvm_names.specs.declared.branch_name.BranchName.{BranchName}
 use Rattle.jvm_names.specs.declared.branch_name.BranchName.TheVariants.{IfIcmpne}
 use Rattle.jvm_program.specs.declared.local_kind.LocalKind.TheVariants as local_kinds
 use Rattle.jvm_program.specs.declared.instruction.Instruction.TheVariants as instructions
@@ -17,12 +19,12 @@ use Rattle.code_steps.specs.Widths.{width, size}
 use Rattle.code_steps.specs.Switches.{switches_are_placed}
 use Rattle.guest_layout.specs.FieldNumbers.{pc_field}
 use Rattle.guest_code.specs.Access.{push_word, put_field}
-use Rattle.guest_code.specs.Branching.{behind_slot}
+use Rattle.guest_code.specs.Branching.{behind_slot, equal_test, zero_test, sign_test}
 use Rattle.guest_code.specs.Units.{unit_code, next_address}
 use Rattle.word_emitter.specs.declared.extent.Extent.{Extent}
 use Rattle.word_emitter.specs.Pieces.{is_likely, piece_units, warm_code}
 use Rattle.code_steps.specs.Returning.{returns}
-use Rattle.word_emitter.specs.Exits.{has, follows, arrive, last_way, two_ways, branch_exit, passing_exit, next_exit, exit_code}
+use Rattle.word_emitter.specs.Exits.{has, follows, go, next_exit, arrive, last_way, two_ways, conditional_exit, branch_exit, passing_exit, exit_code}
 use Rattle.span_code.specs.declared.span_words.SpanWords.{SpanWords}
 use Rattle.span_code.specs.Pieces.{begins, piece_at}
 use Rattle.span_code.specs.Neighbours.{address, is_inner, next_such}
@@ -81,28 +83,36 @@ two-keeps span behind first second =
     (and_from (keeps_to span (arrive span first)) (list_all (keeps_to span) (last_way span behind second)) (arrive-keeps span first)
     (last-keeps span behind second)) refl
 
+go-keeps : (span : Extent) (goal : ℕ) → list_all (keeps_to span) (go span goal) ≡ true
+go-keeps span goal = by_test (has span goal) refl
+  where
+    by_test : (b : Bool) → has span goal ≡ b
+        → list_all (keeps_to span) (if b then Leaves goal ∷ [] else push_word goal ∷ put_field pc_field ∷ returns ∷ []) ≡ true
+    by_test true is = and_from (has span goal) true is refl
+    by_test false is = refl
+
+next-keeps : (span : Extent) (behind : Option ℕ) (next : ℕ) → list_all (keeps_to span) (next_exit span behind next) ≡ true
+next-keeps span behind next = keep-either span (follows behind next) [] (go span next) refl (go-keeps span next)
+
+conditional-keeps : (span : Extent) (behind : Option ℕ) (likely : Bool) (test : BranchName) (target second : ℕ)
+    → list_all (keeps_to span) (conditional_exit span behind likely test target second) ≡ true
+conditional-keeps span behind true test target second = two-keeps span behind target second
+conditional-keeps span behind false test target second =
+    keep-append span (go span target) (next_exit span behind second) (go-keeps span target) (next-keeps span behind second)
+
 branch-keeps : (span : Extent) (behind : Option ℕ) (i : Inst) (at : ℕ) → list_all (keeps_to span) (branch_exit span behind i at) ≡ true
-branch-keeps span behind (inst.BranchSign name rs imm) at = two-keeps span behind (branch_target at imm) (behind_slot at)
-branch-keeps span behind (inst.BranchEqual name rs rt imm) at = two-keeps span behind (branch_target at imm) (behind_slot at)
-branch-keeps span behind (inst.BranchZero name rs imm) at = two-keeps span behind (branch_target at imm) (behind_slot at)
-branch-keeps span behind (inst.Jump name index) at = last-keeps span behind (jump_target at index)
+branch-keeps span behind (inst.BranchSign name rs imm) at =
+    conditional-keeps span behind (sign_likely name) (sign_test name) (branch_target at imm) (behind_slot at)
+branch-keeps span behind (inst.BranchEqual name rs rt imm) at =
+    conditional-keeps span behind (equal_likely name) (equal_test name) (branch_target at imm) (behind_slot at)
+branch-keeps span behind (inst.BranchZero name rs imm) at =
+    conditional-keeps span behind (zero_likely name) (zero_test name) (branch_target at imm) (behind_slot at)
+branch-keeps span behind (inst.Jump name index) at = next-keeps span behind (jump_target at index)
 branch-keeps span behind other at = refl
 
 passing-keeps : (span : Extent) (behind : Option ℕ) (i : Inst) (at : ℕ) → list_all (keeps_to span) (passing_exit span behind i at) ≡ true
 passing-keeps span behind i at =
     keep-either span (is_likely i) (last_way span behind (behind_slot at)) (returns ∷ []) (last-keeps span behind (behind_slot at)) refl
-
-next-keeps : (span : Extent) (behind : Option ℕ) (next : ℕ) → list_all (keeps_to span) (next_exit span behind next) ≡ true
-next-keeps span behind next =
-    keep-either span (follows behind next) [] (if has span next then Leaves next ∷ [] else out) refl (by_test (has span next) refl)
-  where
-    out : List Step
-    out = push_word next ∷ put_field pc_field ∷ returns ∷ []
-
-    by_test : (b : Bool) → has span next ≡ b
-        → list_all (keeps_to span) (if b then Leaves next ∷ [] else push_word next ∷ put_field pc_field ∷ returns ∷ []) ≡ true
-    by_test true is = and_from (has span next) true is refl
-    by_test false is = refl
 
 exit-keeps : (span : Extent) (behind : Option ℕ) (unit : Unit) (at : ℕ) → list_all (keeps_to span) (exit_code span behind unit at) ≡ true
 exit-keeps span behind (Plain i) at = next-keeps span behind (next_address at)
