@@ -36,7 +36,7 @@ abbrev pub UnitFollowsBy : Site → (bank : ℕ) → (ℕ → Bool) → (at : Co
 UnitFollowsBy site bank known at total unit w x =
     Follows site at (at + size (unit_code bank unit x.pc)) (turn_count (unit_turns unit x))
     (132 * turn_count (unit_turns unit x)) total
-    (UnitArrives bank known unit w) (stands site at w) (last_turn (unit_turns unit x))
+    (UnitArrives bank known unit x.pc w) (stands site at w) (last_turn (unit_turns unit x))
 
 -- From an offset the classes follow the turns of a unit to where they go on in the span, or to a return behind the unit, by paths that weigh no
 -- more than such a total where moves of values, branches and returns weigh nothing.

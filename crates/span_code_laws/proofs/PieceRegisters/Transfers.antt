@@ -1,7 +1,7 @@
 -- The code of branches and jumps leaves the field of a register alone, where that of the delay slot does.
 use Rattle.std.proofs.Common.{ℕ, ◌+◌, ◌≤◌, Bool, true, false, List, [], ◌∷◌, ◌++◌, length, Some, refl, arith}
 use Rattle.mips_decode.specs.Branches.{equal_likely, zero_likely, sign_likely}
-use Rattle.mips_decode.specs.Targets.{branch_target, jump_target}
+use Rattle.mips_decode.specs.Targets.{branch_target}
 use Rattle.mips_decode.specs.declared.names.branch_sign_name.BranchSignName.{BranchSignName}
 use Rattle.mips_decode.specs.declared.names.branch_sign_name.BranchSignName.TheVariants.{Bltz, Bgez, Bltzal, Bgezal, Bltzl, Bgezl, Bltzall, Bgezall}
 use Rattle.mips_decode.specs.declared.names.jump_name.JumpName.{JumpName}
@@ -11,8 +11,9 @@ use Rattle.mips_decode.specs.declared.inst.Inst.TheVariants as inst
 use Rattle.block_builder.specs.Registers.{read_by, written_by, written_by_branch_sign, written_by_jump}
 use Rattle.jvm_names.specs.declared.branch_name.BranchName.{BranchName}
 use Rattle.jvm_names.specs.declared.branch_name.BranchName.TheVariants.{Goto}
+use Rattle.jvm_program.specs.declared.instruction.Instruction.TheVariants.{Nop}
 use Rattle.code_steps.specs.declared.step.Step.{Step}
-use Rattle.code_steps.specs.declared.step.Step.TheVariants.{Skips}
+use Rattle.code_steps.specs.declared.step.Step.TheVariants.{Does, Skips}
 use Rattle.guest_layout.specs.FieldNumbers.{pc_field}
 use Rattle.guest_code.specs.Access.{get_register, push_word}
 use Rattle.guest_code.specs.Branching.{settle_code, goes_to_code, behind_slot, link_code, equal_test, zero_test, sign_test, sign_link, jump_link, conditional_code, transfer_code}
@@ -52,8 +53,7 @@ module _ (q : ℕ) (low : 1 ≤ q) (high : q ≤ 31) (bank at : ℕ) (slot : Lis
   conditional : (likely : Bool) (test : BranchName) (target behind : ℕ) (link : List Step) → Quiet link
       → Quiet (conditional_code likely test target behind link slot)
   conditional false test target behind link h =
-      joined (Skips test 2 ∷ push_word behind ∷ Skips Goto 1 ∷ push_word target ∷ []) (settle_code ++ link ++ slot) refl
-      (then-slot settle_code link settle h)
+      joined link slot h slot_is
   conditional true test target behind link h =
       let first = Skips test (5 + length link) ∷ [] in
       let over = Skips Goto (4 + length link + length slot) ∷ [] in
@@ -94,10 +94,8 @@ module _ (q : ℕ) (low : 1 ≤ q) (high : q ≤ 31) (bank at : ℕ) (slot : Lis
       (conditional_code (sign_likely name) (sign_test name) (branch_target at imm) (behind_slot at) link slot) (one rs reads.0)
       (conditional (sign_likely name) (sign_test name) (branch_target at imm) (behind_slot at) link (sign-links name writes))
   transfer-quiet (inst.Jump name index) reads writes =
-      then-slot (goes_to_code (jump_target at index)) (link_code bank (jump_link name) at) (goes-to (jump_target at index)) (jump-links name writes)
-  transfer-quiet (inst.JumpRegister rs) reads writes =
-      joined (get_register bank rs ∷ []) (settle_code ++ slot) (one rs reads.0) (joined settle_code slot settle slot_is)
+      then-slot (Does Nop ∷ []) (link_code bank (jump_link name) at) refl (jump-links name writes)
+  transfer-quiet (inst.JumpRegister rs) reads writes = joined (get_register bank rs ∷ []) slot (one rs reads.0) slot_is
   transfer-quiet (inst.JumpAndLinkRegister rs rd) reads writes =
-      joined (get_register bank rs ∷ []) (settle_code ++ link_code bank (Some rd) at ++ slot) (one rs reads.0)
-      (then-slot settle_code (link_code bank (Some rd) at) settle (link-some rd writes.0))
+      then-slot (get_register bank rs ∷ []) (link_code bank (Some rd) at) (one rs reads.0) (link-some rd writes.0)
   transfer-quiet other reads writes = slot_is

@@ -3,12 +3,14 @@ use Rattle.std.proofs.Common.{◌≡◌, ℕ, ◌+◌, ◌-◌, ◌<◌, ◌||�
 use Rattle.std.proofs.lemmas.Bool.{and_parts, ltb-true}
 use Rattle.std.specs.List.{flat_map, list_all, range_with_len}
 use Rattle.nv_words.specs.declared.order.Order.{Order}
+use Rattle.mips_decode.specs.Branches.{equal_likely, zero_likely, sign_likely}
 use Rattle.mips_decode.specs.Targets.{branch_target, jump_target}
 use Rattle.mips_decode.specs.declared.inst.Inst.{Inst}
 use Rattle.mips_decode.specs.declared.inst.Inst.TheVariants as inst
 use Rattle.delay_slots.specs.declared.unit.Unit.{Unit as Word}
 use Rattle.delay_slots.specs.declared.unit.Unit.TheVariants as units
 use Rattle.block_builder.specs.Blocks.{unit_at}
+use Rattle.jvm_names.specs.declared.branch_name.BranchName.{BranchName}
 use Rattle.jvm_names.specs.declared.branch_name.BranchName.TheVariants.{IfIcmpne, Goto}
 use Rattle.jvm_names.specs.declared.return_name.ReturnName.TheVariants as return_names
 use Rattle.jvm_program.specs.declared.constant.Constant.TheVariants as constants
@@ -21,12 +23,12 @@ use Rattle.code_steps.specs.declared.step.Step.TheVariants.{Does, Skips, Leaves,
 use Rattle.code_steps.specs.Widths.{size}
 use Rattle.guest_layout.specs.FieldNumbers.{pc_field, register_field}
 use Rattle.guest_code.specs.Access.{push_word, put_field}
-use Rattle.guest_code.specs.Branching.{behind_slot}
+use Rattle.guest_code.specs.Branching.{behind_slot, equal_test, zero_test, sign_test}
 use Rattle.guest_code.specs.Units.{unit_code, next_address}
 use Rattle.word_emitter.specs.declared.extent.Extent.{Extent}
 use Rattle.word_emitter.specs.Pieces.{bank_of, fetched, for_registers, is_likely, is_needed, is_written, put_back, piece_units, units_code, warm_code}
 use Rattle.code_steps.specs.Returning.{returns}
-use Rattle.word_emitter.specs.Exits.{has, follows, arrive, last_way, two_ways, branch_exit, passing_exit, next_exit, exit_code}
+use Rattle.word_emitter.specs.Exits.{has, follows, go, next_exit, unless, arrive, last_way, two_ways, conditional_exit, branch_exit, passing_exit, exit_code}
 use Rattle.span_code.specs.declared.span_words.SpanWords.{SpanWords}
 use Rattle.span_code.specs.Pieces.{begins, piece_at}
 use Rattle.span_code.specs.Neighbours.{address, is_inner, next_such}
@@ -102,11 +104,43 @@ module _ (order : Order) (weight : Instruction → ℕ) where
               let c = returns-weigh in
               omega (arith, a, b, c)
 
+      go-weighs : (goal : ℕ) → weighs (go span goal) ≡ 0
+      go-weighs goal = by_test (has span goal)
+        where
+          by_test : (h : Bool) → weighs (if h then Leaves goal ∷ [] else push_word goal ∷ put_field pc_field ∷ returns ∷ []) ≡ 0
+          by_test true = let e = spares.branch Goto 0 in omega (arith, e)
+          by_test false =
+              let a = spares.push (constants.Int goal) in
+              let b = spares.put pc_field kinds.Int (omega arith) in
+              let c = returns-weigh in
+              omega (arith, a, b, c)
+
+      conditional-weighs : (likely : Bool) (test : BranchName) (target second : ℕ)
+          → weighs (conditional_exit span behind likely test target second) ≡ 0
+      conditional-weighs true test target second = two-weigh target second
+      conditional-weighs false test target second =
+          let a = spares.branch (unless test) 0 in
+          let b = go-weighs target in
+          let c = next-weighs second in
+          let both = whole-both order weight (go span target) (next_exit span behind second) in
+          omega (arith, a, b, c, both)
+
+      jump-weighs : weighs (put_field pc_field ∷ returns ∷ []) ≡ 0
+      jump-weighs =
+          let a = spares.put pc_field kinds.Int (omega arith) in
+          let b = returns-weigh in
+          omega (arith, a, b)
+
       branch-weighs : (i : Inst) (at : ℕ) → weighs (branch_exit span behind i at) ≡ 0
-      branch-weighs (inst.BranchSign name rs imm) at = two-weigh (branch_target at imm) (behind_slot at)
-      branch-weighs (inst.BranchEqual name rs rt imm) at = two-weigh (branch_target at imm) (behind_slot at)
-      branch-weighs (inst.BranchZero name rs imm) at = two-weigh (branch_target at imm) (behind_slot at)
-      branch-weighs (inst.Jump name index) at = last-weighs (jump_target at index)
+      branch-weighs (inst.BranchSign name rs imm) at =
+          conditional-weighs (sign_likely name) (sign_test name) (branch_target at imm) (behind_slot at)
+      branch-weighs (inst.BranchEqual name rs rt imm) at =
+          conditional-weighs (equal_likely name) (equal_test name) (branch_target at imm) (behind_slot at)
+      branch-weighs (inst.BranchZero name rs imm) at =
+          conditional-weighs (zero_likely name) (zero_test name) (branch_target at imm) (behind_slot at)
+      branch-weighs (inst.Jump name index) at = next-weighs (jump_target at index)
+      branch-weighs (inst.JumpRegister rs) at = jump-weighs
+      branch-weighs (inst.JumpAndLinkRegister rs rd) at = jump-weighs
       branch-weighs _ at = returns-weigh
 
       passing-weighs : (i : Inst) (at : ℕ) → weighs (passing_exit span behind i at) ≡ 0

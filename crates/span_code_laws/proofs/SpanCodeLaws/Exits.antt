@@ -1,24 +1,28 @@
 -- The code behind a unit leads to where the classes go on.
-use Rattle.std.proofs.Common.{◌≡◌, ℕ, zero, suc, ◌+◌, ◌-◌, ◌/◌, ◌%◌, ◌<◌, ◌≤◌, ◌==◌, ◌&&◌, ◌||◌, not, nat_le, nat_lt, Bool, true, false, if◌then◌else◌, ◌⊎◌, inl, inr, List, [], ◌∷◌, length, map, take, slice_get, get_or, Option, Some, None, unwrap_or, refl, ap, subst, sym, ◌∙◌, arith}
+use Rattle.std.proofs.Common.{◌≡◌, ℕ, zero, suc, ◌+◌, ◌-◌, ◌/◌, ◌%◌, ◌<◌, ◌≤◌, ◌==◌, ◌&&◌, ◌||◌, not, nat_le, nat_lt, Bool, true, false, if◌then◌else◌, ◌⊎◌, inl, inr, List, [], ◌∷◌, ◌++◌, length, length-append, map, take, slice_get, get_or, Option, Some, None, unwrap_or, refl, ap, subst, sym, ◌∙◌, arith}
 use Rattle.std.proofs.lemmas.Bool.{and_from, and_parts, le-leb, eqb-true, leb-true, ltb-true, eq-eqb, or_parts, true≢false}
 use Rattle.std.proofs.lemmas.Grind.{common_steps}
+use Rattle.std.proofs.lemmas.List.{map-append, length-map}
 use Rattle.std.proofs.lemmas.List.FromFn.{get_or-map-range_with_len}
 use Rattle.nv_words.specs.Words.{IsWord, signed_of}
 use Rattle.nv_words.specs.declared.order.Order.{Order}
 use Rattle.mips_decode.specs.State.{State}
+use Rattle.mips_decode.specs.Branches.{equal_likely, zero_likely, sign_likely}
 use Rattle.mips_decode.specs.Targets.{branch_target, jump_target}
 use Rattle.mips_decode.specs.declared.inst.Inst.{Inst}
 use Rattle.mips_decode.specs.declared.inst.Inst.TheVariants as inst
 use Rattle.delay_slots.specs.declared.unit.Unit.{Unit as Word}
 use Rattle.delay_slots.specs.declared.unit.Unit.TheVariants as units
+use Rattle.jvm_names.specs.declared.branch_name.BranchName.{BranchName}
 use Rattle.jvm_names.specs.declared.branch_name.BranchName.TheVariants.{IfIcmpne}
 use Rattle.jvm_names.specs.declared.return_name.ReturnName.TheVariants as return_names
 use Rattle.jvm_program.specs.declared.local_kind.LocalKind.TheVariants as local_kinds
 use Rattle.jvm_program.specs.declared.instruction.Instruction.{Instruction}
 use Rattle.jvm_program.specs.declared.instruction.Instruction.TheVariants.{Load, Return}
+use Rattle.jvm_program.specs.declared.value.Value.{Value}
 use Rattle.jvm_program.specs.declared.value.Value.TheVariants.{Int as int}
 use Rattle.jvm_program.specs.Program.{Program}
-use Rattle.jvm_program.specs.Effect.{Workspace, with_field, with_operands, moves, pushes, wrong, chooses, same}
+use Rattle.jvm_program.specs.Effect.{Workspace, with_field, with_operands, moves, pushes, wrong, branches, chooses, same}
 use Rattle.code_steps.specs.declared.step.Step.{Step}
 use Rattle.code_steps.specs.declared.step.Step.TheVariants.{Does, Skips, Leaves}
 use Rattle.code_steps.specs.Widths.{width, bytes_before, size}
@@ -26,11 +30,11 @@ use Rattle.code_steps.specs.Outcomes.{Outcome, ended, left, stopped, later, beyo
 use Rattle.code_steps.specs.Placing.{placed_line, LiesAt}
 use Rattle.guest_layout.specs.FieldNumbers.{pc_field}
 use Rattle.guest_code.specs.Access.{push_word, put_field}
-use Rattle.guest_code.specs.Branching.{behind_slot}
+use Rattle.guest_code.specs.Branching.{behind_slot, equal_test, zero_test, sign_test}
 use Rattle.guest_code.specs.Units.{next_address}
 use Rattle.word_emitter.specs.Pieces.{is_likely}
 use Rattle.code_steps.specs.Returning.{returns}
-use Rattle.word_emitter.specs.Exits.{has, follows, arrive, last_way, two_ways, branch_exit, passing_exit, next_exit, exit_code}
+use Rattle.word_emitter.specs.Exits.{has, follows, go, next_exit, unless, chosen_ways, arrive, last_way, two_ways, conditional_exit, branch_exit, passing_exit, exit_code}
 use Rattle.span_code.specs.declared.span_words.SpanWords.{SpanWords}
 use Rattle.span_code.specs.Neighbours.{address}
 use Rattle.span_code.specs.Parts.{extent}
@@ -40,11 +44,13 @@ use Rattle.code_paths.proofs.Joining.{path-wider}
 use Rattle.code_paths.proofs.Weighing.{weigh-front}
 use Rattle.code_paths.specs.Guest.{is_register_jump}
 use Rattle.guest_follows.proofs.Signs.{same-signed}
+use Rattle.guest_follows.specs.Behind.{IsSettled, IsCompared, ConditionalGoal, SaysGoal}
 use Rattle.guest_follows.specs.Holding.{IsLink, reached}
 use Rattle.guest_follows.specs.Sites.{Site, stands, whole_weight}
 use Rattle.guest_follows.specs.Laws.{PathLaws}
 use Rattle.guest_follows.proofs.GuestFollows.Weights.{weigh-whole}
-use Rattle.guest_code_laws.specs.Pieces.{HoldsAll}
+use Rattle.guest_code_laws.specs.Pieces.{HoldsAll, UnitGoal}
+use Rattle.guest_code_laws.proofs.UnitLaws.Reaching.{says-from}
 use Rattle.span_code_laws.specs.Resuming.{IsAtRest, IsEntryOf, GoesOut, Resumes, ComesTo, jumps_by_register}
 use Rattle.span_code_laws.proofs.SpanCodeLaws.Leading.{GoalIs, LeadsTo}
 
@@ -96,11 +102,33 @@ pc-held w n t h = record {
   memory_held = h.memory_held;
 }
 
--- behind a branch or jump field pc and local variable 0 say where the guest is
-abbrev pub SaysGoal : Word → Workspace → State → Type 0
-SaysGoal (units.Plain i) u t = Unit {0}
-SaysGoal units.Call u t = Unit {0}
-SaysGoal unit u t = (u.fields pc_field ≡ int t.pc) × (u.locals 0 ≡ int t.pc)
+-- a likely branch settles its goal
+settled-by : (likely : Bool) (test : BranchName) (target behind : ℕ) (before after : Workspace) (goal : ℕ) → likely ≡ true
+    → ConditionalGoal likely test target behind before after goal → IsSettled before after goal
+settled-by true test target behind before after goal is says = says
+settled-by false test target behind before after goal is says = absurd (true≢false (sym is))
+
+likely-settled : (i : Inst) (at : ℕ) (before after : Workspace) (goal : ℕ) → is_likely i ≡ true → SaysGoal i at before after goal
+    → IsSettled before after goal
+likely-settled (inst.BranchSign name rs imm) at before after goal likely says =
+    settled-by (sign_likely name) (sign_test name) (branch_target at imm) (behind_slot at) before after goal likely says
+likely-settled (inst.BranchEqual name rs rt imm) at before after goal likely says =
+    settled-by (equal_likely name) (equal_test name) (branch_target at imm) (behind_slot at) before after goal likely says
+likely-settled (inst.BranchZero name rs imm) at before after goal likely says =
+    settled-by (zero_likely name) (zero_test name) (branch_target at imm) (behind_slot at) before after goal likely says
+likely-settled _ at before after goal likely says = absurd (true≢false (sym likely))
+
+-- behind a unit at an address there are no operands but those by which a branch says where the guest is
+abbrev pub SaysEnd : Word → ℕ → Workspace → State → Type 0
+SaysEnd unit at u t = UnitGoal unit at (with_operands u []) u t
+
+pub says-end : (unit : Word) (at : ℕ) (w u : Workspace) (t : State) → w.operands ≡ [] → UnitGoal unit at w u t → SaysEnd unit at u t
+says-end (units.Plain i) at w u t none goal = goal ∙ none
+says-end (units.Branch i slot) at w u t none goal = says-from i at (with_operands u []) w u t.pc none goal
+says-end (units.SlotMissing i) at w u t none goal = says-from i at (with_operands u []) w u t.pc none goal
+says-end (units.SlotIsBranch i word) at w u t none goal = says-from i at (with_operands u []) w u t.pc none goal
+says-end units.Call at w u t none goal = goal ∙ none
+says-end (units.Trap kind value) at w u t none goal = goal ∙ none
 
 module _ (unit_list : List Word) (leads : ℕ → Bool) (span : SpanWords) where
   abbrev IsEntry : ℕ → ℕ → Type 0
@@ -148,23 +176,62 @@ module _ (unit_list : List Word) (leads : ℕ → Bool) (span : SpanWords) where
           (arrive-stays first (map L (last_way (extent span) behind second)) (last-stays behind second))
       by_test false = refl
 
+  abbrev go_code : ℕ → Bool → List Step
+  go_code goal h = map L (if h then Leaves goal ∷ [] else push_word goal ∷ put_field pc_field ∷ returns ∷ [])
+
+  go-stays : (goal : ℕ) (code : List Step) → stays_within code ≡ true → stays_within (map L (go (extent span) goal) ++ code) ≡ true
+  go-stays goal code stays = by_test (has (extent span) goal)
+    where
+      by_test : (h : Bool) → stays_within (go_code goal h ++ code) ≡ true
+      by_test true = stays
+      by_test false = stays
+
   abbrev next_code : ℕ → Bool → Bool → List Step
   next_code next f h = map L (if f then [] else if h then Leaves next ∷ [] else push_word next ∷ put_field pc_field ∷ returns ∷ [])
 
   next-stays : (behind : Option ℕ) (next : ℕ) → stays_within (map L (next_exit (extent span) behind next)) ≡ true
   next-stays behind next = by_tests (follows behind next) (has (extent span) next)
     where
-      by_tests : (f h : Bool) → stays_within (map L (if f then [] else if h then Leaves next ∷ [] else push_word next ∷ put_field pc_field ∷ returns
-          ∷ [])) ≡ true
+      by_tests : (f h : Bool) → stays_within (next_code next f h) ≡ true
       by_tests true h = refl
       by_tests false true = refl
       by_tests false false = refl
 
+  -- a test over the way to the target, and then to the other address
+  abbrev chosen_code : Option ℕ → ℕ → ℕ → List Step
+  chosen_code behind target second = map L (go (extent span) target) ++ map L (next_exit (extent span) behind second)
+
+  chosen-is : (behind : Option ℕ) (test : BranchName) (target second : ℕ)
+      → map L (chosen_ways (extent span) behind test target second)
+      ≡ Skips (unless test) (length (go (extent span) target)) ∷ chosen_code behind target second
+  chosen-is behind test target second =
+      ap (λ code. Skips (unless test) (length (go (extent span) target)) ∷ code)
+      (map-append L (go (extent span) target) (next_exit (extent span) behind second))
+
+  chosen-stays : (behind : Option ℕ) (test : BranchName) (target second : ℕ)
+      → stays_within (map L (chosen_ways (extent span) behind test target second)) ≡ true
+  chosen-stays behind test target second =
+      let rest = chosen_code behind target second in
+      let both = length-append (map L (go (extent span) target)) (map L (next_exit (extent span) behind second)) in
+      let same = length-map (go (extent span) target) L in
+      subst (λ code. stays_within code ≡ true) (sym (chosen-is behind test target second))
+      (and_from (nat_le (length (go (extent span) target)) (length rest)) (stays_within rest)
+      (le-leb (length (go (extent span) target)) (length rest) (omega (arith, both, same)))
+      (go-stays target (map L (next_exit (extent span) behind second)) (next-stays behind second)))
+
+  conditional-stays : (likely : Bool) (behind : Option ℕ) (test : BranchName) (target second : ℕ)
+      → stays_within (map L (conditional_exit (extent span) behind likely test target second)) ≡ true
+  conditional-stays true behind test target second = two-stays behind target second
+  conditional-stays false behind test target second = chosen-stays behind test target second
+
   branch-stays : (behind : Option ℕ) (i : Inst) (at : ℕ) → stays_within (map L (branch_exit (extent span) behind i at)) ≡ true
-  branch-stays behind (inst.BranchSign name rs imm) at = two-stays behind (branch_target at imm) (behind_slot at)
-  branch-stays behind (inst.BranchEqual name rs rt imm) at = two-stays behind (branch_target at imm) (behind_slot at)
-  branch-stays behind (inst.BranchZero name rs imm) at = two-stays behind (branch_target at imm) (behind_slot at)
-  branch-stays behind (inst.Jump name index) at = last-stays behind (jump_target at index)
+  branch-stays behind (inst.BranchSign name rs imm) at =
+      conditional-stays (sign_likely name) behind (sign_test name) (branch_target at imm) (behind_slot at)
+  branch-stays behind (inst.BranchEqual name rs rt imm) at =
+      conditional-stays (equal_likely name) behind (equal_test name) (branch_target at imm) (behind_slot at)
+  branch-stays behind (inst.BranchZero name rs imm) at =
+      conditional-stays (zero_likely name) behind (zero_test name) (branch_target at imm) (behind_slot at)
+  branch-stays behind (inst.Jump name index) at = next-stays behind (jump_target at index)
   branch-stays behind _ at = refl
 
   passing-stays : (behind : Option ℕ) (i : Inst) (at : ℕ) → stays_within (map L (passing_exit (extent span) behind i at)) ≡ true
@@ -232,33 +299,69 @@ module _ (unit_list : List Word) (leads : ℕ → Bool) (span : SpanWords) where
     good-beyond most s code (left n target w) g = g
     good-beyond most s code (stopped n i w e) g = g
 
+    good-past : (program : Program) (words most : ℕ) (first second : List Step) (u : Workspace) → Good most second (outcome program words second u)
+        → Good most (first ++ second) (outcome_from program words (first ++ second) (length first) u)
+    good-past program words most [] second u g = g
+    good-past program words most (s ∷ first) second u g =
+        good-beyond most s (first ++ second) (outcome_from program words (first ++ second) (length first) u)
+        (good-past program words most first second u g)
+
     module _ (site : Site) (behind : Option ℕ) (next_is : (a : ℕ) → follows behind a ≡ true
-        → IsEntry end a) (u : Workspace) (rests : IsAtRest u t) (outside : has (extent span) t.pc ≡ false → Reason) where
-      abbrev runs : List Step → Outcome
-      runs code = outcome site.program site.words code u
+        → IsEntry end a) (outside : has (extent span) t.pc ≡ false → Reason) where
+      abbrev runs_from : Workspace → List Step → Outcome
+      runs_from v code = outcome site.program site.words code v
 
-      -- ---- to the next word
+      -- field pc is put before a return
+      put-rests : (v : Workspace) (n : ℕ) → IsAtRest v t → IsAtRest (with_field v pc_field (int n) v.operands) t
+      put-rests v n rests = record {
+        held = subst (λ operands. HoldsAll (with_field v pc_field (int n) operands) t) (sym rests.no_operands) (pc-held v n t rests.held);
+        no_operands = rests.no_operands;
+      }
 
-      next-good : (next : ℕ) → t.pc ≡ next → Good 4 (map L (next_exit (extent span) behind next)) (runs (map L (next_exit (extent span) behind next)))
-      next-good next there = by_tests (follows behind next) (has (extent span) next) refl refl
+      -- ---- to an address that is known
+
+      go-good : (v : Workspace) (goal : ℕ) (code : List Step) → IsAtRest v t → t.pc ≡ goal
+          → Good 3 (map L (go (extent span) goal) ++ code) (runs_from v (map L (go (extent span) goal) ++ code))
+      go-good v goal code rests there = by_test (has (extent span) goal) refl
         where
-          by_tests : (f h : Bool) → follows behind next ≡ f → has (extent span) next ≡ h → Good 4 (next_code next f h) (runs (next_code next f h))
-          by_tests true h is inside = (omega arith, rests, subst (λ a. IsEntry end a) (sym there) (next_is next is))
-          by_tests false true is inside = (omega arith, rests, subst (λ a. IsEntry (goal_of next) a) (sym there) (goal-is next inside))
-          by_tests false false is inside = (
+          by_test : (h : Bool) → has (extent span) goal ≡ h → Good 3 (go_code goal h ++ code) (runs_from v (go_code goal h ++ code))
+          by_test true inside = (omega arith, rests, subst (λ a. IsEntry (goal_of goal) a) (sym there) (goal-is goal inside))
+          by_test false inside = (
             omega arith,
-            record {
-              held = subst (λ operands. HoldsAll (with_field u pc_field (int next) operands) t) (sym rests.no_operands) (pc-held u next t rests.held);
-              no_operands = rests.no_operands;
-            },
+            put-rests v goal rests,
             sym (ap int there),
             refl,
             outside (subst (λ a. has (extent span) a ≡ false) (sym there) inside),
           )
 
-      -- ---- behind a branch
+      next-good : (v : Workspace) (next : ℕ) → IsAtRest v t → t.pc ≡ next
+          → Good 3 (map L (next_exit (extent span) behind next)) (runs_from v (map L (next_exit (extent span) behind next)))
+      next-good v next rests there = by_tests (follows behind next) (has (extent span) next) refl refl
+        where
+          by_tests : (f h : Bool) → follows behind next ≡ f → has (extent span) next ≡ h
+              → Good 3 (next_code next f h) (runs_from v (next_code next f h))
+          by_tests true h is inside = (omega arith, rests, subst (λ a. IsEntry end a) (sym there) (next_is next is))
+          by_tests false true is inside = (omega arith, rests, subst (λ a. IsEntry (goal_of next) a) (sym there) (goal-is next inside))
+          by_tests false false is inside = (
+            omega arith,
+            put-rests v next rests,
+            sym (ap int there),
+            refl,
+            outside (subst (λ a. has (extent span) a ≡ false) (sym there) inside),
+          )
 
-      module _ (field_is : u.fields pc_field ≡ int t.pc) where
+      -- more turns may be granted
+      more-good : (few most : ℕ) (code : List Step) (o : Outcome) → few ≤ most → Good few code o → Good most code o
+      more-good few most code (ended n w) less g = (few-still n few most g.0 less, g.1, g.2)
+      more-good few most code (left n target w) less g = (few-still n few most g.0 less, g.1, g.2)
+      more-good few most code (stopped n i w e) less g = (few-still n few most g.0 less, g.1, g.2, g.3, g.4)
+
+      -- ---- behind a likely branch
+
+      module _ (u : Workspace) (rests : IsAtRest u t) (field_is : u.fields pc_field ≡ int t.pc) where
+        abbrev runs : List Step → Outcome
+        runs code = outcome site.program site.words code u
+
         returns-good : Reason → (code : List Step) → Good 1 (returns ∷ code) (runs (returns ∷ code))
         returns-good because code = (omega arith, rests, field_is, refl, because)
 
@@ -278,12 +381,6 @@ module _ (unit_list : List Word) (leads : ℕ → Bool) (span : SpanWords) where
                 (runs (map L (if f then [] else arrive (extent span) goal ∷ [])))
             by_test true is = (omega arith, rests, subst (λ a. IsEntry end a) (sym there) (next_is goal is))
             by_test false is = arrive-good goal [] there
-
-        -- more turns may be granted
-        more-good : (few most : ℕ) (code : List Step) (o : Outcome) → few ≤ most → Good few code o → Good most code o
-        more-good few most code (ended n w) less g = (few-still n few most g.0 less, g.1, g.2)
-        more-good few most code (left n target w) less g = (few-still n few most g.0 less, g.1, g.2)
-        more-good few most code (stopped n i w e) less g = (few-still n few most g.0 less, g.1, g.2, g.3, g.4)
 
         two-good : (first second : ℕ) → u.locals 0 ≡ int t.pc → IsWord first → IsWord second → (t.pc ≡ first) ⊎ (t.pc ≡ second)
             → Good 4 (map L (two_ways (extent span) behind first second)) (runs (map L (two_ways (extent span) behind first second)))
@@ -346,24 +443,6 @@ module _ (unit_list : List Word) (leads : ℕ → Bool) (span : SpanWords) where
             by_test true some = by_goal (t.pc == first) refl
             by_test false none = more-good 1 4 (returns ∷ []) (runs (returns ∷ [])) (omega arith) (returns-good (neither none) [])
 
-        jump-good : Reason → Good 4 (returns ∷ []) (runs (returns ∷ []))
-        jump-good because = more-good 1 4 (returns ∷ []) (runs (returns ∷ [])) (omega arith) (returns-good because [])
-
-        branch-good : (i : Inst) (at : ℕ) → u.locals 0 ≡ int t.pc → GoalIs i at t.pc → (is_register_jump i ≡ true → Reason)
-            → Good 4 (map L (branch_exit (extent span) behind i at)) (runs (map L (branch_exit (extent span) behind i at)))
-        branch-good (inst.BranchSign name rs imm) at local_is goal jumps =
-            two-good (branch_target at imm) (behind_slot at) local_is (omega arith) (omega arith) goal
-        branch-good (inst.BranchEqual name rs rt imm) at local_is goal jumps =
-            two-good (branch_target at imm) (behind_slot at) local_is (omega arith) (omega arith) goal
-        branch-good (inst.BranchZero name rs imm) at local_is goal jumps =
-            two-good (branch_target at imm) (behind_slot at) local_is (omega arith) (omega arith) goal
-        branch-good (inst.Jump name index) at local_is goal jumps =
-            more-good 1 4 (map L (last_way (extent span) behind (jump_target at index)))
-            (runs (map L (last_way (extent span) behind (jump_target at index)))) (omega arith) (last-good (jump_target at index) goal)
-        branch-good (inst.JumpRegister rs) at local_is goal jumps = jump-good (jumps refl)
-        branch-good (inst.JumpAndLinkRegister rs rd) at local_is goal jumps = jump-good (jumps refl)
-        branch-good _ at local_is goal jumps = absurd goal
-
         passing-good : (i : Inst) (at : ℕ) → is_likely i ≡ true → t.pc ≡ behind_slot at
             → Good 4 (map L (passing_exit (extent span) behind i at)) (runs (map L (passing_exit (extent span) behind i at)))
         passing-good i at likely there = by_test (is_likely i) likely
@@ -374,14 +453,112 @@ module _ (unit_list : List Word) (leads : ℕ → Bool) (span : SpanWords) where
                 (runs (map L (last_way (extent span) behind (behind_slot at)))) (omega arith) (last-good (behind_slot at) there)
             by_test false is = absurd (true≢false (sym is))
 
-      pub exit-good : (unit : Word) (at : ℕ) → (jumps_by_register unit ≡ true → Reason) → LeadsTo unit at t.pc → SaysGoal unit u t
-          → Good 4 (map L (exit_code (extent span) behind unit at)) (runs (map L (exit_code (extent span) behind unit at)))
-      exit-good (units.Plain i) at jumps leads goal = next-good (next_address at) leads
-      exit-good (units.Branch i slot) at jumps leads goal = branch-good goal.0 i at goal.1 leads jumps
-      exit-good (units.SlotMissing i) at jumps leads goal = passing-good goal.0 i at leads.0 leads.1
-      exit-good (units.SlotIsBranch i word) at jumps leads goal = passing-good goal.0 i at leads.0 leads.1
-      exit-good units.Call at jumps leads goal = next-good (next_address at) leads
-      exit-good (units.Trap kind value) at jumps leads goal = absurd leads
+      -- ---- behind other branches
+
+      module _ (u : Workspace) (held : HoldsAll u t) where
+        -- where the operands are taken
+        abbrev popped : Workspace
+        popped = with_operands u []
+
+        popped-rests : IsAtRest popped t
+        popped-rests = record { held = held; no_operands = refl }
+
+        module _ (test : BranchName) (target second : ℕ) (says : IsCompared test target second popped u t.pc) where
+          abbrev rest : List Step
+          rest = chosen_code behind target second
+
+          abbrev over : ℕ
+          over = length (go (extent span) target)
+
+          abbrev code : List Step
+          code = Skips (unless test) over ∷ rest
+
+          tested : branches (unless test) u ≡ chooses (not says.taken) u []
+          tested =
+              subst (λ (o : List Value). branches (unless test) (with_operands u o) ≡ chooses (not says.taken) (with_operands u o) [])
+              (sym says.operands_are) (says.fails u [])
+
+          chosen : (b : Bool) → says.taken ≡ b
+              → outcome site.program site.words code u ≡ later (outcome_from site.program site.words rest (if b then 0 else over) popped)
+          chosen true is = ap (λ e. after_branch u e (outcome_from site.program site.words rest 0) (outcome_from site.program site.words rest over))
+              (tested ∙ ap (λ b. chooses (not b) u []) is)
+          chosen false is = ap (λ e. after_branch u e (outcome_from site.program site.words rest 0) (outcome_from site.program site.words rest over))
+              (tested ∙ ap (λ b. chooses (not b) u []) is)
+
+          by_way : (b : Bool) → says.taken ≡ b → Good 4 code (outcome site.program site.words code u)
+          by_way true is =
+              subst (Good 4 code) (sym (chosen true is))
+              (good-later 3 (Skips (unless test) over) rest (outcome site.program site.words rest popped)
+              (go-good popped target (map L (next_exit (extent span) behind second)) popped-rests
+              (says.goal_is ∙ ap (λ b. if b then target else second) is)))
+          by_way false is =
+              subst (Good 4 code) (sym (chosen false is))
+              (good-later 3 (Skips (unless test) over) rest (outcome_from site.program site.words rest over popped)
+              (subst (λ k. Good 3 rest (outcome_from site.program site.words rest k popped)) (length-map (go (extent span) target) L)
+              (good-past site.program site.words 3 (map L (go (extent span) target)) (map L (next_exit (extent span) behind second)) popped
+              (next-good popped second popped-rests (says.goal_is ∙ ap (λ b. if b then target else second) is)))))
+
+          chosen-good : Good 4 (map L (chosen_ways (extent span) behind test target second))
+              (outcome site.program site.words (map L (chosen_ways (extent span) behind test target second)) u)
+          chosen-good =
+              subst (λ whole. Good 4 whole (outcome site.program site.words whole u)) (sym (chosen-is behind test target second))
+              (by_way says.taken refl)
+
+        conditional-good : (likely : Bool) (test : BranchName) (target second : ℕ) → IsWord target → IsWord second
+            → (t.pc ≡ target) ⊎ (t.pc ≡ second) → ConditionalGoal likely test target second popped u t.pc
+            → Good 4 (map L (conditional_exit (extent span) behind likely test target second))
+            (outcome site.program site.words (map L (conditional_exit (extent span) behind likely test target second)) u)
+        conditional-good true test target second first_word second_word either says =
+            two-good u (record { held = held; no_operands = says.operands_kept }) says.field_is target second says.local_is first_word second_word
+            either
+        conditional-good false test target second first_word second_word either says = chosen-good test target second says
+
+        abbrev jump_code : List Step
+        jump_code = put_field pc_field ∷ returns ∷ []
+
+        -- the address is above the operands
+        jump-good : Reason → u.operands ≡ int t.pc ∷ [] → Good 4 jump_code (outcome site.program site.words jump_code u)
+        jump-good because is =
+            subst (λ (o : List Value). Good 4 jump_code (outcome site.program site.words jump_code (with_operands u o))) (sym is)
+            (omega arith, record { held = pc-held u t.pc t held; no_operands = refl }, refl, refl, because)
+
+        known-good : (next : ℕ) → u.operands ≡ [] → t.pc ≡ next
+            → Good 4 (map L (next_exit (extent span) behind next)) (outcome site.program site.words (map L (next_exit (extent span) behind next)) u)
+        known-good next none there =
+            more-good 3 4 (map L (next_exit (extent span) behind next))
+            (outcome site.program site.words (map L (next_exit (extent span) behind next)) u) (omega arith)
+            (next-good u next (record { held = held; no_operands = none }) there)
+
+        branch-good : (i : Inst) (at : ℕ) → SaysGoal i at popped u t.pc → GoalIs i at t.pc → (is_register_jump i ≡ true → Reason)
+            → Good 4 (map L (branch_exit (extent span) behind i at))
+            (outcome site.program site.words (map L (branch_exit (extent span) behind i at)) u)
+        branch-good (inst.BranchSign name rs imm) at says goal jumps =
+            conditional-good (sign_likely name) (sign_test name) (branch_target at imm) (behind_slot at) (omega arith) (omega arith) goal says
+        branch-good (inst.BranchEqual name rs rt imm) at says goal jumps =
+            conditional-good (equal_likely name) (equal_test name) (branch_target at imm) (behind_slot at) (omega arith) (omega arith) goal says
+        branch-good (inst.BranchZero name rs imm) at says goal jumps =
+            conditional-good (zero_likely name) (zero_test name) (branch_target at imm) (behind_slot at) (omega arith) (omega arith) goal says
+        branch-good (inst.Jump name index) at says goal jumps = known-good (jump_target at index) says.0 goal
+        branch-good (inst.JumpRegister rs) at says goal jumps = jump-good (jumps refl) says
+        branch-good (inst.JumpAndLinkRegister rs rd) at says goal jumps = jump-good (jumps refl) says
+        branch-good _ at says goal jumps = absurd goal
+
+        slot-good : (i : Inst) (at : ℕ) → SaysGoal i at popped u t.pc → is_likely i ≡ true → t.pc ≡ behind_slot at
+            → Good 4 (map L (passing_exit (extent span) behind i at))
+            (outcome site.program site.words (map L (passing_exit (extent span) behind i at)) u)
+        slot-good i at says likely there =
+            let settled = likely-settled i at popped u t.pc likely says in
+            passing-good u (record { held = held; no_operands = settled.operands_kept }) settled.field_is i at likely there
+
+        pub exit-good : (unit : Word) (at : ℕ) → (jumps_by_register unit ≡ true → Reason) → LeadsTo unit at t.pc → SaysEnd unit at u t
+            → Good 4 (map L (exit_code (extent span) behind unit at))
+            (outcome site.program site.words (map L (exit_code (extent span) behind unit at)) u)
+        exit-good (units.Plain i) at jumps leads says = known-good (next_address at) says leads
+        exit-good (units.Branch i slot) at jumps leads says = branch-good i at says leads jumps
+        exit-good (units.SlotMissing i) at jumps leads says = slot-good i at says leads.0 leads.1
+        exit-good (units.SlotIsBranch i word) at jumps leads says = slot-good i at says leads.0 leads.1
+        exit-good units.Call at jumps leads says = known-good (next_address at) says leads
+        exit-good (units.Trap kind value) at jumps leads says = absurd leads
 
   -- ---- code with a good outcome leads to where the classes go on
 

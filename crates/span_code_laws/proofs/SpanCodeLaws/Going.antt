@@ -16,10 +16,11 @@ use Rattle.span_code.specs.Laying.{targets_of, return_offset, laid_step}
 use Rattle.guest_follows.specs.Sites.{Site, stands, whole_weight}
 use Rattle.guest_follows.specs.Following.{Follows}
 use Rattle.guest_follows.specs.Laws.{PathLaws}
-use Rattle.span_code_laws.specs.Resuming.{IsAtRest, IsEntryOf, GoesOut, Resumes, ComesTo, FollowsInSpan}
+use Rattle.guest_code_laws.specs.Pieces.{HoldsAll}
+use Rattle.span_code_laws.specs.Resuming.{IsEntryOf, GoesOut, Resumes, ComesTo, FollowsInSpan}
 use Rattle.span_code_laws.proofs.SpanCodeLaws.Joining.{Reaches, follows-on}
 use Rattle.span_code_laws.proofs.SpanCodeLaws.Leading.{LeadsTo, goes-out}
-use Rattle.span_code_laws.proofs.SpanCodeLaws.Exits.{SaysGoal, exit-good, good-comes}
+use Rattle.span_code_laws.proofs.SpanCodeLaws.Exits.{SaysEnd, exit-good, good-comes}
 
 pub reaches-map : (P Q : State → Type 0) → ((t : State) → P t → Q t) → (turn : Turn State) → Reaches P turn → Reaches Q turn
 reaches-map P Q map (moves t) all = map t all
@@ -32,8 +33,8 @@ pub record FollowsFirst (site : Site) (middle : ℕ) (unit : Word) (a n most : �
     (last : Turn State) : Type 1 where
   pub First : Workspace → State → Type 0
   pub follows : Follows site entry middle n most total First (stands site entry w) last
-  pub at_rest : (u : Workspace) (t : State) → First u t → IsAtRest u t
-  pub says : (u : Workspace) (t : State) → LeadsTo unit a t.pc → First u t → SaysGoal unit u t
+  pub held : (u : Workspace) (t : State) → First u t → HoldsAll u t
+  pub says : (u : Workspace) (t : State) → LeadsTo unit a t.pc → First u t → SaysEnd unit a u t
   pub leads_to : Reaches (λ (t : State). LeadsTo unit a t.pc) last
 
 module _ (laws : PathLaws) (site : Site) (order : Order) (units : List Word) (leads : ℕ → Bool) (span : SpanWords) (behind : Option ℕ) (unit : Word)
@@ -43,13 +44,13 @@ module _ (laws : PathLaws) (site : Site) (order : Order) (units : List Word) (le
 
   module _ (next_is : (b : ℕ) → follows behind b ≡ true → IsEntryOf units leads span (middle + size exit) b) where
     -- the exit goes on from each state to which the unit leads
-    pub exit-comes : LiesAt site.program site.method middle exit → (t : State) → LeadsTo unit a t.pc → (u : Workspace) → IsAtRest u t
-        → SaysGoal unit u t
+    pub exit-comes : LiesAt site.program site.method middle exit → (t : State) → LeadsTo unit a t.pc → (u : Workspace) → HoldsAll u t
+        → SaysEnd unit a u t
         → ComesTo site middle (middle + size exit) 0 4 (whole_weight order exit) (λ y. Resumes site units leads span unit y t) (stands site middle u)
-    exit-comes lies t leads_there u rests says =
+    exit-comes lies t leads_there u held says =
         good-comes units leads span laws site order middle 4 exit unit t u lies
-        (exit-good units leads span (middle + size exit) t (GoesOut span unit t.pc) site behind next_is u rests
-        (goes-out span t.pc unit a alike leads_there) unit a (λ jumps aligned. inl jumps) leads_there says)
+        (exit-good units leads span (middle + size exit) t (GoesOut span unit t.pc) site behind next_is
+        (goes-out span t.pc unit a alike leads_there) u held unit a (λ jumps aligned. inl jumps) leads_there says)
 
     -- and so do the classes behind code that follows
     pub goes-on : (entry n most : ℕ) (total all : (Instruction → ℕ) → ℕ) (w : Workspace) (last : Turn State) (later : ℕ) → most + 4 ≤ later
@@ -62,5 +63,5 @@ module _ (laws : PathLaws) (site : Site) (order : Order) (units : List Word) (le
         (reaches-map (λ (t : State). LeadsTo unit a t.pc)
         (λ t. (u : Workspace) → f.First u t → ComesTo site middle (middle + size exit) 0 4 (whole_weight order exit)
         (λ y. Resumes site units leads span unit y t) (stands site middle u))
-        (λ t leads_there u is. exit-comes lies t leads_there u (f.at_rest u t is) (f.says u t leads_there is)) last f.leads_to)
+        (λ t leads_there u is. exit-comes lies t leads_there u (f.held u t is) (f.says u t leads_there is)) last f.leads_to)
         f.follows

@@ -33,10 +33,14 @@ pub last-is : (rest : List Word) (unit : Word) → last_unit unit rest ≡ get_o
 last-is [] unit = refl
 last-is (next ∷ rest) unit = last-is rest next
 
-pub last-goal : (rest : List Word) (unit : Word) (before after : Workspace) (t : State) → PieceGoal (unit ∷ rest) before after t
-    → UnitGoal (last_unit unit rest) before after t
-last-goal [] unit before after t goal = goal
-last-goal (next ∷ rest) unit before after t goal = last-goal rest next before after t goal
+pub last-goal : (rest : List Word) (unit : Word) (at : ℕ) (before after : Workspace) (t : State) → PieceGoal (unit ∷ rest) at before after t
+    → UnitGoal (last_unit unit rest) (at + 4 * length rest) before after t
+last-goal [] unit at before after t goal =
+    let here : at ≡ at + 4 * 0 = omega arith in
+    subst (λ a. UnitGoal unit a before after t) here goal
+last-goal (next ∷ rest) unit at before after t goal =
+    let there : at + 4 + 4 * length rest ≡ at + 4 * length (next ∷ rest) = omega arith in
+    subst (λ a. UnitGoal (last_unit next rest) a before after t) there (last-goal rest next (at + 4) before after t goal)
 
 -- ---- where a piece leads
 

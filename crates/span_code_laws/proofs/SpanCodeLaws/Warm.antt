@@ -44,7 +44,7 @@ use Rattle.span_code_laws.specs.Resuming.{IsEntryOf, Resumes, FollowsInSpan}
 use Rattle.span_code_laws.specs.Spans.{HasSpan, StandsAt, FollowsPiece}
 use Rattle.span_code_laws.proofs.SpanCodeLaws.Joining.{Reaches}
 use Rattle.span_code_laws.proofs.SpanCodeLaws.Leading.{LeadsTo}
-use Rattle.span_code_laws.proofs.SpanCodeLaws.Exits.{SaysGoal, exit-stays}
+use Rattle.span_code_laws.proofs.SpanCodeLaws.Exits.{SaysEnd, says-end, exit-stays}
 use Rattle.span_code_laws.proofs.SpanCodeLaws.Parts.{laid-unmarked, part-lies, warm-behind}
 use Rattle.span_code_laws.proofs.SpanCodeLaws.Going.{FollowsFirst, goes-on}
 use Rattle.span_code_laws.proofs.SpanCodeLaws.Straight.{last_unit, last-is, last-goal, are-lawful, piece-leads, are-straight, count, count-few, units-count, piece-some, unit-is}
@@ -97,29 +97,24 @@ some-piece [] x some = absurd (omega (arith, some))
 some-piece (unit ∷ rest) x some = some-more (turn_count (unit_turns unit x)) (last_turn (unit_turns unit x)) (piece_turns rest)
     (some-turn (unit_turns unit x))
 
-goal-says : (unit : Word) (before after : Workspace) (t : State) → UnitGoal unit before after t → SaysGoal unit after t
-goal-says (units.Plain i) before after t goal = tt
-goal-says units.Call before after t goal = tt
-goal-says (units.Branch i slot) before after t goal = goal
-goal-says (units.SlotMissing i) before after t goal = goal
-goal-says (units.SlotIsBranch i word) before after t goal = goal
-goal-says (units.Trap kind value) before after t goal = goal
-
 -- What a piece says at its end, by its last unit at an address.
-record SaysEnd (piece : List Word) (last : Word) (a : ℕ) (w : Workspace) (x : State) : Type 0 where
-  says : (u : Workspace) (t : State) → PieceArrives piece w u t → SaysGoal last u t
+record PieceSays (piece : List Word) (last : Word) (a : ℕ) (w : Workspace) (x : State) : Type 0 where
+  says : (u : Workspace) (t : State) → PieceArrives piece x.pc w u t → SaysEnd last a u t
   leads_to : Reaches (λ (t : State). LeadsTo last a t.pc) (piece_turns piece x).1
 
 piece-says : InstructionsChangeWhatTheyWrite → (piece : List Word) (last : Word) (a : ℕ) (w : Workspace) (x : State) → 1 ≤ length piece
     → get_or piece (length piece - 1) units.Call ≡ last → a ≡ x.pc + 4 * (length piece - 1) → All IsLawful piece → AreStraight piece
-    → x.pending ≡ None → x.pc + 4 * length piece < 2 ^ 32 → SaysEnd piece last a w x
-piece-says change [] last a w x some is there lawful straight free below = absurd (omega (arith, some))
-piece-says change (unit ∷ rest) last a w x some is there lawful straight free below =
+    → x.pending ≡ None → x.pc + 4 * length piece < 2 ^ 32 → w.operands ≡ [] → PieceSays piece last a w x
+piece-says change [] last a w x some is there lawful straight free below none = absurd (omega (arith, some))
+piece-says change (unit ∷ rest) last a w x some is there lawful straight free below none =
     let before : length (unit ∷ rest) - 1 ≡ length rest = omega arith in
     let same : last_unit unit rest ≡ last = last-is rest unit ∙ ap (λ i. get_or (unit ∷ rest) i units.Call) (sym before) ∙ is in
     let address : x.pc + 4 * length rest ≡ a = omega (arith, there, before) in
     record {
-      says = λ u t arrives. goal-says last w u t (subst (λ l. UnitGoal l w u t) same (last-goal rest unit w u t arrives.goal));
+      says = λ u t arrives.
+          says-end last a w u t none
+          (subst (λ b. UnitGoal last b w u t) address
+          (subst (λ l. UnitGoal l (x.pc + 4 * length rest) w u t) same (last-goal rest unit x.pc w u t arrives.goal)));
       leads_to = subst (λ b. Reaches (λ (t : State). LeadsTo last b t.pc) (piece_turns (unit ∷ rest) x).1) address
           (subst (λ l. Reaches (λ (t : State). LeadsTo l (x.pc + 4 * length rest) t.pc) (piece_turns (unit ∷ rest) x).1) same
           (piece-leads change rest unit x (are-lawful (unit ∷ rest) lawful) straight free below));
@@ -216,7 +211,7 @@ module _ (laws : PieceLaws) (site : Site) (words : List ℕ) (leads : ℕ → Bo
         let there = s.pc in
         omega (arith, n, few, within, total, room, there)
 
-    own-says : SaysEnd own last (address span last_word) w x
+    own-says : PieceSays own last (address span last_word) w x
     own-says =
         let some = own-some in
         let n = units-count unit_list block is-piece in
@@ -224,21 +219,21 @@ module _ (laws : PieceLaws) (site : Site) (words : List ℕ) (leads : ℕ → Bo
         let place : k + (length own - 1) ≡ last_word = omega (arith, some) in
         piece-says laws.change own last (address span last_word) w x some
         (unit-is unit_list block is-piece (length own - 1) (omega (arith, some, n)) ∙ ap (unit_at unit_list) place) (omega (arith, there, some))
-        own-lawful (are-straight unit_list block is-piece) s.pending own-below
+        own-lawful (are-straight unit_list block is-piece) s.pending own-below s.rests.no_operands
 
     module _ (ready : IsReady site order) where
       piece-follows : LiesAt site.program site.method entry first
           → FollowsFirst site (entry + size first) last (address span last_word) (piece_turns own x).0 (256 * (piece_turns own x).0)
           (whole_weight order first) entry w (piece_turns own x).1
       piece-follows lies = record {
-        First = PieceArrives own w;
+        First = PieceArrives own x.pc w;
         follows = subst (λ pc. LiesAt site.program site.method entry (warm_code own pc)
             → Follows site entry (entry + size (warm_code own pc)) (piece_turns own x).0 (256 * (piece_turns own x).0)
             (whole_weight order (warm_code own pc))
-            (PieceArrives own w) (stands site entry w) (piece_turns own x).1) s.pc
+            (PieceArrives own x.pc w) (stands site entry w) (piece_turns own x).1) s.pc
             (λ there. laws.follow own (not-empty own own-some) own-lawful (are-straight unit_list block is-piece) site order entry w x ready s.order_is
             s.pending own-below there s.rests.held) lies;
-        at_rest = λ u t is. record { held = is.held; no_operands = is.operands_kept ∙ s.rests.no_operands };
+        held = λ u t is. is.held;
         says = λ u t goes is. own-says.says u t is;
         leads_to = own-says.leads_to;
       }

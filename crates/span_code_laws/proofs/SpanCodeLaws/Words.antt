@@ -35,17 +35,16 @@ use Rattle.span_code.proofs.UnitMarks.{unit-marks, front-marks}
 use Rattle.guest_follows.specs.Holding.{HoldsOn}
 use Rattle.guest_follows.specs.Sites.{Site, stands, whole_weight}
 use Rattle.guest_follows.specs.Following.{Follows}
-use Rattle.guest_follows.specs.Behind.{IsHeld}
 use Rattle.guest_follows.specs.Laws.{PathLaws}
 use Rattle.guest_follows.proofs.GuestFollows.Weights.{whole-both, size-both}
 use Rattle.guest_code_laws.specs.Instructions.{IsReady}
 use Rattle.guest_code_laws.specs.Units.{AllUnitsFollow, UnitArrives}
-use Rattle.guest_code_laws.specs.Pieces.{HoldsAll}
+use Rattle.guest_code_laws.specs.Pieces.{HoldsAll, UnitGoal}
 use Rattle.guest_code_laws.proofs.PieceLaws.Within.{unit-stays}
-use Rattle.span_code_laws.specs.Resuming.{IsAtRest, IsEntryOf, Resumes, FollowsInSpan}
+use Rattle.span_code_laws.specs.Resuming.{IsEntryOf, Resumes, FollowsInSpan}
 use Rattle.span_code_laws.specs.Spans.{HasSpan, StandsAt, FollowsUnit, FollowsUnitBehindFront}
 use Rattle.span_code_laws.proofs.SpanCodeLaws.Leading.{LeadsTo, unit-leads}
-use Rattle.span_code_laws.proofs.SpanCodeLaws.Exits.{SaysGoal, exit-stays}
+use Rattle.span_code_laws.proofs.SpanCodeLaws.Exits.{SaysEnd, says-end, exit-stays}
 use Rattle.span_code_laws.proofs.SpanCodeLaws.Parts.{laid-unmarked, part-lies, cold-behind}
 use Rattle.span_code_laws.proofs.SpanCodeLaws.Counting.{laid-weighs}
 use Rattle.span_code_laws.proofs.SpanCodeLaws.Joining.{Reaches}
@@ -79,27 +78,26 @@ holds-all known u t all h = record {
 abbrev pub all : ℕ → Bool
 all r = true
 
-rests-held : (written : List Register) (w u : Workspace) (t : State) → w.operands ≡ [] → IsHeld 0 all written w u t → IsAtRest u t
-rests-held written w u t none h = record {
-  held = holds-all (gained written all) u t (all-gained written all (λ r. refl)) h.held;
-  no_operands = h.kept.operands_kept ∙ none;
-}
+held-all : (written : List Register) (u : Workspace) (t : State) → HoldsOn 0 (gained written all) u t → HoldsAll u t
+held-all written u t h = holds-all (gained written all) u t (all-gained written all (λ r. refl)) h
 
-pub unit-rests : (unit : Word) (w u : Workspace) (t : State) → w.operands ≡ [] → UnitArrives 0 all unit w u t → IsAtRest u t
-unit-rests (units.Plain i) w u t none is = rests-held (unit_writes (units.Plain i)) w u t none is.state
-unit-rests (units.Branch i slot) w u t none is = rests-held (unit_writes (units.Branch i slot)) w u t none is.state
-unit-rests (units.SlotMissing i) w u t none is = rests-held (unit_writes (units.SlotMissing i)) w u t none is.state
-unit-rests (units.SlotIsBranch i word) w u t none is = rests-held (unit_writes (units.SlotIsBranch i word)) w u t none is.state
-unit-rests units.Call w u t none is = rests-held (unit_writes units.Call) w u t none is.state
-unit-rests (units.Trap kind value) w u t none is = rests-held (unit_writes (units.Trap kind value)) w u t none is.state
+pub unit-held : (unit : Word) (a : ℕ) (w u : Workspace) (t : State) → UnitArrives 0 all unit a w u t → HoldsAll u t
+unit-held (units.Plain i) a w u t is = held-all (unit_writes (units.Plain i)) u t is.state.held
+unit-held (units.Branch i slot) a w u t is = held-all (unit_writes (units.Branch i slot)) u t is.held
+unit-held (units.SlotMissing i) a w u t is = held-all (unit_writes (units.SlotMissing i)) u t is.held
+unit-held (units.SlotIsBranch i word) a w u t is = held-all (unit_writes (units.SlotIsBranch i word)) u t is.held
+unit-held units.Call a w u t is = held-all (unit_writes units.Call) u t is.state.held
+unit-held (units.Trap kind value) a w u t is = held-all (unit_writes (units.Trap kind value)) u t is.state.held
 
-pub unit-says : (unit : Word) (a : ℕ) (w u : Workspace) (t : State) → LeadsTo unit a t.pc → UnitArrives 0 all unit w u t → SaysGoal unit u t
-unit-says (units.Plain i) a w u t goes is = tt
-unit-says (units.Branch i slot) a w u t goes is = (is.field_is, is.local_is)
-unit-says (units.SlotMissing i) a w u t goes is = (is.field_is, is.local_is)
-unit-says (units.SlotIsBranch i word) a w u t goes is = (is.field_is, is.local_is)
-unit-says units.Call a w u t goes is = tt
-unit-says (units.Trap kind value) a w u t goes is = absurd goes
+-- the goal that a unit says where its code has come to its end
+pub unit-goal : (bank : ℕ) (known : ℕ → Bool) (unit : Word) (a : ℕ) (w u : Workspace) (t : State) → UnitArrives bank known unit a w u t
+    → UnitGoal unit a w u t
+unit-goal bank known (units.Plain i) a w u t is = is.state.kept.operands_kept
+unit-goal bank known (units.Branch i slot) a w u t is = is.goal
+unit-goal bank known (units.SlotMissing i) a w u t is = is.goal
+unit-goal bank known (units.SlotIsBranch i word) a w u t is = is.goal
+unit-goal bank known units.Call a w u t is = is.state.kept.operands_kept
+unit-goal bank known (units.Trap kind value) a w u t is = is.state.kept.operands_kept
 
 pub some-turn : (turns : UnitTurns) → 1 ≤ turn_count turns
 some-turn (one_turn last) = omega arith
@@ -217,7 +215,7 @@ module _ (laws : UnitLaws) (site : Site) (order : Order) (words : List ℕ) (lea
     -- the classes follow the unit to where they go on, if its code follows it
     pub word-goes : (n most : ℕ) (total all_weight : (Instruction → ℕ) → ℕ) (later : ℕ) → most + 4 ≤ later
         → ((weight : Instruction → ℕ) → total weight + whole_weight order exit weight ≤ all_weight weight)
-        → Follows site at (at + size (unit_code 0 unit x.pc)) n most total (UnitArrives 0 all unit w) (stands site at w)
+        → Follows site at (at + size (unit_code 0 unit x.pc)) n most total (UnitArrives 0 all unit x.pc w) (stands site at w)
         (last_turn (unit_turns unit x))
         → FollowsInSpan site at (at + size first + size exit) n later all_weight (Resumes site unit_list leads span unit) (stands site at w)
         (last_turn (unit_turns unit x))
@@ -225,11 +223,13 @@ module _ (laws : UnitLaws) (site : Site) (order : Order) (words : List ℕ) (lea
         goes-on laws.paths site order unit_list leads span behind unit (address span k) (omega arith) (at + size first) next-is at n most total
         all_weight w (last_turn (unit_turns unit x)) later few weighs parts-lie.2
         (record {
-          First = UnitArrives 0 all unit w;
-          follows = subst (λ pc. Follows site at (at + size (unit_code 0 unit pc)) n most total (UnitArrives 0 all unit w) (stands site at w)
+          First = UnitArrives 0 all unit x.pc w;
+          follows = subst (λ pc. Follows site at (at + size (unit_code 0 unit pc)) n most total (UnitArrives 0 all unit x.pc w) (stands site at w)
               (last_turn (unit_turns unit x))) s.pc follows;
-          at_rest = λ u t is. unit-rests unit w u t s.rests.no_operands is;
-          says = λ u t goes is. unit-says unit (address span k) w u t goes is;
+          held = λ u t is. unit-held unit x.pc w u t is;
+          says = λ u t goes is.
+              subst (λ a. SaysEnd unit a u t) s.pc
+              (says-end unit x.pc w u t s.rests.no_operands (unit-goal 0 all unit x.pc w u t is));
           leads_to = subst (λ pc. Reaches (λ (t : State). LeadsTo unit pc t.pc) (last_turn (unit_turns unit x))) s.pc
               (unit-leads unit x is-lawful s.pending);
         })

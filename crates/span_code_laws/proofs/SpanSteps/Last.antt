@@ -9,10 +9,10 @@ use Rattle.delay_slots.specs.declared.unit.Unit.TheVariants as units
 use Rattle.delay_slots.specs.Units.{units_of}
 use Rattle.delay_slots.specs.Turns.{unit_turns, turn_count, last_turn}
 use Rattle.block_builder.specs.Blocks.{unit_at}
-use Rattle.block_builder.specs.Registers.{unit_writes}
+use Rattle.block_builder.specs.Registers.{Register, unit_writes, written_by}
 use Rattle.jvm_program.specs.declared.instruction.Instruction.{Instruction}
 use Rattle.jvm_program.specs.declared.value.Value.{Value}
-use Rattle.jvm_program.specs.Effect.{Workspace}
+use Rattle.jvm_program.specs.Effect.{Workspace, with_operands}
 use Rattle.code_steps.specs.declared.step.Step.{Step}
 use Rattle.code_steps.specs.Widths.{size}
 use Rattle.code_steps.specs.Placing.{LiesAt}
@@ -20,6 +20,7 @@ use Rattle.guest_layout.specs.FieldNumbers.{pc_field}
 use Rattle.guest_code.specs.Units.{unit_code}
 use Rattle.word_emitter.specs.Exits.{exit_code, follows}
 use Rattle.word_emitter.specs.Pieces.{bank_of, for_registers, is_written, put_back, units_code}
+use Rattle.lawful_units.specs.Knowing.{gained}
 use Rattle.lawful_units.specs.Lawful.{has_register}
 use Rattle.span_code.specs.declared.span_words.SpanWords.{SpanWords}
 use Rattle.span_code.specs.Pieces.{begins}
@@ -29,22 +30,25 @@ use Rattle.span_code.specs.Laying.{entry_at, laid_step, return_offset, targets_o
 use Rattle.span_code.proofs.StandingLemmas.{word-stands}
 use Rattle.guest_follows.specs.Sites.{Site, stands, whole_weight}
 use Rattle.guest_follows.specs.Following.{ComesToEnd, Follows}
+use Rattle.guest_follows.specs.Holding.{HoldsOn, KeepsFields}
 use Rattle.guest_follows.specs.Behind.{IsHeld}
 use Rattle.guest_follows.proofs.GuestFollows.CodeLaws.{code-laws}
 use Rattle.guest_follows.proofs.GuestFollows.Weights.{size-both}
-use Rattle.guest_code_laws.proofs.PieceLaws.Arriving.{put-field, put-held}
+use Rattle.guest_code_laws.proofs.PieceLaws.Arriving.{put-field, put-held, unit-moved}
 use Rattle.guest_code_laws.proofs.PieceLaws.Fetching.{PutsBack, each_code, puts-back}
 use Rattle.guest_code_laws.proofs.PieceLaws.Turns as reached
 use Rattle.guest_code_laws.proofs.PieceLaws.Turns.{LeavesOthers, unit-leaves}
 use Rattle.guest_code_laws.specs.Units.{UnitArrives}
-use Rattle.span_code_laws.specs.Resuming.{ComesTo, IsAtRest, IsEntryOf, Resumes}
+use Rattle.guest_code_laws.specs.Pieces.{HoldsAll, UnitGoal}
+use Rattle.span_code_laws.specs.Resuming.{ComesTo, IsEntryOf, Resumes}
 use Rattle.span_code_laws.specs.Spans.{HasSpan}
 use Rattle.span_code_laws.proofs.SpanCodeLaws.Counting.{putting-weighs}
-use Rattle.span_code_laws.proofs.SpanCodeLaws.Exits.{SaysGoal, exit-stays}
+use Rattle.span_code_laws.proofs.SpanCodeLaws.Exits.{SaysEnd, exit-stays}
 use Rattle.span_code_laws.proofs.SpanCodeLaws.Going.{exit-comes, reaches-map}
 use Rattle.span_code_laws.proofs.SpanCodeLaws.Joining.{Reaches, end-before, follows-on}
 use Rattle.span_code_laws.proofs.SpanCodeLaws.Leading.{LeadsTo, unit-leads}
 use Rattle.span_code_laws.proofs.SpanCodeLaws.Warm.{each-stays, next-is}
+use Rattle.span_code_laws.proofs.SpanCodeLaws.Words.{unit-goal}
 use Rattle.span_code_laws.specs.InPieces.{IsInPiece, StandsInPiece, fetching, known_behind, offset_in, own_units}
 use Rattle.span_code_laws.specs.Following.{UnitFollowsBy, UnitGoesOn}
 use Rattle.span_code_laws.proofs.SpanSteps.Alone.{laid-exit-weighs}
@@ -62,33 +66,20 @@ both-reached P Q (asks q next) first second = λ a. (first a, second a)
 
 -- ---- where its code has come to its end
 
-unit-held : (bank : ℕ) (known : ℕ → Bool) (unit : Word) (w u : Workspace) (t : State) → UnitArrives bank known unit w u t
-    → IsHeld bank known (unit_writes unit) w u t
-unit-held bank known (units.Plain i) w u t is = is.state
-unit-held bank known (units.Branch i slot) w u t is = is.state
-unit-held bank known (units.SlotMissing i) w u t is = is.state
-unit-held bank known (units.SlotIsBranch i word) w u t is = is.state
-unit-held bank known units.Call w u t is = is.state
-unit-held bank known (units.Trap kind value) w u t is = is.state
+-- what a branch has left above the operands is taken
+held-below : (bank : ℕ) (known : ℕ → Bool) (written : List Register) (w u : Workspace) (t : State) → HoldsOn bank (gained written known) u t
+    → KeepsFields bank w u → IsHeld bank known written w (with_operands u w.operands) t
+held-below bank known written w u t held kept = record { held = held; kept = record { fields_kept = kept; operands_kept = refl } }
 
-unit-says : (bank : ℕ) (known : ℕ → Bool) (unit : Word) (a : ℕ) (w u : Workspace) (t : State) → LeadsTo unit a t.pc
-    → UnitArrives bank known unit w u t → SaysGoal unit u t
-unit-says bank known (units.Plain i) a w u t goes is = tt
-unit-says bank known (units.Branch i slot) a w u t goes is = (is.field_is, is.local_is)
-unit-says bank known (units.SlotMissing i) a w u t goes is = (is.field_is, is.local_is)
-unit-says bank known (units.SlotIsBranch i word) a w u t goes is = (is.field_is, is.local_is)
-unit-says bank known units.Call a w u t goes is = tt
-unit-says bank known (units.Trap kind value) a w u t goes is = absurd goes
-
--- what is said of the goal stays
-says-still : (unit : Word) (u v : Workspace) (t : State) → v.fields pc_field ≡ u.fields pc_field → v.locals ≡ u.locals → SaysGoal unit u t
-    → SaysGoal unit v t
-says-still (units.Plain i) u v t fields locals says = tt
-says-still (units.Branch i slot) u v t fields locals says = (fields ∙ says.0, ap (λ (l : ℕ → Value). l 0) locals ∙ says.1)
-says-still (units.SlotMissing i) u v t fields locals says = (fields ∙ says.0, ap (λ (l : ℕ → Value). l 0) locals ∙ says.1)
-says-still (units.SlotIsBranch i word) u v t fields locals says = (fields ∙ says.0, ap (λ (l : ℕ → Value). l 0) locals ∙ says.1)
-says-still units.Call u v t fields locals says = tt
-says-still (units.Trap kind value) u v t fields locals says = (fields ∙ says.0, ap (λ (l : ℕ → Value). l 0) locals ∙ says.1)
+unit-held : (bank : ℕ) (known : ℕ → Bool) (unit : Word) (a : ℕ) (w u : Workspace) (t : State) → UnitArrives bank known unit a w u t
+    → IsHeld bank known (unit_writes unit) w (with_operands u w.operands) t
+unit-held bank known (units.Plain i) a w u t is = held-below bank known (written_by i) w u t is.state.held is.state.kept.fields_kept
+unit-held bank known (units.Branch i slot) a w u t is = held-below bank known (unit_writes (units.Branch i slot)) w u t is.held is.fields_kept
+unit-held bank known (units.SlotMissing i) a w u t is = held-below bank known (unit_writes (units.SlotMissing i)) w u t is.held is.fields_kept
+unit-held bank known (units.SlotIsBranch i word) a w u t is =
+    held-below bank known (unit_writes (units.SlotIsBranch i word)) w u t is.held is.fields_kept
+unit-held bank known units.Call a w u t is = held-below bank known (unit_writes units.Call) w u t is.state.held is.state.kept.fields_kept
+unit-held bank known (units.Trap kind value) a w u t is = held-below bank known [] w u t is.state.held is.state.kept.fields_kept
 
 module _ (laws : StepLaws) (site : Site) (order : Order) (words : List ℕ) (leads : ℕ → Bool) (span : SpanWords) (has : HasSpan site words leads span)
     (k : ℕ) (front : List Word) (unit : Word) (w : Workspace) (x : State)
@@ -163,27 +154,33 @@ module _ (laws : StepLaws) (site : Site) (order : Order) (words : List ℕ) (lea
       (unit-leaves laws.pieces.change unit x)
 
   abbrev Rests : State → Workspace → Type 0
-  Rests t z = IsAtRest z t × SaysGoal unit z t
+  Rests t z = HoldsAll z t × SaysEnd unit here z t
 
-  module _ (t : State) (goes : Leads t) (u : Workspace) (arrives : UnitArrives bank (known_behind own front) unit w u t) where
-    all-inside : IsInPiece own own u t
+  module _ (t : State) (goes : Leads t) (u : Workspace) (arrives : UnitArrives bank (known_behind own front) unit x.pc w u t) where
+    abbrev taken : Workspace
+    taken = with_operands u w.operands
+
+    all-inside : IsInPiece own own taken t
     all-inside =
-        subst (λ units. IsInPiece own units u t) (sym s.parts)
-        (one-done laws.sets own front unit (unit-lawful laws site order words leads span has k front unit [] w x s) w u x t s.inside goes.1
-        (unit-held bank (known_behind own front) unit w u t arrives))
+        subst (λ units. IsInPiece own units taken t) (sym s.parts)
+        (one-done laws.sets own front unit (unit-lawful laws site order words leads span has k front unit [] w x s) w taken x t s.inside goes.1
+        (unit-held bank (known_behind own front) unit x.pc w u t arrives))
 
     put : PutsBack site.program site.words (is_written own) t.registers 1 31 (each_code (is_written own) put_back 1 31) u
     put = puts-back site.program site.words (is_written own) t.registers 31 1 u (omega arith) (omega arith)
-        (all-done laws.sets own u t (lawful-there laws site order words leads span has k front unit [] w x s) all-inside)
+        (all-done laws.sets own taken t (lawful-there laws site order words leads span has k front unit [] w x s) all-inside)
 
     put-rests : Rests t put.after
     put-rests = (
-      record {
-        held = put-held site.program site.words own u t put all-inside.unwritten (known_behind own own) all-inside.held;
-        no_operands = put.operands_kept ∙ all-inside.no_operands;
-      },
-      says-still unit u put.after t (put-field site.program site.words own u t put pc_field (omega arith)) put.locals_kept
-          (unit-says bank (known_behind own front) unit here w u t goes.0 arrives),
+      put-held site.program site.words own u t put all-inside.unwritten (known_behind own own) all-inside.held,
+      unit-moved (with_operands put.after []) w u put.after t s.inside.no_operands put.operands_kept
+          (record {
+            pc_kept = put-field site.program site.words own u t put pc_field (omega arith);
+            goal_kept = ap (λ (l : ℕ → Value). l 0) put.locals_kept;
+          })
+          unit here
+          (subst (λ a. UnitGoal unit a w u t) (here-is laws site order words leads span has k front unit [] w x s)
+          (unit-goal bank (known_behind own front) unit x.pc w u t arrives)),
     )
 
     back-comes : ComesToEnd site second third 0 62 (whole_weight order back) (Rests t) (stands site second u)
@@ -237,16 +234,16 @@ module _ (laws : StepLaws) (site : Site) (order : Order) (words : List ℕ) (lea
             omega (arith, first_none, second_none);
         follows =
             follows-on site second (third + size exit) (132 * n) 66 (132 * n + 70) total more (λ weight. total weight + more weight) (omega arith)
-            (λ weight. omega arith) (UnitArrives bank (known_behind own front) unit w) (Resumes site unit_list leads span unit) (omega arith) at n
+            (λ weight. omega arith) (UnitArrives bank (known_behind own front) unit x.pc w) (Resumes site unit_list leads span unit) (omega arith) at n
             (last_turn (unit_turns unit x)) (stands site at w)
             (reaches-map Leads
-            (λ t. (u : Workspace) → UnitArrives bank (known_behind own front) unit w u t
+            (λ t. (u : Workspace) → UnitArrives bank (known_behind own front) unit x.pc w u t
             → ComesTo site second (third + size exit) 0 66 more (λ y. Resumes site unit_list leads span unit y t) (stands site second u))
             (λ t goes u arrives.
             end-before site third (third + size exit) 0 4 4 (whole_weight order back) (whole_weight order exit) more (omega arith)
             (λ weight. omega arith) (λ z v. Rests v z) (Resumes site unit_list leads span unit) second 0 62 t (stands site second u)
             (exits t goes.0) (back-comes t goes u arrives))
             (last_turn (unit_turns unit x)) leads-there)
-            (subst (λ high. Follows site at high n (132 * n) total (UnitArrives bank (known_behind own front) unit w) (stands site at w)
+            (subst (λ high. Follows site at high n (132 * n) total (UnitArrives bank (known_behind own front) unit x.pc w) (stands site at w)
             (last_turn (unit_turns unit x))) end given);
       }

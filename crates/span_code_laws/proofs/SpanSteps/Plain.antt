@@ -97,8 +97,8 @@ module _ (laws : StepLaws) (site : Site) (order : Order) (words : List ℕ) (lea
       subst (λ high. Follows site at high 1 132 total After (stands site at w) (done i x)) (end-is unit s)
       (follows-after site at at (at + size (unit_code bank unit x.pc)) 0 1 132 1 132 (λ weight. 0) total total (stands site at w) (stands site at w)
       (no-turns site.program site.words site.method at at (stands site at w) (omega arith)) (omega arith) (omega arith) (λ weight. omega arith)
-      (UnitArrives bank (known_behind own front) unit w) After (done i x)
-      (maps-moved (IsPast (written_by i) x) (UnitArrives bank (known_behind own front) unit w) After
+      (UnitArrives bank (known_behind own front) unit x.pc w) After (done i x)
+      (maps-moved (IsPast (written_by i) x) (UnitArrives bank (known_behind own front) unit x.pc w) After
       (λ u t past arrives. record {
         above = s.above;
         below = s.below;
