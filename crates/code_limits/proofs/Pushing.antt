@@ -1,5 +1,5 @@
 -- Code that pushes constants of a list, and others that take no slots.
-use Rattle.std.proofs.Common.{◌≡◌, ℕ, zero, suc, ◌+◌, ◌<◌, ◌≤◌, Bool, true, false, cond, if◌then◌else◌, List, [], ◌∷◌, ◌++◌, sym, subst, arith}
+use Rattle.std.proofs.Common.{◌≡◌, ℕ, zero, suc, ◌+◌, ◌<◌, ◌≤◌, Bool, true, false, cond, if◌then◌else◌, List, [], ◌∷◌, ◌++◌, sym, subst, arith, refl}
 use Rattle.std.specs.Prelude.{filter}
 use Rattle.std.specs.List.{flat_map, range_with_len}
 use Rattle.std.proofs.lemmas.List.Concat.{flat_map-append}
@@ -30,15 +30,15 @@ pushes-all constants code is = subst (λ cs. Within cs constants) (sym is) (with
 
 -- the code of numbers that pass a test
 pub pushes-each : (constants : List Constant) (F : ℕ → List Step) (test : ℕ → Bool) (a m : ℕ)
-    → ((k : ℕ) → a ≤ k → k < a + m → Pushes constants (F k)) → Pushes constants (flat_map F (filter test (range_with_len a m)))
+    → ((k : ℕ) → a ≤ k → k < a + m → test k ≡ true → Pushes constants (F k)) → Pushes constants (flat_map F (filter test (range_with_len a m)))
 pushes-each constants F test a zero each = within-none constants
 pushes-each constants F test a (suc m) each =
-    by_test (test a) (filter test (range_with_len (a + 1) m))
-    (pushes-each constants F test (a + 1) m (λ k from below. each k (omega arith) (omega arith)))
+    by_test (test a) refl (filter test (range_with_len (a + 1) m))
+    (pushes-each constants F test (a + 1) m (λ k from below passes. each k (omega arith) (omega arith) passes))
   where
-    by_test : (b : Bool) (ks : List ℕ) → Pushes constants (flat_map F ks) → Pushes constants (flat_map F (cond b (a ∷ ks) ks))
-    by_test true ks rest = pushes-append constants (F a) (flat_map F ks) (each a (omega arith) (omega arith)) rest
-    by_test false ks rest = rest
+    by_test : (b : Bool) → test a ≡ b → (ks : List ℕ) → Pushes constants (flat_map F ks) → Pushes constants (flat_map F (cond b (a ∷ ks) ks))
+    by_test true passes ks rest = pushes-append constants (F a) (flat_map F ks) (each a (omega arith) (omega arith) passes) rest
+    by_test false passes ks rest = rest
 
 -- the code of registers that pass a test
 pub pushes-registers : (constants : List Constant) (test : ℕ → Bool) (code : ℕ → List Step) → ((r : ℕ) → Pushes constants (code r))

@@ -1,7 +1,7 @@
 -- The constants of a span are those of its words.
-use Rattle.std.proofs.Common.{◌≡◌, ℕ, zero, suc, ◌+◌, ◌-◌, ◌*◌, ◌%◌, ◌<◌, ◌≤◌, inl, inr, Bool, true, false, if◌then◌else◌, List, [], ◌∷◌, ◌++◌, length, map, take, drop, replicate, Option, refl, ap, sym, subst, arith}
+use Rattle.std.proofs.Common.{◌≡◌, ℕ, zero, suc, ◌+◌, ◌-◌, ◌*◌, ◌%◌, ◌<◌, ◌≤◌, ◌==◌, ◌&&◌, ◌||◌, not, nat_le, inl, inr, Bool, true, false, if◌then◌else◌, List, [], ◌∷◌, ◌++◌, length, map, take, drop, replicate, Option, refl, ap, sym, subst, arith}
 use Rattle.std.specs.List.{flat_map, range_with_len}
-use Rattle.std.proofs.lemmas.Bool.{cases_eq, cases_lt}
+use Rattle.std.proofs.lemmas.Bool.{cases_eq, cases_lt, leb-true, leb-false, true≢false}
 use Rattle.std.proofs.lemmas.List.{drop_more, drop_all, length-take}
 use Rattle.delay_slots.specs.declared.unit.Unit.{Unit}
 use Rattle.delay_slots.specs.declared.unit.Unit.TheVariants.{Call}
@@ -89,11 +89,25 @@ module _ (units : List Unit) (leads : ℕ → Bool) (span : SpanWords) where
   abbrev word_before : ℕ
   word_before = span.first - 1
 
-  -- those of all words, the first word's address, and where the word before the first goes: a piece that has no units ends with it
-  abbrev all_constants : List Constant
-  all_constants = Int (address span span.first) ∷ (goals_at word_before ++ flat_map word_constants (all_words span))
+  -- where the word before the first goes: a piece that has no units ends with it. With a meter there are no pieces.
+  abbrev goals_before : List Constant
+  goals_before = if span.metered || nat_le span.end span.first then [] else goals_at word_before
 
-  word-few : (k : ℕ) → all_slots (word_constants k) ≤ 9
+  -- those of all words, and the first word's address
+  abbrev all_constants : List Constant
+  all_constants = Int (address span span.first) ∷ (goals_before ++ flat_map word_constants (all_words span))
+
+  abbrev most_of_word : ℕ
+  most_of_word = if span.metered then 9 else 8
+
+  fronts-few : (k : ℕ) → all_slots (fronts_at k) + 8 ≤ most_of_word
+  fronts-few k = by_meter span.metered
+    where
+      by_meter : (metered : Bool) → all_slots (front_goals metered (address span k)) + 8 ≤ (if metered then 9 else 8)
+      by_meter true = omega (arith, front-goals-few true (address span k))
+      by_meter false = omega arith
+
+  word-few : (k : ℕ) → all_slots (word_constants k) ≤ most_of_word
   word-few k =
       let code = unit_code 0 (unit_at units k) (address span k) in
       omega (
@@ -102,10 +116,10 @@ module _ (units : List Unit) (leads : ℕ → Bool) (span : SpanWords) where
         all-append (constants_of code) (own_goals (unit_at units k) (address span k)),
         taken-all code,
         unit-slots 0 (unit_at units k) (address span k),
-        front-goals-few span.metered (address span k),
+        fronts-few k,
       )
 
-  words-few : (a m : ℕ) → all_slots (flat_map word_constants (range_with_len a m)) ≤ 9 * m
+  words-few : (a m : ℕ) → all_slots (flat_map word_constants (range_with_len a m)) ≤ most_of_word * m
   words-few a zero = omega arith
   words-few a (suc m) =
       omega (arith, all-append (word_constants a) (flat_map word_constants (range_with_len (a + 1) m)), word-few a, words-few (a + 1) m)
@@ -115,18 +129,29 @@ module _ (units : List Unit) (leads : ℕ → Bool) (span : SpanWords) where
       omega (
         arith,
         word-slots (address span span.first),
-        all-append (goals_at word_before) (flat_map word_constants (all_words span)),
-        goals-few (unit_at units word_before) (address span word_before),
+        all-append goals_before (flat_map word_constants (all_words span)),
+        before-few,
         words-few span.first (span.end - span.first),
       )
+    where
+      by_tests : (metered empty : Bool) → nat_le span.end span.first ≡ empty
+          → all_slots (if metered || empty then [] else goals_at word_before) + (if metered then 9 else 8) * (span.end - span.first)
+          ≤ 1 + 9 * (span.end - span.first)
+      by_tests true empty is = omega arith
+      by_tests false true is = omega arith
+      by_tests false false is =
+          omega (arith, goals-few (unit_at units word_before) (address span word_before), leb-false span.end span.first is)
+
+      before-few : all_slots goals_before + most_of_word * (span.end - span.first) ≤ 1 + 9 * (span.end - span.first)
+      before-few = by_tests span.metered (nat_le span.end span.first) refl
 
   -- ---- the code of words
 
   word-within : (k : ℕ) (xs : List Constant) → span.first ≤ k → k < span.end → Within xs (word_constants k) → Within xs all_constants
   word-within k xs from below within =
       let words = flat_map word_constants (all_words span) in
-      within-right xs (Int (address span span.first) ∷ []) (goals_at word_before ++ words)
-      (within-right xs (goals_at word_before) words
+      within-right xs (Int (address span span.first) ∷ []) (goals_before ++ words)
+      (within-right xs goals_before words
       (within-one word_constants span.first (span.end - span.first) k xs from (omega arith) within))
 
   unit-pushes : (bank k : ℕ) → span.first ≤ k → k < span.end → Pushes all_constants (unit_code bank (unit_at units k) (address span k))
@@ -137,16 +162,17 @@ module _ (units : List Unit) (leads : ℕ → Bool) (span : SpanWords) where
       (subst (λ cs. Within cs (word_constants k)) (sym (unit-alike bank (unit_at units k) (address span k)))
       (within-right own (fronts_at k) (own_constants k) (within-left own own goals (within-self own))))
 
-  way-pushes : (behind : Option ℕ) (k : ℕ) → span.first ≤ k + 1 → k < span.end → Pushes all_constants (exit_of units span behind k)
-  way-pushes behind k from below =
+  way-pushes : (behind : Option ℕ) (k : ℕ) → span.first ≤ k + 1 → k < span.end → (k < span.first → goals_before ≡ goals_at word_before)
+      → Pushes all_constants (exit_of units span behind k)
+  way-pushes behind k from below first_goes =
       let xs = constants_of (exit_of units span behind k) in
       let own = exit-pushes (extent span) behind (unit_at units k) (address span k) in
       let words = flat_map word_constants (all_words span) in
       elim (cases_lt k span.first) [
         | inl before ↦
             let is : k ≡ word_before = omega arith in
-            within-right xs (Int (address span span.first) ∷ []) (goals_at word_before ++ words)
-            (within-left xs (goals_at word_before) words (subst (λ j. Within xs (goals_at j)) is own))
+            within-right xs (Int (address span span.first) ∷ []) (goals_before ++ words)
+            (within-left xs goals_before words (subst (Within xs) (sym (first_goes before)) (subst (λ j. Within xs (goals_at j)) is own)))
         | inr first ↦
             word-within k xs first below
             (within-right xs (fronts_at k) (own_constants k) (own-pushes (extent span) behind (unit_at units k) (address span k)))
@@ -160,7 +186,8 @@ module _ (units : List Unit) (leads : ℕ → Bool) (span : SpanWords) where
       pushes-append all_constants front (code ++ exit_of units span behind k)
       (word-within k (constants_of front) from below
       (within-left (constants_of front) (fronts_at k) (own_constants k) (front-pushes span.metered (unit_at units k) (address span k))))
-      (pushes-append all_constants code (exit_of units span behind k) (unit-pushes 0 k from below) (way-pushes behind k (omega arith) below))
+      (pushes-append all_constants code (exit_of units span behind k) (unit-pushes 0 k from below)
+      (way-pushes behind k (omega arith) below (λ before. absurd (omega (arith, from, before)))))
 
   -- ---- the code of pieces
 
@@ -195,8 +222,18 @@ module _ (units : List Unit) (leads : ℕ → Bool) (span : SpanWords) where
       by_test true = omega arith
       by_test false = omega arith
 
-  warm-pushes : (k : ℕ) → span.first ≤ k → k < span.end → Pushes all_constants (warm_part units leads span k)
-  warm-pushes k from below =
+  -- where a piece begins
+  piece-before : (k : ℕ) → span.first ≤ k → k < span.end → begins leads span k ≡ true → goals_before ≡ goals_at word_before
+  piece-before k from below begin = by_tests span.metered (nat_le span.end span.first) refl begin
+    where
+      by_tests : (metered empty : Bool) → nat_le span.end span.first ≡ empty → (not metered && (k == span.first || leads k)) ≡ true
+          → (if metered || empty then [] else goals_at word_before) ≡ goals_at word_before
+      by_tests true empty is begins_here = absurd (true≢false (sym begins_here))
+      by_tests false true is begins_here = absurd (let few = leb-true span.end span.first is in omega (arith, few, from, below))
+      by_tests false false is begins_here = refl
+
+  warm-pushes : (k : ℕ) → span.first ≤ k → k < span.end → begins leads span k ≡ true → Pushes all_constants (warm_part units leads span k)
+  warm-pushes k from below begin =
       let own = piece_units units (block k) in
       let behind = next_such (begins leads span) span k in
       let last = k + length own - 1 in
@@ -211,7 +248,7 @@ module _ (units : List Unit) (leads : ℕ → Bool) (span : SpanWords) where
       (pushes-registers all_constants (is_needed own) fetched (λ r. pushes-free all_constants (fetched r) (omega arith)) registers)
       (units-push (bank_of own) (own_count k) k from (few-own k)))
       (pushes-registers all_constants (is_written own) put_back (λ r. pushes-free all_constants (put_back r) (omega arith)) registers))
-      (way-pushes behind last (omega (arith, from, below)) (omega (arith, few, below)))
+      (way-pushes behind last (omega (arith, from, below)) (omega (arith, few, below)) (λ before. piece-before k from below begin))
 
   -- ---- all of it
 
@@ -225,11 +262,11 @@ module _ (units : List Unit) (leads : ℕ → Bool) (span : SpanWords) where
       let words = span.end - span.first in
       let parts : Pushes all_constants (warm ++ cold) = pushes-append all_constants warm cold
       (pushes-each all_constants (warm_part units leads span) (begins leads span) span.first words
-      (λ k from below. warm-pushes k from (omega arith)))
+      (λ k from below begin. warm-pushes k from (omega arith) begin))
       (pushes-each all_constants (cold_part units leads span) (is_inner leads span) span.first words
-      (λ k from below. cold-pushes k from (omega arith))) in
+      (λ k from below inner. cold-pushes k from (omega arith))) in
       pushes-append all_constants (opening (address span span.first)) (switch targets otherwise ∷ (body ++ returns ∷ []))
-      (opening-pushes (address span span.first) (goals_at word_before ++ flat_map word_constants (all_words span)))
+      (opening-pushes (address span span.first) (goals_before ++ flat_map word_constants (all_words span)))
       (pushes-append all_constants body (returns ∷ [])
       (subst (λ cs. Within cs all_constants) (sym (all-laid (extent span) targets otherwise (warm ++ cold))) parts)
       (pushes-free all_constants (returns ∷ []) (omega arith)))

@@ -1,5 +1,6 @@
 -- The code of each unit and the way from it keep to their bytes.
-use Rattle.std.proofs.Common.{ℕ, ◌+◌, ◌≤◌, ◌||◌, if◌then◌else◌, [], ◌∷◌, Option, arith}
+use Rattle.std.proofs.Common.{ℕ, ◌+◌, ◌≤◌, ◌||◌, Bool, true, false, [], ◌∷◌, Option, arith}
+use Rattle.mips_decode.specs.Branches.{equal_likely, zero_likely, sign_likely}
 use Rattle.mips_decode.specs.Effect.{fetch_fault, branch_in_slot_fault}
 use Rattle.mips_decode.specs.Targets.{branch_target, jump_target}
 use Rattle.mips_decode.specs.declared.names.arithmetic_name.ArithmeticName.TheVariants.{Add}
@@ -16,6 +17,7 @@ use Rattle.mips_decode.specs.declared.inst.Inst.{Inst}
 use Rattle.mips_decode.specs.declared.inst.Inst.TheVariants as inst
 use Rattle.delay_slots.specs.declared.unit.Unit.{Unit}
 use Rattle.delay_slots.specs.declared.unit.Unit.TheVariants.{Plain, Branch, SlotMissing, SlotIsBranch, Call, Trap}
+use Rattle.jvm_names.specs.declared.branch_name.BranchName.{BranchName}
 use Rattle.jvm_names.specs.declared.branch_name.BranchName.TheVariants.{IfIcmpne}
 use Rattle.jvm_program.specs.declared.local_kind.LocalKind.TheVariants as local_kinds
 use Rattle.jvm_program.specs.declared.instruction.Instruction.TheVariants.{Load}
@@ -23,7 +25,7 @@ use Rattle.code_steps.specs.declared.step.Step.TheVariants.{Does, Skips, Leaves}
 use Rattle.code_steps.specs.Widths.{width, size}
 use Rattle.guest_layout.specs.FieldNumbers.{pc_field}
 use Rattle.guest_code.specs.Access.{push_word, put_field}
-use Rattle.guest_code.specs.Branching.{behind_slot}
+use Rattle.guest_code.specs.Branching.{behind_slot, equal_test, zero_test, sign_test}
 use Rattle.guest_code.specs.Units.{unit_code, next_address}
 use Rattle.guest_code.proofs.Forms.{Form, either-most, most}
 use Rattle.guest_code.proofs.InstructionForms.{fault_form, instruction_form}
@@ -31,9 +33,9 @@ use Rattle.guest_code.proofs.UnitForms.{transfer_form, unit_form, unit-weighs}
 use Rattle.word_emitter.specs.declared.extent.Extent.{Extent}
 use Rattle.word_emitter.specs.Pieces.{is_likely}
 use Rattle.code_steps.specs.Returning.{returns}
-use Rattle.word_emitter.specs.Exits.{has, follows, arrive, last_way, two_ways, branch_exit, passing_exit, next_exit, exit_code}
+use Rattle.word_emitter.specs.Exits.{has, follows, go, next_exit, arrive, last_way, two_ways, conditional_exit, branch_exit, passing_exit, exit_code}
 use Rattle.code_limits.specs.Weights.{instruction_bytes, unit_bytes, exit_bytes, branch_exit_bytes}
-use Rattle.code_limits.proofs.StepSizes.{word-bytes, sizes}
+use Rattle.code_limits.proofs.StepSizes.{word-bytes, size-append, sizes}
 
 -- ---- units
 
@@ -79,22 +81,38 @@ two-size span behind first second =
     let a : size looks ≤ 17 = omega (arith, word-bytes first, arrive-bytes span first, last-size span behind second) in
     either-most size (has span first || has span second) looks (returns ∷ []) 17 a (omega arith)
 
+go-size : (span : Extent) (goal : ℕ) → size (go span goal) ≤ 7
+go-size span goal =
+    either-most size (has span goal) (Leaves goal ∷ []) (push_word goal ∷ put_field pc_field ∷ returns ∷ []) 7 (omega arith)
+    (omega (arith, word-bytes goal))
+
+next-size : (span : Extent) (behind : Option ℕ) (next : ℕ) → size (next_exit span behind next) ≤ 7
+next-size span behind next = either-most size (follows behind next) [] (go span next) 7 (omega arith) (go-size span next)
+
+conditional-size : (span : Extent) (behind : Option ℕ) (likely : Bool) (test : BranchName) (target second : ℕ)
+    → size (conditional_exit span behind likely test target second) ≤ 17
+conditional-size span behind true test target second = two-size span behind target second
+conditional-size span behind false test target second =
+    omega (
+      arith,
+      size-append (go span target) (next_exit span behind second),
+      go-size span target,
+      next-size span behind second,
+    )
+
 branch-exit-size : (span : Extent) (behind : Option ℕ) (i : Inst) (at : ℕ) → size (branch_exit span behind i at) ≤ branch_exit_bytes i
-branch-exit-size span behind (inst.BranchSign name rs imm) at = two-size span behind (branch_target at imm) (behind_slot at)
-branch-exit-size span behind (inst.BranchEqual name rs rt imm) at = two-size span behind (branch_target at imm) (behind_slot at)
-branch-exit-size span behind (inst.BranchZero name rs imm) at = two-size span behind (branch_target at imm) (behind_slot at)
-branch-exit-size span behind (inst.Jump name index) at = last-size span behind (jump_target at index)
+branch-exit-size span behind (inst.BranchSign name rs imm) at =
+    conditional-size span behind (sign_likely name) (sign_test name) (branch_target at imm) (behind_slot at)
+branch-exit-size span behind (inst.BranchEqual name rs rt imm) at =
+    conditional-size span behind (equal_likely name) (equal_test name) (branch_target at imm) (behind_slot at)
+branch-exit-size span behind (inst.BranchZero name rs imm) at =
+    conditional-size span behind (zero_likely name) (zero_test name) (branch_target at imm) (behind_slot at)
+branch-exit-size span behind (inst.Jump name index) at = next-size span behind (jump_target at index)
 branch-exit-size span behind other at = omega arith
 
 passing-size : (span : Extent) (behind : Option ℕ) (i : Inst) (at : ℕ) → size (passing_exit span behind i at) ≤ 5
 passing-size span behind i at =
     either-most size (is_likely i) (last_way span behind (behind_slot at)) (returns ∷ []) 5 (last-size span behind (behind_slot at)) (omega arith)
-
-next-size : (span : Extent) (behind : Option ℕ) (next : ℕ) → size (next_exit span behind next) ≤ 7
-next-size span behind next =
-    let out = push_word next ∷ put_field pc_field ∷ returns ∷ [] in
-    either-most size (follows behind next) [] (if has span next then Leaves next ∷ [] else out) 7 (omega arith)
-    (either-most size (has span next) (Leaves next ∷ []) out 7 (omega arith) (omega (arith, word-bytes next)))
 
 pub exit-size : (span : Extent) (behind : Option ℕ) (unit : Unit) (at : ℕ) → size (exit_code span behind unit at) ≤ exit_bytes unit
 exit-size span behind (Plain i) at = next-size span behind (next_address at)

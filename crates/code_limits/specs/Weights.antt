@@ -50,39 +50,39 @@ load_bytes Lwr = 19
 load_bytes _ = 16
 
 abbrev pub branch_equal_bytes : BranchEqualName → ℕ
-branch_equal_bytes Beq = 23
-branch_equal_bytes Bne = 23
+branch_equal_bytes Beq = 6
+branch_equal_bytes Bne = 6
 branch_equal_bytes Beql = 28
 branch_equal_bytes Bnel = 28
 
 abbrev pub branch_zero_bytes : BranchZeroName → ℕ
-branch_zero_bytes Blez = 20
-branch_zero_bytes Bgtz = 20
+branch_zero_bytes Blez = 3
+branch_zero_bytes Bgtz = 3
 branch_zero_bytes Blezl = 25
 branch_zero_bytes Bgtzl = 25
 
 -- those that link write the link once in each of their ways
 abbrev pub branch_sign_bytes : BranchSignName → ℕ
-branch_sign_bytes Bltz = 20
-branch_sign_bytes Bgez = 20
-branch_sign_bytes Bltzal = 26
-branch_sign_bytes Bgezal = 26
+branch_sign_bytes Bltz = 3
+branch_sign_bytes Bgez = 3
+branch_sign_bytes Bltzal = 9
+branch_sign_bytes Bgezal = 9
 branch_sign_bytes Bltzl = 25
 branch_sign_bytes Bgezl = 25
 branch_sign_bytes Bltzall = 37
 branch_sign_bytes Bgezall = 37
 
 abbrev pub jump_bytes : JumpName → ℕ
-jump_bytes J = 8
-jump_bytes Jal = 14
+jump_bytes J = 1
+jump_bytes Jal = 7
 
 -- an instruction; a branch or jump without the code of its delay slot
 abbrev pub instruction_bytes : Inst → ℕ
 instruction_bytes (inst.Arithmetic name rs rt rd) = arithmetic_bytes name
 instruction_bytes (inst.VariableShift name rs rt rd) = 10
 instruction_bytes (inst.Shift name rt rd sa) = 10
-instruction_bytes (inst.JumpRegister rs) = 8
-instruction_bytes (inst.JumpAndLinkRegister rs rd) = 14
+instruction_bytes (inst.JumpRegister rs) = 3
+instruction_bytes (inst.JumpAndLinkRegister rs rd) = 9
 instruction_bytes (inst.Syscall code) = call_bytes
 instruction_bytes (inst.Break code) = fault_bytes
 instruction_bytes (inst.MoveFrom name rd) = 6
@@ -120,7 +120,9 @@ abbrev pub branch_exit_bytes : Inst → ℕ
 branch_exit_bytes (inst.BranchSign name rs imm) = 17
 branch_exit_bytes (inst.BranchEqual name rs rt imm) = 17
 branch_exit_bytes (inst.BranchZero name rs imm) = 17
-branch_exit_bytes (inst.Jump name index) = 5
+branch_exit_bytes (inst.Jump name index) = 7
+branch_exit_bytes (inst.JumpRegister rs) = 4
+branch_exit_bytes (inst.JumpAndLinkRegister rs rd) = 4
 branch_exit_bytes _ = 1
 
 abbrev pub exit_bytes : Unit → ℕ

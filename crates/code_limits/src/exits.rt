@@ -24,7 +24,8 @@ fn branch_exit_bytes(inst: Inst) -> u32
 {
     match inst {
         Inst::BranchSign { .. } | Inst::BranchEqual { .. } | Inst::BranchZero { .. } => 17,
-        Inst::Jump { .. } => 5,
+        Inst::Jump { .. } => 7,
+        Inst::JumpRegister { .. } | Inst::JumpAndLinkRegister { .. } => 4,
         _ => 1,
     }
 }

@@ -21,8 +21,8 @@ pub fn instruction_bytes(inst: Inst) -> u32
     match inst {
         Inst::Arithmetic { name, .. } => arithmetic_bytes(name),
         Inst::VariableShift { .. } | Inst::Shift { .. } | Inst::LogicalImmediate { .. } => 10,
-        Inst::JumpRegister { .. } => 8,
-        Inst::JumpAndLinkRegister { .. } => 14,
+        Inst::JumpRegister { .. } => 3,
+        Inst::JumpAndLinkRegister { .. } => 9,
         Inst::Syscall { .. } => CALL_BYTES,
         Inst::Break { .. } | Inst::Reserved(_) => FAULT_BYTES,
         Inst::MoveFrom { .. } | Inst::MoveTo { .. } | Inst::LoadUpper { .. } => 6,
@@ -83,7 +83,7 @@ fn branch_equal_bytes(name: BranchEqualName) -> u32
     ensures bound { result ≤ 28 }
 {
     match name {
-        BranchEqualName::Beq | BranchEqualName::Bne => 23,
+        BranchEqualName::Beq | BranchEqualName::Bne => 6,
         BranchEqualName::Beql | BranchEqualName::Bnel => 28,
     }
 }
@@ -93,7 +93,7 @@ fn branch_zero_bytes(name: BranchZeroName) -> u32
     ensures bound { result ≤ 25 }
 {
     match name {
-        BranchZeroName::Blez | BranchZeroName::Bgtz => 20,
+        BranchZeroName::Blez | BranchZeroName::Bgtz => 3,
         BranchZeroName::Blezl | BranchZeroName::Bgtzl => 25,
     }
 }
@@ -104,8 +104,8 @@ fn branch_sign_bytes(name: BranchSignName) -> u32
     ensures bound { result ≤ 37 }
 {
     match name {
-        BranchSignName::Bltz | BranchSignName::Bgez => 20,
-        BranchSignName::Bltzal | BranchSignName::Bgezal => 26,
+        BranchSignName::Bltz | BranchSignName::Bgez => 3,
+        BranchSignName::Bltzal | BranchSignName::Bgezal => 9,
         BranchSignName::Bltzl | BranchSignName::Bgezl => 25,
         BranchSignName::Bltzall | BranchSignName::Bgezall => 37,
     }
@@ -116,7 +116,7 @@ fn jump_bytes(name: JumpName) -> u32
     ensures bound { result ≤ 14 }
 {
     match name {
-        JumpName::J => 8,
-        JumpName::Jal => 14,
+        JumpName::J => 1,
+        JumpName::Jal => 7,
     }
 }
