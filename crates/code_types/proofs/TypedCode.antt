@@ -1,5 +1,6 @@
 pub mod Registers
 pub mod Instructions
+pub mod Moving
 pub mod Units
 pub mod Pieces
 pub mod Exits

@@ -5,3 +5,4 @@ pub mod Standing
 pub mod Passing
 pub mod Looping
 pub mod Assembling
+pub mod Framed

@@ -10,7 +10,7 @@ use Rattle.code_steps.specs.Offsets.{CodeOffset}
 use Rattle.code_steps.specs.Widths.{width, bytes_before, size}
 use Rattle.code_steps.specs.Placing.{laid}
 use Rattle.code_types.specs.Flowing.{Ahead}
-use Rattle.code_types.specs.Judging.{Rules, Meets, Leads, TypesFrom, most_operands, typed_as}
+use Rattle.code_types.specs.Judging.{Rules, Meets, Leads, TypesFrom, few_operands, typed_as}
 
 -- an instruction names a local variable below a number
 abbrev pub names_below : ℕ → Instruction → Bool
@@ -41,7 +41,7 @@ pub record BodyTypes (rules : Rules) (code : List Step) (entry : TypeFrame) : Ty
 pub record HasBody (rules : Rules) (method : LinkedMethod) (code : List Step) : Type 0 where
   pub lines_are : method.lines ≡ laid 0 code
   pub parameters : length method.parameters ≤ method.locals
-  pub operands : most_operands ≤ method.stack
+  pub operands : few_operands + rules.more ≤ method.stack
   pub locals : all_names_below method.locals code ≡ true
   pub types : BodyTypes rules code (entry_frame method)
 

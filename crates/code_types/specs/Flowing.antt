@@ -5,7 +5,7 @@ use Rattle.jvm_program.specs.Program.{targets_of, falls_through, is_goto}
 use Rattle.jvm_program.specs.Typing.{TypeFrame, Below, type_effect, branch_type, applied, slots_of}
 use Rattle.code_steps.specs.declared.step.Step.{Step}
 use Rattle.code_steps.specs.declared.step.Step.TheVariants.{Does, Skips, Leaves, Selects}
-use Rattle.code_types.specs.Judging.{Rules, Meets, most_operands, is_plain_frame}
+use Rattle.code_types.specs.Judging.{Rules, Meets, few_operands, is_plain_frame}
 
 -- the frames with which branches came to the steps ahead, if one came
 abbrev pub Ahead : Type 0
@@ -18,7 +18,7 @@ When false T = ⊥
 -- there is a frame, with room for its operands
 abbrev pub Behind : Option TypeFrame → (TypeFrame → Type 0) → Type 0
 Behind None Rest = ⊥
-Behind (Some f) Rest = When (nat_le (slots_of f.stack) most_operands) (Rest f)
+Behind (Some f) Rest = When (nat_le (slots_of f.stack) few_operands) (Rest f)
 
 -- the frame with which a step is entered, from the step before and from branches
 abbrev pub Entering : Option TypeFrame → Ahead → (TypeFrame → Ahead → Type 0) → Type 0

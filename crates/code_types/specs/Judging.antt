@@ -17,10 +17,16 @@ use Rattle.code_steps.specs.declared.step.Step.TheVariants.{Does, Skips, Leaves,
 pub record Rules : Type 0 where
   pub program : Program
   pub owes : CodeOffset → Option TypeFrame
+  -- at most so many operands stand below those that code knows
+  pub more : ℕ
 
--- the most operands of a method that is emitted, where a long is two
+-- the most operands of a method that is emitted, where a long is two; and of code that knows all of
+-- its operands
 abbrev pub most_operands : ℕ
 most_operands = 16
+
+abbrev pub few_operands : ℕ
+few_operands = 14
 
 -- there is a frame, and it is above
 abbrev pub Meets : TypeFrame → Option TypeFrame → Type 0
@@ -56,7 +62,7 @@ pub record Fits (rules : Rules) (s : Step) (f : TypeFrame) (behind : List TypeFr
   pub straight : goes_straight s ≡ true
   pub after : TypeFrame
   pub fits : applied (type_effect rules.program (typed_as s)) f ≡ Some after
-  pub within : nat_le (slots_of after.stack) most_operands ≡ true
+  pub within : nat_le (slots_of after.stack) (few_operands + rules.more) ≡ true
   pub next : falls_through (typed_as s) ≡ true → Meets after (slice_get behind 0)
   pub skipped : MeetsSkipped s after behind
   pub owed : All (λ at. Meets after (rules.owes at)) (offsets_of s)
@@ -84,11 +90,11 @@ Leads rules code from to = TypesFrom rules code from (to ∷ [])
 pub record IsTest (name : BranchName) (from after : TypeFrame) : Type 0 where
   pub plain : no_top from.stack ≡ true
   pub fits : applied (branch_type name) from ≡ Some after
-  pub within : nat_le (slots_of after.stack) most_operands ≡ true
+  pub within : nat_le (slots_of after.stack) few_operands ≡ true
 
 -- a frame has room for its operands, and each has a type
 abbrev pub is_plain_frame : TypeFrame → Bool
-is_plain_frame f = no_top f.stack && nat_le (slots_of f.stack) most_operands
+is_plain_frame f = no_top f.stack && nat_le (slots_of f.stack) few_operands
 
 -- A method of the program takes such operands, and gives an int or nothing.
 pub record TakesGives (program : Program) (m : ℕ) (parameters : List Kind) (gives_int : Bool)
@@ -121,8 +127,8 @@ abbrev pub RedirectedCodeIsTyped : Type 0
 RedirectedCodeIsTyped =
     (program : Program) (old new : ℕ → Option TypeFrame) (to : ℕ → ℕ) (code : List Step)
     (from : TypeFrame) (behind : List TypeFrame)
-    → let before : Rules = record { program = program; owes = old } in
-    let after : Rules = record { program = program; owes = new } in
+    → let before : Rules = record { program = program; owes = old; more = 2 } in
+    let after : Rules = record { program = program; owes = new; more = 2 } in
     Carries to before after → All (λ s. is_no_switch s ≡ true) code
     → TypesFrom before code from behind
     → TypesFrom after (map (redirected to) code) from behind

@@ -1,18 +1,21 @@
 -- The types of code over a bank of registers, by which of them are known.
-use Rattle.std.specs.Prelude.{◌≡◌, ℕ, ◌==◌, ◌<◌, Bool, true, ◌&&◌, ◌||◌, nat_lt, if◌then◌else◌, List, [], ◌∷◌, ◌++◌, Option, All}
+use Rattle.std.specs.Prelude.{◌≡◌, ℕ, ◌==◌, ◌<◌, ◌≤◌, Bool, true, ◌&&◌, ◌||◌, nat_lt, if◌then◌else◌, List, [], ◌∷◌, ◌++◌, Option, All}
+use Rattle.mips_decode.specs.Branches.{equal_likely, zero_likely, sign_likely}
 use Rattle.mips_decode.specs.declared.inst.Inst.{Inst}
+use Rattle.mips_decode.specs.declared.inst.Inst.TheVariants as inst
 use Rattle.delay_slots.specs.declared.unit.Unit.{Unit}
 use Rattle.delay_slots.specs.declared.unit.Unit.TheVariants as units
 use Rattle.delay_slots.specs.Places.{Address}
+use Rattle.block_builder.specs.Leaders.{is_plain}
 use Rattle.block_builder.specs.Registers.{read_by, written_by, unit_writes}
 use Rattle.jvm_program.specs.declared.kind.Kind.{Kind}
 use Rattle.jvm_program.specs.declared.kind.Kind.TheVariants.{Top, Int}
 use Rattle.jvm_program.specs.Program.{Program}
-use Rattle.jvm_program.specs.Typing.{TypeFrame}
+use Rattle.jvm_program.specs.Typing.{TypeFrame, with_stack}
 use Rattle.guest_code.specs.Access.{keeps}
 use Rattle.guest_code.specs.Units.{instruction_code, unit_code}
 use Rattle.word_emitter.specs.declared.extent.Extent.{Extent}
-use Rattle.word_emitter.specs.Pieces.{warm_code}
+use Rattle.word_emitter.specs.Pieces.{is_likely, warm_code}
 use Rattle.word_emitter.specs.Exits.{has, exit_code}
 use Rattle.meter.specs.Guards.{guard_code}
 use Rattle.lawful_units.specs.Knowing.{AreKnown, gained}
@@ -50,27 +53,42 @@ InstructionTyped i =
 
 -- ---- units
 
--- behind a branch or jump the goal is in local variable 0
+-- What a branch or jump leaves on the stack for the way from it: a likely one leaves nothing.
+abbrev pub left_by : Inst → List Kind
+left_by (inst.BranchEqual name rs rt imm) = if equal_likely name then [] else Int ∷ Int ∷ []
+left_by (inst.BranchZero name rs imm) = if zero_likely name then [] else Int ∷ []
+left_by (inst.BranchSign name rs imm) = if sign_likely name then [] else Int ∷ []
+left_by (inst.JumpRegister rs) = Int ∷ []
+left_by (inst.JumpAndLinkRegister rs rd) = Int ∷ []
+left_by other = []
+
+abbrev pub operands_behind : Unit → List Kind
+operands_behind (units.Branch i slot) = left_by i
+operands_behind (units.SlotMissing i) = left_by i
+operands_behind (units.SlotIsBranch i word) = left_by i
+operands_behind unit = []
+
+-- behind a likely branch the goal is in local variable 0
+abbrev pub goal_of : Inst → Kind → Kind
+goal_of i goal = if is_likely i then Int else goal
+
 abbrev pub goal_behind : Unit → Kind → Kind
-goal_behind (units.Branch i slot) goal = Int
-goal_behind (units.SlotMissing i) goal = Int
-goal_behind (units.SlotIsBranch i word) goal = Int
+goal_behind (units.Branch i slot) goal = goal_of i goal
+goal_behind (units.SlotMissing i) goal = goal_of i goal
+goal_behind (units.SlotIsBranch i word) goal = goal_of i goal
 goal_behind unit goal = goal
 
--- The code of a unit is typed in the same way.
+-- The code of a unit is typed in the same way, where there is room for what a branch leaves.
 abbrev pub UnitTyped : Unit → Type 0
 UnitTyped unit =
     (rules : Rules) (bank : ℕ) (known : ℕ → Bool) (goal : Kind) (at : Address)
+    → 2 ≤ rules.more
     → HelperTypes rules.program
     → IsLawful unit
     → KnownByUnit known unit
     → Leads rules (unit_code bank unit at) (knowing bank known goal)
-    (knowing bank (gained (unit_writes unit) known) (goal_behind unit goal))
-
--- the same behind units that are done one after the other
-abbrev pub goal_after : List Unit → Kind → Kind
-goal_after [] goal = goal
-goal_after (unit ∷ units) goal = goal_after units (goal_behind unit goal)
+    (with_stack (knowing bank (gained (unit_writes unit) known) (goal_behind unit goal))
+    (operands_behind unit))
 
 -- ---- pieces and exits
 
@@ -78,7 +96,7 @@ goal_after (unit ∷ units) goal = goal_after units (goal_behind unit goal)
 abbrev pub unknown : TypeFrame
 unknown = record { locals = λ k. Top; stack = [] }
 
--- nothing but the goal
+-- nothing but the goal of a likely branch
 abbrev pub with_goal : Kind → TypeFrame
 with_goal goal = record { locals = λ k. if k == 0 then goal else Top; stack = [] }
 
@@ -86,16 +104,23 @@ with_goal goal = record { locals = λ k. if k == 0 then goal else Top; stack = [
 abbrev pub Opens : Rules → Extent → Type 0
 Opens rules span = (at : Address) → has span at ≡ true → Meets unknown (rules.owes at)
 
--- The code of a piece over local variables is typed, and so is that of a unit over fields alone.
-abbrev pub PieceTyped : List Unit → Type 0
-PieceTyped units =
-    (rules : Rules) (at : Address) → HelperTypes rules.program → All IsLawful units
-    → Leads rules (warm_code units at) unknown (with_goal (goal_after units Top))
+-- where the way from a unit begins
+abbrev pub at_exit : Unit → Kind → TypeFrame
+at_exit unit goal = with_stack (with_goal (goal_behind unit goal)) (operands_behind unit)
+
+-- The code of a piece over local variables, whose units but the last are Plain, is typed, and so is that of a unit over fields alone.
+abbrev pub PieceTyped : List Unit → Unit → Type 0
+PieceTyped units last =
+    (rules : Rules) (at : Address)
+    → 2 ≤ rules.more → HelperTypes rules.program
+    → All (λ unit. is_plain unit ≡ true) units → All IsLawful (units ++ last ∷ [])
+    → Leads rules (warm_code (units ++ last ∷ []) at) unknown (at_exit last Top)
 
 abbrev pub WordTyped : Unit → Type 0
 WordTyped unit =
-    (rules : Rules) (at : Address) → HelperTypes rules.program → IsLawful unit
-    → Leads rules (unit_code 0 unit at) unknown (with_goal (goal_behind unit Top))
+    (rules : Rules) (at : Address)
+    → 2 ≤ rules.more → HelperTypes rules.program → IsLawful unit
+    → Leads rules (unit_code 0 unit at) unknown (at_exit unit Top)
 
 -- The guard of a unit is typed: nothing is known of local variables before it and behind it.
 abbrev pub GuardTyped : Unit → Type 0
@@ -107,13 +132,14 @@ abbrev pub ExitTyped : Unit → Type 0
 ExitTyped unit =
     (rules : Rules) (span : Extent) (behind : Option Address) (at : Address) (goal : Kind)
     → Opens rules span
-    → Leads rules (exit_code span behind unit at) (with_goal (goal_behind unit goal)) unknown
+    → Leads rules (exit_code span behind unit at) (at_exit unit goal) unknown
 
 -- A piece with the exit behind its last unit is typed, and so is a unit over fields alone with its exit: nothing is known before and behind.
 abbrev pub WarmPartTyped : List Unit → Unit → Type 0
 WarmPartTyped units last =
     (rules : Rules) (at : Address) (span : Extent) (behind : Option Address) (place : Address)
-    → HelperTypes rules.program → All IsLawful (units ++ last ∷ [])
+    → 2 ≤ rules.more → HelperTypes rules.program
+    → All (λ unit. is_plain unit ≡ true) units → All IsLawful (units ++ last ∷ [])
     → Opens rules span
     → Leads rules (warm_code (units ++ last ∷ []) at
     ++ exit_code span behind last place) unknown unknown
@@ -121,6 +147,6 @@ WarmPartTyped units last =
 abbrev pub ColdPartTyped : Unit → Type 0
 ColdPartTyped unit =
     (rules : Rules) (at : Address) (span : Extent) (behind : Option Address)
-    → HelperTypes rules.program
+    → 2 ≤ rules.more → HelperTypes rules.program
     → IsLawful unit → Opens rules span
     → Leads rules (unit_code 0 unit at ++ exit_code span behind unit at) unknown unknown

@@ -18,7 +18,7 @@ UnitsAreTyped = (unit : Unit) → UnitTyped unit
 
 -- that of each piece, over local variables
 abbrev pub PiecesAreTyped : Type 0
-PiecesAreTyped = (units : List Unit) → PieceTyped units
+PiecesAreTyped = (units : List Unit) (last : Unit) → PieceTyped units last
 
 -- that of each unit over fields alone
 abbrev pub WordsAreTyped : Type 0

@@ -32,7 +32,7 @@ taking parameters = record { locals = λ i. slice_index_or parameters i Top; sta
 pub record IsBody (program : Program) (owes : CodeOffset → Option TypeFrame)
     (parameters : List Kind) (locals : ℕ) (code : List Step) : Type 0 where
   pub names : all_names_below locals code ≡ true
-  pub types : BodyTypes (record { program = program; owes = owes }) code (taking parameters)
+  pub types : BodyTypes (record { program = program; owes = owes; more = 2 }) code (taking parameters)
 
 -- a body that leaves to no offset
 abbrev pub owes_nothing : CodeOffset → Option TypeFrame

@@ -20,7 +20,7 @@ pub fn units_are_typed()
     ensures { UnitsAreTyped }
 {}
 
-/// The code of a piece is typed, from where nothing is known of local variables to where no more than the goal is.
+/// The code of a piece is typed, from where nothing is known of local variables to where the way from its last unit begins.
 pub fn pieces_are_typed()
     ensures pieces { PiecesAreTyped }
     ensures words { WordsAreTyped }

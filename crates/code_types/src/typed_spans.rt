@@ -5,7 +5,7 @@ ghost use Rattle.code_types.specs.Spans.{SpansAreTyped};
 
 use crate::laws::{guards_are_typed, parts_of_spans_are_typed};
 use lawful_units::laws::units_are_lawful;
-use span_code::laws::words_keep_to_their_span;
+use span_code::laws::{pieces_are_of_blocks, words_keep_to_their_span};
 
 /// The method of a span of a range's words is typed.
 pub fn spans_are_typed()
@@ -13,6 +13,7 @@ pub fn spans_are_typed()
 {
     units_are_lawful();
     words_keep_to_their_span();
+    pieces_are_of_blocks();
     parts_of_spans_are_typed();
     guards_are_typed();
 }

@@ -7,12 +7,14 @@ use Rattle.std.proofs.lemmas.Bool.{false≢true, cases_eq, eq-eqb, eqb-true, ne_
 use Rattle.std.proofs.lemmas.Nat.Bits.{bit_at-zero}
 use Rattle.std.proofs.lemmas.List.Elements.{All-head, All-tail}
 use Rattle.delay_slots.specs.declared.unit.Unit.{Unit}
+use Rattle.delay_slots.specs.declared.unit.Unit.TheVariants as units
+use Rattle.block_builder.specs.Leaders.{is_plain}
 use Rattle.block_builder.specs.Registers.{unit_writes}
 use Rattle.jvm_program.specs.declared.kind.Kind.{Kind}
 use Rattle.jvm_program.specs.declared.kind.Kind.TheVariants.{Top, Int}
 use Rattle.jvm_program.specs.declared.local_kind.LocalKind.TheVariants as local_kinds
 use Rattle.jvm_program.specs.declared.instruction.Instruction.TheVariants as instructions
-use Rattle.jvm_program.specs.Typing.{Below, below, with_stack, moves_kind}
+use Rattle.jvm_program.specs.Typing.{TypeFrame, Below, below, with_stack, moves_kind}
 use Rattle.guest_layout.specs.FieldNumbers.{register_field}
 use Rattle.guest_code.specs.Access.{keeps, put_field}
 use Rattle.guest_code.specs.Units.{unit_code}
@@ -26,8 +28,10 @@ use Rattle.code_types.proofs.TypedSteps.Flow.{flows-from}
 use Rattle.code_types.proofs.TypedSteps.Joining.{codes-lead, nothing-leads, entered-below, left-above}
 use Rattle.code_types.proofs.TypedSteps.KindOrder.{same, below-refl, below-top}
 use Rattle.code_types.proofs.TypedSteps.Passing.{does-flow}
-use Rattle.code_types.specs.Knowing.{knowing, HelperTypes, goal_behind, goal_after, unknown, with_goal}
-use Rattle.code_types.proofs.TypedCode.Units.{unit-typed}
+use Rattle.code_types.specs.Knowing.{knowing, HelperTypes, at_exit, goal_behind, operands_behind, unknown, with_goal}
+use Rattle.code_types.proofs.TypedSteps.Framed.{frame-more, framed-leads, plain_rules}
+use Rattle.code_types.proofs.TypedCode.Moving.{back-moves}
+use Rattle.code_types.proofs.TypedCode.Units.{behind-few, behind-plain, unit-typed}
 
 -- ---- frames
 
@@ -164,28 +168,48 @@ abbrev pub gained_by : List Unit → (ℕ → Bool) → ℕ → Bool
 gained_by [] known = known
 gained_by (unit ∷ units) known = gained_by units (gained (unit_writes unit) known)
 
-pub units-lead : (rules : Rules) (law : NeedLaws) (helpers : HelperTypes rules.program) (bank : ℕ) (units : List Unit) (known : ℕ → Bool)
-    (goal : Kind) (at : ℕ) → All IsLawful units → AreAllKnown (is_needed units) known
-    → Leads rules (units_code bank units at) (knowing bank known goal) (knowing bank (gained_by units known) (goal_after units goal))
-units-lead rules law helpers bank [] known goal at lawful all = nothing-leads rules (knowing bank known goal)
-units-lead rules law helpers bank (unit ∷ units) known goal at lawful all =
-    let own = All-head IsLawful unit units lawful in
-    codes-lead rules (unit_code bank unit at) (units_code bank units (at + 4)) (knowing bank known goal)
-    (knowing bank (gained (unit_writes unit) known) (goal_behind unit goal))
-    (knowing bank (gained_by units (gained (unit_writes unit) known)) (goal_after units (goal_behind unit goal)) ∷ [])
-    (unit-typed unit rules bank known goal at helpers own (law.unit_known unit known own (law.first_known unit units known all)))
-    (units-lead rules law helpers bank units (gained (unit_writes unit) known) (goal_behind unit goal) (at + 4)
-    (All-tail IsLawful unit units lawful) (law.others_known unit units known own all))
+-- behind the last of some units, of which the others are Plain
+abbrev behind_last : ℕ → List Unit → Unit → (ℕ → Bool) → Kind → TypeFrame
+behind_last bank units last known goal =
+    with_stack (knowing bank (gained_by (units ++ last ∷ []) known) (goal_behind last goal)) (operands_behind last)
+
+abbrev ArePlain : List Unit → Type 0
+ArePlain units = All (λ unit. is_plain unit ≡ true) units
+
+module _ (rules : Rules) (room : 2 ≤ rules.more) (law : NeedLaws) (helpers : HelperTypes rules.program) (bank : ℕ) (last : Unit) (goal : Kind) where
+  pub units-lead : (units : List Unit) (known : ℕ → Bool) (at : ℕ) → ArePlain units → All IsLawful (units ++ last ∷ [])
+      → AreAllKnown (is_needed (units ++ last ∷ [])) known
+      → Leads rules (units_code bank (units ++ last ∷ []) at) (knowing bank known goal) (behind_last bank units last known goal)
+  units-lead [] known at plain lawful all =
+      let own = All-head IsLawful last [] lawful in
+      let to = behind_last bank [] last known goal in
+      codes-lead rules (unit_code bank last at) [] (knowing bank known goal) to (to ∷ [])
+      (unit-typed last rules bank known goal at room helpers own (law.unit_known last known own (law.first_known last [] known all)))
+      (nothing-leads rules to)
+  units-lead (units.Plain i ∷ others) known at plain lawful all =
+      let unit = units.Plain i in
+      let rest = others ++ last ∷ [] in
+      let own = All-head IsLawful unit rest lawful in
+      let more = gained (unit_writes unit) known in
+      codes-lead rules (unit_code bank unit at) (units_code bank rest (at + 4)) (knowing bank known goal) (knowing bank more goal)
+      (behind_last bank others last more goal ∷ [])
+      (unit-typed unit rules bank known goal at room helpers own (law.unit_known unit known own (law.first_known unit rest known all)))
+      (units-lead others more (at + 4) (All-tail (λ unit. is_plain unit ≡ true) unit others plain) (All-tail IsLawful unit rest lawful)
+      (law.others_known unit rest known own all))
+  units-lead (unit ∷ others) known at plain lawful all =
+      absurd (false≢true (All-head (λ unit. is_plain unit ≡ true) unit others plain))
 
 -- the code of a unit over fields alone
-pub cold-lead : (rules : Rules) (law : NeedLaws) (helpers : HelperTypes rules.program) (unit : Unit) (at : ℕ) → IsLawful unit
-    → Leads rules (unit_code 0 unit at) unknown (with_goal (goal_behind unit Top))
-cold-lead rules law helpers unit at lawful =
-    entered-below rules (unit_code 0 unit at) unknown (knowing 0 (λ r. true) Top) (with_goal (goal_behind unit Top) ∷ []) cold-below
-    (left-above rules (unit_code 0 unit at) (knowing 0 (λ r. true) Top)
-    (knowing 0 (gained (unit_writes unit) (λ r. true)) (goal_behind unit Top)) (with_goal (goal_behind unit Top))
-    (knowing-forgotten 0 (gained (unit_writes unit) (λ r. true)) (goal_behind unit Top))
-    (unit-typed unit rules 0 (λ r. true) Top at helpers lawful (law.unit_known unit (λ r. true) lawful (λ r positive below is. refl))))
+pub cold-lead : (rules : Rules) → 2 ≤ rules.more → (law : NeedLaws) (helpers : HelperTypes rules.program) (unit : Unit) (at : ℕ) → IsLawful unit
+    → Leads rules (unit_code 0 unit at) unknown (at_exit unit Top)
+cold-lead rules room law helpers unit at lawful =
+    let some : ℕ → Bool = λ r. true in
+    let later = gained (unit_writes unit) some in
+    let goal = goal_behind unit Top in
+    entered-below rules (unit_code 0 unit at) unknown (knowing 0 some Top) (at_exit unit Top ∷ []) cold-below
+    (left-above rules (unit_code 0 unit at) (knowing 0 some Top) (with_stack (knowing 0 later goal) (operands_behind unit)) (at_exit unit Top)
+    (frame-more (operands_behind unit) (knowing 0 later goal) (with_goal goal) (knowing-forgotten 0 later goal))
+    (unit-typed unit rules 0 some Top at room helpers lawful (law.unit_known unit some lawful (λ r positive below is. refl))))
   where
     no-bit : (b : Bool) (n : ℕ) (z : Bool) → n ≡ 0 → below Top (if z then Top else if (b && n == 1) && true then Int else Top) ≡ true
     no-bit true n true is = refl
@@ -203,30 +227,39 @@ gained-by-is laws [] known = refl
 gained-by-is laws (unit ∷ units) known =
     gained-by-is laws units (gained (unit_writes unit) known) ∙ sym (laws.gained_joined (unit_writes unit) (flat_map unit_writes units) known)
 
-pub warm-lead : (rules : Rules) (law : NeedLaws) (laws : SetLaws) (helpers : HelperTypes rules.program) (units : List Unit) (at : ℕ)
-    → All IsLawful units → Leads rules (warm_code units at) unknown (with_goal (goal_after units Top))
-warm-lead rules law laws helpers units at lawful =
-    let bank = bank_of units in
+pub warm-lead : (rules : Rules) → 2 ≤ rules.more → (law : NeedLaws) (laws : SetLaws) (helpers : HelperTypes rules.program) (units : List Unit)
+    (last : Unit) (at : ℕ) → ArePlain units → All IsLawful (units ++ last ∷ [])
+    → Leads rules (warm_code (units ++ last ∷ []) at) unknown (at_exit last Top)
+warm-lead rules room law laws helpers units last at plain lawful =
+    let own = units ++ last ∷ [] in
+    let bank = bank_of own in
     let none : ℕ → Bool = λ r. false in
-    let first = fetched_known (is_needed units) (range_with_len 1 31) none in
-    let last = gained_by units first in
-    let goal = goal_after units Top in
-    let each = are-lawful units lawful in
-    let fetch = for_registers (is_needed units) fetched in
-    let back = for_registers (is_written units) put_back in
-    let all : AreAllKnown (is_needed units) first = λ r positive below is. fetched-is-known (is_needed units) none 1 31 r (omega arith)
+    let first = fetched_known (is_needed own) (range_with_len 1 31) none in
+    let later = gained_by own first in
+    let goal = goal_behind last Top in
+    let kinds = operands_behind last in
+    let few = behind-few last in
+    let each = are-lawful own lawful in
+    let fetch = for_registers (is_needed own) fetched in
+    let back = for_registers (is_written own) put_back in
+    let all : AreAllKnown (is_needed own) first = λ r positive below is. fetched-is-known (is_needed own) none 1 31 r (omega arith)
     (omega arith) is in
-    let behind : (r : ℕ) → 1 ≤ r → r < 1 + 31 → IsBack bank (is_written units) last r = λ r low high is. (
-      written-kept laws units r each (omega arith) (omega arith) is,
-      ap (λ k. k r) (gained-by-is laws units first) ∙ known-behind laws units first r each (omega arith) (omega arith) ∙ or_left
-          (is_written units r) (first r) is,
+    let behind : (r : ℕ) → 1 ≤ r → r < 1 + 31 → IsBack bank (is_written own) later r = λ r low high is. (
+      written-kept laws own r each (omega arith) (omega arith) is,
+      ap (λ k. k r) (gained-by-is laws own first) ∙ known-behind laws own first r each (omega arith) (omega arith) ∙ or_left
+          (is_written own r) (first r) is,
     ) in
     let begun : Leads rules fetch unknown (knowing bank first Top) =
     entered-below rules fetch unknown (knowing bank none Top) (knowing bank first Top ∷ []) (unknown-below bank)
-    (all-fetched rules bank Top (is_needed units) none 1 31 (omega arith)) in
-    let done = units-lead rules law helpers bank units first Top at lawful all in
-    let ended : Leads rules back (knowing bank last goal) (with_goal goal) =
-    left-above rules back (knowing bank last goal) (knowing bank last goal) (with_goal goal) (knowing-forgotten bank last goal)
-    (all-put-back rules bank goal (is_written units) last 1 31 (omega arith) behind) in
-    codes-lead rules (fetch ++ units_code bank units at) back unknown (knowing bank last goal) (with_goal goal ∷ [])
-    (codes-lead rules fetch (units_code bank units at) unknown (knowing bank first Top) (knowing bank last goal ∷ []) begun done) ended
+    (all-fetched rules bank Top (is_needed own) none 1 31 (omega arith)) in
+    let done = units-lead rules room law helpers bank last Top units first at plain lawful all in
+    let put : Leads rules back (with_stack (knowing bank later goal) kinds) (with_stack (knowing bank later goal) kinds) =
+    framed-leads rules kinds (behind-plain last) (omega (arith, few, room)) back (knowing bank later goal) (knowing bank later goal)
+    (back-moves (is_written own))
+    (all-put-back (plain_rules rules.program) bank goal (is_written own) later 1 31 (omega arith) behind) in
+    let ended : Leads rules back (with_stack (knowing bank later goal) kinds) (at_exit last Top) =
+    left-above rules back (with_stack (knowing bank later goal) kinds) (with_stack (knowing bank later goal) kinds) (at_exit last Top)
+    (frame-more kinds (knowing bank later goal) (with_goal goal) (knowing-forgotten bank later goal)) put in
+    codes-lead rules (fetch ++ units_code bank own at) back unknown (with_stack (knowing bank later goal) kinds) (at_exit last Top ∷ [])
+    (codes-lead rules fetch (units_code bank own at) unknown (knowing bank first Top) (with_stack (knowing bank later goal) kinds ∷ []) begun done)
+    ended

@@ -13,7 +13,7 @@ use Rattle.code_steps.specs.declared.step.Step.TheVariants.{Does}
 use Rattle.guest_layout.specs.FieldNumbers.{register_field}
 use Rattle.guest_code.specs.Access.{keeps, get_register, put_register, get_field, put_field, push_word}
 use Rattle.lawful_units.specs.Knowing.{IsKnown, gaining}
-use Rattle.code_types.specs.Judging.{Rules, most_operands}
+use Rattle.code_types.specs.Judging.{Rules, few_operands}
 use Rattle.code_types.specs.Flowing.{Ahead, FlowsOver}
 use Rattle.code_types.proofs.TypedSteps.Passing.{does-flow}
 use Rattle.code_types.proofs.TypedSteps.KindOrder.{below-refl}
@@ -26,7 +26,7 @@ abbrev pub Reads : ℕ → ℕ → (ℕ → Kind) → Type 0
 Reads bank r locals = (r == 0) ≡ false → keeps bank r ≡ true → locals r ≡ Int
 
 pub get-flow : (rules : Rules) (bank r : ℕ) (f : TypeFrame) (ahead : Ahead) (Rest : Option TypeFrame → Ahead → Type 0) → Reads bank r f.locals
-    → nat_le (slots_of (Int ∷ f.stack)) most_operands ≡ true → Rest (Some (with_stack f (Int ∷ f.stack))) ahead
+    → nat_le (slots_of (Int ∷ f.stack)) few_operands ≡ true → Rest (Some (with_stack f (Int ∷ f.stack))) ahead
     → FlowsOver rules (get_register bank r) f ahead Rest
 get-flow rules bank r f ahead Rest reads room rest = by_number (r == 0) reads
   where
@@ -64,7 +64,7 @@ abbrev put_where : Bool → ℕ → (ℕ → Kind) → List Kind → TypeFrame
 put_where b r locals stack = record { locals = λ k. if b && k == r then Int else locals k; stack = stack }
 
 pub put-flow : (rules : Rules) (bank r : ℕ) (locals : ℕ → Kind) (stack : List Kind) (ahead : Ahead) (Rest : Option TypeFrame → Ahead → Type 0)
-    → nat_le (slots_of stack) most_operands ≡ true → Rest (Some (put_frame bank r locals stack)) ahead
+    → nat_le (slots_of stack) few_operands ≡ true → Rest (Some (put_frame bank r locals stack)) ahead
     → FlowsOver rules (put_register bank r) (with_operand locals stack) ahead Rest
 put-flow rules bank r locals stack ahead Rest room rest = by_number (r == 0) rest
   where

@@ -1,9 +1,10 @@
 -- The code of units: branches and jumps with their delay slots.
-use Rattle.std.proofs.Common.{◌≡◌, ℕ, ◌+◌, ◌<◌, ◌==◌, Bool, true, false, if◌then◌else◌, List, [], ◌∷◌, ◌++◌, length, Option, Some, None, refl, subst, arith}
+use Rattle.std.proofs.Common.{◌≡◌, ℕ, ◌+◌, ◌<◌, ◌≤◌, ◌==◌, Bool, true, false, if◌then◌else◌, List, [], ◌∷◌, ◌++◌, length, Option, Some, None, refl, subst, arith}
 use Rattle.std.specs.Prelude.{◌&&◌, nat_lt}
+use Rattle.std.specs.List.{list_all}
 use Rattle.std.proofs.lemmas.Bool.{false≢true, eqb-false, ltb-true, and_parts}
 use Rattle.mips_decode.specs.Effect.{fetch_fault, branch_in_slot_fault}
-use Rattle.mips_decode.specs.Targets.{branch_target, jump_target}
+use Rattle.mips_decode.specs.Targets.{branch_target}
 use Rattle.mips_decode.specs.Branches.{equal_likely, zero_likely, sign_likely}
 use Rattle.mips_decode.specs.declared.names.branch_equal_name.BranchEqualName.{BranchEqualName}
 use Rattle.mips_decode.specs.declared.names.branch_equal_name.BranchEqualName.TheVariants.{Beq, Bne, Beql, Bnel}
@@ -22,11 +23,12 @@ use Rattle.jvm_names.specs.declared.branch_name.BranchName.{BranchName}
 use Rattle.jvm_names.specs.declared.branch_name.BranchName.TheVariants.{Iflt, Ifge, Ifgt, Ifle, IfIcmpeq, IfIcmpne, Goto}
 use Rattle.jvm_program.specs.declared.kind.Kind.{Kind}
 use Rattle.jvm_program.specs.declared.kind.Kind.TheVariants.{Top, Int}
-use Rattle.jvm_program.specs.Typing.{TypeFrame, Below, below, with_stack}
+use Rattle.jvm_program.specs.declared.instruction.Instruction.TheVariants.{Nop}
+use Rattle.jvm_program.specs.Typing.{TypeFrame, Below, below, no_top, slots_of, with_stack}
 use Rattle.code_steps.specs.declared.step.Step.{Step}
-use Rattle.code_steps.specs.declared.step.Step.TheVariants.{Skips}
-use Rattle.guest_code.specs.Access.{keeps, get_register, push_word}
-use Rattle.guest_code.specs.Branching.{settle_code, goes_to_code, behind_slot, link_code, equal_test, zero_test, sign_test, sign_link, conditional_code, transfer_code}
+use Rattle.code_steps.specs.declared.step.Step.TheVariants.{Does, Skips}
+use Rattle.guest_code.specs.Access.{keeps, get_register}
+use Rattle.guest_code.specs.Branching.{goes_to_code, behind_slot, link_code, equal_test, zero_test, sign_test, sign_link, conditional_code, transfer_code}
 use Rattle.guest_code.specs.Faulting.{fault_code}
 use Rattle.guest_code.specs.Units.{instruction_code, next_address}
 use Rattle.word_emitter.specs.Pieces.{is_likely}
@@ -35,7 +37,9 @@ use Rattle.code_types.specs.Judging.{Rules, Leads, IsTest}
 use Rattle.code_types.proofs.TypedSteps.Flow.{flows-from}
 use Rattle.code_types.proofs.TypedSteps.Joining.{codes-lead, nothing-leads, either-leads, left-above}
 use Rattle.code_types.proofs.TypedSteps.KindOrder.{same, below-refl}
-use Rattle.code_types.specs.Knowing.{knowing, UnitTyped}
+use Rattle.code_types.specs.Knowing.{knowing, goal_of, left_by, operands_behind, UnitTyped}
+use Rattle.code_types.proofs.TypedSteps.Framed.{framed-leads, is_moving_step, plain_rules}
+use Rattle.code_types.proofs.TypedCode.Moving.{instruction-moves, link-moves}
 use Rattle.code_types.proofs.TypedCode.Registers.{get-flow, known-reads}
 use Rattle.code_types.proofs.TypedCode.Instructions.{set, fault, call, instruction-typed}
 
@@ -74,20 +78,45 @@ abbrev linked : Option ℕ → (ℕ → Bool) → ℕ → Bool
 linked None known = known
 linked (Some r) known = gaining known r
 
--- the choice of the goal of a branch, which is then put down
-abbrev front : BranchName → ℕ → ℕ → List Step
-front test target behind = Skips test 2 ∷ push_word behind ∷ Skips Goto 1 ∷ push_word target ∷ settle_code
+-- ---- what a branch leaves
 
-module _ (rules : Rules) (bank : ℕ) (known : ℕ → Bool) (goal : Kind) (at : ℕ) (slot : List Step) (later : ℕ → Bool) where
+by-likely : (b : Bool) (kinds : List Kind) → no_top kinds ≡ true → no_top (if b then [] else kinds) ≡ true
+by-likely true kinds plain = refl
+by-likely false kinds plain = plain
+
+left-plain : (i : Inst) → no_top (left_by i) ≡ true
+left-plain (inst.BranchEqual name rs rt imm) = by-likely (equal_likely name) (Int ∷ Int ∷ []) refl
+left-plain (inst.BranchZero name rs imm) = by-likely (zero_likely name) (Int ∷ []) refl
+left-plain (inst.BranchSign name rs imm) = by-likely (sign_likely name) (Int ∷ []) refl
+left-plain _ = refl
+
+at-most : (b : Bool) (kinds : List Kind) → slots_of kinds ≤ 2 → slots_of (if b then [] else kinds) ≤ 2
+at-most true kinds few = omega arith
+at-most false kinds few = few
+
+left-few : (i : Inst) → slots_of (left_by i) ≤ 2
+left-few (inst.BranchEqual name rs rt imm) = at-most (equal_likely name) (Int ∷ Int ∷ []) (omega arith)
+left-few (inst.BranchZero name rs imm) = at-most (zero_likely name) (Int ∷ []) (omega arith)
+left-few (inst.BranchSign name rs imm) = at-most (sign_likely name) (Int ∷ []) (omega arith)
+left-few _ = omega arith
+
+pub behind-plain : (unit : Unit) → no_top (operands_behind unit) ≡ true
+behind-plain (units.Branch i slot) = left-plain i
+behind-plain (units.SlotMissing i) = left-plain i
+behind-plain (units.SlotIsBranch i word) = left-plain i
+behind-plain _ = refl
+
+pub behind-few : (unit : Unit) → slots_of (operands_behind unit) ≤ 2
+behind-few (units.Branch i slot) = left-few i
+behind-few (units.SlotMissing i) = left-few i
+behind-few (units.SlotIsBranch i word) = left-few i
+behind-few _ = omega arith
+
+module _ (rules : Rules) (room : 2 ≤ rules.more) (bank : ℕ) (known : ℕ → Bool) (goal : Kind) (at : ℕ) (slot : List Step) (later : ℕ → Bool) where
   -- ---- parts
 
   gone : (target : ℕ) → Leads rules (goes_to_code target) (knowing bank known goal) (knowing bank known Int)
   gone target = flows-from rules (goes_to_code target) (knowing bank known goal) (knowing bank known Int ∷ []) (settled-below bank known goal, tt)
-
-  gone-by : (rs : ℕ) → IsKnown known rs → Leads rules (get_register bank rs ∷ settle_code) (knowing bank known goal) (knowing bank known Int)
-  gone-by rs a =
-      flows-from rules (get_register bank rs ∷ settle_code) (knowing bank known goal) (knowing bank known Int ∷ [])
-      (get-flow rules bank rs _ _ _ (known-reads bank rs known goal a) refl (settled-below bank known goal, tt))
 
   link-written : (link : Option ℕ) → Leads rules (link_code bank link at) (knowing bank known Int) (knowing bank (linked link known) Int)
   link-written None = nothing-leads rules (knowing bank known Int)
@@ -108,14 +137,25 @@ module _ (rules : Rules) (bank : ℕ) (known : ℕ → Bool) (goal : Kind) (at :
 
   -- ---- conditional branches
 
-  -- one that is not likely
-  plainly : (first : List Step) (from : TypeFrame) (link : Option ℕ) → Leads rules first from (knowing bank known Int)
-      → Leads rules slot (knowing bank (linked link known) Int) (knowing bank later Int)
-      → Leads rules (first ++ (link_code bank link at ++ slot)) from (knowing bank later Int)
-  plainly first from link t s =
-      codes-lead rules first (link_code bank link at ++ slot) from (knowing bank known Int) (knowing bank later Int ∷ []) t
-      (codes-lead rules (link_code bank link at) slot (knowing bank known Int) (knowing bank (linked link known) Int)
-      (knowing bank later Int ∷ []) (link-written link) s)
+  -- such operands are on the stack
+  abbrev holding : (ℕ → Bool) → List Kind → TypeFrame
+  holding some kinds = with_stack (knowing bank some goal) kinds
+
+  -- the link, and the slot, of one that is not likely
+  link-above : (kinds : List Kind) → no_top kinds ≡ true → slots_of kinds ≤ 2 → (link : Option ℕ)
+      → Leads rules (link_code bank link at) (holding known kinds) (holding (linked link known) kinds)
+  link-above kinds plain few None = nothing-leads rules (holding known kinds)
+  link-above kinds plain few (Some r) =
+      framed-leads rules kinds plain (omega (arith, few, room)) (link_code bank (Some r) at) (knowing bank known goal)
+      (knowing bank (gaining known r) goal) (link-moves bank (behind_slot at) r)
+      (set (plain_rules rules.program) bank known goal (behind_slot at) r)
+
+  plainly : (kinds : List Kind) → no_top kinds ≡ true → slots_of kinds ≤ 2 → (link : Option ℕ)
+      → Leads rules slot (holding (linked link known) kinds) (holding later kinds)
+      → Leads rules (link_code bank link at ++ slot) (holding known kinds) (holding later kinds)
+  plainly kinds plain few link s =
+      codes-lead rules (link_code bank link at) slot (holding known kinds) (holding (linked link known) kinds)
+      (holding later kinds ∷ []) (link-above kinds plain few link) s
 
   -- a likely one
   likely : (test : BranchName) (from : TypeFrame) (target behind k j : ℕ) (link : Option ℕ) → IsTest test from (knowing bank known goal)
@@ -131,81 +171,65 @@ module _ (rules : Rules) (bank : ℕ) (known : ℕ → Bool) (goal : Kind) (at :
       (knowing bank later Int) passed (gone-linked behind link))
       (then-slot (goes_to_code target ++ link_code bank link at) link (gone-linked target link) s)
 
-  equal-typed : (name : BranchEqualName) (target : ℕ) → Leads rules slot (knowing bank (known) Int) (knowing bank later Int)
-      → (equal_likely name ≡ true → Below (knowing bank (known) Int) (knowing bank later Int))
-      → Leads rules (conditional_code (equal_likely name) (equal_test name) target (behind_slot at) ([]) slot)
-      (with_stack (knowing bank known goal) (Int ∷ Int ∷ [])) (knowing bank later Int)
-  equal-typed Beq target s p =
-      plainly (front IfIcmpeq target (behind_slot at)) (with_stack (knowing bank known goal) (Int ∷ Int ∷ [])) (None)
-      (flows-from rules (front IfIcmpeq target (behind_slot at)) (with_stack (knowing bank known goal) (Int ∷ Int ∷ []))
-      (knowing bank known Int ∷ []) (same _, (settled-below bank known goal, tt))) s
-  equal-typed Bne target s p =
-      plainly (front IfIcmpne target (behind_slot at)) (with_stack (knowing bank known goal) (Int ∷ Int ∷ [])) (None)
-      (flows-from rules (front IfIcmpne target (behind_slot at)) (with_stack (knowing bank known goal) (Int ∷ Int ∷ []))
-      (knowing bank known Int ∷ []) (same _, (settled-below bank known goal, tt))) s
+  -- the slot of a branch
+  abbrev SlotTyped : Bool → List Kind → (ℕ → Bool) → Type 0
+  SlotTyped is_likely kinds some =
+      Leads rules slot (with_stack (knowing bank some (if is_likely then Int else goal)) (if is_likely then [] else kinds))
+      (with_stack (knowing bank later (if is_likely then Int else goal)) (if is_likely then [] else kinds))
+
+  abbrev ConditionTyped : Bool → BranchName → ℕ → List Step → List Kind → Type 0
+  ConditionTyped is_likely test target link kinds =
+      Leads rules (conditional_code is_likely test target (behind_slot at) link slot) (holding known kinds)
+      (with_stack (knowing bank later (if is_likely then Int else goal)) (if is_likely then [] else kinds))
+
+  abbrev Passed : Bool → (ℕ → Bool) → Type 0
+  Passed is_likely some = is_likely ≡ true → Below (knowing bank some Int) (knowing bank later Int)
+
+  equal-typed : (name : BranchEqualName) (target : ℕ) → SlotTyped (equal_likely name) (Int ∷ Int ∷ []) known
+      → Passed (equal_likely name) known → ConditionTyped (equal_likely name) (equal_test name) target [] (Int ∷ Int ∷ [])
+  equal-typed Beq target s p = s
+  equal-typed Bne target s p = s
   equal-typed Beql target s p =
-      likely IfIcmpeq (with_stack (knowing bank known goal) (Int ∷ Int ∷ [])) target (behind_slot at) (5 + 0) (4 + 0 + length slot) None
+      likely IfIcmpeq (holding known (Int ∷ Int ∷ [])) target (behind_slot at) (5 + 0) (4 + 0 + length slot) None
       (record { plain = refl; fits = refl; within = refl }) (omega arith) (omega arith) (p refl) s
   equal-typed Bnel target s p =
-      likely IfIcmpne (with_stack (knowing bank known goal) (Int ∷ Int ∷ [])) target (behind_slot at) (5 + 0) (4 + 0 + length slot) None
+      likely IfIcmpne (holding known (Int ∷ Int ∷ [])) target (behind_slot at) (5 + 0) (4 + 0 + length slot) None
       (record { plain = refl; fits = refl; within = refl }) (omega arith) (omega arith) (p refl) s
 
-  zero-typed : (name : BranchZeroName) (target : ℕ) → Leads rules slot (knowing bank (known) Int) (knowing bank later Int)
-      → (zero_likely name ≡ true → Below (knowing bank (known) Int) (knowing bank later Int))
-      → Leads rules (conditional_code (zero_likely name) (zero_test name) target (behind_slot at) ([]) slot)
-      (with_stack (knowing bank known goal) (Int ∷ [])) (knowing bank later Int)
-  zero-typed Blez target s p =
-      plainly (front Ifle target (behind_slot at)) (with_stack (knowing bank known goal) (Int ∷ [])) (None)
-      (flows-from rules (front Ifle target (behind_slot at)) (with_stack (knowing bank known goal) (Int ∷ [])) (knowing bank known Int ∷ [])
-      (same _, (settled-below bank known goal, tt))) s
-  zero-typed Bgtz target s p =
-      plainly (front Ifgt target (behind_slot at)) (with_stack (knowing bank known goal) (Int ∷ [])) (None)
-      (flows-from rules (front Ifgt target (behind_slot at)) (with_stack (knowing bank known goal) (Int ∷ [])) (knowing bank known Int ∷ [])
-      (same _, (settled-below bank known goal, tt))) s
+  zero-typed : (name : BranchZeroName) (target : ℕ) → SlotTyped (zero_likely name) (Int ∷ []) known
+      → Passed (zero_likely name) known → ConditionTyped (zero_likely name) (zero_test name) target [] (Int ∷ [])
+  zero-typed Blez target s p = s
+  zero-typed Bgtz target s p = s
   zero-typed Blezl target s p =
-      likely Ifle (with_stack (knowing bank known goal) (Int ∷ [])) target (behind_slot at) (5 + 0) (4 + 0 + length slot) None
+      likely Ifle (holding known (Int ∷ [])) target (behind_slot at) (5 + 0) (4 + 0 + length slot) None
       (record { plain = refl; fits = refl; within = refl }) (omega arith) (omega arith) (p refl) s
   zero-typed Bgtzl target s p =
-      likely Ifgt (with_stack (knowing bank known goal) (Int ∷ [])) target (behind_slot at) (5 + 0) (4 + 0 + length slot) None
+      likely Ifgt (holding known (Int ∷ [])) target (behind_slot at) (5 + 0) (4 + 0 + length slot) None
       (record { plain = refl; fits = refl; within = refl }) (omega arith) (omega arith) (p refl) s
 
-  sign-typed : (name : BranchSignName) (target : ℕ)
-      → Leads rules slot (knowing bank (gained (written_by_branch_sign name) known) Int) (knowing bank later Int)
-      → (sign_likely name ≡ true → Below (knowing bank (gained (written_by_branch_sign name) known) Int) (knowing bank later Int))
-      → Leads rules (conditional_code (sign_likely name) (sign_test name) target (behind_slot at) (link_code bank (sign_link name) at) slot)
-      (with_stack (knowing bank known goal) (Int ∷ [])) (knowing bank later Int)
-  sign-typed Bltz target s p =
-      plainly (front Iflt target (behind_slot at)) (with_stack (knowing bank known goal) (Int ∷ [])) (None)
-      (flows-from rules (front Iflt target (behind_slot at)) (with_stack (knowing bank known goal) (Int ∷ [])) (knowing bank known Int ∷ [])
-      (same _, (settled-below bank known goal, tt))) s
-  sign-typed Bgez target s p =
-      plainly (front Ifge target (behind_slot at)) (with_stack (knowing bank known goal) (Int ∷ [])) (None)
-      (flows-from rules (front Ifge target (behind_slot at)) (with_stack (knowing bank known goal) (Int ∷ [])) (knowing bank known Int ∷ [])
-      (same _, (settled-below bank known goal, tt))) s
-  sign-typed Bltzal target s p =
-      plainly (front Iflt target (behind_slot at)) (with_stack (knowing bank known goal) (Int ∷ [])) (Some 31)
-      (flows-from rules (front Iflt target (behind_slot at)) (with_stack (knowing bank known goal) (Int ∷ [])) (knowing bank known Int ∷ [])
-      (same _, (settled-below bank known goal, tt))) s
-  sign-typed Bgezal target s p =
-      plainly (front Ifge target (behind_slot at)) (with_stack (knowing bank known goal) (Int ∷ [])) (Some 31)
-      (flows-from rules (front Ifge target (behind_slot at)) (with_stack (knowing bank known goal) (Int ∷ [])) (knowing bank known Int ∷ [])
-      (same _, (settled-below bank known goal, tt))) s
+  sign-typed : (name : BranchSignName) (target : ℕ) → SlotTyped (sign_likely name) (Int ∷ []) (gained (written_by_branch_sign name) known)
+      → Passed (sign_likely name) (gained (written_by_branch_sign name) known)
+      → ConditionTyped (sign_likely name) (sign_test name) target (link_code bank (sign_link name) at) (Int ∷ [])
+  sign-typed Bltz target s p = s
+  sign-typed Bgez target s p = s
+  sign-typed Bltzal target s p = plainly (Int ∷ []) refl (omega arith) (Some 31) s
+  sign-typed Bgezal target s p = plainly (Int ∷ []) refl (omega arith) (Some 31) s
   sign-typed Bltzl target s p =
-      likely Iflt (with_stack (knowing bank known goal) (Int ∷ [])) target (behind_slot at) (5 + 0) (4 + 0 + length slot) None
+      likely Iflt (holding known (Int ∷ [])) target (behind_slot at) (5 + 0) (4 + 0 + length slot) None
       (record { plain = refl; fits = refl; within = refl }) (omega arith) (omega arith) (p refl) s
   sign-typed Bgezl target s p =
-      likely Ifge (with_stack (knowing bank known goal) (Int ∷ [])) target (behind_slot at) (5 + 0) (4 + 0 + length slot) None
+      likely Ifge (holding known (Int ∷ [])) target (behind_slot at) (5 + 0) (4 + 0 + length slot) None
       (record { plain = refl; fits = refl; within = refl }) (omega arith) (omega arith) (p refl) s
   sign-typed Bltzall target s p =
-      likely Iflt (with_stack (knowing bank known goal) (Int ∷ [])) target (behind_slot at) (5 + 2) (4 + 2 + length slot) (Some 31)
+      likely Iflt (holding known (Int ∷ [])) target (behind_slot at) (5 + 2) (4 + 2 + length slot) (Some 31)
       (record { plain = refl; fits = refl; within = refl }) (omega arith) (omega arith) (p refl) s
   sign-typed Bgezall target s p =
-      likely Ifge (with_stack (knowing bank known goal) (Int ∷ [])) target (behind_slot at) (5 + 2) (4 + 2 + length slot) (Some 31)
+      likely Ifge (holding known (Int ∷ [])) target (behind_slot at) (5 + 2) (4 + 2 + length slot) (Some 31)
       (record { plain = refl; fits = refl; within = refl }) (omega arith) (omega arith) (p refl) s
 
 -- ---- branches and jumps
 
-module _ (rules : Rules) (bank : ℕ) (known : ℕ → Bool) (goal : Kind) (at : ℕ) (slot : List Step) (later : ℕ → Bool) where
+module _ (rules : Rules) (room : 2 ≤ rules.more) (bank : ℕ) (known : ℕ → Bool) (goal : Kind) (at : ℕ) (slot : List Step) (later : ℕ → Bool) where
   got : (rs : ℕ) → IsKnown known rs → Leads rules (get_register bank rs ∷ []) (knowing bank known goal)
       (with_stack (knowing bank known goal) (Int ∷ []))
   got rs a =
@@ -221,37 +245,47 @@ module _ (rules : Rules) (bank : ℕ) (known : ℕ → Bool) (goal : Kind) (at :
       (get-flow rules bank rs _ _ _ (known-reads bank rs known goal a) refl
       (get-flow rules bank rt _ _ _ (known-reads bank rt known goal b) refl (same _, tt)))
 
+  -- what is pushed is left below the code behind it
+  then-typed : (first rest : List Step) (kinds : List Kind) (to : TypeFrame)
+      → Leads rules first (knowing bank known goal) (with_stack (knowing bank known goal) kinds)
+      → Leads rules rest (with_stack (knowing bank known goal) kinds) to → Leads rules (first ++ rest) (knowing bank known goal) to
+  then-typed first rest kinds to t u =
+      codes-lead rules first rest (knowing bank known goal) (with_stack (knowing bank known goal) kinds) (to ∷ []) t u
+
+  nop : Leads rules (Does Nop ∷ []) (knowing bank known goal) (knowing bank known goal)
+  nop = flows-from rules (Does Nop ∷ []) (knowing bank known goal) (knowing bank known goal ∷ []) (same _, tt)
+
+  abbrev behind : Inst → TypeFrame
+  behind i = with_stack (knowing bank later (goal_of i goal)) (left_by i)
+
   transfer-typed : (i : Inst) → is_branch i ≡ true → AreKnown known (read_by i)
-      → Leads rules slot (knowing bank (gained (written_by i) known) Int) (knowing bank later Int)
+      → Leads rules slot (with_stack (knowing bank (gained (written_by i) known) (goal_of i goal)) (left_by i)) (behind i)
       → (is_likely i ≡ true → Below (knowing bank (gained (written_by i) known) Int) (knowing bank later Int))
-      → Leads rules (transfer_code bank i at slot) (knowing bank known goal) (knowing bank later Int)
+      → Leads rules (transfer_code bank i at slot) (knowing bank known goal) (behind i)
   transfer-typed (inst.BranchEqual name rs rt imm) e a s p =
-      codes-lead rules (get_register bank rs ∷ get_register bank rt ∷ [])
-      (conditional_code (equal_likely name) (equal_test name) (branch_target at imm) (behind_slot at) [] slot)
-      (knowing bank known goal) (with_stack (knowing bank known goal) (Int ∷ Int ∷ [])) (knowing bank later Int ∷ [])
-      (got-two rs rt a.0 a.1.0) (equal-typed rules bank known goal at slot later name (branch_target at imm) s p)
+      then-typed (get_register bank rs ∷ get_register bank rt ∷ [])
+      (conditional_code (equal_likely name) (equal_test name) (branch_target at imm) (behind_slot at) [] slot) (Int ∷ Int ∷ [])
+      (behind (inst.BranchEqual name rs rt imm))
+      (got-two rs rt a.0 a.1.0) (equal-typed rules room bank known goal at slot later name (branch_target at imm) s p)
   transfer-typed (inst.BranchZero name rs imm) e a s p =
-      codes-lead rules (get_register bank rs ∷ []) (conditional_code (zero_likely name) (zero_test name) (branch_target at imm)
-      (behind_slot at) [] slot)
-      (knowing bank known goal) (with_stack (knowing bank known goal) (Int ∷ [])) (knowing bank later Int ∷ [])
-      (got rs a.0) (zero-typed rules bank known goal at slot later name (branch_target at imm) s p)
+      then-typed (get_register bank rs ∷ [])
+      (conditional_code (zero_likely name) (zero_test name) (branch_target at imm) (behind_slot at) [] slot) (Int ∷ [])
+      (behind (inst.BranchZero name rs imm))
+      (got rs a.0) (zero-typed rules room bank known goal at slot later name (branch_target at imm) s p)
   transfer-typed (inst.BranchSign name rs imm) e a s p =
-      codes-lead rules (get_register bank rs ∷ []) (conditional_code (sign_likely name) (sign_test name) (branch_target at imm) (behind_slot at)
-      (link_code bank (sign_link name) at) slot)
-      (knowing bank known goal) (with_stack (knowing bank known goal) (Int ∷ [])) (knowing bank later Int ∷ [])
-      (got rs a.0) (sign-typed rules bank known goal at slot later name (branch_target at imm) s p)
-  transfer-typed (inst.Jump J index) e a s p =
-      then-slot rules bank known goal at slot later (goes_to_code (jump_target at index) ++ link_code bank None at) None
-      (gone-linked rules bank known goal at slot later (jump_target at index) None) s
+      then-typed (get_register bank rs ∷ [])
+      (conditional_code (sign_likely name) (sign_test name) (branch_target at imm) (behind_slot at) (link_code bank (sign_link name) at) slot)
+      (Int ∷ []) (behind (inst.BranchSign name rs imm))
+      (got rs a.0) (sign-typed rules room bank known goal at slot later name (branch_target at imm) s p)
+  transfer-typed (inst.Jump J index) e a s p = then-typed (Does Nop ∷ []) slot [] (behind (inst.Jump J index)) nop s
   transfer-typed (inst.Jump Jal index) e a s p =
-      then-slot rules bank known goal at slot later (goes_to_code (jump_target at index) ++ link_code bank (Some 31) at) (Some 31)
-      (gone-linked rules bank known goal at slot later (jump_target at index) (Some 31)) s
+      then-typed (Does Nop ∷ []) (link_code bank (Some 31) at ++ slot) [] (behind (inst.Jump Jal index)) nop
+      (plainly rules room bank known goal at slot later [] refl (omega arith) (Some 31) s)
   transfer-typed (inst.JumpRegister rs) e a s p =
-      plainly rules bank known goal at slot later (get_register bank rs ∷ settle_code) (knowing bank known goal) None
-      (gone-by rules bank known goal at slot later rs a.0) s
+      then-typed (get_register bank rs ∷ []) slot (Int ∷ []) (behind (inst.JumpRegister rs)) (got rs a.0) s
   transfer-typed (inst.JumpAndLinkRegister rs rd) e a s p =
-      plainly rules bank known goal at slot later (get_register bank rs ∷ settle_code) (knowing bank known goal) (Some rd)
-      (gone-by rules bank known goal at slot later rs a.0) s
+      then-typed (get_register bank rs ∷ []) (link_code bank (Some rd) at ++ slot) (Int ∷ []) (behind (inst.JumpAndLinkRegister rs rd))
+      (got rs a.0) (plainly rules room bank known goal at slot later (Int ∷ []) refl (omega arith) (Some rd) s)
   transfer-typed _ e a s p = absurd (false≢true e)
 
 -- ---- units
@@ -261,26 +295,43 @@ gained-joined [] second known = refl
 gained-joined (general d ∷ first) second known = gained-joined first second (gaining known d)
 gained-joined (special name ∷ first) second known = gained-joined first second known
 
+-- the code of a slot stands above what its branch leaves
+slot-typed : (rules : Rules) → 2 ≤ rules.more → (bank : ℕ) (i : Inst) (known later : ℕ → Bool) (goal : Kind) (slot : List Step)
+    → list_all is_moving_step slot ≡ true
+    → Leads (plain_rules rules.program) slot (knowing bank known (goal_of i goal)) (knowing bank later (goal_of i goal))
+    → Leads rules slot (with_stack (knowing bank known (goal_of i goal)) (left_by i)) (with_stack (knowing bank later (goal_of i goal)) (left_by i))
+slot-typed rules room bank i known later goal slot moves t =
+    let few = left-few i in
+    framed-leads rules (left_by i) (left-plain i) (omega (arith, few, room)) slot (knowing bank known (goal_of i goal))
+    (knowing bank later (goal_of i goal)) moves t
+
 pub unit-typed : (unit : Unit) → UnitTyped unit
-unit-typed (units.Plain i) rules bank known goal at helpers lawful is = instruction-typed i lawful.0.is_none rules bank known goal at helpers is
-unit-typed (units.Branch i slot) rules bank known goal at helpers lawful is =
-    subst (λ later. Leads rules (transfer_code bank i at (instruction_code bank slot (next_address at))) (knowing bank known goal)
-    (knowing bank later Int))
+unit-typed (units.Plain i) rules bank known goal at room helpers lawful is =
+    instruction-typed i lawful.0.is_none rules bank known goal at helpers is
+unit-typed (units.Branch i slot) rules bank known goal at room helpers lawful is =
+    let own = gained (written_by i) known in
+    let later = gained (written_by slot) own in
+    let code = instruction_code bank slot (next_address at) in
+    subst (λ all. Leads rules (transfer_code bank i at code) (knowing bank known goal)
+    (with_stack (knowing bank all (goal_of i goal)) (left_by i)))
     (gained-joined (written_by i) (written_by slot) known)
-    (transfer-typed rules bank known goal at (instruction_code bank slot (next_address at))
-    (gained (written_by slot) (gained (written_by i) known)) i lawful.0.is_one is.branch
-    (instruction-typed slot lawful.1.is_none rules bank (gained (written_by i) known) Int (next_address at) helpers is.slot)
-    (λ likely. knowing-below bank (gained (written_by i) known) (gained (written_by slot) (gained (written_by i) known)) Int
-    (is.passed_over likely)))
-unit-typed (units.SlotMissing i) rules bank known goal at helpers lawful is =
-    transfer-typed rules bank known goal at (fault_code fetch_fault (next_address at) (next_address at))
-    (gained (written_by i) known) i lawful.is_one is
-    (fault rules bank (gained (written_by i) known) Int fetch_fault (next_address at) (next_address at))
-    (λ likely. same (knowing bank (gained (written_by i) known) Int))
-unit-typed (units.SlotIsBranch i word) rules bank known goal at helpers lawful is =
-    transfer-typed rules bank known goal at (fault_code branch_in_slot_fault (next_address at) word)
-    (gained (written_by i) known) i lawful.0.is_one is
-    (fault rules bank (gained (written_by i) known) Int branch_in_slot_fault (next_address at) word)
-    (λ likely. same (knowing bank (gained (written_by i) known) Int))
-unit-typed units.Call rules bank known goal at helpers lawful is = call rules bank known goal is
-unit-typed (units.Trap kind value) rules bank known goal at helpers lawful is = fault rules bank known goal kind at value
+    (transfer-typed rules room bank known goal at code later i lawful.0.is_one is.branch
+    (slot-typed rules room bank i own later goal code (instruction-moves bank slot (next_address at))
+    (instruction-typed slot lawful.1.is_none (plain_rules rules.program) bank own (goal_of i goal) (next_address at) helpers is.slot))
+    (λ likely. knowing-below bank own later Int (is.passed_over likely)))
+unit-typed (units.SlotMissing i) rules bank known goal at room helpers lawful is =
+    let own = gained (written_by i) known in
+    let code = fault_code fetch_fault (next_address at) (next_address at) in
+    transfer-typed rules room bank known goal at code own i lawful.is_one is
+    (slot-typed rules room bank i own own goal code refl
+    (fault (plain_rules rules.program) bank own (goal_of i goal) fetch_fault (next_address at) (next_address at)))
+    (λ likely. same (knowing bank own Int))
+unit-typed (units.SlotIsBranch i word) rules bank known goal at room helpers lawful is =
+    let own = gained (written_by i) known in
+    let code = fault_code branch_in_slot_fault (next_address at) word in
+    transfer-typed rules room bank known goal at code own i lawful.0.is_one is
+    (slot-typed rules room bank i own own goal code refl
+    (fault (plain_rules rules.program) bank own (goal_of i goal) branch_in_slot_fault (next_address at) word))
+    (λ likely. same (knowing bank own Int))
+unit-typed units.Call rules bank known goal at room helpers lawful is = call rules bank known goal is
+unit-typed (units.Trap kind value) rules bank known goal at room helpers lawful is = fault rules bank known goal kind at value

@@ -44,7 +44,7 @@ address-forgotten : Below at_address (taking [])
 address-forgotten = forgets (taking []) (taking []) 0 Int (same (taking [])) refl
 
 abbrev beginning : Program → Rules
-beginning program = record { program = program; owes = owes_beginning }
+beginning program = record { program = program; owes = owes_beginning; more = 2 }
 
 -- ---- trees
 

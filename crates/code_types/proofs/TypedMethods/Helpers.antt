@@ -23,7 +23,7 @@ use Rattle.code_types.specs.Knowing.{HelperTypes}
 use Rattle.code_types.specs.Methods.{taking, owes_nothing, IsBody, HelpersTyped}
 
 abbrev pub owing : Program → Rules
-owing program = record { program = program; owes = owes_nothing }
+owing program = record { program = program; owes = owes_nothing; more = 2 }
 
 pub plain-body : (program : Program) (code : List Step) (entry : TypeFrame) → TypesFrom (owing program) code entry []
     → BodyTypes (owing program) code entry

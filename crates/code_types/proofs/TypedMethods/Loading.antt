@@ -46,7 +46,7 @@ words-typed program =
     let begun = with_local_kind entry 2 Int [] in
     record {
       names = refl;
-      types = flows-body (record { program = program; owes = owes_words }) words_code entry words_ahead
+      types = flows-body (record { program = program; owes = owes_words; more = 2 }) words_code entry words_ahead
           (same _, (forgets begun entry 3 Int (forgets entry entry 2 Int (same entry) refl) refl, (same _, (tt, tt)))) words-owed;
     }
 
@@ -72,7 +72,7 @@ pages-typed program =
     let forgotten = forgets third in_runs 4 Int (forgets second in_runs 3 Int (forgets in_runs in_runs 2 Int (same in_runs) refl) refl) refl in
     record {
       names = refl;
-      types = flows-body (record { program = program; owes = owes_pages }) pages_code entry pages_ahead
+      types = flows-body (record { program = program; owes = owes_pages; more = 2 }) pages_code entry pages_ahead
           (same _, (same _, (same _, (same _, (forgotten, (tt, tt)))))) pages-owed;
     }
 

@@ -21,7 +21,7 @@ use Rattle.code_types.specs.Knowing.{unknown}
 use Rattle.code_types.specs.Spans.{owes_unknown}
 
 abbrev pub going_to : Program → List ℕ → Rules
-going_to program goals = record { program = program; owes = owes_unknown goals }
+going_to program goals = record { program = program; owes = owes_unknown goals; more = 2 }
 
 -- what meets nothing known meets what is owed at a goal
 pub goal-met : (goals : List ℕ) (at : ℕ) (f : TypeFrame) → Below f unknown → list_any (λ goal. goal == at) goals ≡ true

@@ -2,15 +2,15 @@
 use Rattle.std.proofs.Common.{◌≡◌, ℕ, zero, suc, ◌+◌, ◌-◌, ◌/◌, ◌<◌, ◌≤◌, ◌==◌, Bool, true, false, if◌then◌else◌, ◌⊎◌, inl, inr, List, [], ◌∷◌, ◌++◌, All, length, map, take, drop, get_or, min, refl, sym, ap, subst, ◌∙◌, arith}
 use Rattle.std.specs.Prelude.{nat_le, Option, Some, None}
 use Rattle.std.specs.List.{flat_map, list_all, list_any}
-use Rattle.std.proofs.lemmas.Bool.{and_parts, cases_lt, eq-eqb, false≢true, leb-true, or_left, or_right}
-use Rattle.std.proofs.lemmas.List.{get_or-drop, get_or-take, get_or_past, length-drop, length-take, take_all, take_more}
+use Rattle.std.proofs.lemmas.Bool.{and_from, and_parts, cases_Bool, cases_eq, cases_lt, eq-eqb, eqb-false, false≢true, le-leb, leb-true, or_left, or_right, true≢false}
+use Rattle.std.proofs.lemmas.List.{get_or-drop, get_or-take, get_or_default, get_or_past, length-drop, length-take, take_all, take_more}
 use Rattle.std.proofs.lemmas.List.Elements.{All-nil, All-cons, All-drop, All-take}
 use Rattle.std.proofs.lemmas.List.Folds.{list_all-append}
 use Rattle.delay_slots.specs.declared.unit.Unit.{Unit}
-use Rattle.delay_slots.specs.declared.unit.Unit.TheVariants.{Call}
+use Rattle.delay_slots.specs.declared.unit.Unit.TheVariants.{Branch, Call}
 use Rattle.block_builder.specs.declared.block.Block.{Block}
-use Rattle.block_builder.specs.Leaders.{words_of}
-use Rattle.block_builder.specs.Blocks.{unit_at, end_of}
+use Rattle.block_builder.specs.Leaders.{is_plain, words_of}
+use Rattle.block_builder.specs.Blocks.{IsPiece, unit_at, end_of}
 use Rattle.block_builder.proofs.BlockLemmas.{has_words}
 use Rattle.jvm_program.specs.Program.{Program}
 use Rattle.jvm_program.specs.Typing.{TypeFrame}
@@ -42,7 +42,7 @@ abbrev owes_words : Extent → ℕ → Option TypeFrame
 owes_words span at = if has span at then Some unknown else None
 
 abbrev pub inside : Program → Extent → Rules
-inside program span = record { program = program; owes = owes_words span }
+inside program span = record { program = program; owes = owes_words span; more = 2 }
 
 pub opens : (program : Program) (span : Extent) → Opens (inside program span) span
 opens program span at is = subst (λ b. Meets unknown (if b then Some unknown else None)) (sym is) (same unknown)
@@ -148,6 +148,53 @@ some-words units leads span k below =
     let some = has_words (unit_at units (end_of units leads k)) in
     omega (arith, some, below)
 
+words-few : (unit : Unit) → words_of unit ≤ 2
+words-few (Branch i slot) = omega arith
+words-few _ = omega arith
+
+-- how many units a piece has
+abbrev count_of : List Unit → Block → ℕ
+count_of units b = if ends_with_slot units b then b.words - 1 else b.words
+
+-- a unit before the last one is followed by words of the piece
+followed : (units : List Unit) (b : Block) (i : ℕ) → i + 1 < count_of units b
+    → b.first + i + words_of (unit_at units (b.first + i)) < b.first + b.words
+followed units b i = by_test (ends_with_slot units b) refl
+  where
+    place : ℕ
+    place = b.first + i
+
+    few : words_of (unit_at units place) ≤ 2
+    few = words-few (unit_at units place)
+
+    by_test : (slot : Bool) → ends_with_slot units b ≡ slot → i + 1 < (if slot then b.words - 1 else b.words)
+        → b.first + i + words_of (unit_at units place) < b.first + b.words
+    by_test true is less = omega (arith, few, less)
+    by_test false is less = elim (cases_Bool (words_of (unit_at units place) == 2)) [
+      | inr one ↦ (let other = eqb-false (words_of (unit_at units place)) 2 one in omega (arith, few, less, other))
+      | inl two ↦ elim (cases_eq (i + 2) b.words) [
+        | inr more ↦ omega (arith, few, less, more)
+        | inl all ↦
+            let there : place ≡ b.first + b.words - 2 = omega (arith, all) in
+            let slot : ends_with_slot units b ≡ true =
+            and_from (nat_le 2 b.words) (words_of (unit_at units (b.first + b.words - 2)) == 2) (le-leb 2 b.words (omega (arith, all)))
+            (subst (λ j. (words_of (unit_at units j) == 2) ≡ true) there two) in
+            absurd (true≢false (sym slot ∙ is))
+      ]
+    ]
+
+-- the units of a piece before its last one are Plain
+before-plain : (units : List Unit) (b : Block) (piece : IsPiece units b) (n : ℕ) → n + 1 ≤ count_of units b
+    → All (λ unit. is_plain unit ≡ true) (take n (take (count_of units b) (drop b.first units)))
+before-plain units b piece n few i d less =
+    let own = take (count_of units b) (drop b.first units) in
+    let counted : length (take n own) ≡ min n (length own) = length-take n own in
+    let below : i < n = omega (arith, less, counted) in
+    let is : get_or (take n own) i d ≡ unit_at units (b.first + i) =
+    get_or_default (take n own) i d Call less ∙ get_or-take n own i Call below
+    ∙ get_or-take (count_of units b) (drop b.first units) i Call (omega (arith, below, few)) ∙ get_or-drop b.first units i Call in
+    ap is_plain is ∙ piece.straight (b.first + i) (omega arith) (followed units b i (omega (arith, below, few)))
+
 -- ---- the codes of words
 
 module _ (program : Program) (helpers : HelperTypes program) (warm : WarmPartsAreTyped) (cold : ColdPartsAreTyped) (guards : GuardsAreTyped) (units : List Unit) (lawful : All IsLawful units) (leads : ℕ → Bool) (span : SpanWords)
@@ -169,21 +216,28 @@ module _ (program : Program) (helpers : HelperTypes program) (warm : WarmPartsAr
       let behind = next_such (is_inner leads span) span k in
       codes-lead (inside program (extent span)) (front_of span.metered unit at) (unit_code 0 unit at ++ exit_of units span behind k) unknown
       unknown (unknown ∷ []) (guarded span.metered unit at)
-      (cold unit (inside program (extent span)) at (extent span) behind helpers (unit-lawful k) (opens program (extent span)))
+      (cold unit (inside program (extent span)) at (extent span) behind (omega arith) helpers (unit-lawful k) (opens program (extent span)))
 
-  pub warm-part-leads : (k : ℕ) → k < span.end → Leads (inside program (extent span)) (warm_part units leads span k) unknown unknown
-  warm-part-leads k below =
+  pub warm-part-leads : (k : ℕ) → k < span.end → IsPiece units (piece_at units leads span k)
+      → Leads (inside program (extent span)) (warm_part units leads span k) unknown unknown
+  warm-part-leads k below piece =
       let block = piece_at units leads span k in
       let count = if ends_with_slot units block then block.words - 1 else block.words in
       let own : List Unit = piece_units units block in
       let before : List Unit = take (length own - 1) own in
       let last : Unit = unit_at units (k + length own - 1) in
+      let some = some-units units block (some-words units leads span k below) in
       let is : own ≡ before ++ last ∷ [] =
-      last-of units k count (some-units units block (some-words units leads span k below)) (omega (arith, below, within)) in
+      last-of units k count some (omega (arith, below, within)) in
+      let left = length-drop k units in
+      let counted : length own ≡ min count (length (drop k units)) = length-take count (drop k units) in
+      let own_few : length own ≤ count = omega (arith, counted) in
+      let own_some : 1 ≤ length own = omega (arith, counted, some, left, below, within) in
       let own_lawful : All IsLawful own = All-take IsLawful count (drop k units) (All-drop IsLawful k units lawful) in
       let behind = next_such (begins leads span) span k in
       let place = address span (k + length own - 1) in
       subst (λ all. Leads (inside program (extent span)) (warm_code all (address span k) ++ exit_code (extent span) behind last place) unknown unknown)
       (sym is)
-      (warm before last (inside program (extent span)) (address span k) (extent span) behind place helpers (subst (All IsLawful) is own_lawful)
+      (warm before last (inside program (extent span)) (address span k) (extent span) behind place (omega arith) helpers
+      (before-plain units block piece (length own - 1) (omega (arith, own_few, own_some))) (subst (All IsLawful) is own_lawful)
       (opens program (extent span)))

@@ -9,6 +9,7 @@ use Rattle.delay_slots.specs.declared.unit.Unit.{Unit}
 use Rattle.delay_slots.specs.Units.{units_of}
 use Rattle.jvm_program.specs.Program.{Program}
 use Rattle.code_steps.specs.Returning.{returns}
+use Rattle.block_builder.specs.Blocks.{AreUnits}
 use Rattle.lawful_units.specs.Lawful.{IsLawful}
 use Rattle.span_code.specs.declared.span_words.SpanWords.{SpanWords}
 use Rattle.span_code.specs.Keeping.{keeps_to}
@@ -17,7 +18,7 @@ use Rattle.span_code.specs.Neighbours.{address, is_inner}
 use Rattle.span_code.specs.Parts.{extent, warm_part, cold_part}
 use Rattle.span_code.specs.Laying.{warm_before, cold_before, targets_of, return_offset, span_code}
 use Rattle.span_code.specs.Locals.{locals_of}
-use Rattle.span_code.specs.Laws.{WordsKeepToTheirSpan}
+use Rattle.span_code.specs.Laws.{PiecesAreOfBlocks, WordsKeepToTheirSpan}
 use Rattle.code_types.specs.Judging.{Rules, Leads}
 use Rattle.code_types.specs.Bodies.{BodyTypes}
 use Rattle.code_types.proofs.TypedSteps.Assembling.{parts-body}
@@ -48,9 +49,10 @@ pub record PartLaws : Type 0 where
   pub cold : ColdPartsAreTyped
   pub guards : GuardsAreTyped
   pub keep : WordsKeepToTheirSpan
+  pub pieces : PiecesAreOfBlocks
 
-module _ (laws : PartLaws) (program : Program) (helpers : HelperTypes program) (units : List Unit) (lawful : All IsLawful units) (leads : ℕ → Bool)
-    (span : SpanWords) (within : span.end ≤ length units) where
+module _ (laws : PartLaws) (program : Program) (helpers : HelperTypes program) (units : List Unit) (are : AreUnits units) (lawful : All IsLawful units)
+    (leads : ℕ → Bool) (span : SpanWords) (within : span.end ≤ length units) where
   abbrev rules : Rules
   rules = going_to program (goals_of units leads span)
 
@@ -67,7 +69,8 @@ module _ (laws : PartLaws) (program : Program) (helpers : HelperTypes program) (
   warm-leads k is below keeps =
       subst (λ code. Leads rules code unknown unknown) (sym (warm-is units leads span k is))
       (laid-leads program (extent span) (targets_of units leads span) (return_offset units leads span) (warm_part units leads span k) keeps
-      (warm-part-leads program helpers laws.warm laws.cold laws.guards units lawful leads span within k below))
+      (warm-part-leads program helpers laws.warm laws.cold laws.guards units lawful leads span within k below
+      (laws.pieces units leads span k are below within)))
 
   cold-leads : (k : ℕ) → is_inner leads span k ≡ true → list_all (keeps_to (extent span)) (cold_part units leads span k) ≡ true
       → Leads rules (part units leads span k) unknown unknown

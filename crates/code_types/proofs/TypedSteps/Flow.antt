@@ -1,14 +1,14 @@
 -- Code that passes the test has frames.
-use Rattle.std.proofs.Common.{◌≡◌, ℕ, zero, suc, Bool, true, false, if◌then◌else◌, List, [], ◌∷◌, ◌++◌, length, refl, arith}
+use Rattle.std.proofs.Common.{◌≡◌, ℕ, zero, suc, ◌+◌, Bool, true, false, if◌then◌else◌, List, [], ◌∷◌, ◌++◌, length, refl, arith}
 use Rattle.std.specs.Prelude.{◌==◌, nat_le, Option, Some, None, slice_get, All, ⊤}
-use Rattle.std.proofs.lemmas.Bool.{and_parts, eqb-true, false≢true}
+use Rattle.std.proofs.lemmas.Bool.{and_parts, eqb-true, leb-true, le-leb, false≢true}
 use Rattle.std.proofs.lemmas.List.Elements.{All-cons, All-nil}
 use Rattle.jvm_program.specs.declared.instruction.Instruction.TheVariants.{TableSwitch}
 use Rattle.jvm_program.specs.Program.{targets_of, falls_through, is_goto}
 use Rattle.jvm_program.specs.Typing.{TypeFrame, Below, applied, type_effect, branch_type, no_top, slots_of}
 use Rattle.code_steps.specs.declared.step.Step.{Step}
 use Rattle.code_steps.specs.declared.step.Step.TheVariants.{Does, Skips, Leaves, Selects}
-use Rattle.code_types.specs.Judging.{Rules, Meets, Fits, Types, TypesFrom, most_operands, is_plain_frame}
+use Rattle.code_types.specs.Judging.{Rules, Meets, Fits, Types, TypesFrom, few_operands, is_plain_frame}
 use Rattle.code_types.specs.Flowing.{Ahead, When, Behind, Entering, Arriving, FlowsOver, Reaches, AllMeet, Flows, FlowsFrom}
 use Rattle.code_types.proofs.TypedSteps.KindOrder.{same, through}
 
@@ -18,10 +18,17 @@ when-parts false T h = absurd h
 
 -- ---- what each part of the test tells
 
+-- there is room for those below, too
+pub with-more : (rules : Rules) (f : TypeFrame) → nat_le (slots_of f.stack) few_operands ≡ true
+    → nat_le (slots_of f.stack) (few_operands + rules.more) ≡ true
+with-more rules f room =
+    let few = leb-true (slots_of f.stack) few_operands room in
+    le-leb (slots_of f.stack) (few_operands + rules.more) (omega (arith, few))
+
 behind-found : (found : Option TypeFrame) (Rest : TypeFrame → Type 0) → Behind found Rest
-    → (g : TypeFrame) × (found ≡ Some g) × (nat_le (slots_of g.stack) most_operands ≡ true) × Rest g
+    → (g : TypeFrame) × (found ≡ Some g) × (nat_le (slots_of g.stack) few_operands ≡ true) × Rest g
 behind-found None Rest h = absurd h
-behind-found (Some g) Rest h = let p = when-parts (nat_le (slots_of g.stack) most_operands) (Rest g) h in (g, refl, p.0, p.1)
+behind-found (Some g) Rest h = let p = when-parts (nat_le (slots_of g.stack) few_operands) (Rest g) h in (g, refl, p.0, p.1)
 
 -- the frame with which a step is entered, for any frames behind it
 record Entered (current : Option TypeFrame) (ahead : Ahead) (Rest : TypeFrame → Ahead → Type 0) : Type 0 where
@@ -119,7 +126,7 @@ none-owed : {X : Type 0} (P : X → Type 0) (xs : List X) → length xs ≡ 0 �
 none-owed P xs none = λ k d less. absurd (omega (arith, none, less))
 
 over-step : (rules : Rules) (s : Step) (code : List Step) (behind : List TypeFrame) (f : TypeFrame) (ahead : Ahead)
-    → nat_le (slots_of f.stack) most_operands ≡ true
+    → nat_le (slots_of f.stack) few_operands ≡ true
     → ((current : Option TypeFrame) (others : Ahead) → Flows rules code behind current others → Found rules code behind current others)
     → FlowsOver rules s f ahead (Flows rules code behind) → FoundBehind rules s code behind f ahead
 over-step rules (Does i) code behind f ahead room find h =
@@ -135,7 +142,7 @@ over-step rules (Does i) code behind f ahead room find h =
         straight = q.0;
         after = p.0;
         fits = p.1;
-        within = p.2;
+        within = with-more rules p.0 p.2;
         next = goes-on (falls_through i) p.0 (rest.frames ++ behind) rest.reaches;
         skipped = tt;
         owed = none-owed (λ at. Meets p.0 (rules.owes at)) (targets_of i) (eqb-true (length (targets_of i)) 0 q.0);
@@ -156,7 +163,7 @@ over-step rules (Skips name k) code behind f ahead room find h =
         straight = refl;
         after = p.0;
         fits = p.1;
-        within = p.2;
+        within = with-more rules p.0 p.2;
         next = stays-or-goes (is_goto name) p.0 (rest.frames ++ behind) rest.reaches;
         skipped = m.1;
         owed = none-owed (λ at. Meets p.0 (rules.owes at)) [] refl;
@@ -172,7 +179,7 @@ over-step rules (Leaves target) code behind f ahead room find h =
         straight = refl;
         after = f;
         fits = refl;
-        within = room;
+        within = with-more rules f room;
         next = λ falls. absurd (false≢true falls);
         skipped = tt;
         owed = All-cons (λ at. Meets f (rules.owes at)) target [] h.0 (All-nil (λ at. Meets f (rules.owes at)));
@@ -191,7 +198,7 @@ over-step rules (Selects s) code behind f ahead room find h =
         straight = refl;
         after = p.0;
         fits = p.1;
-        within = p.2;
+        within = with-more rules p.0 p.2;
         next = λ falls. absurd (false≢true falls);
         skipped = tt;
         owed = p.3.0;
@@ -205,7 +212,7 @@ flows-found rules [] behind current ahead h = record { frames = []; types = tt; 
 flows-found rules (s ∷ code) behind current ahead h =
     let e = entered current ahead (λ f others. When (is_plain_frame f) (FlowsOver rules s f others (Flows rules code behind))) h in
     let p = when-parts (is_plain_frame e.frame) (FlowsOver rules s e.frame e.others (Flows rules code behind)) e.rest in
-    let tests = and_parts (no_top e.frame.stack) (nat_le (slots_of e.frame.stack) most_operands) p.0 in
+    let tests = and_parts (no_top e.frame.stack) (nat_le (slots_of e.frame.stack) few_operands) p.0 in
     let rest = over-step rules s code behind e.frame e.others tests.1 (λ current others. flows-found rules code behind current others) p.1 in
     record {
       frames = e.frame ∷ rest.frames;

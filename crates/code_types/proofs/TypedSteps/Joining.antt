@@ -10,7 +10,8 @@ use Rattle.jvm_program.specs.Program.{Program, targets_of}
 use Rattle.jvm_program.specs.Typing.{TypeFrame, Below, no_top, slots_of}
 use Rattle.code_steps.specs.declared.step.Step.{Step}
 use Rattle.code_steps.specs.declared.step.Step.TheVariants.{Does, Skips, Leaves, Selects}
-use Rattle.code_types.specs.Judging.{Rules, Meets, MeetsSkipped, Fits, Types, TypesFrom, Leads, IsTest, Carries, PartsTyped, redirected, is_no_switch, is_plain_frame, most_operands}
+use Rattle.code_types.proofs.TypedSteps.Flow.{with-more}
+use Rattle.code_types.specs.Judging.{Rules, Meets, MeetsSkipped, Fits, Types, TypesFrom, Leads, IsTest, Carries, PartsTyped, redirected, is_no_switch, is_plain_frame, few_operands}
 use Rattle.code_types.proofs.TypedSteps.KindOrder.{same, through, meets-below}
 
 -- ---- other frames behind the code, each above the one that stood there
@@ -122,7 +123,7 @@ pub either-leads : (rules : Rules) (name : BranchName) (first second : List Step
     → IsTest name from between → is_plain_frame to ≡ true → k ≡ length first + 1 → j ≡ length second → Leads rules first between to
     → Leads rules second between to → Leads rules (Skips name k ∷ (first ++ Skips Goto j ∷ second)) from to
 either-leads rules name first second from between to k j test room k_is j_is t u =
-    let tests = and_parts (no_top to.stack) (nat_le (slots_of to.stack) most_operands) room in
+    let tests = and_parts (no_top to.stack) (nat_le (slots_of to.stack) few_operands) room in
     let others = u.frames ++ to ∷ [] in
     let rise = first-rises to others in
     let assoc = sym (append_assoc t.frames (to ∷ u.frames) (to ∷ [])) in
@@ -140,7 +141,7 @@ either-leads rules name first second from between to k j test room k_is j_is t u
           straight = refl;
           after = between;
           fits = test.fits;
-          within = test.within;
+          within = with-more rules between test.within;
           next = λ falls. subst (λ all. Meets between (slice_get all 0)) assoc
               (rise-behind t.frames (to ∷ []) (to ∷ others) rise between 0 t.begins);
           skipped = subst (λ all. Meets between (slice_get all k)) assoc skipped;
@@ -152,7 +153,7 @@ either-leads rules name first second from between to k j test room k_is j_is t u
             straight = refl;
             after = to;
             fits = refl;
-            within = tests.1;
+            within = with-more rules to tests.1;
             next = λ falls. absurd (false≢true falls);
             skipped = passed;
             owed = All-nil (λ at. Meets to (rules.owes at));
@@ -162,14 +163,44 @@ either-leads rules name first second from between to k j test room k_is j_is t u
       );
     }
 
+-- a test over code that never goes on behind it
+pub skips-lead : (rules : Rules) (name : BranchName) (first second : List Step) (from between to : TypeFrame) (k : ℕ)
+    → IsTest name from between → k ≡ length first → Leads rules first between between → Leads rules second between to
+    → Leads rules (Skips name k ∷ (first ++ second)) from to
+skips-lead rules name first second from between to k test k_is t u =
+    let others = u.frames ++ to ∷ [] in
+    let rise = begun-rises between others u.begins in
+    let assoc = sym (append_assoc t.frames u.frames (to ∷ [])) in
+    let types_first : Types rules first t.frames others = types-rise rules first t.frames (between ∷ []) others rise t.types in
+    let skipped : Meets between (slice_get (t.frames ++ others) k) = subst (Meets between)
+    (sym (place-behind rules first t.frames (between ∷ []) others 0 k t.types (omega (arith, k_is)))) u.begins in
+    record {
+      frames = from ∷ (t.frames ++ u.frames);
+      begins = same from;
+      types = (
+        test.plain,
+        record {
+          straight = refl;
+          after = between;
+          fits = test.fits;
+          within = with-more rules between test.within;
+          next = λ falls. subst (λ all. Meets between (slice_get all 0)) assoc
+              (rise-behind t.frames (between ∷ []) others rise between 0 t.begins);
+          skipped = subst (λ all. Meets between (slice_get all k)) assoc skipped;
+          owed = All-nil (λ at. Meets between (rules.owes at));
+        },
+        types-append rules first second t.frames u.frames (to ∷ []) types_first u.types,
+      );
+    }
+
 -- ---- code that leaves to other offsets
 
 none-owed : {X : Type 0} (P : X → Type 0) (xs : List X) → length xs ≡ 0 → All P xs
 none-owed P xs none = λ k d less. absurd (omega (arith, none, less))
 
 redirected-fits : (program : Program) (old new : ℕ → Option TypeFrame) (to : ℕ → ℕ) (s : Step) (f : TypeFrame) (behind : List TypeFrame)
-    → Carries to (record { program = program; owes = old }) (record { program = program; owes = new }) → is_no_switch s ≡ true
-    → Fits (record { program = program; owes = old }) s f behind → Fits (record { program = program; owes = new }) (redirected to s) f behind
+    → Carries to (record { program = program; owes = old; more = 2 }) (record { program = program; owes = new; more = 2 }) → is_no_switch s ≡ true
+    → Fits (record { program = program; owes = old; more = 2 }) s f behind → Fits (record { program = program; owes = new; more = 2 }) (redirected to s) f behind
 redirected-fits program old new to (Does i) f behind carries plain fit = record {
   straight = fit.straight;
   after = fit.after;
@@ -201,9 +232,9 @@ redirected-fits program old new to (Leaves target) f behind carries plain fit = 
 redirected-fits program old new to (Selects s) f behind carries plain fit = absurd (false≢true plain)
 
 redirected-types : (program : Program) (old new : ℕ → Option TypeFrame) (to : ℕ → ℕ) (code : List Step) (frames behind : List TypeFrame)
-    → Carries to (record { program = program; owes = old }) (record { program = program; owes = new }) → All (λ s. is_no_switch s ≡ true) code
-    → Types (record { program = program; owes = old }) code frames behind
-    → Types (record { program = program; owes = new }) (map (redirected to) code) frames behind
+    → Carries to (record { program = program; owes = old; more = 2 }) (record { program = program; owes = new; more = 2 }) → All (λ s. is_no_switch s ≡ true) code
+    → Types (record { program = program; owes = old; more = 2 }) code frames behind
+    → Types (record { program = program; owes = new; more = 2 }) (map (redirected to) code) frames behind
 redirected-types program old new to [] [] behind carries plain t = tt
 redirected-types program old new to [] (f ∷ frames) behind carries plain t = t
 redirected-types program old new to (s ∷ code) [] behind carries plain t = t
@@ -214,9 +245,9 @@ redirected-types program old new to (s ∷ code) (f ∷ frames) behind carries p
 )
 
 pub code-redirected : (program : Program) (old new : ℕ → Option TypeFrame) (to : ℕ → ℕ) (code : List Step) (from : TypeFrame)
-    (behind : List TypeFrame) → Carries to (record { program = program; owes = old }) (record { program = program; owes = new })
-    → All (λ s. is_no_switch s ≡ true) code → TypesFrom (record { program = program; owes = old }) code from behind
-    → TypesFrom (record { program = program; owes = new }) (map (redirected to) code) from behind
+    (behind : List TypeFrame) → Carries to (record { program = program; owes = old; more = 2 }) (record { program = program; owes = new; more = 2 })
+    → All (λ s. is_no_switch s ≡ true) code → TypesFrom (record { program = program; owes = old; more = 2 }) code from behind
+    → TypesFrom (record { program = program; owes = new; more = 2 }) (map (redirected to) code) from behind
 code-redirected program old new to code from behind carries plain t = record {
   frames = t.frames;
   begins = t.begins;

@@ -8,18 +8,18 @@ use Rattle.jvm_program.specs.Effect.{last_first}
 use Rattle.jvm_program.specs.Program.{Program, targets_of, falls_through}
 use Rattle.jvm_program.specs.Typing.{TypeFrame, exchanges, applied, call_type, given_by, type_effect, slots_of, with_stack}
 use Rattle.code_steps.specs.declared.step.Step.TheVariants.{Does}
-use Rattle.code_types.specs.Judging.{Rules, TakesGives, most_operands}
+use Rattle.code_types.specs.Judging.{Rules, TakesGives, few_operands}
 use Rattle.code_types.specs.Flowing.{Ahead, When, Behind, FlowsOver}
 
 when-from : (b : Bool) (T : Type 0) → b ≡ true → T → When b T
 when-from b T is t = subst (λ c. When c T) (sym is) t
 
 pub does-flow : (rules : Rules) (i : Instruction) (f g : TypeFrame) (ahead : Ahead) (Rest : Option TypeFrame → Ahead → Type 0)
-    → applied (type_effect rules.program i) f ≡ Some g → nat_le (slots_of g.stack) most_operands ≡ true → (length (targets_of i) == 0) ≡ true
+    → applied (type_effect rules.program i) f ≡ Some g → nat_le (slots_of g.stack) few_operands ≡ true → (length (targets_of i) == 0) ≡ true
     → Rest (if falls_through i then Some g else None) ahead → FlowsOver rules (Does i) f ahead Rest
 does-flow rules i f g ahead Rest fits room straight rest =
     subst (λ found. Behind found (λ g. When (length (targets_of i) == 0) (Rest (if falls_through i then Some g else None) ahead))) (sym fits)
-    (when-from (nat_le (slots_of g.stack) most_operands) (When (length (targets_of i) == 0)
+    (when-from (nat_le (slots_of g.stack) few_operands) (When (length (targets_of i) == 0)
     (Rest (if falls_through i then Some g else None) ahead)) room
     (when-from (length (targets_of i) == 0) (Rest (if falls_through i then Some g else None) ahead) straight rest))
 
@@ -33,7 +33,7 @@ call-typed program m parameters gives_int h =
 pub call-flows : (rules : Rules) (m : ℕ) (parameters : List Kind) (gives_int : Bool) (f : TypeFrame) (left : List Kind) (ahead : Ahead)
     (Rest : Option TypeFrame → Ahead → Type 0) → TakesGives rules.program m parameters gives_int
     → applied (exchanges (last_first parameters []) (given_by gives_int)) f ≡ Some (with_stack f (given_by gives_int ++ left))
-    → nat_le (slots_of (given_by gives_int ++ left)) most_operands ≡ true → Rest (Some (with_stack f (given_by gives_int ++ left))) ahead
+    → nat_le (slots_of (given_by gives_int ++ left)) few_operands ≡ true → Rest (Some (with_stack f (given_by gives_int ++ left))) ahead
     → FlowsOver rules (Does (Call m)) f ahead Rest
 call-flows rules m parameters gives_int f left ahead Rest h fits room rest =
     does-flow rules (Call m) f (with_stack f (given_by gives_int ++ left)) ahead Rest

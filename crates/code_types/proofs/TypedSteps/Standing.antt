@@ -28,7 +28,7 @@ use Rattle.code_steps.specs.declared.step.Step.{Step}
 use Rattle.code_steps.specs.declared.step.Step.TheVariants.{Does, Skips, Leaves, Selects}
 use Rattle.code_steps.specs.Widths.{width, instruction_width, bytes_before, int_width, lies_from, constant_width, local_width, array_width}
 use Rattle.code_steps.specs.Placing.{laid, placed_line, placed_instruction}
-use Rattle.code_types.specs.Judging.{Rules, Meets, Fits, Types, most_operands, typed_as}
+use Rattle.code_types.specs.Judging.{Rules, Meets, Fits, Types, few_operands, typed_as}
 use Rattle.code_types.specs.Bodies.{names_below, all_names_below, frame_in, HasBody}
 use Rattle.code_types.proofs.TypedSteps.KindOrder.{meets-below}
 
@@ -224,11 +224,11 @@ same-type program at (Leaves target) code = refl
 same-type program at (Selects s) code = refl
 
 step-follows : (rules : Rules) (method : LinkedMethod) (frames : Frames) (at : ℕ) (s : Step) (code : List Step) (f : TypeFrame)
-    (given : List TypeFrame) → most_operands ≤ method.stack → names_below method.locals (typed_as s) ≡ true → Fits rules s f given
+    (given : List TypeFrame) → few_operands + rules.more ≤ method.stack → names_below method.locals (typed_as s) ≡ true → Fits rules s f given
     → Placed method frames (at + width s) code given → Owed rules method frames → Follows rules.program method frames (placed_line at s code) f
 step-follows rules method frames at s code f given room named fit placed owed =
     let e = same-type rules.program at s code in
-    let few = leb-true (slots_of fit.after.stack) most_operands fit.within in
+    let few = leb-true (slots_of fit.after.stack) (few_operands + rules.more) fit.within in
     record {
       local = subst (λ effect. local_within effect method.locals) (sym e) (local-named rules.program method.locals (typed_as s) named);
       behind = fit.after;
@@ -239,7 +239,7 @@ step-follows rules method frames at s code f given room named fit placed owed =
 
 -- each step of code, by its offset
 steps-follow : (rules : Rules) (method : LinkedMethod) (frames : Frames) (code : List Step) (own behind : List TypeFrame) (at x : ℕ)
-    (line : LinkedLine) (f : TypeFrame) → most_operands ≤ method.stack → all_names_below method.locals code ≡ true → Types rules code own behind
+    (line : LinkedLine) (f : TypeFrame) → few_operands + rules.more ≤ method.stack → all_names_below method.locals code ≡ true → Types rules code own behind
     → Placed method frames at code (own ++ behind) → Owed rules method frames → line_in (laid at code) x ≡ Some line
     → frame_in at code own x ≡ Some f → Follows rules.program method frames line f
 steps-follow rules method frames [] own behind at x line f room named t placed owed there framed = absurd (none-some line there)

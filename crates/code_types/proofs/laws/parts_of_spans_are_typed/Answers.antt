@@ -3,7 +3,7 @@ use Rattle.code_types.proofs.TypedCode.Parts.{warm-part-leads, cold-part-leads}
 use Rattle.code_types.proofs.laws.parts_of_spans_are_typed.Goals as goal
 
 pub returns-clause-warm : goal.returns-clause-warm
-returns-clause-warm c units last rules at span behind place helpers lawful opens =
+returns-clause-warm c units last rules at span behind place room helpers plain lawful opens =
     let needing : NeedLaws = record {
       unit_known = c.needed_is_known.ensures.unit;
       first_known = c.needed_is_known.ensures.first;
@@ -15,13 +15,13 @@ returns-clause-warm c units last rules at span behind place helpers lawful opens
       gained_joined = c.gained_is_membership.ensures.joined;
       writes_numbers = c.units_are_lawful.ensures.written;
     } in
-    warm-part-leads rules needing laws helpers units last at span behind place lawful opens
+    warm-part-leads rules room needing helpers laws units last at span behind place plain lawful opens
 
 pub returns-clause-cold : goal.returns-clause-cold
-returns-clause-cold c unit rules at span behind helpers lawful opens =
+returns-clause-cold c unit rules at span behind room helpers lawful opens =
     let needing : NeedLaws = record {
       unit_known = c.needed_is_known.ensures.unit;
       first_known = c.needed_is_known.ensures.first;
       others_known = c.needed_is_known.ensures.others;
     } in
-    cold-part-leads rules needing helpers unit at span behind lawful opens
+    cold-part-leads rules room needing helpers unit at span behind lawful opens

@@ -3,7 +3,7 @@ use Rattle.code_types.proofs.TypedCode.Pieces.{warm-lead, cold-lead}
 use Rattle.code_types.proofs.laws.pieces_are_typed.Goals as goal
 
 pub returns-clause-pieces : goal.returns-clause-pieces
-returns-clause-pieces c units rules at helpers lawful =
+returns-clause-pieces c units last rules at room helpers plain lawful =
     let needing : NeedLaws = record {
       unit_known = c.needed_is_known.ensures.unit;
       first_known = c.needed_is_known.ensures.first;
@@ -15,13 +15,13 @@ returns-clause-pieces c units rules at helpers lawful =
       gained_joined = c.gained_is_membership.ensures.joined;
       writes_numbers = c.units_are_lawful.ensures.written;
     } in
-    warm-lead rules needing laws helpers units at lawful
+    warm-lead rules room needing laws helpers units last at plain lawful
 
 pub returns-clause-words : goal.returns-clause-words
-returns-clause-words c unit rules at helpers lawful =
+returns-clause-words c unit rules at room helpers lawful =
     let needing : NeedLaws = record {
       unit_known = c.needed_is_known.ensures.unit;
       first_known = c.needed_is_known.ensures.first;
       others_known = c.needed_is_known.ensures.others;
     } in
-    cold-lead rules needing helpers unit at lawful
+    cold-lead rules room needing helpers unit at lawful

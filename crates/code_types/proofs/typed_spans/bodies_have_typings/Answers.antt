@@ -3,7 +3,7 @@ use Rattle.code_types.proofs.typed_spans.bodies_have_typings.Goals as goal
 
 pub returns : goal.returns
 returns c program owes method code lines parameters operands body =
-    body-typed (record { program = program; owes = owes }) method code (record {
+    body-typed (record { program = program; owes = owes; more = 2 }) method code (record {
       lines_are = lines;
       parameters = parameters;
       operands = operands;
