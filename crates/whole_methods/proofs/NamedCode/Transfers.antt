@@ -1,7 +1,7 @@
 -- The code of branches and jumps, where that of the delay slot names well.
 use Rattle.std.proofs.Common.{ℕ, ◌+◌, ◌<◌, Bool, true, false, List, [], ◌∷◌, ◌++◌, length, Some, refl, arith}
 use Rattle.mips_decode.specs.Branches.{equal_likely, zero_likely, sign_likely}
-use Rattle.mips_decode.specs.Targets.{branch_target, jump_target}
+use Rattle.mips_decode.specs.Targets.{branch_target}
 use Rattle.mips_decode.specs.declared.names.branch_sign_name.BranchSignName.{BranchSignName}
 use Rattle.mips_decode.specs.declared.names.branch_sign_name.BranchSignName.TheVariants.{Bltz, Bgez, Bltzal, Bgezal, Bltzl, Bgezl, Bltzall, Bgezall}
 use Rattle.mips_decode.specs.declared.names.jump_name.JumpName.{JumpName}
@@ -11,10 +11,11 @@ use Rattle.mips_decode.specs.declared.inst.Inst.TheVariants as inst
 use Rattle.block_builder.specs.Registers.{read_by, written_by}
 use Rattle.jvm_names.specs.declared.branch_name.BranchName.{BranchName}
 use Rattle.jvm_names.specs.declared.branch_name.BranchName.TheVariants.{Goto}
+use Rattle.jvm_program.specs.declared.instruction.Instruction.TheVariants.{Nop}
 use Rattle.code_steps.specs.declared.step.Step.{Step}
-use Rattle.code_steps.specs.declared.step.Step.TheVariants.{Skips}
+use Rattle.code_steps.specs.declared.step.Step.TheVariants.{Does, Skips}
 use Rattle.guest_code.specs.Access.{get_register}
-use Rattle.guest_code.specs.Branching.{settle_code, goes_to_code, behind_slot, link_code, equal_test, zero_test, sign_test, sign_link, jump_link, conditional_code, transfer_code}
+use Rattle.guest_code.specs.Branching.{goes_to_code, behind_slot, link_code, equal_test, zero_test, sign_test, sign_link, jump_link, conditional_code, transfer_code}
 use Rattle.lawful_units.specs.Knowing.{AreNumbers}
 use Rattle.whole_methods.specs.Naming.{is_helper}
 use Rattle.whole_methods.proofs.NamedCode.Steps.{Well, StepWell, well-append, get-well, put-well}
@@ -46,7 +47,7 @@ module _ (class : ℕ) (gives : Bool) (bank at : ℕ) (slot : List Step) (slot_i
 
   conditional : (likely : Bool) (test : BranchName) (target behind : ℕ) (link : List Step) → Named link
       → Named (conditional_code likely test target behind link slot)
-  conditional false test target behind link h = then-slot settle_code link refl h
+  conditional false test target behind link h = joined link slot h slot_is
   conditional true test target behind link h =
       joined (goes_to_code behind ++ link) (Skips Goto (4 + length link + length slot) ∷ (goes_to_code target ++ link ++ slot))
       (joined (goes_to_code behind) link refl h) (then-slot (goes_to_code target) link refl h)
@@ -82,10 +83,8 @@ module _ (class : ℕ) (gives : Bool) (bank at : ℕ) (slot : List Step) (slot_i
       (conditional_code (sign_likely name) (sign_test name) (branch_target at imm) (behind_slot at) link slot) (one rs reads.0)
       (conditional (sign_likely name) (sign_test name) (branch_target at imm) (behind_slot at) link (sign-links name))
   transfer-well (inst.Jump name index) reads writes =
-      then-slot (goes_to_code (jump_target at index)) (link_code bank (jump_link name) at) refl (jump-links name)
-  transfer-well (inst.JumpRegister rs) reads writes =
-      joined (get_register bank rs ∷ []) (settle_code ++ slot) (one rs reads.0) (joined settle_code slot refl slot_is)
+      then-slot (Does Nop ∷ []) (link_code bank (jump_link name) at) refl (jump-links name)
+  transfer-well (inst.JumpRegister rs) reads writes = joined (get_register bank rs ∷ []) slot (one rs reads.0) slot_is
   transfer-well (inst.JumpAndLinkRegister rs rd) reads writes =
-      joined (get_register bank rs ∷ []) (settle_code ++ link_code bank (Some rd) at ++ slot) (one rs reads.0)
-      (then-slot settle_code (link_code bank (Some rd) at) refl (link-some rd writes.0))
+      then-slot (get_register bank rs ∷ []) (link_code bank (Some rd) at) (one rs reads.0) (link-some rd writes.0)
   transfer-well other reads writes = slot_is

@@ -37,7 +37,7 @@ module _ (r : References) (fields : ℕ) (have : fields ≤ length r.fields) (ca
       → IsBody program owes parameters locals code → 0 < length code → size code < 2 ^ 15 → list_all is_no_switch code ≡ true
       → all_well_of fields calls class gives code ≡ true → CanBeMethod r code
   body-can-be program owes parameters locals code body some near plain is =
-      let rules : Rules = record { program = program; owes = owes } in
+      let rules : Rules = record { program = program; owes = owes; more = 2 } in
       can-be r code some (omega (arith, near))
       (operations r fields have calls called class gives rules code body.types.body.frames [] body.types.body.types (omega arith) near plain is)
       (no-padding code 0 plain) (targets-are-lines rules code (taking parameters) body.types)

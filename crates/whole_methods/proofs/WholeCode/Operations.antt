@@ -47,13 +47,13 @@ no-switch-append (s ∷ xs) ys front back =
 
 -- typed code that leaves to no offset has none
 pub no-switches : (program : Program) (code : List Step) (frames behind : List TypeFrame)
-    → Types (record { program = program; owes = owes_nothing }) code frames behind → list_all is_no_switch code ≡ true
+    → Types (record { program = program; owes = owes_nothing; more = 2 }) code frames behind → list_all is_no_switch code ≡ true
 no-switches program [] frames behind t = refl
 no-switches program (s ∷ code) [] behind t = absurd t
 no-switches program (s ∷ code) (f ∷ frames) behind t =
     and_from (is_no_switch s) (list_all is_no_switch code) (by_step s t.1) (no-switches program code frames behind t.2)
   where
-    by_step : (s : Step) → Fits (record { program = program; owes = owes_nothing }) s f (frames ++ behind) → is_no_switch s ≡ true
+    by_step : (s : Step) → Fits (record { program = program; owes = owes_nothing; more = 2 }) s f (frames ++ behind) → is_no_switch s ≡ true
     by_step (Does instruction) fit = refl
     by_step (Skips name k) fit = refl
     by_step (Leaves target) fit = refl

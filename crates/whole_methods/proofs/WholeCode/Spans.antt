@@ -155,7 +155,7 @@ module _ (units : List Unit) (leads : ℕ → Bool) (span : SpanWords) where
     pub span-can-be : SpanTyped of_helpers units leads span → switches_are_placed 0 (span_code units leads span) ≡ true → span.first < span.end
         → size (span_code units leads span) ≤ 65535 → CanBeMethod r (span_code units leads span)
     span-can-be typed placed some small =
-        let rules : Rules = record { program = of_helpers; owes = owes_unknown (goals_of units leads span) } in
+        let rules : Rules = record { program = of_helpers; owes = owes_unknown (goals_of units leads span); more = 2 } in
         let targets = targets_of units leads span in
         let otherwise = return_offset units leads span in
         let parts = warm_before units leads span span.end ++ cold_before units leads span span.end in

@@ -1,5 +1,5 @@
 -- The code of units and of pieces has operations.
-use Rattle.std.proofs.Common.{◌≡◌, ℕ, zero, suc, ◌+◌, ◌<◌, ◌≤◌, Bool, true, false, if◌then◌else◌, List, [], ◌∷◌, ◌++◌, All, length, refl, arith}
+use Rattle.std.proofs.Common.{ℕ, zero, suc, ◌+◌, ◌<◌, ◌≤◌, Bool, true, false, if◌then◌else◌, List, [], ◌∷◌, ◌++◌, All, length, refl, arith}
 use Rattle.std.specs.List.{flat_map, range_with_len}
 use Rattle.std.proofs.lemmas.Bool.{and_from}
 use Rattle.std.proofs.lemmas.List.Elements.{All-head, All-tail}
@@ -40,8 +40,9 @@ pub record UnitLaws : Type 0 where
 module _ (r : References) (has : HasHelpers r) (laws : UnitLaws) where
   pub unit-operates : (bank : ℕ) (unit : Unit) (at : ℕ) → IsLawful unit → Operates r (unit_code bank unit at)
   unit-operates bank unit at lawful =
-      let rules : Rules = record { program = of_helpers; owes = owes_nothing } in
-      let t = laws.typed unit rules bank (λ r. true) Top at helper-types lawful (laws.known unit (λ d. true) lawful (λ d positive below is. refl)) in
+      let rules : Rules = record { program = of_helpers; owes = owes_nothing; more = 2 } in
+      let t = laws.typed unit rules bank (λ r. true) Top at (omega arith) helper-types lawful
+      (laws.known unit (λ d. true) lawful (λ d positive below is. refl)) in
       let small = laws.small bank unit at in
       operations r 38 has.fields is_helper (helpers-called r has) 0 false rules (unit_code bank unit at) t.frames _ t.types (omega arith)
       (omega (arith, small, unit-small unit)) (no-switches of_helpers (unit_code bank unit at) t.frames _ t.types) (laws.well 0 false bank at unit lawful)
@@ -49,7 +50,7 @@ module _ (r : References) (has : HasHelpers r) (laws : UnitLaws) where
   -- a guard names the field of the meter too
   pub guard-operates : 39 ≤ length r.fields → (unit : Unit) (at : ℕ) → IsLawful unit → Operates r (guard_code unit at)
   guard-operates more unit at lawful =
-      let rules : Rules = record { program = of_helpers; owes = owes_nothing } in
+      let rules : Rules = record { program = of_helpers; owes = owes_nothing; more = 2 } in
       let t = laws.guards unit rules at in
       let small = guard-bytes unit at in
       operations r 39 more is_helper (helpers-called r has) 0 false rules (guard_code unit at) t.frames _ t.types (omega arith)
