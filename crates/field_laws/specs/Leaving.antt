@@ -74,7 +74,7 @@ UnitsLeaveOthers =
     → HoldsOn bank known w x
     → Follows site at (at + size (unit_code bank unit x.pc)) (turn_count (unit_turns unit x))
     (132 * turn_count (unit_turns unit x)) (whole_weight order (unit_code bank unit x.pc))
-    (Leaving f w.fields (UnitArrives bank known unit w)) (stands site at w)
+    (Leaving f w.fields (UnitArrives bank known unit x.pc w)) (stands site at w)
     (last_turn (unit_turns unit x))
 
 -- So does that of a piece.
@@ -94,7 +94,7 @@ PiecesLeaveOthers =
     → HoldsAll w x
     → Follows site at (at + size (warm_code piece x.pc)) (piece_turns piece x).0
     (256 * (piece_turns piece x).0) (whole_weight order (warm_code piece x.pc))
-    (Leaving f w.fields (PieceArrives piece w)) (stands site at w) (piece_turns piece x).1
+    (Leaving f w.fields (PieceArrives piece x.pc w)) (stands site at w) (piece_turns piece x).1
 
 -- In the method of a span, from the code of a word to where the classes go on, it is left alone while they follow so many turns of the guest.
 abbrev pub WordLeaves : ℕ → Site → Order → List Unit → (ℕ → Bool) → SpanWords → WordIndex

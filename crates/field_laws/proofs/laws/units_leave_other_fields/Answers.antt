@@ -14,7 +14,7 @@ returns-clause-units c unit site order bank known at f w x lawful other ready or
     let code = unit_code bank unit x.pc in
     let turns = unit_turns unit x in
     follows-leaving site (at + size code) (132 * turn_count turns) f (whole_weight order code)
-    (c.code_writes_the_layout.ensures.units order bank x.pc unit lawful f other) w.fields (UnitArrives bank known unit w) at
+    (c.code_writes_the_layout.ensures.units order bank x.pc unit lawful f other) w.fields (UnitArrives bank known unit x.pc w) at
     (turn_count turns) (stands site at w) (last_turn turns) refl
     (c.units_are_followed.ensures unit lawful site order bank known at w x ready order_is lies knows held)
 
@@ -23,6 +23,6 @@ returns-clause-pieces c piece site order at f w x some lawful straight other rea
     let code = warm_code piece x.pc in
     let turns = piece_turns piece x in
     follows-leaving site (at + size code) (256 * turns.0) f (whole_weight order code)
-    (c.code_writes_the_layout.ensures.pieces order x.pc piece lawful f other) w.fields (PieceArrives piece w) at
+    (c.code_writes_the_layout.ensures.pieces order x.pc piece lawful f other) w.fields (PieceArrives piece x.pc w) at
     turns.0 (stands site at w) turns.1 refl
     (c.pieces_are_followed.ensures piece some lawful straight site order at w x ready order_is pending below lies held)
