@@ -1,4 +1,5 @@
 mod UnitLemmas
+mod PartLemmas
 pub mod TurnLemmas
 pub mod PlaceLemmas
 pub mod RunLemmas

@@ -3,6 +3,7 @@ ghost use Rattle.std.specs.Prelude.{◌≡◌, ◌<◌, IfOk, IsTrue, length};
 ghost use Rattle.mips_decode.specs.Table.{inst};
 ghost use Rattle.delay_slots.specs.Units.{is_branch, branch_unit, unit_of, units_of, HasNoFloat};
 
+use crate::range_units::RangeUnits;
 use crate::unit::Unit;
 use mips_decode::fault_kinds::{BREAK, RESERVED};
 use mips_decode::{Inst, decode};
@@ -16,23 +17,18 @@ pub type NoMemory = AllocError;
 /// The range is not empty and has no word of the floating-point coprocessor.
 ///
 /// # Errors
-/// Want of memory for the units.
-pub fn units(alloc: Global, words: &[u32]) -> Result<Vec<Unit>, NoMemory>
+/// Want of memory for the words, which the units keep.
+pub fn units(alloc: Global, words: &[u32]) -> Result<RangeUnits, NoMemory>
     requires some_words { 0 < length words.now }
     requires no_float { HasNoFloat words.now }
-    ensures { IfOk result (λ units. units.items ≡ units_of words.now) }
+    ensures { IfOk result (λ units. units ≡ units_of words.now) }
 {
-    let mut units = Vec::new(alloc);
-    let mut rest = words;
-    while let Some((word, following)) = rest.split_first() {
-        units.push(unit(decode(*word), following))?;
-        rest = following;
-    }
-    Ok(units)
+    let words = Vec::from_slice(alloc, words)?;
+    Ok(RangeUnits::of(alloc, words))
 }
 
 /// The unit of an instruction before the words that follow it in its range.
-fn unit(inst: Inst, following: &[u32]) -> Unit
+pub fn unit(inst: Inst, following: &[u32]) -> Unit
     ensures { result ≡ unit_of inst following.now }
 {
     match inst {
