@@ -7,7 +7,7 @@ use crate::block::Block;
 use crate::leaders::leader_flags;
 use crate::registers::{unit_reads, unit_writes};
 use crate::targets::{is_plain, words_of};
-use delay_slots::Unit;
+use delay_slots::RangeUnits;
 use std::alloc::{AllocError, Global};
 
 /// Want of memory, the one error of `blocks`.
@@ -23,7 +23,7 @@ pub type NoMemory = AllocError;
 ///
 /// # Errors
 /// Want of memory for the blocks.
-pub fn blocks(alloc: Global, units: &[Unit], start: u32) -> Result<Vec<Block>, NoMemory>
+pub fn blocks(alloc: Global, units: &RangeUnits, start: u32) -> Result<Vec<Block>, NoMemory>
     requires are_units { AreUnits units.now }
     requires aligned { start % 4 ≡ 0 }
     requires below_end { start + 4 * length units.now < 2 ^ 32 }
@@ -49,7 +49,7 @@ pub fn blocks(alloc: Global, units: &[Unit], start: u32) -> Result<Vec<Block>, N
 /// if the slot's word is left out.
 ///
 /// The words lie in the block.
-pub fn part(units: &[Unit], block: &Block, first: u32, words: u32) -> Block
+pub fn part(units: &RangeUnits, block: &Block, first: u32, words: u32) -> Block
     requires piece { IsPiece units.now block.now }
     requires begins_within { block.now.first ≤ first }
     requires ends_within { first + words ≤ block.now.first + block.now.words }
@@ -60,17 +60,16 @@ pub fn part(units: &[Unit], block: &Block, first: u32, words: u32) -> Block
 }
 
 /// So many words of the range from one on, with the registers that their units read and write.
-pub fn words_from(units: &[Unit], first: u32, words: u32) -> Block
+pub fn words_from(units: &RangeUnits, first: u32, words: u32) -> Block
     requires { first + words ≤ length units.now }
     ensures { result ≡ blocks.part_of units.now first words }
 {
-    let (_, rest) = units.split_at(first as usize);
-    let (own, _) = rest.split_at(words as usize);
     let mut reads = 0;
     let mut writes = 0;
-    for unit in own {
-        reads |= unit_reads(unit);
-        writes |= unit_writes(unit);
+    for k in 0..words as usize {
+        let unit = units.at(first as usize + k);
+        reads |= unit_reads(&unit);
+        writes |= unit_writes(&unit);
     }
     Block {
         first,
@@ -81,7 +80,7 @@ pub fn words_from(units: &[Unit], first: u32, words: u32) -> Block
 }
 
 /// The block that begins at a leader.
-fn block_from(units: &[Unit], leaders: &[bool], first: usize) -> Block
+fn block_from(units: &RangeUnits, leaders: &[bool], first: usize) -> Block
     requires are_units { AreUnits units.now }
     requires few { length units.now < 2 ^ 32 }
     requires same_len { length leaders.now ≡ length units.now }
@@ -89,12 +88,12 @@ fn block_from(units: &[Unit], leaders: &[bool], first: usize) -> Block
     ensures { result ≡ blocks.block_from units.now (λ k. slice_index_or leaders.now k false) first }
 {
     let last = end_of(units, leaders, first);
-    let words = last - first + words_of(&units[last]);
+    let words = last - first + words_of(&units.at(last));
     words_from(units, first as u32, words as u32)
 }
 
 /// The last word of the block that begins at a leader, apart from that of a delay slot.
-fn end_of(units: &[Unit], leaders: &[bool], first: usize) -> usize
+fn end_of(units: &RangeUnits, leaders: &[bool], first: usize) -> usize
     requires same_len { length leaders.now ≡ length units.now }
     requires within { first < length units.now }
     ensures value { result ≡ blocks.end_of units.now (λ k. slice_index_or leaders.now k false)
@@ -110,10 +109,10 @@ fn end_of(units: &[Unit], leaders: &[bool], first: usize) -> usize
 }
 
 /// Whether a block ends with the unit of a word: it is not Plain, or it is the range's last, or a leader follows.
-pub fn ends(units: &[Unit], leaders: &[bool], word: usize) -> bool
+pub fn ends(units: &RangeUnits, leaders: &[bool], word: usize) -> bool
     requires same_len { length leaders.now ≡ length units.now }
     requires within { word < length units.now }
     ensures { result ≡ blocks.ends units.now (λ k. slice_index_or leaders.now k false) word }
 {
-    !is_plain(&units[word]) || word + 1 == units.len() || leaders[word + 1]
+    !is_plain(&units.at(word)) || word + 1 == units.len() || leaders[word + 1]
 }

@@ -3,7 +3,7 @@ ghost use Rattle.std.specs.Prelude.{◌≡◌, ◌+◌, ◌*◌, ◌%◌, ◌^�
 ghost use Rattle.block_builder.specs.Leaders.{AreLeaders, Marks, is_at, is_plain, words_of};
 
 use crate::targets::{direct, is_plain, words_of};
-use delay_slots::Unit;
+use delay_slots::{RangeUnits, Unit};
 use std::alloc::{AllocError, Global};
 
 /// Which words of one whole range of code are leaders, by its units: the first word, each direct target within the range, the word behind
@@ -12,17 +12,18 @@ use std::alloc::{AllocError, Global};
 ///
 /// # Errors
 /// Want of memory for the flags, one for each word.
-pub fn leader_flags(alloc: Global, units: &[Unit], start: u32) -> Result<Vec<bool>, AllocError>
+pub fn leader_flags(alloc: Global, units: &RangeUnits, start: u32) -> Result<Vec<bool>, AllocError>
     requires aligned { start % 4 ≡ 0 }
     requires below_end { start + 4 * length units.now < 2 ^ 32 }
     ensures { IfOk result (λ flags. AreLeaders units.now start flags.items) }
 {
     let mut flags = vec![in alloc; false; units.len()]?;
     mark(&mut flags, 0);
-    for (word, unit) in units.iter().enumerate() {
-        let target = direct(unit, start + 4 * word as u32);
+    for word in 0..units.len() {
+        let unit = units.at(word);
+        let target = direct(&unit, start + 4 * word as u32);
         mark_target(&mut flags, start, target);
-        mark_behind(&mut flags, unit, word);
+        mark_behind(&mut flags, &unit, word);
     }
     Ok(flags)
 }

@@ -1,7 +1,5 @@
 use Rattle.std.proofs.Common.{◌≡◌, ℕ, Bool, false, ◌∙◌, ap, arith}
 use Rattle.std.specs.Prelude.{slice_index_or}
-use Rattle.std.proofs.lemmas.List.{get_or_default}
-use Rattle.delay_slots.specs.declared.unit.Unit.TheVariants.{Call}
 use Rattle.block_builder.specs.Leaders.{words_of}
 use Rattle.block_builder.specs.Blocks.{unit_at, end_of}
 use Rattle.block_builder.proofs.BlockLemmas.{block_fits}
@@ -12,7 +10,7 @@ overflow_cast-words c =
     let units = c.args.units.now in
     let leads : ℕ → Bool = λ k. slice_index_or c.args.leaders.now k false in
     let last : c.end_of-last.result ≡ end_of units leads c.args.first = c.end_of-last.ensures.value in
-    let words : c.words_of.result ≡ words_of (unit_at units (end_of units leads c.args.first)) = c.words_of.ensures ∙ ap words_of (get_or_default units c.end_of-last.result _ Call c.end_of-last.ensures.within) ∙ ap (λ k. words_of (unit_at units k)) last in
+    let words : c.words_of.result ≡ words_of (unit_at units (end_of units leads c.args.first)) = c.words_of.ensures ∙ ap words_of c.at.ensures ∙ ap (λ k. words_of (unit_at units k)) last in
     omega (arith, last, words, block_fits units leads c.args.first c.requires.are_units c.requires.within, c.requires.few)
 
 pub words_from-requires : goal.words_from-requires
@@ -20,5 +18,5 @@ words_from-requires c =
     let units = c.args.units.now in
     let leads : ℕ → Bool = λ k. slice_index_or c.args.leaders.now k false in
     let last : c.end_of-last.result ≡ end_of units leads c.args.first = c.end_of-last.ensures.value in
-    let words : c.words_of.result ≡ words_of (unit_at units (end_of units leads c.args.first)) = c.words_of.ensures ∙ ap words_of (get_or_default units c.end_of-last.result _ Call c.end_of-last.ensures.within) ∙ ap (λ k. words_of (unit_at units k)) last in
+    let words : c.words_of.result ≡ words_of (unit_at units (end_of units leads c.args.first)) = c.words_of.ensures ∙ ap words_of c.at.ensures ∙ ap (λ k. words_of (unit_at units k)) last in
     omega (arith, last, words, block_fits units leads c.args.first c.requires.are_units c.requires.within)

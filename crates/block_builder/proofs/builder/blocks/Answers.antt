@@ -1,4 +1,4 @@
-use Rattle.std.proofs.Common.{◌≡◌, ◌+◌, ◌-◌, ◌++◌, ◌<◌, ℕ, Bool, false, List, [], ◌∷◌, length, map, sym, ◌∙◌, ap, subst}
+use Rattle.std.proofs.Common.{◌≡◌, ◌+◌, ◌-◌, ◌++◌, ◌<◌, ℕ, Bool, false, List, [], ◌∷◌, length, map, sym, ◌∙◌, ap, subst, arith}
 use Rattle.std.specs.Prelude.{slice_index_or, filter}
 use Rattle.std.specs.List.{All, range_with_len}
 use Rattle.block_builder.specs.Leaders.{AreLeaders}
@@ -20,10 +20,10 @@ loop-first-preserved c =
     elim c.if-flags-first.branch [
       | then-flags-first+in_ok-push w ↦
           let found : c.if-flags-first.found.items ≡ sofar ++ (block first ∷ []) = ap (λ v. v.items) w.found-is ∙ w.in_ok-push.ensures.items ∙ ap (λ (b : Block). sofar ++ (b ∷ [])) w.block_from.ensures in
-          subst (λ (bs : List Block). bs ++ rest ≡ all) (sym found) (block_more block flags first n sofar all c.loop-first-test.true w.if-flags-first.true c.loop-first.invariant)
+          subst (λ (bs : List Block). bs ++ rest ≡ all) (sym found) (block_more block flags first n sofar all (omega (arith, c.loop-first-test.true, c.len-first-end.ensures)) w.if-flags-first.true c.loop-first.invariant)
       | else-flags-first w ↦
           let found : c.if-flags-first.found.items ≡ sofar = ap (λ v. v.items) w.found-is in
-          subst (λ (bs : List Block). bs ++ rest ≡ all) (sym found) (ap (λ (bs : List Block). sofar ++ bs) (block_skipped block flags first n c.loop-first-test.true w.if-flags-first.false) ∙ c.loop-first.invariant)
+          subst (λ (bs : List Block). bs ++ rest ≡ all) (sym found) (ap (λ (bs : List Block). sofar ++ bs) (block_skipped block flags first n (omega (arith, c.loop-first-test.true, c.len-first-end.ensures)) w.if-flags-first.false) ∙ c.loop-first.invariant)
     ]
 
 all : (c : goal.After-drop-leaders-2) → c.loop-first.found.items ≡ blocks_of c.args.units.now c.args.start
@@ -31,7 +31,7 @@ all c =
     let flags : ℕ → Bool = λ k. slice_index_or c.as_slice-flags.result.now k false in
     let known : AreLeaders c.args.units.now c.args.start c.as_slice-flags.result.now = subst (λ (fs : List Bool). AreLeaders c.args.units.now c.args.start fs) (sym c.as_slice-flags.ensures.value) c.in_ok-leaders.ensures in
     let leads = known.leads in
-    blocks_done (block_from c.args.units.now flags) flags c.loop-first.first (length c.args.units.now) c.loop-first.found.items _ c.loop-first-test.false c.loop-first.invariant
+    blocks_done (block_from c.args.units.now flags) flags c.loop-first.first (length c.args.units.now) c.loop-first.found.items _ (omega (arith, c.loop-first-test.false, c.len-first-end.ensures)) c.loop-first.invariant
     ∙ blocks_by_flags c.args.units.now flags c.args.start leads
 
 pub returns-clause-value : goal.returns-clause-value
