@@ -14,7 +14,7 @@ use crate::span_error::SpanError;
 use crate::span_words::SpanWords;
 use crate::stretch::Stretch;
 use block_builder::Block;
-use delay_slots::Unit;
+use delay_slots::RangeUnits;
 use std::alloc::Global;
 
 /// The warm code of pieces, and the code of other words.
@@ -34,7 +34,7 @@ pub struct Body {
 /// Lays down the code of all words of a span.
 pub fn append_words(
     alloc: Global,
-    units: &[Unit],
+    units: &RangeUnits,
     leads: &[bool],
     span: SpanWords,
     body: &mut Body,
@@ -55,7 +55,7 @@ pub fn append_words(
 
 fn append_word(
     alloc: Global,
-    units: &[Unit],
+    units: &RangeUnits,
     leads: &[bool],
     span: SpanWords,
     k: u32,
@@ -79,7 +79,7 @@ fn append_word(
 
 fn append_piece(
     alloc: Global,
-    units: &[Unit],
+    units: &RangeUnits,
     leads: &[bool],
     span: SpanWords,
     k: u32,
@@ -108,7 +108,7 @@ fn append_piece(
 
 fn append_inner(
     alloc: Global,
-    units: &[Unit],
+    units: &RangeUnits,
     leads: &[bool],
     span: SpanWords,
     k: u32,

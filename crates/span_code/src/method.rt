@@ -21,7 +21,7 @@ use crate::stretch::Stretch;
 use crate::targets::targets_of;
 use block_builder::Block;
 use code_steps::Step;
-use delay_slots::Unit;
+use delay_slots::RangeUnits;
 use std::alloc::Global;
 
 /// A switch has 4 bytes for each word, so the code of more words than these is too long.
@@ -52,7 +52,7 @@ pub struct SpanMethod {
 /// TooLong where the code has more than 65,535 bytes, and NoMemory.
 pub fn span_method(
     alloc: Global,
-    units: &[Unit],
+    units: &RangeUnits,
     leads: &[bool],
     metered: bool,
     start: u32,
@@ -88,7 +88,7 @@ pub fn span_method(
 
 fn method_of(
     alloc: Global,
-    units: &[Unit],
+    units: &RangeUnits,
     leads: &[bool],
     span: SpanWords,
 ) -> Result<SpanMethod, SpanError>
@@ -139,7 +139,7 @@ fn begun(alloc: Global, span: SpanWords) -> Result<Body, SpanError>
 // All words are laid down.
 fn finished(
     alloc: Global,
-    units: &[Unit],
+    units: &RangeUnits,
     leads: &[bool],
     span: SpanWords,
     body: Body,

@@ -1,6 +1,8 @@
 //! The code of words before it is laid down: steps that leave name addresses.
 ghost use Rattle.std.specs.Prelude.{◌≡◌, ◌+◌, ◌-◌, ◌*◌, ◌^◌, ◌<◌, ◌≤◌, ◌++◌, if◌then◌else◌, IfOk, IsTrue, OnOk, length};
+ghost use Rattle.word_emitter.specs.Exits.{exit_code};
 ghost use Rattle.word_emitter.specs.Pieces.{ends_with_slot, piece_units};
+ghost use Rattle.span_code.specs.Neighbours.{address};
 ghost use Rattle.span_code.specs.Pieces as pieces;
 ghost use Rattle.span_code.specs.Pieces.{flagged};
 ghost use Rattle.span_code.specs.Parts as parts;
@@ -10,7 +12,7 @@ use crate::neighbours::{next_inner, next_piece};
 use crate::span_words::SpanWords;
 use block_builder::{Block, words_of};
 use code_steps::Step;
-use delay_slots::Unit;
+use delay_slots::{RangeUnits, Unit};
 use guest_code::{Bank, append_unit};
 use meter::append_guard;
 use std::alloc::Global;
@@ -25,7 +27,7 @@ const STEPS: usize = 16;
 /// Want of memory for the code.
 pub fn warm_part(
     alloc: Global,
-    units: &[Unit],
+    units: &RangeUnits,
     leads: &[bool],
     span: SpanWords,
     k: u32,
@@ -39,11 +41,11 @@ pub fn warm_part(
     ensures { IfOk result (λ code. code.items
         ≡ parts.warm_part units.now (flagged leads.now) span k) }
 {
-    let own = own_units(units, piece);
+    let own = own_units(alloc, units, piece)?;
     let last = k + (own.len() - 1) as u32;
     let mut code = Vec::with_capacity(alloc, STEPS)?;
-    append_warm(alloc, own, span.address(k), &mut code)?;
-    append_exit_of(units, span, next_piece(leads, span, k), last, &mut code)?;
+    append_warm(alloc, &own, span.address(k), &mut code)?;
+    append_exit_of(&units.at(last as usize), span, next_piece(leads, span, k), last, &mut code)?;
     Ok(code)
 }
 
@@ -53,7 +55,7 @@ pub fn warm_part(
 /// Want of memory for the code.
 pub fn cold_part(
     alloc: Global,
-    units: &[Unit],
+    units: &RangeUnits,
     leads: &[bool],
     span: SpanWords,
     k: u32,
@@ -66,15 +68,10 @@ pub fn cold_part(
         ≡ parts.cold_part units.now (flagged leads.now) span k) }
 {
     let mut code = Vec::with_capacity(alloc, STEPS)?;
-    append_front(span.metered, &units[k as usize], span.address(k), &mut code)?;
-    append_unit(
-        alloc,
-        &Bank::cold(),
-        &units[k as usize],
-        span.address(k),
-        &mut code,
-    )?;
-    append_exit_of(units, span, next_inner(leads, span, k), k, &mut code)?;
+    let unit = units.at(k as usize);
+    append_front(span.metered, &unit, span.address(k), &mut code)?;
+    append_unit(alloc, &Bank::cold(), &unit, span.address(k), &mut code)?;
+    append_exit_of(&unit, span, next_inner(leads, span, k), k, &mut code)?;
     Ok(code)
 }
 
@@ -103,41 +100,40 @@ pub fn extent(span: SpanWords) -> Extent
 }
 
 fn append_exit_of(
-    units: &[Unit],
+    unit: &Unit,
     span: SpanWords,
     behind: Option<u32>,
     k: u32,
     code: &mut Vec<Step>,
 ) -> Result<(), NoMemory>
-    requires ordered { (span.first ≤ span.end) × (span.end ≤ length units.now) }
-    requires below_end { span.start + 4 * length units.now < 2 ^ 32 }
-    requires within { k < length units.now }
+    requires ordered { span.first ≤ span.end }
+    requires below_end { span.start + 4 * span.end < 2 ^ 32 }
+    requires within { k < span.end }
     ensures { OnOk result (code.new.items ≡ code.old.items
-        ++ parts.exit_of units.now span behind k) }
+        ++ exit_code (parts.extent span) behind unit.now (address span k)) }
 {
     append_exit(
         extent(span),
         behind,
-        &units[k as usize],
+        unit,
         span.address(k),
         code,
     )
 }
 
 /// The units of a piece: the word of the delay slot of its branch is in the branch's unit.
-fn own_units<'a>(units: &'a [Unit], piece: &Block) -> &'a [Unit]
+fn own_units(alloc: Global, units: &RangeUnits, piece: &Block) -> Result<Vec<Unit>, NoMemory>
     requires some { 0 < piece.now.words }
     requires within { piece.now.first + piece.now.words ≤ length units.now }
-    ensures value { result.now ≡ piece_units units.now piece.now }
-    ensures some { 0 < length result.now }
-    ensures few { length result.now ≤ piece.now.words }
+    ensures value { IfOk result (λ own. own.items ≡ piece_units units.now piece.now) }
+    ensures some { IfOk result (λ own. 0 < length own.items) }
+    ensures few { IfOk result (λ own. length own.items ≤ piece.now.words) }
 {
-    let (_, rest) = units.split_at(piece.first as usize);
-    let (own, _) = rest.split_at(own_words(units, piece) as usize);
-    own
+    let count = own_words(units, piece) as usize;
+    units.part(alloc, piece.first as usize, count)
 }
 
-fn own_words(units: &[Unit], piece: &Block) -> u32
+fn own_words(units: &RangeUnits, piece: &Block) -> u32
     requires some { 0 < piece.now.words }
     requires within { piece.now.first + piece.now.words ≤ length units.now }
     ensures value { result ≡ (if ends_with_slot units.now piece.now then piece.now.words - 1
@@ -152,11 +148,11 @@ fn own_words(units: &[Unit], piece: &Block) -> u32
     }
 }
 
-fn ends_with_slot(units: &[Unit], piece: &Block) -> bool
+fn ends_with_slot(units: &RangeUnits, piece: &Block) -> bool
     requires { piece.now.first + piece.now.words ≤ length units.now }
     ensures value { result ≡ ends_with_slot units.now piece.now }
     ensures many { IsTrue result → 2 ≤ piece.now.words }
 {
     let end = piece.first as usize + piece.words as usize;
-    piece.words >= 2 && words_of(&units[end - 2]) == 2
+    piece.words >= 2 && words_of(&units.at(end - 2)) == 2
 }

@@ -6,7 +6,7 @@ ghost use Rattle.span_code.specs.Pieces.{flagged};
 
 use crate::span_words::SpanWords;
 use block_builder::{Block, ends, words_from, words_of};
-use delay_slots::Unit;
+use delay_slots::RangeUnits;
 
 /// Whether a piece begins with a word: it is the span's first word or a leader, and the span has no meter.
 pub fn begins(leads: &[bool], span: SpanWords, k: u32) -> bool
@@ -17,7 +17,7 @@ pub fn begins(leads: &[bool], span: SpanWords, k: u32) -> bool
 }
 
 /// The piece that begins with a word of the span.
-pub fn piece_at(units: &[Unit], leads: &[bool], span: SpanWords, k: u32) -> Block
+pub fn piece_at(units: &RangeUnits, leads: &[bool], span: SpanWords, k: u32) -> Block
     requires same_len { length leads.now ≡ length units.now }
     requires begins_within { k < span.end }
     requires ends_within { span.end ≤ length units.now }
@@ -26,7 +26,7 @@ pub fn piece_at(units: &[Unit], leads: &[bool], span: SpanWords, k: u32) -> Bloc
     words_from(units, k, piece_words(units, leads, span, k))
 }
 
-fn piece_words(units: &[Unit], leads: &[bool], span: SpanWords, k: u32) -> u32
+fn piece_words(units: &RangeUnits, leads: &[bool], span: SpanWords, k: u32) -> u32
     requires same_len { length leads.now ≡ length units.now }
     requires begins_within { k < span.end }
     requires ends_within { span.end ≤ length units.now }
@@ -34,12 +34,12 @@ fn piece_words(units: &[Unit], leads: &[bool], span: SpanWords, k: u32) -> u32
     ensures within { k + result ≤ span.end }
 {
     let last = last_word(units, leads, span, k);
-    let words = u64::from(last - k) + words_of(&units[last as usize]) as u64;
+    let words = u64::from(last - k) + words_of(&units.at(last as usize)) as u64;
     words.min(u64::from(span.end - k)) as u32
 }
 
 /// The last word of a piece, apart from that of a delay slot.
-fn last_word(units: &[Unit], leads: &[bool], span: SpanWords, k: u32) -> u32
+fn last_word(units: &RangeUnits, leads: &[bool], span: SpanWords, k: u32) -> u32
     requires same_len { length leads.now ≡ length units.now }
     requires begins_within { k < span.end }
     requires ends_within { span.end ≤ length units.now }
@@ -55,7 +55,7 @@ fn last_word(units: &[Unit], leads: &[bool], span: SpanWords, k: u32) -> u32
 }
 
 // The span ends with a word, or a block does.
-fn is_last(units: &[Unit], leads: &[bool], span: SpanWords, k: u32) -> bool
+fn is_last(units: &RangeUnits, leads: &[bool], span: SpanWords, k: u32) -> bool
     requires same_len { length leads.now ≡ length units.now }
     requires begins_within { k < span.end }
     requires ends_within { span.end ≤ length units.now }

@@ -8,7 +8,7 @@ ghost use Rattle.span_code.specs.Bodies.{part_offset};
 use crate::NoMemory;
 use crate::pieces::begins;
 use crate::span_words::SpanWords;
-use delay_slots::Unit;
+use delay_slots::RangeUnits;
 use std::alloc::Global;
 
 /// The offset of the code of each word of a span, by the offsets in their parts and the offset behind the warm code.
@@ -17,7 +17,7 @@ use std::alloc::Global;
 /// Want of memory for the offsets.
 pub fn targets_of(
     alloc: Global,
-    units: &[Unit],
+    units: &RangeUnits,
     leads: &[bool],
     span: SpanWords,
     offsets: &[u32],
@@ -41,7 +41,7 @@ pub fn targets_of(
 
 // The offset of the code of a word.
 fn target_of(
-    units: &[Unit],
+    units: &RangeUnits,
     leads: &[bool],
     span: SpanWords,
     offsets: &[u32],

@@ -1,6 +1,4 @@
 use Rattle.std.proofs.Common.{◌≡◌, ◌+◌, ◌-◌, ◌∙◌, ap, min, arith}
-use Rattle.delay_slots.specs.declared.unit.Unit.TheVariants.{Call}
-use Rattle.std.proofs.lemmas.List.{get_or_default}
 use Rattle.block_builder.specs.Leaders.{words_of}
 use Rattle.block_builder.specs.Blocks.{unit_at}
 use Rattle.span_code.specs.Pieces.{flagged}
@@ -15,7 +13,7 @@ returns-clause-value c =
     let k = c.args.k in
     let end = c.args.span.end in
     let words : c.words_of.result ≡ words_of (unit_at units last) = c.words_of.ensures
-    ∙ ap words_of (get_or_default units last _ Call (omega (arith, c.last_word-last.ensures.within))) in
+    ∙ ap words_of c.at.ensures in
     let least : c.min.result ≡ min (last - k + words_of (unit_at units last)) (end - k) = omega (arith, c.min.ensures, words) in
     least
     ∙ cut_words units leads k last end c.last_word-last.ensures.from c.last_word-last.ensures.within c.last_word-last.ensures.value
