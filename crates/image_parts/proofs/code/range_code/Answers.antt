@@ -1,6 +1,5 @@
-use Rattle.std.proofs.Common.{◌≡◌, ◌+◌, ◌*◌, ◌^◌, ◌<◌, length, ap, sym, ◌∙◌, subst}
+use Rattle.std.proofs.Common.{◌≡◌, ap, ◌∙◌}
 use Rattle.delay_slots.specs.Units.{units_of}
-use Rattle.block_builder.specs.Leaders.{AreLeaders}
 use Rattle.elf_image.specs.Start.{image_of}
 use Rattle.image_parts.proofs.RangeLemmas.{unit_count, ends_low}
 use Rattle.image_parts.proofs.code.range_code.Goals as goal
@@ -9,20 +8,19 @@ pub leader_flags-requires-clause-below_end : goal.leader_flags-requires-clause-b
 leader_flags-requires-clause-below_end c =
     let code = (image_of c.args.image.now).code in
     let words = c.in_ok-words.words.items in
-    let units = c.in_ok-units.units.items in
+    let units = c.in_ok-units.units in
     let are : units ≡ units_of words = c.in_ok-units.ensures ∙ ap units_of c.as_slice.ensures.value in
-    let low = ends_low code c.args.range units c.requires (unit_count code c.args.range words units c.in_ok-words.ensures.words are) in
-    subst (λ l. c.args.range.first + 4 * length l < 2 ^ 32) (sym c.as_slice-2.ensures.value) low
+    ends_low code c.args.range units c.requires (unit_count code c.args.range words units c.in_ok-words.ensures.words are)
 
 pub returns-clause-code : goal.returns-clause-code
 returns-clause-code c = record {
   words = c.in_ok-words.words.items;
   are_words = c.in_ok-words.ensures.words;
   units_are = c.in_ok-units.ensures ∙ ap units_of c.as_slice.ensures.value;
-  leads_are = subst (λ l. AreLeaders l c.args.range.first c.in_ok-leads.leads.items) c.as_slice-2.ensures.value c.in_ok-leads.ensures;
+  leads_are = c.in_ok-leads.ensures;
 }
 
 pub returns-clause-count : goal.returns-clause-count
 returns-clause-count c =
     let are = c.in_ok-units.ensures ∙ ap units_of c.as_slice.ensures.value in
-    unit_count (image_of c.args.image.now).code c.args.range c.in_ok-words.words.items c.in_ok-units.units.items c.in_ok-words.ensures.words are
+    unit_count (image_of c.args.image.now).code c.args.range c.in_ok-words.words.items c.in_ok-units.units c.in_ok-words.ensures.words are
