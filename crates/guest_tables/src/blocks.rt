@@ -6,7 +6,7 @@ ghost use Rattle.block_builder.specs.Blocks.{AreUnits};
 
 use anyhow::{Context, Result, ensure};
 use block_builder::{Block, blocks, direct, part};
-use delay_slots::{Unit, units};
+use delay_slots::{RangeUnits, Unit, units};
 use mips_decode::{Inst, is_float, print_inst};
 use std::alloc::{AllocError, Global};
 use std::fmt::Write;
@@ -16,9 +16,9 @@ use table_rows::words_of;
 const START: u32 = 0x0040_0000;
 
 /// The units of code, one for each word: some and not many, and none of the floating-point coprocessor.
-fn units_of(alloc: Global, pieces: &str) -> Result<Vec<Unit>>
-    ensures are { IfOk result (λ units. AreUnits units.items) }
-    ensures few { IfOk result (λ units. length units.items ≤ 1024) }
+fn units_of(alloc: Global, pieces: &str) -> Result<RangeUnits>
+    ensures are { IfOk result (λ units. AreUnits units) }
+    ensures few { IfOk result (λ units. length units ≤ 1024) }
 {
     let words = words_of(alloc, pieces)?;
     ensure!(is_lawful(words.as_slice()), "these are no words of blocks");
@@ -44,14 +44,14 @@ fn has_no_float(words: &[u32]) -> bool
 /// The units as texts.
 pub fn units_row(alloc: Global, text: &mut String, pieces: &str) -> Result<()> {
     let units = units_of(alloc, pieces)?;
-    push_units(alloc, text, units.as_slice())?;
+    push_units(alloc, text, &units)?;
     Ok(())
 }
 
-fn push_units(alloc: Global, text: &mut String, units: &[Unit]) -> Result<(), AllocError> {
+fn push_units(alloc: Global, text: &mut String, units: &RangeUnits) -> Result<(), AllocError> {
     let mut at = START;
-    for unit in units {
-        push_unit(alloc, text, unit, at)?;
+    for k in 0..units.len() {
+        push_unit(alloc, text, &units.at(k), at)?;
         text.push_str("; ")?;
         at = at.wrapping_add(4);
     }
@@ -95,7 +95,7 @@ fn push_inst(alloc: Global, text: &mut String, inst: &Inst, at: u32) -> Result<(
 /// The blocks, each as `FIRST+WORDS` with the registers that it reads and writes.
 pub fn blocks_row(alloc: Global, text: &mut String, pieces: &str) -> Result<()> {
     let units = units_of(alloc, pieces)?;
-    let found = blocks(alloc, units.as_slice(), START)?;
+    let found = blocks(alloc, &units, START)?;
     push_blocks(text, found.as_slice())?;
     Ok(())
 }
@@ -116,13 +116,13 @@ pub fn part_row(
     pieces: &str,
 ) -> Result<()> {
     let units = units_of(alloc, pieces)?;
-    let found = blocks(alloc, units.as_slice(), START)?;
+    let found = blocks(alloc, &units, START)?;
     let whole = found.first().context("there is no block")?;
     ensure!(
         has_words(whole, first, words),
         "the block has no such words"
     );
-    push_block(text, &part(units.as_slice(), whole, first, words))?;
+    push_block(text, &part(&units, whole, first, words))?;
     Ok(())
 }
 
@@ -137,8 +137,8 @@ fn has_words(whole: &Block, first: u32, words: u32) -> bool
 /// Where the first unit goes, if its instruction says so.
 pub fn target_row(alloc: Global, text: &mut String, pieces: &str) -> Result<()> {
     let units = units_of(alloc, pieces)?;
-    let first = units.first().context("there is no unit")?;
-    push_target(text, direct(first, START))?;
+    ensure!(0 < units.len(), "there is no unit");
+    push_target(text, direct(&units.at(0), START))?;
     Ok(())
 }
 

@@ -1,12 +1,12 @@
 ghost use Rattle.std.specs.Prelude.{◌≡◌, ◌+◌, ◌*◌, ◌^◌, ◌<◌, ◌≤◌, length};
 
-use delay_slots::Unit;
+use delay_slots::RangeUnits;
 
 /// Words of a range of code that go into one class. The range ends below address 80000000 (hexadecimal).
 #[derive(Clone, Copy)]
 pub struct Part<'a> {
     /// The units of the whole range, one for each word.
-    pub units: &'a [Unit],
+    pub units: &'a RangeUnits,
     /// Which words of the range are leaders, as `block_builder::leader_flags` gives them.
     pub leads: &'a [bool],
     /// Whether the program has a meter.

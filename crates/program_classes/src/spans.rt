@@ -176,7 +176,7 @@ fn is_slot(part: &Part, word: u32) -> bool
     ensures { result ≡ is_slot part.now.units.now (flagged part.now.leads.now) word }
 {
     let k = word as usize;
-    k != 0 && !part.leads[k] && matches!(part.units[k - 1], Unit::Branch { .. })
+    k != 0 && !part.leads[k] && matches!(part.units.at(k - 1), Unit::Branch { .. })
 }
 
 fn placed(part: &Part, k: u32, piece: &Block, stretch: &Stretch) -> Piece

@@ -7,14 +7,14 @@ use Rattle.program_translation.specs.Places.{class_words}
 
 -- so many words that end low, with a unit and a flag for each
 pub record IsLow (code : RangeCode) (words : ℕ) : Type 0 where
-  pub units : length code.units.items ≡ words
+  pub units : length code.units ≡ words
   pub leads : length code.leads.items ≡ words
   pub low : code.start + 4 * words < 2 ^ 31
 
 -- the words of the class of a number among the classes of the range, of a program with a meter or
 -- without
 pub record IsPartOf (metered : Bool) (code : RangeCode) (words k : ℕ) (part : Part) : Type 0 where
-  pub units_are : part.units.now ≡ code.units.items
+  pub units_are : part.units.now ≡ code.units
   pub leads_are : part.leads.now ≡ code.leads.items
   pub metered_is : part.metered ≡ metered
   pub start_is : part.start ≡ code.start

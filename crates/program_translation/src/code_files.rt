@@ -14,7 +14,7 @@ use crate::block_info::BlockInfo;
 use crate::code_layout::{add_blocks, add_starts};
 use crate::coding::{FileOfCode, code_file};
 use crate::named_file::NamedFile;
-use crate::parts::{part_at, part_count};
+use crate::parts::{keep_part, part_at, part_count};
 use crate::span_info::SpanInfo;
 use command_values::{ClassName, MethodBytes};
 use elf_image::Image;
@@ -90,8 +90,9 @@ fn add_range(
         → HasPlaces metered (image_of image.now).code name.now method_bytes (places
         ++ places_in range) code.new) }
 {
-    let words = range_code(alloc, image, range)?;
+    let mut words = range_code(alloc, image, range)?;
     for k in 0..part_count(range.words) {
+        keep_part(alloc, &mut words, range.words, k)?;
         let part = part_at(metered, &words, range.words, k);
         add_class(alloc, code, &part, name, method_bytes)?;
     }

@@ -57,5 +57,5 @@ fn weight_at(part: &Part, k: u32) -> u32
     ensures value { result ≡ weight_at part.now k }
     ensures bound { result ≤ 540 }
 {
-    weight_of(part.metered, &part.units[(part.first + k) as usize])
+    weight_of(part.metered, &part.units.at((part.first + k) as usize))
 }

@@ -24,20 +24,27 @@ range-more ranges k d less =
     ∙ flat_map-append places_in (take k ranges) (get_or ranges k d ∷ [])
     ∙ ap (λ l. places_of (take k ranges) ++ l) (append-nil (places_in (get_or ranges k d)))
 
+-- a range that keeps the units of other words is the same code
+pub kept-coded : (code : ℕ → Option ℕ) (range : Range) (old new : RangeCode) → new.units ≡ old.units → new.leads ≡ old.leads
+    → IsRangeCode code range old.units old.leads.items → IsRangeCode code range new.units new.leads.items
+kept-coded code range old new units leads coded =
+    subst (λ us. IsRangeCode code range us new.leads.items) (sym units)
+    (subst (λ flags. IsRangeCode code range old.units flags.items) (sym leads) coded)
+
 -- the part at a place is that of the class of a number
-pub part-at : (metered : Bool) (code : ℕ → Option ℕ) (range : Range) (c : RangeCode) (k : ℕ) (part : Part) → IsRangeCode code range c.units.items c.leads.items
+pub part-at : (metered : Bool) (code : ℕ → Option ℕ) (range : Range) (c : RangeCode) (k : ℕ) (part : Part) → IsRangeCode code range c.units c.leads.items
     → c.start ≡ range.first → IsPartOf metered c range.words k part → IsPartAt code (place_at range k) part
 part-at metered code range c k part coded start is = record {
   range_is =
       subst (λ units. IsRangeCode code range units part.leads.now) (sym is.units_are)
-      (subst (λ leads. IsRangeCode code range c.units.items leads) (sym is.leads_are) coded);
+      (subst (λ leads. IsRangeCode code range c.units leads) (sym is.leads_are) coded);
   start_is = is.start_is ∙ start;
   first_is = is.first_is;
   words_are = is.words_are;
 }
 
-pub range-low : (code : ℕ → Option ℕ) (range : Range) (c : RangeCode) → IsWholeRange code range → IsRangeCode code range c.units.items c.leads.items
-    → c.start ≡ range.first → length c.units.items ≡ range.words → IsLow c range.words
+pub range-low : (code : ℕ → Option ℕ) (range : Range) (c : RangeCode) → IsWholeRange code range → IsRangeCode code range c.units c.leads.items
+    → c.start ≡ range.first → length c.units ≡ range.words → IsLow c range.words
 range-low code range c whole coded start count = record {
   units = count;
   leads = coded.leads_are.same_len ∙ count;
