@@ -24,12 +24,7 @@ pub fn part_count(words: u32) -> usize
 ///
 /// # Errors
 /// Want of memory for them.
-pub fn keep_part(
-    alloc: Global,
-    range: &mut RangeCode,
-    words: u32,
-    k: usize,
-) -> Result<(), NoMemory>
+pub fn keep_part(alloc: Global, range: &mut RangeCode, words: u32, k: usize) -> Result<(), NoMemory>
     requires units { length range.old.units ≡ words }
     requires within { k < share_count class_words words }
     ensures units { range.new.units ≡ range.old.units }

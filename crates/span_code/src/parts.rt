@@ -45,7 +45,13 @@ pub fn warm_part(
     let last = k + (own.len() - 1) as u32;
     let mut code = Vec::with_capacity(alloc, STEPS)?;
     append_warm(alloc, &own, span.address(k), &mut code)?;
-    append_exit_of(&units.at(last as usize), span, next_piece(leads, span, k), last, &mut code)?;
+    append_exit_of(
+        &units.at(last as usize),
+        span,
+        next_piece(leads, span, k),
+        last,
+        &mut code,
+    )?;
     Ok(code)
 }
 
@@ -112,13 +118,7 @@ fn append_exit_of(
     ensures { OnOk result (code.new.items ≡ code.old.items
         ++ exit_code (parts.extent span) behind unit.now (address span k)) }
 {
-    append_exit(
-        extent(span),
-        behind,
-        unit,
-        span.address(k),
-        code,
-    )
+    append_exit(extent(span), behind, unit, span.address(k), code)
 }
 
 /// The units of a piece: the word of the delay slot of its branch is in the branch's unit.
