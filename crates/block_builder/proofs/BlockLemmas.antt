@@ -74,7 +74,7 @@ has_words (unit.SlotIsBranch i word) = omega arith
 has_words unit.Call = omega arith
 has_words (unit.Trap kind value) = omega arith
 
-few_words : (u : Unit) → words_of u ≤ 2
+pub few_words : (u : Unit) → words_of u ≤ 2
 few_words (unit.Plain i) = omega arith
 few_words (unit.Branch i slot) = omega arith
 few_words (unit.SlotMissing i) = omega arith
