@@ -1,13 +1,15 @@
 -- Where pieces end.
-use Rattle.std.proofs.Common.{◌≡◌, ℕ, zero, suc, ◌+◌, ◌*◌, ◌-◌, ◌<◌, ◌≤◌, ◌==◌, Bool, true, false, not, cond, ◌&&◌, ◌||◌, List, [], ◌∷◌, length, min, Option, Some, refl, sym, ap, ◌∙◌, inl, inr, arith}
+use Rattle.std.proofs.Common.{◌≡◌, ℕ, zero, suc, ◌+◌, ◌*◌, ◌-◌, ◌<◌, ◌≤◌, ◌==◌, nat_le, Bool, true, false, not, cond, ◌&&◌, ◌||◌, if◌then◌else◌, List, [], ◌∷◌, length, min, Option, Some, refl, sym, ap, subst, ◌∙◌, inl, inr, arith}
 use Rattle.std.specs.Prelude.{find, unwrap_or}
 use Rattle.std.specs.List.{range_with_len}
-use Rattle.std.proofs.lemmas.Bool.{cases_lt, eq-eqb, eqb-true, eqb-false, or_parts, or_cases, or_left, or_right, and_from}
+use Rattle.std.proofs.lemmas.Bool.{cases_Bool, cases_eq, cases_lt, eq-eqb, eqb-true, eqb-false, le-leb, or_parts, or_cases, or_left, or_right, and_from, true≢false}
 use Rattle.delay_slots.specs.declared.unit.Unit.{Unit}
 use Rattle.delay_slots.specs.declared.unit.Unit.TheVariants as units
+use Rattle.block_builder.specs.declared.block.Block.{Block}
 use Rattle.block_builder.specs.Leaders.{is_plain, words_of, is_at, direct, makes_leader, make_leader, is_leader}
 use Rattle.block_builder.specs.Blocks.{AreUnits, IsPiece, unit_at, ends, end_of, block_from}
-use Rattle.block_builder.proofs.BlockLemmas.{end_is_least, find_here, has_words, block_is_piece, part_is_piece}
+use Rattle.block_builder.proofs.BlockLemmas.{end_is_least, few_words, find_here, has_words, block_is_piece, part_is_piece}
+use Rattle.word_emitter.specs.Pieces.{ends_with_slot}
 use Rattle.span_code.specs.declared.span_words.SpanWords.{SpanWords}
 use Rattle.span_code.specs.Pieces.{piece_words, piece_at}
 
@@ -84,6 +86,37 @@ pub piece-is-piece : (units : List Unit) (leads : ℕ → Bool) (span : SpanWord
 piece-is-piece units leads span k known lt le =
     part_is_piece units (block_from units leads k) k (piece_words units leads span k) (block_is_piece units leads k known (omega arith))
     (omega arith) (omega arith)
+
+-- how many units a piece has
+abbrev pub unit-count : List Unit → Block → ℕ
+unit-count units b = if ends_with_slot units b then b.words - 1 else b.words
+
+-- behind a unit of a piece that is not its last one stands a word of the piece
+pub unit-followed : (units : List Unit) (b : Block) (i : ℕ) → i + 1 < unit-count units b
+    → b.first + i + words_of (unit_at units (b.first + i)) < b.first + b.words
+unit-followed units b i = by_test (ends_with_slot units b) refl
+  where
+    place : ℕ
+    place = b.first + i
+
+    few : words_of (unit_at units place) ≤ 2
+    few = few_words (unit_at units place)
+
+    by_test : (slot : Bool) → ends_with_slot units b ≡ slot → i + 1 < (if slot then b.words - 1 else b.words)
+        → b.first + i + words_of (unit_at units place) < b.first + b.words
+    by_test true is less = omega (arith, few, less)
+    by_test false is less = elim (cases_Bool (words_of (unit_at units place) == 2)) [
+      | inr one ↦ (let other = eqb-false (words_of (unit_at units place)) 2 one in omega (arith, few, less, other))
+      | inl two ↦ elim (cases_eq (i + 2) b.words) [
+        | inr more ↦ omega (arith, few, less, more)
+        | inl all ↦
+            let there : place ≡ b.first + b.words - 2 = omega (arith, all) in
+            let slot : ends_with_slot units b ≡ true =
+            and_from (nat_le 2 b.words) (words_of (unit_at units (b.first + b.words - 2)) == 2) (le-leb 2 b.words (omega (arith, all)))
+            (subst (λ j. (words_of (unit_at units j) == 2) ≡ true) there two) in
+            absurd (true≢false (sym slot ∙ is))
+      ]
+    ]
 
 -- the unit of a word makes a leader
 made : (start : ℕ) (units : List Unit) (from k i : ℕ) → i < length units → makes_leader start (unit_at units i) (from + i) k ≡ true
