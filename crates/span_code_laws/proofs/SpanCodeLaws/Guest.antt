@@ -22,11 +22,12 @@ use Rattle.code_steps.specs.Returning.{returns}
 use Rattle.lawful_units.specs.Lawful.{IsLawful}
 use Rattle.span_code.specs.declared.span_words.SpanWords.{SpanWords}
 use Rattle.span_code.specs.Pieces.{piece_at}
+use Rattle.span_code.proofs.PieceLemmas.{unit-count}
 use Rattle.guest_follows.specs.Holding.{Holds, reached}
 use Rattle.guest_follows.specs.Sites.{Site, stands, turn_in}
 use Rattle.guest_code_laws.specs.Pieces.{HoldsAll, piece_turns}
 use Rattle.span_code_laws.proofs.SpanCodeLaws.Made.{IsMade, are-at, list-made}
-use Rattle.span_code_laws.proofs.SpanCodeLaws.Straight.{are-lawful, are-straight, count, count-few, piece-some}
+use Rattle.span_code_laws.proofs.SpanCodeLaws.Straight.{are-lawful, are-straight, count-few, piece-some}
 
 -- ---- the state is held in fields and arrays alone
 
@@ -86,7 +87,7 @@ module _ (words : List ℕ) (leads : ℕ → Bool) (span : SpanWords) (k : ℕ) 
       let few = count-few (units_of words) block piece in
       let within = piece.within in
       list-made change turns_made leads_on span.start words own k x (piece-some (units_of words) leads span k below piece) s
-      (are-at (units_of words) (count (units_of words) block piece) k (omega (arith, few, within)))
-      (are-lawful own (All-take IsLawful (count (units_of words) block piece) (drop k (units_of words))
+      (are-at (units_of words) (unit-count (units_of words) block) k (omega (arith, few, within)))
+      (are-lawful own (All-take IsLawful (unit-count (units_of words) block) (drop k (units_of words))
       (All-drop IsLawful k (units_of words) lawful)))
       (are-straight (units_of words) block piece)

@@ -1,7 +1,7 @@
 -- The units of a piece: all but the last are Plain, and where the last one leads.
-use Rattle.std.proofs.Common.{◌≡◌, ℕ, zero, suc, ◌+◌, ◌-◌, ◌*◌, ◌^◌, ◌<◌, ◌≤◌, ◌==◌, nat_le, Bool, true, false, if◌then◌else◌, min, List, [], ◌∷◌, All, length, take, drop, get_or, None, inl, inr, refl, ap, subst, sym, ◌∙◌, arith}
+use Rattle.std.proofs.Common.{◌≡◌, ℕ, zero, suc, ◌+◌, ◌-◌, ◌*◌, ◌^◌, ◌<◌, ◌≤◌, ◌==◌, nat_le, Bool, true, false, if◌then◌else◌, min, List, [], ◌∷◌, All, length, take, drop, get_or, None, refl, ap, subst, sym, ◌∙◌, arith}
 use Rattle.std.specs.List.{AllByRecursion}
-use Rattle.std.proofs.lemmas.Bool.{true≢false, eqb-false, le-leb, and_from, and_parts, cases_Bool, cases_eq, leb-true}
+use Rattle.std.proofs.lemmas.Bool.{true≢false, and_parts, leb-true}
 use Rattle.std.proofs.lemmas.List.{get_or-drop, get_or-take, length-take-le, length-drop}
 use Rattle.nv_events.specs.Turn.{Turn, moves, ends, leaves, asks}
 use Rattle.mips_decode.specs.State.{State}
@@ -18,6 +18,7 @@ use Rattle.word_emitter.specs.Pieces.{ends_with_slot, piece_units}
 use Rattle.lawful_units.specs.Lawful.{IsLawful}
 use Rattle.span_code.specs.declared.span_words.SpanWords.{SpanWords}
 use Rattle.span_code.specs.Pieces.{piece_at}
+use Rattle.span_code.proofs.PieceLemmas.{unit-count, unit-followed}
 use Rattle.guest_code_laws.specs.Pieces.{AreStraight, PieceGoal, UnitGoal, piece_turns, then_turns}
 use Rattle.guest_code_laws.proofs.PieceLaws.Turns.{GoesOrEnds, IsPast, plain-past}
 use Rattle.span_code_laws.proofs.SpanCodeLaws.Joining.{Reaches}
@@ -96,69 +97,28 @@ straight-take (suc (suc n)) (unit ∷ []) plain = tt
 straight-take (suc (suc n)) (unit ∷ next ∷ xs) plain =
     (plain 0 (omega arith), straight-take (suc n) (next ∷ xs) (λ i less. plain (suc i) (omega (arith, less))))
 
-words-few : (unit : Word) → words_of unit ≤ 2
-words-few (units.Branch i slot) = omega arith
-words-few (units.Plain i) = omega arith
-words-few (units.SlotMissing i) = omega arith
-words-few (units.SlotIsBranch i word) = omega arith
-words-few units.Call = omega arith
-words-few (units.Trap kind value) = omega arith
-
 module _ (unit_list : List Word) (b : Block) (piece : IsPiece unit_list b) where
-  -- how many units the piece has
-  abbrev pub count : ℕ
-  count = if ends_with_slot unit_list b then b.words - 1 else b.words
-
-  count-by : (slot : Bool) → ends_with_slot unit_list b ≡ slot → count ≡ (if slot then b.words - 1 else b.words)
-  count-by slot is = ap (λ s. if s then b.words - 1 else b.words) is
-
-  -- a unit before the last of them is followed by words of the piece
-  inside : (i : ℕ) → i + 1 < count → b.first + i + words_of (unit_at unit_list (b.first + i)) < b.first + b.words
-  inside i less = by_test (ends_with_slot unit_list b) refl
-    where
-      by_test : (slot : Bool) → ends_with_slot unit_list b ≡ slot
-          → b.first + i + words_of (unit_at unit_list (b.first + i)) < b.first + b.words
-      by_test true is =
-          let n = count-by true is in
-          let few = words-few (unit_at unit_list (b.first + i)) in
-          omega (arith, n, few, less)
-      by_test false is =
-          let n = count-by false is in
-          let few = words-few (unit_at unit_list (b.first + i)) in
-          elim (cases_Bool (words_of (unit_at unit_list (b.first + i)) == 2)) [
-            | inr one ↦ (let other = eqb-false (words_of (unit_at unit_list (b.first + i))) 2 one in omega (arith, n, few, less, other))
-            | inl two ↦ elim (cases_eq (i + 2) b.words) [
-              | inr more ↦ omega (arith, n, few, less, more)
-              | inl all ↦
-                  let place : b.first + i ≡ b.first + b.words - 2 = omega (arith, all) in
-                  let slot : ends_with_slot unit_list b ≡ true =
-                  and_from (nat_le 2 b.words) (words_of (unit_at unit_list (b.first + b.words - 2)) == 2) (le-leb 2 b.words (omega (arith, all)))
-                  (subst (λ j. (words_of (unit_at unit_list j) == 2) ≡ true) place two) in
-                  absurd (true≢false (sym slot ∙ is))
-            ]
-          ]
-
   pub are-straight : AreStraight (piece_units unit_list b)
-  are-straight = straight-take count (drop b.first unit_list)
+  are-straight = straight-take (unit-count unit_list b) (drop b.first unit_list)
       (λ i less.
       let at : get_or (drop b.first unit_list) i units.Call ≡ unit_at unit_list (b.first + i) = get_or-drop b.first unit_list i units.Call in
-      ap is_plain at ∙ piece.straight (b.first + i) (omega arith) (inside i less))
+      ap is_plain at ∙ piece.straight (b.first + i) (omega arith) (unit-followed unit_list b i less))
 
-  pub count-few : count ≤ b.words
+  pub count-few : unit-count unit_list b ≤ b.words
   count-few = by_test (ends_with_slot unit_list b)
     where
       by_test : (slot : Bool) → (if slot then b.words - 1 else b.words) ≤ b.words
       by_test true = omega arith
       by_test false = omega arith
 
-  pub units-count : length (piece_units unit_list b) ≡ count
+  pub units-count : length (piece_units unit_list b) ≡ unit-count unit_list b
   units-count =
       let within = piece.within in
       let few = count-few in
       let left = length-drop b.first unit_list in
-      length-take-le count (drop b.first unit_list) (omega (arith, within, few, left))
+      length-take-le (unit-count unit_list b) (drop b.first unit_list) (omega (arith, within, few, left))
 
-  pub count-some : 1 ≤ b.words → 1 ≤ count
+  pub count-some : 1 ≤ b.words → 1 ≤ unit-count unit_list b
   count-some some = by_test (ends_with_slot unit_list b) refl
     where
       by_test : (slot : Bool) → ends_with_slot unit_list b ≡ slot → 1 ≤ (if slot then b.words - 1 else b.words)
@@ -168,8 +128,8 @@ module _ (unit_list : List Word) (b : Block) (piece : IsPiece unit_list b) where
           omega (arith, two)
       by_test false is = some
 
-  pub unit-is : (i : ℕ) → i < count → get_or (piece_units unit_list b) i units.Call ≡ unit_at unit_list (b.first + i)
-  unit-is i less = get_or-take count (drop b.first unit_list) i units.Call less ∙ get_or-drop b.first unit_list i units.Call
+  pub unit-is : (i : ℕ) → i < unit-count unit_list b → get_or (piece_units unit_list b) i units.Call ≡ unit_at unit_list (b.first + i)
+  unit-is i less = get_or-take (unit-count unit_list b) (drop b.first unit_list) i units.Call less ∙ get_or-drop b.first unit_list i units.Call
 
 -- ---- a piece of a span has a unit
 

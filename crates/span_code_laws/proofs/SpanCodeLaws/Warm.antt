@@ -34,6 +34,7 @@ use Rattle.span_code.specs.Standing.{laid_part}
 use Rattle.span_code.proofs.SizeLemmas.{size-laid}
 use Rattle.span_code.proofs.StandingLemmas.{word-stands}
 use Rattle.span_code.proofs.UnitMarks.{warm-marks}
+use Rattle.span_code.proofs.PieceLemmas.{unit-count}
 use Rattle.guest_follows.specs.Sites.{Site, stands, whole_weight}
 use Rattle.guest_follows.specs.Following.{Follows}
 use Rattle.guest_follows.proofs.GuestFollows.Weights.{whole-both, size-both}
@@ -47,7 +48,7 @@ use Rattle.span_code_laws.proofs.SpanCodeLaws.Leading.{LeadsTo}
 use Rattle.span_code_laws.proofs.SpanCodeLaws.Exits.{SaysEnd, says-end, exit-stays}
 use Rattle.span_code_laws.proofs.SpanCodeLaws.Parts.{laid-unmarked, part-lies, warm-behind}
 use Rattle.span_code_laws.proofs.SpanCodeLaws.Going.{FollowsFirst, goes-on}
-use Rattle.span_code_laws.proofs.SpanCodeLaws.Straight.{last_unit, last-is, last-goal, are-lawful, piece-leads, are-straight, count, count-few, units-count, piece-some, unit-is}
+use Rattle.span_code_laws.proofs.SpanCodeLaws.Straight.{last_unit, last-is, last-goal, are-lawful, piece-leads, are-straight, count-few, units-count, piece-some, unit-is}
 use Rattle.span_code_laws.proofs.SpanCodeLaws.Words.{UnitLaws, some-turn, units-length}
 
 -- ---- no branch of warm code goes past its end
@@ -172,7 +173,7 @@ module _ (laws : PieceLaws) (site : Site) (words : List ℕ) (leads : ℕ → Bo
   own-some = piece-some unit_list leads span k below is-piece
 
   pub own-lawful : All IsLawful own
-  own-lawful = All-take IsLawful (count unit_list block is-piece) (drop k unit_list)
+  own-lawful = All-take IsLawful (unit-count unit_list block) (drop k unit_list)
       (All-drop IsLawful k unit_list (laws.units.lawful words has.are_words has.no_float))
 
   part-is : laid_part unit_list leads span k ≡ first ++ exit

@@ -2,24 +2,19 @@
 use Rattle.std.proofs.Common.{◌≡◌, ℕ, ◌+◌, ◌-◌, ◌<◌, ◌≤◌, ◌==◌, ◌||◌, nat_le, Bool, true, false, not, if◌then◌else◌, min, List, length, inl, inr, refl, ap, subst, sym, ◌∙◌, arith}
 use Rattle.std.proofs.lemmas.Bool.{and_from, and_right, cases_Bool, cases_eq, eqb-false, le-leb, ne_eqb, or_parts, true≢false}
 use Rattle.delay_slots.specs.declared.unit.Unit.{Unit as Word}
-use Rattle.delay_slots.specs.declared.unit.Unit.TheVariants as units
 use Rattle.block_builder.specs.declared.block.Block.{Block}
 use Rattle.block_builder.specs.Blocks.{IsPiece, end_of, ends, unit_at}
 use Rattle.block_builder.specs.Leaders.{is_plain, words_of}
-use Rattle.block_builder.proofs.BlockLemmas.{end_is_least}
+use Rattle.block_builder.proofs.BlockLemmas.{end_is_least, few_words}
 use Rattle.word_emitter.specs.Pieces.{ends_with_slot}
 use Rattle.span_code.specs.declared.span_words.SpanWords.{SpanWords}
 use Rattle.span_code.specs.Pieces.{begins, piece_at}
-use Rattle.span_code_laws.proofs.SpanCodeLaws.Straight.{count}
+use Rattle.span_code.proofs.PieceLemmas.{unit-count}
 
 -- where neither holds
 neither : (a b : Bool) → a ≡ false → b ≡ false → (a || b) ≡ false
 neither true b first second = first
 neither false b first second = second
-
-words-few : (unit : Word) → words_of unit ≤ 2
-words-few (units.Branch i slot) = omega arith
-words-few _ = omega arith
 
 over : (a b : ℕ) → min a b ≤ a
 over a b = omega arith
@@ -33,25 +28,25 @@ module _ (unit_list : List Word) (leads : ℕ → Bool) (span : SpanWords) (k : 
   last = end_of unit_list leads k
 
   -- a unit of the piece is none behind that with which its block ends
-  up-to-end : (i : ℕ) → i < count unit_list block piece → k + i ≤ last
+  up-to-end : (i : ℕ) → i < unit-count unit_list block → k + i ≤ last
   up-to-end i less = by_slot (ends_with_slot unit_list block) refl
     where
       from : k ≤ last
       from = (end_is_least unit_list leads k below).from
 
       few : words_of (unit_at unit_list last) ≤ 2
-      few = words-few (unit_at unit_list last)
+      few = few_words (unit_at unit_list last)
 
       cut : block.words ≤ last - k + words_of (unit_at unit_list last)
       cut = over (last - k + words_of (unit_at unit_list last)) (span.end - k)
 
       by_slot : (b : Bool) → ends_with_slot unit_list block ≡ b → k + i ≤ last
       by_slot true is =
-          let n : count unit_list block piece ≡ block.words - 1 = ap (λ s. if s then block.words - 1 else block.words) is in
+          let n : unit-count unit_list block ≡ block.words - 1 = ap (λ s. if s then block.words - 1 else block.words) is in
           let a = from in let b = few in let c = cut in
           omega (arith, n, less, a, b, c)
       by_slot false is =
-          let n : count unit_list block piece ≡ block.words = ap (λ s. if s then block.words - 1 else block.words) is in
+          let n : unit-count unit_list block ≡ block.words = ap (λ s. if s then block.words - 1 else block.words) is in
           let a = from in let b = few in let c = cut in
           elim (cases_Bool (words_of (unit_at unit_list last) == 2)) [
             | inr one ↦ (let other = eqb-false (words_of (unit_at unit_list last)) 2 one in omega (arith, n, less, a, b, c, other))
@@ -67,7 +62,7 @@ module _ (unit_list : List Word) (leads : ℕ → Bool) (span : SpanWords) (k : 
             ]
           ]
 
-  pub none-begins : (i : ℕ) → 1 ≤ i → i < count unit_list block piece → begins leads span (k + i) ≡ false
+  pub none-begins : (i : ℕ) → 1 ≤ i → i < unit-count unit_list block → begins leads span (k + i) ≡ false
   none-begins i some less =
       let within = up-to-end i less in
       let before : ends unit_list leads (k + i - 1) ≡ false =

@@ -22,13 +22,14 @@ use Rattle.span_code.specs.Neighbours.{address, next_such}
 use Rattle.span_code.specs.Parts.{extent, exit_of}
 use Rattle.span_code.specs.Laying.{entry_at, laid_step, return_offset, targets_of}
 use Rattle.span_code.proofs.StandingLemmas.{word-stands}
+use Rattle.span_code.proofs.PieceLemmas.{unit-count}
 use Rattle.guest_follows.specs.Sites.{Site}
 use Rattle.guest_code_laws.specs.Pieces.{known_first}
 use Rattle.guest_code_laws.proofs.PieceLaws.Fetching.{fetched-within}
 use Rattle.guest_code_laws.proofs.PieceLaws.Sets.{needed-first}
 use Rattle.guest_code_laws.proofs.PieceLaws.Within.{unit-stays, units-stay}
 use Rattle.span_code_laws.specs.Spans.{HasSpan}
-use Rattle.span_code_laws.proofs.SpanCodeLaws.Straight.{count, count-few, unit-is, units-count}
+use Rattle.span_code_laws.proofs.SpanCodeLaws.Straight.{count-few, unit-is, units-count}
 use Rattle.span_code_laws.proofs.SpanCodeLaws.Warm.{PieceLaws, is-piece, own-lawful, stays-both, warm-lies}
 use Rattle.span_code_laws.specs.InPieces.{HasUnit, StandsInPiece, fetching, known_behind, offset_in, own_units}
 use Rattle.span_code_laws.proofs.SpanSteps.Lists.{at-front, code-both, need-behind}
@@ -76,7 +77,7 @@ module _ (laws : StepLaws) (site : Site) (order : Order) (words : List ℕ) (lea
   pub piece-there : IsPiece unit_list block
   piece-there = is-piece laws.pieces site words leads span has k s.above s.below s.begin
 
-  pub number-few : length front < count unit_list block piece-there
+  pub number-few : length front < unit-count unit_list block
   number-few = let n = units-count unit_list block piece-there in let total = own-length in omega (arith, n, total)
 
   pub word-below : k + length front < span.end
