@@ -4,22 +4,13 @@ use Rattle.std.specs.Prelude.{find, unwrap_or}
 use Rattle.std.specs.List.{range_with_len}
 use Rattle.std.proofs.lemmas.Bool.{true≢false, cases_lt, eq-eqb, ne_eqb, or_parts, and_from, and_right, and_parts, le-leb, leb-true}
 use Rattle.delay_slots.specs.declared.unit.Unit.{Unit}
-use Rattle.delay_slots.specs.declared.unit.Unit.TheVariants as variants
 use Rattle.block_builder.specs.declared.block.Block.{Block}
 use Rattle.block_builder.specs.Leaders.{is_plain, words_of}
 use Rattle.block_builder.specs.Blocks.{unit_at, ends, end_of}
-use Rattle.block_builder.proofs.BlockLemmas.{end_is_least, has_words}
+use Rattle.block_builder.proofs.BlockLemmas.{end_is_least, few_words, has_words}
 use Rattle.word_emitter.specs.Pieces.{ends_with_slot}
 use Rattle.span_code.specs.declared.span_words.SpanWords.{SpanWords}
 use Rattle.span_code.specs.Pieces.{begins, piece_at}
-
-few-words : (unit : Unit) → words_of unit ≤ 2
-few-words (variants.Branch i slot) = omega arith
-few-words (variants.Plain i) = omega arith
-few-words (variants.SlotMissing i) = omega arith
-few-words (variants.SlotIsBranch i word) = omega arith
-few-words variants.Call = omega arith
-few-words (variants.Trap kind value) = omega arith
 
 -- ---- where a block ends
 
@@ -84,14 +75,14 @@ module _ (units : List Unit) (leads : ℕ → Bool) (span : SpanWords) (k : ℕ)
   own-ends = by_test (ends_with_slot units block) refl
     where
       by_test : (slot : Bool) → ends_with_slot units block ≡ slot → k + (if slot then block.words - 1 else block.words) ≤ last + 1
-      by_test true is = omega (arith, few-words (unit_at units last), end-from units leads k)
+      by_test true is = omega (arith, few_words (unit_at units last), end-from units leads k)
       by_test false is =
           elim (cases_lt (last + 1) (k + block.words)) [
             | inr few ↦ few
             | inl more ↦
-                let place : k + block.words - 2 ≡ last = omega (arith, few-words (unit_at units last), end-from units leads k, more) in
+                let place : k + block.words - 2 ≡ last = omega (arith, few_words (unit_at units last), end-from units leads k, more) in
                 let two : words_of (unit_at units (k + block.words - 2)) ≡ 2 = ap (λ j. words_of (unit_at units j)) place
-                ∙ omega (arith, few-words (unit_at units last), end-from units leads k, more) in
+                ∙ omega (arith, few_words (unit_at units last), end-from units leads k, more) in
                 let slot : ends_with_slot units block ≡ true = and_from (nat_le 2 block.words)
                 (words_of (unit_at units (k + block.words - 2)) == 2) (le-leb 2 block.words (omega (arith, end-from units leads k, more)))
                 (eq-eqb (words_of (unit_at units (k + block.words - 2))) 2 two) in
