@@ -2,12 +2,12 @@
 use Rattle.std.proofs.Common.{◌≡◌, ℕ, zero, suc, ◌+◌, ◌-◌, ◌/◌, ◌<◌, ◌≤◌, ◌==◌, Bool, true, false, if◌then◌else◌, ◌⊎◌, inl, inr, List, [], ◌∷◌, ◌++◌, All, length, map, take, drop, get_or, min, refl, sym, ap, subst, ◌∙◌, arith}
 use Rattle.std.specs.Prelude.{nat_le, Option, Some, None}
 use Rattle.std.specs.List.{flat_map, list_all, list_any}
-use Rattle.std.proofs.lemmas.Bool.{and_from, and_parts, cases_Bool, cases_eq, cases_lt, eq-eqb, eqb-false, false≢true, le-leb, leb-true, or_left, or_right, true≢false}
+use Rattle.std.proofs.lemmas.Bool.{and_parts, cases_lt, eq-eqb, false≢true, leb-true, or_left, or_right}
 use Rattle.std.proofs.lemmas.List.{get_or-drop, get_or-take, get_or_default, get_or_past, length-drop, length-take, take_all, take_more}
 use Rattle.std.proofs.lemmas.List.Elements.{All-nil, All-cons, All-drop, All-take}
 use Rattle.std.proofs.lemmas.List.Folds.{list_all-append}
 use Rattle.delay_slots.specs.declared.unit.Unit.{Unit}
-use Rattle.delay_slots.specs.declared.unit.Unit.TheVariants.{Branch, Call}
+use Rattle.delay_slots.specs.declared.unit.Unit.TheVariants.{Call}
 use Rattle.block_builder.specs.declared.block.Block.{Block}
 use Rattle.block_builder.specs.Leaders.{is_plain, words_of}
 use Rattle.block_builder.specs.Blocks.{IsPiece, unit_at, end_of}
@@ -27,6 +27,7 @@ use Rattle.span_code.specs.Pieces.{begins, piece_at}
 use Rattle.span_code.specs.Neighbours.{address, is_inner, next_such}
 use Rattle.span_code.specs.Parts.{extent, exit_of, warm_part, front_of, cold_part}
 use Rattle.span_code.specs.Laying.{entry_of, laid_step}
+use Rattle.span_code.proofs.PieceLemmas.{unit-count, unit-followed}
 use Rattle.code_types.specs.Judging.{Rules, Carries, Leads, Meets, is_no_switch, redirected}
 use Rattle.code_types.proofs.TypedSteps.Joining.{code-redirected, codes-lead, nothing-leads}
 use Rattle.code_types.proofs.TypedSteps.KindOrder.{same}
@@ -148,52 +149,17 @@ some-words units leads span k below =
     let some = has_words (unit_at units (end_of units leads k)) in
     omega (arith, some, below)
 
-words-few : (unit : Unit) → words_of unit ≤ 2
-words-few (Branch i slot) = omega arith
-words-few _ = omega arith
-
--- how many units a piece has
-abbrev count_of : List Unit → Block → ℕ
-count_of units b = if ends_with_slot units b then b.words - 1 else b.words
-
--- a unit before the last one is followed by words of the piece
-followed : (units : List Unit) (b : Block) (i : ℕ) → i + 1 < count_of units b
-    → b.first + i + words_of (unit_at units (b.first + i)) < b.first + b.words
-followed units b i = by_test (ends_with_slot units b) refl
-  where
-    place : ℕ
-    place = b.first + i
-
-    few : words_of (unit_at units place) ≤ 2
-    few = words-few (unit_at units place)
-
-    by_test : (slot : Bool) → ends_with_slot units b ≡ slot → i + 1 < (if slot then b.words - 1 else b.words)
-        → b.first + i + words_of (unit_at units place) < b.first + b.words
-    by_test true is less = omega (arith, few, less)
-    by_test false is less = elim (cases_Bool (words_of (unit_at units place) == 2)) [
-      | inr one ↦ (let other = eqb-false (words_of (unit_at units place)) 2 one in omega (arith, few, less, other))
-      | inl two ↦ elim (cases_eq (i + 2) b.words) [
-        | inr more ↦ omega (arith, few, less, more)
-        | inl all ↦
-            let there : place ≡ b.first + b.words - 2 = omega (arith, all) in
-            let slot : ends_with_slot units b ≡ true =
-            and_from (nat_le 2 b.words) (words_of (unit_at units (b.first + b.words - 2)) == 2) (le-leb 2 b.words (omega (arith, all)))
-            (subst (λ j. (words_of (unit_at units j) == 2) ≡ true) there two) in
-            absurd (true≢false (sym slot ∙ is))
-      ]
-    ]
-
 -- the units of a piece before its last one are Plain
-before-plain : (units : List Unit) (b : Block) (piece : IsPiece units b) (n : ℕ) → n + 1 ≤ count_of units b
-    → All (λ unit. is_plain unit ≡ true) (take n (take (count_of units b) (drop b.first units)))
+before-plain : (units : List Unit) (b : Block) (piece : IsPiece units b) (n : ℕ) → n + 1 ≤ unit-count units b
+    → All (λ unit. is_plain unit ≡ true) (take n (take (unit-count units b) (drop b.first units)))
 before-plain units b piece n few i d less =
-    let own = take (count_of units b) (drop b.first units) in
+    let own = take (unit-count units b) (drop b.first units) in
     let counted : length (take n own) ≡ min n (length own) = length-take n own in
     let below : i < n = omega (arith, less, counted) in
     let is : get_or (take n own) i d ≡ unit_at units (b.first + i) =
     get_or_default (take n own) i d Call less ∙ get_or-take n own i Call below
-    ∙ get_or-take (count_of units b) (drop b.first units) i Call (omega (arith, below, few)) ∙ get_or-drop b.first units i Call in
-    ap is_plain is ∙ piece.straight (b.first + i) (omega arith) (followed units b i (omega (arith, below, few)))
+    ∙ get_or-take (unit-count units b) (drop b.first units) i Call (omega (arith, below, few)) ∙ get_or-drop b.first units i Call in
+    ap is_plain is ∙ piece.straight (b.first + i) (omega arith) (unit-followed units b i (omega (arith, below, few)))
 
 -- ---- the codes of words
 
