@@ -12,13 +12,13 @@ ghost use Rattle.elf_image.specs.Start.{image_of, readable, writable};
 ghost use Rattle.elf_image.specs.Whole.{IsWholeRange};
 ghost use Rattle.elf_reader.specs.declared.range.Range.{Range};
 
-use crate::gap::Gap;
 use crate::layout::Layout;
 use crate::page_table::PageTable;
 use elf_reader::{Elf, Range};
 use nv_words::Order;
 use std::alloc::{AllocError, Global};
 use std::marker::Model;
+use std::ops;
 
 /// The memory and the code with which a program starts.
 ///
@@ -129,7 +129,7 @@ impl Image {
     }
 
     /// Pages that cannot be read, one behind the other: those between the heap and the stack, which are most of all.
-    pub fn gap(&self) -> Gap
+    pub fn gap(&self) -> ops::Range<u32>
         ensures start { result.start
             ≡ min (heap_page (live self.now.file) + self.now.heap) pages_below }
         ensures end { result.end ≡ max (argument_page - self.now.stack) result.start }

@@ -5,11 +5,11 @@ ghost use Rattle.elf_reader.specs.declared.segment.Segment.{Segment};
 ghost use Rattle.elf_image.specs.Pages.{pages_below, argument_page, heap_page, is_segment_page, is_data_page, is_heap_page, is_stack_page, is_readable_page, is_writable_page, is_shared, segment_pages, mapped_pages};
 ghost use Rattle.elf_image.specs.PageTable.{marked};
 
-use crate::gap::Gap;
 use crate::page_marks::{count_marks, data_marks, is_marked, segment_marks};
 use crate::pages::{PAGES, heap_page};
 use elf_reader::Segment;
 use std::alloc::{AllocError, Global};
+use std::ops::Range;
 use std::snapshot::Snapshot;
 
 /// Where segments, heap, stack and argument page lie.
@@ -180,7 +180,7 @@ impl Layout {
     }
 
     /// The pages between segments and heap on the one side and the stack on the other, which are for nothing.
-    pub fn gap(&self) -> Gap
+    pub fn gap(&self) -> Range<u32>
         ensures start { result.start
             ≡ min (heap_page self.now.segments.value.items + self.now.heap) pages_below }
         ensures end { result.end ≡ max (argument_page - self.now.stack) result.start }
@@ -191,9 +191,6 @@ impl Layout {
             ≡ false }
     {
         let start = (self.heap_first + self.heap).min(PAGES);
-        Gap {
-            start,
-            end: (Layout::ARGUMENT_PAGE - self.stack).max(start),
-        }
+        start..(Layout::ARGUMENT_PAGE - self.stack).max(start)
     }
 }

@@ -5,7 +5,6 @@ mod checks;
 mod contents;
 mod filled;
 mod floats;
-mod gap;
 mod guest_image;
 mod image_error;
 mod layout;
@@ -16,7 +15,6 @@ mod pages;
 mod runs;
 mod store;
 
-pub use gap::Gap;
 pub use guest_image::Image;
 pub use image_error::ImageError;
 pub use loader::image;
