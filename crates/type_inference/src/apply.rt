@@ -144,6 +144,7 @@ fn pushed(
     with_stack(alloc, frame, Some(stack))
 }
 
+#[inline(always)]
 fn above(alloc: Global, given: Option<Kind>, below: &[Kind]) -> Result<KindList, AllocError>
     ensures { IfOk result (λ k. k ≡ option_to_list given ++ below.now) }
 {
@@ -156,6 +157,7 @@ fn above(alloc: Global, given: Option<Kind>, below: &[Kind]) -> Result<KindList,
 }
 
 // The frame with other operands, where there are some.
+#[inline(always)]
 fn with_stack(
     alloc: Global,
     frame: &Frame,

@@ -24,6 +24,7 @@ pub struct Code<'a> {
 
 impl Code<'_> {
     /// The line at an offset.
+    #[inline(always)]
     pub fn line_at(&self, at: usize) -> Option<&LinkedLine>
         requires { IsTable self.now.method.now.lines self.now.starts.items }
         ensures found { option_copied result ≡ line_in self.now.method.now.lines at }
@@ -34,6 +35,7 @@ impl Code<'_> {
     }
 
     /// Whether there is a line at an offset.
+    #[inline(always)]
     pub fn has_line(&self, at: usize) -> bool
         requires { IsTable self.now.method.now.lines self.now.starts.items }
         ensures found { result ≡ is_some (line_in self.now.method.now.lines at) }

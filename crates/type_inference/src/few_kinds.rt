@@ -25,6 +25,7 @@ impl Model for FewKinds {
 }
 
 impl FewKinds {
+    #[inline(always)]
     pub fn new() -> FewKinds
         ensures { result ≡ [] }
     {
@@ -35,6 +36,7 @@ impl FewKinds {
     }
 
     /// The same types once more.
+    #[inline(always)]
     pub fn copied(&self) -> FewKinds
         ensures { result ≡ self.now }
     {
@@ -45,6 +47,7 @@ impl FewKinds {
     }
 
     /// The types, to be read.
+    #[inline(always)]
     pub fn as_slice(&self) -> &[Kind]
         ensures { result.now ≡ self.now }
     {
@@ -52,6 +55,7 @@ impl FewKinds {
     }
 
     /// Whether there is room for one more.
+    #[inline(always)]
     pub fn has_room(&self) -> bool
         ensures { result ≡ true → length self.now < 14 }
     {
@@ -59,6 +63,7 @@ impl FewKinds {
     }
 
     /// Adds a type behind the others.
+    #[inline(always)]
     pub fn push(&mut self, kind: Kind)
         requires { length self.old < 14 }
         ensures { self.new ≡ self.old ++ kind ∷ [] }

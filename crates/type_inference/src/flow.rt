@@ -26,6 +26,7 @@ pub struct Flow {
 
 impl Flow {
     /// Sets a frame, which an instruction below a limit has to see.
+    #[inline(always)]
     fn put(&mut self, limit: usize, at: usize, frame: Frame) -> Result<(), AllocError>
         requires { at < length self.old.frames.items }
         ensures frames { OnOk result (self.new.frames.items
@@ -41,6 +42,7 @@ impl Flow {
     }
 
     /// A frame flows to the instruction at an offset; or it cannot.
+    #[inline(always)]
     fn flow(
         &mut self,
         alloc: Global,
@@ -76,6 +78,7 @@ impl Flow {
     }
 
     // A frame flows to each of some instructions, and is left.
+    #[inline(always)]
     fn flow_to_each(
         &mut self,
         alloc: Global,
@@ -107,6 +110,7 @@ impl Flow {
     }
 
     // A frame flows to each of some instructions, to the last of which it is moved.
+    #[inline(always)]
     fn flow_to_all(
         &mut self,
         alloc: Global,

@@ -27,6 +27,7 @@ impl KeptKinds {
     }
 
     /// The types, to be read.
+    #[inline(always)]
     pub fn as_slice(&self) -> &[Kind]
         ensures { result.now ≡ kinds_of self.now }
     {
@@ -37,6 +38,7 @@ impl KeptKinds {
     }
 
     /// Adds a type behind the others.
+    #[inline(always)]
     pub fn push(&mut self, alloc: Global, kind: Kind) -> Result<(), AllocError>
         ensures { OnOk result (kinds_of self.new ≡ kinds_of self.old ++ kind ∷ []) }
     {

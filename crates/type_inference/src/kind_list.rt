@@ -23,6 +23,7 @@ impl Model for KindList {
 }
 
 impl KindList {
+    #[inline(always)]
     pub fn new() -> KindList
         ensures { result ≡ [] }
     {
@@ -49,6 +50,7 @@ impl KindList {
     }
 
     /// The types, to be read.
+    #[inline(always)]
     pub fn as_slice(&self) -> &[Kind]
         ensures { result.now ≡ self.now }
     {
@@ -56,6 +58,7 @@ impl KindList {
     }
 
     /// Adds a type behind the others.
+    #[inline(always)]
     pub fn push(&mut self, alloc: Global, kind: Kind) -> Result<(), AllocError>
         ensures { OnOk result (self.new ≡ self.old ++ kind ∷ []) }
     {
@@ -63,6 +66,7 @@ impl KindList {
     }
 
     /// Adds types behind the others.
+    #[inline(always)]
     pub fn append(&mut self, alloc: Global, kinds: &[Kind]) -> Result<(), AllocError>
         ensures { OnOk result (self.new ≡ self.old ++ kinds.now) }
     {

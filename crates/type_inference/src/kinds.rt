@@ -6,6 +6,7 @@ ghost use Rattle.type_inference.specs.Joins as joins;
 use jvm_program::{Kind, LocalKind};
 
 /// A type is below itself and `Top`, and null below the types of references.
+#[inline(always)]
 pub fn is_below(kind: Kind, other: Kind) -> bool
     ensures { result ≡ below kind other }
 {
@@ -48,12 +49,14 @@ pub fn join(kind: Kind, other: Kind) -> Kind
     }
 }
 
+#[inline(always)]
 pub fn is_top(kind: Kind) -> bool
     ensures { result ≡ joins.is_top kind }
 {
     matches!(kind, Kind::Top)
 }
 
+#[inline(always)]
 pub fn is_long(kind: Kind) -> bool
     ensures { result ≡ is_long_kind kind }
 {
@@ -83,6 +86,7 @@ pub fn is_moved(moved: LocalKind, kind: Kind) -> bool
 }
 
 /// Whether each operand has a type.
+#[inline(always)]
 pub fn has_no_top(stack: &[Kind]) -> bool
     ensures { result ≡ no_top stack.now }
 {
@@ -97,6 +101,7 @@ pub fn has_no_top(stack: &[Kind]) -> bool
 }
 
 /// Whether operands have room, where a long is two (JVM Specification, 2.6.2).
+#[inline(always)]
 pub fn has_room(stack: &[Kind], most: u16) -> bool
     ensures { IsTrue result ↔ (slots_of stack.now ≤ most) }
 {

@@ -14,6 +14,7 @@ use jvm_program::Kind;
 use std::alloc::{AllocError, Global};
 
 /// What comes of a frame that flows to an instruction with a frame or none. It stays the frame of one that had none.
+#[inline(always)]
 pub fn meet(alloc: Global, old: &Option<Frame>, frame: Frame) -> Result<Meeting, AllocError>
     ensures { IfOk result (IsMeeting old.now frame) }
 {
@@ -29,6 +30,7 @@ pub fn meet(alloc: Global, old: &Option<Frame>, frame: Frame) -> Result<Meeting,
     }
 }
 
+#[inline(always)]
 fn first_frame(frame: Frame) -> Meeting
     ensures { IsMeeting None frame result }
 {

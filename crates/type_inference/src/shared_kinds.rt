@@ -36,6 +36,7 @@ impl SharedKinds {
     }
 
     /// The same types for one more frame. It takes no memory.
+    #[inline(always)]
     pub fn shared(&self) -> Result<SharedKinds, AllocError>
         ensures { IfOk result (λ s. s ≡ self.now) }
     {
@@ -44,6 +45,7 @@ impl SharedKinds {
     }
 
     /// The types, to be read.
+    #[inline(always)]
     pub fn as_slice(&self) -> &[Kind]
         ensures { result.now ≡ self.now }
     {

@@ -31,6 +31,7 @@ impl Successors {
 }
 
 /// Where an instruction may go.
+#[inline(always)]
 pub fn successors_of(alloc: Global, line: &LinkedLine) -> Result<Successors, AllocError>
     ensures { IfOk result (λ s. offsets_of s ≡ program.successors line.now) }
 {
