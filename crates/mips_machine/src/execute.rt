@@ -40,6 +40,7 @@ impl Processor {
             Op::Sll { rt, rd, sa } => self.shift(ShiftName::Sll, rt, rd, sa),
             Op::Srl { rt, rd, sa } => self.shift(ShiftName::Srl, rt, rd, sa),
             Op::Sra { rt, rd, sa } => self.shift(ShiftName::Sra, rt, rd, sa),
+            Op::Nop => self.shift(ShiftName::Sll, 0, 0, 0),
             Op::Jr { rs } => self.jump_register(rs),
             Op::Jalr { rs, rd } => self.jump_and_link_register(rs, rd),
             Op::Syscall { .. } => Executed::Call,
