@@ -68,7 +68,7 @@ impl Frames {
 
     /// A call: the current frame waits at an index, and the callee's frame has the uppermost operands as its first local variables, the
     /// first argument in variable 0.
-    #[inline]
+    #[inline(always)]
     pub fn call(&mut self, callee: Callee, return_at: u32)
         requires full { length self.old.waiting.frames < 63 }
         requires room { HasRoom self.old.waiting.locals_limit self.old.waiting.operands_limit
@@ -109,12 +109,15 @@ impl Frames {
         ensures limits { HasRoom self.new.waiting.locals_limit self.new.waiting.operands_limit
             self.new.current }
     {
-        if !self.waiting.give(&mut self.current) {
-            return false;
+        match value {
+            None => self.waiting.give(&mut self.current),
+            Some(v) => {
+                if !self.waiting.give(&mut self.current) {
+                    return false;
+                }
+                self.current.operands.push(v);
+                true
+            }
         }
-        if let Some(v) = value {
-            self.current.operands.push(v);
-        }
-        true
     }
 }

@@ -79,8 +79,61 @@ impl Waiting {
     }
 
     /// The current frame waits at an index, and a callee's frame with the uppermost operands as arguments is current.
-    #[inline]
+    #[inline(always)]
     pub(crate) fn call(&mut self, current: &mut Frame, callee: Callee, return_at: u32)
+        requires full { length self.old.frames < 63 }
+        requires room { HasRoom self.old.locals_limit self.old.operands_limit current.old }
+        requires arguments { callee.parameters ≤ length current.old.operands.items }
+        requires parameters { callee.parameters ≤ callee.locals }
+        requires locals { callee.locals ≤ self.old.locals_limit }
+        ensures entered { current.new
+            ≡ entered callee (given callee.parameters current.old)
+            self.old.locals_limit self.old.operands_limit }
+        ensures waits { self.new
+            ≡ with_frames self.old (waiting_at return_at callee.parameters current.old
+            ∷ self.old.frames) }
+    {
+        match (callee.parameters, callee.locals, current.operands.len()) {
+            (2, 4, 2) => self.call_with_all(current, callee.sized(2, 4), return_at),
+            (3, 4, 3) => self.call_with_all(current, callee.sized(3, 4), return_at),
+            (parameters, locals, _) => {
+                self.call_any(current, callee.sized(parameters, locals), return_at);
+            }
+        }
+    }
+
+    // The same where all operands are arguments: those of a frame that waits need not be kept.
+    #[inline(always)]
+    fn call_with_all(&mut self, current: &mut Frame, callee: Callee, return_at: u32)
+        requires full { length self.old.frames < 63 }
+        requires room { HasRoom self.old.locals_limit self.old.operands_limit current.old }
+        requires arguments { callee.parameters ≡ length current.old.operands.items }
+        requires parameters { callee.parameters ≤ callee.locals }
+        requires locals { callee.locals ≤ self.old.locals_limit }
+        ensures entered { current.new
+            ≡ entered callee (given callee.parameters current.old)
+            self.old.locals_limit self.old.operands_limit }
+        ensures waits { self.new
+            ≡ with_frames self.old (waiting_at return_at callee.parameters current.old
+            ∷ self.old.frames) }
+    {
+        let spare = &mut self.frames[self.depth];
+        let arguments = current.operands.uppermost(callee.parameters as usize);
+        mem::swap(&mut current.locals, &mut spare.locals);
+        current.locals.enter(arguments, callee.locals as usize);
+        current.operands.clear();
+        spare.operands.clear();
+        spare.method = current.method;
+        spare.at = return_at;
+        current.method = callee.method;
+        current.at = callee.start;
+        self.depth += 1;
+    }
+
+    // The same for any callee.
+    #[cold]
+    #[inline(never)]
+    fn call_any(&mut self, current: &mut Frame, callee: Callee, return_at: u32)
         requires full { length self.old.frames < 63 }
         requires room { HasRoom self.old.locals_limit self.old.operands_limit current.old }
         requires arguments { callee.parameters ≤ length current.old.operands.items }
@@ -117,7 +170,15 @@ impl Waiting {
             return false;
         }
         self.depth -= 1;
-        mem::swap(current, &mut self.frames[self.depth]);
+        let waiting = &mut self.frames[self.depth];
+        if waiting.operands.is_empty() {
+            mem::swap(&mut current.locals, &mut waiting.locals);
+            current.operands.clear();
+            current.method = waiting.method;
+            current.at = waiting.at;
+        } else {
+            mem::swap(current, waiting);
+        }
         true
     }
 }
