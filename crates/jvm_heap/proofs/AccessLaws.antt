@@ -1,5 +1,5 @@
 -- The effects of the instructions on arrays, over a region's arrays.
-use Rattle.std.proofs.Common.{◌≡◌, ◌≢◌, ℕ, ◌+◌, ◌<◌, ◌≤◌, ◌^◌, nat_lt, ◌==◌, ◌&&◌, Bool, true, false, if◌then◌else◌, List, [], ◌∷◌, ◌++◌, length, slice_index, Option, Some, None, option_map, refl, ap, sym, ◌∙◌, arith}
+use Rattle.std.proofs.Common.{◌≡◌, ◌≢◌, ℕ, ◌+◌, ◌<◌, ◌≤◌, ◌^◌, nat_lt, ◌==◌, ◌&&◌, Bool, true, false, if◌then◌else◌, List, [], ◌∷◌, ◌++◌, length, slice_index, Option, Some, None, option_map, refl, ap, sym, subst, ◌∙◌, arith}
 use Rattle.std.proofs.lemmas.Bool.{lt-ltb, le-ltb, le-leb, lt-leb, eqb-true, eqb-false}
 use Rattle.jvm_names.specs.declared.array_name.ArrayName.TheVariants.{Iastore, Aastore}
 use Rattle.jvm_program.specs.declared.array_kind.ArrayKind.{ArrayKind}
@@ -112,6 +112,14 @@ ints_at arrays p h = ints_found arrays p (array_at arrays p) refl h
 
 pub values_of : (arrays : List Block) (p : ℕ) (b : Block) → array_at arrays p ≡ Some b → values_at arrays p ≡ b.values
 values_of arrays p b is = ap values_in is
+
+-- an int is put into the array that a value is
+pub int_put : (arrays more : List Block) (words n i place : ℕ) (v : Value) → v ≡ array place → (is_ints_reference (heap_of arrays) v && true) ≡ true → i < length (values_at arrays place) → more ≡ with_value arrays place i n → (others : List Value) → Does words (instructions.Array Iastore) (int n ∷ int i ∷ v ∷ others) (heap_of arrays) others (heap_of more)
+int_put arrays more words n i place v is fits within made others =
+    let found = ints_at arrays place (subst (λ u. (is_ints_reference (heap_of arrays) u && true) ≡ true) is fits) in
+    let inside : i < length found.block.values = subst (λ (values : List ℕ). i < length values) (values_of arrays place found.block found.there) within in
+    does_by words (instructions.Array Iastore) (int n ∷ int i ∷ v ∷ others) (int n ∷ int i ∷ array place ∷ others) others others (heap_of arrays) (heap_of more) (heap_of (with_value arrays place i n)) (ap (λ u. int n ∷ int i ∷ u ∷ others) is) refl (ap heap_of (sym made))
+    (int_stored arrays words place i n others found.block found.there found.kind inside)
 
 kind_of_pages : (b : Block) (t : Bool) → t ≡ (b.kind == 0) → b.kind < 2 → (is_pages (Some (array_by b t)) && true) ≡ true → b.kind ≡ 1
 kind_of_pages b true e few h = let bad : false ≡ true = h in absurd cc

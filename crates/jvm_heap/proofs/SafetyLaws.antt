@@ -3,9 +3,10 @@ use Rattle.std.proofs.Common.{◌≡◌, ◌≢◌, ℕ, ◌-◌, ◌<◌, ◌==
 use Rattle.std.proofs.lemmas.Bool.{eqb-true, eqb-false}
 use Rattle.std.proofs.lemmas.Option.{none-some}
 use Rattle.std.proofs.lemmas.List.{get_or-set_same, get_or-set_other, length-set}
-use Rattle.int_region.specs.Arrays.{Block, Contents, array_at, used_by, with_element, with_value, zeros, IsSound, IsLive}
+use Rattle.int_region.specs.Arrays.{Block, Contents, array_at, used_by, values_at, with_element, with_value, zeros, IsSound, IsLive}
 use Rattle.int_region.proofs.ArrayLemmas.{array_at-with_value, array_at-added, array_at-added_other}
 use Rattle.jvm_heap.specs.Heaps.{StandsAt, IsTable, IsSafe}
+use Rattle.jvm_heap.proofs.AccessLaws.{values_of, IntsAt}
 use Rattle.jvm_heap.proofs.HeapLaws.{zero_read}
 
 -- ---- another element
@@ -93,3 +94,9 @@ safe_none region sound none =
       reads = tt;
       writes = tt;
     }
+
+-- an int is put into an array of ints
+pub safe_int : (region after : Contents) (readable writable : Option ℕ) (p i v : ℕ) → IntsAt region.arrays p → IsSafe region readable writable → IsSound after → i < length (values_at region.arrays p) → after.arrays ≡ with_value region.arrays p i v → IsSafe after readable writable
+safe_int region after readable writable p i v s safe sound h made =
+    safe_put region after readable writable p i v s.block safe sound made s.there (subst (λ (values : List ℕ). i < length values) (values_of region.arrays p s.block s.there) h)
+    (λ kind. absurd (omega (arith, kind, s.kind)))

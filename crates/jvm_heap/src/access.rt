@@ -1,7 +1,8 @@
 //! The instructions on arrays. Where one traps, operands and arrays are as they were.
-ghost use Rattle.std.specs.Prelude.{◌≡◌, ◌∷◌, [], ℕ, Option, IsTrue, OnOk, OnErr, IfErr};
+ghost use Rattle.std.specs.Prelude.{◌≡◌, ◌∷◌, [], ℕ, List, Option, IsTrue, IsFalse, OnOk, OnErr, IfErr, IfSome};
 ghost use Rattle.jvm_names.specs.declared.array_name.ArrayName.TheVariants.{Iaload, Aaload, Iastore, Aastore};
 ghost use Rattle.jvm_program.specs.declared.instruction.Instruction.TheVariants as instructions;
+ghost use Rattle.jvm_program.specs.declared.value.Value.{Value as StackValue};
 ghost use Rattle.jvm_program.specs.declared.value.Value.TheVariants.{Int as int};
 ghost use Rattle.jvm_program.specs.Values.{is_int, is_ints_reference, is_pages_reference, reference as reference_to};
 ghost use Rattle.jvm_frames.specs.Stack.{on_top};
@@ -261,4 +262,60 @@ fn element(page: Value) -> u32
         Value::Array(place) => place.wrapping_add(1),
         _ => 0,
     }
+}
+
+/// An element of an array of arrays, as `aaload` gives it; None where that traps.
+#[inline(always)]
+pub fn page_of(pages: Value, region: &Region, i: u32) -> Option<Value>
+    requires { IsTrue (on_top (is_pages_reference (heap_of region.now.arrays) ∷ []) (pages ∷ [])) }
+    ensures { IfSome result (λ page. (others : List StackValue)
+        → Does region.now.size (instructions.Array Aaload) (int i ∷ pages ∷ others)
+        (heap_of region.now.arrays) (page ∷ others) (heap_of region.now.arrays)) }
+{
+    let Value::Array(place) = pages else {
+        return None;
+    };
+    if region.len(Place(place)) <= i {
+        return None;
+    }
+    Some(reference(region.get(Place(place), i)))
+}
+
+/// An element of an array of ints, as `iaload` gives it; None where that traps.
+#[inline(always)]
+pub fn int_of(ints: Value, region: &Region, i: u32) -> Option<u32>
+    requires { IsTrue (on_top (is_ints_reference (heap_of region.now.arrays) ∷ []) (ints ∷ [])) }
+    ensures { IfSome result (λ n. (others : List StackValue)
+        → Does region.now.size (instructions.Array Iaload) (int i ∷ ints ∷ others)
+        (heap_of region.now.arrays) (int n ∷ others) (heap_of region.now.arrays)) }
+{
+    let Value::Array(place) = ints else {
+        return None;
+    };
+    if region.len(Place(place)) <= i {
+        return None;
+    }
+    Some(region.get(Place(place), i))
+}
+
+/// Puts an element into an array of ints, as `iastore` does; false, with nothing changed, where that traps.
+#[inline(always)]
+pub fn put_int(ints: Value, region: &mut Region, i: u32, n: u32) -> bool
+    requires { IsTrue (on_top (is_ints_reference (heap_of region.old.arrays) ∷ []) (ints ∷ [])) }
+    ensures does { IsTrue result → (others : List StackValue)
+        → Does region.old.size (instructions.Array Iastore) (int n ∷ int i ∷ ints ∷ others)
+        (heap_of region.old.arrays) others (heap_of region.new.arrays) }
+    ensures unchanged { IsFalse result → region.new ≡ region.old }
+    ensures size { region.new.size ≡ region.old.size }
+    ensures safe { (readable writable : Option ℕ) → IsSafe region.old readable writable
+        → IsSafe region.new readable writable }
+{
+    let Value::Array(place) = ints else {
+        return false;
+    };
+    if region.len(Place(place)) <= i {
+        return false;
+    }
+    region.put(Place(place), i, n);
+    true
 }

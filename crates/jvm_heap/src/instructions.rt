@@ -1,7 +1,8 @@
 //! The instructions on the arrays of a program.
-ghost use Rattle.std.specs.Prelude.{◌≡◌, ◌∷◌, [], IsTrue, OnOk, OnErr, IfErr};
+ghost use Rattle.std.specs.Prelude.{◌≡◌, ◌∷◌, [], List, IsTrue, IsFalse, OnOk, OnErr, IfErr, IfSome};
 ghost use Rattle.jvm_names.specs.declared.array_name.ArrayName.TheVariants.{Iaload, Aaload, Iastore, Aastore};
 ghost use Rattle.jvm_program.specs.declared.instruction.Instruction.TheVariants as instructions;
+ghost use Rattle.jvm_program.specs.declared.value.Value.{Value as StackValue};
 ghost use Rattle.jvm_program.specs.declared.value.Value.TheVariants.{Int as int};
 ghost use Rattle.jvm_program.specs.Values.{is_int, is_ints_reference, is_pages_reference};
 ghost use Rattle.jvm_frames.specs.Stack.{on_top};
@@ -12,7 +13,7 @@ ghost use Rattle.jvm_heap.specs.HeapForms.{Does, Traps};
 use crate::access;
 use crate::heap::Heap;
 use jvm_frames::{Operands, Trap};
-use jvm_program::ArrayKind;
+use jvm_program::{ArrayKind, Value};
 
 impl Heap {
     /// `iaload`.
@@ -154,5 +155,40 @@ impl Heap {
         ensures size { self.new.region.size ≡ self.old.region.size }
     {
         access::new_array(operands, &mut self.region, kind)
+    }
+
+    /// An element of an array of arrays, as `aaload` gives it; None where that traps.
+    #[inline(always)]
+    pub fn page_of(&self, pages: Value, i: u32) -> Option<Value>
+        requires { IsTrue (on_top (is_pages_reference (heap_of self.now.region.arrays) ∷ []) (pages ∷ [])) }
+        ensures { IfSome result (λ page. (others : List StackValue)
+            → Does self.now.region.size (instructions.Array Aaload) (int i ∷ pages ∷ others)
+            (heap_of self.now.region.arrays) (page ∷ others) (heap_of self.now.region.arrays)) }
+    {
+        access::page_of(pages, &self.region, i)
+    }
+
+    /// An element of an array of ints, as `iaload` gives it; None where that traps.
+    #[inline(always)]
+    pub fn int_of(&self, ints: Value, i: u32) -> Option<u32>
+        requires { IsTrue (on_top (is_ints_reference (heap_of self.now.region.arrays) ∷ []) (ints ∷ [])) }
+        ensures { IfSome result (λ n. (others : List StackValue)
+            → Does self.now.region.size (instructions.Array Iaload) (int i ∷ ints ∷ others)
+            (heap_of self.now.region.arrays) (int n ∷ others) (heap_of self.now.region.arrays)) }
+    {
+        access::int_of(ints, &self.region, i)
+    }
+
+    /// Puts an element into an array of ints, as `iastore` does; false, with nothing changed, where that traps.
+    #[inline(always)]
+    pub fn put_int(&mut self, ints: Value, i: u32, n: u32) -> bool
+        requires { IsTrue (on_top (is_ints_reference (heap_of self.old.region.arrays) ∷ []) (ints ∷ [])) }
+        ensures does { IsTrue result → (others : List StackValue)
+            → Does self.old.region.size (instructions.Array Iastore) (int n ∷ int i ∷ ints ∷ others)
+            (heap_of self.old.region.arrays) others (heap_of self.new.region.arrays) }
+        ensures unchanged { IsFalse result → self.new ≡ self.old }
+        ensures size { self.new.region.size ≡ self.old.region.size }
+    {
+        access::put_int(ints, &mut self.region, i, n)
     }
 }

@@ -8,9 +8,9 @@ use Rattle.int_region.specs.Arrays.{Block, Contents, with_value, values_at, IsSo
 use Rattle.jvm_frames.specs.Stack.{on_top}
 use Rattle.jvm_heap.specs.Regions.{heap_of}
 use Rattle.jvm_heap.specs.HeapForms.{Does}
-use Rattle.jvm_heap.proofs.AccessLaws.{int_stored, does_by, ints_at, values_of, IntsAt}
+use Rattle.jvm_heap.proofs.AccessLaws.{does_by, int_put, ints_at, IntsAt}
 use Rattle.jvm_heap.specs.Heaps.{IsSafe}
-use Rattle.jvm_heap.proofs.SafetyLaws.{safe_put}
+use Rattle.jvm_heap.proofs.SafetyLaws.{safe_int}
 use Rattle.jvm_heap.proofs.access.store_int.Goals as goal
 
 -- an int was stored in an array of ints
@@ -18,11 +18,8 @@ stored : (arrays more : List Block) (words n i place : ℕ) (v top : Value) (old
 stored arrays more words n i place v top old first second rest e f g peeked is fits within made =
     let uppermost : v ≡ array place = ap (λ items. slice_index_or items 0 unset) (sym g) ∙ sym peeked ∙ is in
     let all : old ≡ int n ∷ int i ∷ array place ∷ rest = e ∙ ap (λ items. int n ∷ items) (f ∙ ap (λ items. int i ∷ items) (g ∙ ap (λ u. u ∷ rest) uppermost)) in
-    let tests : on_top (is_int ∷ is_int ∷ is_ints_reference (heap_of arrays) ∷ []) (int n ∷ int i ∷ array place ∷ rest) ≡ true = ap (on_top (is_int ∷ is_int ∷ is_ints_reference (heap_of arrays) ∷ [])) (sym all) ∙ fits in
-    let found = ints_at arrays place tests in
-    let inside : i < length found.block.values = subst (λ (values : List ℕ). i < length values) (values_of arrays place found.block found.there) within in
-    does_by words (instructions.Array Iastore) old (int n ∷ int i ∷ array place ∷ rest) rest rest (heap_of arrays) (heap_of more) (heap_of (with_value arrays place i n)) all refl (ap heap_of (sym made))
-    (int_stored arrays words place i n rest found.block found.there found.kind inside)
+    does_by words (instructions.Array Iastore) old (int n ∷ int i ∷ array place ∷ rest) rest rest (heap_of arrays) (heap_of more) (heap_of more) all refl refl
+    (int_put arrays more words n i place (array place) refl (ap (on_top (is_int ∷ is_int ∷ is_ints_reference (heap_of arrays) ∷ [])) (sym all) ∙ fits) within made rest)
 
 pub returns-clause-ok : goal.returns-clause-ok
 returns-clause-ok c =
@@ -42,11 +39,6 @@ top_is arrays n i place v top old first second rest e f g peeked is fits =
     let uppermost : v ≡ array place = ap (λ items. slice_index_or items 0 unset) (sym g) ∙ sym peeked ∙ is in
     let all : old ≡ int n ∷ int i ∷ array place ∷ rest = e ∙ ap (λ items. int n ∷ items) (f ∙ ap (λ items. int i ∷ items) (g ∙ ap (λ u. u ∷ rest) uppermost)) in
     ints_at arrays place (ap (on_top (is_int ∷ is_int ∷ is_ints_reference (heap_of arrays) ∷ [])) (sym all) ∙ fits)
-
-safe_int : (region after : Contents) (readable writable : Option ℕ) (p i v : ℕ) → IntsAt region.arrays p → IsSafe region readable writable → IsSound after → i < length (values_at region.arrays p) → after.arrays ≡ with_value region.arrays p i v → IsSafe after readable writable
-safe_int region after readable writable p i v s safe sound h made =
-    safe_put region after readable writable p i v s.block safe sound made s.there (subst (λ (values : List ℕ). i < length values) (values_of region.arrays p s.block s.there) h)
-    (λ kind. absurd (omega (arith, kind, s.kind)))
 
 pub returns-clause-safe : goal.returns-clause-safe
 returns-clause-safe c readable writable safe =

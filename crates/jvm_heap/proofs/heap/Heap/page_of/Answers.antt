@@ -1,0 +1,5 @@
+use Rattle.std.proofs.Common.{sym}
+use Rattle.jvm_heap.proofs.heap.Heap.page_of.Goals as goal
+
+pub returns : goal.returns
+returns c = rw (sym c.self.view_is) c.page_of.ensures
