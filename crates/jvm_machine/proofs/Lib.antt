@@ -19,3 +19,4 @@ pub mod TurnLemmas
 pub mod Lines
 pub mod Methods
 pub mod Fetching
+pub mod Helped

@@ -8,3 +8,4 @@ pub mod Unique
 pub mod Machine
 pub mod Counting
 pub mod Decoded
+pub mod Helping

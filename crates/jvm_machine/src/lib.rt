@@ -2,14 +2,20 @@
 //! The instructions of all methods stand in one array, in which branches name their targets by index.
 #![tactic(auto)]
 
+mod byte_reader;
+mod byte_writer;
 mod calling;
 pub mod code_laws;
 mod decoding;
 mod ending;
 mod executable;
+mod helper;
+mod helping;
 mod host_words;
 mod hurrying;
+mod joint;
 mod jvm;
+mod lane;
 mod loading;
 mod machine_code;
 mod machine_method;
