@@ -47,7 +47,7 @@ pub fn accept_loaded(alloc: Global, named: &NamedClass, loaded: Loaded) -> Resul
 }
 
 /// Links classes and verifies them.
-pub fn accept_classes(alloc: Global, classes: Vec<Class>) -> Result<Verified, Ending>
+fn accept_classes(alloc: Global, classes: Vec<Class>) -> Result<Verified, Ending>
     requires kept { All IsClass classes.items }
     ensures makes { Makes (λ check. IsAccepted classes.items (classes_of check)) result }
 {

@@ -11,7 +11,7 @@ mod listing;
 mod running;
 mod verifying;
 
-pub use accepting::{accept, accept_classes, accept_loaded};
+pub use accepting::{accept, accept_loaded};
 pub use assembly::asm;
 pub use guest::Guest;
 pub use imaging::{DEFAULT_PAGES, image_of_file, load_image};

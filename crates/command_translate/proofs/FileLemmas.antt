@@ -1,24 +1,16 @@
 -- The classes that files spell.
-use Rattle.std.proofs.Common.{◌≡◌, ℕ, zero, suc, ◌+◌, ◌<◌, List, [], ◌∷◌, ◌++◌, length, take, get_or, Some, Ok, Err, refl, sym, ap, ◌∙◌, subst, arith}
+use Rattle.std.proofs.Common.{◌≡◌, ℕ, zero, suc, ◌+◌, ◌<◌, List, [], ◌∷◌, ◌++◌, length, take, get_or, Some, refl, sym, ap, ◌∙◌, subst, arith}
 use Rattle.std.proofs.lemmas.List.{take_more}
 use Rattle.std.proofs.lemmas.List.Elements.{All-cons, All-nil}
 use Rattle.std.proofs.lemmas.Option.{none-some}
 use Rattle.std.specs.List.{All}
 use Rattle.nv_faults.specs.declared.class_fault.ClassFault.{ClassFault}
-use Rattle.jvm_program.specs.Typing.{AllTyped}
 use Rattle.jvm_code.specs.declared.class.Class.{Class}
 use Rattle.class_file.proofs.ClassLaws.{no_fault, same_class}
 use Rattle.class_file.specs.ClassFile as format
 use Rattle.name_resolution.specs.Kept.{IsClass}
-use Rattle.jvm_link.specs.Linking as linking
 use Rattle.program_translation.specs.declared.named_file.NamedFile.{NamedFile}
-use Rattle.command_deeds.specs.Checks.{Behind, Check, unless}
-use Rattle.command_deeds.specs.Ends.{CommandAnswer}
-use Rattle.command_deeds.specs.declared.done.Done.TheVariants.{LinkRefused}
-use Rattle.command_guest.specs.Classes as set
 use Rattle.command_translate.specs.Classes.{HoldAccepted, SpellClasses}
-
--- ---- reading
 
 -- files spell one list of classes
 pub same_classes : (files : List NamedFile) (classes others : List Class) → SpellClasses files classes → SpellClasses files others → others ≡ classes
@@ -68,23 +60,3 @@ pub no_refusal : (files : List NamedFile) (i : ℕ) (file : NamedFile) (bytes : 
 no_refusal files i file bytes fault held within is same refused =
     let at = class_at files held.classes i file held.spelled within is in
     none-some fault (sym (no_fault file.bytes.items at.0 at.1) ∙ ap format.class_fault (sym same) ∙ refused)
-
--- ---- linking and typing
-
-all_typed : (classes : List Class) (answer : CommandAnswer) → AllTyped (linking.program_of classes) → set.IsTypeChecked classes (Err answer) → ⊥
-all_typed classes answer typed h =
-    let fault = h.1 in
-    let typing = typed _ fault.method fault.method_is in
-    fault.fails.fails typing.0 (typing.1 h.0.at)
-
--- classes that link are checked by their types
-by_types : (classes : List Class) (check : Check (List Class)) → linking.Accepted classes → set.IsAccepted classes check → set.IsTypeChecked classes check
-by_types classes check a h = subst (λ found. Behind (unless found LinkRefused classes) set.IsTypeChecked check) a.links h
-
--- classes that are accepted are not refused
-pub not_refused : (classes : List Class) (answer : CommandAnswer) → linking.Accepted classes → set.IsAccepted classes (Err answer) → ⊥
-not_refused classes answer a refused = all_typed classes answer a.typed (by_types classes (Err answer) a refused)
-
--- and these are they
-pub accepted_same : (classes these : List Class) → linking.Accepted classes → set.IsAccepted classes (Ok these) → these ≡ classes
-accepted_same classes these a h = (by_types classes (Ok these) a h).0

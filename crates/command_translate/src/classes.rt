@@ -2,6 +2,7 @@
 ghost use Rattle.std.specs.Prelude.{◌≡◌, ◌++◌, ◌∷◌, [], All, IfOk, List, OnOk, false};
 ghost use Rattle.elf_image.specs.Start.{image_of};
 ghost use Rattle.jvm_program.specs.Step.{loaded};
+ghost use Rattle.jvm_program.specs.Typing.{AllTyped};
 ghost use Rattle.jvm_code.specs.declared.class.Class.{Class};
 ghost use Rattle.name_resolution.specs.Kept.{IsClass};
 ghost use Rattle.jvm_link.specs.Linking as linking;
@@ -10,16 +11,15 @@ ghost use Rattle.program_translation.specs.Bounds as bounds;
 ghost use Rattle.command_translate.specs.Classes.{HoldAccepted, SpellClasses};
 
 use class_reader::{ReadError, read_class};
-use command_deeds::Ending;
-use command_guest::accept_classes;
 use elf_image::Image;
 use jvm_code::Class;
+use jvm_link::{LinkError, Linked, link};
 use jvm_machine::Jvm;
 use nv_translate::{NamedFile, need};
 use std::alloc::{AllocError, Global};
-use type_verifier::Verified;
 
-/// The class machine with the classes that the files of an image's translation spell, in the region that they need.
+/// The class machine with the classes that the files of an image's translation spell, in the region that they need. That their methods are
+/// typed is proved of all translations, so no time is spent on verifying them.
 pub fn machine_of(alloc: Global, image: &Image, files: &[NamedFile]) -> Result<Jvm, AllocError>
     requires { HoldAccepted files.now }
     ensures state { (classes : List Class) → SpellClasses files.now classes
@@ -27,31 +27,32 @@ pub fn machine_of(alloc: Global, image: &Image, files: &[NamedFile]) -> Result<J
         ≡ loaded (linking.program_of classes) (bounds.need (image_of image.now).mapped)) }
     ensures going { IfOk result (λ jvm. has_ended jvm ≡ false) }
 {
-    let verified = verified_files(alloc, files)?;
-    let jvm = Jvm::load(alloc, verified, need(image))?;
+    let linked = linked_files(alloc, files)?;
+    let jvm = Jvm::load_typed(alloc, linked, need(image))?;
     Ok(jvm)
 }
 
-/// The classes that files spell, linked and verified.
-fn verified_files(alloc: Global, files: &[NamedFile]) -> Result<Verified, AllocError>
+/// The classes that files spell, linked.
+fn linked_files(alloc: Global, files: &[NamedFile]) -> Result<Linked, AllocError>
     requires { HoldAccepted files.now }
-    ensures { IfOk result (λ verified. SpellClasses files.now verified.linked.classes) }
+    ensures spelled { IfOk result (λ linked. SpellClasses files.now linked.classes) }
+    ensures typed { IfOk result (λ linked. AllTyped (linking.program_of linked.classes)) }
 {
     let classes = read_files(alloc, files)?;
-    verified_classes(alloc, classes)
+    let linked = linked_classes(alloc, classes)?;
+    Ok(linked)
 }
 
-/// Links classes that are accepted, and verifies them.
-fn verified_classes(alloc: Global, classes: Vec<Class>) -> Result<Verified, AllocError>
+/// Links classes that are accepted.
+fn linked_classes(alloc: Global, classes: Vec<Class>) -> Result<Linked, AllocError>
     requires kept { All IsClass classes.items }
     requires accepted { linking.Accepted classes.items }
-    ensures { IfOk result (λ verified. verified.linked.classes ≡ classes.items) }
+    ensures { IfOk result (λ linked. linked.classes ≡ classes.items) }
 {
-    match accept_classes(alloc, classes) {
-        Ok(verified) => Ok(verified),
-        Err(Ending::Stopped(_)) => Err(AllocError),
-        Err(Ending::Refused(_)) => unreachable!(),
-        Err(Ending::NoFile { .. }) => unreachable!(),
+    match link(alloc, classes) {
+        Ok(linked) => Ok(linked),
+        Err(LinkError::NoMemory) => Err(AllocError),
+        Err(LinkError::Refused(_)) => unreachable!(),
     }
 }
 
