@@ -96,6 +96,9 @@ impl Waiting {
         match (callee.parameters, callee.locals, current.operands.len()) {
             (2, 4, 2) => self.call_with_all(current, callee.sized(2, 4), return_at),
             (3, 4, 3) => self.call_with_all(current, callee.sized(3, 4), return_at),
+            (parameters, locals, count) if count == parameters as usize => {
+                self.call_with_all(current, callee.sized(parameters, locals), return_at);
+            }
             (parameters, locals, _) => {
                 self.call_any(current, callee.sized(parameters, locals), return_at);
             }
