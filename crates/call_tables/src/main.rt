@@ -1,20 +1,11 @@
 //! Prints the table of whole calls of the program with its answers: what a call answers, prints and stores, over files, streams and failures
 //! of the outside. The files are those of the table, and those of `data`: a class that was made by hand, guests in C of both orders of
-//! bytes, the classes of a pipeline of two of them, and objects of a compiler. Objects are linked whole and changed, too: what must come of
-//! them was worked out by another linker, which is tried against the GNU one (`data/build_objects`).
+//! bytes, the classes of a pipeline of two of them, and objects of a compiler.
 #![tactic(auto)]
 
 mod alike;
-mod folder;
-mod linked;
-mod linking;
-mod object;
-mod outside;
-mod program;
+mod calls;
 mod rows;
-mod shelf;
-mod tally;
-mod words;
 
 use nv_outside::FileShelf;
 use rows::Rows;

@@ -1,10 +1,8 @@
 //! The rows of the table.
 use crate::alike::push_alike;
-use crate::folder::folder_row;
-use crate::linking::objects_row;
-use crate::outside::Outside;
-use crate::words::words_row;
+use crate::calls::{call, push_call, push_next, push_status};
 use anyhow::Result;
+use call_rows::{Outside, folder_row, words_row};
 use nested_cli::Done;
 use nv_outside::Shelf;
 use std::alloc::{AllocError, Global};
@@ -39,7 +37,6 @@ impl<H: Shelf> Rows<H> {
             "command" => words_row(alloc, text, rest(row, 1)),
             "status" => Ok(status_row(text, row)?),
             "folder" => folder_row(alloc, text, &mut self.folder, row),
-            "objects" => objects_row(alloc, text, &mut self.folder, row),
             _ => self.push_calls(alloc, text, files, row),
         }
     }
@@ -62,7 +59,7 @@ impl<H: Shelf> Rows<H> {
             "alike" => alike_row(alloc, text, files, folder, word(row, 1), around),
             "then" => then_row(alloc, text, files, folder, word(row, 1), around),
             "over" => over_row(alloc, text, files, folder, word(row, 1), around),
-            call => Outside::new(alloc, files, folder, around)?.push_call(alloc, text, call),
+            words => call_row(alloc, text, files, folder, words, around),
         }
     }
 }
@@ -84,6 +81,19 @@ fn around(alloc: Global, row: &str, beside: &str) -> Result<String, AllocError> 
     format!(in alloc; "{own} {beside}")
 }
 
+/// One call.
+fn call_row<H: Shelf>(
+    alloc: Global,
+    text: &mut String,
+    files: &Files,
+    folder: &mut H,
+    words: &str,
+    around: &str,
+) -> Result<()> {
+    let mut outside = Outside::new(alloc, files, folder, around)?;
+    push_call(alloc, text, &mut outside, words)
+}
+
 /// Calls over the same outside each, with `/` between them.
 fn alike_row<H: Shelf>(
     alloc: Global,
@@ -94,8 +104,9 @@ fn alike_row<H: Shelf>(
     around: &str,
 ) -> Result<()> {
     let mut dones = Vec::new(alloc);
-    for call in calls.split('/') {
-        dones.push(Outside::new(alloc, files, folder, around)?.call(alloc, call)?)?;
+    for words in calls.split('/') {
+        let mut outside = Outside::new(alloc, files, folder, around)?;
+        dones.push(call(alloc, &mut outside, words)?)?;
     }
     push_alike(text, dones.as_slice())?;
     Ok(())
@@ -111,8 +122,8 @@ fn then_row<H: Shelf>(
     around: &str,
 ) -> Result<()> {
     let mut outside = Outside::new(alloc, files, folder, around)?;
-    for call in calls.split('/') {
-        outside.push_next(alloc, text, call)?;
+    for words in calls.split('/') {
+        push_next(alloc, text, &mut outside, words)?;
     }
     Ok(())
 }
@@ -127,8 +138,8 @@ fn over_row<H: Shelf>(
     around: &str,
 ) -> Result<()> {
     let mut outside = Outside::new(alloc, files, folder, around)?;
-    for call in calls.split('/') {
-        outside.push_status(alloc, text, call)?;
+    for words in calls.split('/') {
+        push_status(alloc, text, &mut outside, words)?;
     }
     outside.push_streams(text)?;
     Ok(())

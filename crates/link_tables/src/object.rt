@@ -1,6 +1,6 @@
 //! Objects of the folder.
-use crate::folder::contents;
 use anyhow::{Context, Result, bail};
+use call_rows::contents;
 use nv_outside::Shelf;
 use std::alloc::Global;
 

@@ -1,9 +1,7 @@
-//! Calls of the program, and what stands around them.
-use crate::alike::push_done;
+//! What stands around a call.
 use crate::folder::{contents, push_hex};
 use crate::shelf::shelf_of;
 use anyhow::Result;
-use nested_cli::{Done, nested};
 use nv_outside::{MemShelf, MemSink, MemSource, Shelf};
 use std::alloc::{AllocError, Global};
 use std::fmt::Write;
@@ -16,10 +14,14 @@ const STORED: [&str; 3] = ["Main.class", "Main_0.class", "Main_D0.class"];
 /// The parts of the outside that a call is given.
 #[derive(Drop)]
 pub struct Outside {
-    shelf: MemShelf,
-    input: MemSource,
-    out: MemSink,
-    err: MemSink,
+    /// Its files.
+    pub shelf: MemShelf,
+    /// Its input.
+    pub input: MemSource,
+    /// Its output.
+    pub out: MemSink,
+    /// Its error output.
+    pub err: MemSink,
 }
 
 impl Outside {
@@ -43,51 +45,23 @@ impl Outside {
         })
     }
 
-    /// Calls the program with words, which have `|` between two.
+    /// Takes all files away but these, whose names have commas between them.
     ///
     /// # Errors
     /// Want of memory.
-    pub fn call(&mut self, alloc: Global, words: &str) -> Result<Done> {
-        let words = words_of(alloc, words)?;
-        let (shelf, input) = (&mut self.shelf, &mut self.input);
-        let (out, err) = (&mut self.out, &mut self.err);
-        Ok(nested(alloc, words.as_slice(), 0, shelf, input, out, err))
+    pub fn keep(&mut self, alloc: Global, names: &str) -> Result<(), AllocError> {
+        self.shelf = kept(alloc, &self.shelf, names)?;
+        Ok(())
     }
 
-    /// Calls the program, and shows its answer, with what output and error output took, the classes that are there, and the bytes of the
-    /// file `f`.
+    /// What output and error output took, the classes that are there, and the bytes of the file `f`.
     ///
     /// # Errors
     /// Want of memory.
-    pub fn push_call(&mut self, alloc: Global, text: &mut String, words: &str) -> Result<()> {
-        let done = self.call(alloc, words)?;
-        write!(text, "{done:?}")?;
+    pub fn push_left(&self, alloc: Global, text: &mut String) -> Result<()> {
         self.push_streams(text)?;
         self.push_classes(text)?;
         self.push_f(alloc, text)
-    }
-
-    /// Calls the program, and shows its answer; or `keep:NAME,NAME`, which takes all other files away.
-    ///
-    /// # Errors
-    /// Want of memory.
-    pub fn push_next(&mut self, alloc: Global, text: &mut String, words: &str) -> Result<()> {
-        match words.strip_prefix("keep:") {
-            Some(names) => self.shelf = kept(alloc, &self.shelf, names)?,
-            None => push_done(text, &self.call(alloc, words)?)?,
-        }
-        Ok(())
-    }
-
-    /// Calls the program, and shows the status of its answer.
-    ///
-    /// # Errors
-    /// Want of memory.
-    pub fn push_status(&mut self, alloc: Global, text: &mut String, words: &str) -> Result<()> {
-        let status = self.call(alloc, words)?.status();
-        let between = if text.is_empty() { "" } else { " " };
-        write!(text, "{between}{status}")?;
-        Ok(())
     }
 
     /// What output and error output took.
@@ -175,7 +149,10 @@ pub fn number(words: &str, name: &str, other: u64) -> u64 {
 }
 
 /// The words of a text, with `|` between two; `none` has none.
-fn words_of(alloc: Global, text: &str) -> Result<Vec<String>> {
+///
+/// # Errors
+/// Where a word names no count, as `4078*x` does, or for want of memory.
+pub fn words_of(alloc: Global, text: &str) -> Result<Vec<String>> {
     let mut words = Vec::new(alloc);
     if text != "none" {
         for word in text.split('|') {
