@@ -1,14 +1,10 @@
-//! Prints the table of classes with its answers: class files, linking, typings, code that is cut, and runs of the class
-//! machine; constant pools as they are made, and steps that are assembled.
+//! Prints the table of classes with its answers: class files and their code, sets and links, and runs of the class machine.
 #![tactic(auto)]
 
-mod emitted;
 mod reading;
 mod rows;
 mod runs;
 mod sets;
-mod spans;
-mod typings;
 
 use rows::Rows;
 use table_rows::print_answers;

@@ -1,63 +1,15 @@
-//! Class files, their pools and their code, read and written again.
+//! Class files and their code, read and written again.
 ghost use Rattle.std.specs.Prelude.{IfOk};
 ghost use Rattle.name_resolution.specs.Kept.{IsClass};
 
 use anyhow::{Context, Result, bail};
 use class_reader::{read_class, read_class_51};
 use class_writer::write_class;
-use constant_pool::{Entry, ReadError, read_pool, text_of};
+use constant_pool::{ReadError, text_of};
 use jvm_code::{Class, Line, Method, decode_ops, encode_ops};
 use std::alloc::{AllocError, Global};
 use std::fmt::Write;
 use table_rows::{Files, bytes_of, hex_of, rest, slot, word};
-
-/// The slots of a pool that begins at a place, and where it ends: `pool PLACE BYTES`.
-pub fn pool_row(alloc: Global, text: &mut String, row: &str) -> Result<()> {
-    let bytes = bytes_of(alloc, rest(row, 2))?;
-    match read_pool(alloc, bytes.as_slice(), slot(row, 1).into()) {
-        Ok((entries, end)) => push_entries(text, entries.as_slice(), end)?,
-        Err(error) => bail!("{error:?}"),
-    }
-    Ok(())
-}
-
-fn push_entries(text: &mut String, entries: &[Entry], end: usize) -> Result<(), AllocError> {
-    for entry in entries {
-        push_entry(text, entry)?;
-    }
-    write!(text, "ends {end}")
-}
-
-/// Shows what stands in a slot.
-pub fn push_entry(text: &mut String, entry: &Entry) -> Result<(), AllocError> {
-    match entry {
-        Entry::Utf8(characters) => push_text(text, characters.as_slice()),
-        Entry::Integer(number) => write!(text, "int {number}; "),
-        Entry::Long(number) => write!(text, "long {number}; "),
-        Entry::LongRest => text.push_str("rest; "),
-        Entry::ClassName(name) => push_one(text, "class", *name),
-        Entry::Text(name) => push_one(text, "string", *name),
-        Entry::FieldRef(class, pair) => push_pair(text, "field", *class, *pair),
-        Entry::MethodRef(class, pair) => push_pair(text, "method", *class, *pair),
-        Entry::NameAnd(name, kind) => push_pair(text, "pair", *name, *kind),
-    }
-}
-
-fn push_text(text: &mut String, characters: &[u16]) -> Result<(), AllocError> {
-    text.push_str("text")?;
-    for character in characters {
-        write!(text, " {character:X}")?;
-    }
-    text.push_str("; ")
-}
-
-fn push_one(text: &mut String, name: &str, slot: u16) -> Result<(), AllocError> {
-    write!(text, "{name} {slot}; ")
-}
-
-fn push_pair(text: &mut String, name: &str, one: u16, other: u16) -> Result<(), AllocError> {
-    write!(text, "{name} {one} {other}; ")
-}
 
 /// What a class has, and whether it is written again as it stands, with its code.
 pub fn read_row(alloc: Global, text: &mut String, files: &Files, name: &str) -> Result<()> {

@@ -1,10 +1,7 @@
 //! The rows of the table.
-use crate::emitted::{added_row, assembled_row};
-use crate::reading::{code_row, framed_row, method_row, pool_row, read_row, string_row};
+use crate::reading::{code_row, framed_row, method_row, read_row, string_row};
 use crate::runs::run_row;
 use crate::sets::{characters_row, link_row, linked_row, set_row};
-use crate::spans::cut_row;
-use crate::typings::verdict_row;
 use anyhow::{Result, bail};
 use std::alloc::Global;
 use table_rows::{Answers, Files, rest, word};
@@ -23,7 +20,6 @@ impl Answers for Rows {
 
 fn push_answer(alloc: Global, text: &mut String, files: &Files, row: &str) -> Result<()> {
     match word(row, 0) {
-        "pool" => pool_row(alloc, text, row),
         "read" => read_row(alloc, text, files, word(row, 1)),
         "framed" => framed_row(alloc, text, files, word(row, 1)),
         "method" => method_row(alloc, text, files, word(row, 1)),
@@ -33,10 +29,6 @@ fn push_answer(alloc: Global, text: &mut String, files: &Files, row: &str) -> Re
         "link" => link_row(alloc, text, files, row),
         "linked" => linked_row(alloc, text, files, rest(row, 1)),
         "characters" => characters_row(alloc, text, files, row),
-        "verdict" => verdict_row(alloc, text, row),
-        "added" => added_row(alloc, text, rest(row, 1)),
-        "assembled" => assembled_row(alloc, text),
-        "cut" => cut_row(alloc, text, row),
         "run" => run_row(alloc, text, files, row),
         _ => bail!("no such row"),
     }

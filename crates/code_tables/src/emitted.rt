@@ -2,7 +2,7 @@
 ghost use Rattle.std.specs.Prelude.{◌≡◌, IfOk, false};
 ghost use Rattle.constant_pool.specs.Slots.{is_rest};
 
-use crate::reading::push_entry;
+use crate::pools::push_entry;
 use anyhow::{Result, bail, ensure};
 use code_assembly::{References, is_code, method_code};
 use code_steps::Step;
