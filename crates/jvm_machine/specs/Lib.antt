@@ -1,11 +1,3 @@
-pub mod Standing
-pub mod Settling
-pub mod Leading
-pub mod Hosting
 pub mod Rooms
-pub mod Loading
-pub mod Unique
 pub mod Machine
 pub mod Counting
-pub mod Decoded
-pub mod Helping

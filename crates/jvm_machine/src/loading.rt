@@ -5,19 +5,18 @@ ghost use Rattle.jvm_program.specs.Values.{zero_of};
 ghost use Rattle.jvm_link.specs.Linking.{program_of};
 ghost use Rattle.jvm_frames.specs.Frames.{HasRoom};
 ghost use Rattle.jvm_heap.specs.Heaps.{nothing_in};
-ghost use Rattle.jvm_machine.specs.declared.machine_method.MachineMethod.{MachineMethod};
-ghost use Rattle.jvm_machine.specs.Standing.{Going, Roomy, state_in};
-ghost use Rattle.jvm_machine.specs.Loading.{IsLoaded};
+ghost use Rattle.jvm_turns.specs.declared.machine_method.MachineMethod.{MachineMethod};
+ghost use Rattle.jvm_turns.specs.Standing.{Going, Roomy, state_in};
+ghost use Rattle.jvm_turns.specs.Loading.{IsLoaded};
 ghost use Rattle.jvm_machine.specs.Rooms.{IsRoomFor};
 
-use crate::executable::Executable;
-use crate::machine_code::MachineCode;
 use crate::room::room_for;
 use command_values::RegionWords;
 use jvm_frames::{Callee, Frames};
 use jvm_heap::Heap;
 use jvm_instructions::{Fields, Working};
 use jvm_program::{Kind, LinkedMethod};
+use jvm_turns::{Executable, MachineCode};
 use std::alloc::{AllocError, Global};
 
 /// Want of memory.
