@@ -1,5 +1,5 @@
 -- Loads, stores and patches over pages.
-use Rattle.std.proofs.Common.{◌≡◌, ℕ, zero, suc, ◌&&◌, ◌+◌, ◌*◌, ◌/◌, ◌%◌, ◌<◌, ◌^◌, true, ◌==◌, nat_lt, if◌then◌else◌, List, [], ◌∷◌, length, Option, Some, None, refl, ap, sym, ◌∙◌, subst, arith, option_map, is_none, IsTrue, Result, Ok, Err}
+use Rattle.std.proofs.Common.{◌≡◌, ℕ, zero, suc, ◌&&◌, ◌+◌, ◌*◌, ◌/◌, ◌%◌, ◌<◌, ◌≤◌, ◌^◌, Bool, true, false, ◌==◌, nat_lt, if◌then◌else◌, List, [], ◌∷◌, length, Option, Some, None, refl, ap, sym, ◌∙◌, subst, arith, option_map, is_none, is_some, IsTrue, Result, Ok, Err}
 use Rattle.std.specs.Prelude.{slice_index, slice_set, ℤ}
 use Rattle.std.specs.List.{list_all}
 use Rattle.std.proofs.lemmas.Bool.{and_parts, ltb-true}
@@ -21,7 +21,7 @@ use Rattle.mips_decode.specs.declared.names.store_name.StoreName.{StoreName}
 use Rattle.mips_decode.specs.declared.names.store_name.StoreName.TheVariants.{Sb}
 use Rattle.guest_memory.specs.OneWord.{one_word}
 use Rattle.guest_memory.specs.Pages.{Pages, is_writable, entry, cell, word_in, memory_of, put_byte_at, IsSound}
-use Rattle.guest_memory.specs.ViewLaws.{cell-writable, put_some}
+use Rattle.guest_memory.specs.ViewLaws.{cell-writable, writable-high, put_some}
 use Rattle.guest_memory.proofs.PageLemmas.{memory_of-set, IsSound-set}
 use Rattle.guest_memory.proofs.WordLemmas.{IsWordAt, IsAllowedAt, loaded-at, load_aligned-at, store_aligned-at, store_allowed-at, stored-is}
 
@@ -64,12 +64,31 @@ load-some name order p a w old e aligned =
     let at = loaded-at name order (memory_of p) (a / 4) w (a % 4) a old (word_there p (a / 4) w e) (omega arith) (at_split a) (sym (load_aligned-at name (a / 4) (a % 4) a (at_split a)) ∙ aligned) in
     sym (some_byte p a w (loaded name order (memory_of p) a old) e ∙ ap Some at)
 
+-- nothing is loaded where no byte is, nor from an address that is not aligned
+pub load-past : (b : Bool) (o : Option ℕ) (x : ℕ) → o ≡ None → None ≡ (if b && is_some o then Some x else None)
+load-past true o x e = sym (ap (λ (q : Option ℕ). if is_some q then Some x else None) e)
+load-past false o x e = refl
+
+pub load-unaligned : (b : Bool) (o : Option ℕ) (x : ℕ) → b ≡ false → None ≡ (if b && is_some o then Some x else None)
+load-unaligned b o x e = sym (ap (λ c. if c && is_some o then Some x else None) e)
+
 -- ---- stores
 
 pub store-answer : (name : StoreName) (order : Order) (p : Pages) (a : ℕ) → IsTrue (store_aligned name a) → store_allowed name order (memory_of p) a ≡ (memory_of p).writable a
 store-answer name order p a aligned =
     store_allowed-at name order (memory_of p) (a / 4) (a % 4) a ((memory_of p).writable a) (allowed_there p a) (omega arith) (at_split a)
     (sym (store_aligned-at name (a / 4) (a % 4) a (at_split a)) ∙ aligned)
+
+refused_by : (b allowed : Bool) → (IsTrue b → allowed ≡ false) → false ≡ b && allowed
+refused_by true allowed h = sym (h refl)
+refused_by false allowed h = refl
+
+-- nothing may be stored behind all pages, nor at an address that is not aligned
+pub store-past : (name : StoreName) (order : Order) (p : Pages) (a : ℕ) → 2 ^ 31 ≤ a → false ≡ store_aligned name a && store_allowed name order (memory_of p) a
+store-past name order p a high = refused_by (store_aligned name a) (store_allowed name order (memory_of p) a) (λ aligned. store-answer name order p a aligned ∙ writable-high p a high)
+
+pub store-unaligned : (b allowed : Bool) → b ≡ false → false ≡ b && allowed
+store-unaligned b allowed e = sym (ap (λ c. c && allowed) e)
 
 pub word_at_cell : (p : Pages) (n i : ℕ) → cell p n ≡ Some i → word_in p n ≡ Some (slice_index p.words i)
 word_at_cell p n i e = ap (option_map (slice_index p.words)) e

@@ -31,14 +31,23 @@ written_is_readable p a w =
     let at = cell-writable p a w in
     rw at.1 refl
 
-pub byte-past : (p : Pages) (a : ℕ) → 2 ^ 32 ≤ a → (memory_of p).byte a ≡ None
+pub byte-high : (p : Pages) (a : ℕ) → 2 ^ 31 ≤ a → (memory_of p).byte a ≡ None
 unfolding memory_of cell entry
-byte-past p a h =
+byte-high p a h =
     let t : nat_lt (a / 4 / 1024) 524288 ≡ false = le-ltb (a / 4 / 1024) 524288 (omega arith) in
     ap (λ t. option_map (λ w. lane_of_word w (a % 4))
     (option_map (slice_index p.words)
     (option_map (λ k. k * 1024 + a / 4 % 1024)
     (place_of (if t then slice_index_or p.table (a / 4 / 1024) Unmapped else Unmapped))))) t
+
+pub writable-high : (p : Pages) (a : ℕ) → 2 ^ 31 ≤ a → (memory_of p).writable a ≡ false
+unfolding memory_of entry
+writable-high p a h =
+    let t : nat_lt (a / 4096) 524288 ≡ false = le-ltb (a / 4096) 524288 (omega arith) in
+    ap (λ t. is_writable (if t then slice_index_or p.table (a / 4096) Unmapped else Unmapped)) t
+
+pub byte-past : (p : Pages) (a : ℕ) → 2 ^ 32 ≤ a → (memory_of p).byte a ≡ None
+byte-past p a h = byte-high p a (omega (arith, h))
 
 same_some : (f g : ℕ → ℕ) (h k : ℕ → ℕ) (o : Option ℕ)
     → is_some (option_map f (option_map h o)) ≡ is_some (option_map g (option_map k o))

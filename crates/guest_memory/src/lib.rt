@@ -1,6 +1,7 @@
 //! The memory and the code of a guest program, each in pages of 4,096 bytes.
 #![tactic(auto)]
 
+mod alignment;
 mod code;
 mod forms;
 mod lanes;
@@ -10,6 +11,7 @@ mod op;
 mod page;
 mod paging;
 
+pub use alignment::{is_load_aligned, is_store_aligned};
 pub use code::Code;
 pub use line::Line;
 pub use memory::{GuestMemory, NoMemory};

@@ -1,13 +1,14 @@
-ghost use Rattle.std.specs.Prelude.{◌≡◌, ◌≢◌, Ok, ℕ, ◌+◌, ◌*◌, ◌/◌, ◌%◌, ◌<◌, length, Option, Some, None, MatchOption, IfOk, OnOk, OnErr, IsTrue, is_none, true, false, slice_index, slice_index_or, if◌then◌else◌};
+ghost use Rattle.std.specs.Prelude.{◌≡◌, ◌≢◌, Ok, ℕ, ◌+◌, ◌*◌, ◌/◌, ◌%◌, ◌<◌, length, Option, Some, None, MatchOption, IfOk, OnOk, OnErr, IsTrue, is_none, is_some, ◌&&◌, true, false, slice_index, slice_index_or, if◌then◌else◌};
 ghost use Rattle.mips_decode.specs.Loads.{load_aligned, loaded, store_aligned, store_allowed, stored};
 ghost use Rattle.nv_events.specs.Question.{asked};
 ghost use Rattle.nv_events.specs.Serving.{Serves, Causes, NoneFalls};
 ghost use Rattle.mips_decode.specs.Memory.{with_byte};
 ghost use Rattle.guest_memory.specs.Pages.{IsSound, entry, cell, word_in, memory_of, put_byte_at, place_of, is_writable, no_memory, with_page};
 
+use crate::alignment::{is_load_aligned, is_store_aligned};
 use crate::lanes::{from_word, into_word};
 use crate::page::Page;
-use crate::paging::{PAGE_WORDS, PAGES, word_place};
+use crate::paging::{PAGE_WORDS, PAGES, PAST_PAGES, word_place};
 use mips_decode::{LoadName, StoreName};
 use nv_events::{Call, IoFault, Server, View};
 use nv_words::{Order, lane, with_lane};
@@ -75,10 +76,25 @@ impl GuestMemory {
         Ok(())
     }
 
-    /// What a register holds after a load from an address, in the given order of bytes, by what it held before; None where the address
-    /// cannot be read.
+    /// What a register holds after a load from an address, in the given order of bytes, by what it held before; None where the address is
+    /// not aligned, or cannot be read.
     #[inline(always)]
     pub fn load(&self, name: LoadName, order: Order, at: u32, old: u32) -> Option<u32>
+        ensures { result ≡ (if load_aligned name at && is_some ((memory_of self.now).byte at)
+            then Some (loaded name order (memory_of self.now) at old) else None) }
+    {
+        // one look at its bits says both
+        let fits = is_load_aligned(name, at) && at < PAST_PAGES;
+        if fits {
+            self.aligned_load(name, order, at, old)
+        } else {
+            None
+        }
+    }
+
+    /// The same from an aligned address.
+    #[inline(always)]
+    fn aligned_load(&self, name: LoadName, order: Order, at: u32, old: u32) -> Option<u32>
         requires { IsTrue (load_aligned name at) }
         ensures { result ≡ (if is_none ((memory_of self.now).byte at) then None
             else Some (loaded name order (memory_of self.now) at old)) }
@@ -89,10 +105,23 @@ impl GuestMemory {
         }
     }
 
-    /// Stores a register's word at an address, in the given order of bytes; false, with nothing changed, where a byte of it may not be
-    /// written.
+    /// Stores a register's word at an address, in the given order of bytes; false, with nothing changed, where the address is not aligned, or a
+    /// byte of it may not be written.
     #[inline(always)]
     pub fn store(&mut self, name: StoreName, order: Order, at: u32, w: u32) -> bool
+        ensures answer { result
+            ≡ (store_aligned name at && store_allowed name order (memory_of self.old) at) }
+        ensures after { memory_of self.new
+            ≡ (if result then stored name order (memory_of self.old) at w else memory_of self.old) }
+    {
+        // one look at its bits says both
+        let fits = is_store_aligned(name, at) && at < PAST_PAGES;
+        fits && self.aligned_store(name, order, at, w)
+    }
+
+    /// The same at an aligned address.
+    #[inline(always)]
+    fn aligned_store(&mut self, name: StoreName, order: Order, at: u32, w: u32) -> bool
         requires { IsTrue (store_aligned name at) }
         ensures answer { result ≡ store_allowed name order (memory_of self.old) at }
         ensures after { memory_of self.new

@@ -4,6 +4,9 @@ ghost use Rattle.std.specs.Prelude.{◌≡◌, ◌+◌, ◌*◌, ◌/◌, ◌%�
 /// The number of pages below address 80000000 (hexadecimal).
 pub(crate) const PAGES: usize = 524288;
 
+/// The first address behind all of them.
+pub(crate) const PAST_PAGES: u32 = 0x8000_0000;
+
 /// The number of words in a page.
 pub(crate) const PAGE_WORDS: usize = 1024;
 

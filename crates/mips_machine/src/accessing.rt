@@ -1,20 +1,32 @@
 //! Loads and stores.
-ghost use Rattle.std.specs.Prelude.{◌≡◌, ℕ, ◌<◌};
+ghost use Rattle.std.specs.Prelude.{◌≡◌, ℕ, ◌<◌, if◌then◌else◌};
+ghost use Rattle.mips_decode.specs.Effect.{read_align_fault, read_unmapped_fault, write_align_fault, write_refused_fault};
 ghost use Rattle.mips_decode.specs.Loads.{load_aligned, store_aligned, load_effect, store_effect, address_of};
+ghost use Rattle.mips_machine.specs.declared.executed.Executed.TheVariants.{Fault};
 ghost use Rattle.mips_machine.specs.Moving.{Steady};
 ghost use Rattle.mips_machine.specs.Processor.{processor_state, effect_of, Stays};
 
 use crate::arithmetic::extended;
 use crate::executed::Executed;
 use crate::processor::Processor;
+use guest_memory::{is_load_aligned, is_store_aligned};
 use mips_decode::fault_kinds::{READ_ALIGN, READ_UNMAPPED, WRITE_ALIGN, WRITE_REFUSED};
 use mips_decode::{LoadName, StoreName};
+use nv_words::Order;
 
 impl Processor {
     /// LB to LWR.
     #[inline(always)]
     #[tactic(auto, unfolding(crate::specs::Processor::processor_state))]
-    pub(crate) fn load(&mut self, name: LoadName, rs: u8, rt: u8, imm: u16) -> Executed
+    pub(crate) fn load(
+        &mut self,
+        name: LoadName,
+        order: Order,
+        rs: u8,
+        rt: u8,
+        imm: u16,
+    ) -> Executed
+        requires order { order ≡ self.old.order }
         requires rs { rs < 32 }
         requires rt { rt < 32 }
         ensures effect { effect_of result (processor_state self.new)
@@ -23,28 +35,27 @@ impl Processor {
         ensures steady { Steady self.old self.new }
     {
         let at = self.address(rs, imm);
-        if !is_load_aligned(name, at) {
-            return Executed::Fault {
-                kind: READ_ALIGN,
-                value: at,
-            };
-        }
-        match self.memory.load(name, self.order, at, self.register(rt)) {
+        match self.memory.load(name, order, at, self.register(rt)) {
             Some(w) => {
                 self.set_register(rt, w);
                 Executed::On
             }
-            None => Executed::Fault {
-                kind: READ_UNMAPPED,
-                value: at,
-            },
+            None => refused_load(name, at),
         }
     }
 
     /// SB to SWR.
     #[inline(always)]
     #[tactic(auto, unfolding(crate::specs::Processor::processor_state))]
-    pub(crate) fn store(&mut self, name: StoreName, rs: u8, rt: u8, imm: u16) -> Executed
+    pub(crate) fn store(
+        &mut self,
+        name: StoreName,
+        order: Order,
+        rs: u8,
+        rt: u8,
+        imm: u16,
+    ) -> Executed
+        requires order { order ≡ self.old.order }
         requires rs { rs < 32 }
         requires rt { rt < 32 }
         ensures effect { effect_of result (processor_state self.new)
@@ -54,19 +65,10 @@ impl Processor {
     {
         let at = self.address(rs, imm);
         let w = self.register(rt);
-        if !is_store_aligned(name, at) {
-            return Executed::Fault {
-                kind: WRITE_ALIGN,
-                value: at,
-            };
-        }
-        if self.memory.store(name, self.order, at, w) {
+        if self.memory.store(name, order, at, w) {
             Executed::On
         } else {
-            Executed::Fault {
-                kind: WRITE_REFUSED,
-                value: at,
-            }
+            refused_store(name, at)
         }
     }
 
@@ -80,26 +82,30 @@ impl Processor {
     }
 }
 
-/// Whether a load may be from an address.
+/// The fault of a load from an address that is not aligned, or cannot be read.
 #[inline(always)]
-pub(crate) fn is_load_aligned(name: LoadName, at: u32) -> bool
-    ensures { result ≡ load_aligned name at }
+pub(crate) fn refused_load(name: LoadName, at: u32) -> Executed
+    ensures { result ≡ Fault (if load_aligned name at then read_unmapped_fault else
+        read_align_fault) at }
 {
-    match name {
-        LoadName::Lh | LoadName::Lhu => at % 2 == 0,
-        LoadName::Lw => at % 4 == 0,
-        _ => true,
-    }
+    let kind = if is_load_aligned(name, at) {
+        READ_UNMAPPED
+    } else {
+        READ_ALIGN
+    };
+    Executed::Fault { kind, value: at }
 }
 
-/// Whether a store may be to an address.
+/// The fault of a store to an address that is not aligned, or may not be written.
 #[inline(always)]
-pub(crate) fn is_store_aligned(name: StoreName, at: u32) -> bool
-    ensures { result ≡ store_aligned name at }
+fn refused_store(name: StoreName, at: u32) -> Executed
+    ensures { result ≡ Fault (if store_aligned name at then write_refused_fault else
+        write_align_fault) at }
 {
-    match name {
-        StoreName::Sh => at % 2 == 0,
-        StoreName::Sw => at % 4 == 0,
-        _ => true,
-    }
+    let kind = if is_store_aligned(name, at) {
+        WRITE_REFUSED
+    } else {
+        WRITE_ALIGN
+    };
+    Executed::Fault { kind, value: at }
 }

@@ -5,7 +5,6 @@ mod accessing;
 mod arithmetic;
 mod branching;
 mod code_loader;
-mod code_page;
 mod computing;
 mod execute;
 mod executed;

@@ -4,10 +4,11 @@ ghost use Rattle.mips_decode.specs.Loads.{store_aligned, store_allowed, stored, 
 ghost use Rattle.mips_decode.specs.State.{register, with_register};
 ghost use Rattle.mips_machine.specs.Processor.{processor_state, effect_of, Stays};
 
-use crate::accessing::{is_load_aligned, is_store_aligned};
+use crate::accessing::refused_load;
 use crate::executed::Executed;
 use crate::processor::Processor;
-use mips_decode::fault_kinds::{READ_ALIGN, READ_UNMAPPED, WRITE_ALIGN, WRITE_REFUSED};
+use guest_memory::is_store_aligned;
+use mips_decode::fault_kinds::{WRITE_ALIGN, WRITE_REFUSED};
 use mips_decode::{LoadName, StoreName};
 
 impl Processor {
@@ -22,12 +23,6 @@ impl Processor {
         ensures stays { Stays result (processor_state self.old) (processor_state self.new) }
     {
         let at = self.address(rs, imm);
-        if !is_load_aligned(LoadName::Lw, at) {
-            return Executed::Fault {
-                kind: READ_ALIGN,
-                value: at,
-            };
-        }
         match self
             .memory
             .load(LoadName::Lw, self.order, at, self.register(rt))
@@ -37,10 +32,7 @@ impl Processor {
                 self.load_link = Some(at);
                 Executed::On
             }
-            None => Executed::Fault {
-                kind: READ_UNMAPPED,
-                value: at,
-            },
+            None => refused_load(LoadName::Lw, at),
         }
     }
 

@@ -8,6 +8,8 @@ ghost use Rattle.mips_machine.specs.Processor.{processor_state};
 use crate::registers::Registers;
 use guest_memory::{Code, GuestMemory};
 use nv_words::Order;
+use std::alloc::Global;
+use std::rc::Rc;
 
 /// The processor, with its memory and the program's code.
 ///
@@ -23,7 +25,8 @@ pub struct Processor {
     pub(crate) load_link: Option<u32>,
     pub(crate) memory: GuestMemory,
     pub(crate) order: Order,
-    pub(crate) code: Code,
+    /// Shared with a run of many turns, which reads instructions while the processor changes.
+    pub(crate) code: Rc<Code, Global>,
     pub(crate) heap_start: u32,
     pub(crate) heap_bytes: u32,
 }
@@ -33,14 +36,14 @@ impl Processor {
     #[tactic(auto, unfolding(crate::specs::Processor::processor_state))]
     pub(crate) fn new(
         memory: GuestMemory,
-        code: Code,
+        code: Rc<Code, Global>,
         order: Order,
         entry: u32,
         heap_start: u32,
         heap_bytes: u32,
     ) -> Processor
         ensures { processor_state result
-            ≡ start order entry (memory_of memory) (code_of code) heap_start heap_bytes }
+            ≡ start order entry (memory_of memory) (code_of code.value) heap_start heap_bytes }
     {
         Processor {
             begun: false,
