@@ -6,10 +6,10 @@ ghost use Rattle.mips_machine.specs.declared.executed.Executed.TheVariants.{Faul
 ghost use Rattle.mips_machine.specs.Moving.{Steady};
 ghost use Rattle.mips_machine.specs.Processor.{processor_state, effect_of, Stays};
 
-use crate::arithmetic::extended;
 use crate::executed::Executed;
 use crate::processor::Processor;
 use guest_memory::{is_load_aligned, is_store_aligned};
+use mips_arithmetic::extended;
 use mips_decode::fault_kinds::{READ_ALIGN, READ_UNMAPPED, WRITE_ALIGN, WRITE_REFUSED};
 use mips_decode::{LoadName, StoreName};
 use nv_words::Order;

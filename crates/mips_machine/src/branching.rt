@@ -4,9 +4,9 @@ ghost use Rattle.mips_decode.specs.Branches as manual;
 ghost use Rattle.mips_decode.specs.Targets.{branch_target};
 ghost use Rattle.mips_machine.specs.Processor.{processor_state, effect_of, with_link, IsRegister, Stays};
 
-use crate::arithmetic::extended;
 use crate::executed::Executed;
 use crate::processor::Processor;
+use mips_arithmetic::extended;
 use mips_decode::{BranchEqualName, BranchSignName, BranchZeroName, JumpName, jump_target};
 use nv_words::signed;
 

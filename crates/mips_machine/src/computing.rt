@@ -7,7 +7,6 @@ ghost use Rattle.mips_decode.specs.Step.{result_effect, move_from_effect, move_t
 ghost use Rattle.mips_machine.specs.Moving.{Steady};
 ghost use Rattle.mips_machine.specs.Processor.{processor_state, effect_of, Stays};
 
-use crate::arithmetic;
 use crate::executed::Executed;
 use crate::processor::Processor;
 use mips_decode::fault_kinds::OVERFLOW;
@@ -37,7 +36,7 @@ impl Processor {
         ensures stays { Stays result (processor_state self.old) (processor_state self.new) }
         ensures steady { Steady self.old self.new }
     {
-        let computed = arithmetic::arithmetic(name, self.register(rs), self.register(rt));
+        let computed = mips_arithmetic::arithmetic(name, self.register(rs), self.register(rt));
         self.take(rd, computed, word)
     }
 
@@ -60,7 +59,7 @@ impl Processor {
         ensures stays { Stays result (processor_state self.old) (processor_state self.new) }
         ensures steady { Steady self.old self.new }
     {
-        let computed = arithmetic::arithmetic_immediate(name, self.register(rs), imm);
+        let computed = mips_arithmetic::arithmetic_immediate(name, self.register(rs), imm);
         self.take(rt, computed, word)
     }
 
@@ -81,7 +80,7 @@ impl Processor {
         ensures stays { Stays result (processor_state self.old) (processor_state self.new) }
         ensures steady { Steady self.old self.new }
     {
-        let computed = arithmetic::logical_immediate(name, self.register(rs), imm);
+        let computed = mips_arithmetic::logical_immediate(name, self.register(rs), imm);
         self.set_register(rt, computed);
         Executed::On
     }
@@ -111,7 +110,7 @@ impl Processor {
         ensures stays { Stays result (processor_state self.old) (processor_state self.new) }
         ensures steady { Steady self.old self.new }
     {
-        let computed = arithmetic::shift(name, self.register(rt), u32::from(sa));
+        let computed = mips_arithmetic::shift(name, self.register(rt), u32::from(sa));
         self.set_register(rd, computed);
         Executed::On
     }
@@ -135,7 +134,7 @@ impl Processor {
         ensures stays { Stays result (processor_state self.old) (processor_state self.new) }
         ensures steady { Steady self.old self.new }
     {
-        let computed = arithmetic::variable_shift(name, self.register(rt), self.register(rs));
+        let computed = mips_arithmetic::variable_shift(name, self.register(rt), self.register(rs));
         self.set_register(rd, computed);
         Executed::On
     }
@@ -157,7 +156,7 @@ impl Processor {
         ensures stays { Stays result (processor_state self.old) (processor_state self.new) }
         ensures steady { Steady self.old self.new }
     {
-        let (hi, lo) = arithmetic::product(name, self.register(rs), self.register(rt));
+        let (hi, lo) = mips_arithmetic::product(name, self.register(rs), self.register(rt));
         self.hi = hi;
         self.lo = lo;
         Executed::On

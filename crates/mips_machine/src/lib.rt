@@ -2,7 +2,6 @@
 #![tactic(auto)]
 
 mod accessing;
-mod arithmetic;
 mod branching;
 mod code_loader;
 mod computing;

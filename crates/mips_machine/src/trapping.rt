@@ -3,9 +3,9 @@ ghost use Rattle.std.specs.Prelude.{◌≡◌, ◌<◌};
 ghost use Rattle.mips_decode.specs.Traps as manual;
 ghost use Rattle.mips_machine.specs.Processor.{processor_state, effect_of, Stays};
 
-use crate::arithmetic::extended;
 use crate::executed::Executed;
 use crate::processor::Processor;
+use mips_arithmetic::extended;
 use mips_decode::fault_kinds::TRAP;
 use mips_decode::{TrapImmediateName, TrapName};
 use nv_words::signed;

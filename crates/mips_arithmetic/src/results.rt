@@ -8,9 +8,11 @@ use mips_decode::{
 };
 use nv_words::{signed, unsigned};
 
-/// The result of rs and rt, or None on signed overflow.
+/// What an instruction from ADD to SLTU gives of the words in rs and rt, `a` and `b`: 1 or 0 where it compares.
+///
+/// None where it is ADD or SUB, and the sum or the difference of the signed words does not fit in 32 bits.
 #[inline(always)]
-pub(crate) fn arithmetic(name: ArithmeticName, a: u32, b: u32) -> Option<u32>
+pub fn arithmetic(name: ArithmeticName, a: u32, b: u32) -> Option<u32>
     ensures { result ≡ manual.arithmetic_result name a b }
 {
     match name {
@@ -47,17 +49,20 @@ fn difference(a: u32, b: u32) -> Option<u32>
     }
 }
 
-/// The immediate, extended by its sign.
+/// An immediate of 16 bits as a word, extended by its sign.
 #[inline(always)]
-pub(crate) fn extended(imm: u16) -> u32
+pub fn extended(imm: u16) -> u32
     ensures { result ≡ manual.sign_extended 16 imm }
 {
     unsigned(i32::from(imm.cast_signed()))
 }
 
-/// The result of rs and the signed immediate, or None on signed overflow.
+/// What an instruction from ADDI to SLTIU gives of the word in rs, `a`, and the immediate, which it extends by its sign: 1 or 0 where it
+/// compares.
+///
+/// None where it is ADDI, and the sum of the signed words does not fit in 32 bits.
 #[inline(always)]
-pub(crate) fn arithmetic_immediate(name: ArithmeticImmediateName, a: u32, imm: u16) -> Option<u32>
+pub fn arithmetic_immediate(name: ArithmeticImmediateName, a: u32, imm: u16) -> Option<u32>
     ensures { result ≡ manual.arithmetic_immediate_result name a imm }
 {
     let b = extended(imm);
@@ -69,9 +74,9 @@ pub(crate) fn arithmetic_immediate(name: ArithmeticImmediateName, a: u32, imm: u
     }
 }
 
-/// The result of rs and the unsigned immediate.
+/// What ANDI, ORI or XORI gives of the word in rs, `a`, and the immediate, with zeros above it.
 #[inline(always)]
-pub(crate) fn logical_immediate(name: LogicalImmediateName, a: u32, imm: u16) -> u32
+pub fn logical_immediate(name: LogicalImmediateName, a: u32, imm: u16) -> u32
     ensures { result ≡ manual.logical_immediate_result name a imm }
 {
     match name {
@@ -81,9 +86,9 @@ pub(crate) fn logical_immediate(name: LogicalImmediateName, a: u32, imm: u16) ->
     }
 }
 
-/// A word shifted by an amount.
+/// The word `w` shifted by an amount in bits, below 32: what SLL, SRL or SRA gives of the word in rt.
 #[inline(always)]
-pub(crate) fn shift(name: ShiftName, w: u32, amount: u32) -> u32
+pub fn shift(name: ShiftName, w: u32, amount: u32) -> u32
     requires { amount < 32 }
     ensures { result ≡ manual.shifted name w amount }
 {
@@ -94,9 +99,9 @@ pub(crate) fn shift(name: ShiftName, w: u32, amount: u32) -> u32
     }
 }
 
-/// A word shifted by the low five bits of another.
+/// The word `w` shifted by the low five bits of the word `by`: what SLLV, SRLV or SRAV gives of the words in rt and rs.
 #[inline(always)]
-pub(crate) fn variable_shift(name: VariableShiftName, w: u32, by: u32) -> u32
+pub fn variable_shift(name: VariableShiftName, w: u32, by: u32) -> u32
     ensures { result ≡ manual.variable_shifted name w by }
 {
     match name {
@@ -106,9 +111,12 @@ pub(crate) fn variable_shift(name: VariableShiftName, w: u32, by: u32) -> u32
     }
 }
 
-/// HI and LO of a product, or of a quotient and its remainder.
+/// HI and LO, in this order, after an instruction from MULT to DIVU of the words in rs and rt, `a` and `b`: the upper and the lower word of
+/// the product, or the remainder and the quotient.
+///
+/// A division by 0 gives `a` and a word of ones.
 #[inline(always)]
-pub(crate) fn product(name: ProductName, a: u32, b: u32) -> (u32, u32)
+pub fn product(name: ProductName, a: u32, b: u32) -> (u32, u32)
     ensures hi { result.0 ≡ manual.product_hi name a b }
     ensures lo { result.1 ≡ manual.product_lo name a b }
 {
