@@ -3,13 +3,11 @@
 
 mod accessing;
 mod branching;
-mod code_loader;
 mod computing;
 mod execute;
 mod executed;
 mod frequent;
 mod linking;
-mod memory_loader;
 mod mips;
 mod moving;
 mod onward;

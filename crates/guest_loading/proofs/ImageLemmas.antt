@@ -14,7 +14,7 @@ use Rattle.elf_reader.specs.Fault.{IsRunsOf}
 use Rattle.elf_image.specs.Pages.{is_on_page, is_segment_page, is_data_page, is_heap_page, is_stack_page, is_argument_page, is_readable_page, is_writable_page}
 use Rattle.elf_image.specs.Content.{stored_byte, stored_word, code_word, is_filled_page}
 use Rattle.elf_image.specs.Start.{Source, image_of, byte_at, code_at, readable, writable}
-use Rattle.mips_machine.specs.Loading.{with_words, AreZeros, ArePageWords}
+use Rattle.guest_loading.specs.Loading.{with_words, AreZeros, ArePageWords}
 use Rattle.elf_reader.proofs.PassedLemmas.{last_address}
 
 -- ---- what may be written can be read

@@ -1,9 +1,9 @@
 use Rattle.std.proofs.Common.{ℕ, List, sym, ◌∙◌, subst}
 use Rattle.elf_image.specs.Start.{image_of}
-use Rattle.mips_machine.specs.Loading.{AreZeros}
-use Rattle.mips_machine.proofs.LoadLemmas.{below_none, below_gap, below_all}
-use Rattle.mips_machine.proofs.ImageLemmas.{no_byte, no_writing}
-use Rattle.mips_machine.proofs.memory_loader.load_memory.Goals as goal
+use Rattle.guest_loading.specs.Loading.{AreZeros}
+use Rattle.guest_loading.proofs.LoadLemmas.{below_none, below_gap, below_all}
+use Rattle.guest_loading.proofs.ImageLemmas.{no_byte, no_writing}
+use Rattle.guest_loading.proofs.memory_loader.load_memory.Goals as goal
 
 pub add_pages-requires-clause-earlier : goal.add_pages-requires-clause-earlier
 add_pages-requires-clause-earlier c = c.in_ok-memory.ensures ∙ below_none (image_of c.args.image.now).memory

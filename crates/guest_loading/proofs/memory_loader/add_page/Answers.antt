@@ -3,9 +3,9 @@ use Rattle.std.proofs.lemmas.Result.{on_ok_weaker}
 use Rattle.nv_events.specs.Memory.{Memory}
 use Rattle.elf_image.specs.Start.{image_of, readable}
 use Rattle.guest_memory.specs.Pages.{with_page}
-use Rattle.mips_machine.proofs.LoadLemmas.{below_absent, below_fresh, below_mapped}
-use Rattle.mips_machine.proofs.ImageLemmas.{no_byte, no_writing, same_writing}
-use Rattle.mips_machine.proofs.memory_loader.add_page.Goals as goal
+use Rattle.guest_loading.proofs.LoadLemmas.{below_absent, below_fresh, below_mapped}
+use Rattle.guest_loading.proofs.ImageLemmas.{no_byte, no_writing, same_writing}
+use Rattle.guest_loading.proofs.memory_loader.add_page.Goals as goal
 
 pub returns-then-not-readable : goal.returns-then-not-readable
 returns-then-not-readable c =

@@ -1,6 +1,6 @@
 use Rattle.std.proofs.Common.{sym}
-use Rattle.mips_machine.proofs.ImageLemmas.{words_are, zeros_are}
-use Rattle.mips_machine.proofs.memory_loader.page_words.Goals as goal
+use Rattle.guest_loading.proofs.ImageLemmas.{words_are, zeros_are}
+use Rattle.guest_loading.proofs.memory_loader.page_words.Goals as goal
 
 pub returns-in-Some : goal.returns-in-Some
 returns-in-Some c =

@@ -5,7 +5,7 @@ use Rattle.std.proofs.lemmas.Bool.{eqb-true, eqb-false, lt-ltb, le-ltb, ltb-true
 use Rattle.nv_words.specs.Words.{lane_of_word}
 use Rattle.nv_events.specs.Memory.{Memory}
 use Rattle.guest_memory.specs.Pages.{no_memory, with_page}
-use Rattle.mips_machine.specs.Loading.{memory_below, ArePageWords}
+use Rattle.guest_loading.specs.Loading.{memory_below, ArePageWords}
 
 -- memories are equal where their bytes are, and what may be written
 same_memory : (m k : Memory) → ((a : ℕ) → m.byte a ≡ k.byte a) → ((a : ℕ) → m.writable a ≡ k.writable a) → m ≡ k

@@ -1,7 +1,7 @@
 use Rattle.std.proofs.Common.{◌≡◌, ap, ◌∙◌, arith}
 use Rattle.elf_image.specs.Start.{image_of}
-use Rattle.mips_machine.specs.Loading.{memory_below}
-use Rattle.mips_machine.proofs.memory_loader.add_pages.Goals as goal
+use Rattle.guest_loading.specs.Loading.{memory_below}
+use Rattle.guest_loading.proofs.memory_loader.add_pages.Goals as goal
 
 pub loop-page-preserved : goal.loop-page-preserved
 loop-page-preserved c = c.in_ok-add_page.ensures

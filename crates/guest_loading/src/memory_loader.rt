@@ -2,7 +2,7 @@
 ghost use Rattle.std.specs.Prelude.{◌≡◌, ℕ, ◌+◌, ◌<◌, ◌≤◌, true, IfOk, OnOk, length, slice_index};
 ghost use Rattle.elf_image.specs.Start.{image_of, readable};
 ghost use Rattle.guest_memory.specs.Pages.{memory_of};
-ghost use Rattle.mips_machine.specs.Loading.{memory_below, AreZeros, ArePageWords};
+ghost use Rattle.guest_loading.specs.Loading.{memory_below, AreZeros, ArePageWords};
 
 use elf_image::Image;
 use guest_memory::{GuestMemory, NoMemory};
@@ -14,8 +14,13 @@ const PAGES: u32 = 524288;
 /// The number of words in a page.
 const PAGE_WORDS: usize = 1024;
 
-/// The memory of an image.
-pub(crate) fn load_memory(alloc: Global, image: &Image) -> Result<GuestMemory, NoMemory>
+/// The memory of an image, as it is when the program starts: its pages that can be read, each with its words, and whether it may be
+/// written.
+///
+/// # Errors
+///
+/// NoMemory where there is no memory for the pages.
+pub fn load_memory(alloc: Global, image: &Image) -> Result<GuestMemory, NoMemory>
     ensures { IfOk result (λ m. memory_of m ≡ (image_of image.now).memory) }
 {
     let zeros = zero_words(alloc, PAGE_WORDS)?;
