@@ -1,5 +1,5 @@
 //! The instructions on arrays. Where one traps, operands and arrays are as they were.
-ghost use Rattle.std.specs.Prelude.{◌≡◌, ◌∷◌, [], ℕ, List, Option, IsTrue, IsFalse, OnOk, OnErr, IfErr, IfSome};
+ghost use Rattle.std.specs.Prelude.{◌≡◌, ◌∷◌, [], ℕ, List, Option, IsTrue, IsFalse, OnOk, OnErr, IfErr, option_map};
 ghost use Rattle.jvm_names.specs.declared.array_name.ArrayName.TheVariants.{Iaload, Aaload, Iastore, Aastore};
 ghost use Rattle.jvm_program.specs.declared.instruction.Instruction.TheVariants as instructions;
 ghost use Rattle.jvm_program.specs.declared.value.Value.{Value as StackValue};
@@ -9,7 +9,7 @@ ghost use Rattle.jvm_frames.specs.Stack.{on_top};
 ghost use Rattle.jvm_frames.specs.Trap.{trap_kind};
 ghost use Rattle.jvm_heap.specs.Regions.{heap_of, is_array_reference, place_of, element_word, kind_of as region_kind};
 ghost use Rattle.jvm_heap.specs.Heaps.{IsSafe};
-ghost use Rattle.jvm_heap.specs.HeapForms.{Does, Traps};
+ghost use Rattle.jvm_heap.specs.HeapForms.{Does, Gives, Traps, element_trap};
 
 use int_region::{Place, Region};
 use jvm_frames::{Operands, Trap};
@@ -77,6 +77,9 @@ pub fn int_at(operands: &mut Operands, region: &Region, i: u32) -> Result<(), Tr
     ensures ok { OnOk result (Does region.now.size (instructions.Array Iaload)
         (int i ∷ operands.old.items) (heap_of region.now.arrays) operands.new.items
         (heap_of region.now.arrays)) }
+    ensures err { IfErr result (λ trap.
+        Traps region.now.size (instructions.Array Iaload) (int i ∷ operands.old.items)
+        (heap_of region.now.arrays) (trap_kind trap)) }
     ensures unchanged { OnErr result (operands.new ≡ operands.old) }
     ensures limit { operands.new.limit ≡ operands.old.limit }
 {
@@ -99,6 +102,9 @@ pub fn page_at(operands: &mut Operands, region: &Region, i: u32) -> Result<(), T
     ensures ok { OnOk result (Does region.now.size (instructions.Array Aaload)
         (int i ∷ operands.old.items) (heap_of region.now.arrays) operands.new.items
         (heap_of region.now.arrays)) }
+    ensures err { IfErr result (λ trap.
+        Traps region.now.size (instructions.Array Aaload) (int i ∷ operands.old.items)
+        (heap_of region.now.arrays) (trap_kind trap)) }
     ensures unchanged { OnErr result (operands.new ≡ operands.old) }
     ensures limit { operands.new.limit ≡ operands.old.limit }
 {
@@ -268,9 +274,8 @@ fn element(page: Value) -> u32
 #[inline(always)]
 pub fn page_of(pages: Value, region: &Region, i: u32) -> Option<Value>
     requires { IsTrue (on_top (is_pages_reference (heap_of region.now.arrays) ∷ []) (pages ∷ [])) }
-    ensures { IfSome result (λ page. (others : List StackValue)
-        → Does region.now.size (instructions.Array Aaload) (int i ∷ pages ∷ others)
-        (heap_of region.now.arrays) (page ∷ others) (heap_of region.now.arrays)) }
+    ensures { Gives region.now.size (instructions.Array Aaload) (int i ∷ pages ∷ [])
+        (heap_of region.now.arrays) (element_trap pages) result }
 {
     let Value::Array(place) = pages else {
         return None;
@@ -285,9 +290,8 @@ pub fn page_of(pages: Value, region: &Region, i: u32) -> Option<Value>
 #[inline(always)]
 pub fn int_of(ints: Value, region: &Region, i: u32) -> Option<u32>
     requires { IsTrue (on_top (is_ints_reference (heap_of region.now.arrays) ∷ []) (ints ∷ [])) }
-    ensures { IfSome result (λ n. (others : List StackValue)
-        → Does region.now.size (instructions.Array Iaload) (int i ∷ ints ∷ others)
-        (heap_of region.now.arrays) (int n ∷ others) (heap_of region.now.arrays)) }
+    ensures { Gives region.now.size (instructions.Array Iaload) (int i ∷ ints ∷ [])
+        (heap_of region.now.arrays) (element_trap ints) (option_map int result) }
 {
     let Value::Array(place) = ints else {
         return None;
@@ -305,6 +309,9 @@ pub fn put_int(ints: Value, region: &mut Region, i: u32, n: u32) -> bool
     ensures does { IsTrue result → (others : List StackValue)
         → Does region.old.size (instructions.Array Iastore) (int n ∷ int i ∷ ints ∷ others)
         (heap_of region.old.arrays) others (heap_of region.new.arrays) }
+    ensures traps { IsFalse result → (others : List StackValue)
+        → Traps region.old.size (instructions.Array Iastore) (int n ∷ int i ∷ ints ∷ others)
+        (heap_of region.old.arrays) (element_trap ints) }
     ensures unchanged { IsFalse result → region.new ≡ region.old }
     ensures size { region.new.size ≡ region.old.size }
     ensures safe { (readable writable : Option ℕ) → IsSafe region.old readable writable

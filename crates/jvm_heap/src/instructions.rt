@@ -1,5 +1,5 @@
 //! The instructions on the arrays of a program.
-ghost use Rattle.std.specs.Prelude.{◌≡◌, ◌∷◌, [], List, IsTrue, IsFalse, OnOk, OnErr, IfErr, IfSome};
+ghost use Rattle.std.specs.Prelude.{◌≡◌, ◌∷◌, [], List, IsTrue, IsFalse, OnOk, OnErr, IfErr, option_map};
 ghost use Rattle.jvm_names.specs.declared.array_name.ArrayName.TheVariants.{Iaload, Aaload, Iastore, Aastore};
 ghost use Rattle.jvm_program.specs.declared.instruction.Instruction.TheVariants as instructions;
 ghost use Rattle.jvm_program.specs.declared.value.Value.{Value as StackValue};
@@ -8,7 +8,7 @@ ghost use Rattle.jvm_program.specs.Values.{is_int, is_ints_reference, is_pages_r
 ghost use Rattle.jvm_frames.specs.Stack.{on_top};
 ghost use Rattle.jvm_frames.specs.Trap.{trap_kind};
 ghost use Rattle.jvm_heap.specs.Regions.{heap_of, is_array_reference};
-ghost use Rattle.jvm_heap.specs.HeapForms.{Does, Traps};
+ghost use Rattle.jvm_heap.specs.HeapForms.{Does, Gives, Traps, element_trap};
 
 use crate::access;
 use crate::heap::Heap;
@@ -61,6 +61,9 @@ impl Heap {
             (Does self.now.region.size (instructions.Array Iaload) (int i ∷ operands.old.items)
             (heap_of self.now.region.arrays) operands.new.items
             (heap_of self.now.region.arrays)) }
+        ensures err { IfErr result (λ trap.
+            Traps self.now.region.size (instructions.Array Iaload) (int i ∷ operands.old.items)
+            (heap_of self.now.region.arrays) (trap_kind trap)) }
         ensures unchanged { OnErr result (operands.new ≡ operands.old) }
         ensures limit { operands.new.limit ≡ operands.old.limit }
     {
@@ -76,6 +79,9 @@ impl Heap {
             (Does self.now.region.size (instructions.Array Aaload) (int i ∷ operands.old.items)
             (heap_of self.now.region.arrays) operands.new.items
             (heap_of self.now.region.arrays)) }
+        ensures err { IfErr result (λ trap.
+            Traps self.now.region.size (instructions.Array Aaload) (int i ∷ operands.old.items)
+            (heap_of self.now.region.arrays) (trap_kind trap)) }
         ensures unchanged { OnErr result (operands.new ≡ operands.old) }
         ensures limit { operands.new.limit ≡ operands.old.limit }
     {
@@ -161,9 +167,8 @@ impl Heap {
     #[inline(always)]
     pub fn page_of(&self, pages: Value, i: u32) -> Option<Value>
         requires { IsTrue (on_top (is_pages_reference (heap_of self.now.region.arrays) ∷ []) (pages ∷ [])) }
-        ensures { IfSome result (λ page. (others : List StackValue)
-            → Does self.now.region.size (instructions.Array Aaload) (int i ∷ pages ∷ others)
-            (heap_of self.now.region.arrays) (page ∷ others) (heap_of self.now.region.arrays)) }
+        ensures { Gives self.now.region.size (instructions.Array Aaload) (int i ∷ pages ∷ [])
+            (heap_of self.now.region.arrays) (element_trap pages) result }
     {
         access::page_of(pages, &self.region, i)
     }
@@ -172,9 +177,8 @@ impl Heap {
     #[inline(always)]
     pub fn int_of(&self, ints: Value, i: u32) -> Option<u32>
         requires { IsTrue (on_top (is_ints_reference (heap_of self.now.region.arrays) ∷ []) (ints ∷ [])) }
-        ensures { IfSome result (λ n. (others : List StackValue)
-            → Does self.now.region.size (instructions.Array Iaload) (int i ∷ ints ∷ others)
-            (heap_of self.now.region.arrays) (int n ∷ others) (heap_of self.now.region.arrays)) }
+        ensures { Gives self.now.region.size (instructions.Array Iaload) (int i ∷ ints ∷ [])
+            (heap_of self.now.region.arrays) (element_trap ints) (option_map int result) }
     {
         access::int_of(ints, &self.region, i)
     }
@@ -186,6 +190,9 @@ impl Heap {
         ensures does { IsTrue result → (others : List StackValue)
             → Does self.old.region.size (instructions.Array Iastore) (int n ∷ int i ∷ ints ∷ others)
             (heap_of self.old.region.arrays) others (heap_of self.new.region.arrays) }
+        ensures traps { IsFalse result → (others : List StackValue)
+            → Traps self.old.region.size (instructions.Array Iastore)
+            (int n ∷ int i ∷ ints ∷ others) (heap_of self.old.region.arrays) (element_trap ints) }
         ensures unchanged { IsFalse result → self.new ≡ self.old }
         ensures size { self.new.region.size ≡ self.old.region.size }
     {

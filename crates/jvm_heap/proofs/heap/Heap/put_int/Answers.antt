@@ -6,3 +6,6 @@ invariant_of-self c = c.put_int.ensures.safe c.self.inside.readable c.self.insid
 
 pub returns-clause-does : goal.returns-clause-does
 returns-clause-does c = rw (sym c.self.view_is) c.put_int.ensures.does
+
+pub returns-clause-traps : goal.returns-clause-traps
+returns-clause-traps c = rw (sym c.self.view_is) c.put_int.ensures.traps
