@@ -1,4 +1,6 @@
 pub mod CodeFiles
 pub mod DataFiles
 pub mod Counts
+pub mod OneCode
+mod Translations
 mod ProgramTranslation

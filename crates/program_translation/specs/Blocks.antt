@@ -1,5 +1,5 @@
 -- The blocks of a translation: the pieces of its classes of code, with the numbers that their spans have in the layout.
-use Rattle.std.specs.Prelude.{ℕ, ◌+◌, List, [], ◌∷◌, ◌++◌, map, length}
+use Rattle.std.specs.Prelude.{ℕ, ◌+◌, Bool, true, false, List, [], ◌∷◌, ◌++◌, map, length}
 use Rattle.program_classes.specs.declared.piece.Piece.{Piece}
 use Rattle.program_classes.specs.Blocks.{pieces_of_class}
 use Rattle.program_translation.specs.declared.block_info.BlockInfo.{BlockInfo}
@@ -23,3 +23,8 @@ abbrev pub blocks_of : ℕ → List Placed → List BlockInfo
 blocks_of before [] = []
 blocks_of before (c ∷ classes) = blocks_of_class before c
     ++ blocks_of (before + length c.spans) classes
+
+-- those that are listed: all of them, or none
+abbrev pub if_listed : Bool → List BlockInfo → List BlockInfo
+if_listed true blocks = blocks
+if_listed false blocks = []

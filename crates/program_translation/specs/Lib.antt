@@ -4,8 +4,11 @@ pub mod Places
 pub mod Classes
 pub mod Blocks
 pub mod Parts
+pub mod Ranges
 pub mod Adding
+pub mod Counting
 pub mod DataFiles
 pub mod Bounds
 pub mod MainFile
 pub mod Translation
+pub mod Taking

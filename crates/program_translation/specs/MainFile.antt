@@ -10,6 +10,7 @@ use Rattle.loading_code.specs.declared.beginning.Beginning.{Beginning}
 use Rattle.program_classes.specs.declared.content.MainClass.{MainClass}
 use Rattle.program_classes.specs.Main.{IsMainClass}
 use Rattle.program_translation.specs.declared.named_file.NamedFile.{NamedFile}
+use Rattle.program_translation.specs.declared.main_file.Head.{Head}
 use Rattle.program_translation.specs.Files.{name_of}
 
 -- with what a program begins
@@ -20,6 +21,13 @@ beginning_of s = record {
   heap_bytes = (image_of s).heap_bytes;
   order = (image_of s).order;
 }
+
+-- what the main class has of a program itself: with what this begins, and the pages that can be read
+pub record IsHeadOf (source : Source) (head : Head) : Type 0 where
+  pub beginning_is : head.beginning ≡ beginning_of source
+  pub pages_are : flat_map run_pages head.runs.items
+      ≡ pages_of (readable source) (writable source) pages_below
+  pub runs_are : All IsRun head.runs.items
 
 -- What the main class of a program is made of: the turns of its meter, with what the program
 -- begins, the pages that can be read, where its classes of code begin, and the numbers of the

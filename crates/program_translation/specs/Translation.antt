@@ -41,6 +41,13 @@ pub record IsTranslationBy (meter : Option ℕ) (source : Source) (name : Text) 
   pub blocks_are : built.layout.blocks.items ≡ blocks_of 0 code
   pub need_is : built.layout.need ≡ need (image_of source).mapped
 
+-- the files of such a translation, which need not be at hand itself
+pub record AreFilesOf (meter : Option ℕ) (source : Source) (name : Text) (method_bytes : ℕ)
+    (files : List NamedFile) : Type 0 where
+  pub built : Built
+  pub is : IsTranslationBy meter source name method_bytes built
+  pub files_are : built.files.items ≡ files
+
 -- a translation without a meter
 abbrev pub IsTranslation : Source → Text → ℕ → Built → Type 0
 IsTranslation source name method_bytes built = IsTranslationBy None source name method_bytes built

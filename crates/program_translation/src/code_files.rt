@@ -1,26 +1,25 @@
 //! The classes of code.
-ghost use Rattle.std.specs.Prelude.{◌≡◌, ◌+◌, ◌≤◌, ◌<◌, ◌^◌, ◌++◌, ◌∷◌, [], All, List, IfOk, OnOk, length, map};
-ghost use Rattle.elf_image.specs.Start.{image_of};
-ghost use Rattle.elf_image.specs.Whole.{IsWholeRange};
+ghost use Rattle.std.specs.Prelude.{◌≡◌, ℕ, ◌+◌, ◌≤◌, ◌<◌, ◌^◌, ◌++◌, ◌∷◌, [], All, List, Option, IfOk, OnOk, length, map};
 ghost use Rattle.method_splitter.specs.Shares.{share_count};
 ghost use Rattle.program_classes.specs.Parts.{IsCode};
 ghost use Rattle.program_translation.specs.Places.{Place, class_words, places_in};
 ghost use Rattle.program_translation.specs.Classes.{starts_at};
-ghost use Rattle.program_translation.specs.Blocks.{block_of};
+ghost use Rattle.program_translation.specs.Parts.{IsLow};
+ghost use Rattle.program_translation.specs.Ranges.{AreRangesOf, IsRangeOf, range_of};
+ghost use Rattle.program_translation.specs.Blocks.{block_of, if_listed};
 ghost use Rattle.program_translation.specs.Adding.{AddsClass, HasFew, HasPlaces, IsCodeOf};
 
 use crate::NoMemory;
 use crate::block_info::BlockInfo;
-use crate::code_layout::{add_blocks, add_starts};
+use crate::code_layout::{add_starts, list_blocks};
 use crate::coding::{FileOfCode, code_file};
 use crate::named_file::NamedFile;
 use crate::parts::{keep_part, part_at, part_count};
+use crate::ranges::Ranges;
 use crate::span_info::SpanInfo;
 use command_values::{ClassName, MethodBytes};
-use elf_image::Image;
-use elf_reader::Range;
 use guest_layout::METHODS;
-use image_parts::range_code;
+use image_parts::RangeCode;
 use program_classes::Part;
 use std::alloc::Global;
 use trampoline::Start;
@@ -30,7 +29,10 @@ use trampoline::Start;
 pub struct Code {
     pub files: Vec<NamedFile>,
     pub spans: Vec<SpanInfo>,
+    /// The blocks, where they are listed; else none.
     pub blocks: Vec<BlockInfo>,
+    /// Whether the blocks are listed.
+    pub listed: bool,
     /// Where each class begins, by the number of its method `run()V`, and where each range ends, by the number of `missing()V`.
     pub starts: Vec<Start>,
     /// The number of the method `run()V` of each class.
@@ -40,18 +42,22 @@ pub struct Code {
 }
 
 /// All classes of code of an image, for the program whose main class is called `name`: 1 to 235. The code of each span's method has at most
-/// `method_bytes` bytes by its words' weights. With a meter each unit's turns are taken off before it.
+/// `method_bytes` bytes by its words' weights. With a meter each unit's turns are taken off before it. Each range is let go once its classes
+/// are made. Where the blocks are not listed, they take no memory.
 ///
 /// # Errors
 /// Want of memory for the classes.
 pub fn code_of(
     alloc: Global,
-    image: &Image,
+    ranges: Ranges,
     name: &ClassName,
     method_bytes: MethodBytes,
     metered: bool,
+    listed: bool,
 ) -> Result<Code, NoMemory>
-    ensures code { IfOk result (IsCodeOf metered image.now name.now method_bytes) }
+    requires { AreRangesOf ranges.image.value ranges.items.items }
+    ensures code { IfOk result (IsCodeOf metered ranges.image.value name.now method_bytes) }
+    ensures listed { IfOk result (λ code. code.listed ≡ listed) }
     ensures some { IfOk result (λ code. 1 ≤ length code.files.items) }
     ensures few { IfOk result (λ code. length code.files.items ≤ 235) }
     ensures methods { IfOk result (λ code. code.methods < 2 ^ 31) }
@@ -60,13 +66,13 @@ pub fn code_of(
         files: Vec::new(alloc),
         spans: Vec::new(alloc),
         blocks: Vec::new(alloc),
+        listed,
         starts: Vec::new(alloc),
         runs: Vec::new(alloc),
         methods: METHODS,
     };
-    image.laws();
-    for range in image.ranges() {
-        add_range(alloc, &mut code, image, *range, name, method_bytes, metered)?;
+    for range in ranges.items {
+        add_range(alloc, &mut code, range, name, method_bytes, metered)?;
     }
     Ok(code)
 }
@@ -75,25 +81,29 @@ pub fn code_of(
 fn add_range(
     alloc: Global,
     code: &mut Code,
-    image: &Image,
-    range: Range,
+    range: RangeCode,
     name: &ClassName,
     method_bytes: MethodBytes,
     metered: bool,
 ) -> Result<(), NoMemory>
-    requires range { IsWholeRange (image_of image.now).code range }
-    requires classes { length code.old.files.items + share_count class_words range.words ≤ 235 }
+    requires code { IsCode range.units }
+    requires low { IsLow range (length range.units) }
+    requires classes { length code.old.files.items + share_count class_words (length range.units)
+        ≤ 235 }
     requires few { HasFew code.old }
     ensures few { OnOk result (HasFew code.new) }
-    ensures places { OnOk result ((places : List Place)
-        → HasPlaces metered (image_of image.now).code name.now method_bytes places code.old
-        → HasPlaces metered (image_of image.now).code name.now method_bytes (places
-        ++ places_in range) code.new) }
+    ensures listed { OnOk result (code.new.listed ≡ code.old.listed) }
+    ensures places { OnOk result ((words : ℕ → Option ℕ) (places : List Place)
+        → IsRangeOf words range
+        → HasPlaces metered words name.now method_bytes places code.old
+        → HasPlaces metered words name.now method_bytes (places
+        ++ places_in (range_of range)) code.new) }
 {
-    let mut words = range_code(alloc, image, range)?;
-    for k in 0..part_count(range.words) {
-        keep_part(alloc, &mut words, range.words, k)?;
-        let part = part_at(metered, &words, range.words, k);
+    let mut kept = range;
+    let words = kept.units.len() as u32;
+    for k in 0..part_count(words) {
+        keep_part(alloc, &mut kept, words, k)?;
+        let part = part_at(metered, &kept, words, k);
         add_class(alloc, code, &part, name, method_bytes)?;
     }
     Ok(())
@@ -138,11 +148,18 @@ fn add_file(code: &mut Code, part: &Part, file: FileOfCode) -> Result<(), NoMemo
     ensures runs { OnOk result (code.new.runs.items ≡ code.old.runs.items ++ file.run ∷ []) }
     ensures spans { OnOk result (code.new.spans.items ≡ code.old.spans.items ++ file.spans.items) }
     ensures blocks { OnOk result (code.new.blocks.items ≡ code.old.blocks.items
-        ++ map (block_of (length code.old.spans.items)) file.pieces.items) }
+        ++ if_listed code.old.listed
+        (map (block_of (length code.old.spans.items)) file.pieces.items)) }
+    ensures listed { OnOk result (code.new.listed ≡ code.old.listed) }
     ensures methods { OnOk result (code.new.methods ≡ file.run + 1) }
 {
     let before = code.spans.len() as u32;
-    add_blocks(&mut code.blocks, before, file.pieces.as_slice())?;
+    list_blocks(
+        code.listed,
+        &mut code.blocks,
+        before,
+        file.pieces.as_slice(),
+    )?;
     let mut spans = file.spans;
     code.spans.append(&mut spans)?;
     add_starts(&mut code.starts, part, file.run)?;

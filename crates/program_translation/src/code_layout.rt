@@ -1,6 +1,6 @@
 //! Where the words of classes stand.
 ghost use Rattle.std.specs.Prelude.{◌≡◌, ◌+◌, ◌<◌, ◌^◌, ◌++◌, All, OnOk, map};
-ghost use Rattle.program_translation.specs.Blocks.{block_of};
+ghost use Rattle.program_translation.specs.Blocks.{block_of, if_listed};
 ghost use Rattle.program_translation.specs.Classes.{starts_at};
 
 use crate::NoMemory;
@@ -9,12 +9,26 @@ use guest_layout::MISSING;
 use program_classes::{Part, Piece};
 use trampoline::Start;
 
-/// The pieces of a class as blocks behind those of others, which have so many spans.
-pub fn add_blocks(
+/// The pieces of a class as blocks behind those of others, which have so many spans, where blocks are listed.
+pub fn list_blocks(
+    listed: bool,
     blocks: &mut Vec<BlockInfo>,
     before: u32,
     pieces: &[Piece],
 ) -> Result<(), NoMemory>
+    requires low { before < 2 ^ 31 }
+    requires spans { All (λ p. p.span < 2048) pieces.now }
+    ensures { OnOk result (blocks.new.items ≡ blocks.old.items
+        ++ if_listed listed (map (block_of before) pieces.now)) }
+{
+    if listed {
+        add_blocks(blocks, before, pieces)
+    } else {
+        Ok(())
+    }
+}
+
+fn add_blocks(blocks: &mut Vec<BlockInfo>, before: u32, pieces: &[Piece]) -> Result<(), NoMemory>
     requires low { before < 2 ^ 31 }
     requires spans { All (λ p. p.span < 2048) pieces.now }
     ensures { OnOk result (blocks.new.items ≡ blocks.old.items

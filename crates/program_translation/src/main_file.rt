@@ -1,8 +1,11 @@
 //! The main class as a file.
 ghost use Rattle.std.specs.Prelude.{◌≡◌, ◌<◌, ◌≤◌, ◌++◌, All, IfOk, length};
+ghost use Rattle.elf_image.specs.Start.{Source};
+ghost use Rattle.elf_image.specs.Pages.{pages_below};
+ghost use Rattle.image_parts.specs.Runs.{IsRun};
 ghost use Rattle.guest_layout.specs.Numbers.{main_methods};
 ghost use Rattle.program_classes.specs.Content.{RiseFrom, behind};
-ghost use Rattle.program_translation.specs.MainFile.{IsMainFile, beginning_of};
+ghost use Rattle.program_translation.specs.MainFile.{IsHeadOf, IsMainFile, beginning_of};
 
 use crate::NoMemory;
 use crate::code_files::Code;
@@ -11,21 +14,46 @@ use crate::named_file::NamedFile;
 use command_values::{ClassName, MeterTurns};
 use elf_image::Image;
 use guest_layout::file_name;
-use image_parts::page_runs;
+use image_parts::{PageRun, page_runs};
 use loading_code::Beginning;
 use program_classes::{MainClass, main_class};
 use std::alloc::Global;
 
-/// The main class of an image, with a meter of so many turns or with none, and with these classes of code and of data. The methods that it calls of these have rising numbers behind those
-/// of its own.
+/// What the main class has of an image itself.
+#[derive(Drop)]
+pub struct Head {
+    /// With what it begins.
+    pub beginning: Beginning,
+    /// Its pages that can be read.
+    pub runs: Vec<PageRun>,
+}
+
+/// What the main class has of an image.
+///
+/// # Errors
+/// Want of memory for it.
+pub fn head_of(alloc: Global, image: &Image) -> Result<Head, NoMemory>
+    ensures { IfOk result (IsHeadOf image.now) }
+{
+    let runs = page_runs(alloc, image)?;
+    Ok(Head {
+        beginning: beginning_of(image),
+        runs,
+    })
+}
+
+/// The main class of an image, with a meter of so many turns or with none, and with these classes of code and of data. The methods that it
+/// calls of these have rising numbers behind those of its own.
 pub fn main_file(
     alloc: Global,
-    image: &Image,
+    head: &Head,
     name: &ClassName,
     meter: Option<MeterTurns>,
     code: &Code,
     stored: &Data,
 ) -> Result<NamedFile, NoMemory>
+    requires runs { All IsRun head.now.runs.items }
+    requires few_runs { length head.now.runs.items ≤ pages_below }
     requires some { 1 ≤ length code.now.starts.items }
     requires few { length code.now.starts.items ≤ 1200 }
     requires few_code { length code.now.runs.items ≤ 2048 }
@@ -33,15 +61,14 @@ pub fn main_file(
     requires known { All (λ start. start.method < behind main_methods code.now.runs.items)
         code.now.starts.items }
     requires rise { RiseFrom main_methods (code.now.runs.items ++ stored.now.fills.items) }
-    ensures { IfOk result
-        (IsMainFile meter image.now name.now code.now.starts.items code.now.runs.items
-        stored.now.fills.items) }
+    ensures { IfOk result (λ file. (source : Source) → IsHeadOf source head.now
+        → IsMainFile meter source name.now code.now.starts.items code.now.runs.items
+        stored.now.fills.items file) }
 {
-    let runs = page_runs(alloc, image)?;
     let main = MainClass {
-        beginning: beginning_of(image),
+        beginning: head.beginning,
         meter,
-        runs: runs.as_slice(),
+        runs: head.runs.as_slice(),
         starts: code.starts.as_slice(),
         code: code.runs.as_slice(),
         data: stored.fills.as_slice(),

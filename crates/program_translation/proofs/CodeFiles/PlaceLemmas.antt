@@ -1,14 +1,12 @@
 -- The places of words, one more, and the parts at them.
-use Rattle.std.proofs.Common.{◌≡◌, ℕ, Bool, ◌+◌, ◌<◌, List, [], ◌∷◌, ◌++◌, length, take, get_or, Option, ap, sym, ◌∙◌, arith, subst, append_assoc}
-use Rattle.std.proofs.lemmas.List.{append-nil, take_more}
-use Rattle.std.proofs.lemmas.List.Concat.{flat_map-append}
+use Rattle.std.proofs.Common.{◌≡◌, ℕ, Bool, ◌+◌, List, [], ◌∷◌, ◌++◌, length, Option, ap, sym, ◌∙◌, arith, subst, append_assoc}
 use Rattle.std.proofs.lemmas.List.FromFn.{map-range_with_len_more}
 use Rattle.elf_reader.specs.declared.range.Range.{Range}
 use Rattle.elf_image.specs.Whole.{IsWholeRange}
 use Rattle.image_parts.specs.declared.code.RangeCode.{RangeCode}
 use Rattle.image_parts.specs.Ranges.{IsRangeCode}
 use Rattle.program_classes.specs.declared.part.Part.{Part}
-use Rattle.program_translation.specs.Places.{Place, place_at, first_places, places_in, places_of, IsPartAt}
+use Rattle.program_translation.specs.Places.{Place, place_at, first_places, IsPartAt}
 use Rattle.program_translation.specs.Parts.{IsLow, IsPartOf}
 
 pub place-more : (before : List Place) (range : Range) (k : ℕ)
@@ -16,13 +14,6 @@ pub place-more : (before : List Place) (range : Range) (k : ℕ)
 place-more before range k =
     ap (λ l. before ++ l) (map-range_with_len_more (place_at range) 0 k k (omega arith))
     ∙ sym (append_assoc before (first_places range k) (place_at range k ∷ []))
-
-pub range-more : (ranges : List Range) (k : ℕ) (d : Range) → k < length ranges
-    → places_of (take (k + 1) ranges) ≡ places_of (take k ranges) ++ places_in (get_or ranges k d)
-range-more ranges k d less =
-    ap places_of (take_more ranges k d less)
-    ∙ flat_map-append places_in (take k ranges) (get_or ranges k d ∷ [])
-    ∙ ap (λ l. places_of (take k ranges) ++ l) (append-nil (places_in (get_or ranges k d)))
 
 -- a range that keeps the units of other words is the same code
 pub kept-coded : (code : ℕ → Option ℕ) (range : Range) (old new : RangeCode) → new.units ≡ old.units → new.leads ≡ old.leads
@@ -49,4 +40,11 @@ range-low code range c whole coded start count = record {
   units = count;
   leads = coded.leads_are.same_len ∙ count;
   low = omega (arith, whole.low, start);
+}
+
+pub kept-low : (old new : RangeCode) (n : ℕ) → new.units ≡ old.units → new.leads ≡ old.leads → new.start ≡ old.start → IsLow old n → IsLow new n
+kept-low old new n units leads start low = record {
+  units = ap length units ∙ low.units;
+  leads = subst (λ flags. length flags.items ≡ n) (sym leads) low.leads;
+  low = omega (arith, start, low.low);
 }

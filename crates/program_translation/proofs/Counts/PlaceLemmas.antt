@@ -1,5 +1,5 @@
 -- A program has few classes of code.
-use Rattle.std.proofs.Common.{◌≡◌, ℕ, Bool, zero, suc, ◌+◌, ◌*◌, ◌<◌, ◌≤◌, List, [], ◌∷◌, length, take, get_or, All, Option, ◌∙◌, arith, length-append}
+use Rattle.std.proofs.Common.{◌≡◌, ℕ, Bool, ◌+◌, ◌*◌, ◌≤◌, List, [], ◌∷◌, length, All, Option, ◌∙◌, arith, length-append}
 use Rattle.std.proofs.lemmas.List.Elements.{All-head}
 use Rattle.std.proofs.lemmas.List.FromFn.{length-map-range_with_len}
 use Rattle.std.proofs.lemmas.List.Sums.{sum_by-cons}
@@ -13,8 +13,10 @@ use Rattle.program_translation.specs.declared.code_files.Code.{Code}
 use Rattle.program_translation.specs.Places.{Place, class_words, place_at, places_in, places_of}
 use Rattle.program_translation.specs.Classes.{IsPlaced, IsCodeFile}
 use Rattle.program_translation.specs.Adding.{HasPlaces}
+use Rattle.program_translation.specs.declared.counting.CodeCounts.{CodeCounts}
+use Rattle.program_translation.specs.Counting.{CountsPlaces}
 
-in-count : (r : Range) → length (places_in r) ≡ share_count class_words r.words
+pub in-count : (r : Range) → length (places_in r) ≡ share_count class_words r.words
 in-count r = length-map-range_with_len (place_at r) 0 (share_count class_words r.words)
 
 -- each range has one class at most that is not full
@@ -44,21 +46,13 @@ places-some code [] whole some = absurd (omega (arith, some))
 places-some code (r ∷ ranges) whole some =
     omega (arith, in-count r, words-some r.words (All-head (IsWholeRange code) r ranges whole).filled, length-append (places_in r) (places_of ranges))
 
--- those of the first ranges, and of the next one
-pub places-first : (ranges : List Range) (k : ℕ) (d : Range) → k < length ranges
-    → length (places_of (take k ranges)) + share_count class_words (get_or ranges k d).words ≤ length (places_of ranges)
-places-first [] k d less = absurd (omega (arith, less))
-places-first (r ∷ ranges) zero d less = omega (arith, in-count r, length-append (places_in r) (places_of ranges))
-places-first (r ∷ ranges) (suc k) d less =
-    omega (
-      arith,
-      length-append (places_in r) (places_of (take k ranges)),
-      length-append (places_in r) (places_of ranges),
-      places-first ranges k d (omega (arith, less)),
-    )
-
 pub places-count : (metered : Bool) (code : ℕ → Option ℕ) (name : Text) (method_bytes : ℕ) (places : List Place) (c : Code)
     → HasPlaces metered code name method_bytes places c → length c.files.items ≡ length places
 places-count metered code name method_bytes places c has =
     AllZip-long (IsCodeFile name) has.classes c.files.items has.told.files_are
     ∙ AllZip-long (IsPlaced metered code method_bytes) places has.classes has.placed.each
+
+pub counts-count : (metered : Bool) (code : ℕ → Option ℕ) (method_bytes : ℕ) (places : List Place) (n : CodeCounts)
+    → CountsPlaces metered code method_bytes places n → n.classes ≡ length places
+counts-count metered code method_bytes places n has =
+    has.classes_are ∙ AllZip-long (IsPlaced metered code method_bytes) places has.classes has.placed.each

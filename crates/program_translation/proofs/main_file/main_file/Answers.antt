@@ -7,24 +7,20 @@ use Rattle.guest_layout.specs.Numbers.{main_methods}
 use Rattle.trampoline.specs.declared.start.Start.{Start}
 use Rattle.program_classes.specs.declared.content.MainClass.{MainClass}
 use Rattle.program_classes.specs.Content.{RiseFrom, behind}
-use Rattle.program_translation.proofs.Counts.PageLemmas.{runs-few}
 use Rattle.program_translation.proofs.main_file.main_file.Goals as goal
 
 pub main_class-requires : goal.main_class-requires
 main_class-requires c =
-    let source = c.args.image.now in
     let starts = c.as_slice-2.ensures.value in
     let code = c.as_slice-3.ensures.value in
-    let most =
-    runs-few (readable source) (writable source) pages_below c.in_ok-runs.runs.items c.in_ok-runs.ensures.sound c.in_ok-runs.ensures.pages in
     record {
       main = record {
         some = omega (arith, ap length starts, c.requires.some);
         few = omega (arith, ap length starts, c.requires.few);
         few_code = omega (arith, ap length code, c.requires.few_code);
         few_data = omega (arith, ap length c.as_slice-4.ensures.value, c.requires.few_data);
-        few_runs = omega (arith, ap length c.as_slice.ensures.value, most);
-        runs = subst (All IsRun) (sym c.as_slice.ensures.value) c.in_ok-runs.ensures.sound;
+        few_runs = omega (arith, ap length c.as_slice.ensures.value, c.requires.few_runs);
+        runs = subst (All IsRun) (sym c.as_slice.ensures.value) c.requires.runs;
         rise =
             subst (λ code. RiseFrom main_methods (code ++ c.as_slice-4.result.now)) (sym code)
             (subst (λ fills. RiseFrom main_methods (c.args.code.now.runs.items ++ fills)) (sym c.as_slice-4.ensures.value) c.requires.rise);
@@ -35,10 +31,9 @@ main_class-requires c =
     }
 
 pub returns : goal.returns
-returns c =
-    let source = c.args.image.now in
+returns c source head =
     let main : MainClass = record {
-      beginning = c.beginning_of.result;
+      beginning = c.args.head.now.beginning;
       meter = c.args.meter;
       runs = c.as_slice.result;
       starts = c.as_slice-2.result;
@@ -50,11 +45,11 @@ returns c =
       main = main;
       content = record {
         meter_is = refl;
-        beginning_is = c.beginning_of.ensures;
+        beginning_is = head.beginning_is;
         pages_are =
             subst (λ runs. flat_map run_pages runs ≡ pages_of (readable source) (writable source) pages_below) (sym c.as_slice.ensures.value)
-            c.in_ok-runs.ensures.pages;
-        runs_are = subst (All IsRun) (sym c.as_slice.ensures.value) c.in_ok-runs.ensures.sound;
+            head.pages_are;
+        runs_are = subst (All IsRun) (sym c.as_slice.ensures.value) head.runs_are;
         starts_are = c.as_slice-2.ensures.value;
         code_is = c.as_slice-3.ensures.value;
         data_is = c.as_slice-4.ensures.value;
