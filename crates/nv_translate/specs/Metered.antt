@@ -17,6 +17,7 @@ use Rattle.class_set.specs.ClassSets.{class_set}
 use Rattle.class_set.specs.declared.loaded.Loaded.TheVariants.{Classes}
 use Rattle.metered_programs.specs.Metering.{spent}
 use Rattle.program_translation.specs.declared.built.Built.{Built}
+use Rattle.program_translation.specs.declared.named_file.NamedFile.{NamedFile}
 use Rattle.program_translation.specs.Bounds.{meter_allow, need}
 use Rattle.program_translation.specs.Translation.{IsTranslationBy}
 use Rattle.nv_translate.specs.Ends.{classes_run, guest_run}
@@ -60,3 +61,10 @@ pub record TranslatedMetered (source : Source) (name : Text) (method_bytes turns
   pub stops : StopsByItsMeter source turns (program_of linked.classes)
   -- So over the system of the commands: with the same files and the same output.
   pub ends : EndsByItsMeter source turns linked.classes
+
+-- the files of a translation of which this is proved
+pub record AreMeteredFiles (source : Source) (name : Text) (method_bytes turns : ℕ)
+    (files : List NamedFile) : Type 0 where
+  pub built : Built
+  pub translated : TranslatedMetered source name method_bytes turns built
+  pub files_are : built.files.items ≡ files

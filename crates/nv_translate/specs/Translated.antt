@@ -1,5 +1,5 @@
 -- What is proved of a translation.
-use Rattle.std.specs.Prelude.{◌≡◌, ℕ}
+use Rattle.std.specs.Prelude.{◌≡◌, ℕ, List}
 use Rattle.nv_outside.specs.Files.{Files}
 use Rattle.command_values.specs.Names.{Text}
 use Rattle.elf_image.specs.Start.{Source}
@@ -7,6 +7,7 @@ use Rattle.jvm_link.specs.Linking.{Accepted, program_of}
 use Rattle.class_set.specs.ClassSets.{class_set}
 use Rattle.class_set.specs.declared.loaded.Loaded.TheVariants.{Classes}
 use Rattle.program_translation.specs.declared.built.Built.{Built}
+use Rattle.program_translation.specs.declared.named_file.NamedFile.{NamedFile}
 use Rattle.program_translation.specs.Translation.{IsTranslation}
 use Rattle.nv_translate.specs.Again.{RunsAgain}
 use Rattle.nv_translate.specs.Counts.{CountsAlike}
@@ -45,3 +46,10 @@ pub record Translated (source : Source) (name : Text) (method_bytes : ℕ) (buil
   pub counts : CountsAlike source built.layout (program_of linked.classes)
   -- The blocks of the layout are what runs, over local variables.
   pub warm : IsWarm source built.layout (program_of linked.classes)
+
+-- The files of a translation of which this is proved. It need not be at hand itself.
+pub record AreTranslatedFiles (source : Source) (name : Text) (method_bytes : ℕ)
+    (files : List NamedFile) : Type 0 where
+  pub built : Built
+  pub translated : Translated source name method_bytes built
+  pub files_are : built.files.items ≡ files

@@ -1,10 +1,10 @@
 ghost use Rattle.std.specs.Prelude.{IfOk};
-ghost use Rattle.nv_translate.specs.Translated.{Translated};
+ghost use Rattle.nv_translate.specs.Translated.{AreTranslatedFiles, Translated};
 
 use crate::laws::images_are_translated;
 use command_values::{ClassName, MethodBytes};
 use elf_image::Image;
-use program_translation::{Built, NoMemory};
+use program_translation::{Built, NamedFile, NoMemory};
 use std::alloc::Global;
 
 /// Translates a program to class files.
@@ -29,4 +29,24 @@ pub fn translate(
     name.laws();
     method_bytes.laws();
     program_translation::translate(alloc, image, name, method_bytes)
+}
+
+/// Translates a program to class files, as `translate` does, and gives these files alone, in less memory: where their blocks stand is not
+/// told, and the image is let go before its code is made.
+///
+/// # Errors
+/// Want of memory for the classes.
+pub fn translate_files(
+    alloc: Global,
+    image: Image,
+    name: &ClassName,
+    method_bytes: MethodBytes,
+) -> Result<Vec<NamedFile>, NoMemory>
+    ensures { IfOk result (λ files.
+        AreTranslatedFiles image name.now method_bytes files.items) }
+{
+    images_are_translated(&image);
+    name.laws();
+    method_bytes.laws();
+    program_translation::translate_files(alloc, image, name, method_bytes)
 }

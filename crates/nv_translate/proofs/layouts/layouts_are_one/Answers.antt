@@ -1,5 +1,5 @@
 use Rattle.std.proofs.Common.{◌∙◌, sym}
-use Rattle.nv_translate.proofs.OneLayout.Classes.{spans_are_one, blocks_are_one}
+use Rattle.nv_translate.proofs.OneLayout.{spans_are_one, blocks_are_one}
 use Rattle.nv_translate.proofs.layouts.layouts_are_one.Goals as goal
 
 pub returns : goal.returns
