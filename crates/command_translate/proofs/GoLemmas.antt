@@ -138,7 +138,7 @@ module _ (plan : Plan) (starts : (held : Held) → StartsAs plan held) where
 -- a translation was made, and its files and classes worked on
 pub built_works : (plan : Plan) (method_bytes : ℕ) (image : Source) (unix : Held) (built : Built) (w v : World) (end : Result CommandAnswer Stop)
     → (t : Translated image plan.name method_bytes built)
-    → WorksOn (λ x. IsDueBehind built.files.items (IsDueOfHeldRun (allowed plan image) image unix plan.session.keep.names t.linked.classes
+    → WorksOn (λ x. IsDueBehind built.files.items (IsDueOfHeldRun (allowed plan image) (need (image_of image).mapped) unix plan.session.keep.names t.linked.classes
     x.input.told)) w v end
     → WorksOn (λ x. IsDueOfHeldGo plan method_bytes image unix x.input.told) w v end
 built_works plan method_bytes image unix built w v end t q = (q.0, (built, t, q.1), q.2)

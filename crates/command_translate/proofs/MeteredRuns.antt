@@ -95,7 +95,7 @@ told_works later w v (Err stop) none p = p
 
 pub metered_works : (plan : Plan) (method_bytes turns : ℕ) (image : Source) (unix : Held) (built : Built) (w v : World) (end : Result CommandAnswer Stop)
     → (t : TranslatedMetered image plan.name method_bytes turns built)
-    → WorksOn (λ x. IsDueBehind built.files.items (IsDueOfHeldRun (allowed_by_meter turns image) image unix plan.session.keep.names t.linked.classes
+    → WorksOn (λ x. IsDueBehind built.files.items (IsDueOfHeldRun (allowed_by_meter turns image) (need (image_of image).mapped) unix plan.session.keep.names t.linked.classes
     x.input.told)) w v end
     → WorksOn (λ x. IsDueOfHeldMetered plan method_bytes turns image unix x.input.told) w v (ended_by_meter end)
 metered_works plan method_bytes turns image unix built w v end t q =

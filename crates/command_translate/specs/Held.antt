@@ -16,20 +16,19 @@ use Rattle.command_translate.specs.Go.{allowed}
 use Rattle.command_translate.specs.Metered.{allowed_by_meter, told_by_meter}
 use Rattle.command_translate.specs.Stores.{IsDueBehind}
 
--- the run of classes for so many instructions, and the files that are kept
-abbrev pub IsDueOfHeldRun : ℕ → Source → Held → List Text → List Class → Option (List ℕ) → Due
-    → Type 0
-IsDueOfHeldRun bound source unix keep classes input due =
-    IsDueOfHeld bound loaded_turn (loaded (program_of classes) (need (image_of source).mapped))
-    unix keep input due
+-- the run of classes for so many instructions in a region of so many words, and the files that are
+-- kept
+abbrev pub IsDueOfHeldRun : ℕ → ℕ → Held → List Text → List Class → Option (List ℕ) → Due → Type 0
+IsDueOfHeldRun bound words unix keep classes input due =
+    IsDueOfHeld bound loaded_turn (loaded (program_of classes) words) unix keep input due
 
 -- a translation, its files, and the run of its classes
 abbrev pub IsDueOfHeldGo : Plan → ℕ → Source → Held → Option (List ℕ) → Due → Type 0
 IsDueOfHeldGo plan method_bytes source unix input due =
     (built : Built) × (t : Translated source plan.name method_bytes built)
     × IsDueBehind built.files.items
-    (IsDueOfHeldRun (allowed plan source) source unix plan.session.keep.names t.linked.classes input)
-    due
+    (IsDueOfHeldRun (allowed plan source) (need (image_of source).mapped) unix
+    plan.session.keep.names t.linked.classes input) due
 
 -- the same of a translation with a meter
 abbrev pub IsDueOfHeldMetered : Plan → ℕ → ℕ → Source → Held → Option (List ℕ) → Due → Type 0
@@ -37,6 +36,6 @@ IsDueOfHeldMetered plan method_bytes turns source unix input due =
     (built : Built) × (t : TranslatedMetered source plan.name method_bytes turns built)
     × (later : Due)
     × IsDueBehind built.files.items
-    (IsDueOfHeldRun (allowed_by_meter turns source) source unix plan.session.keep.names
-    t.linked.classes input) later
+    (IsDueOfHeldRun (allowed_by_meter turns source) (need (image_of source).mapped) unix
+    plan.session.keep.names t.linked.classes input) later
     × (due ≡ told_by_meter later)

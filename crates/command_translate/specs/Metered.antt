@@ -13,8 +13,9 @@ use Rattle.jvm_program.specs.Step.{loaded_turn}
 use Rattle.jvm_code.specs.declared.class.Class.{Class}
 use Rattle.program_translation.specs.Bounds.{meter_allow}
 use Rattle.program_translation.specs.declared.built.Built.{Built}
-use Rattle.nv_translate.specs.Metered.{TranslatedMetered}
-use Rattle.nv_translate.specs.Translated.{Translated}
+use Rattle.program_translation.specs.declared.named_file.NamedFile.{NamedFile}
+use Rattle.nv_translate.specs.Metered.{AreMeteredFiles, TranslatedMetered}
+use Rattle.nv_translate.specs.Translated.{AreTranslatedFiles}
 use Rattle.command_deeds.specs.Ends.{CommandAnswer, Due, says}
 use Rattle.command_deeds.specs.Runs.{GivenFile, Plan, played}
 use Rattle.command_deeds.specs.declared.done.Done.{Done}
@@ -23,11 +24,11 @@ use Rattle.command_deeds.specs.declared.stop.Stop.{Stop}
 use Rattle.command_translate.specs.Runs.{classes_for, program_for}
 use Rattle.command_translate.specs.Stores.{after_stores, counted}
 
--- what is proved of a translation, with a meter or without one
-abbrev pub TranslatedBy : Option ℕ → Source → Text → ℕ → Built → Type 0
-TranslatedBy None source name method_bytes built = Translated source name method_bytes built
-TranslatedBy (Some turns) source name method_bytes built =
-    TranslatedMetered source name method_bytes turns built
+-- the files of a translation, with a meter or without one
+abbrev pub AreFilesBy : Option ℕ → Source → Text → ℕ → List NamedFile → Type 0
+AreFilesBy None source name method_bytes files = AreTranslatedFiles source name method_bytes files
+AreFilesBy (Some turns) source name method_bytes files =
+    AreMeteredFiles source name method_bytes turns files
 
 -- ---- answers
 

@@ -28,15 +28,19 @@ abbrev pub IsDueBehind : List NamedFile → (Due → Type 0) → Due → Type 0
 IsDueBehind files IsDue due = (later : Due) × IsDue later × (due ≡ after_stores files later)
 
 -- how many files there are, and the words of the region in which they run
-abbrev pub counts_line : Built → List ℕ
-counts_line built =
-    joined (codes "classes " ∷ decimal (length built.files.items) ∷ codes " need "
-    ∷ decimal built.layout.need ∷ codes "\n" ∷ [])
+abbrev pub counts_line : List NamedFile → ℕ → List ℕ
+counts_line files words =
+    joined (codes "classes " ∷ decimal (length files) ∷ codes " need " ∷ decimal words
+    ∷ codes "\n" ∷ [])
 
 -- the files are stored, and counted
-abbrev pub counted : Built → Due
-counted built = record {
-  deeds = stored built.files.items
-      ++ prints (counts_line built) ∷ [];
+abbrev pub files_counted : List NamedFile → ℕ → Due
+files_counted files words = record {
+  deeds = stored files
+      ++ prints (counts_line files words) ∷ [];
   answer = Some (says Good);
 }
+
+-- those of a translation
+abbrev pub counted : Built → Due
+counted built = files_counted built.files.items built.layout.need

@@ -7,7 +7,7 @@ use command_deeds::{Done, play_alone};
 use command_values::{ClassName, MethodBytes};
 use elf_image::Image;
 use mips_machine::Mips;
-use nv_translate::{allow, translate};
+use nv_translate::{allow, need, translate_files};
 use std::alloc::{AllocError, Global};
 
 /// The name of the program.
@@ -24,19 +24,20 @@ pub fn run_image(alloc: Global, image: &Image, steps: u64, moment: u64) -> Resul
 /// How the classes of a program end within as many instructions as so many steps allow.
 pub fn run_translated(
     alloc: Global,
-    image: &Image,
+    image: Image,
     method_bytes: MethodBytes,
     steps: u64,
     moment: u64,
 ) -> Result<Done, AllocError>
     requires steps { steps ≤ 2 ^ 40 }
-    ensures { IfOk result (IsEndOfTranslation steps moment image.now method_bytes) }
+    ensures { IfOk result (IsEndOfTranslation steps moment image method_bytes) }
 {
     let name = class_name(alloc)?;
-    let built = translate(alloc, image, &name, method_bytes)?;
-    let jvm = machine_of(alloc, image, built.files.as_slice())?;
     image.laws();
     let bound = allow(image.mapped(), steps);
+    let words = need(&image);
+    let files = translate_files(alloc, image, &name, method_bytes)?;
+    let jvm = machine_of(alloc, words, files.as_slice())?;
     play_alone(alloc, NAME, moment, jvm, bound)
 }
 

@@ -1,34 +1,32 @@
 //! From the files of a translation to classes that may be run.
 ghost use Rattle.std.specs.Prelude.{◌≡◌, ◌++◌, ◌∷◌, [], All, IfOk, List, OnOk, false};
-ghost use Rattle.elf_image.specs.Start.{image_of};
 ghost use Rattle.jvm_program.specs.Step.{loaded};
 ghost use Rattle.jvm_program.specs.Typing.{AllTyped};
 ghost use Rattle.jvm_code.specs.declared.class.Class.{Class};
 ghost use Rattle.name_resolution.specs.Kept.{IsClass};
 ghost use Rattle.jvm_link.specs.Linking as linking;
 ghost use Rattle.jvm_machine.specs.Machine.{has_ended, state_of};
-ghost use Rattle.program_translation.specs.Bounds as bounds;
 ghost use Rattle.command_translate.specs.Classes.{HoldAccepted, SpellClasses};
 
 use class_reader::{ReadError, read_class};
-use elf_image::Image;
+use command_values::RegionWords;
 use jvm_code::Class;
 use jvm_link::{LinkError, Linked, link};
 use jvm_machine::Jvm;
-use nv_translate::{NamedFile, need};
+use nv_translate::NamedFile;
 use std::alloc::{AllocError, Global};
 
-/// The class machine with the classes that the files of an image's translation spell, in the region that they need. That their methods are
-/// typed is proved of all translations, so no time is spent on verifying them.
-pub fn machine_of(alloc: Global, image: &Image, files: &[NamedFile]) -> Result<Jvm, AllocError>
+/// The class machine with the classes that the files of a translation spell, in a region of so many words. That their methods are typed is
+/// proved of all translations, so no time is spent on verifying them.
+pub fn machine_of(alloc: Global, words: RegionWords, files: &[NamedFile]) -> Result<Jvm, AllocError>
     requires { HoldAccepted files.now }
     ensures state { (classes : List Class) → SpellClasses files.now classes
         → IfOk result (λ jvm. state_of jvm
-        ≡ loaded (linking.program_of classes) (bounds.need (image_of image.now).mapped)) }
+        ≡ loaded (linking.program_of classes) words) }
     ensures going { IfOk result (λ jvm. has_ended jvm ≡ false) }
 {
     let linked = linked_files(alloc, files)?;
-    let jvm = Jvm::load_typed(alloc, linked, need(image))?;
+    let jvm = Jvm::load_typed(alloc, linked, words)?;
     Ok(jvm)
 }
 

@@ -13,7 +13,7 @@ use command_guest::{Guest, load_image};
 use command_values::{MeterTurns, MethodBytes};
 use elf_image::Image;
 use nv_outside::{Shelf, Sink, Source};
-use nv_translate::{allow, meter_allow, translate, translate_metered};
+use nv_translate::{allow, meter_allow, need, translate_files, translate_files_metered};
 use std::alloc::Global;
 use unix_calls::Unix;
 use unix_calls::laws::begins_at_start;
@@ -40,16 +40,17 @@ pub fn go<H: Shelf, S: Source, O: Sink, E: Sink>(
     let image = load_image(alloc, guest.input, guest.pages, outside.shelf)?;
     let unix = ready(alloc, launch, outside.shelf)?;
     match meter {
-        Some(turns) => go_by_meter(alloc, launch, &image, method_bytes, turns, unix, outside),
-        None => go_by_steps(alloc, launch, &image, method_bytes, unix, outside),
+        Some(turns) => go_by_meter(alloc, launch, image, method_bytes, turns, unix, outside),
+        None => go_by_steps(alloc, launch, image, method_bytes, unix, outside),
     }
 }
 
-/// Translates a program, stores its classes, runs them over a system as long as the program's steps allow it, and keeps files of the run.
+/// Translates a program, stores its classes, runs them over a system as long as the program's steps allow it, and keeps files of the run. The
+/// image is let go as soon as it is translated.
 fn go_by_steps<H: Shelf, S: Source, O: Sink, E: Sink>(
     alloc: Global,
     launch: &Launch<'_>,
-    image: &Image,
+    image: Image,
     method_bytes: MethodBytes,
     unix: Unix,
     outside: &mut Outside<'_, H, S, O, E>,
@@ -57,23 +58,24 @@ fn go_by_steps<H: Shelf, S: Source, O: Sink, E: Sink>(
     requires steps { launch.now.session.now.steps ≤ 2 ^ 40 }
     ensures same { SameParts outside.old outside.new }
     ensures comes { Comes true
-        (λ w. IsDueOfHeldGo (plan_of launch.now) method_bytes image.now unix w.input.told)
+        (λ w. IsDueOfHeldGo (plan_of launch.now) method_bytes image unix w.input.told)
         (seen H.Shelf S.Source O.Sink E.Sink outside.old)
         (seen H.Shelf S.Source O.Sink E.Sink outside.new) (ended result) }
 {
     let session = launch.session;
-    let built = translate(alloc, image, launch.name, method_bytes)?;
     image.laws();
     let bound = allow(image.mapped(), session.steps);
-    let files = built.files.as_slice();
-    play_stored(alloc, image, files, bound, unix, &session.keep, outside)
+    let words = need(&image);
+    let made = translate_files(alloc, image, launch.name, method_bytes)?;
+    let files = made.as_slice();
+    play_stored(alloc, words, files, bound, unix, &session.keep, outside)
 }
 
 /// The same with classes that have a meter, which are run until it is spent.
 fn go_by_meter<H: Shelf, S: Source, O: Sink, E: Sink>(
     alloc: Global,
     launch: &Launch<'_>,
-    image: &Image,
+    image: Image,
     method_bytes: MethodBytes,
     turns: MeterTurns,
     unix: Unix,
@@ -81,18 +83,19 @@ fn go_by_meter<H: Shelf, S: Source, O: Sink, E: Sink>(
 ) -> Result<Done, Ending>
     ensures same { SameParts outside.old outside.new }
     ensures comes { Comes true
-        (λ w. IsDueOfHeldMetered (plan_of launch.now) method_bytes turns image.now unix
+        (λ w. IsDueOfHeldMetered (plan_of launch.now) method_bytes turns image unix
         w.input.told)
         (seen H.Shelf S.Source O.Sink E.Sink outside.old)
         (seen H.Shelf S.Source O.Sink E.Sink outside.new) (ended result) }
 {
-    let built = translate_metered(alloc, image, launch.name, method_bytes, turns)?;
     image.laws();
     let bound = meter_allow(image.mapped(), turns);
-    let files = built.files.as_slice();
+    let words = need(&image);
+    let made = translate_files_metered(alloc, image, launch.name, method_bytes, turns)?;
+    let files = made.as_slice();
     let end = play_stored(
         alloc,
-        image,
+        words,
         files,
         bound,
         unix,

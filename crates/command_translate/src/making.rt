@@ -35,7 +35,7 @@ pub fn make<H: Shelf, S: Source, O: Sink, E: Sink>(
     let image = image_of_file(alloc, file.as_slice(), DEFAULT_PAGES)?;
     let steps = 5 * u64::from(count) + 4;
     let interp_end = run_image(alloc, &image, steps, moment)?;
-    let classes_end = run_translated(alloc, &image, method_bytes, steps, moment)?;
+    let classes_end = run_translated(alloc, image, method_bytes, steps, moment)?;
     let interp = interp_end.status();
     let classes = classes_end.status();
     write_lines(count, Statuses { interp, classes }, outside.out)?;

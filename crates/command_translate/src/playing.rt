@@ -10,17 +10,18 @@ ghost use Rattle.command_translate.specs.Stores.{IsDueBehind};
 use crate::classes::machine_of;
 use crate::storing::store_files;
 use command_deeds::{Done, Ending, Outside, play_for};
+use command_values::RegionWords;
 use command_words::NameList;
-use elf_image::Image;
 use nv_outside::{Shelf, Sink, Source};
 use nv_translate::NamedFile;
 use std::alloc::Global;
 use unix_calls::Unix;
 
-/// Stores the files of a translation, runs its classes over a system for so many instructions, and keeps files of these names.
+/// Stores the files of a translation, runs its classes over a system for so many instructions in a region of so many words, and keeps files
+/// of these names.
 pub fn play_stored<H: Shelf, S: Source, O: Sink, E: Sink>(
     alloc: Global,
-    image: &Image,
+    words: RegionWords,
     files: &[NamedFile],
     bound: u64,
     unix: Unix,
@@ -31,11 +32,11 @@ pub fn play_stored<H: Shelf, S: Source, O: Sink, E: Sink>(
     ensures same { SameParts outside.old outside.new }
     ensures works { (classes : List Class) → SpellClasses files.now classes
         → WorksOn (λ w. IsDueBehind files.now
-        (IsDueOfHeldRun bound image.now unix keep.now.names classes w.input.told))
+        (IsDueOfHeldRun bound words unix keep.now.names classes w.input.told))
         (seen H.Shelf S.Source O.Sink E.Sink outside.old)
         (seen H.Shelf S.Source O.Sink E.Sink outside.new) (ended result) }
 {
     store_files(files, outside.shelf)?;
-    let jvm = machine_of(alloc, image, files)?;
+    let jvm = machine_of(alloc, words, files)?;
     play_for(alloc, bound, jvm, unix, keep, outside)
 }

@@ -2,19 +2,19 @@ ghost use Rattle.std.specs.Prelude.{IfOk};
 ghost use Rattle.command_words.specs.Limits.{ArePages};
 ghost use Rattle.command_deeds.specs.Ends.{Ends};
 ghost use Rattle.command_deeds.specs.World.{Writes, output_seen};
-ghost use Rattle.command_translate.specs.Metered.{TranslatedBy};
+ghost use Rattle.command_translate.specs.Metered.{AreFilesBy};
 ghost use Rattle.command_translate.specs.Stores.{counts_line};
 ghost use Rattle.command_translate.specs.Translate.{IsDueOfTranslate};
 
 use crate::storing::store_files;
 use command_deeds::{Done, Ending, Outside, decimal_long, write_pieces};
 use command_guest::load_image;
-use command_values::{ClassName, MeterTurns, MethodBytes};
+use command_values::{ClassName, MeterTurns, MethodBytes, RegionWords};
 use command_words::{Named, Pages};
 use elf_image::Image;
 use itoa::Buffer;
 use nv_outside::{Failed, Shelf, Sink, Source};
-use nv_translate::{Built, NoMemory, translate_metered};
+use nv_translate::{NamedFile, NoMemory, need, translate_files, translate_files_metered};
 use std::alloc::Global;
 
 /// Loads a program, translates it with a meter or without one, stores its classes under a name, and writes how many files they are and
@@ -34,35 +34,38 @@ pub fn translate<H: Shelf, S: Source, O: Sink, E: Sink>(
         outside.old outside.new result }
 {
     let image = load_image(alloc, input, pages, outside.shelf)?;
-    let built = translation(alloc, &image, name, method_bytes, meter)?;
-    store_files(built.files.as_slice(), outside.shelf)?;
-    write_counts(&built, outside.out)?;
+    let words = need(&image);
+    let made = files_of(alloc, image, name, method_bytes, meter)?;
+    let files = made.as_slice();
+    store_files(files, outside.shelf)?;
+    write_counts(files, words, outside.out)?;
     Ok(Done::Good)
 }
 
-/// A translation of a program, with a meter or without one.
-fn translation(
+/// The files of a translation of a program, with a meter or without one.
+fn files_of(
     alloc: Global,
-    image: &Image,
+    image: Image,
     name: &ClassName,
     method_bytes: MethodBytes,
     meter: Option<MeterTurns>,
-) -> Result<Built, NoMemory>
-    ensures { IfOk result (TranslatedBy meter image.now name.now method_bytes) }
+) -> Result<Vec<NamedFile>, NoMemory>
+    ensures { IfOk result (λ files.
+        AreFilesBy meter image name.now method_bytes files.items) }
 {
     match meter {
-        Some(turns) => translate_metered(alloc, image, name, method_bytes, turns),
-        None => nv_translate::translate(alloc, image, name, method_bytes),
+        Some(turns) => translate_files_metered(alloc, image, name, method_bytes, turns),
+        None => translate_files(alloc, image, name, method_bytes),
     }
 }
 
-/// Writes the line of the counts of a translation. Takes no memory.
-fn write_counts<O: Sink>(built: &Built, out: &mut O) -> Result<(), Failed>
+/// Writes the line of the counts of files that need so many words. Takes no memory.
+fn write_counts<O: Sink>(files: &[NamedFile], words: RegionWords, out: &mut O) -> Result<(), Failed>
     ensures writes { Writes (output_seen O.Sink out.old) (output_seen O.Sink out.new)
-        (counts_line built.now) result }
+        (counts_line files.now words) result }
 {
     let (mut file_digits, mut need_digits) = (Buffer::new(), Buffer::new());
-    let files = decimal_long(&mut file_digits, built.files.as_slice().len() as u64);
-    let need = decimal_long(&mut need_digits, u64::from(built.layout.need.get()));
-    write_pieces(out, &[b"classes ", files, b" need ", need, b"\n"])
+    let count = decimal_long(&mut file_digits, files.len() as u64);
+    let need = decimal_long(&mut need_digits, u64::from(words.get()));
+    write_pieces(out, &[b"classes ", count, b" need ", need, b"\n"])
 }

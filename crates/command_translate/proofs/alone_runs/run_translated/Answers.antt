@@ -5,7 +5,7 @@ use Rattle.jvm_program.specs.Step.{loaded, loaded_turn}
 use Rattle.jvm_link.specs.Linking.{program_of}
 use Rattle.jvm_machine.specs.Machine.{state_of}
 use Rattle.program_translation.specs.Bounds.{allow, need}
-use Rattle.nv_translate.specs.Translated.{Translated}
+use Rattle.nv_translate.specs.Translated.{AreTranslatedFiles}
 use Rattle.command_deeds.specs.declared.done.Done.{Done}
 use Rattle.command_deeds.specs.Runs.{answer_of, run_alone}
 use Rattle.command_translate.proofs.TranslationLemmas.{spell_classes}
@@ -14,18 +14,21 @@ use Rattle.command_translate.proofs.alone_runs.run_translated.Goals as goal
 
 pub returns : goal.returns
 returns c =
-    let image = c.args.image.now in
+    let image = c.args.image in
     let mapped = (image_of image).mapped in
-    let t : Translated image made_name c.args.method_bytes c.in_ok-built.built = subst (λ name. Translated image name c.args.method_bytes c.in_ok-built.built) c.in_ok-name.ensures c.in_ok-built.ensures in
-    let classes = t.linked.classes in
-    let state = c.in_ok-jvm.ensures.state classes (spell_classes image made_name c.args.method_bytes c.in_ok-built.built c.as_slice.result.now t
-    c.as_slice.ensures.value) in
+    let files = c.in_ok-files.files.items in
+    let are : AreTranslatedFiles image made_name c.args.method_bytes files =
+    subst (λ name. AreTranslatedFiles image name c.args.method_bytes files) c.in_ok-name.ensures c.in_ok-files.ensures in
+    let classes = are.translated.linked.classes in
+    let state =
+    c.in_ok-jvm.ensures.state classes (spell_classes image made_name c.args.method_bytes files c.as_slice.result.now are c.as_slice.ensures.value)
+    ∙ ap (loaded (program_of classes)) c.need-words.ensures in
     IfOk-weaker c.play_alone.result
     (λ (end : Done). answer_of (run_alone c.allow-bound.result loaded_turn (state_of c.in_ok-jvm.jvm) made_name c.args.moment).outcome ≡ Some end)
     (IsEndOfTranslation c.args.steps c.args.moment image c.args.method_bytes)
     (λ end h. record {
-      built = c.in_ok-built.built;
-      translated = t;
+      built = are.built;
+      translated = are.translated;
       is =
           sym (ap (λ s. answer_of (run_alone c.allow-bound.result loaded_turn s made_name c.args.moment).outcome) state
           ∙ ap (λ bound. answer_of (run_alone bound loaded_turn (loaded (program_of classes) (need mapped)) made_name c.args.moment).outcome)

@@ -7,6 +7,5 @@ use Rattle.command_translate.proofs.classes.machine_of.Goals as goal
 pub returns-clause-state : goal.returns-clause-state
 returns-clause-state c = λ classes spelled.
     c.in_ok-jvm.ensures.state
-    ∙ ap (λ cs. loaded (program_of cs) c.need.result) (same_classes c.args.files.now classes c.in_ok-linked.linked.classes spelled
+    ∙ ap (λ cs. loaded (program_of cs) c.args.words) (same_classes c.args.files.now classes c.in_ok-linked.linked.classes spelled
     c.in_ok-linked.ensures.spelled)
-    ∙ ap (loaded (program_of classes)) c.need.ensures

@@ -63,8 +63,8 @@ returns-in-Some g c =
       );
     }
 
-pub returns : goal.returns
-returns g c =
+pub returns-in-None : goal.returns-in-None
+returns-in-None g c =
     let guest = c.args.guest.now in
     let plan = plan_of guest.launch in
     let end = ended c.go_by_steps.result in

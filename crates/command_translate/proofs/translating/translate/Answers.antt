@@ -1,14 +1,15 @@
-use Rattle.std.proofs.Common.{[], ◌≡◌, ◌∷◌, Some, Ok, Err, inl, inr, refl, subst}
+use Rattle.std.proofs.Common.{[], ◌≡◌, ◌∷◌, Some, Ok, Err, inl, inr, refl, subst, sym}
 use Rattle.std.proofs.lemmas.Result.{err_from_is_err_and}
 use Rattle.command_deeds.proofs.DeedLemmas.{all_then_stops, all_then_works, gives_ends, gives_then, same_shelf, stops_before, written}
-use Rattle.command_deeds.specs.Deeds.{DoesAll, StopsIn, prints}
+use Rattle.command_deeds.specs.Deeds.{prints}
 use Rattle.command_deeds.specs.Ends.{end_of, says}
 use Rattle.command_deeds.specs.World.{output_seen, seen, shelf_seen, world}
 use Rattle.command_deeds.specs.declared.done.Done.TheVariants.{Good}
 use Rattle.command_deeds.specs.declared.stop.Stop.TheVariants.{WriteFault}
 use Rattle.command_guest.specs.Imaging.{IsImagedFrom}
 use Rattle.command_translate.proofs.TranslationLemmas.{translate_due, translate_refused}
-use Rattle.command_translate.specs.Stores.{counted, counts_line, stored}
+use Rattle.command_translate.specs.Metered.{AreFilesBy}
+use Rattle.command_translate.specs.Stores.{counts_line, files_counted, stored}
 use Rattle.command_translate.specs.Translate.{IsDueOfTranslate}
 use Rattle.command_translate.proofs.translating.translate.Goals as goal
 
@@ -29,9 +30,9 @@ returns-in_err-image g c =
       );
     }
 
-pub returns-in_err-built : goal.returns-in_err-built
-returns-in_err-built g c =
-    let p = err_from_is_err_and c.from_residual-in_err-built.result c.from_residual-in_err-built.ensures.1 in
+pub returns-in_err-made : goal.returns-in_err-made
+returns-in_err-made g c =
+    let p = err_from_is_err_and c.from_residual-in_err-made.result c.from_residual-in_err-made.ensures.1 in
     record { ends = ((refl, refl, refl, refl), rw (p.1, p.2) (inl (c.in_ok-image.ensures.gives.same, (refl, refl, refl)))) }
 
 pub returns-in_err-store_files : goal.returns-in_err-store_files
@@ -41,22 +42,24 @@ returns-in_err-store_files g c =
     let input = c.args.input.now in
     let name = c.args.name.now in
     let image = c.in_ok-image.image in
-    let built = c.in_ok-built.built in
+    let made = c.as_slice-files.result.now in
+    let words = c.need-words.result in
+    let are = subst (AreFilesBy c.args.meter image name c.args.method_bytes) (sym c.as_slice-files.ensures.value) c.in_ok-made.ensures in
     let w = seen g.H.Shelf g.S.Source g.O.Sink g.E.Sink c.args.outside.now in
     let u = world (shelf_seen g.H.Shelf c.load_image.new.shelf) w.input w.out w.err in
     let v = world (shelf_seen g.H.Shelf c.store_files.new.shelf) w.input w.out w.err in
     record {
       ends = (
         (refl, refl, refl, refl),
-        rw (p.1, p.2) (gives_then (IsDueOfTranslate input name c.args.pages c.args.method_bytes c.args.meter) (λ x d. d ≡ counted built)
+        rw (p.1, p.2) (gives_then (IsDueOfTranslate input name c.args.pages c.args.method_bytes c.args.meter) (λ x d. d ≡ files_counted made words)
             (λ files. IsImagedFrom input c.args.pages files (Ok image)) w u v (Err stop) c.in_ok-image.ensures.gives (refl, refl, refl)
-            (λ files d agree h later. translate_due input name c.args.pages c.args.method_bytes c.args.meter w files image built d agree h c.in_ok-built.ensures
-            later)
+            (λ files d agree h later. translate_due input name c.args.pages c.args.method_bytes c.args.meter w files image made words d agree h are
+            c.need-words.ensures later)
             (inr (
-              counted built,
+              files_counted made words,
               refl,
-              stops_before (stored built.files.items) (prints (counts_line built) ∷ []) u v stop
-                  (subst (λ fs. StopsIn (stored fs) u v stop) c.as_slice.ensures.value (c.in_err-store_files.ensures.stores w.input w.out w.err)),
+              stops_before (stored made) (prints (counts_line made words) ∷ []) u v stop
+                  (c.in_err-store_files.ensures.stores w.input w.out w.err),
             ))),
       );
     }
@@ -67,7 +70,9 @@ returns-in_err-write_counts g c =
     let input = c.args.input.now in
     let name = c.args.name.now in
     let image = c.in_ok-image.image in
-    let built = c.in_ok-built.built in
+    let made = c.as_slice-files.result.now in
+    let words = c.need-words.result in
+    let are = subst (AreFilesBy c.args.meter image name c.args.method_bytes) (sym c.as_slice-files.ensures.value) c.in_ok-made.ensures in
     let w = seen g.H.Shelf g.S.Source g.O.Sink g.E.Sink c.args.outside.now in
     let u = world (shelf_seen g.H.Shelf c.load_image.new.shelf) w.input w.out w.err in
     let x = world (shelf_seen g.H.Shelf c.store_files.new.shelf) w.input w.out w.err in
@@ -75,15 +80,15 @@ returns-in_err-write_counts g c =
     record {
       ends = (
         (refl, refl, refl, refl),
-        rw (p.1, p.2) (gives_then (IsDueOfTranslate input name c.args.pages c.args.method_bytes c.args.meter) (λ x d. d ≡ counted built)
+        rw (p.1, p.2) (gives_then (IsDueOfTranslate input name c.args.pages c.args.method_bytes c.args.meter) (λ x d. d ≡ files_counted made words)
             (λ files. IsImagedFrom input c.args.pages files (Ok image)) w u v (Err WriteFault) c.in_ok-image.ensures.gives (refl, refl, refl)
-            (λ files d agree h later. translate_due input name c.args.pages c.args.method_bytes c.args.meter w files image built d agree h c.in_ok-built.ensures
-            later)
+            (λ files d agree h later. translate_due input name c.args.pages c.args.method_bytes c.args.meter w files image made words d agree h are
+            c.need-words.ensures later)
             (inr (
-              counted built,
+              files_counted made words,
               refl,
-              all_then_stops (stored built.files.items) (prints (counts_line built) ∷ []) u x v WriteFault
-                  (subst (λ fs. DoesAll (stored fs) u x) c.as_slice.ensures.value (c.in_ok-store_files.ensures.stores w.input w.out w.err))
+              all_then_stops (stored made) (prints (counts_line made words) ∷ []) u x v WriteFault
+                  (c.in_ok-store_files.ensures.stores w.input w.out w.err)
                   (inl (c.in_err-write_counts.ensures.writes, (same_shelf x.shelf, refl, refl))),
             ))),
       );
@@ -94,7 +99,9 @@ returns g c =
     let input = c.args.input.now in
     let name = c.args.name.now in
     let image = c.in_ok-image.image in
-    let built = c.in_ok-built.built in
+    let made = c.as_slice-files.result.now in
+    let words = c.need-words.result in
+    let are = subst (AreFilesBy c.args.meter image name c.args.method_bytes) (sym c.as_slice-files.ensures.value) c.in_ok-made.ensures in
     let w = seen g.H.Shelf g.S.Source g.O.Sink g.E.Sink c.args.outside.now in
     let u = world (shelf_seen g.H.Shelf c.load_image.new.shelf) w.input w.out w.err in
     let x = world (shelf_seen g.H.Shelf c.store_files.new.shelf) w.input w.out w.err in
@@ -102,16 +109,16 @@ returns g c =
     record {
       ends = (
         (refl, refl, refl, refl),
-        gives_then (IsDueOfTranslate input name c.args.pages c.args.method_bytes c.args.meter) (λ x d. d ≡ counted built)
+        gives_then (IsDueOfTranslate input name c.args.pages c.args.method_bytes c.args.meter) (λ x d. d ≡ files_counted made words)
             (λ files. IsImagedFrom input c.args.pages files (Ok image)) w u v (Ok (says Good)) c.in_ok-image.ensures.gives (refl, refl, refl)
-            (λ files d agree h later. translate_due input name c.args.pages c.args.method_bytes c.args.meter w files image built d agree h c.in_ok-built.ensures
-            later)
+            (λ files d agree h later. translate_due input name c.args.pages c.args.method_bytes c.args.meter w files image made words d agree h are
+            c.need-words.ensures later)
             (inr (
-              counted built,
+              files_counted made words,
               refl,
-              all_then_works (stored built.files.items) (prints (counts_line built) ∷ []) (Some (says Good)) u x v (Ok (says Good))
-                  (subst (λ fs. DoesAll (stored fs) u x) c.as_slice.ensures.value (c.in_ok-store_files.ensures.stores w.input w.out w.err))
-                  (written (counts_line built) x v (says Good) refl c.in_ok-write_counts.ensures.writes (same_shelf x.shelf, refl, refl)),
+              all_then_works (stored made) (prints (counts_line made words) ∷ []) (Some (says Good)) u x v (Ok (says Good))
+                  (c.in_ok-store_files.ensures.stores w.input w.out w.err)
+                  (written (counts_line made words) x v (says Good) refl c.in_ok-write_counts.ensures.writes (same_shelf x.shelf, refl, refl)),
             )),
       );
     }
