@@ -22,7 +22,7 @@ use jvm_program::{Constant, LocalKind};
 
 impl Working {
     /// A constant.
-    #[inline]
+    #[inline(always)]
     pub(crate) fn push_constant(&mut self, constant: Constant)
         requires { length self.old.frames.current.operands.items
             < self.old.frames.current.operands.limit }
@@ -47,7 +47,7 @@ impl Working {
     }
 
     /// `iadd` to `ixor`.
-    #[inline]
+    #[inline(always)]
     pub(crate) fn int_arithmetic(&mut self, name: IntArithmetic)
         requires { IsTrue (on_top (is_int ∷ is_int ∷ []) self.old.frames.current.operands.items) }
         ensures does { (program : Program)
@@ -72,7 +72,7 @@ impl Working {
     }
 
     /// `ishl`, `ishr` and `iushr`.
-    #[inline]
+    #[inline(always)]
     pub(crate) fn int_shift(&mut self, name: IntShift)
         requires { IsTrue (on_top (is_int ∷ is_int ∷ []) self.old.frames.current.operands.items) }
         ensures does { (program : Program)
@@ -130,7 +130,7 @@ impl Working {
     }
 
     /// `i2l` to `i2s`.
-    #[inline]
+    #[inline(always)]
     pub(crate) fn convert(&mut self, name: Conversion)
         requires { IsTrue (on_top (converted name ∷ []) self.old.frames.current.operands.items) }
         ensures does { (program : Program)
