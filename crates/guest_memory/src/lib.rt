@@ -5,7 +5,6 @@ mod alignment;
 mod code;
 mod forms;
 mod lanes;
-mod line;
 mod memory;
 mod op;
 mod page;
@@ -13,6 +12,5 @@ mod paging;
 
 pub use alignment::{is_load_aligned, is_store_aligned};
 pub use code::Code;
-pub use line::Line;
 pub use memory::{GuestMemory, NoMemory};
 pub use op::Op;
