@@ -1,5 +1,5 @@
 //! Loads and stores.
-ghost use Rattle.std.specs.Prelude.{◌≡◌, ℕ, ◌<◌, if◌then◌else◌};
+ghost use Rattle.std.specs.Prelude.{◌≡◌, ℕ, ◌<◌, true, if◌then◌else◌};
 ghost use Rattle.mips_decode.specs.Effect.{read_align_fault, read_unmapped_fault, write_align_fault, write_refused_fault};
 ghost use Rattle.mips_decode.specs.Loads.{load_aligned, store_aligned, load_effect, store_effect, address_of};
 ghost use Rattle.mips_machine.specs.declared.executed.Executed.TheVariants.{Fault};
@@ -15,10 +15,10 @@ use mips_decode::{LoadName, StoreName};
 use nv_words::Order;
 
 impl Processor {
-    /// LB to LWR.
+    /// LB to LWR, to a register of which it may be known that it is another than register 0.
     #[inline(always)]
     #[tactic(auto, unfolding(crate::specs::Processor::processor_state))]
-    pub(crate) fn load(
+    pub(crate) fn load<const OTHER: bool>(
         &mut self,
         name: LoadName,
         order: Order,
@@ -29,6 +29,7 @@ impl Processor {
         requires order { order ≡ self.old.order }
         requires rs { rs < 32 }
         requires rt { rt < 32 }
+        requires other { OTHER ≡ true → 0 < rt }
         ensures effect { effect_of result (processor_state self.new)
             ≡ load_effect name (processor_state self.old) rs rt imm }
         ensures stays { Stays result (processor_state self.old) (processor_state self.new) }
@@ -37,7 +38,7 @@ impl Processor {
         let at = self.address(rs, imm);
         match self.memory.load(name, order, at, self.register(rt)) {
             Some(w) => {
-                self.set_register(rt, w);
+                self.set_register::<OTHER>(rt, w);
                 Executed::On
             }
             None => refused_load(name, at),

@@ -1,5 +1,5 @@
-//! The instructions that compute.
-ghost use Rattle.std.specs.Prelude.{◌≡◌, ℕ, ◌<◌, ◌*◌, ◌^◌};
+//! The instructions that compute. Of the register that the result goes to it may be known that it is another than register 0.
+ghost use Rattle.std.specs.Prelude.{◌≡◌, ℕ, ◌<◌, ◌*◌, ◌^◌, true};
 ghost use Rattle.mips_decode.specs.State.{register, with_register};
 ghost use Rattle.mips_decode.specs.Effect.{goes_on};
 ghost use Rattle.mips_decode.specs.Arithmetic as manual;
@@ -18,7 +18,7 @@ use mips_decode::{
 impl Processor {
     /// ADD to SLTU.
     #[inline(always)]
-    pub(crate) fn arithmetic(
+    pub(crate) fn arithmetic<const OTHER: bool>(
         &mut self,
         name: ArithmeticName,
         rs: u8,
@@ -29,6 +29,7 @@ impl Processor {
         requires rs { rs < 32 }
         requires rt { rt < 32 }
         requires rd { rd < 32 }
+        requires other { OTHER ≡ true → 0 < rd }
         ensures effect { effect_of result (processor_state self.new)
             ≡ result_effect (processor_state self.old) word rd
             (manual.arithmetic_result name (register (processor_state self.old) rs)
@@ -37,12 +38,12 @@ impl Processor {
         ensures steady { Steady self.old self.new }
     {
         let computed = mips_arithmetic::arithmetic(name, self.register(rs), self.register(rt));
-        self.take(rd, computed, word)
+        self.take::<OTHER>(rd, computed, word)
     }
 
     /// ADDI to SLTIU.
     #[inline(always)]
-    pub(crate) fn arithmetic_immediate(
+    pub(crate) fn arithmetic_immediate<const OTHER: bool>(
         &mut self,
         name: ArithmeticImmediateName,
         rs: u8,
@@ -52,6 +53,7 @@ impl Processor {
     ) -> Executed
         requires rs { rs < 32 }
         requires rt { rt < 32 }
+        requires other { OTHER ≡ true → 0 < rt }
         ensures effect { effect_of result (processor_state self.new)
             ≡ result_effect (processor_state self.old) word rt
             (manual.arithmetic_immediate_result name (register (processor_state self.old) rs)
@@ -60,12 +62,12 @@ impl Processor {
         ensures steady { Steady self.old self.new }
     {
         let computed = mips_arithmetic::arithmetic_immediate(name, self.register(rs), imm);
-        self.take(rt, computed, word)
+        self.take::<OTHER>(rt, computed, word)
     }
 
     /// ANDI, ORI, XORI.
     #[inline(always)]
-    pub(crate) fn logical_immediate(
+    pub(crate) fn logical_immediate<const OTHER: bool>(
         &mut self,
         name: LogicalImmediateName,
         rs: u8,
@@ -74,6 +76,7 @@ impl Processor {
     ) -> Executed
         requires rs { rs < 32 }
         requires rt { rt < 32 }
+        requires other { OTHER ≡ true → 0 < rt }
         ensures effect { effect_of result (processor_state self.new)
             ≡ goes_on (with_register (processor_state self.old) rt
             (manual.logical_immediate_result name (register (processor_state self.old) rs) imm)) }
@@ -81,29 +84,37 @@ impl Processor {
         ensures steady { Steady self.old self.new }
     {
         let computed = mips_arithmetic::logical_immediate(name, self.register(rs), imm);
-        self.set_register(rt, computed);
+        self.set_register::<OTHER>(rt, computed);
         Executed::On
     }
 
     /// LUI.
     #[inline(always)]
-    pub(crate) fn load_upper(&mut self, rt: u8, imm: u16) -> Executed
-        requires { rt < 32 }
+    pub(crate) fn load_upper<const OTHER: bool>(&mut self, rt: u8, imm: u16) -> Executed
+        requires rt { rt < 32 }
+        requires other { OTHER ≡ true → 0 < rt }
         ensures effect { effect_of result (processor_state self.new)
             ≡ goes_on (with_register (processor_state self.old) rt (imm * 2 ^ 16)) }
         ensures stays { Stays result (processor_state self.old) (processor_state self.new) }
         ensures steady { Steady self.old self.new }
     {
-        self.set_register(rt, u32::from(imm) << 16);
+        self.set_register::<OTHER>(rt, u32::from(imm) << 16);
         Executed::On
     }
 
     /// SLL, SRL, SRA.
     #[inline(always)]
-    pub(crate) fn shift(&mut self, name: ShiftName, rt: u8, rd: u8, sa: u8) -> Executed
+    pub(crate) fn shift<const OTHER: bool>(
+        &mut self,
+        name: ShiftName,
+        rt: u8,
+        rd: u8,
+        sa: u8,
+    ) -> Executed
         requires rt { rt < 32 }
         requires rd { rd < 32 }
         requires sa { sa < 32 }
+        requires other { OTHER ≡ true → 0 < rd }
         ensures effect { effect_of result (processor_state self.new)
             ≡ goes_on (with_register (processor_state self.old) rd
             (manual.shifted name (register (processor_state self.old) rt) sa)) }
@@ -111,13 +122,13 @@ impl Processor {
         ensures steady { Steady self.old self.new }
     {
         let computed = mips_arithmetic::shift(name, self.register(rt), u32::from(sa));
-        self.set_register(rd, computed);
+        self.set_register::<OTHER>(rd, computed);
         Executed::On
     }
 
     /// SLLV, SRLV, SRAV.
     #[inline(always)]
-    pub(crate) fn variable_shift(
+    pub(crate) fn variable_shift<const OTHER: bool>(
         &mut self,
         name: VariableShiftName,
         rs: u8,
@@ -127,6 +138,7 @@ impl Processor {
         requires rs { rs < 32 }
         requires rt { rt < 32 }
         requires rd { rd < 32 }
+        requires other { OTHER ≡ true → 0 < rd }
         ensures effect { effect_of result (processor_state self.new)
             ≡ goes_on (with_register (processor_state self.old) rd
             (manual.variable_shifted name (register (processor_state self.old) rt)
@@ -135,7 +147,7 @@ impl Processor {
         ensures steady { Steady self.old self.new }
     {
         let computed = mips_arithmetic::variable_shift(name, self.register(rt), self.register(rs));
-        self.set_register(rd, computed);
+        self.set_register::<OTHER>(rd, computed);
         Executed::On
     }
 
@@ -165,16 +177,17 @@ impl Processor {
     /// MFHI, MFLO.
     #[inline(always)]
     #[tactic(auto, unfolding(crate::specs::Processor::processor_state))]
-    pub(crate) fn move_from(&mut self, name: HiLo, rd: u8) -> Executed
-        requires { rd < 32 }
+    pub(crate) fn move_from<const OTHER: bool>(&mut self, name: HiLo, rd: u8) -> Executed
+        requires rd { rd < 32 }
+        requires other { OTHER ≡ true → 0 < rd }
         ensures effect { effect_of result (processor_state self.new)
             ≡ move_from_effect name (processor_state self.old) rd }
         ensures stays { Stays result (processor_state self.old) (processor_state self.new) }
         ensures steady { Steady self.old self.new }
     {
         match name {
-            HiLo::Hi => self.set_register(rd, self.hi),
-            HiLo::Lo => self.set_register(rd, self.lo),
+            HiLo::Hi => self.set_register::<OTHER>(rd, self.hi),
+            HiLo::Lo => self.set_register::<OTHER>(rd, self.lo),
         }
         Executed::On
     }
@@ -198,8 +211,9 @@ impl Processor {
 
     /// A result goes to a register, and want of one is an overflow.
     #[inline(always)]
-    fn take(&mut self, r: u8, computed: Option<u32>, word: u32) -> Executed
-        requires { r < 32 }
+    fn take<const OTHER: bool>(&mut self, r: u8, computed: Option<u32>, word: u32) -> Executed
+        requires r { r < 32 }
+        requires other { OTHER ≡ true → 0 < r }
         ensures effect { effect_of result (processor_state self.new)
             ≡ result_effect (processor_state self.old) word r computed }
         ensures stays { Stays result (processor_state self.old) (processor_state self.new) }
@@ -207,7 +221,7 @@ impl Processor {
     {
         match computed {
             Some(w) => {
-                self.set_register(r, w);
+                self.set_register::<OTHER>(r, w);
                 Executed::On
             }
             None => Executed::Fault {

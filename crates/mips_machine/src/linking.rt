@@ -28,7 +28,7 @@ impl Processor {
             .load(LoadName::Lw, self.order, at, self.register(rt))
         {
             Some(w) => {
-                self.set_register(rt, w);
+                self.set_register::<false>(rt, w);
                 self.load_link = Some(at);
                 Executed::On
             }
@@ -96,7 +96,7 @@ impl Processor {
     {
         let w = self.register(rt);
         self.memory.store(StoreName::Sw, self.order, at, w);
-        self.set_register(rt, 1);
+        self.set_register::<false>(rt, 1);
         self.load_link = None;
     }
 
@@ -108,7 +108,7 @@ impl Processor {
         ensures { processor_state self.new
             ≡ record (with_register (processor_state self.old) rt 0) { load_link = None } }
     {
-        self.set_register(rt, 0);
+        self.set_register::<false>(rt, 0);
         self.load_link = None;
     }
 

@@ -1,4 +1,4 @@
-ghost use Rattle.std.specs.Prelude.{◌≡◌, ℕ, ◌<◌};
+ghost use Rattle.std.specs.Prelude.{◌≡◌, ℕ, ◌<◌, true};
 ghost use Rattle.mips_decode.specs.State.{register, with_register, start};
 ghost use Rattle.guest_memory.specs.Pages.{memory_of};
 ghost use Rattle.guest_memory.specs.CodePages.{code_of};
@@ -71,14 +71,15 @@ impl Processor {
         self.registers.get(r)
     }
 
-    /// Writes a register. A write of register 0 is lost.
+    /// Writes a register, of which it may be known that it is another than register 0. A write of register 0 is lost.
     #[inline]
     #[tactic(auto, unfolding(crate::specs::Processor::processor_state))]
-    pub(crate) fn set_register(&mut self, r: u8, w: u32)
-        requires { r < 32 }
+    pub(crate) fn set_register<const OTHER: bool>(&mut self, r: u8, w: u32)
+        requires number { r < 32 }
+        requires other { OTHER ≡ true → 0 < r }
         ensures state { processor_state self.new ≡ with_register (processor_state self.old) r w }
         ensures steady { Steady self.old self.new }
     {
-        self.registers.set(r, w);
+        self.registers.set::<OTHER>(r, w);
     }
 }

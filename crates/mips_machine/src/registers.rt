@@ -1,4 +1,4 @@
-ghost use Rattle.std.specs.Prelude.{◌≡◌, ℕ, ◌<◌, ◌==◌, nat_lt, ◌&&◌, if◌then◌else◌};
+ghost use Rattle.std.specs.Prelude.{◌≡◌, ℕ, ◌<◌, ◌==◌, nat_lt, ◌&&◌, if◌then◌else◌, true};
 ghost use Rattle.mips_machine.specs.Registers.{registers_of};
 
 use std::marker::Model;
@@ -38,14 +38,17 @@ impl Registers {
         self.values[r as usize]
     }
 
-    /// Writes a register. A write of register 0 is lost.
+    /// Writes a register, of which it may be known that it is another than register 0. A write of register 0 is lost.
     #[inline]
-    pub fn set(&mut self, r: u8, w: u32)
-        requires { r < 32 }
+    pub fn set<const OTHER: bool>(&mut self, r: u8, w: u32)
+        requires number { r < 32 }
+        requires other { OTHER ≡ true → 0 < r }
         ensures { registers_of self.new ≡ (λ k. if nat_lt 0 r && k == r then w
             else registers_of self.old k) }
     {
         self.values[r as usize] = w;
-        self.values[0] = 0;
+        if !OTHER {
+            self.values[0] = 0;
+        }
     }
 }
