@@ -19,7 +19,7 @@ mod waiting;
 pub use callee::Callee;
 pub use frame::Frame;
 pub use frames::Frames;
-pub use int_words::{byte_of, short_of};
+pub use int_words::{byte_of, int_result, int_shifted, short_of};
 pub use locals::Locals;
 pub use operands::{NoMemory, Operands};
 pub use switching::keys_rise;
