@@ -20,7 +20,7 @@ mod working;
 pub use executed::Executed;
 pub use fields::Fields;
 pub use group::{Group, groups_of};
-pub use grouping::{bits, compared, computed, has_bits, shifted};
+pub use grouping::{bits, compared, has_bits};
 pub use made::Made;
 pub use op::{Op, ops_of};
 pub use working::Working;
