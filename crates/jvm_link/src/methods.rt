@@ -106,7 +106,7 @@ fn linked_lines(
         number class.now.class.now gives) lines.items) }
     ensures laid { IfOk result (λ linked. AreInOrder linked.items) }
 {
-    let mut linked = Vec::new(alloc);
+    let mut linked = Vec::with_capacity(alloc, lines.len())?;
     for line in lines {
         linked.push(linked_line(names, number, class, gives, line))?;
     }

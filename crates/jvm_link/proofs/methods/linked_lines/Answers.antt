@@ -18,8 +18,8 @@ loop-line-init c =
       at = 0;
       laid = subst P (sym c.into_iter-line-iterator.ensures.into_iter_gives.0) c.requires.laid;
       all =
-          map_begins (linked_line (classes_in c.args.names.now.numbered.classes.items) c.args.number c.args.class.now.class.now c.args.gives) c.new-linked.result.items
-          (into_iter_items c.into_iter-line-iterator.result) c.args.lines.items c.new-linked.ensures.items c.into_iter-line-iterator.ensures.into_iter_gives.0;
+          map_begins (linked_line (classes_in c.args.names.now.numbered.classes.items) c.args.number c.args.class.now.class.now c.args.gives) c.in_ok-linked.linked.items
+          (into_iter_items c.into_iter-line-iterator.result) c.args.lines.items c.in_ok-linked.ensures.items c.into_iter-line-iterator.ensures.into_iter_gives.0;
     }
 
 pub linked_line-requires-clause-within : goal.linked_line-requires-clause-within
