@@ -4,6 +4,7 @@
 mod accessing;
 mod branching;
 mod computing;
+mod course;
 mod execute;
 mod executed;
 mod frequent;

@@ -16,8 +16,9 @@ use std::rc::Rc;
 /// A contract sees it through `processor_state`.
 #[derive(Drop)]
 pub struct Processor {
-    pub(crate) begun: bool,
+    // first, so that they and the processor have one address, which a run keeps at hand
     pub(crate) registers: Registers,
+    pub(crate) begun: bool,
     pub(crate) hi: u32,
     pub(crate) lo: u32,
     pub(crate) pc: u32,
