@@ -2,4 +2,4 @@ pub mod Pages
 pub mod OneWord
 pub mod ViewLaws
 pub mod Ops
-pub mod CodePages
+pub mod CodeChunks

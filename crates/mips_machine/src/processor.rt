@@ -1,7 +1,7 @@
 ghost use Rattle.std.specs.Prelude.{◌≡◌, ℕ, ◌<◌, true};
 ghost use Rattle.mips_decode.specs.State.{register, with_register, start};
 ghost use Rattle.guest_memory.specs.Pages.{memory_of};
-ghost use Rattle.guest_memory.specs.CodePages.{code_of};
+ghost use Rattle.guest_memory.specs.CodeChunks.{code_of};
 ghost use Rattle.mips_machine.specs.Moving.{Steady};
 ghost use Rattle.mips_machine.specs.Processor.{processor_state};
 
