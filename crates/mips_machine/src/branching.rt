@@ -1,7 +1,9 @@
-//! Branches and jumps. Each reads its condition and its target before the link is written.
+//! Branches and jumps, each at an address, which need not be where the processor stands. Each reads its condition and its target before the
+//! link is written.
 ghost use Rattle.std.specs.Prelude.{◌≡◌, ℕ, ◌+◌, ◌%◌, ◌^◌, ◌<◌, Bool, true};
 ghost use Rattle.mips_decode.specs.Branches as manual;
 ghost use Rattle.mips_decode.specs.Targets.{branch_target};
+ghost use Rattle.mips_machine.specs.Moving.{at_word};
 ghost use Rattle.mips_machine.specs.Processor.{processor_state, effect_of, with_link, IsRegister, Stays};
 
 use crate::executed::Executed;
@@ -13,69 +15,76 @@ use nv_words::signed;
 impl Processor {
     /// BEQ to BNEL.
     #[inline(always)]
-    pub(crate) fn branch_equal(&self, name: BranchEqualName, rs: u8, rt: u8, imm: u16) -> Executed
+    pub(crate) fn branch_equal(
+        &self,
+        at: u32,
+        name: BranchEqualName,
+        rs: u8,
+        rt: u8,
+        imm: u16,
+    ) -> Executed
         requires rs { rs < 32 }
         requires rt { rt < 32 }
-        ensures effect { effect_of result (processor_state self.now)
-            ≡ manual.branch_equal_effect name (processor_state self.now) rs rt imm }
+        ensures effect { effect_of result (at_word (processor_state self.now) at)
+            ≡ manual.branch_equal_effect name (at_word (processor_state self.now) at) rs rt imm }
         ensures stays { Stays result (processor_state self.now) (processor_state self.now) }
     {
         let equal = self.register(rs) == self.register(rt);
         match name {
-            BranchEqualName::Beq => self.branch(equal, imm, None),
-            BranchEqualName::Bne => self.branch(!equal, imm, None),
-            BranchEqualName::Beql => self.branch_likely(equal, imm, None),
-            BranchEqualName::Bnel => self.branch_likely(!equal, imm, None),
+            BranchEqualName::Beq => self.branch(at, equal, imm, None),
+            BranchEqualName::Bne => self.branch(at, !equal, imm, None),
+            BranchEqualName::Beql => self.branch_likely(at, equal, imm, None),
+            BranchEqualName::Bnel => self.branch_likely(at, !equal, imm, None),
         }
     }
 
     /// BLEZ to BGTZL.
     #[inline(always)]
-    pub(crate) fn branch_zero(&self, name: BranchZeroName, rs: u8, imm: u16) -> Executed
+    pub(crate) fn branch_zero(&self, at: u32, name: BranchZeroName, rs: u8, imm: u16) -> Executed
         requires { rs < 32 }
-        ensures effect { effect_of result (processor_state self.now)
-            ≡ manual.branch_zero_effect name (processor_state self.now) rs imm }
+        ensures effect { effect_of result (at_word (processor_state self.now) at)
+            ≡ manual.branch_zero_effect name (at_word (processor_state self.now) at) rs imm }
         ensures stays { Stays result (processor_state self.now) (processor_state self.now) }
     {
         let w = signed(self.register(rs));
         match name {
-            BranchZeroName::Blez => self.branch(w <= 0, imm, None),
-            BranchZeroName::Bgtz => self.branch(0 < w, imm, None),
-            BranchZeroName::Blezl => self.branch_likely(w <= 0, imm, None),
-            BranchZeroName::Bgtzl => self.branch_likely(0 < w, imm, None),
+            BranchZeroName::Blez => self.branch(at, w <= 0, imm, None),
+            BranchZeroName::Bgtz => self.branch(at, 0 < w, imm, None),
+            BranchZeroName::Blezl => self.branch_likely(at, w <= 0, imm, None),
+            BranchZeroName::Bgtzl => self.branch_likely(at, 0 < w, imm, None),
         }
     }
 
     /// BLTZ to BGEZALL.
     #[inline(always)]
-    pub(crate) fn branch_sign(&self, name: BranchSignName, rs: u8, imm: u16) -> Executed
+    pub(crate) fn branch_sign(&self, at: u32, name: BranchSignName, rs: u8, imm: u16) -> Executed
         requires { rs < 32 }
-        ensures effect { effect_of result (processor_state self.now)
-            ≡ manual.branch_sign_effect name (processor_state self.now) rs imm }
+        ensures effect { effect_of result (at_word (processor_state self.now) at)
+            ≡ manual.branch_sign_effect name (at_word (processor_state self.now) at) rs imm }
         ensures stays { Stays result (processor_state self.now) (processor_state self.now) }
     {
         let negative = signed(self.register(rs)) < 0;
         match name {
-            BranchSignName::Bltz => self.branch(negative, imm, None),
-            BranchSignName::Bgez => self.branch(!negative, imm, None),
-            BranchSignName::Bltzal => self.branch(negative, imm, Some(31)),
-            BranchSignName::Bgezal => self.branch(!negative, imm, Some(31)),
-            BranchSignName::Bltzl => self.branch_likely(negative, imm, None),
-            BranchSignName::Bgezl => self.branch_likely(!negative, imm, None),
-            BranchSignName::Bltzall => self.branch_likely(negative, imm, Some(31)),
-            BranchSignName::Bgezall => self.branch_likely(!negative, imm, Some(31)),
+            BranchSignName::Bltz => self.branch(at, negative, imm, None),
+            BranchSignName::Bgez => self.branch(at, !negative, imm, None),
+            BranchSignName::Bltzal => self.branch(at, negative, imm, Some(31)),
+            BranchSignName::Bgezal => self.branch(at, !negative, imm, Some(31)),
+            BranchSignName::Bltzl => self.branch_likely(at, negative, imm, None),
+            BranchSignName::Bgezl => self.branch_likely(at, !negative, imm, None),
+            BranchSignName::Bltzall => self.branch_likely(at, negative, imm, Some(31)),
+            BranchSignName::Bgezall => self.branch_likely(at, !negative, imm, Some(31)),
         }
     }
 
     /// J, JAL.
     #[inline(always)]
-    pub(crate) fn jump(&self, name: JumpName, index: u32) -> Executed
+    pub(crate) fn jump(&self, at: u32, name: JumpName, index: u32) -> Executed
         requires { index < 2 ^ 26 }
-        ensures effect { effect_of result (processor_state self.now)
-            ≡ manual.jump_effect name (processor_state self.now) index }
+        ensures effect { effect_of result (at_word (processor_state self.now) at)
+            ≡ manual.jump_effect name (at_word (processor_state self.now) at) index }
         ensures stays { Stays result (processor_state self.now) (processor_state self.now) }
     {
-        let target = jump_target(self.pc(), index);
+        let target = jump_target(at, index);
         let link = match name {
             JumpName::J => None,
             JumpName::Jal => Some(31),
@@ -85,10 +94,10 @@ impl Processor {
 
     /// JR.
     #[inline(always)]
-    pub(crate) fn jump_register(&self, rs: u8) -> Executed
+    pub(crate) fn jump_register(&self, at: u32, rs: u8) -> Executed
         requires { rs < 32 }
-        ensures effect { effect_of result (processor_state self.now)
-            ≡ manual.jump_register_effect (processor_state self.now) rs }
+        ensures effect { effect_of result (at_word (processor_state self.now) at)
+            ≡ manual.jump_register_effect (at_word (processor_state self.now) at) rs }
         ensures stays { Stays result (processor_state self.now) (processor_state self.now) }
     {
         let target = self.register(rs);
@@ -97,11 +106,11 @@ impl Processor {
 
     /// JALR.
     #[inline(always)]
-    pub(crate) fn jump_and_link_register(&self, rs: u8, rd: u8) -> Executed
+    pub(crate) fn jump_and_link_register(&self, at: u32, rs: u8, rd: u8) -> Executed
         requires rs { rs < 32 }
         requires rd { rd < 32 }
-        ensures effect { effect_of result (processor_state self.now)
-            ≡ manual.jump_and_link_register_effect (processor_state self.now) rs rd }
+        ensures effect { effect_of result (at_word (processor_state self.now) at)
+            ≡ manual.jump_and_link_register_effect (at_word (processor_state self.now) at) rs rd }
         ensures stays { Stays result (processor_state self.now) (processor_state self.now) }
     {
         let target = self.register(rs);
@@ -111,29 +120,29 @@ impl Processor {
 
     /// A branch to its target where it is taken, and else past its slot.
     #[inline(always)]
-    fn branch(&self, taken: bool, imm: u16, link: Option<u8>) -> Executed
+    fn branch(&self, at: u32, taken: bool, imm: u16, link: Option<u8>) -> Executed
         ensures { result
-            ≡ Executed.Branch (manual.taken_or_not (processor_state self.now) taken imm) link }
+            ≡ Executed.Branch (manual.taken_or_not (at_word (processor_state self.now) at) taken imm) link }
     {
         let target = if taken {
-            taken_target(self.pc(), imm)
+            taken_target(at, imm)
         } else {
-            self.pc().wrapping_add(8)
+            at.wrapping_add(8)
         };
         Executed::Branch { target, link }
     }
 
     /// A likely branch to its target where it is taken, and else past its slot, which is not done.
     #[inline(always)]
-    fn branch_likely(&self, taken: bool, imm: u16, link: Option<u8>) -> Executed
+    fn branch_likely(&self, at: u32, taken: bool, imm: u16, link: Option<u8>) -> Executed
         requires { IsRegister link }
-        ensures effect { effect_of result (processor_state self.now)
-            ≡ manual.branch_effect true taken (processor_state self.now)
-            (with_link link (processor_state self.now)) imm }
+        ensures effect { effect_of result (at_word (processor_state self.now) at)
+            ≡ manual.branch_effect true taken (at_word (processor_state self.now) at)
+            (with_link link (at_word (processor_state self.now) at)) imm }
         ensures stays { Stays result (processor_state self.now) (processor_state self.now) }
     {
         if taken {
-            let target = taken_target(self.pc(), imm);
+            let target = taken_target(at, imm);
             Executed::Branch { target, link }
         } else {
             Executed::Skip { link }

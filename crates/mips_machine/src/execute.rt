@@ -25,8 +25,8 @@ impl Processor {
                 self.variable_shift::<false>(name, rs, rt, rd)
             }
             Inst::Shift { name, rt, rd, sa } => self.shift::<false>(name, rt, rd, sa),
-            Inst::JumpRegister { rs } => self.jump_register(rs),
-            Inst::JumpAndLinkRegister { rs, rd } => self.jump_and_link_register(rs, rd),
+            Inst::JumpRegister { rs } => self.jump_register(self.pc(), rs),
+            Inst::JumpAndLinkRegister { rs, rd } => self.jump_and_link_register(self.pc(), rs, rd),
             Inst::Syscall { .. } => Executed::Call,
             Inst::Break { code } => Executed::Fault {
                 kind: BREAK,
@@ -35,10 +35,16 @@ impl Processor {
             Inst::MoveFrom { name, rd } => self.move_from::<false>(name, rd),
             Inst::MoveTo { name, rs } => self.move_to(name, rs),
             Inst::Product { name, rs, rt } => self.product(name, rs, rt),
-            Inst::BranchSign { name, rs, imm } => self.branch_sign(name, rs, imm),
-            Inst::Jump { name, index } => self.jump(name, index),
-            Inst::BranchEqual { name, rs, rt, imm } => self.branch_equal(name, rs, rt, imm),
-            Inst::BranchZero { name, rs, imm } => self.branch_zero(name, rs, imm),
+            Inst::BranchSign { name, rs, imm } => self.branch_sign(self.pc(), name, rs, imm),
+            Inst::Jump { name, index } => self.jump(self.pc(), name, index),
+            Inst::BranchEqual { name, rs, rt, imm } => self.branch_equal(
+                self.pc(),
+                name,
+                rs,
+                rt,
+                imm,
+            ),
+            Inst::BranchZero { name, rs, imm } => self.branch_zero(self.pc(), name, rs, imm),
             Inst::ArithmeticImmediate { name, rs, rt, imm } => {
                 self.arithmetic_immediate::<false>(name, rs, rt, imm, word)
             }
