@@ -5,7 +5,6 @@ use Rattle.std.specs.List.{list_any}
 use Rattle.std.proofs.lemmas.Bool.{eq-eqb}
 use Rattle.std.proofs.lemmas.List.Folds.{list_any_at}
 use Rattle.nv_words.specs.Words.{lane_of_word}
-use Rattle.nv_words.proofs.LaneLemmas.{below_four}
 use Rattle.elf_reader.specs.declared.range.Range.{Range}
 use Rattle.elf_reader.specs.declared.segment.Segment.{Segment}
 use Rattle.elf_reader.specs.Segments.{live, is_writable}
@@ -14,7 +13,7 @@ use Rattle.elf_reader.specs.Fault.{IsRunsOf}
 use Rattle.elf_image.specs.Pages.{is_on_page, is_segment_page, is_data_page, is_heap_page, is_stack_page, is_argument_page, is_readable_page, is_writable_page}
 use Rattle.elf_image.specs.Content.{stored_byte, stored_word, code_word, is_filled_page}
 use Rattle.elf_image.specs.Start.{Source, image_of, byte_at, code_at, readable, writable}
-use Rattle.guest_loading.specs.Loading.{with_words, AreZeros, ArePageWords}
+use Rattle.guest_loading.specs.Loading.{with_words}
 use Rattle.elf_reader.proofs.PassedLemmas.{last_address}
 
 -- ---- what may be written can be read
@@ -68,28 +67,20 @@ module _ (v : Source) where
   unfolding image_of byte_at
   there a page on here = ap (λ n. if readable v n then Some (stored_byte v.file (live v.file) a) else None) here ∙ ap (λ t. if t then Some (stored_byte v.file (live v.file) a) else None) on
 
-  zero_lane : (i : ℕ) → i < 4 → lane_of_word 0 i ≡ 0
-  zero_lane i h = below_four (λ i. lane_of_word 0 i ≡ 0) refl refl refl refl i h
+  pub zeros_are : (page : ℕ) → readable v page ≡ true → is_filled_page v.file (live v.file) page ≡ false
+      → ((a : ℕ) → is_filled_page v.file (live v.file) (a / 4096) ≡ false → stored_byte v.file (live v.file) a ≡ 0)
+      → (a : ℕ) → a / 4096 ≡ page → (image_of v).memory.byte a ≡ Some 0
+  zeros_are page on empty zero a here = there a page on here ∙ ap Some (zero a (ap (is_filled_page v.file (live v.file)) here ∙ empty))
 
-  pub zeros_are : (page : ℕ) (zeros : List ℕ) → readable v page ≡ true → AreZeros zeros → is_filled_page v.file (live v.file) page ≡ false
-      → ((a : ℕ) → is_filled_page v.file (live v.file) (a / 4096) ≡ false → stored_byte v.file (live v.file) a ≡ 0) → ArePageWords (image_of v).memory page zeros
-  zeros_are page zeros on are empty zero = record {
-    size = are.size;
-    bytes = λ a here. there a page on here
-        ∙ ap Some (zero a (ap (is_filled_page v.file (live v.file)) here ∙ empty)
-        ∙ sym (ap (λ w. lane_of_word w (a % 4)) (are.zero (a / 4 % 1024)) ∙ zero_lane (a % 4) (omega arith)));
-  }
-
-  pub words_are : (page : ℕ) (words : List ℕ) → readable v page ≡ true → length words ≡ 1024
+  pub words_are : (page : ℕ) (words : List ℕ) → readable v page ≡ true
       → ((k : ℕ) → k < 1024 → slice_index words k ≡ stored_word v.file (live v.file) (4096 * page + 4 * k))
-      → ((a : ℕ) → lane_of_word (stored_word v.file (live v.file) (4 * (a / 4))) (a % 4) ≡ stored_byte v.file (live v.file) a) → ArePageWords (image_of v).memory page words
-  words_are page words on size are lanes = record {
-    size = size;
-    bytes = λ a here. there a page on here
-        ∙ ap Some (sym (lanes a)
-        ∙ ap (λ n. lane_of_word (stored_word v.file (live v.file) n) (a % 4)) (place a page here)
-        ∙ sym (ap (λ w. lane_of_word w (a % 4)) (are (a / 4 % 1024) (omega arith))));
-  }
+      → ((a : ℕ) → lane_of_word (stored_word v.file (live v.file) (4 * (a / 4))) (a % 4) ≡ stored_byte v.file (live v.file) a)
+      → (a : ℕ) → a / 4096 ≡ page → (image_of v).memory.byte a ≡ Some (lane_of_word (slice_index words (a / 4 % 1024)) (a % 4))
+  words_are page words on are lanes a here =
+      there a page on here
+      ∙ ap Some (sym (lanes a)
+      ∙ ap (λ n. lane_of_word (stored_word v.file (live v.file) n) (a % 4)) (place a page here)
+      ∙ sym (ap (λ w. lane_of_word w (a % 4)) (are (a / 4 % 1024) (omega arith))))
     where
       place : (a page : ℕ) → a / 4096 ≡ page → 4 * (a / 4) ≡ 4096 * page + 4 * (a / 4 % 1024)
       place a page here = omega arith

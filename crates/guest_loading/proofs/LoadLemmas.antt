@@ -1,11 +1,9 @@
 -- A memory that is made page by page.
-use Rattle.std.proofs.Common.{◌≡◌, ℕ, zero, suc, ◌+◌, ◌*◌, ◌/◌, ◌%◌, ◌<◌, ◌≤◌, ◌⊎◌, inl, inr, Bool, true, false, ◌==◌, ◌&&◌, nat_lt, if◌then◌else◌, List, Option, Some, None, refl, ap, sym, ◌∙◌, arith}
-use Rattle.std.specs.Prelude.{slice_index}
+use Rattle.std.proofs.Common.{◌≡◌, ℕ, zero, suc, ◌+◌, ◌*◌, ◌/◌, ◌<◌, ◌≤◌, ◌⊎◌, inl, inr, Bool, true, false, ◌==◌, ◌&&◌, nat_lt, if◌then◌else◌, Option, Some, None, refl, ap, sym, ◌∙◌, arith}
 use Rattle.std.proofs.lemmas.Bool.{eqb-true, eqb-false, lt-ltb, le-ltb, ltb-true, ltb-false}
-use Rattle.nv_words.specs.Words.{lane_of_word}
 use Rattle.nv_events.specs.Memory.{Memory}
-use Rattle.guest_memory.specs.Pages.{no_memory, with_page}
-use Rattle.guest_loading.specs.Loading.{memory_below, ArePageWords}
+use Rattle.guest_memory.specs.Pages.{no_memory}
+use Rattle.guest_loading.specs.Loading.{memory_below}
 
 -- memories are equal where their bytes are, and what may be written
 same_memory : (m k : Memory) → ((a : ℕ) → m.byte a ≡ k.byte a) → ((a : ℕ) → m.writable a ≡ k.writable a) → m ≡ k
@@ -36,12 +34,12 @@ module _ (m : Memory) (n : ℕ) where
   earlier_page : (a : ℕ) → (a / 4096 == n) ≡ false → nat_lt (a / 4096) (n + 1) ≡ nat_lt (a / 4096) n
   earlier_page a t = other_page (a / 4096) n (nat_lt (a / 4096) n) refl (eqb-false (a / 4096) n t)
 
-  mapped_byte : (words : List ℕ) → ArePageWords m n words → (a : ℕ) (same : Bool) → (a / 4096 == n) ≡ same
-      → (if same then Some (lane_of_word (slice_index words (a / 4 % 1024)) (a % 4)) else (memory_below m n).byte a) ≡ (memory_below m (n + 1)).byte a
+  mapped_byte : (byte : ℕ → ℕ) → ((a : ℕ) → a / 4096 ≡ n → m.byte a ≡ Some (byte a)) → (a : ℕ) (same : Bool) → (a / 4096 == n) ≡ same
+      → (if same then Some (byte a) else (memory_below m n).byte a) ≡ (memory_below m (n + 1)).byte a
   unfolding memory_below
-  mapped_byte words are a true t =
-      sym (are.bytes a (eqb-true (a / 4096) n t)) ∙ ap (λ b. if b then m.byte a else None) (sym (this_page a t))
-  mapped_byte words are a false t = ap (λ b. if b then m.byte a else None) (sym (earlier_page a t))
+  mapped_byte byte are a true t =
+      sym (are a (eqb-true (a / 4096) n t)) ∙ ap (λ b. if b then m.byte a else None) (sym (this_page a t))
+  mapped_byte byte are a false t = ap (λ b. if b then m.byte a else None) (sym (earlier_page a t))
 
   mapped_writable : (writable : Bool) → ((a : ℕ) → a / 4096 ≡ n → m.writable a ≡ writable) → (a : ℕ) (same : Bool) → (a / 4096 == n) ≡ same
       → (if same then writable else (memory_below m n).writable a) ≡ (memory_below m (n + 1)).writable a
@@ -51,11 +49,12 @@ module _ (m : Memory) (n : ℕ) where
   mapped_writable writable are a false t = ap (λ b. b && m.writable a) (sym (earlier_page a t))
 
   -- a page more, as the memory has it
-  pub below_mapped : (words : List ℕ) (writable : Bool) → ArePageWords m n words → ((a : ℕ) → a / 4096 ≡ n → m.writable a ≡ writable)
-      → with_page (memory_below m n) n writable words ≡ memory_below m (n + 1)
-  below_mapped words writable are writes =
-      same_memory (with_page (memory_below m n) n writable words) (memory_below m (n + 1))
-      (λ a. mapped_byte words are a (a / 4096 == n) refl)
+  pub below_mapped : (byte : ℕ → ℕ) (writable : Bool) → ((a : ℕ) → a / 4096 ≡ n → m.byte a ≡ Some (byte a)) → ((a : ℕ) → a / 4096 ≡ n → m.writable a ≡ writable)
+      → record { byte = λ a. if a / 4096 == n then Some (byte a) else (memory_below m n).byte a; writable = λ a. if a / 4096 == n then writable else (memory_below m n).writable a }
+      ≡ memory_below m (n + 1)
+  below_mapped byte writable are writes =
+      same_memory _ (memory_below m (n + 1))
+      (λ a. mapped_byte byte are a (a / 4096 == n) refl)
       (λ a. mapped_writable writable writes a (a / 4096 == n) refl)
 
   absent_byte : ((a : ℕ) → a / 4096 ≡ n → m.byte a ≡ None) → (a : ℕ) (same : Bool) → (a / 4096 == n) ≡ same → (memory_below m n).byte a ≡ (memory_below m (n + 1)).byte a

@@ -1,14 +1,11 @@
 -- Shifted words and their lanes, and words with their lanes turned round.
-use Rattle.std.proofs.Common.{◌≡◌, ℕ, ◌+◌, ◌-◌, ◌*◌, ◌/◌, ◌%◌, ◌^◌, ◌<◌, ◌==◌, Some, refl, ap, ◌∙◌, arith, IsTrue}
-use Rattle.std.proofs.lemmas.Bool.{eqb-true}
-use Rattle.nv_events.specs.Memory.{Memory}
-use Rattle.nv_words.specs.Words.{lane_of_word, half_of_bytes}
-use Rattle.nv_words.specs.declared.order.Order.{Order}
+use Rattle.std.proofs.Common.{◌≡◌, ℕ, ◌-◌, ◌<◌, Some, refl, ap, ◌∙◌, arith}
+use Rattle.nv_words.specs.Words.{lane_of_word}
 use Rattle.nv_words.specs.declared.order.Order.TheVariants.{Big, Little}
 use Rattle.nv_words.proofs.LaneLemmas.{below_four}
-use Rattle.mips_decode.specs.Memory.{with_byte, word_at, left_part, right_part, merged, word_of_lanes}
+use Rattle.mips_decode.specs.Memory.{left_part, right_part, merged, word_of_lanes}
 use Rattle.mips_decode.specs.Loads.{stored}
-use Rattle.mips_decode.specs.declared.names.store_name.StoreName.TheVariants.{Sh, Sw, Swl, Swr}
+use Rattle.mips_decode.specs.declared.names.store_name.StoreName.TheVariants.{Sw, Swl, Swr}
 use Rattle.guest_memory.specs.OneWord.{one_word}
 
 -- a partial store puts the lanes of the opposite partial load
@@ -37,12 +34,6 @@ right_lanes place word w h =
 abbrev pub turned : ℕ → ℕ
 turned w = word_of_lanes Little w
 
-lane_of_turned : (w j : ℕ) → j < 4 → lane_of_word (turned w) j ≡ lane_of_word w (3 - j)
-lane_of_turned w j h = below_four (λ j. lane_of_word (turned w) j ≡ lane_of_word w (3 - j)) (omega arith) (omega arith) (omega arith) (omega arith) j h
-
-pub half_turned : (a b half : ℕ) → a < 2 ^ 8 → b < 2 ^ 8 → half ≡ half_of_bytes a b → half % 2 ^ 8 * 2 ^ 8 + half / 2 ^ 8 ≡ half_of_bytes b a
-half_turned a b half low high is = omega (arith, low, high, is)
-
 pub left_turned : (w old place : ℕ) → place < 4 → merged (one_word w) (left_part Little place) old ≡ merged (one_word (turned w)) (left_part Big (3 - place)) old
 left_turned w old place h =
     below_four (λ p. merged (one_word w) (left_part Little p) old ≡ merged (one_word (turned w)) (left_part Big (3 - p)) old) (omega arith) (omega arith) (omega arith) (omega arith) place h
@@ -51,35 +42,9 @@ pub right_turned : (w old place : ℕ) → place < 4 → merged (one_word w) (ri
 right_turned w old place h =
     below_four (λ p. merged (one_word w) (right_part Little p) old ≡ merged (one_word (turned w)) (right_part Big (3 - p)) old) (omega arith) (omega arith) (omega arith) (omega arith) place h
 
-pub word_loaded : (order : Order) (w place : ℕ) → w < 2 ^ 32 → place < 4 → IsTrue (place % 4 == 0) → word_at order (one_word w) place ≡ word_of_lanes order w
-word_loaded Big w place fits h aligned =
-    let four : place % 4 ≡ 0 = eqb-true (place % 4) 0 aligned in
-    let first : place ≡ 0 = omega (arith, h, four) in
-    rw first (omega (arith, fits))
-word_loaded Little w place fits h aligned =
-    let four : place % 4 ≡ 0 = eqb-true (place % 4) 0 aligned in
-    let first : place ≡ 0 = omega (arith, h, four) in
-    rw first refl
-
 -- stores
-pub half_stored : (m : Memory) (a w : ℕ) → stored Sh Little m a w ≡ stored Sh Big m a (turned w / 2 ^ 16)
-half_stored m a w =
-    let low : lane_of_word w 3 ≡ lane_of_word (turned w / 2 ^ 16) 2 = omega arith in
-    let high : lane_of_word w 2 ≡ lane_of_word (turned w / 2 ^ 16) 3 = omega arith in
-    ap (λ b. with_byte (with_byte m a b) (a + 1) (lane_of_word w 2)) low
-    ∙ ap (λ b. with_byte (with_byte m a (lane_of_word (turned w / 2 ^ 16) 2)) (a + 1) b) high
-
-word_lanes : (order : Order) (word w j : ℕ) → j < 4 → (stored Sw order (one_word word) 0 w).byte j ≡ Some (lane_of_word (word_of_lanes order w) j)
-word_lanes Big word w j h = below_four (λ j. (stored Sw Big (one_word word) 0 w).byte j ≡ Some (lane_of_word w j)) refl refl refl refl j h
-word_lanes Little word w j h =
-    below_four (λ j. (stored Sw Little (one_word word) 0 w).byte j ≡ Some (lane_of_word (turned w) j)) (ap Some (omega arith)) (ap Some (omega arith)) (ap Some (omega arith)) (ap Some (omega arith)) j h
-
-pub word_stored : (order : Order) (word place w : ℕ) → place < 4 → IsTrue (place % 4 == 0) → (j : ℕ) → j < 4
-    → (stored Sw order (one_word word) place w).byte j ≡ Some (lane_of_word (word_of_lanes order w) j)
-word_stored order word place w h aligned j hj =
-    let four : place % 4 ≡ 0 = eqb-true (place % 4) 0 aligned in
-    let first : place ≡ 0 = omega (arith, h, four) in
-    rw first (word_lanes order word w j hj)
+pub word_stored : (word w j : ℕ) → j < 4 → (stored Sw Big (one_word word) 0 w).byte j ≡ Some (lane_of_word w j)
+word_stored word w j h = below_four (λ j. (stored Sw Big (one_word word) 0 w).byte j ≡ Some (lane_of_word w j)) refl refl refl refl j h
 
 left_as_right : (word w place : ℕ) → place < 4 → (j : ℕ) → j < 4 → (stored Swl Little (one_word word) place w).byte j ≡ (stored Swr Big (one_word word) place (turned w)).byte j
 left_as_right word w place h =

@@ -4,3 +4,4 @@ pub mod MemoryLemmas
 pub mod LaneForms
 pub mod PageLemmas
 pub mod WordLemmas
+pub mod ByteLemmas

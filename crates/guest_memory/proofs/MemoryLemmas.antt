@@ -1,8 +1,9 @@
 -- Loads, stores and patches over pages.
-use Rattle.std.proofs.Common.{◌≡◌, ℕ, zero, suc, ◌&&◌, ◌+◌, ◌*◌, ◌/◌, ◌%◌, ◌<◌, ◌≤◌, ◌^◌, Bool, true, false, ◌==◌, nat_lt, if◌then◌else◌, List, [], ◌∷◌, length, Option, Some, None, refl, ap, sym, ◌∙◌, subst, arith, option_map, is_none, is_some, IsTrue, Result, Ok, Err}
+use Rattle.std.proofs.Common.{◌≡◌, ℕ, zero, suc, ◌&&◌, ◌+◌, ◌*◌, ◌/◌, ◌%◌, ◌<◌, ◌≤◌, ◌^◌, Bool, true, false, nat_lt, if◌then◌else◌, List, [], ◌∷◌, length, Option, Some, None, refl, ap, sym, ◌∙◌, subst, arith, option_map, is_none, is_some, IsTrue, Result, Ok, Err}
 use Rattle.std.specs.Prelude.{slice_index, slice_set, ℤ}
 use Rattle.std.specs.List.{list_all}
 use Rattle.std.proofs.lemmas.Bool.{and_parts, ltb-true}
+use Rattle.std.proofs.lemmas.List.{length-set}
 use Rattle.nv_events.specs.Memory.{Memory, can_write, patched}
 use Rattle.nv_events.specs.Question.{Question, asked, places_of, room_at}
 use Rattle.nv_events.specs.Serving.{Serves}
@@ -10,32 +11,19 @@ use Rattle.nv_events.specs.declared.call.Call.{Call}
 use Rattle.nv_events.specs.declared.io_fault.IoFault.{IoFault}
 use Rattle.nv_events.proofs.Rooms.{room_holds}
 use Rattle.nv_events.specs.Answer.{Answer, fits_room, room_place}
-use Rattle.nv_words.specs.Words.{lane_of_word, word_with_lane}
+use Rattle.nv_words.specs.Words.{lane_of_word}
 use Rattle.nv_words.specs.declared.order.Order.{Order}
 use Rattle.nv_words.specs.declared.order.Order.TheVariants.{Big}
-use Rattle.nv_words.proofs.LaneLemmas.{below_four}
 use Rattle.mips_decode.specs.Memory.{with_byte}
-use Rattle.mips_decode.specs.Loads.{load_aligned, loaded, store_aligned, store_allowed, stored}
-use Rattle.mips_decode.specs.declared.names.load_name.LoadName.{LoadName}
+use Rattle.mips_decode.specs.Loads.{store_aligned, store_allowed}
 use Rattle.mips_decode.specs.declared.names.store_name.StoreName.{StoreName}
 use Rattle.mips_decode.specs.declared.names.store_name.StoreName.TheVariants.{Sb}
-use Rattle.guest_memory.specs.OneWord.{one_word}
-use Rattle.guest_memory.specs.Pages.{Pages, is_writable, entry, cell, word_in, memory_of, put_byte_at, IsSound}
+use Rattle.guest_memory.specs.ByteList.{memory_in}
+use Rattle.guest_memory.specs.Pages.{Pages, is_writable, entry, cell, memory_of, put_byte_at, IsSound}
 use Rattle.guest_memory.specs.ViewLaws.{cell-writable, writable-high, put_some}
-use Rattle.guest_memory.proofs.PageLemmas.{memory_of-set, IsSound-set}
-use Rattle.guest_memory.proofs.WordLemmas.{IsWordAt, IsAllowedAt, loaded-at, load_aligned-at, store_aligned-at, store_allowed-at, stored-is}
-
--- the word of a number, as the memory has it
-pub word_there : (p : Pages) (n w : ℕ) → word_in p n ≡ Some w → IsWordAt (memory_of p) n w
-unfolding memory_of
-word_there p n w e = record {
-  lanes = λ j h.
-      let q : (4 * n + j) / 4 ≡ n = omega arith in
-      let r : (4 * n + j) % 4 ≡ j = omega arith in
-      ap (λ x. option_map (λ w. lane_of_word w ((4 * n + j) % 4)) (word_in p x)) q
-      ∙ ap (λ x. option_map (λ w. lane_of_word w x) (word_in p n)) r
-      ∙ ap (option_map (λ w. lane_of_word w j)) e;
-}
+use Rattle.guest_memory.proofs.ByteLemmas.{memory_in-set}
+use Rattle.guest_memory.proofs.PageLemmas.{stored-there, IsSound-bytes}
+use Rattle.guest_memory.proofs.WordLemmas.{IsAllowedAt, store_aligned-at, store_allowed-at}
 
 at_split : (a : ℕ) → a ≡ 4 * (a / 4) + a % 4
 at_split a = omega arith
@@ -50,19 +38,16 @@ allowed_there p a = record {
 
 -- ---- loads
 
-pub load-none : (p : Pages) (a x : ℕ) → word_in p (a / 4) ≡ None → None ≡ (if is_none ((memory_of p).byte a) then None else Some x)
+loaded_byte : (p : Pages) (a x : ℕ) (o : Option ℕ) → cell p a ≡ o
+    → (if is_none (option_map (slice_index p.bytes) o) then None else Some x) ≡ (if is_none ((memory_of p).byte a) then None else Some x)
 unfolding memory_of
-load-none p a x e = sym (ap (λ o. if is_none (option_map (λ w. lane_of_word w (a % 4)) o) then None else Some x) e)
+loaded_byte p a x o e = ap (λ o. if is_none (option_map (slice_index p.bytes) o) then None else Some x) (sym e)
 
-some_byte : (p : Pages) (a w x : ℕ) → word_in p (a / 4) ≡ Some w → (if is_none ((memory_of p).byte a) then None else Some x) ≡ Some x
-unfolding memory_of
-some_byte p a w x e = ap (λ o. if is_none (option_map (λ w. lane_of_word w (a % 4)) o) then None else Some x) e
+pub load-none : (p : Pages) (a x : ℕ) → cell p a ≡ None → None ≡ (if is_none ((memory_of p).byte a) then None else Some x)
+load-none p a x e = loaded_byte p a x None e
 
-pub load-some : (name : LoadName) (order : Order) (p : Pages) (a w old : ℕ) → word_in p (a / 4) ≡ Some w → IsTrue (load_aligned name a)
-    → Some (loaded name order (one_word w) (a % 4) old) ≡ (if is_none ((memory_of p).byte a) then None else Some (loaded name order (memory_of p) a old))
-load-some name order p a w old e aligned =
-    let at = loaded-at name order (memory_of p) (a / 4) w (a % 4) a old (word_there p (a / 4) w e) (omega arith) (at_split a) (sym (load_aligned-at name (a / 4) (a % 4) a (at_split a)) ∙ aligned) in
-    sym (some_byte p a w (loaded name order (memory_of p) a old) e ∙ ap Some at)
+pub load-some : (p : Pages) (a i x : ℕ) → cell p a ≡ Some i → Some x ≡ (if is_none ((memory_of p).byte a) then None else Some x)
+load-some p a i x e = loaded_byte p a x (Some i) e
 
 -- nothing is loaded where no byte is, nor from an address that is not aligned
 pub load-past : (b : Bool) (o : Option ℕ) (x : ℕ) → o ≡ None → None ≡ (if b && is_some o then Some x else None)
@@ -90,41 +75,20 @@ store-past name order p a high = refused_by (store_aligned name a) (store_allowe
 pub store-unaligned : (b allowed : Bool) → b ≡ false → false ≡ b && allowed
 store-unaligned b allowed e = sym (ap (λ c. c && allowed) e)
 
-pub word_at_cell : (p : Pages) (n i : ℕ) → cell p n ≡ Some i → word_in p n ≡ Some (slice_index p.words i)
-word_at_cell p n i e = ap (option_map (slice_index p.words)) e
-
-pub store-after : (name : StoreName) (order : Order) (p : Pages) (a w i v : ℕ) → IsSound p → cell p (a / 4) ≡ Some i → IsTrue (store_aligned name a)
-    → ((j : ℕ) → j < 4 → (stored name order (one_word (slice_index p.words i)) (a % 4) w).byte j ≡ Some (lane_of_word v j))
-    → memory_of (record p { words = slice_set p.words i v }) ≡ stored name order (memory_of p) a w
-store-after name order p a w i v sound e aligned lanes =
-    memory_of-set p sound (a / 4) i v e
-    ∙ stored-is name order (memory_of p) (a / 4) (slice_index p.words i) (a % 4) a w v (word_there p (a / 4) (slice_index p.words i) (word_at_cell p (a / 4) i e)) (omega arith) (at_split a)
-    (sym (store_aligned-at name (a / 4) (a % 4) a (at_split a)) ∙ aligned) lanes
-
 -- ---- bytes put
-
--- the lanes of a word with one lane replaced
-lane_put : (w i b k : ℕ) → i < 4 → b < 2 ^ 8 → k < 4 → (if k == i then Some (lane_of_word b 3) else Some (lane_of_word w k)) ≡ Some (lane_of_word (word_with_lane w i b) k)
-lane_put w i b k hi byte hk =
-    below_four (λ i. (if k == i then Some (lane_of_word b 3) else Some (lane_of_word w k)) ≡ Some (lane_of_word (word_with_lane w i b) k))
-    (below_four (λ k. (if k == 0 then Some (lane_of_word b 3) else Some (lane_of_word w k)) ≡ Some (lane_of_word (word_with_lane w 0 b) k)) (ap Some (omega arith)) (ap Some (omega arith)) (ap Some (omega arith)) (ap Some (omega arith)) k hk)
-    (below_four (λ k. (if k == 1 then Some (lane_of_word b 3) else Some (lane_of_word w k)) ≡ Some (lane_of_word (word_with_lane w 1 b) k)) (ap Some (omega arith)) (ap Some (omega arith)) (ap Some (omega arith)) (ap Some (omega arith)) k hk)
-    (below_four (λ k. (if k == 2 then Some (lane_of_word b 3) else Some (lane_of_word w k)) ≡ Some (lane_of_word (word_with_lane w 2 b) k)) (ap Some (omega arith)) (ap Some (omega arith)) (ap Some (omega arith)) (ap Some (omega arith)) k hk)
-    (below_four (λ k. (if k == 3 then Some (lane_of_word b 3) else Some (lane_of_word w k)) ≡ Some (lane_of_word (word_with_lane w 3 b) k)) (ap Some (omega arith)) (ap Some (omega arith)) (ap Some (omega arith)) (ap Some (omega arith)) k hk)
-    i hi
 
 pub memory_of-put : (p : Pages) (a b : ℕ) → IsSound p → b < 256 → (memory_of p).writable a ≡ true → memory_of (put_byte_at p a b) ≡ with_byte (memory_of p) a b
 memory_of-put p a b sound byte w =
     let at = cell-writable p a w in
     let low : lane_of_word b 3 ≡ b = omega arith in
     ap memory_of (put_some p a b at.0 at.1)
-    ∙ store-after Sb Big p a b at.0 (word_with_lane (slice_index p.words at.0) (a % 4) b) sound at.1 refl (λ j h. lane_put (slice_index p.words at.0) (a % 4) b j (omega arith) byte h)
+    ∙ stored-there p sound a at.0 at.1 Sb Big b (slice_set p.bytes at.0 b) refl (memory_in-set p.bytes at.0 b (sound.within a at.0 at.1) ∙ ap (with_byte (memory_in p.bytes) at.0) (sym low))
     ∙ ap (with_byte (memory_of p) a) low
 
 pub IsSound-put : (p : Pages) (a b : ℕ) → IsSound p → (memory_of p).writable a ≡ true → IsSound (put_byte_at p a b)
 IsSound-put p a b sound w =
     let at = cell-writable p a w in
-    subst IsSound (sym (put_some p a b at.0 at.1)) (IsSound-set p at.0 (word_with_lane (slice_index p.words at.0) (a % 4) b) sound)
+    subst IsSound (sym (put_some p a b at.0 at.1)) (IsSound-bytes p (slice_set p.bytes at.0 b) (length-set p.bytes at.0 b) sound)
 
 -- bytes put one after the other
 pub memory_of-patched : (patch : List ℕ) (p : Pages) (a : ℕ) → IsSound p → list_all (λ x. nat_lt x 256) patch ≡ true → can_write (memory_of p) a (length patch) ≡ true

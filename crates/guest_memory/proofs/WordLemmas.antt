@@ -1,4 +1,4 @@
--- Loads and stores at the word of a number, from what they are on a memory of that word alone.
+-- Loads and stores at the word of a number, from what they are on another memory with the same bytes at 0 to 3.
 use Rattle.std.proofs.Common.{◌≡◌, ℕ, ◌+◌, ◌-◌, ◌*◌, ◌/◌, ◌%◌, ◌<◌, ◌≤◌, Bool, true, false, ◌==◌, ◌&&◌, if◌then◌else◌, Option, Some, None, refl, ap, subst, sym, ◌∙◌, ◌⊎◌, inl, inr, arith, nat_lt, nat_le, IsTrue}
 use Rattle.std.proofs.lemmas.Bool.{eqb-true, ltb-true, leb-true, lt-ltb, le-leb, and_right, cases_Bool}
 use Rattle.std.proofs.lemmas.Bool.Decides.{nat_tests}
@@ -13,18 +13,20 @@ use Rattle.mips_decode.specs.declared.names.load_name.LoadName.{LoadName}
 use Rattle.mips_decode.specs.declared.names.load_name.LoadName.TheVariants.{Lb, Lh, Lwl, Lw, Lbu, Lhu, Lwr}
 use Rattle.mips_decode.specs.declared.names.store_name.StoreName.{StoreName}
 use Rattle.mips_decode.specs.declared.names.store_name.StoreName.TheVariants.{Sb, Sh, Swl, Sw, Swr}
-use Rattle.guest_memory.specs.OneWord.{one_word}
-use Rattle.guest_memory.proofs.PageLemmas.{with_cell}
 
--- word n of a memory has the lanes of w
-pub record IsWordAt (m : Memory) (n w : ℕ) : Type 0 where
-  pub lanes : (j : ℕ) → j < 4 → m.byte (4 * n + j) ≡ Some (lane_of_word w j)
+-- the memory with the word of a number replaced
+abbrev pub with_cell : Memory → ℕ → ℕ → Memory
+with_cell m n v = record m { byte = λ x. if x / 4 == n then Some (lane_of_word v (x % 4)) else m.byte x }
+
+-- word n of a memory has the bytes of another at 0 to 3
+pub record IsWordAt (m part : Memory) (n : ℕ) : Type 0 where
+  pub bytes : (j : ℕ) → j < 4 → m.byte (4 * n + j) ≡ part.byte j
 
 -- ---- loads
 
-module _ (m : Memory) (n w k : ℕ) (h : IsWordAt m n w) (small : k < 4) where
-  pub byte_there : (a j : ℕ) → a ≡ 4 * n + j → j < 4 → byte_at m a ≡ byte_at (one_word w) j
-  byte_there a j e l = rw e (rw (h.lanes j l) refl)
+module _ (m part : Memory) (n k : ℕ) (h : IsWordAt m part n) (small : k < 4) where
+  pub byte_there : (a j : ℕ) → a ≡ 4 * n + j → j < 4 → byte_at m a ≡ byte_at part j
+  byte_there a j e l = rw e (rw (h.bytes j l) refl)
 
   place_in_word : (a : ℕ) → a ≡ 4 * n + k → a % 4 ≡ k
   place_in_word a e = omega (arith, e)
@@ -33,7 +35,7 @@ module _ (m : Memory) (n w k : ℕ) (h : IsWordAt m n w) (small : k < 4) where
   place_here = omega arith
 
   right_by : (a l old : ℕ) → l < 4 → a ≡ 4 * n + k → (t : Bool) → nat_le 3 (k + l) ≡ t
-      → merged_lane m (λ _. if t then Some (a + l - 3) else None) old l ≡ merged_lane (one_word w) (λ _. if t then Some (k + l - 3) else None) old l
+      → merged_lane m (λ _. if t then Some (a + l - 3) else None) old l ≡ merged_lane part (λ _. if t then Some (k + l - 3) else None) old l
   right_by a l old below e true t =
       let s : 3 ≤ k + l = leb-true 3 (k + l) t in
       byte_there (a + l - 3) (k + l - 3) (omega (arith, e)) (omega arith)
@@ -41,37 +43,37 @@ module _ (m : Memory) (n w k : ℕ) (h : IsWordAt m n w) (small : k < 4) where
 
   -- a lane at its part, where the part in the memory is 4 * n past the part in the one word
   lane_by : (a j l old : ℕ) → a ≡ 4 * n + j → (t : Bool) → (t ≡ true → j < 4)
-      → merged_lane m (λ _. if t then Some a else None) old l ≡ merged_lane (one_word w) (λ _. if t then Some j else None) old l
+      → merged_lane m (λ _. if t then Some a else None) old l ≡ merged_lane part (λ _. if t then Some j else None) old l
   lane_by a j l old e true small = byte_there a j e (small refl)
   lane_by a j l old e false small = refl
 
   -- the same with a part that is there only where a lane is no further than another one
   up_by : (a l old : ℕ) → a ≡ 4 * n + k → (t : Bool) → nat_le l k ≡ t
-      → merged_lane m (λ _. if t then Some (a - l) else None) old l ≡ merged_lane (one_word w) (λ _. if t then Some (k - l) else None) old l
+      → merged_lane m (λ _. if t then Some (a - l) else None) old l ≡ merged_lane part (λ _. if t then Some (k - l) else None) old l
   up_by a l old e true t =
       let s : l ≤ k = leb-true l k t in
       byte_there (a - l) (k - l) (omega (arith, e, s)) (omega (arith, small, s))
   up_by a l old e false t = refl
 
-  left_lane : (order : Order) (a l old : ℕ) → a ≡ 4 * n + k → merged_lane m (left_part order a) old l ≡ merged_lane (one_word w) (left_part order k) old l
+  left_lane : (order : Order) (a l old : ℕ) → a ≡ 4 * n + k → merged_lane m (left_part order a) old l ≡ merged_lane part (left_part order k) old l
   left_lane Little a l old e =
       ap (λ x. merged_lane m (λ _. if nat_le l x then Some (a - l) else None) old l) (place_in_word a e)
       ∙ up_by a l old e (nat_le l k) refl
-      ∙ ap (λ x. merged_lane (one_word w) (λ _. if nat_le l x then Some (k - l) else None) old l) (sym place_here)
+      ∙ ap (λ x. merged_lane part (λ _. if nat_le l x then Some (k - l) else None) old l) (sym place_here)
   left_lane Big a l old e =
       ap (λ x. merged_lane m (λ _. if nat_lt (x + l) 4 then Some (a + l) else None) old l) (place_in_word a e)
       ∙ lane_by (a + l) (k + l) l old (omega (arith, e)) (nat_lt (k + l) 4) (ltb-true (k + l) 4)
-      ∙ ap (λ x. merged_lane (one_word w) (λ _. if nat_lt (x + l) 4 then Some (k + l) else None) old l) (sym place_here)
+      ∙ ap (λ x. merged_lane part (λ _. if nat_lt (x + l) 4 then Some (k + l) else None) old l) (sym place_here)
 
-  right_lane : (order : Order) (a l old : ℕ) → l < 4 → a ≡ 4 * n + k → merged_lane m (right_part order a) old l ≡ merged_lane (one_word w) (right_part order k) old l
+  right_lane : (order : Order) (a l old : ℕ) → l < 4 → a ≡ 4 * n + k → merged_lane m (right_part order a) old l ≡ merged_lane part (right_part order k) old l
   right_lane Little a l old below e =
       ap (λ x. merged_lane m (λ _. if nat_le x l then Some (a + 3 - l) else None) old l) (place_in_word a e)
       ∙ lane_by (a + 3 - l) (k + 3 - l) l old (omega (arith, e, below)) (nat_le k l) (λ t. let s = leb-true k l t in omega (arith, s, below))
-      ∙ ap (λ x. merged_lane (one_word w) (λ _. if nat_le x l then Some (k + 3 - l) else None) old l) (sym place_here)
+      ∙ ap (λ x. merged_lane part (λ _. if nat_le x l then Some (k + 3 - l) else None) old l) (sym place_here)
   right_lane Big a l old below e =
       ap (λ x. merged_lane m (λ _. if nat_le 3 (x + l) then Some (a + l - 3) else None) old l) (place_in_word a e)
       ∙ right_by a l old below e (nat_le 3 (k + l)) refl
-      ∙ ap (λ x. merged_lane (one_word w) (λ _. if nat_le 3 (x + l) then Some (k + l - 3) else None) old l) (sym place_here)
+      ∙ ap (λ x. merged_lane part (λ _. if nat_le 3 (x + l) then Some (k + l - 3) else None) old l) (sym place_here)
 
 word_from_lanes : (a b c d a' b' c' d' : ℕ) → a ≡ a' → b ≡ b' → c ≡ c' → d ≡ d' → word_of_bytes a b c d ≡ word_of_bytes a' b' c' d'
 word_from_lanes a b c d a' b' c' d' e f g h = omega (arith, e, f, g, h)
@@ -79,46 +81,46 @@ word_from_lanes a b c d a' b' c' d' e f g h = omega (arith, e, f, g, h)
 half_from_bytes : (a b a' b' : ℕ) → a ≡ a' → b ≡ b' → half_of_bytes a b ≡ half_of_bytes a' b'
 half_from_bytes a b a' b' e f = omega (arith, e, f)
 
-half_there : (order : Order) (m : Memory) (n w k a : ℕ) → IsWordAt m n w → k < 4 → a ≡ 4 * n + k → IsTrue (k % 2 == 0) → half_at order m a ≡ half_at order (one_word w) k
-half_there Big m n w k a h small e even =
+half_there : (order : Order) (m part : Memory) (n k a : ℕ) → IsWordAt m part n → k < 4 → a ≡ 4 * n + k → IsTrue (k % 2 == 0) → half_at order m a ≡ half_at order part k
+half_there Big m part n k a h small e even =
     let two : k % 2 ≡ 0 = eqb-true (k % 2) 0 even in
-    half_from_bytes (byte_at m a) (byte_at m (a + 1)) (byte_at (one_word w) k) (byte_at (one_word w) (k + 1))
-    (byte_there m n w k h small a k e small)
-    (byte_there m n w k h small (a + 1) (k + 1) (omega (arith, e)) (omega arith))
-half_there Little m n w k a h small e even =
+    half_from_bytes (byte_at m a) (byte_at m (a + 1)) (byte_at part k) (byte_at part (k + 1))
+    (byte_there m part n k h small a k e small)
+    (byte_there m part n k h small (a + 1) (k + 1) (omega (arith, e)) (omega arith))
+half_there Little m part n k a h small e even =
     let two : k % 2 ≡ 0 = eqb-true (k % 2) 0 even in
-    half_from_bytes (byte_at m (a + 1)) (byte_at m a) (byte_at (one_word w) (k + 1)) (byte_at (one_word w) k)
-    (byte_there m n w k h small (a + 1) (k + 1) (omega (arith, e)) (omega arith))
-    (byte_there m n w k h small a k e small)
+    half_from_bytes (byte_at m (a + 1)) (byte_at m a) (byte_at part (k + 1)) (byte_at part k)
+    (byte_there m part n k h small (a + 1) (k + 1) (omega (arith, e)) (omega arith))
+    (byte_there m part n k h small a k e small)
 
-word_there : (order : Order) (m : Memory) (n w k a : ℕ) → IsWordAt m n w → k < 4 → a ≡ 4 * n + k → IsTrue (k % 4 == 0) → word_at order m a ≡ word_at order (one_word w) k
-word_there Big m n w k a h small e aligned =
+word_there : (order : Order) (m part : Memory) (n k a : ℕ) → IsWordAt m part n → k < 4 → a ≡ 4 * n + k → IsTrue (k % 4 == 0) → word_at order m a ≡ word_at order part k
+word_there Big m part n k a h small e aligned =
     let four : k % 4 ≡ 0 = eqb-true (k % 4) 0 aligned in
-    word_from_lanes (byte_at m a) (byte_at m (a + 1)) (byte_at m (a + 2)) (byte_at m (a + 3)) (byte_at (one_word w) k) (byte_at (one_word w) (k + 1)) (byte_at (one_word w) (k + 2)) (byte_at (one_word w) (k + 3))
-    (byte_there m n w k h small a k e small)
-    (byte_there m n w k h small (a + 1) (k + 1) (omega (arith, e)) (omega arith))
-    (byte_there m n w k h small (a + 2) (k + 2) (omega (arith, e)) (omega arith))
-    (byte_there m n w k h small (a + 3) (k + 3) (omega (arith, e)) (omega arith))
-word_there Little m n w k a h small e aligned =
+    word_from_lanes (byte_at m a) (byte_at m (a + 1)) (byte_at m (a + 2)) (byte_at m (a + 3)) (byte_at part k) (byte_at part (k + 1)) (byte_at part (k + 2)) (byte_at part (k + 3))
+    (byte_there m part n k h small a k e small)
+    (byte_there m part n k h small (a + 1) (k + 1) (omega (arith, e)) (omega arith))
+    (byte_there m part n k h small (a + 2) (k + 2) (omega (arith, e)) (omega arith))
+    (byte_there m part n k h small (a + 3) (k + 3) (omega (arith, e)) (omega arith))
+word_there Little m part n k a h small e aligned =
     let four : k % 4 ≡ 0 = eqb-true (k % 4) 0 aligned in
-    word_from_lanes (byte_at m (a + 3)) (byte_at m (a + 2)) (byte_at m (a + 1)) (byte_at m a) (byte_at (one_word w) (k + 3)) (byte_at (one_word w) (k + 2)) (byte_at (one_word w) (k + 1)) (byte_at (one_word w) k)
-    (byte_there m n w k h small (a + 3) (k + 3) (omega (arith, e)) (omega arith))
-    (byte_there m n w k h small (a + 2) (k + 2) (omega (arith, e)) (omega arith))
-    (byte_there m n w k h small (a + 1) (k + 1) (omega (arith, e)) (omega arith))
-    (byte_there m n w k h small a k e small)
+    word_from_lanes (byte_at m (a + 3)) (byte_at m (a + 2)) (byte_at m (a + 1)) (byte_at m a) (byte_at part (k + 3)) (byte_at part (k + 2)) (byte_at part (k + 1)) (byte_at part k)
+    (byte_there m part n k h small (a + 3) (k + 3) (omega (arith, e)) (omega arith))
+    (byte_there m part n k h small (a + 2) (k + 2) (omega (arith, e)) (omega arith))
+    (byte_there m part n k h small (a + 1) (k + 1) (omega (arith, e)) (omega arith))
+    (byte_there m part n k h small a k e small)
 
 -- a load reads the one word that its address lies in
-pub loaded-at : (name : LoadName) (order : Order) (m : Memory) (n w k a old : ℕ) → IsWordAt m n w → k < 4 → a ≡ 4 * n + k → IsTrue (load_aligned name k)
-    → loaded name order m a old ≡ loaded name order (one_word w) k old
-loaded-at Lb order m n w k a old h small e aligned = ap (sign_extended 8) (byte_there m n w k h small a k e small)
-loaded-at Lh order m n w k a old h small e aligned = ap (sign_extended 16) (half_there order m n w k a h small e aligned)
-loaded-at Lwl order m n w k a old h small e aligned =
-    word_from_lanes _ _ _ _ _ _ _ _ (left_lane m n w k h small order a 0 old e) (left_lane m n w k h small order a 1 old e) (left_lane m n w k h small order a 2 old e) (left_lane m n w k h small order a 3 old e)
-loaded-at Lw order m n w k a old h small e aligned = word_there order m n w k a h small e aligned
-loaded-at Lbu order m n w k a old h small e aligned = byte_there m n w k h small a k e small
-loaded-at Lhu order m n w k a old h small e aligned = half_there order m n w k a h small e aligned
-loaded-at Lwr order m n w k a old h small e aligned =
-    word_from_lanes _ _ _ _ _ _ _ _ (right_lane m n w k h small order a 0 old (omega arith) e) (right_lane m n w k h small order a 1 old (omega arith) e) (right_lane m n w k h small order a 2 old (omega arith) e) (right_lane m n w k h small order a 3 old (omega arith) e)
+pub loaded-at : (name : LoadName) (order : Order) (m part : Memory) (n k a old : ℕ) → IsWordAt m part n → k < 4 → a ≡ 4 * n + k → IsTrue (load_aligned name k)
+    → loaded name order m a old ≡ loaded name order part k old
+loaded-at Lb order m part n k a old h small e aligned = ap (sign_extended 8) (byte_there m part n k h small a k e small)
+loaded-at Lh order m part n k a old h small e aligned = ap (sign_extended 16) (half_there order m part n k a h small e aligned)
+loaded-at Lwl order m part n k a old h small e aligned =
+    word_from_lanes _ _ _ _ _ _ _ _ (left_lane m part n k h small order a 0 old e) (left_lane m part n k h small order a 1 old e) (left_lane m part n k h small order a 2 old e) (left_lane m part n k h small order a 3 old e)
+loaded-at Lw order m part n k a old h small e aligned = word_there order m part n k a h small e aligned
+loaded-at Lbu order m part n k a old h small e aligned = byte_there m part n k h small a k e small
+loaded-at Lhu order m part n k a old h small e aligned = half_there order m part n k a h small e aligned
+loaded-at Lwr order m part n k a old h small e aligned =
+    word_from_lanes _ _ _ _ _ _ _ _ (right_lane m part n k h small order a 0 old (omega arith) e) (right_lane m part n k h small order a 1 old (omega arith) e) (right_lane m part n k h small order a 2 old (omega arith) e) (right_lane m part n k h small order a 3 old (omega arith) e)
 
 -- ---- stores
 
@@ -127,14 +129,14 @@ pub record Differs (n : ℕ) (first now part : Memory) : Type 0 where
   pub byte : (x : ℕ) → now.byte x ≡ (if x / 4 == n then part.byte (x % 4) else first.byte x)
   pub writable : now.writable ≡ first.writable
 
-Differs-start : (m : Memory) (n w : ℕ) → IsWordAt m n w → Differs n m m (one_word w)
-Differs-start m n w h = record { byte = λ x. start_byte x (x / 4 == n) refl; writable = refl }
+Differs-start : (m part : Memory) (n : ℕ) → IsWordAt m part n → Differs n m m part
+Differs-start m part n h = record { byte = λ x. start_byte x (x / 4 == n) refl; writable = refl }
   where
-    start_byte : (x : ℕ) (same : Bool) → (x / 4 == n) ≡ same → m.byte x ≡ (if same then Some (lane_of_word w (x % 4)) else m.byte x)
+    start_byte : (x : ℕ) (same : Bool) → (x / 4 == n) ≡ same → m.byte x ≡ (if same then part.byte (x % 4) else m.byte x)
     start_byte x true t =
         let q : x / 4 ≡ n = eqb-true (x / 4) n t in
         let e : x ≡ 4 * n + x % 4 = omega arith in
-        ap m.byte e ∙ h.lanes (x % 4) (omega arith)
+        ap m.byte e ∙ h.bytes (x % 4) (omega arith)
     start_byte x false t = refl
 
 byte_put : (o p : Option ℕ) (f : Option ℕ) (n j b x a : ℕ) → a ≡ 4 * n + j → j < 4 → o ≡ (if x / 4 == n then p else f)
@@ -199,38 +201,38 @@ module _ (n k : ℕ) (first : Memory) (small : k < 4) where
       (right_by_put now part a l w below e (nat_le 3 (k + l)) refl d))
 
 -- a store changes the one word that its address lies in
-half_stored-at : (order : Order) (m : Memory) (n old k a w : ℕ) → IsWordAt m n old → k < 4 → a ≡ 4 * n + k → IsTrue (k % 2 == 0)
-    → Differs n m (stored Sh order m a w) (stored Sh order (one_word old) k w)
-half_stored-at Big m n old k a w h small e aligned =
+half_stored-at : (order : Order) (m part : Memory) (n k a w : ℕ) → IsWordAt m part n → k < 4 → a ≡ 4 * n + k → IsTrue (k % 2 == 0)
+    → Differs n m (stored Sh order m a w) (stored Sh order part k w)
+half_stored-at Big m part n k a w h small e aligned =
     let two : k % 2 ≡ 0 = eqb-true (k % 2) 0 aligned in
     Differs-byte n m _ _ (k + 1) (lane_of_word w 3) (a + 1) (omega (arith, e)) (omega arith)
-    (Differs-byte n m m (one_word old) k (lane_of_word w 2) a e small (Differs-start m n old h))
-half_stored-at Little m n old k a w h small e aligned =
+    (Differs-byte n m m part k (lane_of_word w 2) a e small (Differs-start m part n h))
+half_stored-at Little m part n k a w h small e aligned =
     let two : k % 2 ≡ 0 = eqb-true (k % 2) 0 aligned in
     Differs-byte n m _ _ (k + 1) (lane_of_word w 2) (a + 1) (omega (arith, e)) (omega arith)
-    (Differs-byte n m m (one_word old) k (lane_of_word w 3) a e small (Differs-start m n old h))
+    (Differs-byte n m m part k (lane_of_word w 3) a e small (Differs-start m part n h))
 
-pub stored-at : (name : StoreName) (order : Order) (m : Memory) (n old k a w : ℕ) → IsWordAt m n old → k < 4 → a ≡ 4 * n + k → IsTrue (store_aligned name k)
-    → Differs n m (stored name order m a w) (stored name order (one_word old) k w)
-stored-at Sb order m n old k a w h small e aligned = Differs-byte n m m (one_word old) k (lane_of_word w 3) a e small (Differs-start m n old h)
-stored-at Sh order m n old k a w h small e aligned = half_stored-at order m n old k a w h small e aligned
-stored-at Swl order m n old k a w h small e aligned =
-    left_put n k m small order _ _ a 3 w e (left_put n k m small order _ _ a 2 w e (left_put n k m small order _ _ a 1 w e (left_put n k m small order m (one_word old) a 0 w e (Differs-start m n old h))))
-stored-at Sw order m n old k a w h small e aligned =
+pub stored-at : (name : StoreName) (order : Order) (m part : Memory) (n k a w : ℕ) → IsWordAt m part n → k < 4 → a ≡ 4 * n + k → IsTrue (store_aligned name k)
+    → Differs n m (stored name order m a w) (stored name order part k w)
+stored-at Sb order m part n k a w h small e aligned = Differs-byte n m m part k (lane_of_word w 3) a e small (Differs-start m part n h)
+stored-at Sh order m part n k a w h small e aligned = half_stored-at order m part n k a w h small e aligned
+stored-at Swl order m part n k a w h small e aligned =
+    left_put n k m small order _ _ a 3 w e (left_put n k m small order _ _ a 2 w e (left_put n k m small order _ _ a 1 w e (left_put n k m small order m part a 0 w e (Differs-start m part n h))))
+stored-at Sw order m part n k a w h small e aligned =
     let four : k % 4 ≡ 0 = eqb-true (k % 4) 0 aligned in
     Differs-byte n m _ _ (k + 3) (lane_in_order order w 3) (a + 3) (omega (arith, e)) (omega arith)
     (Differs-byte n m _ _ (k + 2) (lane_in_order order w 2) (a + 2) (omega (arith, e)) (omega arith)
     (Differs-byte n m _ _ (k + 1) (lane_in_order order w 1) (a + 1) (omega (arith, e)) (omega arith)
-    (Differs-byte n m m (one_word old) k (lane_in_order order w 0) a e small (Differs-start m n old h))))
-stored-at Swr order m n old k a w h small e aligned =
-    right_put n k m small order _ _ a 3 w (omega arith) e (right_put n k m small order _ _ a 2 w (omega arith) e (right_put n k m small order _ _ a 1 w (omega arith) e (right_put n k m small order m (one_word old) a 0 w (omega arith) e (Differs-start m n old h))))
+    (Differs-byte n m m part k (lane_in_order order w 0) a e small (Differs-start m part n h))))
+stored-at Swr order m part n k a w h small e aligned =
+    right_put n k m small order _ _ a 3 w (omega arith) e (right_put n k m small order _ _ a 2 w (omega arith) e (right_put n k m small order _ _ a 1 w (omega arith) e (right_put n k m small order m part a 0 w (omega arith) e (Differs-start m part n h))))
 
 -- so it is the memory with that word replaced, by one that has the lanes of the store on the word alone
-pub stored-is : (name : StoreName) (order : Order) (m : Memory) (n old k a w v : ℕ) → IsWordAt m n old → k < 4 → a ≡ 4 * n + k → IsTrue (store_aligned name k)
-    → ((j : ℕ) → j < 4 → (stored name order (one_word old) k w).byte j ≡ Some (lane_of_word v j))
+pub stored-is : (name : StoreName) (order : Order) (m part : Memory) (n k a w v : ℕ) → IsWordAt m part n → k < 4 → a ≡ 4 * n + k → IsTrue (store_aligned name k)
+    → ((j : ℕ) → j < 4 → (stored name order part k w).byte j ≡ Some (lane_of_word v j))
     → with_cell m n v ≡ stored name order m a w
-stored-is name order m n old k a w v h small e aligned lanes =
-    let d = stored-at name order m n old k a w h small e aligned in
+stored-is name order m part n k a w v h small e aligned lanes =
+    let d = stored-at name order m part n k a w h small e aligned in
     let bytes : (x : ℕ) → (with_cell m n v).byte x ≡ (stored name order m a w).byte x =
     λ x. ap (λ b. if x / 4 == n then b else m.byte x) (sym (lanes (x % 4) (omega arith))) ∙ sym (d.byte x) in
     ap (λ (f : ℕ → Option ℕ). record m { byte = f }) (λ i x. bytes x i)

@@ -1,6 +1,7 @@
 //! The memory of a guest program, in pages of 4,096 bytes, and its code, in chunks of 1 MiB.
 #![tactic(auto)]
 
+mod accesses;
 mod alignment;
 mod chunking;
 mod code;

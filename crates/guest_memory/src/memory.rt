@@ -1,17 +1,17 @@
-ghost use Rattle.std.specs.Prelude.{◌≡◌, ◌≢◌, Ok, ℕ, ◌+◌, ◌*◌, ◌/◌, ◌%◌, ◌<◌, length, Option, Some, None, MatchOption, IfOk, OnOk, OnErr, IsTrue, is_none, is_some, ◌&&◌, true, false, slice_index, slice_index_or, if◌then◌else◌};
+ghost use Rattle.std.specs.Prelude.{◌≡◌, ◌≢◌, Ok, ℕ, ◌+◌, ◌*◌, ◌<◌, length, Option, Some, None, MatchOption, IfOk, OnOk, OnErr, IsTrue, is_none, is_some, ◌&&◌, true, false, slice_index, slice_index_or, if◌then◌else◌};
 ghost use Rattle.mips_decode.specs.Loads.{load_aligned, loaded, store_aligned, store_allowed, stored};
 ghost use Rattle.nv_events.specs.Question.{asked};
 ghost use Rattle.nv_events.specs.Serving.{Serves, Causes, NoneFalls};
 ghost use Rattle.mips_decode.specs.Memory.{with_byte};
-ghost use Rattle.guest_memory.specs.Pages.{IsSound, entry, cell, word_in, memory_of, put_byte_at, place_of, is_writable, no_memory, with_page};
+ghost use Rattle.guest_memory.specs.Pages.{IsSound, entry, cell, memory_of, put_byte_at, shift_of, is_writable, no_memory, with_page, with_zero_page};
 
+use crate::accesses::{from_bytes, into_bytes, put_words};
 use crate::alignment::{is_load_aligned, is_store_aligned};
-use crate::lanes::{from_word, into_word};
 use crate::page::Page;
-use crate::paging::{PAGE_WORDS, PAGES, PAST_PAGES, word_place};
+use crate::paging::{PAGE_BYTES, PAGES, PAST_PAGES, shift_to, shifted_place};
 use mips_decode::{LoadName, StoreName};
 use nv_events::{Call, IoFault, Server, View};
-use nv_words::{Order, lane, with_lane};
+use nv_words::Order;
 use std::alloc::{AllocError, Global};
 use std::marker::Model;
 
@@ -22,11 +22,11 @@ pub type NoMemory = AllocError;
 /// read.
 ///
 /// A contract sees it through `memory_of`: the byte at each address that can be read, and which addresses may be written.
-/// Only `new` and `map_page` take memory.
+/// Only `new`, `map_page` and `map_zero_page` take memory.
 #[derive(Drop)]
 pub struct GuestMemory {
     table: Vec<Page>,
-    words: Vec<u32>,
+    bytes: Vec<u8>,
 }
 
 impl Model for GuestMemory {
@@ -34,13 +34,13 @@ impl Model for GuestMemory {
 
     ghost Value = { Pages };
 
-    ghost view = { λ m. record { table = m.table.items; words = m.words.items } };
+    ghost view = { λ m. record { table = m.table.items; bytes = m.bytes.items } };
 
-    ghost invariant = { λ m. IsSound (record { table = m.table.items; words = m.words.items }) };
+    ghost invariant = { λ m. IsSound (record { table = m.table.items; bytes = m.bytes.items }) };
 }
 
 impl GuestMemory {
-    /// A memory of no pages, with room for the words of so many.
+    /// A memory of no pages, with room for the bytes of so many.
     ///
     /// # Errors
     ///
@@ -50,7 +50,7 @@ impl GuestMemory {
     {
         Ok(GuestMemory {
             table: no_pages(alloc, PAGES)?,
-            words: Vec::with_capacity(alloc, PAGE_WORDS * room as usize)?,
+            bytes: Vec::with_capacity(alloc, PAGE_BYTES * room as usize)?,
         })
     }
 
@@ -67,13 +67,44 @@ impl GuestMemory {
             ≡ with_page (memory_of self.old) page writable words.now) }
         ensures err { OnErr result (memory_of self.new ≡ memory_of self.old) }
     {
-        // more than 2^32 pages are more than there is memory for
-        let Ok(place) = u32::try_from(self.words.len() / PAGE_WORDS) else {
+        let place = self.grow()?;
+        put_words(&mut self.bytes, place as usize, words);
+        self.table[page as usize] = page_at(shift_to(page, place), writable);
+        Ok(())
+    }
+
+    /// Adds a page of zeros, by its number.
+    ///
+    /// # Errors
+    ///
+    /// NoMemory, and the memory is as before.
+    pub fn map_zero_page(&mut self, page: u32, writable: bool) -> Result<(), NoMemory>
+        requires low { page < 524288 }
+        requires fresh { (memory_of self.old).byte (page * 4096) ≡ None }
+        ensures ok { OnOk result (memory_of self.new
+            ≡ with_zero_page (memory_of self.old) page writable) }
+        ensures err { OnErr result (memory_of self.new ≡ memory_of self.old) }
+    {
+        let place = self.grow()?;
+        self.table[page as usize] = page_at(shift_to(page, place), writable);
+        Ok(())
+    }
+
+    /// Adds the bytes of a page, all 0, behind the others, and says where.
+    fn grow(&mut self) -> Result<u32, NoMemory>
+        ensures sound { IsSound self.old }
+        ensures place { IfOk result (λ place. place ≡ length self.old.bytes) }
+        ensures size { OnOk result (length self.new.bytes ≡ length self.old.bytes + 4096) }
+        ensures table { self.new.table ≡ self.old.table }
+        ensures bytes { (k : ℕ) → slice_index self.new.bytes k ≡ slice_index self.old.bytes k }
+        ensures err { OnErr result (self.new ≡ self.old) }
+    {
+        // all pages together have fewer than 2^32 bytes
+        let Ok(place) = u32::try_from(self.bytes.len()) else {
             return Err(AllocError);
         };
-        self.words.extend_from_slice(words)?;
-        self.table[page as usize] = page_at(place, writable);
-        Ok(())
+        self.bytes.resize(place as usize + PAGE_BYTES, 0)?;
+        Ok(place)
     }
 
     /// What a register holds after a load from an address, in the given order of bytes, by what it held before; None where the address is
@@ -99,8 +130,8 @@ impl GuestMemory {
         ensures { result ≡ (if is_none ((memory_of self.now).byte at) then None
             else Some (loaded name order (memory_of self.now) at old)) }
     {
-        match self.word_around(at) {
-            Some(word) => Some(from_word(name, order, at % 4, word, old)),
+        match self.readable_cell(at) {
+            Some(cell) => Some(from_bytes(name, order, &self.bytes, cell, old)),
             None => None,
         }
     }
@@ -129,7 +160,7 @@ impl GuestMemory {
     {
         match self.writable_cell(at) {
             Some(cell) => {
-                self.words[cell] = into_word(name, order, at % 4, self.words[cell], w);
+                into_bytes(name, order, &mut self.bytes, cell, w);
                 true
             }
             None => false,
@@ -167,7 +198,7 @@ impl GuestMemory {
     fn see(&self)
         ensures { IsSound self.now }
     {
-        let _ = &self.words;
+        let _ = &self.bytes;
     }
 
     /// The page of a number.
@@ -184,45 +215,34 @@ impl GuestMemory {
         }
     }
 
-    /// Where the word that an address lies in stands, if it can be read.
+    /// Where the byte of an address stands, if it can be read.
     #[inline(always)]
     #[tactic(auto, unfolding(crate::specs::Pages::cell))]
     fn readable_cell(&self, at: u32) -> Option<usize>
-        ensures { result ≡ cell self.now (at / 4) }
+        ensures { result ≡ cell self.now at }
     {
         match self.page(at >> 12) {
             Page::Unmapped => None,
-            Page::ReadOnly(place) | Page::Writable(place) => Some(word_place(place, at)),
+            Page::ReadOnly(shift) | Page::Writable(shift) => Some(shifted_place(at, shift)),
         }
     }
 
-    /// Where the word that an address lies in stands, if it may be written.
+    /// Where the byte of an address stands, if it may be written.
     #[inline(always)]
     #[tactic(auto, unfolding(crate::specs::Pages::cell, crate::specs::Pages::memory_of))]
     fn writable_cell(&self, at: u32) -> Option<usize>
         ensures { MatchOption result ((memory_of self.now).writable at
             ≡ false) (λ i. ((memory_of self.now).writable at ≡ true)
-            × (cell self.now (at / 4) ≡ Some i)) }
+            × (cell self.now at ≡ Some i)) }
     {
         match self.page(at >> 12) {
-            Page::Writable(place) => Some(word_place(place, at)),
+            Page::Writable(shift) => Some(shifted_place(at, shift)),
             _ => None,
-        }
-    }
-
-    /// The word that an address lies in, if it can be read.
-    #[inline(always)]
-    fn word_around(&self, at: u32) -> Option<u32>
-        ensures { result ≡ word_in self.now (at / 4) }
-    {
-        match self.readable_cell(at) {
-            Some(cell) => Some(self.words[cell]),
-            None => None,
         }
     }
 }
 
-/// It shows the bytes that can be read. A byte that is put changes one lane of a word.
+/// It shows the bytes that can be read.
 impl View for GuestMemory {
     ghost use Rattle.guest_memory.specs.Pages.{Pages, memory_of, put_byte_at};
     ghost use Rattle.guest_memory.specs.ViewLaws as laws;
@@ -238,8 +258,8 @@ impl View for GuestMemory {
     #[inline(always)]
     #[tactic(auto, unfolding(crate::specs::Pages::memory_of))]
     fn byte(&self, at: u32) -> Option<u8> {
-        match self.word_around(at) {
-            Some(word) => Some(lane(word, at % 4)),
+        match self.readable_cell(at) {
+            Some(cell) => Some(self.bytes[cell]),
             None => None,
         }
     }
@@ -259,7 +279,7 @@ impl View for GuestMemory {
     {
         match self.writable_cell(at) {
             Some(cell) => {
-                self.words[cell] = with_lane(self.words[cell], at % 4, b);
+                self.bytes[cell] = b;
                 true
             }
             None => false,
@@ -275,15 +295,15 @@ impl View for GuestMemory {
     ghost writable_stays = { λ c a b x h w. laws.writable_stays c a b x };
 }
 
-/// The page whose words stand at the given place.
-fn page_at(place: u32, writable: bool) -> Page
-    ensures there { place_of result ≡ Some place }
+/// The page whose bytes are shifted by so much.
+fn page_at(shift: u32, writable: bool) -> Page
+    ensures there { shift_of result ≡ Some shift }
     ensures kind { is_writable result ≡ writable }
 {
     if writable {
-        Page::Writable(place)
+        Page::Writable(shift)
     } else {
-        Page::ReadOnly(place)
+        Page::ReadOnly(shift)
     }
 }
 

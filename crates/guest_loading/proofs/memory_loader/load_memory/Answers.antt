@@ -1,17 +1,11 @@
-use Rattle.std.proofs.Common.{ℕ, List, sym, ◌∙◌, subst}
+use Rattle.std.proofs.Common.{◌∙◌}
 use Rattle.elf_image.specs.Start.{image_of}
-use Rattle.guest_loading.specs.Loading.{AreZeros}
 use Rattle.guest_loading.proofs.LoadLemmas.{below_none, below_gap, below_all}
 use Rattle.guest_loading.proofs.ImageLemmas.{no_byte, no_writing}
 use Rattle.guest_loading.proofs.memory_loader.load_memory.Goals as goal
 
 pub add_pages-requires-clause-earlier : goal.add_pages-requires-clause-earlier
 add_pages-requires-clause-earlier c = c.in_ok-memory.ensures ∙ below_none (image_of c.args.image.now).memory
-
-pub add_pages-requires-clause-zeros : goal.add_pages-requires-clause-zeros
-add_pages-requires-clause-zeros c =
-    let P : List ℕ → Type 0 = λ xs. AreZeros xs in
-    subst P (sym c.deref.ensures.value) (record { size = c.in_ok-zeros.ensures.size; zero = c.in_ok-zeros.ensures.zero })
 
 -- no page of the gap can be read
 pub add_pages-requires-2-clause-earlier : goal.add_pages-requires-2-clause-earlier
@@ -21,11 +15,6 @@ add_pages-requires-2-clause-earlier c =
     ∙ below_gap (image_of v).memory c.gap-gap.result.start c.gap-gap.result.end c.gap-gap.ensures.ordered
     (λ a ge lt. no_byte v a (c.gap-gap.ensures.unused _ ge lt))
     (λ a ge lt. no_writing v a (c.gap-gap.ensures.unused _ ge lt))
-
-pub add_pages-requires-2-clause-zeros : goal.add_pages-requires-2-clause-zeros
-add_pages-requires-2-clause-zeros c =
-    let P : List ℕ → Type 0 = λ xs. AreZeros xs in
-    subst P (sym c.deref-2.ensures.value) (record { size = c.in_ok-zeros.ensures.size; zero = c.in_ok-zeros.ensures.zero })
 
 pub returns : goal.returns
 returns c =
