@@ -6,7 +6,7 @@ use Rattle.std.specs.Cmp.Lexicographic.{slice_cmp}
 use Rattle.std.specs.Ordering.{is_eq, nat_cmp}
 use Rattle.std.proofs.lemmas.Map.Text.{is_eq-slice_cmp, btree_map_updates_str}
 use Rattle.std.proofs.lemmas.Slice.Eq.{bytes_eq-Decides}
-use Rattle.asm_lines.specs.Operands.{LabelList, address_of, first_of}
+use Rattle.asm_lines.specs.Operands.{LabelList, label_address, first_of}
 use Rattle.asm_lines.specs.KeptLabels.{kept_labels}
 
 same : (r s : Bool) → (r ≡ true → s ≡ true) → (s ≡ true → r ≡ true) → r ≡ s
@@ -21,7 +21,7 @@ bytes_eq_sym xs ys =
     (λ h. (bytes_eq-Decides xs ys).1 (sym ((bytes_eq-Decides ys xs).0 h)))
 
 found : (es : List (Bor (List ℕ) × ℕ)) (name : List ℕ)
-    → lookup (λ k. is_eq (slice_cmp nat_cmp name k.now)) es ≡ address_of (map (λ e. (e.0.now, e.1)) es) name
+    → lookup (λ k. is_eq (slice_cmp nat_cmp name k.now)) es ≡ label_address (map (λ e. (e.0.now, e.1)) es) name
 found [] name = refl
 found (e ∷ es) name =
     ap (λ t. cond t (Some e.1) (lookup (λ k. is_eq (slice_cmp nat_cmp name k.now)) es)) (is_eq-slice_cmp name e.0.now ∙ bytes_eq_sym name e.0.now)
@@ -29,7 +29,7 @@ found (e ∷ es) name =
 
 -- a look-up in the map finds the address of the name
 pub found_in : (m : BTreeMap (Bor (List ℕ)) ℕ) (name : List ℕ)
-    → tree.get_by (λ k. slice_cmp nat_cmp name k.now) m ≡ address_of (kept_labels m) name
+    → tree.get_by (λ k. slice_cmp nat_cmp name k.now) m ≡ label_address (kept_labels m) name
 found_in m name = found m.entries name
 
 behind_first : (new : List ℕ) (other : List ℕ) (old : Option ℕ) (at : ℕ) → (bytes_eq new other ≡ true → old ≡ None)
@@ -47,13 +47,13 @@ behind_first new other old at h = by (bytes_eq new other) h old
 -- a name that the map does not have is added
 pub added : (name : List ℕ) (m n : BTreeMap (Bor (List ℕ)) ℕ) (at : ℕ)
     → tree.UpdatesBy (λ x y. slice_cmp nat_cmp x.now y.now) (λ k. slice_cmp nat_cmp name k.now) m n (Some at)
-    → address_of (kept_labels m) name ≡ None
-    → (other : List ℕ) → address_of (kept_labels n) other ≡ first_of (address_of (kept_labels m) other) (cond (bytes_eq name other) (Some at) None)
+    → label_address (kept_labels m) name ≡ None
+    → (other : List ℕ) → label_address (kept_labels n) other ≡ first_of (label_address (kept_labels m) other) (cond (bytes_eq name other) (Some at) None)
 added name m n at h absent other =
     sym (found_in n other) ∙ btree_map_updates_str name m n (Some at) h other
     ∙ ap (λ o. cond (bytes_eq name other) (Some at) o) (found_in m other)
-    ∙ behind_first name other (address_of (kept_labels m) other) at
-    (λ e. ap (λ x. address_of (kept_labels m) x) (sym ((bytes_eq-Decides name other).0 e)) ∙ absent)
+    ∙ behind_first name other (label_address (kept_labels m) other) at
+    (λ e. ap (λ x. label_address (kept_labels m) x) (sym ((bytes_eq-Decides name other).0 e)) ∙ absent)
 
 none_of : (o : Option ℕ) → is_some o ≡ false → o ≡ None
 none_of None h = refl
@@ -62,8 +62,8 @@ none_of (Some a) h = cc
 -- the same of a map whose labels are known
 pub added_to : (name : List ℕ) (m n : BTreeMap (Bor (List ℕ)) ℕ) (at : ℕ) (labels : LabelList)
     → tree.UpdatesBy (λ x y. slice_cmp nat_cmp x.now y.now) (λ k. slice_cmp nat_cmp name k.now) m n (Some at)
-    → kept_labels m ≡ labels → is_some (address_of labels name) ≡ false
-    → (other : List ℕ) → address_of (kept_labels n) other ≡ first_of (address_of labels other) (cond (bytes_eq name other) (Some at) None)
+    → kept_labels m ≡ labels → is_some (label_address labels name) ≡ false
+    → (other : List ℕ) → label_address (kept_labels n) other ≡ first_of (label_address labels other) (cond (bytes_eq name other) (Some at) None)
 added_to name m n at labels h e f other =
-    added name m n at h (ap (λ l. address_of l name) e ∙ none_of (address_of labels name) f) other
-    ∙ ap (λ l. first_of (address_of l other) (cond (bytes_eq name other) (Some at) None)) e
+    added name m n at h (ap (λ l. label_address l name) e ∙ none_of (label_address labels name) f) other
+    ∙ ap (λ l. first_of (label_address l other) (cond (bytes_eq name other) (Some at) None)) e

@@ -2,7 +2,7 @@
 use Rattle.std.proofs.Common.{◌≡◌, ℕ, ◌-◌, ◌≤◌, ◌++◌, Bool, true, false, cond, List, [], ◌∷◌, length, take, suc, ◌&&◌, sym, ◌∙◌, Some, None, arith, refl, ap}
 use Rattle.std.proofs.lemmas.Grind.{common_steps}
 use Rattle.std.specs.Prelude.{◌==◌, slice_index}
-use Rattle.asm_lines.specs.Lexical.{name_before, is_name, before, from, up_to_last, all, is_blank}
+use Rattle.asm_lines.specs.Lexical.{name_before, is_name, before_byte, from, up_to_last, all, is_blank}
 
 pub length_from : (test : ℕ → Bool) (bs : List ℕ) → length (from test bs) ≤ length bs
 length_from test [] = omega arith
@@ -17,10 +17,10 @@ pub take_none : (n : ℕ) (bs : List ℕ) → [] ≡ take (n - n) bs
 take_none n bs = let e : n - n ≡ 0 = omega arith in rw e refl
 
 -- what stands before the first byte that passes is the rest of what stands from it on
-pub before_from : (test : ℕ → Bool) (bs : List ℕ) → before test bs ≡ take (length bs - length (from test bs)) bs
+pub before_from : (test : ℕ → Bool) (bs : List ℕ) → before_byte test bs ≡ take (length bs - length (from test bs)) bs
 before_from test [] = refl
 before_from test (b ∷ bs) =
-    elim (test b) as (λ t. cond t [] (b ∷ before test bs) ≡ take (length (b ∷ bs) - length (cond t (b ∷ bs) (from test bs))) (b ∷ bs)) [
+    elim (test b) as (λ t. cond t [] (b ∷ before_byte test bs) ≡ take (length (b ∷ bs) - length (cond t (b ∷ bs) (from test bs))) (b ∷ bs)) [
       | true ↦ take_none (length (b ∷ bs)) (b ∷ bs)
       | false ↦ ap (λ xs. b ∷ xs) (before_from test bs) ∙ sym (take_more (length bs) (length (from test bs)) b bs (length_from test bs))
     ]

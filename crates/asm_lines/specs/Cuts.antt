@@ -1,6 +1,6 @@
 -- What stands behind the first part of a text, where something does.
 use Rattle.std.specs.Prelude.{ℕ, List, [], ◌∷◌, Option, Some, None, Result, Ok, Err}
-use Rattle.asm_lines.specs.Lexical.{lines_of, operands_of}
+use Rattle.asm_lines.specs.Lexical.{lines_of_text, operand_texts}
 
 -- the bytes behind the first of some
 abbrev pub behind : List ℕ → Option (List ℕ)
@@ -9,11 +9,11 @@ behind (b ∷ bs) = Some bs
 
 abbrev pub lines_behind : Option (List ℕ) → List (List ℕ)
 lines_behind None = []
-lines_behind (Some text) = lines_of text
+lines_behind (Some text) = lines_of_text text
 
 abbrev pub operands_behind : Option (List ℕ) → List (List ℕ)
 operands_behind None = []
-operands_behind (Some rest) = operands_of rest
+operands_behind (Some rest) = operand_texts rest
 
 -- two values in their order
 abbrev pub pair_list : Result (ℕ × ℕ) ℕ → Result (List ℕ) ℕ

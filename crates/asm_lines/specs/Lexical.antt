@@ -4,13 +4,13 @@ use Rattle.std.specs.List.{slice_split}
 use Rattle.std.specs.Str.{byte}
 
 -- the lines of a text, which line feeds end; what follows the last one is a line too
-abbrev pub lines_of : List ℕ → List (List ℕ)
-lines_of text = slice_split (λ b. b == 10) text
+abbrev pub lines_of_text : List ℕ → List (List ℕ)
+lines_of_text text = slice_split (λ b. b == 10) text
 
 -- the bytes before the first one that passes a test
-abbrev pub before : (ℕ → Bool) → List ℕ → List ℕ
-before test [] = []
-before test (b ∷ bs) = cond (test b) [] (b ∷ before test bs)
+abbrev pub before_byte : (ℕ → Bool) → List ℕ → List ℕ
+before_byte test [] = []
+before_byte test (b ∷ bs) = cond (test b) [] (b ∷ before_byte test bs)
 
 -- the bytes from the first one on that passes a test
 abbrev pub from : (ℕ → Bool) → List ℕ → List ℕ
@@ -34,24 +34,24 @@ up_to_last other [] = []
 up_to_last other (b ∷ bs) = cond (all (is_blank other) (b ∷ bs)) [] (b ∷ up_to_last other bs)
 
 -- without the blanks at both ends: spaces, and another byte that counts as one
-abbrev pub trimmed : ℕ → List ℕ → List ℕ
-trimmed other bs = up_to_last other (from (is_dark other) bs)
+abbrev pub trimmed_line : ℕ → List ℕ → List ℕ
+trimmed_line other bs = up_to_last other (from (is_dark other) bs)
 
 -- a line without its comment, and without spaces and tabs at its ends
 abbrev pub bare_line : List ℕ → List ℕ
-bare_line line = trimmed 9 (before (λ b. b == byte "#") line)
+bare_line line = trimmed_line 9 (before_byte (λ b. b == byte "#") line)
 
 -- the first word of a bare line, up to a space
 abbrev pub first_word : List ℕ → List ℕ
-first_word line = before (λ b. b == 32) line
+first_word line = before_byte (λ b. b == 32) line
 
 -- what follows the first word and its spaces
 abbrev pub after_word : List ℕ → List ℕ
 after_word line = from (is_dark 32) (from (λ b. b == 32) line)
 
 -- the operands, which commas separate, with spaces around them
-abbrev pub operands_of : List ℕ → List (List ℕ)
-operands_of rest = map (trimmed 32) (slice_split (λ b. b == byte ",") rest)
+abbrev pub operand_texts : List ℕ → List (List ℕ)
+operand_texts rest = map (trimmed_line 32) (slice_split (λ b. b == byte ",") rest)
 
 -- a letter or `_`
 abbrev pub begins_name : ℕ → Bool

@@ -39,5 +39,5 @@ abbrev pub bare_line_is : List ℕ → Line
 bare_line_is [] = Nothing
 bare_line_is (b ∷ bs) = by_label (b ∷ bs) (label_of (b ∷ bs))
 
-abbrev pub line_of : List ℕ → Line
-line_of line = bare_line_is (bare_line line)
+abbrev pub line_of_text : List ℕ → Line
+line_of_text line = bare_line_is (bare_line line)

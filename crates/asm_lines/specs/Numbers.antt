@@ -29,9 +29,9 @@ hexadecimal_or_decimal (b ∷ c ∷ bs) =
     cond (b == byte "0" && c == byte "x") (digits_number 16 bs) (digits_number 10 (b ∷ c ∷ bs))
 
 -- a number: decimal digits with an optional `-`, or `0x` and hexadecimal digits
-abbrev pub number_of : List ℕ → Option Number
-number_of [] = None
-number_of (b ∷ bs) =
+abbrev pub written_number : List ℕ → Option Number
+written_number [] = None
+written_number (b ∷ bs) =
     cond (b == byte "-") (option_map (λ n. record { negative = true; magnitude = n })
     (digits_number 10 bs))
     (option_map (λ n. record { negative = false; magnitude = n }) (hexadecimal_or_decimal (b ∷ bs)))
@@ -58,5 +58,5 @@ abbrev pub is_between : ℕ → ℕ → Number → Bool
 is_between low high n = cond n.negative (nat_le n.magnitude low) (nat_le n.magnitude high)
 
 -- the low bits of a number in two's complement, for a number from -2^bits on
-abbrev pub low_bits : ℕ → Number → ℕ
-low_bits bits n = cond n.negative (2 ^ bits - n.magnitude) n.magnitude % 2 ^ bits
+abbrev pub low_bits_of : ℕ → Number → ℕ
+low_bits_of bits n = cond n.negative (2 ^ bits - n.magnitude) n.magnitude % 2 ^ bits

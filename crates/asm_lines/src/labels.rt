@@ -33,7 +33,7 @@ impl<'a> Labels<'a> {
 
     /// The address of a name.
     pub fn address_of(&self, name: &'a [u8]) -> Option<u64>
-        ensures { result ≡ operands.address_of self.now name.now }
+        ensures { result ≡ operands.label_address self.now name.now }
     {
         self.addresses.get(&name).copied()
     }
@@ -44,10 +44,10 @@ impl<'a> Labels<'a> {
     /// Where there is no memory for one more.
     pub fn add(&mut self, name: &'a [u8], address: u64) -> Result<bool, AllocError>
         ensures is_new { IfOk result (λ new. new
-            ≡ cond (is_some (operands.address_of self.old name.now)) false true) }
+            ≡ cond (is_some (operands.label_address self.old name.now)) false true) }
         ensures addresses { OnOk result ((other : List ℕ)
-            → operands.address_of self.new other
-            ≡ operands.first_of (operands.address_of self.old other)
+            → operands.label_address self.new other
+            ≡ operands.first_of (operands.label_address self.old other)
             (cond (bytes_eq name.now other) (Some address) None)) }
     {
         if self.address_of(name).is_some() {

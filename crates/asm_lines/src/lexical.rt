@@ -1,7 +1,7 @@
 //! Lines, words and names.
 ghost use Rattle.std.specs.Prelude.{◌≡◌, ◌==◌, ◌||◌, ◌<◌, ◌≤◌, ◌∷◌, IfSome, length, option_copied};
 ghost use Rattle.asm_lines.specs.Cuts.{behind, lines_behind};
-ghost use Rattle.asm_lines.specs.Lexical.{lines_of, before, from, is_dark, up_to_last, trimmed, all, begins_name, goes_on_name};
+ghost use Rattle.asm_lines.specs.Lexical.{lines_of_text, before_byte, from, is_dark, up_to_last, trimmed_line, all, begins_name, goes_on_name};
 ghost use Rattle.asm_lines.specs.Lexical as lexical;
 
 /// A line without its comment, and without spaces and tabs at its ends.
@@ -18,7 +18,7 @@ pub fn first_word(line: &[u8]) -> &[u8]
     before_byte(line, b' ')
 }
 
-/// What follows the first word of a bare line and the spaces behind it.
+/// What follows the first word of a bare line and the spaces after it.
 pub fn after_word(line: &[u8]) -> &[u8]
     ensures { result.now ≡ lexical.after_word line.now }
 {
@@ -37,7 +37,7 @@ pub fn is_name(word: &[u8]) -> bool
 
 /// Without the blanks at both ends: spaces and `other`.
 pub fn trim(bytes: &[u8], other: u8) -> &[u8]
-    ensures { result.now ≡ trimmed other bytes.now }
+    ensures { result.now ≡ trimmed_line other bytes.now }
 {
     trim_end(trim_start(bytes, other), other)
 }
@@ -45,13 +45,13 @@ pub fn trim(bytes: &[u8], other: u8) -> &[u8]
 /// The bytes before the first `stop`, or all.
 #[tactic(auto, using(crate::proofs::LexicalLemmas::before_from, crate::proofs::LexicalLemmas::length_from))]
 pub fn before_byte(bytes: &[u8], stop: u8) -> &[u8]
-    ensures { result.now ≡ before (λ b. b == stop) bytes.now }
+    ensures { result.now ≡ before_byte (λ b. b == stop) bytes.now }
 {
     let rest = from_byte(bytes, stop);
     &bytes[..bytes.len() - rest.len()]
 }
 
-/// What stands behind the first `stop`, where there is one.
+/// What is after the first `stop`, if there is one.
 pub fn behind_byte(bytes: &[u8], stop: u8) -> Option<&[u8]>
     ensures value { option_copied result ≡ behind (from (λ b. b == stop) bytes.now) }
     ensures shorter { IfSome result (λ rest. length rest.now < length bytes.now) }
@@ -62,10 +62,10 @@ pub fn behind_byte(bytes: &[u8], stop: u8) -> Option<&[u8]>
     }
 }
 
-/// The first line of a text, and what stands behind its line feed.
+/// The first line of a text, and what is after its line feed.
 #[tactic(auto, using(crate::proofs::OperandLemmas::first_line))]
 pub fn first_line(text: &[u8]) -> (&[u8], Option<&[u8]>)
-    ensures lines { lines_of text.now ≡ result.0.now ∷ lines_behind (option_copied result.1) }
+    ensures lines { lines_of_text text.now ≡ result.0.now ∷ lines_behind (option_copied result.1) }
     ensures shorter { IfSome result.1 (λ rest. length rest.now < length text.now) }
 {
     (before_byte(text, b'\n'), behind_byte(text, b'\n'))
@@ -144,7 +144,7 @@ fn can_go_on(b: u8) -> bool
     can_begin(b) || (48 <= b && b <= 57)
 }
 
-/// The name in a word that is a name and the byte `stop` behind it.
+/// The name in a word that is a name and the byte `stop` after it.
 #[tactic(auto, using(crate::proofs::LexicalLemmas::name_before_end))]
 pub fn name_before(stop: u8, word: &[u8]) -> Option<&[u8]>
     ensures { option_copied result ≡ lexical.name_before stop word.now }

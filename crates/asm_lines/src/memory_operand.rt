@@ -18,7 +18,7 @@ pub fn in_memory<'a>(labels: &Labels<'a>, text: &'a [u8]) -> Result<(u16, u8), u
     }
 }
 
-/// What stands before and behind the opening at a place.
+/// What is before and after the opening at a place.
 fn around<'a>(
     labels: &Labels<'a>,
     inner: &'a [u8],
@@ -39,7 +39,7 @@ fn around<'a>(
 
 /// Both values, or the lowest kind.
 fn both(first: Result<u16, u32>, second: Result<u8, u32>) -> Result<(u16, u8), u32>
-    ensures { pair_list result ≡ operands.both (operands.one first) (operands.one second) }
+    ensures { pair_list result ≡ operands.both_values (operands.one first) (operands.one second) }
 {
     match (first, second) {
         (Ok(x), Ok(y)) => Ok((x, y)),

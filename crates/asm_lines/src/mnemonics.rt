@@ -1,7 +1,7 @@
 //! The texts of the mnemonics.
 ghost use Rattle.std.specs.Prelude.{◌≡◌};
 ghost use Rattle.asm_lines.specs.Mnemonics as texts;
-ghost use Rattle.mips_decode.specs.Mnemonics as names;
+ghost use Rattle.mips_definition.specs.Mnemonics as names;
 
 use crate::mnemonic::Mnemonic;
 use mips_decode::{

@@ -1,7 +1,7 @@
 /// A number as it is written: a sign and a magnitude.
 #[derive(Clone, Copy)]
 pub struct Number {
-    /// Whether a `-` stands before the digits.
+    /// Whether a `-` is before the digits.
     pub negative: bool,
     /// What the digits are.
     pub magnitude: u64,

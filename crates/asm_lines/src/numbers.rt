@@ -10,7 +10,7 @@ const CAP: u64 = 1 << 40;
 
 /// The number that a word is: decimal digits with an optional `-`, or `0x` and hexadecimal digits.
 pub fn number_of(word: &[u8]) -> Option<Number>
-    ensures { result ≡ option_map kept (numbers.number_of word.now) }
+    ensures { result ≡ option_map kept (numbers.written_number word.now) }
 {
     match word {
         [b'-', digits @ ..] => digits_number(10, digits).map(|magnitude| Number {

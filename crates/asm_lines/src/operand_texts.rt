@@ -1,15 +1,15 @@
 //! The texts of operands.
 ghost use Rattle.std.specs.Prelude.{◌≡◌, ◌==◌, ◌∷◌, [], IfSome, is_some, length, option_copied};
 ghost use Rattle.asm_lines.specs.Cuts.{operands_behind};
-ghost use Rattle.asm_lines.specs.Lexical.{operands_of};
+ghost use Rattle.asm_lines.specs.Lexical.{operand_texts};
 
 use crate::lexical::{before_byte, behind_byte, trim};
 
-/// The one operand of a line, where it has one.
+/// The one operand of a line, if it has one.
 #[tactic(auto, using(crate::proofs::OperandLemmas::not_one))]
 pub fn one_operand(rest: &[u8]) -> Option<&[u8]>
-    ensures found { IfSome result (λ a. operands_of rest.now ≡ a.now ∷ []) }
-    ensures count { is_some result ≡ (length (operands_of rest.now) == 1) }
+    ensures found { IfSome result (λ a. operand_texts rest.now ≡ a.now ∷ []) }
+    ensures count { is_some result ≡ (length (operand_texts rest.now) == 1) }
 {
     let (first, behind) = first_operand(rest);
     match behind {
@@ -18,11 +18,11 @@ pub fn one_operand(rest: &[u8]) -> Option<&[u8]>
     }
 }
 
-/// The two operands of a line, where it has two.
+/// The two operands of a line, if it has two.
 #[tactic(auto, using(crate::proofs::OperandLemmas::one_more))]
 pub fn two_operands(rest: &[u8]) -> Option<(&[u8], &[u8])>
-    ensures found { IfSome result (λ p. operands_of rest.now ≡ p.0.now ∷ p.1.now ∷ []) }
-    ensures count { is_some result ≡ (length (operands_of rest.now) == 2) }
+    ensures found { IfSome result (λ p. operand_texts rest.now ≡ p.0.now ∷ p.1.now ∷ []) }
+    ensures count { is_some result ≡ (length (operand_texts rest.now) == 2) }
 {
     let (first, behind) = first_operand(rest);
     match behind {
@@ -34,11 +34,11 @@ pub fn two_operands(rest: &[u8]) -> Option<(&[u8], &[u8])>
     }
 }
 
-/// The three operands of a line, where it has three.
+/// The three operands of a line, if it has three.
 #[tactic(auto, using(crate::proofs::OperandLemmas::one_more))]
 pub fn three_operands(rest: &[u8]) -> Option<(&[u8], &[u8], &[u8])>
-    ensures found { IfSome result (λ p. operands_of rest.now ≡ p.0.now ∷ p.1.now ∷ p.2.now ∷ []) }
-    ensures count { is_some result ≡ (length (operands_of rest.now) == 3) }
+    ensures found { IfSome result (λ p. operand_texts rest.now ≡ p.0.now ∷ p.1.now ∷ p.2.now ∷ []) }
+    ensures count { is_some result ≡ (length (operand_texts rest.now) == 3) }
 {
     let (first, behind) = first_operand(rest);
     match behind {
@@ -50,10 +50,10 @@ pub fn three_operands(rest: &[u8]) -> Option<(&[u8], &[u8], &[u8])>
     }
 }
 
-/// The first operand, and what stands behind the first comma.
+/// The first operand, and what is after the first comma.
 #[tactic(auto, using(crate::proofs::OperandLemmas::first_operand))]
 fn first_operand(rest: &[u8]) -> (&[u8], Option<&[u8]>)
-    ensures { operands_of rest.now ≡ result.0.now ∷ operands_behind (option_copied result.1) }
+    ensures { operand_texts rest.now ≡ result.0.now ∷ operands_behind (option_copied result.1) }
 {
     (trim(before_byte(rest, b','), b' '), behind_byte(rest, b','))
 }

@@ -11,7 +11,7 @@ use crate::numbers::{number_of, register_of};
 
 /// The number of the register that an operand is.
 pub fn register(text: &[u8]) -> Result<u8, u32>
-    ensures { result ≡ operands.register text.now }
+    ensures { result ≡ operands.register_operand text.now }
 {
     match register_of(text) {
         None => Err(WRONG_FORM),
@@ -31,7 +31,7 @@ pub fn amount(text: &[u8]) -> Result<u8, u32>
 
 /// The code of SYSCALL and BREAK, 0 to 1048575.
 pub fn code(text: &[u8]) -> Result<u32, u32>
-    ensures { result ≡ operands.code text.now }
+    ensures { result ≡ operands.code_operand text.now }
 {
     match number_between(0, 1_048_575, 20, text) {
         Ok(n) => Ok(n as u32),
@@ -71,7 +71,7 @@ pub fn number_between(low: u64, high: u64, bits: u32, text: &[u8]) -> Result<u64
     requires low_small { low < 1099511627776 }
     requires high_small { high < 1099511627776 }
     requires few_bits { bits ≤ 32 }
-    ensures value { result ≡ operands.number low high bits text.now }
+    ensures value { result ≡ operands.number_operand low high bits text.now }
     ensures small { IfOk result (λ v. v < 2 ^ bits) }
 {
     in_range(low, high, bits, number_of(text))
@@ -101,7 +101,7 @@ fn is_between(low: u64, high: u64, n: Number) -> bool
 
 fn low_bits(bits: u32, n: Number) -> u64
     requires { bits ≤ 32 }
-    ensures value { result ≡ numbers.low_bits bits n }
+    ensures value { result ≡ numbers.low_bits_of bits n }
     ensures small { result < 2 ^ bits }
 {
     let size = 1u64 << bits;

@@ -11,7 +11,7 @@ use crate::statement::Statement;
 
 /// What a line is.
 pub fn statement_of(line: &[u8]) -> Statement<'_>
-    ensures { line_of_statement result ≡ lines.line_of line.now }
+    ensures { line_of_statement result ≡ lines.line_of_text line.now }
 {
     of_bare_line(bare_line(line))
 }

@@ -2,31 +2,31 @@
 use Rattle.std.proofs.Common.{◌≡◌, ◌≢◌, ℕ, ◌*◌, ◌^◌, ◌==◌, nat_lt, Bool, true, false, not, ◌&&◌, ◌||◌, if◌then◌else◌, is_none, List, [], ◌∷◌, Option, Some, None, refl, sym, ap, subst, ◌∙◌, inl, inr, arith}
 use Rattle.std.specs.List.{AllByRecursion}
 use Rattle.std.proofs.lemmas.Bool.{cases_eq, eq-eqb, ne_eqb, lt-ltb, and_from, and_right}
-use Rattle.nv_words.specs.Words.{signed_of, wrapped}
-use Rattle.nv_events.specs.declared.call.Call.{Call}
-use Rattle.nv_events.specs.Question.{asked}
-use Rattle.nv_events.specs.Answer.{answered}
-use Rattle.nv_events.specs.Memory.{Memory}
-use Rattle.nv_events.specs.Turn.{Turn, leaves, asks, exit}
-use Rattle.mips_decode.specs.Memory.{with_byte}
-use Rattle.mips_decode.specs.State.{State, register, with_register}
+use Rattle.run_definition.specs.Words.{signed_of, wrapped}
+use Rattle.run_definition.specs.declared.call.Call.{Call}
+use Rattle.run_definition.specs.Question.{asked}
+use Rattle.run_definition.specs.Answer.{answered}
+use Rattle.run_definition.specs.Memory.{Memory}
+use Rattle.run_definition.specs.Turn.{Turn, leaves, asks, exit}
+use Rattle.mips_definition.specs.Memory.{with_byte}
+use Rattle.mips_definition.specs.State.{State, register, with_register}
 use Rattle.mips_decode.specs.Encoding.{word_of}
-use Rattle.mips_decode.specs.Effect.{Effect, goes_on, branches, skips_slot, faults, read_align_fault, read_unmapped_fault, write_align_fault, write_refused_fault}
-use Rattle.mips_decode.specs.Arithmetic.{arithmetic_result, arithmetic_immediate_result, logical_immediate_result, shifted, variable_shifted, product_hi, product_lo}
-use Rattle.mips_decode.specs.Branches.{after_slot, linked, taken_or_not, branch_effect, equal_likely, equal_taken, zero_likely, zero_taken, sign_likely, sign_linked, sign_taken}
-use Rattle.mips_decode.specs.Targets.{jump_target}
-use Rattle.mips_decode.specs.Loads.{address_of, is_linked, load_aligned, loaded, store_aligned, store_allowed, stored}
-use Rattle.mips_decode.specs.Traps.{trap_by, trap_holds, trap_immediate_holds}
-use Rattle.mips_decode.specs.Step.{advanced, after_call, call_of, called, into_slot, past_slot, question_of, result_effect}
-use Rattle.mips_decode.specs.declared.inst.Inst.{Inst}
-use Rattle.mips_decode.specs.declared.inst.Inst.TheVariants.{Arithmetic, VariableShift, Shift, JumpRegister, JumpAndLinkRegister, Syscall, Break, MoveFrom, MoveTo, Product, BranchSign, Jump, BranchEqual, BranchZero, ArithmeticImmediate, LogicalImmediate, LoadUpper, Load, Store, Trap, TrapImmediate, Sync, LoadLinked, StoreConditional, Reserved, Float}
-use Rattle.mips_decode.specs.declared.names.branch_sign_name.BranchSignName.{BranchSignName}
-use Rattle.mips_decode.specs.declared.names.branch_sign_name.BranchSignName.TheVariants.{Bltz, Bgez, Bltzal, Bgezal, Bltzl, Bgezl, Bltzall, Bgezall}
-use Rattle.mips_decode.specs.declared.names.hi_lo.HiLo.TheVariants.{Hi, Lo}
-use Rattle.mips_decode.specs.declared.names.jump_name.JumpName.TheVariants.{J, Jal}
-use Rattle.mips_decode.specs.declared.names.load_name.LoadName.{LoadName}
-use Rattle.mips_decode.specs.declared.names.load_name.LoadName.TheVariants.{Lb, Lh, Lwl, Lw, Lbu, Lhu, Lwr}
-use Rattle.mips_decode.specs.declared.names.store_name.StoreName.TheVariants.{Sw}
+use Rattle.mips_definition.specs.Effect.{Effect, goes_on, branches, skips_slot, faults, read_align_fault, read_unmapped_fault, write_align_fault, write_refused_fault}
+use Rattle.mips_definition.specs.Arithmetic.{arithmetic_result, arithmetic_immediate_result, logical_immediate_result, shifted, variable_shifted, product_hi, product_lo}
+use Rattle.mips_definition.specs.Branches.{after_slot, with_return_link, taken_or_not, branch_effect, equal_likely, equal_taken, zero_likely, zero_taken, sign_likely, sign_linked, sign_taken}
+use Rattle.mips_definition.specs.Targets.{jump_target}
+use Rattle.mips_definition.specs.Loads.{access_address, is_linked, load_aligned, loaded_word, store_aligned, store_allowed, memory_stored}
+use Rattle.mips_definition.specs.Traps.{trap_by, trap_holds, trap_immediate_holds}
+use Rattle.mips_definition.specs.Step.{advanced, after_call, call_of, called, into_slot, past_slot, question_of, result_effect}
+use Rattle.mips_definition.specs.declared.inst.Inst.{Inst}
+use Rattle.mips_definition.specs.declared.inst.Inst.TheVariants.{Arithmetic, VariableShift, Shift, JumpRegister, JumpAndLinkRegister, Syscall, Break, MoveFrom, MoveTo, Product, BranchSign, Jump, BranchEqual, BranchZero, ArithmeticImmediate, LogicalImmediate, LoadUpper, Load, Store, Trap, TrapImmediate, Sync, LoadLinked, StoreConditional, Reserved, Float}
+use Rattle.mips_definition.specs.declared.names.branch_sign_name.BranchSignName.{BranchSignName}
+use Rattle.mips_definition.specs.declared.names.branch_sign_name.BranchSignName.TheVariants.{Bltz, Bgez, Bltzal, Bgezal, Bltzl, Bgezl, Bltzall, Bgezall}
+use Rattle.mips_definition.specs.declared.names.hi_lo.HiLo.TheVariants.{Hi, Lo}
+use Rattle.mips_definition.specs.declared.names.jump_name.JumpName.TheVariants.{J, Jal}
+use Rattle.mips_definition.specs.declared.names.load_name.LoadName.{LoadName}
+use Rattle.mips_definition.specs.declared.names.load_name.LoadName.TheVariants.{Lb, Lh, Lwl, Lw, Lbu, Lhu, Lwr}
+use Rattle.mips_definition.specs.declared.names.store_name.StoreName.TheVariants.{Sw}
 use Rattle.delay_slots.specs.Turns.{done, done_by}
 use Rattle.block_builder.specs.Registers.{Register, general, special, read_by, written_by, written_by_branch_sign}
 use Rattle.block_builder.specs.Dependence.{held, AgreeOn, KeepsOthers, ChangesOnly, GoAlike}
@@ -76,9 +76,9 @@ module _ (s : State) where
   changes_branch true target = none_written (into_slot s target) refl refl refl
   changes_branch false target = none_written (past_slot s) refl refl refl
 
-  changes_link : (goes : Bool) (target : ℕ) → ChangesOnly (general 31 ∷ []) s (done_by (if goes then branches (linked s 31) target else skips_slot (linked s 31)) s)
-  changes_link true target = one_written (into_slot (linked s 31) target) 31 (after_slot s) refl refl refl
-  changes_link false target = one_written (past_slot (linked s 31)) 31 (after_slot s) refl refl refl
+  changes_link : (goes : Bool) (target : ℕ) → ChangesOnly (general 31 ∷ []) s (done_by (if goes then branches (with_return_link s 31) target else skips_slot (with_return_link s 31)) s)
+  changes_link true target = one_written (into_slot (with_return_link s 31) target) 31 (after_slot s) refl refl refl
+  changes_link false target = one_written (past_slot (with_return_link s 31)) 31 (after_slot s) refl refl refl
 
   changes_sign : (name : BranchSignName) (imm : ℕ) (taken : Bool)
       → ChangesOnly (written_by_branch_sign name) s (done_by (branch_effect (sign_likely name) taken s (sign_linked name s) imm) s)
@@ -122,7 +122,7 @@ module _ (s : State) where
   changes_only (VariableShift name rs rt rd) = let value = variable_shifted name (register s rt) (register s rs) in one_written (advanced (with_register s rd value)) rd value refl refl refl
   changes_only (Shift name rt rd sa) = let value = shifted name (register s rt) sa in one_written (advanced (with_register s rd value)) rd value refl refl refl
   changes_only (JumpRegister rs) = none_written (into_slot s (register s rs)) refl refl refl
-  changes_only (JumpAndLinkRegister rs rd) = one_written (into_slot (linked s rd) (register s rs)) rd (after_slot s) refl refl refl
+  changes_only (JumpAndLinkRegister rs rd) = one_written (into_slot (with_return_link s rd) (register s rs)) rd (after_slot s) refl refl refl
   changes_only (Syscall code) = changes_call (register s 2 == 1)
   changes_only (Break code) = tt
   changes_only (MoveFrom Hi rd) = one_written (advanced (with_register s rd s.hi)) rd s.hi refl refl refl
@@ -132,7 +132,7 @@ module _ (s : State) where
   changes_only (Product name rs rt) = both_written (product_hi name (register s rs) (register s rt)) (product_lo name (register s rs) (register s rt))
   changes_only (BranchSign name rs imm) = changes_sign name imm (sign_taken name (signed_of (register s rs)))
   changes_only (Jump J index) = none_written (into_slot s (jump_target s.pc index)) refl refl refl
-  changes_only (Jump Jal index) = one_written (into_slot (linked s 31) (jump_target s.pc index)) 31 (after_slot s) refl refl refl
+  changes_only (Jump Jal index) = one_written (into_slot (with_return_link s 31) (jump_target s.pc index)) 31 (after_slot s) refl refl refl
   changes_only (BranchEqual name rs rt imm) =
       let taken = equal_taken name (register s rs) (register s rt) in
       changes_branch (not (equal_likely name) || taken) (taken_or_not s taken imm)
@@ -143,24 +143,24 @@ module _ (s : State) where
   changes_only (LogicalImmediate name rs rt imm) = let value = logical_immediate_result name (register s rs) imm in one_written (advanced (with_register s rt value)) rt value refl refl refl
   changes_only (LoadUpper rt imm) = let value = imm * 2 ^ 16 in one_written (advanced (with_register s rt value)) rt value refl refl refl
   changes_only (Load name rs rt imm) =
-      let a = address_of s rs imm in
-      let value = loaded name s.order s.memory a (register s rt) in
+      let a = access_address s rs imm in
+      let value = loaded_word name s.order s.memory a (register s rt) in
       changes_load (general rt ∷ []) (with_register s rt value) a (load_aligned name a) (is_none (s.memory.byte a)) (one_written (advanced (with_register s rt value)) rt value refl refl refl)
   changes_only (Store name rs rt imm) =
-      let a = address_of s rs imm in
-      let t : State = record s { memory = stored name s.order s.memory a (register s rt) } in
+      let a = access_address s rs imm in
+      let t : State = record s { memory = memory_stored name s.order s.memory a (register s rt) } in
       changes_store [] t a (store_aligned name a) (store_allowed name s.order s.memory a) (none_written (advanced t) refl refl refl)
   changes_only (Trap name rs rt code) = changes_trap (trap_holds name (register s rs) (register s rt)) (word_of (Trap name rs rt code))
   changes_only (TrapImmediate name rs imm) = changes_trap (trap_immediate_holds name (register s rs) imm) (word_of (TrapImmediate name rs imm))
   changes_only (Sync sa) = none_written (advanced s) refl refl refl
   changes_only (LoadLinked rs rt imm) =
-      let a = address_of s rs imm in
-      let value = loaded Lw s.order s.memory a (register s rt) in
+      let a = access_address s rs imm in
+      let value = loaded_word Lw s.order s.memory a (register s rt) in
       let t : State = record (with_register s rt value) { load_link = Some a } in
       changes_load (general rt ∷ []) t a (load_aligned Lw a) (is_none (s.memory.byte a)) (one_written (advanced t) rt value refl refl refl)
   changes_only (StoreConditional rs rt imm) =
-      let a = address_of s rs imm in
-      let t : State = record (with_register s rt 1) { memory = stored Sw s.order s.memory a (register s rt); load_link = None } in
+      let a = access_address s rs imm in
+      let t : State = record (with_register s rt 1) { memory = memory_stored Sw s.order s.memory a (register s rt); load_link = None } in
       let u : State = record (with_register s rt 0) { load_link = None } in
       changes_store (general rt ∷ []) (if is_linked s a then t else u) a (store_aligned Sw a) (store_allowed Sw s.order s.memory a)
       (changes_choice (general rt ∷ []) t u (is_linked s a) (one_written (advanced t) rt 1 refl refl refl) (one_written (advanced u) rt 0 refl refl refl))
@@ -178,7 +178,7 @@ abbrev load_from : LoadName → State → ℕ → ℕ → ℕ → Effect
 load_from name s r a old =
     if not (load_aligned name a) then faults read_align_fault a
     else if is_none (s.memory.byte a) then faults read_unmapped_fault a
-    else goes_on (with_register s r (loaded name s.order s.memory a old))
+    else goes_on (with_register s r (loaded_word name s.order s.memory a old))
 
 -- a register that is written holds what was written, whatever it held
 written : (r value a b : ℕ) → (if r == 0 then 0 else if nat_lt 0 r && r == r then value else a) ≡ (if r == 0 then 0 else if nat_lt 0 r && r == r then value else b)
@@ -206,8 +206,8 @@ module _ (s : State) (registers : ℕ → ℕ) (hi lo : ℕ) where
   branch_alike false target = record { others = refl; same = tt }
 
   link_alike : (goes : Bool) (target : ℕ)
-      → GoAlike (general 31 ∷ []) (done_by (if goes then branches (linked s 31) target else skips_slot (linked s 31)) s)
-      (done_by (if goes then branches (linked (other s registers hi lo) 31) target else skips_slot (linked (other s registers hi lo) 31)) (other s registers hi lo))
+      → GoAlike (general 31 ∷ []) (done_by (if goes then branches (with_return_link s 31) target else skips_slot (with_return_link s 31)) s)
+      (done_by (if goes then branches (with_return_link (other s registers hi lo) 31) target else skips_slot (with_return_link (other s registers hi lo) 31)) (other s registers hi lo))
   link_alike true target = record { others = refl; same = (refl, tt) }
   link_alike false target = record { others = refl; same = (refl, tt) }
 
@@ -273,7 +273,7 @@ module _ (s : State) (registers : ℕ → ℕ) (hi lo : ℕ) where
 
   by_load : (name : LoadName) (a r old : ℕ)
       → GoAlike (general r ∷ []) (done_by (load_from name s r a old) s) (done_by (load_from name (other s registers hi lo) r a old) (other s registers hi lo))
-  by_load name a r old = load_alike (load_aligned name a) (is_none (s.memory.byte a)) a r (loaded name s.order s.memory a old)
+  by_load name a r old = load_alike (load_aligned name a) (is_none (s.memory.byte a)) a r (loaded_word name s.order s.memory a old)
 
   goes_alike : (i : Inst) → AllByRecursion (λ r. held (other s registers hi lo) r ≡ held s r) (read_by i) → GoAlike (written_by i) (done i s) (done i (other s registers hi lo))
   goes_alike (Arithmetic name rs rt rd) same = rw (same.0, same.1.0) (result_alike (word_of (Arithmetic name rs rt rd)) rd (arithmetic_result name (register s rs) (register s rt)))
@@ -310,25 +310,25 @@ module _ (s : State) (registers : ℕ → ℕ) (hi lo : ℕ) where
   goes_alike (ArithmeticImmediate name rs rt imm) same = rw same.0 (result_alike (word_of (ArithmeticImmediate name rs rt imm)) rt (arithmetic_immediate_result name (register s rs) imm))
   goes_alike (LogicalImmediate name rs rt imm) same = rw same.0 (writes_alike rt (logical_immediate_result name (register s rs) imm))
   goes_alike (LoadUpper rt imm) same = writes_alike rt (imm * 2 ^ 16)
-  goes_alike (Load Lb rs rt imm) same = rw same.0 (by_load Lb (address_of s rs imm) rt 0)
-  goes_alike (Load Lh rs rt imm) same = rw same.0 (by_load Lh (address_of s rs imm) rt 0)
-  goes_alike (Load Lwl rs rt imm) same = rw (same.0, same.1.0) (by_load Lwl (address_of s rs imm) rt (register s rt))
-  goes_alike (Load Lw rs rt imm) same = rw same.0 (by_load Lw (address_of s rs imm) rt 0)
-  goes_alike (Load Lbu rs rt imm) same = rw same.0 (by_load Lbu (address_of s rs imm) rt 0)
-  goes_alike (Load Lhu rs rt imm) same = rw same.0 (by_load Lhu (address_of s rs imm) rt 0)
-  goes_alike (Load Lwr rs rt imm) same = rw (same.0, same.1.0) (by_load Lwr (address_of s rs imm) rt (register s rt))
+  goes_alike (Load Lb rs rt imm) same = rw same.0 (by_load Lb (access_address s rs imm) rt 0)
+  goes_alike (Load Lh rs rt imm) same = rw same.0 (by_load Lh (access_address s rs imm) rt 0)
+  goes_alike (Load Lwl rs rt imm) same = rw (same.0, same.1.0) (by_load Lwl (access_address s rs imm) rt (register s rt))
+  goes_alike (Load Lw rs rt imm) same = rw same.0 (by_load Lw (access_address s rs imm) rt 0)
+  goes_alike (Load Lbu rs rt imm) same = rw same.0 (by_load Lbu (access_address s rs imm) rt 0)
+  goes_alike (Load Lhu rs rt imm) same = rw same.0 (by_load Lhu (access_address s rs imm) rt 0)
+  goes_alike (Load Lwr rs rt imm) same = rw (same.0, same.1.0) (by_load Lwr (access_address s rs imm) rt (register s rt))
   goes_alike (Store name rs rt imm) same =
-      let a = address_of s rs imm in
-      rw (same.0, same.1.0) (store_alike (store_aligned name a) (store_allowed name s.order s.memory a) a (stored name s.order s.memory a (register s rt)))
+      let a = access_address s rs imm in
+      rw (same.0, same.1.0) (store_alike (store_aligned name a) (store_allowed name s.order s.memory a) a (memory_stored name s.order s.memory a (register s rt)))
   goes_alike (Trap name rs rt code) same = rw (same.0, same.1.0) (trap_alike (trap_holds name (register s rs) (register s rt)) (word_of (Trap name rs rt code)))
   goes_alike (TrapImmediate name rs imm) same = rw same.0 (trap_alike (trap_immediate_holds name (register s rs) imm) (word_of (TrapImmediate name rs imm)))
   goes_alike (Sync sa) same = record { others = refl; same = tt }
   goes_alike (LoadLinked rs rt imm) same =
-      let a = address_of s rs imm in
-      rw same.0 (load_linked_alike (load_aligned Lw a) (is_none (s.memory.byte a)) a rt (loaded Lw s.order s.memory a 0))
+      let a = access_address s rs imm in
+      rw same.0 (load_linked_alike (load_aligned Lw a) (is_none (s.memory.byte a)) a rt (loaded_word Lw s.order s.memory a 0))
   goes_alike (StoreConditional rs rt imm) same =
-      let a = address_of s rs imm in
-      rw (same.0, same.1.0) (concluded_alike (store_aligned Sw a) (store_allowed Sw s.order s.memory a) (is_linked s a) a rt (stored Sw s.order s.memory a (register s rt)))
+      let a = access_address s rs imm in
+      rw (same.0, same.1.0) (concluded_alike (store_aligned Sw a) (store_allowed Sw s.order s.memory a) (is_linked s a) a rt (memory_stored Sw s.order s.memory a (register s rt)))
   goes_alike (Reserved w) same = refl
   goes_alike (Float w) same = refl
 

@@ -1,6 +1,6 @@
 -- The blocks of known words.
 use Rattle.std.proofs.Common.{◌≡◌, ℕ, ◌+◌, ◌^◌, List, [], ◌∷◌, map, Some, None, refl}
-use Rattle.mips_decode.specs.Table.{inst}
+use Rattle.mips_definition.specs.Table.{inst}
 use Rattle.delay_slots.specs.declared.unit.Unit.TheVariants.{Plain, Branch, SlotMissing, SlotIsBranch, Call}
 use Rattle.delay_slots.specs.Units.{units_of}
 use Rattle.block_builder.specs.declared.block.Block.{Block}

@@ -3,9 +3,9 @@ use Rattle.std.proofs.Common.{◌≡◌, ℕ, ◌+◌, ◌-◌, ◌*◌, ◌/◌
 use Rattle.std.specs.Prelude.{IfSome}
 use Rattle.std.proofs.lemmas.Bool.{cases_eq, eq-eqb, ne_eqb, or_right}
 use Rattle.std.proofs.lemmas.List.{drop_more, drop_all, get_or-replicate, get_or-set_same, get_or-set_other, length-set, length-replicate}
-use Rattle.mips_decode.specs.declared.inst.Inst.{Inst}
-use Rattle.mips_decode.specs.declared.inst.Inst.TheVariants.{BranchSign, Jump, BranchEqual, BranchZero}
-use Rattle.mips_decode.specs.Targets.{extended_imm, jump_target}
+use Rattle.mips_definition.specs.declared.inst.Inst.{Inst}
+use Rattle.mips_definition.specs.declared.inst.Inst.TheVariants.{BranchSign, Jump, BranchEqual, BranchZero}
+use Rattle.mips_definition.specs.Targets.{extended_imm, jump_target}
 use Rattle.delay_slots.specs.declared.unit.Unit.{Unit}
 use Rattle.delay_slots.specs.declared.unit.Unit.TheVariants.{Plain, Branch, SlotMissing, SlotIsBranch, Call, Trap}
 use Rattle.block_builder.specs.Leaders.{AreLeaders, Marks, direct, inst_target, is_at, is_leader, is_plain, make_leader, words_of}

@@ -1,10 +1,10 @@
 -- What an instruction's effect depends on, and what it changes, among the registers.
 use Rattle.std.specs.Prelude.{◌≡◌, ◌≢◌, ℕ, List, ⊤}
 use Rattle.std.specs.List.{AllByRecursion}
-use Rattle.nv_events.specs.Answer.{Answer}
-use Rattle.nv_events.specs.Turn.{Turn, moves, ends, leaves, asks}
-use Rattle.mips_decode.specs.State.{State, register}
-use Rattle.mips_decode.specs.declared.names.hi_lo.HiLo.TheVariants.{Hi, Lo}
+use Rattle.run_definition.specs.Answer.{Answer}
+use Rattle.run_definition.specs.Turn.{Turn, moves, ends, leaves, asks}
+use Rattle.mips_definition.specs.State.{State, register}
+use Rattle.mips_definition.specs.declared.names.hi_lo.HiLo.TheVariants.{Hi, Lo}
 use Rattle.block_builder.specs.Registers.{Register, general, special}
 
 -- what a register holds

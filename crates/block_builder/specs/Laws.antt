@@ -1,8 +1,8 @@
 -- What holds of the registers of every instruction.
 use Rattle.std.specs.Prelude.{◌≡◌, ℕ, ◌<◌, ◌↔◌, Any, List}
 use Rattle.std.specs.Int.{IsBitSet}
-use Rattle.mips_decode.specs.State.{State}
-use Rattle.mips_decode.specs.declared.inst.Inst.{Inst}
+use Rattle.mips_definition.specs.State.{State}
+use Rattle.mips_definition.specs.declared.inst.Inst.{Inst}
 use Rattle.delay_slots.specs.Turns.{done}
 use Rattle.block_builder.specs.Registers.{Register, bit_number, read_by, register_set, written_by}
 use Rattle.block_builder.specs.Dependence.{AgreeOn, ChangesOnly, GoAlike}

@@ -1,8 +1,8 @@
 -- The leaders of a range of code: the words at which its basic blocks begin. A word of the range goes by its number, from 0 on.
 use Rattle.std.specs.Prelude.{◌≡◌, ℕ, ◌+◌, ◌*◌, ◌<◌, Bool, true, false, not, ◌&&◌, ◌||◌, ◌==◌, List, [], ◌∷◌, length, slice_index_or, Option, Some, None}
-use Rattle.mips_decode.specs.Targets.{branch_target, jump_target}
-use Rattle.mips_decode.specs.declared.inst.Inst.{Inst}
-use Rattle.mips_decode.specs.declared.inst.Inst.TheVariants.{BranchSign, Jump, BranchEqual, BranchZero}
+use Rattle.mips_definition.specs.Targets.{branch_target, jump_target}
+use Rattle.mips_definition.specs.declared.inst.Inst.{Inst}
+use Rattle.mips_definition.specs.declared.inst.Inst.TheVariants.{BranchSign, Jump, BranchEqual, BranchZero}
 use Rattle.delay_slots.specs.declared.unit.Unit.{Unit}
 use Rattle.delay_slots.specs.declared.unit.Unit.TheVariants.{Plain, Branch, SlotMissing, SlotIsBranch}
 use Rattle.delay_slots.specs.Places.{Address, WordIndex}

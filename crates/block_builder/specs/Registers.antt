@@ -1,15 +1,15 @@
 -- The registers that an instruction reads and those that it writes (MIPS II, the operation of each instruction).
 use Rattle.std.specs.Prelude.{ℕ, ◌%◌, ◌^◌, ◌==◌, if◌then◌else◌, List, [], ◌∷◌, ◌++◌, fold, bit_or}
-use Rattle.mips_decode.specs.declared.inst.Inst.{Inst}
-use Rattle.mips_decode.specs.declared.inst.Inst.TheVariants.{Arithmetic, VariableShift, Shift, JumpRegister, JumpAndLinkRegister, Syscall, Break, MoveFrom, MoveTo, Product, BranchSign, Jump, BranchEqual, BranchZero, ArithmeticImmediate, LogicalImmediate, LoadUpper, Load, Store, Trap, TrapImmediate, Sync, LoadLinked, StoreConditional, Reserved, Float}
-use Rattle.mips_decode.specs.declared.names.branch_sign_name.BranchSignName.{BranchSignName}
-use Rattle.mips_decode.specs.declared.names.branch_sign_name.BranchSignName.TheVariants.{Bltz, Bgez, Bltzal, Bgezal, Bltzl, Bgezl, Bltzall, Bgezall}
-use Rattle.mips_decode.specs.declared.names.hi_lo.HiLo.{HiLo}
-use Rattle.mips_decode.specs.declared.names.hi_lo.HiLo.TheVariants.{Hi, Lo}
-use Rattle.mips_decode.specs.declared.names.jump_name.JumpName.{JumpName}
-use Rattle.mips_decode.specs.declared.names.jump_name.JumpName.TheVariants.{J, Jal}
-use Rattle.mips_decode.specs.declared.names.load_name.LoadName.{LoadName}
-use Rattle.mips_decode.specs.declared.names.load_name.LoadName.TheVariants.{Lb, Lh, Lwl, Lw, Lbu, Lhu, Lwr}
+use Rattle.mips_definition.specs.declared.inst.Inst.{Inst}
+use Rattle.mips_definition.specs.declared.inst.Inst.TheVariants.{Arithmetic, VariableShift, Shift, JumpRegister, JumpAndLinkRegister, Syscall, Break, MoveFrom, MoveTo, Product, BranchSign, Jump, BranchEqual, BranchZero, ArithmeticImmediate, LogicalImmediate, LoadUpper, Load, Store, Trap, TrapImmediate, Sync, LoadLinked, StoreConditional, Reserved, Float}
+use Rattle.mips_definition.specs.declared.names.branch_sign_name.BranchSignName.{BranchSignName}
+use Rattle.mips_definition.specs.declared.names.branch_sign_name.BranchSignName.TheVariants.{Bltz, Bgez, Bltzal, Bgezal, Bltzl, Bgezl, Bltzall, Bgezall}
+use Rattle.mips_definition.specs.declared.names.hi_lo.HiLo.{HiLo}
+use Rattle.mips_definition.specs.declared.names.hi_lo.HiLo.TheVariants.{Hi, Lo}
+use Rattle.mips_definition.specs.declared.names.jump_name.JumpName.{JumpName}
+use Rattle.mips_definition.specs.declared.names.jump_name.JumpName.TheVariants.{J, Jal}
+use Rattle.mips_definition.specs.declared.names.load_name.LoadName.{LoadName}
+use Rattle.mips_definition.specs.declared.names.load_name.LoadName.TheVariants.{Lb, Lh, Lwl, Lw, Lbu, Lhu, Lwr}
 use Rattle.delay_slots.specs.declared.unit.Unit.{Unit}
 use Rattle.delay_slots.specs.declared.unit.Unit.TheVariants as units
 

@@ -10,19 +10,19 @@ use crate::targets::{is_plain, words_of};
 use delay_slots::RangeUnits;
 use std::alloc::{AllocError, Global};
 
-/// Want of memory, the one error of `blocks`.
+/// Out of memory, the one error of `blocks`.
 pub type NoMemory = AllocError;
 
 /// The basic blocks of one whole range of code, by its units, in the order of their first words. `start` is the address of the
 /// range's first word, a multiple of 4.
 ///
-/// Leaders are the first word, each direct target within the range, the word behind the delay slot of a branch or jump that has one,
-/// and the word behind any other unit that is not `Plain`. From each leader one block goes to the first unit that is not `Plain`, to
+/// Leaders are the first word, each direct target within the range, the word after the delay slot of a branch or jump that has one,
+/// and the word after any other unit that is not `Plain`. From each leader one block goes to the first unit that is not `Plain`, to
 /// the word before the next leader or to the range's last word, whichever comes first. Where its last unit is a `Branch`, it has the
 /// word of the delay slot too, even if that is a leader. It takes time in proportion to the number of words.
 ///
 /// # Errors
-/// Want of memory for the blocks.
+/// Out of memory for the blocks.
 pub fn blocks(alloc: Global, units: &RangeUnits, start: u32) -> Result<Vec<Block>, NoMemory>
     requires are_units { AreUnits units.now }
     requires aligned { start % 4 ≡ 0 }

@@ -6,12 +6,12 @@ use crate::targets::{direct, is_plain, words_of};
 use delay_slots::{RangeUnits, Unit};
 use std::alloc::{AllocError, Global};
 
-/// Which words of one whole range of code are leaders, by its units: the first word, each direct target within the range, the word behind
-/// the delay slot of a branch or jump that has one, and the word behind any other unit that is not `Plain`. `start` is the address of the
+/// Which words of one whole range of code are leaders, by its units: the first word, each direct target within the range, the word after
+/// the delay slot of a branch or jump that has one, and the word after any other unit that is not `Plain`. `start` is the address of the
 /// range's first word, a multiple of 4.
 ///
 /// # Errors
-/// Want of memory for the flags, one for each word.
+/// Out of memory for the flags, one for each word.
 pub fn leader_flags(alloc: Global, units: &RangeUnits, start: u32) -> Result<Vec<bool>, AllocError>
     requires aligned { start % 4 ≡ 0 }
     requires below_end { start + 4 * length units.now < 2 ^ 32 }
@@ -41,7 +41,7 @@ fn mark_target(flags: &mut Vec<bool>, start: u32, target: Option<u32>)
     mark(flags, (offset / 4) as usize);
 }
 
-/// Marks the next word behind the unit of the given word, and behind its delay slot, where the unit is not Plain.
+/// Marks the next word after the unit of the given word, and after its delay slot, where the unit is not Plain.
 fn mark_behind(flags: &mut Vec<bool>, unit: &Unit, word: usize)
     requires { word < 2 ^ 32 }
     ensures { Marks flags.old.items flags.new.items (λ k. not (is_plain unit.now)

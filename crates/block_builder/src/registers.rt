@@ -90,7 +90,7 @@ fn read_by_load(name: LoadName, rs: u8, rt: u8) -> u64
     }
 }
 
-/// The registers that an instruction writes, where it does not fault.
+/// The registers that an instruction writes, if it does not fault.
 pub fn written_by(inst: Inst) -> u64
     ensures { result ≡ registers.register_set (registers.written_by inst) }
 {

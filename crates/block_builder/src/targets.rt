@@ -5,7 +5,7 @@ ghost use Rattle.block_builder.specs.Leaders as leaders;
 use delay_slots::Unit;
 use mips_decode::{Inst, branch_target, jump_target};
 
-/// The target of a unit whose instruction is a branch, J or JAL, for the unit at the address `at`, whatever stands in its delay
+/// The target of a unit whose instruction is a branch, J or JAL, for the unit at the address `at`, whatever is in its delay
 /// slot; and none for every other unit.
 pub fn direct(unit: &Unit, at: u32) -> Option<u32>
     ensures { result ≡ leaders.direct unit.now at }

@@ -56,7 +56,7 @@ impl Blocks {
     }
 
     /// The number of a block that was free and is now in use, with zeros and with no next: the one that was given back
-    /// last, else the lowest that was never taken.
+    /// last, otherwise the lowest that was never taken.
     pub fn take(&mut self) -> Result<u32, NoBlock>
         ensures first { IfOk result (λ b. self.old.order ≡ b ∷ self.new.order) }
         ensures was_free { IfOk result (λ b. IsTrue (is_free self.old b)) }

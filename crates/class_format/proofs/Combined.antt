@@ -1,10 +1,10 @@
 -- What is made of formats is a format.
 use Rattle.std.proofs.Common.{◌≡◌, ℕ, zero, suc, Bool, true, eqb, List, [], ◌∷◌, ◌++◌, length, Option, Some, None, Ok, refl, ap, subst, ◌∙◌, append_assoc}
 use Rattle.std.proofs.lemmas.Bool.{and_parts, and_from, eqb-true, eq-eqb}
-use Rattle.nv_faults.specs.declared.class_fault.ClassFault.{ClassFault}
-use Rattle.class_format.specs.declared.miss.Miss.{Miss}
-use Rattle.class_format.specs.Format.{Format, ◌>>=◌, both, chain, chain_spelling, chain_fits, chain_reading, repeated, mapped, spelled_by, fits_by, settled, is_sound, checked, tested, unless}
-use Rattle.class_format.specs.Laws.{IsBytes, Begins, IsFormat}
+use Rattle.class_definition.specs.declared.class_fault.ClassFault.{ClassFault}
+use Rattle.class_definition.specs.declared.miss.Miss.{Miss}
+use Rattle.class_definition.specs.Format.{Format, ◌>>=◌, both, chain, chain_spelling, chain_fits, chain_reading, repeated, mapped, spelled_by, fits_by, settled, is_sound, checked, tested, fault_unless}
+use Rattle.class_definition.specs.Spelling.{IsBytes, Begins, IsFormat}
 use Rattle.class_format.proofs.Readings.{IsBytes-rest, went_on, same_value, settled_ok, settled_sound, joined}
 
 -- ---- one after the other
@@ -121,4 +121,4 @@ pub checked_law : {A : Type 0} (fault : A → Option ClassFault) (f : Format A) 
 checked_law fault f law = record { back = checked_back fault f law; taken = checked_taken fault f law }
 
 pub tested_law : {A : Type 0} (kind : ℕ) (test : A → Bool) (f : Format A) → IsFormat f → IsFormat (tested kind test f)
-tested_law kind test f law = checked_law (λ a. unless kind (test a)) f law
+tested_law kind test f law = checked_law (λ a. fault_unless kind (test a)) f law

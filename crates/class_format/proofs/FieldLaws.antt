@@ -4,9 +4,9 @@ use Rattle.std.specs.Int.{Width, w8, w16, w32, w64, byte_len, from_be_bytes, to_
 use Rattle.std.proofs.lemmas.Bool.{cases_lt, ltb-true, ltb-false, le-ltb, lt-ltb, eqb-true, eq-eqb}
 use Rattle.std.proofs.lemmas.List.{take_at, drop_at, take-append-drop, length-append, length-take, length-take-le, get_or-take, get_or_past}
 use Rattle.std.proofs.lemmas.Nat.{be_bytes_2, be_bytes_4, be_bytes_8, from_be_bytes-to_be_bytes_2, from_be_bytes-to_be_bytes_4, from_be_bytes-to_be_bytes_8}
-use Rattle.class_format.specs.declared.miss.Miss.{Miss}
-use Rattle.class_format.specs.Format.{number, raw, nothing, refused}
-use Rattle.class_format.specs.Laws.{IsBytes, Begins, IsFormat}
+use Rattle.class_definition.specs.declared.miss.Miss.{Miss}
+use Rattle.class_definition.specs.Format.{number_format, raw, nothing, refused_format}
+use Rattle.class_definition.specs.Spelling.{IsBytes, Begins, IsFormat}
 use Rattle.class_format.proofs.Readings.{same_value}
 
 -- a width whose numbers and bytes lead to each other
@@ -68,23 +68,23 @@ tested_ok : {A : Type 0} (b : Bool) (d : Miss) (x y : A) → cond b (Err d) (Ok 
 tested_ok true d x y e = absurd cc
 tested_ok false d x y e = (refl, same_value {E = Miss} x y e)
 
-number_back : (cut : ℕ) (w : Width) → IsWide w → (n : ℕ) (rest : List ℕ) → ltb n (2 ^ (8 * byte_len w)) ≡ true → (number cut w).read (to_be_bytes w n ++ rest) ≡ Ok (n, rest)
+number_back : (cut : ℕ) (w : Width) → IsWide w → (n : ℕ) (rest : List ℕ) → ltb n (2 ^ (8 * byte_len w)) ≡ true → (number_format cut w).read (to_be_bytes w n ++ rest) ≡ Ok (n, rest)
 number_back cut w wide n rest lt =
     let bytes = to_be_bytes w n in
     let len = wide.len n in
     let k : byte_len w ≤ length (bytes ++ rest) = omega (arith, length-append bytes rest) in
     rw (le-ltb _ _ k, take_at bytes rest (byte_len w) len, drop_at bytes rest (byte_len w) len, wide.again n (ltb-true _ _ lt)) refl
 
-number_taken : (cut : ℕ) (w : Width) → IsWide w → (bytes : List ℕ) (n : ℕ) (rest : List ℕ) → IsBytes bytes → (number cut w).read bytes ≡ Ok (n, rest) → Begins (number cut w) bytes n rest
+number_taken : (cut : ℕ) (w : Width) → IsWide w → (bytes : List ℕ) (n : ℕ) (rest : List ℕ) → IsBytes bytes → (number_format cut w).read bytes ≡ Ok (n, rest) → Begins (number_format cut w) bytes n rest
 number_taken cut w wide bytes n rest h e =
     let t = tested_ok (ltb (length bytes) (byte_len w)) _ _ _ e in
     let len : length (take (byte_len w) bytes) ≡ byte_len w = length-take-le (byte_len w) bytes (ltb-false _ _ t.0) in
     let front = IsBytes-take (byte_len w) bytes h in
     let parts : bytes ≡ to_be_bytes w (from_be_bytes w (take (byte_len w) bytes)) ++ drop (byte_len w) bytes = rw (wide.back _ len front) (sym (take-append-drop (byte_len w) bytes)) in
-    let P : ℕ × List ℕ → Type 0 = λ x. Begins (number cut w) bytes x.0 x.1 in
+    let P : ℕ × List ℕ → Type 0 = λ x. Begins (number_format cut w) bytes x.0 x.1 in
     subst P t.1 (record { fits = lt-ltb _ _ (wide.below _ front); spelled = parts })
 
-pub number_law : (cut : ℕ) (w : Width) → IsWide w → IsFormat (number cut w)
+pub number_law : (cut : ℕ) (w : Width) → IsWide w → IsFormat (number_format cut w)
 number_law cut w wide = record { back = number_back cut w wide; taken = number_taken cut w wide }
 
 raw_back : (cut n : ℕ) (bytes rest : List ℕ) → eqb (length bytes) n ≡ true → (raw cut n).read (bytes ++ rest) ≡ Ok (bytes, rest)
@@ -110,5 +110,5 @@ nothing_taken bytes u rest h e =
 pub nothing_law : IsFormat nothing
 nothing_law = record { back = λ u rest e. refl; taken = nothing_taken }
 
-pub refused_law : {A : Type 0} (kind before : ℕ) → IsFormat {A = A} (refused kind before)
+pub refused_law : {A : Type 0} (kind before : ℕ) → IsFormat {A = A} (refused_format kind before)
 refused_law kind before = record { back = λ a rest e. absurd cc; taken = λ bytes a rest h e. absurd cc }

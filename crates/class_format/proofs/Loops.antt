@@ -3,7 +3,7 @@ use Rattle.std.proofs.Common.{◌≡◌, ℕ, suc, List, [], ◌∷◌, ◌++◌
 use Rattle.std.proofs.lemmas.List.{append-nil}
 use Rattle.class_format.specs.declared.failure.Failure.{Failure}
 use Rattle.class_format.specs.declared.failure.Failure.TheVariants.{Missed, NoMemory}
-use Rattle.class_format.specs.Format.{Format, Reading, ◌>>=◌, chain_reading}
+use Rattle.class_definition.specs.Format.{Format, Reading, ◌>>=◌, chain_reading}
 use Rattle.class_format.specs.Gives.{Fails}
 
 -- what was read before, and what is still read

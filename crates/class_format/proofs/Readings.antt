@@ -1,10 +1,10 @@
 -- Readings one after the other, and the bytes that they leave.
 use Rattle.std.proofs.Common.{◌≡◌, ℕ, ◌+◌, ◌<◌, true, List, ◌++◌, length, Option, Some, None, Result, Ok, Err, refl, subst, append_assoc}
 use Rattle.std.proofs.lemmas.List.{get_or-append-add}
-use Rattle.nv_faults.specs.declared.class_fault.ClassFault.{ClassFault}
-use Rattle.class_format.specs.declared.miss.Miss.{Miss}
-use Rattle.class_format.specs.Format.{Format, Reading, ◌>>=◌, settled, is_sound}
-use Rattle.class_format.specs.Laws.{IsBytes, Begins}
+use Rattle.class_definition.specs.declared.class_fault.ClassFault.{ClassFault}
+use Rattle.class_definition.specs.declared.miss.Miss.{Miss}
+use Rattle.class_definition.specs.Format.{Format, Reading, ◌>>=◌, settled, is_sound}
+use Rattle.class_definition.specs.Spelling.{IsBytes, Begins}
 
 -- the bytes behind some bytes are bytes
 pub IsBytes-behind : (front rest : List ℕ) → IsBytes (front ++ rest) → IsBytes rest

@@ -2,8 +2,8 @@
 use Rattle.std.proofs.Common.{◌≡◌, ℕ, ◌*◌, ◌^◌, ◌<◌, Bool, true, false, cond, ℤ, pos, negsuc, Some, None, refl, arith}
 use Rattle.std.specs.Int.{Width, w8, w16, w32, w64, byte_len, cast_signed, cast_unsigned}
 use Rattle.std.proofs.lemmas.Bool.{ltb-true}
-use Rattle.class_format.specs.Format.{number, signed, fits_signed, bits_of}
-use Rattle.class_format.specs.Laws.{IsFormat}
+use Rattle.class_definition.specs.Format.{number_format, signed, fits_signed, bits_of}
+use Rattle.class_definition.specs.Spelling.{IsFormat}
 use Rattle.class_format.proofs.FieldLaws.{IsWide, number_law}
 use Rattle.class_format.proofs.Combined.{mapped_law}
 
@@ -46,7 +46,7 @@ chosen : {A : Type 0} (b : Bool) (x y : A) → cond b (Some x) None ≡ Some y �
 chosen true x y e = (refl, cc)
 chosen false x y e = absurd cc
 
-bits_back : (cut : ℕ) (w : Width) → IsSigned w → (n : ℕ) → (number cut w).fits n ≡ true → bits_of w (cast_signed w n) ≡ Some n
+bits_back : (cut : ℕ) (w : Width) → IsSigned w → (n : ℕ) → (number_format cut w).fits n ≡ true → bits_of w (cast_signed w n) ≡ Some n
 bits_back cut w is n e = let lt = ltb-true _ _ e in rw (is.fit n lt, is.bits n lt) refl
 
 bits_made : (w : Width) → IsSigned w → (z : ℤ) (n : ℕ) → bits_of w z ≡ Some n → cast_signed w n ≡ z
@@ -56,5 +56,5 @@ bits_made w is z n e =
 
 pub signed_law : (cut : ℕ) (w : Width) → IsWide w → IsSigned w → IsFormat (signed cut w)
 signed_law cut w wide is =
-    mapped_law (cast_signed w) (bits_of w) (number cut w) (number_law cut w wide)
+    mapped_law (cast_signed w) (bits_of w) (number_format cut w) (number_law cut w wide)
     (record { back_of = bits_back cut w is; made_of = bits_made w is })

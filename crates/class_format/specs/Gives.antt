@@ -1,6 +1,6 @@
 -- What a function that reads answers.
 use Rattle.std.specs.Prelude.{◌≡◌, Result, Ok, Err}
-use Rattle.class_format.specs.declared.miss.Miss.{Miss}
+use Rattle.class_definition.specs.declared.miss.Miss.{Miss}
 use Rattle.class_format.specs.declared.failure.Failure.{Failure}
 use Rattle.class_format.specs.declared.failure.Failure.TheVariants.{Missed, NoMemory}
 

@@ -1,4 +1,1 @@
-pub mod Kinds
-pub mod Format
 pub mod Gives
-pub mod Laws

@@ -1,13 +1,13 @@
 ghost use Rattle.std.specs.Prelude.{◌≡◌};
 ghost use Rattle.class_format.specs.declared.failure.Failure.TheVariants.{NoMemory, Missed};
 
-use crate::miss::Miss;
+use class_definition::Miss;
 use std::alloc::{AllocError, AllocFailed};
 
 /// Why nothing was read.
 #[derive(Debug, Drop)]
 pub enum Failure {
-    /// No value stands there.
+    /// No value is there.
     Missed(Miss),
     /// Memory ran out.
     NoMemory,

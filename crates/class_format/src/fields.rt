@@ -1,17 +1,16 @@
 //! Numbers and bytes at the front of a slice.
 ghost use Rattle.std.specs.Prelude.{◌≡◌, length};
 ghost use Rattle.std.specs.Int.{w8, w16, w32, w64};
-ghost use Rattle.class_format.specs.Format.{number, raw, signed, exactly, fault_at};
+ghost use Rattle.class_definition.specs.Format.{number_format, raw, signed, exactly, fault_at};
 ghost use Rattle.class_format.specs.Gives.{Gives};
 ghost use Rattle.class_format.specs.declared.failure.Failure.TheVariants.{Missed};
 
 use crate::failure::Failure;
-use crate::miss::Miss;
-use nv_faults::ClassFault;
+use class_definition::{ClassFault, Miss};
 
 /// The byte at the front, and what follows it. `cut` is the kind of a field that runs past the end.
 pub fn byte_of(cut: u32, bytes: &[u8]) -> Result<(u8, &[u8]), Failure>
-    ensures { Gives (λ x. (x.0, x.1.now)) result ((number cut w8).read bytes.now) }
+    ensures { Gives (λ x. (x.0, x.1.now)) result ((number_format cut w8).read bytes.now) }
 {
     let (front, rest) = raw_of(cut, bytes, 1)?;
     Ok((front[0], rest))
@@ -19,7 +18,7 @@ pub fn byte_of(cut: u32, bytes: &[u8]) -> Result<(u8, &[u8]), Failure>
 
 /// The number of two bytes at the front, and what follows it.
 pub fn half_of(cut: u32, bytes: &[u8]) -> Result<(u16, &[u8]), Failure>
-    ensures { Gives (λ x. (x.0, x.1.now)) result ((number cut w16).read bytes.now) }
+    ensures { Gives (λ x. (x.0, x.1.now)) result ((number_format cut w16).read bytes.now) }
 {
     if bytes.len() < 2 {
         return Err(missed(cut, bytes));
@@ -30,7 +29,7 @@ pub fn half_of(cut: u32, bytes: &[u8]) -> Result<(u16, &[u8]), Failure>
 
 /// The number of four bytes at the front, and what follows it.
 pub fn word_of(cut: u32, bytes: &[u8]) -> Result<(u32, &[u8]), Failure>
-    ensures { Gives (λ x. (x.0, x.1.now)) result ((number cut w32).read bytes.now) }
+    ensures { Gives (λ x. (x.0, x.1.now)) result ((number_format cut w32).read bytes.now) }
 {
     if bytes.len() < 4 {
         return Err(missed(cut, bytes));
@@ -94,7 +93,7 @@ pub fn signed_long_of(cut: u32, bytes: &[u8]) -> Result<(i64, &[u8]), Failure>
 
 /// The number of eight bytes at the front, and what follows it.
 pub fn long_of(cut: u32, bytes: &[u8]) -> Result<(u64, &[u8]), Failure>
-    ensures { Gives (λ x. (x.0, x.1.now)) result ((number cut w64).read bytes.now) }
+    ensures { Gives (λ x. (x.0, x.1.now)) result ((number_format cut w64).read bytes.now) }
 {
     if bytes.len() < 8 {
         return Err(missed(cut, bytes));

@@ -2,13 +2,13 @@
 use Rattle.std.proofs.Common.{◌≡◌, ℕ, List, [], ◌∷◌, ◌++◌, refl, sym, ap, ◌∙◌, append_assoc}
 use Rattle.std.specs.Prelude.{map, reverse}
 use Rattle.std.proofs.lemmas.List.{append-nil, reverse-append}
-use Rattle.jvm_code.specs.declared.method.Method.{Method}
-use Rattle.framed_class_file.specs.FramedClassFile.{method_of, table_of}
+use Rattle.class_definition.specs.declared.method.Method.{Method}
+use Rattle.class_definition.specs.FramedClassFile.{method_without_table, table_of}
 
 pub record AreApart (framed rest : List (Method × List ℕ)) (methods : List Method) (tables : List (List ℕ)) : Type 0 where
   pub behind : List (Method × List ℕ)
   pub whole : framed ≡ rest ++ behind
-  pub methods_are : reverse methods ≡ map method_of behind
+  pub methods_are : reverse methods ≡ map method_without_table behind
   pub tables_are : reverse tables ≡ map table_of behind
 
 pub none-apart : (framed : List (Method × List ℕ)) → AreApart framed framed [] []
@@ -26,8 +26,8 @@ module _ (framed rest : List (Method × List ℕ)) (methods : List Method) (tabl
   whole : framed ≡ a.behind
   whole = a.whole ∙ ap (λ x. x ++ a.behind) none
 
-  pub methods-apart : reverse methods ≡ map method_of framed
-  methods-apart = a.methods_are ∙ ap (map method_of) (sym whole)
+  pub methods-apart : reverse methods ≡ map method_without_table framed
+  methods-apart = a.methods_are ∙ ap (map method_without_table) (sym whole)
 
   pub tables-apart : reverse tables ≡ map table_of framed
   tables-apart = a.tables_are ∙ ap (map table_of) (sym whole)

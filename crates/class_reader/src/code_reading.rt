@@ -1,9 +1,9 @@
 //! The attribute with a method's code, from bytes (JVM Specification, 4.7.3).
 ghost use Rattle.std.specs.Prelude.{◌≡◌, ◌&&◌, ◌==◌, ◌+◌, ◌≤◌, IfOk};
 ghost use Rattle.class_format.specs.Gives.{Gives};
-ghost use Rattle.jvm_code.specs.Code.{is_bad_length};
-ghost use Rattle.class_file.specs.Members as format;
-ghost use Rattle.framed_class_file.specs.Tables as framed;
+ghost use Rattle.class_definition.specs.Code.{is_bad_length};
+ghost use Rattle.class_definition.specs.Members as format;
+ghost use Rattle.class_definition.specs.Tables as framed;
 
 use class_format::{ClassFault, Failure, Miss, exact_half_of, half_of, missed, raw_of, word_of};
 use jvm_code::{CodeError, decode_ops};
@@ -23,7 +23,7 @@ pub struct CodeHead {
 }
 
 /// The attribute: what it begins with, and the code.
-#[tactic(auto, unfolding(class_file::specs::Members::code_attribute))]
+#[tactic(auto, unfolding(class_definition::specs::Members::code_attribute))]
 pub fn code_attribute_of(alloc: Global, bytes: &[u8]) -> Result<((CodeHead, &[u8]), &[u8]), Failure>
     ensures { Gives
         (λ x. (

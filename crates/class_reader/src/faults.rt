@@ -1,8 +1,8 @@
 //! The kinds of what is wrong with what a slot names.
 ghost use Rattle.std.specs.Prelude.{◌≡◌, if◌then◌else◌, None, Some, option_map};
-ghost use Rattle.constant_pool.specs.Names as profile;
-ghost use Rattle.constant_pool.specs.Checks.{text_fault};
-ghost use Rattle.class_file.specs.Named as format;
+ghost use Rattle.class_definition.specs.NameGrammar as profile;
+ghost use Rattle.class_definition.specs.PoolChecks.{text_fault};
+ghost use Rattle.class_definition.specs.Named as format;
 
 use class_format::ClassFault;
 use constant_pool::{is_class_name, is_field_descriptor, is_method_descriptor};
@@ -46,7 +46,7 @@ fn is_own_descriptor(descriptor: &[u16]) -> bool
 
 /// Of the name of the class itself.
 pub fn this_fault(name: Option<&[u16]>) -> Option<u32>
-    ensures { result ≡ text_fault profile.is_class_name (option_map (λ x. x.now) name.entry) }
+    ensures { result ≡ text_fault profile.is_class_file_name (option_map (λ x. x.now) name.entry) }
 {
     match name {
         None => Some(ClassFault::INDEX),

@@ -1,7 +1,7 @@
 //! The attribute with a method's code and its table of frames, from bytes (JVM Specification, Java SE 7 edition, 4.7.3, 4.7.4).
 ghost use Rattle.std.specs.Prelude.{◌≡◌, ◌-◌, ◌||◌, ◌==◌, nat_le};
 ghost use Rattle.class_format.specs.Gives.{Gives};
-ghost use Rattle.framed_class_file.specs.Tables as format;
+ghost use Rattle.class_definition.specs.Tables as format;
 
 use crate::code_reading::{CodeHead, code_numbers_of, code_of, no_attributes};
 use crate::member_reading::one_attribute;
@@ -11,7 +11,7 @@ use std::alloc::Global;
 
 /// The attribute: what it begins with, the code, and the table, which has no bytes where there is none. `name` is the slot of
 /// the table's name.
-#[tactic(auto, unfolding(framed_class_file::specs::Tables::code_attribute))]
+#[tactic(auto, unfolding(class_definition::specs::Tables::framed_code_attribute))]
 pub fn framed_attribute_of<'a>(
     alloc: Global,
     pool: &Slots,
@@ -26,7 +26,7 @@ pub fn framed_attribute_of<'a>(
             (x.0.1.0.now, x.0.1.1.now),
           ),
           x.1.now,
-        )) result ((format.code_attribute pool.now).read bytes.now) }
+        )) result ((format.framed_code_attribute pool.now).read bytes.now) }
 {
     let (head, rest) = framed_head_of(bytes)?;
     let (code, rest) = code_of(alloc, head.code_length as usize, rest)?;
@@ -38,7 +38,7 @@ pub fn framed_attribute_of<'a>(
 
 fn framed_head_of(bytes: &[u8]) -> Result<(CodeHead, &[u8]), Failure>
     ensures { Gives (λ x. ((x.0.length, (x.0.stack, (x.0.locals, x.0.code_length))), x.1.now))
-        result (format.code_head.read bytes.now) }
+        result (format.framed_code_head.read bytes.now) }
 {
     let (head, rest) = code_numbers_of(bytes)?;
     if !is_lawful_length(head.length, head.code_length) {

@@ -2,8 +2,8 @@
 ghost use Rattle.std.specs.Prelude.{◌≡◌, IfOk, map};
 ghost use Rattle.std.specs.Int.{w16};
 ghost use Rattle.class_format.specs.Gives.{Gives};
-ghost use Rattle.class_format.specs.Format.{counted, repeated};
-ghost use Rattle.framed_class_file.specs.Tables as format;
+ghost use Rattle.class_definition.specs.Format.{counted, repeated};
+ghost use Rattle.class_definition.specs.Tables as format;
 
 use crate::framed_code_reading::framed_attribute_of;
 use crate::member_reading::{flags_of, one_attribute};
@@ -11,10 +11,10 @@ use crate::slots::{code_name_of, name_of, own_descriptor_of};
 use class_format::{ClassFault, Failure, half_of};
 use constant_pool::Slots;
 use jvm_code::Method;
-use jvm_names::Sequence;
+use jvm_definition::Sequence;
 use std::alloc::Global;
 
-/// The methods with their tables, behind their number. `name` is the slot of the tables' name.
+/// The methods with their tables, after their number. `name` is the slot of the tables' name.
 pub fn framed_methods_of<'a>(
     alloc: Global,
     pool: &Slots,
@@ -23,7 +23,7 @@ pub fn framed_methods_of<'a>(
 ) -> Result<(Vec<(Method, Sequence<u8>)>, &'a [u8]), Failure>
     requires { name ≡ format.table_slot pool.now }
     ensures { Gives (λ x. (x.0.items, x.1.now)) result
-        ((counted 3 w16 (format.method pool.now)).read bytes.now) }
+        ((counted 3 w16 (format.framed_method pool.now)).read bytes.now) }
 {
     let (count, rest) = half_of(ClassFault::CUT, bytes)?;
     so_many_methods(alloc, pool, name, count, rest)
@@ -38,7 +38,7 @@ fn so_many_methods<'a>(
 ) -> Result<(Vec<(Method, Sequence<u8>)>, &'a [u8]), Failure>
     requires { name ≡ format.table_slot pool.now }
     ensures { Gives (λ x. (x.0.items, x.1.now)) result
-        ((repeated (format.method pool.now) count).read bytes.now) }
+        ((repeated (format.framed_method pool.now) count).read bytes.now) }
 {
     let mut methods = Vec::new(alloc);
     let mut rest = bytes;
@@ -52,7 +52,7 @@ fn so_many_methods<'a>(
     Ok((methods, rest))
 }
 
-#[tactic(auto, unfolding(framed_class_file::specs::Tables::method))]
+#[tactic(auto, unfolding(class_definition::specs::Tables::framed_method))]
 fn framed_method_of<'a>(
     alloc: Global,
     pool: &Slots,
@@ -60,7 +60,7 @@ fn framed_method_of<'a>(
     bytes: &'a [u8],
 ) -> Result<((Method, Sequence<u8>), &'a [u8]), Failure>
     requires { table_name ≡ format.table_slot pool.now }
-    ensures { Gives (λ x. (x.0, x.1.now)) result ((format.method pool.now).read bytes.now) }
+    ensures { Gives (λ x. (x.0, x.1.now)) result ((format.framed_method pool.now).read bytes.now) }
 {
     let rest = flags_of(bytes)?;
     let (name, rest) = name_of(pool, rest)?;

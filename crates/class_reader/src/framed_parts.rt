@@ -1,24 +1,24 @@
 //! The parts of a class of version 51.0 from bytes.
 ghost use Rattle.std.specs.Prelude.{◌≡◌, IfOk, map};
 ghost use Rattle.class_format.specs.Gives.{Gives};
-ghost use Rattle.framed_class_file.specs.FramedClassFile as format;
-ghost use Rattle.framed_class_file.specs.Tables.{table_slot};
+ghost use Rattle.class_definition.specs.FramedClassFile as format;
+ghost use Rattle.class_definition.specs.Tables.{table_slot};
 
 use crate::code_reading::no_attributes;
 use crate::framed_member_reading::framed_methods_of;
 use crate::member_reading::fields_of;
 use crate::parts::{MAGIC, MINOR, class_slots_of};
+use class_definition_laws::{FramedClass, table_slot_of};
 use class_format::{ClassFault, Failure, exact_half_of, exact_word_of};
 use constant_pool::{Slots, entries_of};
-use framed_class_file::{FramedClass, table_slot_of};
 use jvm_code::{Class, Member, Method};
-use jvm_names::Sequence;
+use jvm_definition::Sequence;
 use std::alloc::{AllocError, Global};
 
 const MAJOR: u16 = 51;
 
 /// The class at the front, and what follows it.
-#[tactic(auto, unfolding(framed_class_file::specs::FramedClassFile::framed_class))]
+#[tactic(auto, unfolding(class_definition::specs::FramedClassFile::framed_class))]
 pub fn framed_class_of(alloc: Global, bytes: &[u8]) -> Result<(FramedClass, &[u8]), Failure>
     ensures { Gives (λ x. (x.0, x.1.now)) result (format.framed_class.read bytes.now) }
 {
@@ -38,23 +38,23 @@ pub fn framed_class_of(alloc: Global, bytes: &[u8]) -> Result<(FramedClass, &[u8
     Ok((FramedClass { class, tables }, rest))
 }
 
-#[tactic(auto, unfolding(framed_class_file::specs::FramedClassFile::preamble))]
+#[tactic(auto, unfolding(class_definition::specs::FramedClassFile::framed_preamble))]
 fn behind_preamble(bytes: &[u8]) -> Result<&[u8], Failure>
-    ensures { Gives (λ x. (tt, x.now)) result (format.preamble.read bytes.now) }
+    ensures { Gives (λ x. (tt, x.now)) result (format.framed_preamble.read bytes.now) }
 {
     let rest = exact_word_of(ClassFault::CUT, ClassFault::MAGIC, MAGIC, bytes)?;
     let rest = exact_half_of(ClassFault::CUT, ClassFault::VERSION, MINOR, rest)?;
     exact_half_of(ClassFault::CUT, ClassFault::VERSION, MAJOR, rest)
 }
 
-#[tactic(auto, unfolding(framed_class_file::specs::FramedClassFile::members))]
+#[tactic(auto, unfolding(class_definition::specs::FramedClassFile::members_with_tables))]
 fn framed_members_of<'a>(
     alloc: Global,
     pool: &Slots,
     bytes: &'a [u8],
 ) -> Result<((Vec<Member>, Vec<(Method, Sequence<u8>)>), &'a [u8]), Failure>
     ensures { Gives (λ x. ((x.0.0.items, x.0.1.items), x.1.now)) result
-        ((format.members pool.now).read bytes.now) }
+        ((format.members_with_tables pool.now).read bytes.now) }
 {
     let (fields, rest) = fields_of(alloc, pool, bytes)?;
     let table_name = table_slot_of(pool.as_slice());
@@ -68,7 +68,7 @@ fn apart(
     alloc: Global,
     framed: Vec<(Method, Sequence<u8>)>,
 ) -> Result<(Vec<Method>, Vec<Sequence<u8>>), AllocError>
-    ensures methods { IfOk result (λ x. x.0.items ≡ map format.method_of framed.items) }
+    ensures methods { IfOk result (λ x. x.0.items ≡ map format.method_without_table framed.items) }
     ensures tables { IfOk result (λ x. x.1.items ≡ map format.table_of framed.items) }
 {
     let mut methods = Vec::new(alloc);

@@ -1,17 +1,17 @@
 //! A class file of version 51.0 from its bytes.
 ghost use Rattle.std.specs.Prelude.{◌≡◌, None, IfOk, OnOk, IfErr};
 ghost use Rattle.class_format.specs.Gives.{Gives};
-ghost use Rattle.class_format.specs.Kinds.{trailing};
-ghost use Rattle.class_format.specs.Format.{whole};
+ghost use Rattle.class_definition.specs.Kinds.{trailing};
+ghost use Rattle.class_definition.specs.Format.{whole};
 ghost use Rattle.constant_pool.specs.Answer.{IsAnswer};
-ghost use Rattle.framed_class_file.specs.declared.framed_class.FramedClass.{FramedClass};
-ghost use Rattle.framed_class_file.specs.FramedClassFile as format;
+ghost use Rattle.class_definition.specs.declared.framed_class.FramedClass.{FramedClass};
+ghost use Rattle.class_definition.specs.FramedClassFile as format;
 
 use crate::framed_parts::framed_class_of;
 use crate::read::refusal;
+use class_definition::FramedClass;
 use class_format::{ClassFault, Failure, missed};
 use constant_pool::ReadError;
-use framed_class_file::FramedClass;
 use std::alloc::Global;
 
 /// The class of version 51.0 that bytes spell, with the tables of its methods (JVM Specification, Java SE 7 edition, 4).
@@ -22,8 +22,8 @@ use std::alloc::Global;
 pub fn read_class_51(alloc: Global, b: &[u8]) -> Result<FramedClass, ReadError>
     ensures refused { IfErr result (IsAnswer (format.class_fault b.now)) }
     ensures accepted { OnOk result (format.class_fault b.now ≡ None) }
-    ensures spelled { IfOk result (λ c. format.Spells b.now c) }
-    ensures found { (c : FramedClass) → format.Spells b.now c
+    ensures spelled { IfOk result (λ c. format.SpellsFramed b.now c) }
+    ensures found { (c : FramedClass) → format.SpellsFramed b.now c
         → (format.class_fault b.now ≡ None) × IfOk result (λ d. d ≡ c) }
 {
     match whole_class_of(alloc, b) {

@@ -13,7 +13,7 @@ mod parts;
 mod read;
 mod slots;
 
+pub use class_definition::FramedClass;
 pub use constant_pool::{ClassFault, ReadError};
-pub use framed_class_file::FramedClass;
 pub use framed_read::read_class_51;
 pub use read::read_class;

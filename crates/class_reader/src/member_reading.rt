@@ -2,21 +2,21 @@
 ghost use Rattle.std.specs.Prelude.{◌≡◌};
 ghost use Rattle.std.specs.Int.{w16};
 ghost use Rattle.class_format.specs.Gives.{Gives};
-ghost use Rattle.class_format.specs.Format.{counted, repeated};
-ghost use Rattle.class_file.specs.Members as format;
+ghost use Rattle.class_definition.specs.Format.{counted, repeated};
+ghost use Rattle.class_definition.specs.Members as format;
 
 use crate::code_reading::{code_attribute_of, no_attributes};
 use crate::slots::{code_name_of, field_descriptor_of, name_of, own_descriptor_of};
 use class_format::{ClassFault, Failure, exact_half_of, half_of};
 use constant_pool::Slots;
 use jvm_code::{Member, Method};
-use jvm_names::Sequence;
+use jvm_definition::Sequence;
 use std::alloc::Global;
 
 /// Public and static.
 const FLAGS: u16 = 9;
 
-/// The fields, behind their number.
+/// The fields, after their number.
 pub fn fields_of<'a>(
     alloc: Global,
     pool: &Slots,
@@ -50,7 +50,7 @@ fn so_many_fields<'a>(
     Ok((fields, rest))
 }
 
-#[tactic(auto, unfolding(class_file::specs::Members::field))]
+#[tactic(auto, unfolding(class_definition::specs::Members::field))]
 fn field_of<'a>(pool: &Slots, bytes: &'a [u8]) -> Result<(Member, &'a [u8]), Failure>
     ensures { Gives (λ x. (x.0, x.1.now)) result ((format.field pool.now).read bytes.now) }
 {
@@ -68,7 +68,7 @@ pub fn flags_of(bytes: &[u8]) -> Result<&[u8], Failure>
     exact_half_of(ClassFault::CUT, ClassFault::FLAGS, FLAGS, bytes)
 }
 
-/// The methods, behind their number.
+/// The methods, after their number.
 pub fn methods_of<'a>(
     alloc: Global,
     pool: &Slots,
@@ -102,7 +102,7 @@ fn so_many_methods<'a>(
     Ok((methods, rest))
 }
 
-#[tactic(auto, unfolding(class_file::specs::Members::method))]
+#[tactic(auto, unfolding(class_definition::specs::Members::method))]
 fn method_of<'a>(
     alloc: Global,
     pool: &Slots,

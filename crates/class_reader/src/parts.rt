@@ -1,7 +1,7 @@
 //! The parts of a class from bytes.
 ghost use Rattle.std.specs.Prelude.{◌≡◌};
 ghost use Rattle.class_format.specs.Gives.{Gives};
-ghost use Rattle.class_file.specs.ClassFile as format;
+ghost use Rattle.class_definition.specs.ClassFile as format;
 
 use crate::code_reading::no_attributes;
 use crate::member_reading::{fields_of, methods_of};
@@ -9,7 +9,7 @@ use crate::slots::{super_of, this_of};
 use class_format::{ClassFault, Failure, exact_half_of, exact_word_of};
 use constant_pool::{Slots, entries_of};
 use jvm_code::{Class, Member, Method};
-use jvm_names::Sequence;
+use jvm_definition::Sequence;
 use std::alloc::Global;
 
 /// CAFEBABE.
@@ -23,7 +23,7 @@ const MAJOR: u16 = 48;
 const FLAGS: u16 = 0x31;
 
 /// The class at the front, and what follows it.
-#[tactic(auto, unfolding(class_file::specs::ClassFile::class))]
+#[tactic(auto, unfolding(class_definition::specs::ClassFile::class))]
 pub fn class_of(alloc: Global, bytes: &[u8]) -> Result<(Class, &[u8]), Failure>
     ensures { Gives (λ x. (x.0, x.1.now)) result (format.class.read bytes.now) }
 {
@@ -43,7 +43,7 @@ pub fn class_of(alloc: Global, bytes: &[u8]) -> Result<(Class, &[u8]), Failure>
     ))
 }
 
-#[tactic(auto, unfolding(class_file::specs::ClassFile::preamble))]
+#[tactic(auto, unfolding(class_definition::specs::ClassFile::preamble))]
 fn behind_preamble(bytes: &[u8]) -> Result<&[u8], Failure>
     ensures { Gives (λ x. (tt, x.now)) result (format.preamble.read bytes.now) }
 {
@@ -53,7 +53,7 @@ fn behind_preamble(bytes: &[u8]) -> Result<&[u8], Failure>
 }
 
 /// The slots of the class and of the one above it, between the flags and the number of interfaces.
-#[tactic(auto, unfolding(class_file::specs::ClassFile::class_slots))]
+#[tactic(auto, unfolding(class_definition::specs::ClassFile::class_slots))]
 pub fn class_slots_of<'a>(pool: &Slots, bytes: &'a [u8]) -> Result<((u16, u16), &'a [u8]), Failure>
     ensures { Gives (λ x. (x.0, x.1.now)) result ((format.class_slots pool.now).read bytes.now) }
 {
@@ -64,7 +64,7 @@ pub fn class_slots_of<'a>(pool: &Slots, bytes: &'a [u8]) -> Result<((u16, u16), 
     Ok(((this_class, super_class), rest))
 }
 
-#[tactic(auto, unfolding(class_file::specs::ClassFile::members))]
+#[tactic(auto, unfolding(class_definition::specs::ClassFile::members))]
 fn members_of<'a>(
     alloc: Global,
     pool: &Slots,

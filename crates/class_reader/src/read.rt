@@ -1,11 +1,11 @@
 //! A class file from its bytes.
 ghost use Rattle.std.specs.Prelude.{◌≡◌, None, IfOk, OnOk, IfErr, length};
 ghost use Rattle.class_format.specs.Gives.{Gives};
-ghost use Rattle.class_format.specs.Kinds.{trailing};
-ghost use Rattle.class_format.specs.Format.{whole};
+ghost use Rattle.class_definition.specs.Kinds.{trailing};
+ghost use Rattle.class_definition.specs.Format.{whole};
 ghost use Rattle.constant_pool.specs.Answer.{IsAnswer, refusal_of};
-ghost use Rattle.jvm_code.specs.declared.class.Class.{Class};
-ghost use Rattle.class_file.specs.ClassFile as format;
+ghost use Rattle.class_definition.specs.declared.class.Class.{Class};
+ghost use Rattle.class_definition.specs.ClassFile as format;
 
 use crate::parts::class_of;
 use class_format::{ClassFault, Failure, fault_of, missed};

@@ -1,9 +1,9 @@
 //! Slots at the front of bytes, with what they name.
 ghost use Rattle.std.specs.Prelude.{◌≡◌, length};
 ghost use Rattle.class_format.specs.Gives.{Gives};
-ghost use Rattle.class_format.specs.Format.{settled};
-ghost use Rattle.constant_pool.specs.Names as profile;
-ghost use Rattle.class_file.specs.Named as format;
+ghost use Rattle.class_definition.specs.Format.{settled};
+ghost use Rattle.class_definition.specs.NameGrammar as profile;
+ghost use Rattle.class_definition.specs.Named as format;
 
 use crate::faults::{
     code_name_fault, field_descriptor_fault, is_object, own_descriptor_fault, this_fault,

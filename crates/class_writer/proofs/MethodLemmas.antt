@@ -4,8 +4,8 @@ use Rattle.std.specs.Prelude.{flat_map}
 use Rattle.std.specs.List.{list_all}
 use Rattle.std.proofs.lemmas.Bool.{and_parts}
 use Rattle.std.proofs.lemmas.List.{append-nil}
-use Rattle.jvm_code.specs.declared.method.Method.{Method}
-use Rattle.framed_class_file.specs.Tables.{table_size}
+use Rattle.class_definition.specs.declared.method.Method.{Method}
+use Rattle.class_definition.specs.Tables.{table_size}
 use Rattle.class_writer.specs.Written.{halves, word, code_bytes, method_bytes, has_short_code, table_bytes, framed_method_bytes, framed_methods_bytes, is_short_table}
 
 pub code_written : (m : Method) (size : ℕ) (code old a b c d new : List ℕ) → code ≡ m.code

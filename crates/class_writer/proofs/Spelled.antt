@@ -4,34 +4,34 @@ use Rattle.std.specs.Prelude.{flat_map, not}
 use Rattle.std.specs.List.{list_all}
 use Rattle.std.specs.Int.{Width, w16, w32, w64, to_be_bytes, cast_unsigned}
 use Rattle.std.proofs.lemmas.Bool.{and_parts, and_from}
-use Rattle.class_format.specs.Kinds.{cut, index, attribute, code}
-use Rattle.class_format.specs.Format.{Format, number, both, counted, repeated, chain_spelling, chain_fits, signed, spelled_by, fits_by, fits_signed, mapped, refused, behind, unless, is_sound}
+use Rattle.class_definition.specs.Kinds.{cut, index, attribute, bad_code}
+use Rattle.class_definition.specs.Format.{Format, number_format, both, counted, repeated, chain_spelling, chain_fits, signed, spelled_by, fits_by, fits_signed, mapped, refused_format, behind, fault_unless, is_sound}
 use Rattle.class_format.proofs.Parts.{passes}
-use Rattle.constant_pool.specs.declared.entry.Entry.{Entry}
-use Rattle.constant_pool.specs.declared.entry.Entry.TheVariants.{Utf8, Integer, Long, LongRest, ClassName, Text, FieldRef, MethodRef, NameAnd}
-use Rattle.constant_pool.specs.Entries.{entry, slot, slots, is_long, long_of}
-use Rattle.constant_pool.specs.Names.{is_member_name}
-use Rattle.constant_pool.specs.Checks.{pool, sound_slots, entries_fault}
-use Rattle.jvm_code.specs.declared.class.Class.{Class}
-use Rattle.jvm_code.specs.declared.member.Member.{Member}
-use Rattle.jvm_code.specs.declared.method.Method.{Method}
-use Rattle.jvm_code.specs.Code.{is_bad_length}
-use Rattle.class_file.specs.Named.{text_slot, is_own_descriptor, code_name_slot}
-use Rattle.class_file.specs.Members.{public_static, attributes, field, CodeHead, code_length, code_head, code_attribute, method_parts, method}
-use Rattle.class_file.specs.ClassFile.{preamble, class_slots, members, class, Spells}
+use Rattle.class_definition.specs.declared.entry.Entry.{Entry}
+use Rattle.class_definition.specs.declared.entry.Entry.TheVariants.{Utf8, Integer, Long, LongRest, ClassName, Text, FieldRef, MethodRef, NameAnd}
+use Rattle.class_definition.specs.PoolEntries.{entry, slot, slots, is_long_entry, long_entry}
+use Rattle.class_definition.specs.NameGrammar.{is_member_name}
+use Rattle.class_definition.specs.PoolChecks.{pool, sound_slots, pool_entries_fault}
+use Rattle.class_definition.specs.declared.class.Class.{Class}
+use Rattle.class_definition.specs.declared.member.Member.{Member}
+use Rattle.class_definition.specs.declared.method.Method.{Method}
+use Rattle.class_definition.specs.Code.{is_bad_length}
+use Rattle.class_definition.specs.Named.{text_slot, is_own_descriptor, code_name_slot}
+use Rattle.class_definition.specs.Members.{public_static, attributes, field, CodeHead, code_length, code_head, code_attribute, method_parts, method}
+use Rattle.class_definition.specs.ClassFile.{preamble, class_slots, members, class, Spells}
 use Rattle.class_writer.specs.Written.{halves, word, entry_bytes, field_bytes, code_bytes, method_bytes, has_short_code, front_bytes, class_bytes}
 
 -- ---- entries
 
-spelled_of : (w : Width) (b : Bool) (n : ℕ) → fits_by (number cut w) (cond b (Some n) None) ≡ true → spelled_by (number cut w) (cond b (Some n) None) ≡ to_be_bytes w n
+spelled_of : (w : Width) (b : Bool) (n : ℕ) → fits_by (number_format cut w) (cond b (Some n) None) ≡ true → spelled_by (number_format cut w) (cond b (Some n) None) ≡ to_be_bytes w n
 spelled_of w true n e = refl
 spelled_of w false n e = absurd cc
 
 signed_spelled : (w : Width) (z : ℤ) → (signed cut w).fits z ≡ true → (signed cut w).spell z ≡ to_be_bytes w (cast_unsigned w z)
 signed_spelled w z e = spelled_of w (fits_signed w z) (cast_unsigned w z) e
 
-long_spelled : (b : Bool) (n : ℤ) → (cond b (mapped Long long_of (signed cut w64)) (refused index 1)).fits (Long n) ≡ true
-    → (cond b (mapped Long long_of (signed cut w64)) (refused index 1)).spell (Long n) ≡ to_be_bytes w64 (cast_unsigned w64 n)
+long_spelled : (b : Bool) (n : ℤ) → (cond b (mapped Long long_entry (signed cut w64)) (refused_format index 1)).fits (Long n) ≡ true
+    → (cond b (mapped Long long_entry (signed cut w64)) (refused_format index 1)).spell (Long n) ≡ to_be_bytes w64 (cast_unsigned w64 n)
 long_spelled true n e = signed_spelled w64 n e
 long_spelled false n e = absurd cc
 
@@ -56,20 +56,20 @@ slot_spelled false to_come (FieldRef n m) e = refl
 slot_spelled false to_come (MethodRef n m) e = refl
 slot_spelled false to_come (NameAnd n m) e = refl
 
-pub entries_spelled : (s : Bool) (es : List Entry) → chain_fits slot (λ _ e. is_long e) s es ≡ true → chain_spelling slot (λ _ e. is_long e) s es ≡ flat_map entry_bytes es
+pub entries_spelled : (s : Bool) (es : List Entry) → chain_fits slot (λ _ e. is_long_entry e) s es ≡ true → chain_spelling slot (λ _ e. is_long_entry e) s es ≡ flat_map entry_bytes es
 entries_spelled s [] e = refl
 entries_spelled s (x ∷ xs) e =
-    let p = and_parts ((slot s (length xs)).fits x) (chain_fits slot (λ _ y. is_long y) (is_long x) xs) e in
+    let p = and_parts ((slot s (length xs)).fits x) (chain_fits slot (λ _ y. is_long_entry y) (is_long_entry x) xs) e in
     let one : (slot s (length xs)).spell x ≡ entry_bytes x = slot_spelled s (length xs) x p.0 in
-    let others : chain_spelling slot (λ _ y. is_long y) (is_long x) xs ≡ flat_map entry_bytes xs = entries_spelled (is_long x) xs p.1 in
-    ap (λ (ys : List ℕ). ys ++ chain_spelling slot (λ _ y. is_long y) (is_long x) xs) one ∙ ap (λ (ys : List ℕ). entry_bytes x ++ ys) others
+    let others : chain_spelling slot (λ _ y. is_long_entry y) (is_long_entry x) xs ≡ flat_map entry_bytes xs = entries_spelled (is_long_entry x) xs p.1 in
+    ap (λ (ys : List ℕ). ys ++ chain_spelling slot (λ _ y. is_long_entry y) (is_long_entry x) xs) one ∙ ap (λ (ys : List ℕ). entry_bytes x ++ ys) others
 
-pub pool_fits : (es : List Entry) → pool.fits es ≡ true → chain_fits slot (λ _ e. is_long e) false es ≡ true
+pub pool_fits : (es : List Entry) → pool.fits es ≡ true → chain_fits slot (λ _ e. is_long_entry e) false es ≡ true
 unfolding pool
 pool_fits es e =
     let p = and_parts _ ((sound_slots (length es + 1)).fits es) e in
-    let q = and_parts ((slots (length es + 1 - 1)).fits es) (is_sound (entries_fault es es 0)) p.1 in
-    (and_parts (eqb (length es) (length es + 1 - 1)) (chain_fits slot (λ _ y. is_long y) false es) q.0).1
+    let q = and_parts ((slots (length es + 1 - 1)).fits es) (is_sound (pool_entries_fault es es 0)) p.1 in
+    (and_parts (eqb (length es) (length es + 1 - 1)) (chain_fits slot (λ _ y. is_long_entry y) false es) q.0).1
 
 -- ---- fields and methods
 
@@ -103,12 +103,12 @@ named_code es = behind (attributes 1) (both (code_name_slot es) (λ _. code_attr
 
 head_short : (h : CodeHead) → code_head.fits h ≡ true → not (ltb 65535 h.1.1.1) ≡ true
 head_short h e =
-    let p = and_parts _ (is_sound (unless attribute (eqb h.0 (h.1.1.1 + 12)))) e in
-    let q = and_parts ((number cut w32).fits h.0) _ p.0 in
-    let r = and_parts ((number cut w16).fits h.1.0) _ q.1 in
-    let s = and_parts ((number cut w16).fits h.1.1.0) (code_length.fits h.1.1.1) r.1 in
-    let t = and_parts ((number cut w32).fits h.1.1.1) (is_sound (unless code (not (is_bad_length h.1.1.1)))) s.1 in
-    short_of (eqb h.1.1.1 0) (ltb 65535 h.1.1.1) (passes code (not (is_bad_length h.1.1.1)) t.1)
+    let p = and_parts _ (is_sound (fault_unless attribute (eqb h.0 (h.1.1.1 + 12)))) e in
+    let q = and_parts ((number_format cut w32).fits h.0) _ p.0 in
+    let r = and_parts ((number_format cut w16).fits h.1.0) _ q.1 in
+    let s = and_parts ((number_format cut w16).fits h.1.1.0) (code_length.fits h.1.1.1) r.1 in
+    let t = and_parts ((number_format cut w32).fits h.1.1.1) (is_sound (fault_unless bad_code (not (is_bad_length h.1.1.1)))) s.1 in
+    short_of (eqb h.1.1.1 0) (ltb 65535 h.1.1.1) (passes bad_code (not (is_bad_length h.1.1.1)) t.1)
 
 attribute_short : (h : CodeHead) (bytes : List ℕ) → code_attribute.fits (h, bytes) ≡ true → not (ltb 65535 h.1.1.1) ≡ true
 unfolding code_attribute
@@ -135,7 +135,7 @@ unfolding members
 members_short es fs ms e =
     let p = and_parts ((both (counted cut w16 (field es)) (λ _. counted cut w16 (method es))).fits (fs, ms)) ((attributes 0).fits tt) e in
     let q = and_parts ((counted cut w16 (field es)).fits fs) ((counted cut w16 (method es)).fits ms) p.0 in
-    let r = and_parts ((number cut w16).fits (length ms)) ((repeated (method es) (length ms)).fits ms) q.1 in
+    let r = and_parts ((number_format cut w16).fits (length ms)) ((repeated (method es) (length ms)).fits ms) q.1 in
     all_short es ms (and_parts (eqb (length ms) (length ms)) (fit_all (method es) ms) r.1).1
 
 -- ---- the class
@@ -161,7 +161,7 @@ pieces version slots this super fields methods es fs ms =
     ++ (((halves (fields ∷ []) ++ fs) ++ (halves (methods ∷ []) ++ ms)) ++ halves (0 ∷ []))))
 
 in_pieces : (c : Class) → class.spell c ≡ pieces 48 (length c.pool + 1) c.this_class c.super_class (length c.fields) (length c.methods)
-    (chain_spelling slot (λ _ e. is_long e) false c.pool) (spelling_of (field c.pool) c.fields) (spelling_of (method c.pool) c.methods)
+    (chain_spelling slot (λ _ e. is_long_entry e) false c.pool) (spelling_of (field c.pool) c.fields) (spelling_of (method c.pool) c.methods)
 unfolding class preamble class_slots members pool
 in_pieces c = refl
 

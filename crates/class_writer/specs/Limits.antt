@@ -1,10 +1,10 @@
 -- JVM Specification, 4.11: how much a class file can hold, of what is counted by two bytes.
 use Rattle.std.specs.Prelude.{ℕ, Bool, false, nat_lt, if◌then◌else◌, List, length, Option, Some, None}
 use Rattle.std.specs.List.{list_any}
-use Rattle.constant_pool.specs.declared.entry.Entry.{Entry}
-use Rattle.constant_pool.specs.declared.entry.Entry.TheVariants.{Utf8}
-use Rattle.constant_pool.specs.Text.{text_bytes}
-use Rattle.jvm_code.specs.declared.class.Class.{Class}
+use Rattle.class_definition.specs.declared.entry.Entry.{Entry}
+use Rattle.class_definition.specs.declared.entry.Entry.TheVariants.{Utf8}
+use Rattle.class_definition.specs.Utf8.{text_bytes}
+use Rattle.class_definition.specs.declared.class.Class.{Class}
 
 abbrev pub has_long_text : Entry → Bool
 has_long_text (Utf8 characters) = nat_lt 65535 (length (text_bytes characters))

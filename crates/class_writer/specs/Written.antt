@@ -1,14 +1,14 @@
 -- What is written of the parts of a class. Where a class keeps the rules it is the class's spelling.
 use Rattle.std.specs.Prelude.{ℕ, ◌+◌, ◌^◌, Bool, nat_lt, not, List, [], ◌∷◌, ◌++◌, length, flat_map, unwrap_or}
 use Rattle.std.specs.Int.{w16, w32, w64, to_be_bytes, cast_unsigned}
-use Rattle.constant_pool.specs.declared.entry.Entry.{Entry}
-use Rattle.constant_pool.specs.declared.entry.Entry.TheVariants.{Utf8, Integer, Long, LongRest, ClassName, Text, FieldRef, MethodRef, NameAnd}
-use Rattle.constant_pool.specs.Text.{text_bytes}
-use Rattle.jvm_code.specs.declared.class.Class.{Class}
-use Rattle.jvm_code.specs.declared.member.Member.{Member}
-use Rattle.jvm_code.specs.declared.method.Method.{Method}
-use Rattle.framed_class_file.specs.declared.framed_class.FramedClass.{FramedClass}
-use Rattle.framed_class_file.specs.Tables.{table_slot, table_size}
+use Rattle.class_definition.specs.declared.entry.Entry.{Entry}
+use Rattle.class_definition.specs.declared.entry.Entry.TheVariants.{Utf8, Integer, Long, LongRest, ClassName, Text, FieldRef, MethodRef, NameAnd}
+use Rattle.class_definition.specs.Utf8.{text_bytes}
+use Rattle.class_definition.specs.declared.class.Class.{Class}
+use Rattle.class_definition.specs.declared.member.Member.{Member}
+use Rattle.class_definition.specs.declared.method.Method.{Method}
+use Rattle.class_definition.specs.declared.framed_class.FramedClass.{FramedClass}
+use Rattle.class_definition.specs.Tables.{table_slot, table_size}
 
 abbrev pub halves : List ℕ → List ℕ
 halves numbers = flat_map (to_be_bytes w16) numbers

@@ -2,7 +2,7 @@
 ghost use Rattle.std.specs.Prelude.{◌≡◌, ◌≤◌, ◌∷◌, ◌++◌, false, flat_map, length, OnOk};
 ghost use Rattle.std.specs.List.{list_any};
 ghost use Rattle.std.specs.Int.{w16, w32, w64, to_be_bytes, cast_unsigned};
-ghost use Rattle.constant_pool.specs.Text.{text_bytes};
+ghost use Rattle.class_definition.specs.Utf8.{text_bytes};
 ghost use Rattle.class_writer.specs.Limits.{has_long_text};
 ghost use Rattle.class_writer.specs.Written.{entry_bytes, halves};
 

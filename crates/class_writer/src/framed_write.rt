@@ -1,9 +1,9 @@
 //! A class file of version 51.0 as its bytes.
 ghost use Rattle.std.specs.Prelude.{◌≡◌, ◌≤◌, ◌↔◌, ℕ, true, Some, None, Err, IfOk, length};
 ghost use Rattle.std.specs.List.{list_all};
-ghost use Rattle.class_file.specs.ClassFile.{class};
-ghost use Rattle.framed_class_file.specs.declared.framed_class.FramedClass.{FramedClass};
-ghost use Rattle.framed_class_file.specs.FramedClassFile as format;
+ghost use Rattle.class_definition.specs.ClassFile.{class};
+ghost use Rattle.class_definition.specs.declared.framed_class.FramedClass.{FramedClass};
+ghost use Rattle.class_definition.specs.FramedClassFile as format;
 ghost use Rattle.class_writer.specs.Limits.{limit};
 ghost use Rattle.class_writer.specs.Written.{framed_class_bytes, has_short_code, is_short_table, name_slot};
 ghost use Rattle.class_writer.specs.declared.error.WriteError.TheVariants.{TooLong};
@@ -13,8 +13,8 @@ use crate::limits::limit_of;
 use crate::member_writing::append_framed_methods;
 use crate::numbers::append_halves;
 use crate::write::front_of;
+use class_definition_laws::{FramedClass, table_slot_of};
 use constant_pool::Entry;
-use framed_class_file::{FramedClass, table_slot_of};
 use std::alloc::Global;
 
 const MAJOR: u16 = 51;
@@ -25,13 +25,13 @@ const MAJOR: u16 = 51;
 ///
 /// # Errors
 ///
-/// TooLong, exactly where a limit is exceeded. NoMemory.
+/// TooLong, exactly if a limit is exceeded. NoMemory.
 pub fn write_class_51(alloc: Global, c: &FramedClass) -> Result<Vec<u8>, WriteError>
     requires fits { limit c.now.class ≡ None → class.fits c.now.class ≡ true }
     requires tables { format.IsTabled c.now }
-    ensures spelled { IfOk result (λ bytes. format.Spells bytes.items c.now) }
+    ensures spelled { IfOk result (λ bytes. format.SpellsFramed bytes.items c.now) }
     ensures sound { IfOk result (λ bytes. format.class_fault bytes.items ≡ None) }
-    ensures only_class { IfOk result (λ bytes. (d : FramedClass) → format.Spells bytes.items d
+    ensures only_class { IfOk result (λ bytes. (d : FramedClass) → format.SpellsFramed bytes.items d
         → d ≡ c.now) }
     ensures too_long { (k : ℕ) → (result ≡ Err (TooLong k)) ↔ (limit c.now.class ≡ Some k) }
 {

@@ -9,7 +9,7 @@ mod member_writing;
 mod numbers;
 mod write;
 
+pub use class_definition::FramedClass;
 pub use error::{NoMemory, WriteError};
-pub use framed_class_file::FramedClass;
 pub use framed_write::write_class_51;
 pub use write::write_class;

@@ -1,22 +1,13 @@
 //! Fields and methods as bytes (JVM Specification, 4.5 to 4.7).
 ghost use Rattle.std.specs.Prelude.{◌≡◌, ◌+◌, ◌<◌, ◌^◌, ◌++◌, true, flat_map, OnOk};
 ghost use Rattle.std.specs.List.{list_all};
-ghost use Rattle.framed_class_file.specs.Tables.{table_size};
-ghost use Rattle.class_writer.specs.Written.{
-  field_bytes,
-  code_bytes,
-  method_bytes,
-  has_short_code,
-  table_bytes,
-  framed_method_bytes,
-  framed_methods_bytes,
-  is_short_table,
-};
+ghost use Rattle.class_definition.specs.Tables.{table_size};
+ghost use Rattle.class_writer.specs.Written.{field_bytes, code_bytes, method_bytes, has_short_code, table_bytes, framed_method_bytes, framed_methods_bytes, is_short_table};
 
 use crate::error::NoMemory;
 use crate::numbers::{append_halves, append_word};
 use jvm_code::{Member, Method};
-use jvm_names::Sequence;
+use jvm_definition::Sequence;
 
 /// Public and static.
 const FLAGS: u16 = 9;

@@ -1,8 +1,8 @@
 //! A class file as its bytes.
 ghost use Rattle.std.specs.Prelude.{◌≡◌, ◌↔◌, ℕ, true, Some, None, Err, IfOk};
 ghost use Rattle.std.specs.List.{list_all};
-ghost use Rattle.jvm_code.specs.declared.class.Class.{Class};
-ghost use Rattle.class_file.specs.ClassFile as format;
+ghost use Rattle.class_definition.specs.declared.class.Class.{Class};
+ghost use Rattle.class_definition.specs.ClassFile as format;
 ghost use Rattle.class_writer.specs.Limits.{limit};
 ghost use Rattle.class_writer.specs.Written.{class_bytes, front_bytes, has_short_code};
 ghost use Rattle.class_writer.specs.declared.error.WriteError.TheVariants.{TooLong};
@@ -29,7 +29,7 @@ const FLAGS: u16 = 0x31;
 ///
 /// # Errors
 ///
-/// TooLong, exactly where a limit is exceeded. NoMemory.
+/// TooLong, exactly if a limit is exceeded. NoMemory.
 pub fn write_class(alloc: Global, c: &Class) -> Result<Vec<u8>, WriteError>
     requires { limit c.now ≡ None → format.class.fits c.now ≡ true }
     ensures spelled { IfOk result (λ bytes. format.Spells bytes.items c.now) }

@@ -12,7 +12,7 @@ use Rattle.command_deeds.specs.declared.stop.Stop.TheVariants.{ReadFault, WriteF
 use Rattle.command_deeds.specs.Deeds.{Deed, prepares, stores, prints, plays, pipes, tells, CountsStop, DoesDeed, StopsDeed, StopsPipes, DoesAll, StopsIn}
 use Rattle.command_words.specs.declared.named.Named.{Named}
 use Rattle.command_deeds.specs.declared.ending.Ending.{Ending}
-use Rattle.command_deeds.specs.Checks.{Check, file_at, file_named, there}
+use Rattle.command_deeds.specs.Checks.{Check, file_at, file_that_is_named, there}
 use Rattle.command_deeds.specs.Ends.{CommandAnswer, Comes, DoesOrStops, Due, Gives, GivesEnd}
 use Rattle.command_deeds.specs.Ends.{Makes, MakesEnd, Over, Works, answers, end_of, is_stop, lacks}
 use Rattle.command_deeds.specs.Stops.{shelf_stop}
@@ -319,10 +319,10 @@ makes_over IsSo IsMade IsChecked a b (Err ending) o f q =
 
 -- a file that was loaded is that of the words
 pub file_is : (input : Named) (name file bytes : List ℕ) (files : Files) → name ≡ input.text → bytes ≡ file → Ok file ≡ file_at files input.word name
-    → Ok bytes ≡ file_named files input
+    → Ok bytes ≡ file_that_is_named files input
 file_is input name file bytes files is same found = ap (λ b. Ok b) same ∙ found ∙ ap (file_at files input.word) is
 
 -- and so is one that is not there
 pub file_is_not : (input : Named) (name : List ℕ) (files : Files) (answer : CommandAnswer) → name ≡ input.text
-    → Err answer ≡ file_at files input.word name → Err answer ≡ file_named files input
+    → Err answer ≡ file_at files input.word name → Err answer ≡ file_that_is_named files input
 file_is_not input name files answer is lacks = lacks ∙ ap (file_at files input.word) is

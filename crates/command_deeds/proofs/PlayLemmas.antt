@@ -1,12 +1,12 @@
 -- What is due of a machine's run.
 use Rattle.std.proofs.Common.{◌≡◌, ℕ, false, List, [], ◌∷◌, Option, Some, None, option_map, Ok, Err, refl, sym, ◌∙◌, ap, subst, inl, inr}
 use Rattle.nv_outside.specs.Files.{AgreeWith, Files}
-use Rattle.nv_events.specs.Run.{run_of}
-use Rattle.nv_events.specs.Turn.{Turn}
-use Rattle.nv_events.specs.declared.io_fault.IoFault.{IoFault}
-use Rattle.nv_events.specs.declared.outcome.Outcome.{Outcome}
-use Rattle.nv_events.specs.declared.outcome.Outcome.TheVariants.{Exited, Faulted, Trapped, Waiting, Going}
-use Rattle.unix_system.specs.Unix.{reply, start}
+use Rattle.run_definition.specs.Run.{run_of}
+use Rattle.run_definition.specs.Turn.{Turn}
+use Rattle.run_definition.specs.declared.io_fault.IoFault.{IoFault}
+use Rattle.run_definition.specs.declared.outcome.Outcome.{Outcome}
+use Rattle.run_definition.specs.declared.outcome.Outcome.TheVariants.{Exited, Faulted, Trapped, Waiting, Going}
+use Rattle.unix_definition.specs.Unix.{reply, system_start}
 use Rattle.unix_calls.specs.Arriving.{run_arriving}
 use Rattle.unix_calls.specs.Held.{Held, system_of}
 use Rattle.unix_calls.specs.Playing.{Breaks, Plays, run_over}
@@ -91,7 +91,7 @@ some_run steps turn s unix keep input = (of_runs turn steps (λ n. run_over turn
 abbrev pub StartsAs : Plan → Held → Type 0
 StartsAs plan unix =
     (rest : List ℕ) (found : List GivenFile) → Begins unix plan.session.disk plan.moment found (arguments_of plan)
-    → system_of unix rest [] [] ≡ start plan.session.disk plan.moment found (arguments_of plan) rest
+    → system_of unix rest [] [] ≡ system_start plan.session.disk plan.moment found (arguments_of plan) rest
 
 -- the run for so many steps over these arguments and files, and input or some pieces of it
 abbrev pub IsDueOfSteps : {S : Type 0} → ℕ → (S → Turn S) → S → Plan → Option (List ℕ) → List GivenFile → Due → Type 0

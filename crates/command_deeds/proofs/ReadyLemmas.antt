@@ -14,19 +14,19 @@ use Rattle.std.proofs.Math.ListN.{get_or-map}
 use Rattle.std.specs.List.{All, list_any}
 use Rattle.std.specs.Str.{bytes_eq}
 use Rattle.nv_outside.specs.Files.{Files}
-use Rattle.command_values.specs.Names.{Text}
+use Rattle.nv_values.specs.Names.{Text}
 use Rattle.command_words.specs.Limits.{IsFileName}
 use Rattle.command_words.specs.Values.{all_different}
 use Rattle.nv_outside.proofs.FilesLemmas.{agree_before, agree_with, files_with, with-other, with-same}
-use Rattle.unix_files.specs.Files.{Files as GuestFiles, bytes_at, node_named}
-use Rattle.unix_system.specs.Calls.{block_length}
-use Rattle.unix_system.specs.Unix.{blocks_needed}
+use Rattle.unix_definition.specs.Files.{GuestFiles, bytes_at, node_named}
+use Rattle.unix_definition.specs.Calls.{block_length}
+use Rattle.unix_definition.specs.Unix.{blocks_needed}
 use Rattle.unix_calls.specs.Held.{Held}
 use Rattle.unix_calls.specs.Starting.{Begins, IsOpenToFiles}
 use Rattle.unix_calls.specs.declared.unix_error.UnixError.{UnixError}
 use Rattle.unix_calls.specs.declared.unix_error.UnixError.TheVariants as unix
 use Rattle.command_deeds.proofs.DeedLemmas.{deeds_then, gives_end_as, makes_end_as, makes_gives, over_any, over_as, same_shelf, same_then_load, same_then_shelf, stays, stops_before}
-use Rattle.command_deeds.specs.Checks.{Check, after, file_at, there, unless}
+use Rattle.command_deeds.specs.Checks.{Check, after_check, file_at, there, unless_fault}
 use Rattle.command_deeds.specs.Deeds.{Deed, StopsDeed, stores}
 use Rattle.command_deeds.specs.Ends.{CommandAnswer, GivesEnd, MakesEnd, Over, ShelfDoes, end_of, lacks, says}
 use Rattle.command_deeds.specs.World.{Seen, World, world}
@@ -36,7 +36,7 @@ use Rattle.command_deeds.specs.declared.stop.Stop.{Stop}
 use Rattle.command_deeds.specs.declared.stop.Stop.TheVariants.{NoMemory}
 use Rattle.command_deeds.specs.Readying.{AddsArgs, AddsFiles, AddsFound, ArgsOr, FilesOr, HasNoFiles, IsReady, IsTooLong}
 use Rattle.command_deeds.specs.Stops.{unix_ending}
-use Rattle.command_deeds.specs.Runs.{GivenFile, Plan, arguments_of, files_for, found_for, keeps, kept, on_disk, session_files, too_long}
+use Rattle.command_deeds.specs.Runs.{GivenFile, Plan, arguments_of, files_for, found_for, keeping, kept, on_disk, session_files, too_long}
 
 err_ok : (d : CommandAnswer) (found : List GivenFile) → Err d ≡ Ok found → ⊥
 err_ok d found e = cc
@@ -167,7 +167,7 @@ args_stopped name xs k old new h p =
 -- how it goes on where a file was looked for
 abbrev looked_for : Files → ℕ → ℕ → List GivenFile → Text → List Text → Check (List ℕ) → Check (List GivenFile)
 looked_for f blocks word found name rest file =
-    after file (λ bytes. after (on_disk blocks (found ++ (name, bytes) ∷ [])) (λ more. files_for f blocks word more rest))
+    after_check file (λ bytes. after_check (on_disk blocks (found ++ (name, bytes) ∷ [])) (λ more. files_for f blocks word more rest))
 
 no_file : (f : Files) (blocks word : ℕ) (found : List GivenFile) (name : Text) (rest : List Text) → f name ≡ None
     → files_for f blocks word found (name ∷ rest) ≡ Err (lacks word name)
@@ -179,7 +179,7 @@ next_file : (f : Files) (blocks word : ℕ) (found : List GivenFile) (name : Tex
 next_file f blocks word found name bytes rest e t =
     let more = found ++ (name, bytes) ∷ [] in
     let fits : on_disk blocks more ≡ Ok more = if_no (nat_lt blocks (blocks_needed more)) (Err (says (Done.FilesTooLarge (blocks_needed more)))) (Ok more) t in
-    ap (λ o. looked_for f blocks word found name rest (there word name o)) e ∙ ap (λ d. after d (λ all. files_for f blocks word all rest)) fits
+    ap (λ o. looked_for f blocks word found name rest (there word name o)) e ∙ ap (λ d. after_check d (λ all. files_for f blocks word all rest)) fits
 
 full_file : (f : Files) (blocks word : ℕ) (found : List GivenFile) (name : Text) (bytes : List ℕ) (rest : List Text) → f name ≡ Some bytes
     → nat_lt blocks (blocks_needed (found ++ (name, bytes) ∷ [])) ≡ true
@@ -188,7 +188,7 @@ full_file f blocks word found name bytes rest e t =
     let more = found ++ (name, bytes) ∷ [] in
     let full : on_disk blocks more ≡ Err (says (Done.FilesTooLarge (blocks_needed more))) =
     if_yes (nat_lt blocks (blocks_needed more)) (Err (says (Done.FilesTooLarge (blocks_needed more)))) (Ok more) t in
-    ap (λ o. looked_for f blocks word found name rest (there word name o)) e ∙ ap (λ d. after d (λ all. files_for f blocks word all rest)) full
+    ap (λ o. looked_for f blocks word found name rest (there word name o)) e ∙ ap (λ d. after_check d (λ all. files_for f blocks word all rest)) full
 
 -- a file that was loaded is there
 is_there : (word : ℕ) (name bytes : List ℕ) (file : Option (List ℕ)) → Ok bytes ≡ there word name file → file ≡ Some bytes
@@ -294,8 +294,8 @@ same_for : (f g : Files) (blocks word : ℕ) (found : List GivenFile) (names : L
     → files_for f blocks word found names ≡ files_for g blocks word found names
 same_for f g blocks word found [] h = refl
 same_for f g blocks word found (name ∷ names) h =
-    λ i. after (there word name (h.0 i))
-    (λ bytes. after (on_disk blocks (found ++ (name, bytes) ∷ [])) (λ more. same_for f g blocks word more names h.1 i))
+    λ i. after_check (there word name (h.0 i))
+    (λ bytes. after_check (on_disk blocks (found ++ (name, bytes) ∷ [])) (λ more. same_for f g blocks word more names h.1 i))
 
 -- a name is none of these
 abbrev pub Apart : Text → List Text → Type 0
@@ -431,7 +431,7 @@ plan_args name texts = name ∷ map string_bytes texts
 
 -- what becomes of the files behind arguments that fit
 abbrev behind_args : Plan → Files → Option ℕ → Check (List GivenFile)
-behind_args plan files long = after (unless long Done.ArgsTooLong (arguments_of plan)) (λ arguments. session_files files plan.session)
+behind_args plan files long = after_check (unless_fault long Done.ArgsTooLong (arguments_of plan)) (λ arguments. session_files files plan.session)
 
 args_refused : (plan : Plan) (files : Files) (answer : CommandAnswer) → IsTooLong [] (arguments_of plan) answer → found_for plan files ≡ Err answer
 args_refused plan files answer h = ap (behind_args plan files) h.1 ∙ ap (λ a. Err a) (sym h.2)
@@ -488,14 +488,14 @@ none_some : {A : Type 0} (a : A) → None ≡ Some a → ⊥
 none_some a e = cc
 
 pub keep_no_memory : (files : GuestFiles) (name : Text) (node : Option ℕ) (shelf : Seen Files) → IsSome node
-    → ShelfDoes (keeps files name node) shelf shelf (Err NoMemory)
+    → ShelfDoes (keeping files name node) shelf shelf (Err NoMemory)
 keep_no_memory files name None shelf some = cc
 keep_no_memory files name (Some n) shelf some = λ input out err. inl (stays (world shelf input out err))
 
 pub keep_some : (files : GuestFiles) (node : Option ℕ) (shelf now : Seen Files) (name : List ℕ) (found : Option (Vec ℕ Global)) (v : Vec ℕ Global)
     (bytes : List ℕ) (r : Result (Unit {0}) Stop) → found ≡ Some v → bytes ≡ v.items
     → option_map (λ v. v.items) found ≡ option_map (bytes_at files) node → ShelfDoes (stores name bytes ∷ []) shelf now r
-    → ShelfDoes (keeps files name node) shelf now r
+    → ShelfDoes (keeping files name node) shelf now r
 keep_some files None shelf now name found v bytes r some is e p = absurd (none_some v.items (sym e ∙ ap (option_map (λ v. v.items)) some))
 keep_some files (Some n) shelf now name found v bytes r some is e p =
     let q : Some v.items ≡ Some (bytes_at files n) = sym (ap (option_map (λ v. v.items)) some) ∙ e in
@@ -503,7 +503,7 @@ keep_some files (Some n) shelf now name found v bytes r some is e p =
     subst (λ b. ShelfDoes (stores name b ∷ []) shelf now r) (is ∙ same) p
 
 pub keep_none : (files : GuestFiles) (node : Option ℕ) (shelf : Seen Files) (name : List ℕ) (found : Option (Vec ℕ Global)) (done : Unit {0})
-    → found ≡ None → option_map (λ v. v.items) found ≡ option_map (bytes_at files) node → ShelfDoes (keeps files name node) shelf shelf (Ok done)
+    → found ≡ None → option_map (λ v. v.items) found ≡ option_map (bytes_at files) node → ShelfDoes (keeping files name node) shelf shelf (Ok done)
 keep_none files None shelf name found done none e = λ input out err. stays (world shelf input out err)
 keep_none files (Some n) shelf name found done none e = absurd (none_some (bytes_at files n) (sym (ap (option_map (λ v. v.items)) none) ∙ e))
 
@@ -521,7 +521,7 @@ shelf_stops_before first deeds a b stop p =
 
 -- a file of a list of names is kept after those before it
 abbrev keep_named : GuestFiles → Text → List Deed
-keep_named files name = keeps files name (node_named files name)
+keep_named files name = keeping files name (node_named files name)
 
 kept_next : (files : GuestFiles) (names : List Text) (name : Text) → kept files (names ++ name ∷ []) ≡ kept files names ++ keep_named files name
 kept_next files names name =

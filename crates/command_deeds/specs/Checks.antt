@@ -10,9 +10,9 @@ abbrev pub Check : Type 0 → Type 0
 Check A = Result A CommandAnswer
 
 -- a check behind a check: it is made where that passed, and where that refused, so it does
-abbrev pub after : {A B : Type 0} → Check A → (A → Check B) → Check B
-after (Ok value) next = next value
-after (Err answer) next = Err answer
+abbrev pub after_check : {A B : Type 0} → Check A → (A → Check B) → Check B
+after_check (Ok value) next = next value
+after_check (Err answer) next = Err answer
 
 -- the same where the second is a relation
 abbrev pub Behind : {A B : Type 0} → Check A → (A → Check B → Type 0) → Check B → Type 0
@@ -20,9 +20,9 @@ Behind (Ok value) IsChecked check = IsChecked value check
 Behind (Err answer) IsChecked check = check ≡ Err answer
 
 -- a value, unless there is a fault, which is told so
-abbrev pub unless : {A F : Type 0} → Option F → (F → Done) → A → Check A
-unless None refusal value = Ok value
-unless (Some fault) refusal value = Err (says (refusal fault))
+abbrev pub unless_fault : {A F : Type 0} → Option F → (F → Done) → A → Check A
+unless_fault None refusal value = Ok value
+unless_fault (Some fault) refusal value = Err (says (refusal fault))
 
 -- a value, if there is one; or there is no file of this name, which a word gives
 abbrev pub there : {A : Type 0} → ℕ → List ℕ → Option A → Check A
@@ -33,8 +33,8 @@ there word name (Some value) = Ok value
 abbrev pub file_at : Files → ℕ → List ℕ → Check (List ℕ)
 file_at files word name = there word name (files name)
 
-abbrev pub file_named : Files → Named → Check (List ℕ)
-file_named files name = file_at files name.word name.text
+abbrev pub file_that_is_named : Files → Named → Check (List ℕ)
+file_that_is_named files name = file_at files name.word name.text
 
 -- what the value of a check shows
 abbrev pub shown : {A B E : Type 0} → (A → B) → Result A E → Result B E

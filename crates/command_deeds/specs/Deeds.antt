@@ -1,7 +1,7 @@
 -- What a command is to do, deed by deed, and what is left of it where it was stopped.
 use Rattle.std.specs.Prelude.{◌≡◌, ◌⊎◌, ◌++◌, ℕ, List, [], ◌∷◌}
 use Rattle.std.specs.Io.KnownBytes.{Appends, Consumes}
-use Rattle.nv_events.specs.declared.io_fault.IoFault.{IoFault}
+use Rattle.run_definition.specs.declared.io_fault.IoFault.{IoFault}
 use Rattle.unix_calls.specs.Stages.{ComesTo, LosesRead, Stage, StopsRun}
 use Rattle.command_deeds.specs.Stops.{stop_of}
 use Rattle.command_deeds.specs.declared.stop.Stop.{Stop}

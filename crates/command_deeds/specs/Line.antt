@@ -2,16 +2,16 @@
 use Rattle.std.specs.Prelude.{ℕ, ◌+◌, ◌/◌, ◌%◌, ◌^◌, ◌++◌, List, [], ◌∷◌, Option, Some, None, codes, decimal, if◌then◌else◌, nat_lt}
 use Rattle.std.specs.Fmt.{signed_decimal}
 use Rattle.std.specs.Int.{cast_unsigned, w32}
-use Rattle.nv_events.specs.declared.fault.Fault.{Fault}
-use Rattle.nv_events.specs.declared.outcome.Outcome.{Outcome}
-use Rattle.nv_events.specs.declared.outcome.Outcome.TheVariants as outcome
-use Rattle.nv_faults.specs.declared.elf_fault.ElfFault.{ElfFault}
-use Rattle.nv_faults.specs.declared.frame_fault.FrameFault.{FrameFault}
-use Rattle.nv_faults.specs.declared.image_fault.ImageFault.{ImageFault}
-use Rattle.nv_faults.specs.declared.link_fault.LinkFault.{LinkFault}
-use Rattle.nv_faults.specs.declared.asm_fault.AsmFault.{AsmFault}
-use Rattle.nv_faults.specs.declared.obj_fault.ObjFault.{ObjFault}
-use Rattle.nv_faults.specs.declared.verify_fault.VerifyFault.{VerifyFault}
+use Rattle.run_definition.specs.declared.fault.Fault.{Fault}
+use Rattle.run_definition.specs.declared.outcome.Outcome.{Outcome}
+use Rattle.run_definition.specs.declared.outcome.Outcome.TheVariants as outcome
+use Rattle.elf_definition.specs.declared.elf_fault.ElfFault.{ElfFault}
+use Rattle.class_definition.specs.declared.frame_fault.FrameFault.{FrameFault}
+use Rattle.elf_definition.specs.declared.image_fault.ImageFault.{ImageFault}
+use Rattle.class_definition.specs.declared.link_fault.LinkFault.{LinkFault}
+use Rattle.mips_definition.specs.declared.asm_fault.AsmFault.{AsmFault}
+use Rattle.elf_definition.specs.declared.obj_fault.ObjFault.{ObjFault}
+use Rattle.class_definition.specs.declared.verify_fault.VerifyFault.{VerifyFault}
 use Rattle.command_deeds.specs.declared.status.TheConstants as status
 use Rattle.command_deeds.specs.declared.done.Done.{Done}
 use Rattle.command_deeds.specs.declared.done.Done.TheVariants.{Good, Exited, Faulted, Usage, NoInput, ElfRefused, ImageRefused, ArgsTooLong}
@@ -81,9 +81,9 @@ hex_word w = hex_digit (w / 2 ^ 28 % 16) ∷ hex_digit (w / 2 ^ 24 % 16) ∷ hex
     ∷ hex_digit (w % 16) ∷ []
 
 -- pieces one after the other
-abbrev pub joined : List (List ℕ) → List ℕ
-joined [] = []
-joined (piece ∷ pieces) = piece ++ joined pieces
+abbrev pub pieces_joined : List (List ℕ) → List ℕ
+pieces_joined [] = []
+pieces_joined (piece ∷ pieces) = piece ++ pieces_joined pieces
 
 -- a text and a fault of the guest, as the pieces that end a line
 abbrev pub fault_pieces : List ℕ → Fault → List (List ℕ)
@@ -91,12 +91,12 @@ fault_pieces text f = text ∷ decimal f.kind ∷ codes " pc " ∷ hex_word f.pc
     ∷ hex_word f.value ∷ codes "\n" ∷ []
 
 abbrev pub fault_line : Fault → List ℕ
-fault_line f = joined (fault_pieces (codes "nested: fault ") f)
+fault_line f = pieces_joined (fault_pieces (codes "nested: fault ") f)
 
 -- a text and three numbers, as a line
 abbrev pub numbers_line : List ℕ → ℕ → ℕ → ℕ → List ℕ
 numbers_line text first second third =
-    joined (text ∷ decimal first ∷ codes " " ∷ decimal second ∷ codes " " ∷ decimal third
+    pieces_joined (text ∷ decimal first ∷ codes " " ∷ decimal second ∷ codes " " ∷ decimal third
     ∷ codes "\n" ∷ [])
 
 abbrev pub elf_line : ElfFault → List ℕ
@@ -112,19 +112,19 @@ abbrev pub frames_line : FrameFault → List ℕ
 frames_line f = numbers_line (codes "nested: frames ") f.class f.method f.kind
 
 abbrev pub tables_line : ℕ → ℕ → List ℕ
-tables_line class bytes = joined (codes "nested: tables " ∷ decimal class ∷ codes " " ∷ decimal bytes
+tables_line class bytes = pieces_joined (codes "nested: tables " ∷ decimal class ∷ codes " " ∷ decimal bytes
     ∷ codes "\n" ∷ [])
 
 abbrev pub image_line : ImageFault → List ℕ
-image_line f = joined (codes "nested: image " ∷ decimal f.kind ∷ codes " " ∷ decimal f.number
+image_line f = pieces_joined (codes "nested: image " ∷ decimal f.kind ∷ codes " " ∷ decimal f.number
     ∷ codes " " ∷ hex_word f.word ∷ codes "\n" ∷ [])
 
 -- a text and a number, as a line
 abbrev pub number_line : List ℕ → ℕ → List ℕ
-number_line text n = joined (text ∷ decimal n ∷ codes "\n" ∷ [])
+number_line text n = pieces_joined (text ∷ decimal n ∷ codes "\n" ∷ [])
 
 abbrev pub asm_line : AsmFault → List ℕ
-asm_line f = joined (codes "nested: asm " ∷ decimal f.line ∷ codes " " ∷ decimal f.kind ∷ codes "\n"
+asm_line f = pieces_joined (codes "nested: asm " ∷ decimal f.line ∷ codes " " ∷ decimal f.kind ∷ codes "\n"
     ∷ [])
 
 abbrev pub object_line : ObjFault → List ℕ
@@ -133,15 +133,15 @@ object_line f = numbers_line (codes "nested: object ") f.object f.kind f.at
 -- the line of a stage, where the stages are numbered from 0
 abbrev pub stage_line : ℕ → Outcome → List ℕ
 stage_line i (outcome.Exited status) =
-    joined (codes "nested: stage " ∷ decimal i ∷ codes " exited " ∷ signed_decimal status
+    pieces_joined (codes "nested: stage " ∷ decimal i ∷ codes " exited " ∷ signed_decimal status
     ∷ codes "\n" ∷ [])
 stage_line i (outcome.Faulted f) =
-    joined (codes "nested: stage " ∷ decimal i ∷ fault_pieces (codes " fault ") f)
+    pieces_joined (codes "nested: stage " ∷ decimal i ∷ fault_pieces (codes " fault ") f)
 stage_line i (outcome.Trapped k) =
-    joined (codes "nested: stage " ∷ decimal i ∷ codes " trap " ∷ decimal k ∷ codes "\n" ∷ [])
+    pieces_joined (codes "nested: stage " ∷ decimal i ∷ codes " trap " ∷ decimal k ∷ codes "\n" ∷ [])
 stage_line i outcome.Waiting =
-    joined (codes "nested: stage " ∷ decimal i ∷ codes " spent\n" ∷ [])
-stage_line i outcome.Going = joined (codes "nested: stage " ∷ decimal i ∷ codes " spent\n" ∷ [])
+    pieces_joined (codes "nested: stage " ∷ decimal i ∷ codes " spent\n" ∷ [])
+stage_line i outcome.Going = pieces_joined (codes "nested: stage " ∷ decimal i ∷ codes " spent\n" ∷ [])
 
 -- the lines of stages, the first of which has this number
 abbrev pub stage_lines : ℕ → List Outcome → List ℕ
@@ -149,27 +149,27 @@ stage_lines i [] = []
 stage_lines i (ended ∷ later) = stage_line i ended ++ stage_lines (i + 1) later
 
 -- the line of an answer, with its end, where this name was asked for
-abbrev pub line_of : List ℕ → Done → List ℕ
-line_of name Good = []
-line_of name (Exited status) = []
-line_of name (Faulted f) = fault_line f
-line_of name (Usage kind) = number_line (codes "nested: usage ") kind
-line_of name (NoInput word) = joined (codes "nested: no file " ∷ name ∷ codes "\n" ∷ [])
-line_of name (ElfRefused f) = elf_line f
-line_of name (ImageRefused f) = image_line f
-line_of name (ArgsTooLong n) = number_line (codes "nested: arguments ") n
-line_of name (FilesTooLarge n) = number_line (codes "nested: files ") n
-line_of name (AsmRefused f) = asm_line f
-line_of name (ObjRefused f) = object_line f
-line_of name (ClassRefused class kind at) = numbers_line (codes "nested: class ") class kind at
-line_of name (LinkRefused f) = link_line f
-line_of name (VerifyRefused f) = verify_line f
-line_of name (FrameRefused f) = frames_line f
-line_of name (FramesTooLarge class bytes) = tables_line class bytes
-line_of name (Piped stages) = stage_lines 0 (stages_of stages.stages)
-line_of name (Trapped k) = number_line (codes "nested: trap ") k
-line_of name Spent = codes "nested: spent\n"
-line_of name ReadFault = codes "nested: read fault\n"
-line_of name WriteFault = []
-line_of name ShelfFault = codes "nested: shelf fault\n"
-line_of name NoMemory = codes "nested: no memory\n"
+abbrev pub answer_line : List ℕ → Done → List ℕ
+answer_line name Good = []
+answer_line name (Exited status) = []
+answer_line name (Faulted f) = fault_line f
+answer_line name (Usage kind) = number_line (codes "nested: usage ") kind
+answer_line name (NoInput word) = pieces_joined (codes "nested: no file " ∷ name ∷ codes "\n" ∷ [])
+answer_line name (ElfRefused f) = elf_line f
+answer_line name (ImageRefused f) = image_line f
+answer_line name (ArgsTooLong n) = number_line (codes "nested: arguments ") n
+answer_line name (FilesTooLarge n) = number_line (codes "nested: files ") n
+answer_line name (AsmRefused f) = asm_line f
+answer_line name (ObjRefused f) = object_line f
+answer_line name (ClassRefused class kind at) = numbers_line (codes "nested: class ") class kind at
+answer_line name (LinkRefused f) = link_line f
+answer_line name (VerifyRefused f) = verify_line f
+answer_line name (FrameRefused f) = frames_line f
+answer_line name (FramesTooLarge class bytes) = tables_line class bytes
+answer_line name (Piped stages) = stage_lines 0 (stages_of stages.stages)
+answer_line name (Trapped k) = number_line (codes "nested: trap ") k
+answer_line name Spent = codes "nested: spent\n"
+answer_line name ReadFault = codes "nested: read fault\n"
+answer_line name WriteFault = []
+answer_line name ShelfFault = codes "nested: shelf fault\n"
+answer_line name NoMemory = codes "nested: no memory\n"

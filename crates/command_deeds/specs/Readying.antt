@@ -1,7 +1,7 @@
 -- What making a system ready for a guest comes to.
 use Rattle.std.specs.Prelude.{◌≡◌, ◌++◌, ℕ, List, [], MatchResult, Some, None, Result, Ok, Err, length}
 use Rattle.nv_outside.specs.Files.{Files}
-use Rattle.command_values.specs.Names.{Text}
+use Rattle.nv_values.specs.Names.{Text}
 use Rattle.unix_calls.specs.Held.{Held}
 use Rattle.unix_calls.specs.Starting.{Begins}
 use Rattle.command_deeds.specs.declared.done.Done.TheVariants as done

@@ -2,16 +2,16 @@
 -- are kept.
 use Rattle.std.specs.Prelude.{◌≡◌, ℕ, nat_lt, if◌then◌else◌, List, [], ◌∷◌, ◌++◌, flat_map, Option, Some, None, option_map, IfErr, IfOk, Ok, Err}
 use Rattle.nv_outside.specs.Files.{AgreeWith, Files}
-use Rattle.nv_events.specs.declared.outcome.Outcome.{Outcome}
-use Rattle.nv_events.specs.declared.outcome.Outcome.TheVariants.{Exited, Faulted, Trapped, Waiting, Going}
-use Rattle.nv_events.specs.Run.{Run, run_of}
-use Rattle.nv_events.specs.Turn.{Turn}
-use Rattle.command_values.specs.Names.{Text}
+use Rattle.run_definition.specs.declared.outcome.Outcome.{Outcome}
+use Rattle.run_definition.specs.declared.outcome.Outcome.TheVariants.{Exited, Faulted, Trapped, Waiting, Going}
+use Rattle.run_definition.specs.Run.{Run, run_of}
+use Rattle.run_definition.specs.Turn.{Turn}
+use Rattle.nv_values.specs.Names.{Text}
 use Rattle.command_words.specs.declared.session.Session.{Session}
-use Rattle.unix_files.specs.Files.{Files as GuestFiles, bytes_at, node_named}
-use Rattle.unix_system.specs.Calls.{block_length}
-use Rattle.unix_system.specs.System.{System}
-use Rattle.unix_system.specs.Unix.{blocks_needed, start, reply}
+use Rattle.unix_definition.specs.Files.{GuestFiles, bytes_at, node_named}
+use Rattle.unix_definition.specs.Calls.{block_length}
+use Rattle.unix_definition.specs.System.{System}
+use Rattle.unix_definition.specs.Unix.{blocks_needed, system_start, reply}
 use Rattle.unix_calls.specs.Arriving.{run_arriving}
 use Rattle.unix_calls.specs.Held.{Held}
 use Rattle.unix_calls.specs.Playing.{run_over}
@@ -19,7 +19,7 @@ use Rattle.unix_calls.specs.Stages.{Stage, stage_of}
 use Rattle.command_deeds.specs.declared.alone.TheConstants.{BLOCKS}
 use Rattle.command_deeds.specs.declared.done.Done.{Done}
 use Rattle.command_deeds.specs.declared.done.Done.TheVariants as done
-use Rattle.command_deeds.specs.Checks.{Check, after, file_at, unless}
+use Rattle.command_deeds.specs.Checks.{Check, after_check, file_at, unless_fault}
 use Rattle.command_deeds.specs.Deeds.{Deed, stores, plays}
 use Rattle.command_deeds.specs.Ends.{Due, answers, says}
 use Rattle.command_deeds.specs.World.{World}
@@ -59,7 +59,7 @@ too_long before (text ∷ texts) =
 
 -- the arguments of a guest, if they fit
 abbrev pub arguments_for : Plan → Check (List Text)
-arguments_for plan = unless (too_long [] (arguments_of plan)) done.ArgsTooLong (arguments_of plan)
+arguments_for plan = unless_fault (too_long [] (arguments_of plan)) done.ArgsTooLong (arguments_of plan)
 
 -- files, if a disk of so many blocks holds them
 abbrev pub on_disk : ℕ → List GivenFile → Check (List GivenFile)
@@ -70,8 +70,8 @@ on_disk blocks files = if nat_lt blocks (blocks_needed files)
 abbrev pub files_for : Files → ℕ → ℕ → List GivenFile → List Text → Check (List GivenFile)
 files_for files blocks word found [] = Ok found
 files_for files blocks word found (name ∷ names) =
-    after (file_at files word name) (λ bytes.
-    after (on_disk blocks (found ++ (name, bytes) ∷ [])) (λ more.
+    after_check (file_at files word name) (λ bytes.
+    after_check (on_disk blocks (found ++ (name, bytes) ∷ [])) (λ more.
     files_for files blocks word more names))
 
 -- the files of --with
@@ -80,18 +80,18 @@ session_files files session = files_for files session.disk session.with.word [] 
 
 -- the arguments of a guest fit, and the files that it finds are there and fit
 abbrev pub found_for : Plan → Files → Check (List GivenFile)
-found_for plan files = after (arguments_for plan) (λ arguments. session_files files plan.session)
+found_for plan files = after_check (arguments_for plan) (λ arguments. session_files files plan.session)
 
 -- ---- the run, and the files that are kept
 
 -- keeping one file of a guest, if it has one of this name
-abbrev pub keeps : GuestFiles → Text → Option ℕ → List Deed
-keeps files name None = []
-keeps files name (Some n) = stores name (bytes_at files n) ∷ []
+abbrev pub keeping : GuestFiles → Text → Option ℕ → List Deed
+keeping files name None = []
+keeping files name (Some n) = stores name (bytes_at files n) ∷ []
 
 -- the files of a guest that are kept, of these names, those that it has
 abbrev pub kept : GuestFiles → List Text → List Deed
-kept files names = flat_map (λ name. keeps files name (node_named files name)) names
+kept files names = flat_map (λ name. keeping files name (node_named files name)) names
 
 -- the answer of a run's end; a run that waits has none, and over this system none does
 abbrev pub answer_of : Outcome → Option Done
@@ -124,9 +124,9 @@ IsDueOfHeld steps turn s unix keep input due = (pieces : List (List ℕ))
 abbrev pub run_for : {S : Type 0} → ℕ → (S → Turn S) → S → Plan → List GivenFile → Option (List ℕ)
     → List (List ℕ) → Run S System
 run_for steps turn s plan found (Some input) pieces =
-    run_of turn reply steps s (start plan.session.disk plan.moment found (arguments_of plan) input)
+    run_of turn reply steps s (system_start plan.session.disk plan.moment found (arguments_of plan) input)
 run_for steps turn s plan found None pieces =
-    run_arriving turn steps s (start plan.session.disk plan.moment found (arguments_of plan) [])
+    run_arriving turn steps s (system_start plan.session.disk plan.moment found (arguments_of plan) [])
     pieces
 
 -- what is due of this run for the steps of its session
@@ -155,4 +155,4 @@ pub record IsDueOfPlay {S : Type 0} (turn : S → Turn S) (s : S) (plan : Plan) 
 -- with its name as the one argument
 abbrev pub run_alone : {S : Type 0} → ℕ → (S → Turn S) → S → Text → ℕ → Run S System
 run_alone steps turn s name moment =
-    run_of turn reply steps s (start BLOCKS moment [] (name ∷ []) [])
+    run_of turn reply steps s (system_start BLOCKS moment [] (name ∷ []) [])

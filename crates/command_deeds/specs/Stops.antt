@@ -1,8 +1,8 @@
 -- How a command ends by what it calls: by refused words, by a system that took an argument or a file
 -- no more, or by a failure of the outside.
 use Rattle.std.specs.Prelude.{ℕ}
-use Rattle.nv_events.specs.declared.io_fault.IoFault.{IoFault}
-use Rattle.nv_events.specs.declared.io_fault.IoFault.TheVariants as io
+use Rattle.run_definition.specs.declared.io_fault.IoFault.{IoFault}
+use Rattle.run_definition.specs.declared.io_fault.IoFault.TheVariants as io
 use Rattle.nv_outside.specs.declared.shelf_error.ShelfError.{ShelfError}
 use Rattle.nv_outside.specs.declared.shelf_error.ShelfError.TheVariants as shelf
 use Rattle.command_forms.specs.declared.usage.Usage.{Usage}

@@ -1,7 +1,9 @@
 use crate::stage_outcomes::StageOutcomes;
 use crate::status;
+use class_definition::{FrameFault, LinkFault, VerifyFault};
+use elf_definition::{ElfFault, ImageFault, ObjFault};
+use mips_definition::AsmFault;
 use nv_events::Fault;
-use nv_faults::{AsmFault, ElfFault, FrameFault, ImageFault, LinkFault, ObjFault, VerifyFault};
 
 /// How a call of the program ended.
 ///

@@ -1,8 +1,8 @@
 ghost use Rattle.std.specs.Prelude.{◌≡◌, Option, ℕ, map, option_map, string_bytes};
-ghost use Rattle.unix_files.specs.Files.{Files as GuestFiles, bytes_at, node_named};
+ghost use Rattle.unix_definition.specs.Files.{GuestFiles, bytes_at, node_named};
 ghost use Rattle.command_deeds.specs.Ends.{ShelfDoes};
 ghost use Rattle.command_deeds.specs.World.{shelf_seen};
-ghost use Rattle.command_deeds.specs.Runs.{keeps, kept};
+ghost use Rattle.command_deeds.specs.Runs.{keeping, kept};
 
 use crate::files::store;
 use crate::stop::Stop;
@@ -28,7 +28,7 @@ pub fn keep_files<H: Shelf>(
 
 /// Stores the file of this name, if a guest has one.
 fn keep_file<H: Shelf>(alloc: Global, unix: &Unix, name: &str, shelf: &mut H) -> Result<(), Stop>
-    ensures keeps { ShelfDoes (keeps unix.now.files name.now (node_named unix.now.files name.now))
+    ensures keeps { ShelfDoes (keeping unix.now.files name.now (node_named unix.now.files name.now))
         (shelf_seen H.Shelf shelf.old) (shelf_seen H.Shelf shelf.new) result }
 {
     let found = unix.file(alloc, name.as_bytes())?;
@@ -39,7 +39,7 @@ fn keep_file<H: Shelf>(alloc: Global, unix: &Unix, name: &str, shelf: &mut H) ->
 fn store_found<H: Shelf>(name: &str, found: &Option<Vec<u8>>, shelf: &mut H) -> Result<(), Stop>
     ensures keeps { (files : GuestFiles) (node : Option ℕ)
         → option_map (λ v. v.items) found.now ≡ option_map (bytes_at files) node
-        → ShelfDoes (keeps files name.now node) (shelf_seen H.Shelf shelf.old)
+        → ShelfDoes (keeping files name.now node) (shelf_seen H.Shelf shelf.old)
         (shelf_seen H.Shelf shelf.new) result }
 {
     match found {

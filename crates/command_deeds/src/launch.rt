@@ -1,5 +1,5 @@
-use command_values::ClassName;
 use command_words::Session;
+use nv_values::ClassName;
 
 /// How a machine is started on the system.
 #[derive(Debug, Drop)]

@@ -1,18 +1,19 @@
 ghost use Rattle.std.specs.Prelude.{◌+◌, ◌≤◌, length, map};
-ghost use Rattle.command_deeds.specs.Line.{asm_line, fault_line, fault_pieces, image_line, joined, line_of, number_line, numbers_line, stage_line, stage_lines, stages_of, tables_line};
+ghost use Rattle.command_deeds.specs.Line.{asm_line, fault_line, fault_pieces, image_line, pieces_joined, answer_line, number_line, numbers_line, stage_line, stage_lines, stages_of, tables_line};
 ghost use Rattle.command_deeds.specs.World.{Writes, output_seen};
 
 use crate::digits::{decimal, decimal_long, decimal_signed, hexadecimal};
 use crate::done::Done;
+use elf_definition::ImageFault;
 use itoa::Buffer;
+use mips_definition::AsmFault;
 use nv_events::{Fault, Outcome};
-use nv_faults::{AsmFault, ImageFault};
 use nv_outside::{Failed, Sink, write_all};
 
 /// Writes the line of an answer, or its lines, where this name was asked for. Takes no memory.
 pub fn write_line<E: Sink>(err: &mut E, name: &str, done: &Done) -> Result<(), Failed>
     ensures writes { Writes (output_seen E.Sink err.old) (output_seen E.Sink err.new)
-        (line_of name.now done.now) result }
+        (answer_line name.now done.now) result }
 {
     match *done {
         Done::Good | Done::Exited(_) | Done::WriteFault => Ok(()),
@@ -68,7 +69,7 @@ fn write_fault<E: Sink>(err: &mut E, fault: Fault) -> Result<(), Failed>
 /// Writes a text and a fault of the guest, as the end of a line.
 fn write_fault_end<E: Sink>(err: &mut E, text: &[u8], fault: Fault) -> Result<(), Failed>
     ensures writes { Writes (output_seen E.Sink err.old) (output_seen E.Sink err.new)
-        (joined (fault_pieces text.now fault)) result }
+        (pieces_joined (fault_pieces text.now fault)) result }
 {
     let mut digits = Buffer::new();
     let kind = decimal(&mut digits, fault.kind);
@@ -203,7 +204,7 @@ pub fn write_text<E: Sink>(sink: &mut E, text: &[u8]) -> Result<(), Failed>
 /// Writes pieces one after the other. After a failure the sink has taken a front part of them.
 pub fn write_pieces<E: Sink>(sink: &mut E, pieces: &[&[u8]]) -> Result<(), Failed>
     ensures writes { Writes (output_seen E.Sink sink.old) (output_seen E.Sink sink.new)
-        (joined (map (λ p. p.now) pieces.now)) result }
+        (pieces_joined (map (λ p. p.now) pieces.now)) result }
 {
     for piece in pieces {
         write_text(sink, piece)?;

@@ -8,7 +8,7 @@ use nv_events::Outcome;
 /// How the stages of a pipeline ended, in order: 8 at most.
 #[derive(Clone, Copy, Debug, PartialEq, Eq)]
 pub struct StageOutcomes {
-    /// None behind the last stage.
+    /// None after the last stage.
     pub stages: [Option<Outcome>; 8],
 }
 

@@ -3,9 +3,9 @@ use Rattle.std.proofs.Common.{◌≡◌, ◌∙◌, ◌≤◌, ◌&&◌, ◌||�
 use Rattle.std.specs.List.{fold, list_all, list_any}
 use Rattle.std.specs.Str.{bytes_eq}
 use Rattle.std.specs.Prelude.{count_by}
-use Rattle.command_values.specs.Names.{Text}
+use Rattle.nv_values.specs.Names.{Text}
 use Rattle.command_forms.specs.Word.{is_formed}
-use Rattle.command_forms.specs.Given.{Form, Given, given_in, value_of}
+use Rattle.command_forms.specs.Given.{Form, Given, given_in, given_value}
 use Rattle.command_forms.proofs.FormRules.{app_built, built_option, built_rules, built_shape, built_word, built_words}
 use Rattle.command_forms.specs.Builder.{form_app, option_rule, word_rules}
 use Rattle.command_forms.proofs.FormWalk.{Agrees, agree, all_fault, at, end_rows, or_else-nil, rows_of_given}
@@ -101,10 +101,10 @@ clap_agrees form few words formed = rw (fault_is form words, rows_are form words
 
 -- ---- the values
 
-pub value_of_row : (given : List Given) (name : Text) → first_of name (rows_of_given given) ≡ value_of name given
+pub value_of_row : (given : List Given) (name : Text) → first_of name (rows_of_given given) ≡ given_value name given
 value_of_row [] name = refl
 value_of_row (g ∷ given) name = go (bytes_eq g.name name) refl (value_of_row given name)
   where
-    go : (b : Bool) → bytes_eq g.name name ≡ b → first_of name (rows_of_given given) ≡ value_of name given → first_of name (rows_of_given (g ∷ given)) ≡ value_of name (g ∷ given)
+    go : (b : Bool) → bytes_eq g.name name ≡ b → first_of name (rows_of_given given) ≡ given_value name given → first_of name (rows_of_given (g ∷ given)) ≡ given_value name (g ∷ given)
     go true e rest = simp e
     go false e rest = simp e rest

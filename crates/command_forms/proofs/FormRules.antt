@@ -5,8 +5,8 @@ use Rattle.std.specs.Str.{bytes_eq}
 use Rattle.std.proofs.lemmas.Slice.Eq.{bytes_eq-Decides}
 use Rattle.std.proofs.lemmas.Bool.{eq-eqb}
 use Rattle.std.proofs.lemmas.Bool.Decides.{eqb_tells}
-use Rattle.command_values.specs.Names.{Text}
-use Rattle.command_forms.specs.Given.{Form, is_among}
+use Rattle.nv_values.specs.Names.{Text}
+use Rattle.command_forms.specs.Given.{Form, is_among_texts}
 use Rattle.command_forms.specs.Builder.{form_app, form_shape, option_rule, word_rules}
 use Rattle.clap.specs.Walk.{Rule, arg_by_id, arg_by_index, arg_by_long}
 use Rattle.clap.specs.Simple.{Shape, built, filled_from, new_rule}
@@ -65,16 +65,16 @@ no_word_is_long : (i : ℕ) (ns : List Text) (n : Text) → arg_by_long (built_w
 no_word_is_long i [] n = refl
 no_word_is_long i (x ∷ ns) n = no_word_is_long (suc i) ns n
 
-long_in : (os ns : List Text) (n : Text) → arg_by_long (map built_option os ++ built_words 1 ns) n ≡ found_long (is_among os n) n
+long_in : (os ns : List Text) (n : Text) → arg_by_long (map built_option os ++ built_words 1 ns) n ≡ found_long (is_among_texts os n) n
 long_in [] ns n = no_word_is_long 1 ns n
 long_in (o ∷ os) ns n = go (bytes_eq o n) refl (long_in os ns n)
   where
-    go : (b : Bool) → bytes_eq o n ≡ b → arg_by_long (map built_option os ++ built_words 1 ns) n ≡ found_long (is_among os n) n
-        → arg_by_long (map built_option (o ∷ os) ++ built_words 1 ns) n ≡ found_long (is_among (o ∷ os) n) n
+    go : (b : Bool) → bytes_eq o n ≡ b → arg_by_long (map built_option os ++ built_words 1 ns) n ≡ found_long (is_among_texts os n) n
+        → arg_by_long (map built_option (o ∷ os) ++ built_words 1 ns) n ≡ found_long (is_among_texts (o ∷ os) n) n
     go true e rest = simp e (ap (λ x. Some (built_option x)) (same_text o n e))
     go false e rest = simp e rest
 
-pub by_long : (form : Form) (n : Text) → arg_by_long (built_rules form) n ≡ found_long (is_among form.options n) n
+pub by_long : (form : Form) (n : Text) → arg_by_long (built_rules form) n ≡ found_long (is_among_texts form.options n) n
 by_long form n = long_in form.options form.words n
 
 -- the rule of an id, of which only the name matters
@@ -83,29 +83,29 @@ pub record FindsId (rules : List Rule) (n : Text) : Type 0 where
   pub index : Option ℕ
   pub found : arg_by_id rules n ≡ Some (value_rule n long index)
 
-id_of_word : (i : ℕ) (ns : List Text) (n : Text) → is_among ns n ≡ true → FindsId (built_words i ns) n
+id_of_word : (i : ℕ) (ns : List Text) (n : Text) → is_among_texts ns n ≡ true → FindsId (built_words i ns) n
 id_of_word i [] n known = absurd (true≢false (sym known))
 id_of_word i (x ∷ ns) n known = go (bytes_eq x n) refl (id_of_word (suc i) ns n)
   where
-    go : (b : Bool) → bytes_eq x n ≡ b → (is_among ns n ≡ true → FindsId (built_words (suc i) ns) n) → FindsId (built_words i (x ∷ ns)) n
+    go : (b : Bool) → bytes_eq x n ≡ b → (is_among_texts ns n ≡ true → FindsId (built_words (suc i) ns) n) → FindsId (built_words i (x ∷ ns)) n
     go true e more = record { long = None; index = Some i; found = simp e (ap (λ t. Some (built_word i t)) (same_text x n e)) }
     go false e more =
-        let rest : is_among ns n ≡ true = simp e at known in
+        let rest : is_among_texts ns n ≡ true = simp e at known in
         let f = more rest in
         record { long = f.long; index = f.index; found = simp e f.found }
 
-id_in : (os ns : List Text) (n : Text) → (is_among os n ≡ true) ⊎ (is_among ns n ≡ true) → FindsId (map built_option os ++ built_words 1 ns) n
+id_in : (os ns : List Text) (n : Text) → (is_among_texts os n ≡ true) ⊎ (is_among_texts ns n ≡ true) → FindsId (map built_option os ++ built_words 1 ns) n
 id_in [] ns n (inl known) = absurd (true≢false (sym known))
 id_in [] ns n (inr known) = id_of_word 1 ns n known
 id_in (o ∷ os) ns n known = go (bytes_eq o n) refl (id_in os ns n)
   where
-    go : (b : Bool) → bytes_eq o n ≡ b → ((is_among os n ≡ true) ⊎ (is_among ns n ≡ true) → FindsId (map built_option os ++ built_words 1 ns) n) → FindsId (map built_option (o ∷ os) ++ built_words 1 ns) n
+    go : (b : Bool) → bytes_eq o n ≡ b → ((is_among_texts os n ≡ true) ⊎ (is_among_texts ns n ≡ true) → FindsId (map built_option os ++ built_words 1 ns) n) → FindsId (map built_option (o ∷ os) ++ built_words 1 ns) n
     go true e more = record { long = Some o; index = None; found = simp e (ap (λ t. Some (value_rule t (Some o) None)) (same_text o n e)) }
     go false e more =
-        let f = more (⊎_elim {C = (is_among os n ≡ true) ⊎ (is_among ns n ≡ true)} (λ h. inl (simp e at h)) (λ h. inr h) known) in
+        let f = more (⊎_elim {C = (is_among_texts os n ≡ true) ⊎ (is_among_texts ns n ≡ true)} (λ h. inl (simp e at h)) (λ h. inr h) known) in
         record { long = f.long; index = f.index; found = simp e f.found }
 
-pub by_id : (form : Form) (n : Text) → (is_among form.options n ≡ true) ⊎ (is_among form.words n ≡ true) → FindsId (built_rules form) n
+pub by_id : (form : Form) (n : Text) → (is_among_texts form.options n ≡ true) ⊎ (is_among_texts form.words n ≡ true) → FindsId (built_rules form) n
 by_id form n known = id_in form.options form.words n known
 
 pub differs : (a b : ℕ) → (a ≡ b → ⊥) → (a == b) ≡ false

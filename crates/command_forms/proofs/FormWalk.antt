@@ -5,9 +5,9 @@ use Rattle.std.specs.List.{fold, list_all, list_any, before_first, after_first}
 use Rattle.std.specs.Str.{bytes_eq}
 use Rattle.std.proofs.lemmas.List.{map-append}
 use Rattle.std.proofs.lemmas.Bool.{eqb-true}
-use Rattle.command_values.specs.Names.{Text}
+use Rattle.nv_values.specs.Names.{Text}
 use Rattle.command_forms.specs.Word.{has_some_value, is_equals, is_formed}
-use Rattle.command_forms.specs.Given.{Form, Given, Reading, given_after, given_more, has_name, is_among, value_read}
+use Rattle.command_forms.specs.Given.{Form, Given, FormReading, given_after, given_more, is_given, is_among_texts, value_read}
 use Rattle.command_forms.proofs.FormRules.{FindsId, built_option, built_rules, built_shape, built_word, by_id, by_index, by_long, found_long, text_is_itself, value_rule}
 use Rattle.clap.specs.Lexer.{usize_max}
 use Rattle.clap.specs.Kinds.{Kinds, or_else}
@@ -31,7 +31,7 @@ row_of_given g = record {
 abbrev pub rows_of_given : List Given → List Row
 rows_of_given = map row_of_given
 
-row_is_name : (n : Text) (gs : List Given) → has_row n (rows_of_given gs) ≡ has_name n gs
+row_is_name : (n : Text) (gs : List Given) → has_row n (rows_of_given gs) ≡ is_given n gs
 row_is_name n gs = sym (list_any-map (λ (r : Row). bytes_eq r.id n) row_of_given gs)
 
 joins : (n : Text) (change : Row → List Row) (missing rows : List Row) → has_row n rows ≡ false → at_row n change missing rows ≡ rows ++ missing
@@ -43,7 +43,7 @@ joins n change missing (r ∷ rows) none = go (bytes_eq r.id n) refl (joins n ch
     go false e rest = simp e (ap (λ rs. r ∷ rs) (rest (simp e at none)))
 
 -- a use of a name that has no row yet adds one
-row_added : (n text : Text) (long : Option Text) (index : Option ℕ) (gs : List Given) → has_name n gs ≡ false
+row_added : (n text : Text) (long : Option Text) (index : Option ℕ) (gs : List Given) → is_given n gs ≡ false
     → used (value_rule n long index) (text ∷ []) (rows_of_given gs) ≡ rows_of_given (gs ++ record { name = n; text = text } ∷ [])
 row_added n text long index gs none =
     let no_row : has_row n (rows_of_given gs) ≡ false = row_is_name n gs ∙ none in
@@ -52,13 +52,13 @@ row_added n text long index gs none =
     ∙ joins n (more_values CommandLine (text ∷ [])) (row_of_given (record { name = n; text = text }) ∷ []) (rows_of_given gs) no_row ∙ sym (map-append row_of_given gs (record { name = n; text = text } ∷ []))
 
 -- the use fails where there is one
-use_passes : (n text : Text) (long : Option Text) (index : Option ℕ) (gs : List Given) → has_name n gs ≡ false
+use_passes : (n text : Text) (long : Option Text) (index : Option ℕ) (gs : List Given) → is_given n gs ≡ false
     → use_fault false (value_rule n long index) (text ∷ []) (rows_of_given gs) ≡ []
 use_passes n text long index gs none =
     let no_row : has_row n (rows_of_given gs) ≡ false = row_is_name n gs ∙ none in
     simp no_row
 
-use_fails : (n text : Text) (long : Option Text) (index : Option ℕ) (gs : List Given) → has_name n gs ≡ true
+use_fails : (n text : Text) (long : Option Text) (index : Option ℕ) (gs : List Given) → is_given n gs ≡ true
     → use_fault false (value_rule n long index) (text ∷ []) (rows_of_given gs) ≡ [] → ⊥
 use_fails n text long index gs some =
     let row : has_row n (rows_of_given gs) ≡ true = row_is_name n gs ∙ some in
@@ -175,15 +175,15 @@ unfolding walked
 value_walked c rows n p b bs other f = simp (other, f.found, text_is_itself)
 
 -- a pending value, settled
-pending_rows : (c : List Rule) (n text : Text) (gs : List Given) → FindsId c n → has_name n gs ≡ false
+pending_rows : (c : List Rule) (n text : Text) (gs : List Given) → FindsId c n → is_given n gs ≡ false
     → settled_rows c (Some (n, text ∷ [])) (rows_of_given gs) ≡ rows_of_given (gs ++ record { name = n; text = text } ∷ [])
 pending_rows c n text gs f none = simp f.found (row_added n text f.long f.index gs none)
 
-pending_passes : (c : List Rule) (n text : Text) (gs : List Given) → FindsId c n → has_name n gs ≡ false
+pending_passes : (c : List Rule) (n text : Text) (gs : List Given) → FindsId c n → is_given n gs ≡ false
     → settle_fault c false (held (rows_of_given gs) (Some (n, text ∷ []))) ≡ []
 pending_passes c n text gs f none = simp f.found (use_passes n text f.long f.index gs none)
 
-pending_fails : (c : List Rule) (n text : Text) (gs : List Given) → FindsId c n → has_name n gs ≡ true
+pending_fails : (c : List Rule) (n text : Text) (gs : List Given) → FindsId c n → is_given n gs ≡ true
     → settle_fault c false (held (rows_of_given gs) (Some (n, text ∷ []))) ≡ [] → ⊥
 pending_fails c n text gs f some = simp f.found (use_fails n text f.long f.index gs some)
 
@@ -246,9 +246,9 @@ turn_stops c w word rest fails = first_fails _ _ (first_fails _ _ fails)
 -- an option's word, where what went before fails
 option_fails : (form : Form) (h : Held) (waiting : Waiting) (p : ℕ) (word n : Text) (v : Option Text)
     → (settle_fault (built_rules form) false h ≡ [] → ⊥) → named_turn (built_rules form) h waiting p word n v ≡ [] → ⊥
-option_fails form h waiting p word n v fails = go (is_among form.options n) refl
+option_fails form h waiting p word n v fails = go (is_among_texts form.options n) refl
   where
-    go : (b : Bool) → is_among form.options n ≡ b → named_turn (built_rules form) h waiting p word n v ≡ [] → ⊥
+    go : (b : Bool) → is_among_texts form.options n ≡ b → named_turn (built_rules form) h waiting p word n v ≡ [] → ⊥
     go true e = known_fails (built_rules form) h waiting p word n v (by_long form n ∙ ap (λ b. found_long b n) e) fails
     go false e = unknown_fails (built_rules form) h waiting p word n v (by_long form n ∙ ap (λ b. found_long b n) e)
 
@@ -274,7 +274,7 @@ doomed form rows pending j (word ∷ rest) formed fails =
     (λ x xs has. option_fails form (held rows pending) idle (j + 1) (45 ∷ 45 ∷ x ∷ xs) (name_in_word x xs) (value_in_word x xs) fails)
     word (and_first (is_formed word) _ formed))
 
-abbrev pub reading_at : List Given → Option Text → ℕ → Reading
+abbrev pub reading_at : List Given → Option Text → ℕ → FormReading
 reading_at given waits words = record { given = given; waits = waits; words = words }
 
 -- from where no option waits
@@ -286,7 +286,7 @@ IdleAgrees form words = (given : List Given) (k : ℕ) (rows : List Row) (pendin
 
 -- from where the option n waits for its value
 abbrev pub WaitingAgrees : Form → List Text → Type 0
-WaitingAgrees form words = (given : List Given) (k : ℕ) (n : Text) → is_among form.options n ≡ true
+WaitingAgrees form words = (given : List Given) (k : ℕ) (n : Text) → is_among_texts form.options n ≡ true
     → Agrees (given_after form (reading_at given (Some n) k) words) (all_fault (built_rules form) (at (rows_of_given given) (Some (n, [])) (option n) (k + 1)) words)
     (end_rows (built_rules form) (at (rows_of_given given) (Some (n, [])) (option n) (k + 1)) words)
 
@@ -295,9 +295,9 @@ value_met : (form : Form) (given : List Given) (k : ℕ) (n text : Text) (rest :
     → Agrees (option_and_then (λ next. given_after form next rest) (given_more n text (reading_at given None k)))
     (all_fault (built_rules form) (at (rows_of_given given) (Some (n, text ∷ [])) idle (k + 1)) rest)
     (end_rows (built_rules form) (at (rows_of_given given) (Some (n, text ∷ [])) idle (k + 1)) rest)
-value_met form given k n text rest f formed goes = go (has_name n given) refl
+value_met form given k n text rest f formed goes = go (is_given n given) refl
   where
-    go : (b : Bool) → has_name n given ≡ b → Agrees (option_and_then (λ next. given_after form next rest) (given_more n text (reading_at given None k)))
+    go : (b : Bool) → is_given n given ≡ b → Agrees (option_and_then (λ next. given_after form next rest) (given_more n text (reading_at given None k)))
         (all_fault (built_rules form) (at (rows_of_given given) (Some (n, text ∷ [])) idle (k + 1)) rest)
         (end_rows (built_rules form) (at (rows_of_given given) (Some (n, text ∷ [])) idle (k + 1)) rest)
     go true e = simp e (doomed form (rows_of_given given) (Some (n, text ∷ [])) k rest formed (pending_fails (built_rules form) n text given f e))
@@ -309,7 +309,7 @@ in_range [] k n e = absurd (cc)
 in_range (x ∷ xs) zero n e = omega arith
 in_range (x ∷ xs) (suc k) n e = omega (arith, in_range xs k n e)
 
-is_among_at : (xs : List Text) (k : ℕ) (n : Text) → slice_get xs k ≡ Some n → is_among xs n ≡ true
+is_among_at : (xs : List Text) (k : ℕ) (n : Text) → slice_get xs k ≡ Some n → is_among_texts xs n ≡ true
 is_among_at [] k n e = absurd (cc)
 is_among_at (x ∷ xs) zero n e = let same : x ≡ n = cc in rw same (simp text_is_itself)
 is_among_at (x ∷ xs) (suc k) n e = or_true (bytes_eq x n) _ (is_among_at xs k n e)
@@ -342,7 +342,7 @@ idle_plain form few given k rows pending b bs rest other quiet same formed goes 
         (value_met form given (k + 1) n (b ∷ bs) rest (by_id form n (inr (is_among_at form.words k n e))) formed goes)
 
 waiting_plain : (form : Form) (given : List Given) (k : ℕ) (n : Text) (b : ℕ) (bs : Text) (rest : List Text) → (b == 45) ≡ false
-    → is_among form.options n ≡ true → list_all is_formed rest ≡ true → IdleAgrees form rest
+    → is_among_texts form.options n ≡ true → list_all is_formed rest ≡ true → IdleAgrees form rest
     → Agrees (given_after form (reading_at given (Some n) k) ((b ∷ bs) ∷ rest)) (all_fault (built_rules form) (at (rows_of_given given) (Some (n, [])) (option n) (k + 1)) ((b ∷ bs) ∷ rest))
     (end_rows (built_rules form) (at (rows_of_given given) (Some (n, [])) (option n) (k + 1)) ((b ∷ bs) ∷ rest))
 unfolding given_after
@@ -353,7 +353,7 @@ waiting_plain form given k n b bs rest other known formed goes =
     (value_walked (built_rules form) (rows_of_given given) n (k + 1) b bs other f)
     (value_met form given k n (b ∷ bs) rest f formed goes))
 
-waiting_named : (form : Form) (given : List Given) (k : ℕ) (n : Text) (x : ℕ) (xs : Text) (rest : List Text) → is_among form.options n ≡ true
+waiting_named : (form : Form) (given : List Given) (k : ℕ) (n : Text) (x : ℕ) (xs : Text) (rest : List Text) → is_among_texts form.options n ≡ true
     → Agrees (given_after form (reading_at given (Some n) k) ((45 ∷ 45 ∷ x ∷ xs) ∷ rest)) (all_fault (built_rules form) (at (rows_of_given given) (Some (n, [])) (option n) (k + 1)) ((45 ∷ 45 ∷ x ∷ xs) ∷ rest))
     (end_rows (built_rules form) (at (rows_of_given given) (Some (n, [])) (option n) (k + 1)) ((45 ∷ 45 ∷ x ∷ xs) ∷ rest))
 unfolding given_after
@@ -367,7 +367,7 @@ named_read : (form : Form) (given : List Given) (k : ℕ) (rows : List Row) (pen
     → settle_fault (built_rules form) false (held rows pending) ≡ [] → settled_rows (built_rules form) pending rows ≡ rows_of_given given
     → turn_fault (built_shape (built_rules form)) [] (at rows pending idle (k + 1)) word ≡ named_turn (built_rules form) (held rows pending) idle (k + 1) word n v
     → walked (built_rules form) [] (at rows pending idle (k + 1)) word ≡ named_walked (built_rules form) (at rows pending idle (k + 1)) word n v
-    → arg_by_long (built_rules form) n ≡ Some (built_option n) → is_among form.options n ≡ true
+    → arg_by_long (built_rules form) n ≡ Some (built_option n) → is_among_texts form.options n ≡ true
     → IdleAgrees form rest → WaitingAgrees form rest
     → Agrees (option_and_then (λ next. given_after form next rest) (value_read n v (reading_at given None k)))
     (all_fault (built_rules form) (at rows pending idle (k + 1)) (word ∷ rest)) (end_rows (built_rules form) (at rows pending idle (k + 1)) (word ∷ rest))
@@ -377,13 +377,13 @@ named_read form given k rows pending word n None rest has quiet same turn step f
     (step ∙ alone_walked (built_rules form) rows pending (k + 1) word n found ∙ ap (λ rs. at rs (Some (n, [])) (option n) (k + 1)) same)
     (waits given k n known)
 named_read form given k rows pending word n (Some []) rest has quiet same turn step found known goes waits = absurd (true≢false (sym has))
-named_read form given k rows pending word n (Some (y ∷ ys)) rest has quiet same turn step found known goes waits = go (has_name n given) refl
+named_read form given k rows pending word n (Some (y ∷ ys)) rest has quiet same turn step found known goes waits = go (is_given n given) refl
   where
     turn_is : turn_fault (built_shape (built_rules form)) [] (at rows pending idle (k + 1)) word ≡ use_fault false (built_option n) ((y ∷ ys) ∷ []) (rows_of_given given)
     turn_is = turn ∙ valued_turn (built_rules form) (held rows pending) idle (k + 1) word n (y ∷ ys) found
         ∙ ap₂ (λ a rs. or_else a (use_fault false (built_option n) ((y ∷ ys) ∷ []) rs)) quiet same
 
-    go : (b : Bool) → has_name n given ≡ b → Agrees (option_and_then (λ next. given_after form next rest) (given_more n (y ∷ ys) (reading_at given None k)))
+    go : (b : Bool) → is_given n given ≡ b → Agrees (option_and_then (λ next. given_after form next rest) (given_more n (y ∷ ys) (reading_at given None k)))
         (all_fault (built_rules form) (at rows pending idle (k + 1)) (word ∷ rest)) (end_rows (built_rules form) (at rows pending idle (k + 1)) (word ∷ rest))
     go true e = simp e (turn_stops (built_rules form) (at rows pending idle (k + 1)) word rest (rw turn_is (use_fails n (y ∷ ys) (Some n) None given e)))
     go false e = simp e (go_on _ (built_rules form) (at rows pending idle (k + 1)) (at (rows_of_given (given ++ record { name = n; text = y ∷ ys } ∷ [])) None idle (k + 1)) word rest
@@ -398,11 +398,11 @@ idle_named : (form : Form) (given : List Given) (k : ℕ) (rows : List Row) (pen
     → Agrees (given_after form (reading_at given None k) ((45 ∷ 45 ∷ x ∷ xs) ∷ rest)) (all_fault (built_rules form) (at rows pending idle (k + 1)) ((45 ∷ 45 ∷ x ∷ xs) ∷ rest))
     (end_rows (built_rules form) (at rows pending idle (k + 1)) ((45 ∷ 45 ∷ x ∷ xs) ∷ rest))
 unfolding given_after
-idle_named form given k rows pending x xs rest has quiet same goes waits = go (is_among form.options (name_in_word x xs)) refl
+idle_named form given k rows pending x xs rest has quiet same goes waits = go (is_among_texts form.options (name_in_word x xs)) refl
   where
-    go : (b : Bool) → is_among form.options (name_in_word x xs) ≡ b
+    go : (b : Bool) → is_among_texts form.options (name_in_word x xs) ≡ b
         → Agrees (option_and_then (λ next. given_after form next rest)
-        (cond (is_among form.options (name_in_word x xs)) (value_read (name_in_word x xs) (value_in_word x xs) (reading_at given None k)) None))
+        (cond (is_among_texts form.options (name_in_word x xs)) (value_read (name_in_word x xs) (value_in_word x xs) (reading_at given None k)) None))
         (all_fault (built_rules form) (at rows pending idle (k + 1)) ((45 ∷ 45 ∷ x ∷ xs) ∷ rest)) (end_rows (built_rules form) (at rows pending idle (k + 1)) ((45 ∷ 45 ∷ x ∷ xs) ∷ rest))
     go true e = rw e (named_read form given k rows pending (45 ∷ 45 ∷ x ∷ xs) (name_in_word x xs) (value_in_word x xs) rest has quiet same
         (idle_turn (built_rules form) rows pending (k + 1) x xs) (idle_walked (built_rules form) rows pending (k + 1) x xs)

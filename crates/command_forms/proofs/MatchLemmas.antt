@@ -5,9 +5,9 @@ use Rattle.std.specs.Borrow.{Bor}
 use Rattle.std.specs.List.{list_all, slice_index_or}
 use Rattle.std.specs.Option.{option_map_or}
 use Rattle.std.proofs.lemmas.List.{length-map, length-take-le, map-append, take_more}
-use Rattle.command_values.specs.Names.{Text}
+use Rattle.nv_values.specs.Names.{Text}
 use Rattle.command_forms.specs.Word.{has_some_value, is_formed, is_plain, option_in}
-use Rattle.command_forms.specs.Given.{Form, Given, Reading, given_after, given_in, is_among, option_read, value_of, word_read}
+use Rattle.command_forms.specs.Given.{Form, Given, FormReading, given_after, given_in, is_among_texts, option_read, given_value, word_read}
 use Rattle.command_forms.specs.Answers.{MatchesForm, shown, words_error_of}
 use Rattle.command_forms.specs.Builder.{option_rule, with_rules, word_rule, word_rules}
 use Rattle.command_forms.proofs.FormWalk.{Agrees}
@@ -31,37 +31,37 @@ same_none : {A : Type 0} (b : Bool) → cond {A = Option A} b None None ≡ None
 same_none true = refl
 same_none false = refl
 
-option_unread : (form : Form) (o : Option (Text × Option Text)) (r : Reading) (waits : Option Text) → option_map_or (λ p. has_some_value p.1) o false ≡ false → option_read form o r waits ≡ None
+option_unread : (form : Form) (o : Option (Text × Option Text)) (r : FormReading) (waits : Option Text) → option_map_or (λ p. has_some_value p.1) o false ≡ false → option_read form o r waits ≡ None
 option_unread form None r None bad = refl
 option_unread form None r (Some other) bad = refl
 option_unread form (Some p) r (Some other) bad = refl
 option_unread form (Some (n, None)) r None bad = absurd (true≢false bad)
-option_unread form (Some (n, Some [])) r None bad = same_none (is_among form.options n)
+option_unread form (Some (n, Some [])) r None bad = same_none (is_among_texts form.options n)
 option_unread form (Some (n, Some (y ∷ ys))) r None bad = absurd (true≢false bad)
 
-word_unread : (form : Form) (word : Text) (r : Reading) → is_formed word ≡ false → word_read form word r ≡ None
+word_unread : (form : Form) (word : Text) (r : FormReading) → is_formed word ≡ false → word_read form word r ≡ None
 word_unread form word r bad =
     let parts = or_false (is_plain word) _ bad in
     let plain : is_plain word ≡ false = parts.0 in
     rw plain (option_unread form (option_in word) r r.waits parts.1)
 
-pub unformed : (form : Form) (words : List Text) (r : Reading) → list_all is_formed words ≡ false → given_after form r words ≡ None
+pub unformed : (form : Form) (words : List Text) (r : FormReading) → list_all is_formed words ≡ false → given_after form r words ≡ None
 unfolding given_after
 unformed form [] r bad = absurd (true≢false bad)
 unformed form (word ∷ rest) r bad = go (is_formed word) refl (unformed form rest)
   where
-    later : (o : Option Reading) → ((next : Reading) → given_after form next rest ≡ None) → option_and_then (λ next. given_after form next rest) o ≡ None
+    later : (o : Option FormReading) → ((next : FormReading) → given_after form next rest ≡ None) → option_and_then (λ next. given_after form next rest) o ≡ None
     later None h = refl
     later (Some next) h = h next
 
-    go : (b : Bool) → is_formed word ≡ b → ((next : Reading) → list_all is_formed rest ≡ false → given_after form next rest ≡ None) → option_and_then (λ next. given_after form next rest) (word_read form word r) ≡ None
+    go : (b : Bool) → is_formed word ≡ b → ((next : FormReading) → list_all is_formed rest ≡ false → given_after form next rest ≡ None) → option_and_then (λ next. given_after form next rest) (word_read form word r) ≡ None
     go true e h = let others : list_all is_formed rest ≡ false = simp e at bad in later (word_read form word r) (λ next. h next others)
     go false e h = rw (word_unread form word r e) refl
 
 -- ---- what `clap` answers
 
 pub ok_case : (o : Option (List Given)) (fault : Kinds) (rows : List Row) (f : Found) → Agrees o fault rows → fault ≡ [] → rows_of f ≡ rows
-    → (is_some o ≡ true) × (first_value f ≡ (λ name. option_and_then (value_of name) o))
+    → (is_some o ≡ true) × (first_value f ≡ (λ name. option_and_then (given_value name) o))
 ok_case None fault rows f agrees none same = absurd (agrees none)
 ok_case (Some given) fault rows f agrees none same =
     (refl, λ i name. (first_value-rows f name ∙ ap (first_of name) (same ∙ agrees.1) ∙ value_of_row given name) i)

@@ -5,7 +5,7 @@ use Rattle.std.specs.List.{list_any, position, position_or_len}
 use Rattle.std.proofs.lemmas.Bool.{ltb-false}
 use Rattle.std.proofs.Math.Seq.{take-length}
 use Rattle.std.proofs.lemmas.List.Sums.{prefix_len-le-length}
-use Rattle.command_values.specs.Names.{Text}
+use Rattle.nv_values.specs.Names.{Text}
 use Rattle.command_forms.specs.Word.{is_equals, name_and_value}
 
 zero_lt : (n : ℕ) → nat_lt 0 (suc n) ≡ true

@@ -1,7 +1,7 @@
 -- What the steps of reading answer.
 use Rattle.std.specs.Prelude.{◌≡◌, ⊤, true, List, None, Result, Ok, Err, is_some, map}
 use Rattle.std.specs.Borrow.{Bor}
-use Rattle.command_values.specs.Names.{Text}
+use Rattle.nv_values.specs.Names.{Text}
 use Rattle.command_forms.specs.Given.{Form, given_in, value_in}
 use Rattle.command_forms.specs.declared.usage.Usage.TheVariants.{NoCommand, NotLawful}
 use Rattle.command_forms.specs.declared.words_error.WordsError.{WordsError}

@@ -4,7 +4,7 @@ use Rattle.std.specs.List.{list_any, before_first, after_first}
 use Rattle.std.specs.Option.{option_map_or}
 use Rattle.std.specs.Str.{bytes_eq}
 use Rattle.std.specs.declared.alloc.Global.{Global}
-use Rattle.command_values.specs.Names.{Text}
+use Rattle.nv_values.specs.Names.{Text}
 
 -- the texts of the words
 abbrev pub texts : List (String Global) → List Text
@@ -54,5 +54,5 @@ abbrev pub is_formed : Text → Bool
 is_formed word = is_plain word || option_map_or (λ o. has_some_value o.1) (option_in word) false
 
 -- `--`
-abbrev pub is_end : Text → Bool
-is_end word = bytes_eq word (codes "--")
+abbrev pub is_end_of_words : Text → Bool
+is_end_of_words word = bytes_eq word (codes "--")

@@ -1,5 +1,5 @@
 ghost use Rattle.std.specs.Prelude.{◌≡◌};
-ghost use Rattle.command_forms.specs.Forms.{form_of, name_of, repeats, takes_arguments};
+ghost use Rattle.command_forms.specs.Forms.{command_form, command_name_of, words_repeat, takes_arguments};
 ghost use Rattle.command_forms.specs.Answers.{shown};
 
 /// The first word, which says what the others may be.
@@ -22,7 +22,7 @@ pub enum CommandName {
 impl CommandName {
     /// The command of this name, none where there is no such command.
     pub fn of(word: &str) -> Option<CommandName>
-        ensures { result ≡ name_of word.now }
+        ensures { result ≡ command_name_of word.now }
     {
         match word {
             "go" => Some(CommandName::Go),
@@ -43,7 +43,7 @@ impl CommandName {
 
     /// The names of its plain words, none where they repeat.
     pub fn words(self) -> &'static [&'static str]
-        ensures { shown result.now ≡ (form_of self).words }
+        ensures { shown result.now ≡ (command_form self).words }
     {
         match self {
             CommandName::Go | CommandName::Translate | CommandName::Interp | CommandName::List => &[
@@ -60,14 +60,14 @@ impl CommandName {
 
     /// Whether its plain words repeat.
     pub fn repeats(self) -> bool
-        ensures { result ≡ repeats self }
+        ensures { result ≡ words_repeat self }
     {
         matches!(self, CommandName::Link | CommandName::Pipe)
     }
 
     /// The names of its options.
     pub fn options(self) -> &'static [&'static str]
-        ensures { shown result.now ≡ (form_of self).options }
+        ensures { shown result.now ≡ (command_form self).options }
     {
         match self {
             CommandName::Go => &[

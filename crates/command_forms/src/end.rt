@@ -1,6 +1,6 @@
 ghost use Rattle.std.specs.Prelude.{◌≡◌, ◌&&◌, not, position, string_bytes};
 ghost use Rattle.command_forms.specs.Forms.{after_end, before_end, has_end, takes_arguments};
-ghost use Rattle.command_forms.specs.Word.{is_end, texts};
+ghost use Rattle.command_forms.specs.Word.{is_end_of_words, texts};
 
 use crate::command_name::CommandName;
 use crate::word::is_end;
@@ -36,7 +36,7 @@ pub fn cut(words: &[String]) -> (&[String], &[String])
 
 /// The place of the first `--`.
 fn end_of(words: &[String]) -> Option<usize>
-    ensures { result ≡ position (λ w. is_end (string_bytes w)) words.now }
+    ensures { result ≡ position (λ w. is_end_of_words (string_bytes w)) words.now }
 {
     words.iter().position(|word| is_end(word.as_str()))
 }

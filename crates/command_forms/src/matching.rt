@@ -13,7 +13,7 @@ use std::alloc::{AllocError, Global};
 
 /// Reads the words before `--` by the names of a command's plain words and options, which are a form.
 ///
-/// `Usage` comes exactly where the words break the rules of the form, but it yields to want of memory.
+/// `Usage` comes exactly if the words break the rules of the form, but it yields to running out of memory.
 pub fn match_words<'a>(
     alloc: Global,
     words: &'a [String],

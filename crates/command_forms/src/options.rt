@@ -7,7 +7,7 @@ use std::alloc::{AllocError, Global};
 
 /// The options with their values, where the plain words repeat.
 ///
-/// An error comes only of want of memory.
+/// An error comes only if memory runs out.
 pub fn option_words(alloc: Global, words: &[String]) -> Result<Vec<String>, AllocError>
     ensures { IfOk result (λ v. map string_bytes v.items ≡ option_words false (texts words.now)) }
 {

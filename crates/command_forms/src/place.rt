@@ -4,7 +4,7 @@ ghost use Rattle.command_forms.specs.Word.{texts};
 
 use crate::word::{is_option, is_plain, waits_for_value};
 
-/// How many words stand before the first plain word that is no option's value; all where there is none.
+/// How many words are before the first plain word that is no option's value; all where there is none.
 pub fn word_place(words: &[String]) -> usize
     ensures { result ≡ word_place false (texts words.now) }
 {
@@ -22,7 +22,7 @@ pub fn word_place(words: &[String]) -> usize
     place
 }
 
-/// How many words stand before the one that holds the option's value: the word of the option itself, where its value stands after `=`.
+/// How many words are before the one that holds the option's value: the word of the option itself, where its value is after `=`.
 pub fn value_place(name: &str, words: &[String]) -> usize
     ensures { result ≡ value_place name.now (texts words.now) }
 {

@@ -1,5 +1,5 @@
 ghost use Rattle.std.specs.Prelude.{◌≡◌, option_map, position};
-ghost use Rattle.command_forms.specs.Word.{after_hyphen, has_some_value, is_end, is_equals, is_formed, is_option, is_plain, name_and_value, option_in, waits_for_value};
+ghost use Rattle.command_forms.specs.Word.{after_hyphen, has_some_value, is_end_of_words, is_equals, is_formed, is_option, is_plain, name_and_value, option_in, waits_for_value};
 
 /// The name and the value of `--name` or `--name=value`.
 #[derive(Clone, Copy, Debug)]
@@ -10,7 +10,7 @@ pub(crate) struct OptionWord<'a> {
 
 /// Whether the word ends the words that are read.
 pub(crate) fn is_end(word: &str) -> bool
-    ensures { result ≡ is_end word.now }
+    ensures { result ≡ is_end_of_words word.now }
 {
     word == "--"
 }
@@ -75,7 +75,7 @@ fn after_hyphen(word: &[u8]) -> Option<&[u8]>
     }
 }
 
-/// What stands before the first `=`, and after it if it is there.
+/// What is before the first `=`, and after it if it is there.
 fn name_and_value(text: &[u8]) -> Option<OptionWord<'_>>
     ensures { option_map (λ o. (o.name.now, option_map (λ v. v.now) o.value)) result
         ≡ name_and_value text.now }

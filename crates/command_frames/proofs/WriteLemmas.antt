@@ -2,10 +2,10 @@
 use Rattle.std.proofs.Common.{◌≡◌, ℕ, ◌+◌, ◌<◌, suc, zero, List, [], ◌∷◌, ◌++◌, length, map, take, get_or, refl, sym, ap, ◌∙◌, subst, arith}
 use Rattle.std.specs.List.{AllZip}
 use Rattle.std.proofs.lemmas.List.{map-append, take_more}
-use Rattle.framed_class_file.specs.declared.framed_class.FramedClass.{FramedClass}
-use Rattle.framed_class_file.specs.FramedClassFile.{Spells}
-use Rattle.class_set.specs.ClassSets.{file_of}
-use Rattle.name_resolution.proofs.PlaceLemmas.{AllZip-append}
+use Rattle.class_definition.specs.declared.framed_class.FramedClass.{FramedClass}
+use Rattle.class_definition.specs.FramedClassFile.{SpellsFramed}
+use Rattle.class_sets.specs.ClassSets.{file_of}
+use Rattle.class_names.proofs.PlaceLemmas.{AllZip-append}
 use Rattle.command_deeds.specs.Deeds.{Deed, stores}
 use Rattle.command_frames.specs.declared.stored_class.StoredClass.{StoredClass}
 use Rattle.command_frames.specs.Frames.{AreWritten, all_stored, deed_of}
@@ -39,13 +39,13 @@ stored-push (n ∷ names) (b ∷ files) name bytes e = ap (λ ds. stores (file_o
 pub written-none : (names : List (List ℕ)) (framed : List FramedClass) (files : List StoredClass) → files ≡ [] → AreWritten (take 0 names) (take 0 framed) (map deed_of files)
 written-none names framed files e = record { files = []; spelled = tt; are = ap (map deed_of) e }
 
-pub written-next : (names : List (List ℕ)) (framed : List FramedClass) (i : ℕ) (name : List ℕ) (f : FramedClass) (files more : List StoredClass) (file : StoredClass) → i < length names → i < length framed → name ≡ get_or names i name → f ≡ get_or framed i f → more ≡ files ++ file ∷ [] → deed_of file ≡ stores (file_of name) file.bytes.items → Spells file.bytes.items f → AreWritten (take i names) (take i framed) (map deed_of files) → AreWritten (take (i + 1) names) (take (i + 1) framed) (map deed_of more)
+pub written-next : (names : List (List ℕ)) (framed : List FramedClass) (i : ℕ) (name : List ℕ) (f : FramedClass) (files more : List StoredClass) (file : StoredClass) → i < length names → i < length framed → name ≡ get_or names i name → f ≡ get_or framed i f → more ≡ files ++ file ∷ [] → deed_of file ≡ stores (file_of name) file.bytes.items → SpellsFramed file.bytes.items f → AreWritten (take i names) (take i framed) (map deed_of files) → AreWritten (take (i + 1) names) (take (i + 1) framed) (map deed_of more)
 written-next names framed i name f files more file name-less f-less name-is f-is more-is deed spells w =
     let bytes = file.bytes.items in
-    let count : length (take i names) ≡ length w.files = taken names i name-less ∙ (sym (taken framed i f-less) ∙ sym (zip-length Spells w.files (take i framed) w.spelled)) in
+    let count : length (take i names) ≡ length w.files = taken names i name-less ∙ (sym (taken framed i f-less) ∙ sym (zip-length SpellsFramed w.files (take i framed) w.spelled)) in
     record {
       files = w.files ++ bytes ∷ [];
-      spelled = subst (AllZip Spells (w.files ++ bytes ∷ [])) (sym (one-more framed i f f-less f-is)) (AllZip-append Spells w.files (bytes ∷ []) (take i framed) (f ∷ []) w.spelled (spells, tt));
+      spelled = subst (AllZip SpellsFramed (w.files ++ bytes ∷ [])) (sym (one-more framed i f f-less f-is)) (AllZip-append SpellsFramed w.files (bytes ∷ []) (take i framed) (f ∷ []) w.spelled (spells, tt));
       are = ap (map deed_of) more-is ∙ (map-append deed_of files (file ∷ []) ∙ (ap (λ ds. ds ++ deed_of file ∷ []) w.are ∙ (ap (λ d. all_stored (take i names) w.files ++ d ∷ []) deed
           ∙ (sym (stored-push (take i names) w.files name bytes count) ∙ ap (λ ns. all_stored ns (w.files ++ bytes ∷ [])) (sym (one-more names i name name-less name-is))))));
     }

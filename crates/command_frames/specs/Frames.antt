@@ -3,21 +3,21 @@ use Rattle.std.specs.Prelude.{◌≡◌, ℕ, ◌≤◌, List, [], ◌∷◌, �
 use Rattle.std.specs.List.{AllZip}
 use Rattle.std.specs.declared.alloc.Global.{Global}
 use Rattle.nv_outside.specs.Files.{AgreeWith, Files}
-use Rattle.jvm_code.specs.declared.class.Class.{Class}
-use Rattle.framed_class_file.specs.declared.framed_class.FramedClass.{FramedClass}
-use Rattle.framed_class_file.specs.FramedClassFile.{Spells}
+use Rattle.class_definition.specs.declared.class.Class.{Class}
+use Rattle.class_definition.specs.declared.framed_class.FramedClass.{FramedClass}
+use Rattle.class_definition.specs.FramedClassFile.{SpellsFramed}
 use Rattle.frame_maps.specs.declared.frame_error.FrameError.{FrameError}
-use Rattle.class_set.specs.ClassSets.{class_set, file_of}
-use Rattle.class_set.specs.declared.loaded.Loaded.{Loaded}
-use Rattle.named_sets.specs.NamedSets.{named_set}
-use Rattle.named_sets.specs.Plain.{loaded_of, names_of}
-use Rattle.named_sets.specs.declared.named_set.NamedSet.{NamedSet}
-use Rattle.named_sets.specs.declared.version.Version.TheVariants.{V48}
-use Rattle.framing.specs.Refusals.{AreWithTables, IsRefusal}
-use Rattle.framing.specs.Sizes.{file_size, most}
+use Rattle.class_sets.specs.ClassSets.{class_set, file_of}
+use Rattle.class_sets.specs.declared.loaded.Loaded.{Loaded}
+use Rattle.class_sets.specs.NamedSets.{named_set}
+use Rattle.class_sets.specs.Plain.{loaded_of, loaded_names}
+use Rattle.class_sets.specs.declared.named_set.NamedSet.{NamedSet}
+use Rattle.class_sets.specs.declared.version.Version.TheVariants.{V48}
+use Rattle.stackmap_maker.specs.Refusals.{AreWithTables, IsFramesRefusal}
+use Rattle.stackmap_maker.specs.Sizes.{file_size, most}
 use Rattle.command_words.specs.declared.named_class.NamedClass.{NamedClass}
 use Rattle.command_deeds.specs.declared.done.Done.TheVariants.{Good}
-use Rattle.command_deeds.specs.Checks.{Behind, Check, after, shown}
+use Rattle.command_deeds.specs.Checks.{Behind, Check, after_check, shown}
 use Rattle.command_deeds.specs.Deeds.{Deed, stores, prints}
 use Rattle.command_deeds.specs.Ends.{Due, answers, says}
 use Rattle.command_deeds.specs.Line.{number_line}
@@ -32,7 +32,7 @@ use Rattle.command_frames.specs.declared.stored_class.StoredClass.{StoredClass}
 abbrev pub IsFramedTo : List Class → Check (List FramedClass) → Type 0
 IsFramedTo classes (Ok framed) =
     AreWithTables classes framed × All (λ f. file_size f ≤ most) framed
-IsFramedTo classes (Err answer) = (error : FrameError) × IsRefusal classes error
+IsFramedTo classes (Err answer) = (error : FrameError) × IsFramesRefusal classes error
     × IsTold error answer
 
 abbrev pub framed_of : Check (Vec FramedClass Global) → Check (List FramedClass)
@@ -52,7 +52,7 @@ IsFramedBehind linked check = Behind linked AreVerifiedTo check
 
 -- the same of what loading a set came to
 abbrev pub IsFramedLoaded : NamedClass → Loaded → Check (List FramedClass) → Type 0
-IsFramedLoaded class set check = IsFramedBehind (after (set_loaded class set) link_checked) check
+IsFramedLoaded class set check = IsFramedBehind (after_check (set_loaded class set) link_checked) check
 
 -- ---- files
 
@@ -65,7 +65,7 @@ all_stored _ _ = []
 pub record AreWritten (names : List (List ℕ)) (framed : List FramedClass) (deeds : List Deed)
     : Type 0 where
   pub files : List (List ℕ)
-  pub spelled : AllZip Spells files framed
+  pub spelled : AllZip SpellsFramed files framed
   pub are : deeds ≡ all_stored names files
 
 abbrev pub AreWrittenTo : List (List ℕ) → List FramedClass → Check (List Deed) → Type 0
@@ -86,7 +86,7 @@ pub record AreFilesOfSet (class : NamedClass) (set : NamedSet) (check : Check (L
     pub accepted : IsAcceptedLoaded class (loaded_of set) classes
     pub framed : Check (List FramedClass)
     pub framed_is : Behind classes IsFramedTo framed
-    pub written : Behind framed (AreWrittenTo (names_of set)) check
+    pub written : Behind framed (AreWrittenTo (loaded_names set)) check
 
 abbrev pub AreFilesOf : NamedClass → Files → Check (List Deed) → Type 0
 AreFilesOf class files check = AreFilesOfSet class (named_set V48 files class.name) check
@@ -94,8 +94,8 @@ AreFilesOf class files check = AreFilesOfSet class (named_set V48 files class.na
 -- ---- the command
 
 -- classes are stored, and then counted
-abbrev pub counted : List Deed → Due
-counted deeds = record {
+abbrev pub stored_and_counted : List Deed → Due
+stored_and_counted deeds = record {
   deeds = deeds
       ++ prints (number_line (codes "classes ") (length deeds)) ∷ [];
   answer = Some (says Good);
@@ -111,7 +111,7 @@ pub record IsDueOfFrames (class : NamedClass) (w : World) (due : Due) : Type 0 w
   pub set_is : set ≡ set_named files class
   -- it links
   pub linked : Check (List Class)
-  pub linked_is : linked ≡ after set link_checked
+  pub linked_is : linked ≡ after_check set link_checked
   -- all its methods are typed
   pub classes : Check (List Class)
   pub classes_are : Behind linked IsTypeChecked classes
@@ -120,8 +120,8 @@ pub record IsDueOfFrames (class : NamedClass) (w : World) (due : Due) : Type 0 w
   pub framed_is : Behind classes IsFramedTo framed
   -- the files of the classes, under the names by which these were loaded
   pub deeds : Check (List Deed)
-  pub deeds_are : Behind framed (AreWrittenTo (names_of (named_set V48 files class.name))) deeds
+  pub deeds_are : Behind framed (AreWrittenTo (loaded_names (named_set V48 files class.name))) deeds
   -- the answer where one of these refused
   pub refused : IfErr deeds (λ answer. due ≡ answers answer)
   -- where all passed, the files are stored and counted
-  pub done : IfOk deeds (λ stored. due ≡ counted stored)
+  pub done : IfOk deeds (λ stored. due ≡ stored_and_counted stored)

@@ -1,19 +1,18 @@
 //! The command `check`.
-ghost use Rattle.named_sets.specs.Kept.{AreKept, IsKeptSet};
-ghost use Rattle.named_sets.specs.declared.version.Version.TheVariants.{V51};
+ghost use Rattle.class_sets.specs.NamedKept.{AreKept, IsKeptSet};
+ghost use Rattle.class_sets.specs.declared.version.Version.TheVariants.{V51};
 ghost use Rattle.frame_maps.specs.Checked.{HaveTables};
 ghost use Rattle.command_deeds.specs.Ends.{Ends, Gives, Makes};
 ghost use Rattle.command_deeds.specs.World.{shelf_seen};
 ghost use Rattle.command_frames.specs.Check.{IsCheckedFrom, IsCheckedLoaded, IsDueOfCheck, IsFrameChecked, IsLinkChecked, classes_of};
 
-use class_set::class_file;
+use class_sets::{Members, NamedSet, Version, class_file, load_named_set};
 use command_deeds::{Done, Ending, Outside, Stop};
 use command_guest::write_counts;
 use command_words::NamedClass;
 use frame_maps::FrameError;
+use jvm_definition::Sequence;
 use jvm_link::{LinkError, Linked, link};
-use jvm_names::Sequence;
-use named_sets::{Members, NamedSet, Version, load_named_set};
 use nv_outside::{Shelf, Sink, Source};
 use std::alloc::Global;
 

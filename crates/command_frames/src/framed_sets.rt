@@ -1,8 +1,8 @@
 //! The command `frames`.
 ghost use Rattle.std.specs.Prelude.{◌≡◌};
-ghost use Rattle.named_sets.specs.Kept.{IsKeptSet};
-ghost use Rattle.named_sets.specs.Plain.{loaded_of, names_of};
-ghost use Rattle.named_sets.specs.declared.version.Version.TheVariants.{V48};
+ghost use Rattle.class_sets.specs.NamedKept.{IsKeptSet};
+ghost use Rattle.class_sets.specs.Plain.{loaded_of, loaded_names};
+ghost use Rattle.class_sets.specs.declared.version.Version.TheVariants.{V48};
 ghost use Rattle.command_deeds.specs.Ends.{Ends, Gives, Makes};
 ghost use Rattle.command_deeds.specs.World.{shelf_seen};
 ghost use Rattle.command_frames.specs.Frames.{AreFilesOfSet, AreFilesOf, IsDueOfFrames, deeds_of};
@@ -11,11 +11,10 @@ use crate::stored_class::StoredClass;
 use crate::storing::store_classes;
 use crate::tabling::framed_loaded;
 use crate::writing::write_classes;
-use class_set::Loaded;
+use class_sets::{Loaded, Name, NamedSet, Version, load_named_set};
 use command_deeds::{Done, Ending, Outside, write_number};
 use command_words::NamedClass;
-use jvm_names::Sequence;
-use named_sets::{Name, NamedSet, Version, load_named_set};
+use jvm_definition::Sequence;
 use nv_outside::{Shelf, Sink, Source};
 use std::alloc::Global;
 
@@ -59,7 +58,7 @@ fn framed_set(alloc: Global, named: &NamedClass, set: NamedSet) -> Result<Vec<St
 
 /// The names of a set, and the set without them.
 fn apart(alloc: Global, set: NamedSet) -> (Sequence<Name>, Loaded)
-    ensures names { result.0 ≡ names_of set }
+    ensures names { result.0 ≡ loaded_names set }
     ensures loaded { result.1 ≡ loaded_of set }
 {
     match set {

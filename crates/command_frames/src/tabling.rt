@@ -1,20 +1,20 @@
 //! Sets that were loaded become classes with tables of frames.
 ghost use Rattle.std.specs.Prelude.{Ok, All, IfOk};
-ghost use Rattle.name_resolution.specs.Kept.{IsClass};
-ghost use Rattle.class_set.specs.Kept.{IsKeptSet};
-ghost use Rattle.framing.specs.Refusals.{IsWritable};
+ghost use Rattle.class_names.specs.Kept.{IsClass};
+ghost use Rattle.class_sets.specs.Kept.{IsKeptSet};
+ghost use Rattle.stackmap_maker.specs.Refusals.{IsWritable};
 ghost use Rattle.command_deeds.specs.Ends.{Makes};
 ghost use Rattle.command_guest.specs.Classes.{IsTypeChecked, classes_of, link_checked};
 ghost use Rattle.command_frames.specs.Frames.{IsFramedBehind, IsFramedLoaded, IsFramedTo, framed_of};
 
-use class_set::{Loaded, class_file};
+use class_definition::FramedClass;
+use class_sets::{Loaded, class_file};
 use command_deeds::{Done, Ending, Stop};
 use command_words::NamedClass;
 use frame_maps::FrameError;
-use framed_class_file::FramedClass;
-use framing::verified_frames;
 use jvm_code::Class;
 use jvm_link::{LinkError, Linked, link};
+use stackmap_maker::verified_frames;
 use std::alloc::Global;
 use type_verifier::{Verified, VerifyError, verify};
 
@@ -93,7 +93,7 @@ fn with_tables(alloc: Global, verified: Verified) -> Result<Vec<FramedClass>, En
     ensures makes { Makes (λ check. IsFramedTo verified.linked.classes (framed_of check)) result }
     ensures writable { IfOk result (λ framed. All IsWritable framed.items) }
 {
-    match framing::frames(alloc, &verified) {
+    match stackmap_maker::frames(alloc, &verified) {
         Ok(framed) => Ok(framed),
         Err(FrameError::Refused(fault)) => Err(Ending::Refused(Done::FrameRefused(fault))),
         Err(FrameError::TooLarge { class, bytes }) => {

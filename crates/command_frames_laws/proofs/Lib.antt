@@ -1,1 +1,9 @@
 pub mod StoredLemmas
+pub mod FramedTranslations
+pub mod AskedLaws
+pub mod NextLaws
+pub mod GrowthLaws
+pub mod ReadLaws
+pub mod ApartLaws
+pub mod AloneLaws
+pub mod SetLaws

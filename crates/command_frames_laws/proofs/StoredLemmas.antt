@@ -6,36 +6,36 @@ use Rattle.std.proofs.lemmas.List.{length-map}
 use Rattle.std.proofs.lemmas.List.Elements.{recursion_from_All}
 use Rattle.std.proofs.lemmas.Option.{none-some, same_Some}
 use Rattle.nv_outside.specs.Files.{Files}
-use Rattle.nv_faults.specs.declared.link_fault.LinkFault.{LinkFault}
-use Rattle.constant_pool.specs.declared.entry.Entry.{Entry}
-use Rattle.jvm_code.specs.declared.class.Class.{Class}
-use Rattle.jvm_program.specs.declared.linked_method.LinkedMethod.{LinkedMethod}
-use Rattle.jvm_program.specs.Program.{Program}
-use Rattle.jvm_link.specs.Linking.{linked_method, program_of}
-use Rattle.framed_class_file.specs.declared.framed_class.FramedClass.{FramedClass}
-use Rattle.framed_class_file.specs.FramedClassFile.{Spells}
-use Rattle.name_resolution.specs.Faults.{link_fault}
+use Rattle.class_definition.specs.declared.link_fault.LinkFault.{LinkFault}
+use Rattle.class_definition.specs.declared.entry.Entry.{Entry}
+use Rattle.class_definition.specs.declared.class.Class.{Class}
+use Rattle.jvm_definition.specs.declared.linked_method.LinkedMethod.{LinkedMethod}
+use Rattle.jvm_definition.specs.Program.{Program}
+use Rattle.class_definition.specs.Linking.{linked_method, program_of}
+use Rattle.class_definition.specs.declared.framed_class.FramedClass.{FramedClass}
+use Rattle.class_definition.specs.FramedClassFile.{SpellsFramed}
+use Rattle.class_definition.specs.LinkFault.{link_fault}
 use Rattle.type_verifier.specs.Typings.{listed_frames}
-use Rattle.frame_maps.specs.Checked.{AreTyped, Fails, IsRefusal, IsTyped}
+use Rattle.frame_maps.specs.Checked.{AreTyped, Fails, IsCheckRefusal, IsTyped}
 use Rattle.frame_maps.specs.Framed.{Framed}
 use Rattle.frame_maps.specs.declared.frame_error.FrameError.{FrameError}
 use Rattle.frame_maps.specs.declared.frame_error.FrameError.TheVariants.{Refused, TooLarge, NoMemory}
-use Rattle.framed_classes.proofs.FramedLaws.{are-typed, fit-of-all, framed-links, get-of, place-from}
-use Rattle.framing.specs.Refusals.{AreWithTables, class_of, tables_of}
-use Rattle.class_set.specs.ClassSets.{names_asked}
-use Rattle.named_sets.specs.NamedSets.{named_set}
-use Rattle.named_sets.specs.declared.members.Members.{Members}
-use Rattle.named_sets.specs.declared.named_set.NamedSet.{NamedSet}
-use Rattle.named_sets.specs.declared.named_set.NamedSet.TheVariants.{NoFile, Faulty, Classes}
-use Rattle.named_sets.specs.declared.version.Version.TheVariants.{V48, V51}
-use Rattle.named_sets.proofs.KeptLaws.{classes-kept}
-use Rattle.stored_sets.specs.Stored.{AllSet, AreStored, HoldBytes, IsFile, framed_members}
-use Rattle.stored_sets.proofs.AloneLaws.{stored-alone}
-use Rattle.stored_sets.proofs.ApartLaws.{set-stored}
-use Rattle.stored_sets.proofs.ReadLaws.{members-kept}
-use Rattle.stored_sets.proofs.SetLaws.{stored-loaded}
+use Rattle.stackmap_laws.proofs.FramedLaws.{are-typed, fit-of-all, framed-links, get-of, place-from}
+use Rattle.stackmap_maker.specs.Refusals.{AreWithTables, class_without_tables, tables_of}
+use Rattle.class_sets.specs.ClassSets.{names_asked}
+use Rattle.class_sets.specs.NamedSets.{named_set}
+use Rattle.class_sets.specs.declared.members.Members.{Members}
+use Rattle.class_sets.specs.declared.named_set.NamedSet.{NamedSet}
+use Rattle.class_sets.specs.declared.named_set.NamedSet.TheVariants.{NoFile, Faulty, Classes}
+use Rattle.class_sets.specs.declared.version.Version.TheVariants.{V48, V51}
+use Rattle.class_sets.proofs.KeptLaws.{classes-kept}
+use Rattle.command_frames_laws.specs.StoredSets.{AllSet, AreStored, HoldBytes, IsFile, framed_members}
+use Rattle.command_frames_laws.proofs.AloneLaws.{stored-alone}
+use Rattle.command_frames_laws.proofs.ApartLaws.{set-stored}
+use Rattle.command_frames_laws.proofs.ReadLaws.{members-kept}
+use Rattle.command_frames_laws.proofs.SetLaws.{stored-loaded}
 use Rattle.command_words.specs.declared.named_class.NamedClass.{NamedClass}
-use Rattle.command_deeds.specs.Checks.{Behind, Check, unless}
+use Rattle.command_deeds.specs.Checks.{Behind, Check, unless_fault}
 use Rattle.command_deeds.specs.Deeds.{Deed}
 use Rattle.command_deeds.specs.Ends.{CommandAnswer}
 use Rattle.command_deeds.specs.declared.done.Done.TheVariants.{LinkRefused}
@@ -44,7 +44,7 @@ use Rattle.command_frames.specs.Check.{IsCheckedLoaded, IsFrameChecked, IsTableC
 use Rattle.command_frames.specs.Frames.{AreFilesOf, AreFilesOfSet, AreWrittenTo, IsFramedTo, all_stored}
 use Rattle.command_frames_laws.specs.Stored.{HasOwnNames, HaveStored, IsStoredIn, Leave, Passes}
 use Rattle.command_frames.specs.Told.{IsTold}
-use Rattle.framing.proofs.TableSteps.{framed-count}
+use Rattle.stackmap_maker.proofs.TableSteps.{framed-count}
 
 abbrev is-ok : {A E : Type 0} (x : Result A E) → Type 0
 is-ok (Ok a) = Unit {0}
@@ -60,7 +60,7 @@ typed-fails program entries method table kind t (inl f) = none-some t.listed (sy
 typed-fails program entries method table kind t (inr f) =
     f.1.fails (subst (λ listed. Framed program method (listed_frames listed)) (same_Some t.listed f.1.listed (sym t.is ∙ f.1.is)) t.framed)
 
-not-told : (cs : List Class) (tables : List (List (List ℕ))) (error : FrameError) (answer : CommandAnswer) → AreTyped cs tables → IsRefusal cs tables error → IsTold error answer → ⊥
+not-told : (cs : List Class) (tables : List (List (List ℕ))) (error : FrameError) (answer : CommandAnswer) → AreTyped cs tables → IsCheckRefusal cs tables error → IsTold error answer → ⊥
 not-told cs tables (Refused fault) answer typed h told =
     let m = get-of h.class.methods fault.method h.within in
     let method = linked_method cs (0 + fault.class) h.class m.0 in
@@ -75,7 +75,7 @@ only-passed cs tables (Err answer) typed h = absurd (not-told cs tables h.0 answ
 
 -- ---- a set that passes
 
-members-pass : (class : NamedClass) (m : Members) (fault : Option LinkFault) → fault ≡ None → AreTyped m.classes m.tables → (check : Check (List Class)) → Behind (unless fault LinkRefused m) IsTableChecked check → check ≡ Ok m.classes
+members-pass : (class : NamedClass) (m : Members) (fault : Option LinkFault) → fault ≡ None → AreTyped m.classes m.tables → (check : Check (List Class)) → Behind (unless_fault fault LinkRefused m) IsTableChecked check → check ≡ Ok m.classes
 members-pass class m None none typed check h = only-passed m.classes m.tables check typed h
 members-pass class m (Some fault) none typed check h = absurd (none-some fault (sym none))
 
@@ -83,7 +83,7 @@ pub set-passes : (class : NamedClass) (files : Files) (m : Members) → named_se
 set-passes class files m is linked typed = record {
   classes = m.classes;
   passed = subst (λ set. IsCheckedLoaded class set (Ok m.classes)) (sym is)
-      (subst (λ fault. Behind (unless fault LinkRefused m) IsTableChecked (Ok m.classes)) (sym linked) (refl, typed));
+      (subst (λ fault. Behind (unless_fault fault LinkRefused m) IsTableChecked (Ok m.classes)) (sym linked) (refl, typed));
   only = λ check h.
       members-pass class m (link_fault m.classes) linked typed check (subst (λ set. IsCheckedLoaded class set check) is h);
 }
@@ -96,7 +96,7 @@ pub record IsStoredSet (m : Members) (deeds : List Deed) : Type 0 where
   pub framed : List FramedClass
   pub with_tables : AreWithTables m.classes framed
   pub stored : List (List ℕ)
-  pub spelled : AllZip Spells stored framed
+  pub spelled : AllZip SpellsFramed stored framed
   pub are : deeds ≡ all_stored m.names stored
 
 -- a stage that refused stores nothing
@@ -124,7 +124,7 @@ module _ (m : Members) (deeds : List Deed) where
   typed-stored (Ok cs) framed linked t f h = framed-stored cs t.0 linked framed f h
   typed-stored (Err answer) framed linked t f h = absurd (refused-stores m.names answer framed deeds f h)
 
-  linked-stored : (fault : Option LinkFault) → link_fault m.classes ≡ fault → (classes : Check (List Class)) (framed : Check (List FramedClass)) → Behind (unless fault LinkRefused m.classes) IsTypeChecked classes → Behind classes IsFramedTo framed → Behind framed (AreWrittenTo m.names) (Ok deeds) → IsStoredSet m deeds
+  linked-stored : (fault : Option LinkFault) → link_fault m.classes ≡ fault → (classes : Check (List Class)) (framed : Check (List FramedClass)) → Behind (unless_fault fault LinkRefused m.classes) IsTypeChecked classes → Behind classes IsFramedTo framed → Behind framed (AreWrittenTo m.names) (Ok deeds) → IsStoredSet m deeds
   linked-stored None is classes framed t f h = typed-stored classes framed is t f h
   linked-stored (Some fault) is classes framed t f h = absurd (refused-frames m.names _ classes framed deeds t f h)
 
@@ -156,7 +156,7 @@ files-set before after [] (bytes ∷ stored) same leave = absurd cc
 files-set before after (name ∷ names) [] same leave = absurd cc
 files-set before after (name ∷ names) (bytes ∷ stored) same leave = (leave.0, leave.1, files-set leave.0 after names stored (omega (arith, same)) leave.2)
 
-spelled-length : (stored : List (List ℕ)) (framed : List FramedClass) → AllZip Spells stored framed → length stored ≡ length framed
+spelled-length : (stored : List (List ℕ)) (framed : List FramedClass) → AllZip SpellsFramed stored framed → length stored ≡ length framed
 spelled-length [] [] z = refl
 spelled-length [] (f ∷ framed) z = absurd z
 spelled-length (bytes ∷ stored) [] z = absurd z
@@ -168,8 +168,8 @@ module _ (class : NamedClass) (files later : Files) (deeds : List Deed) (bytes :
       let kept = members-kept V48 files class.name o.members bytes o.is in
       let framed = o.stored.framed in
       spelled-length o.stored.stored framed o.stored.spelled
-      ∙ (sym (length-map framed class_of)
-      ∙ (framed-count o.members.classes 0 o.members.classes (map class_of framed) o.stored.with_tables.are ∙ sym kept.named))
+      ∙ (sym (length-map framed class_without_tables)
+      ∙ (framed-count o.members.classes 0 o.members.classes (map class_without_tables framed) o.stored.with_tables.are ∙ sym kept.named))
 
   held : All (IsStoredIn later) deeds → AllZip (IsFile later) o.members.names o.stored.stored
   held h =
@@ -184,8 +184,8 @@ module _ (class : NamedClass) (files later : Files) (deeds : List Deed) (bytes :
       let are = o.stored.with_tables.are in
       set-passes class later (framed_members o.members.names framed)
       (stored-loaded files later class.name o.members framed o.stored.stored o.is kept are o.stored.spelled s)
-      (framed-links o.members.classes (map class_of framed) fit are o.stored.linked)
-      (are-typed o.members.classes (map class_of framed) fit are (map tables_of framed) o.stored.with_tables.tabled)
+      (framed-links o.members.classes (map class_without_tables framed) fit are o.stored.linked)
+      (are-typed o.members.classes (map class_without_tables framed) fit are (map tables_of framed) o.stored.with_tables.tabled)
 
   left : Leave files deeds later → Passes class later
   left leave =

@@ -2,10 +2,10 @@
 use Rattle.std.specs.Prelude.{◌≡◌, ℕ, List, [], ◌∷◌, All, Some, Ok}
 use Rattle.std.specs.List.{AllZip}
 use Rattle.nv_outside.specs.Files.{Files, SetsFile}
-use Rattle.jvm_code.specs.declared.class.Class.{Class}
-use Rattle.named_sets.specs.declared.named_set.NamedSet.{NamedSet}
-use Rattle.named_sets.specs.declared.named_set.NamedSet.TheVariants.{NoFile, Faulty, Classes}
-use Rattle.stored_sets.specs.Stored.{GetsNone, IsOwnName}
+use Rattle.class_definition.specs.declared.class.Class.{Class}
+use Rattle.class_sets.specs.declared.named_set.NamedSet.{NamedSet}
+use Rattle.class_sets.specs.declared.named_set.NamedSet.TheVariants.{NoFile, Faulty, Classes}
+use Rattle.command_frames_laws.specs.StoredSets.{GetsNone, IsOwnName}
 use Rattle.command_words.specs.declared.named_class.NamedClass.{NamedClass}
 use Rattle.command_deeds.specs.Checks.{Check}
 use Rattle.command_deeds.specs.Deeds.{Deed, stores}

@@ -1,9 +1,9 @@
 //! What holds of the two commands together. The call here does nothing: its contract is the law.
 ghost use Rattle.std.specs.Prelude.{List, Ok, All};
 ghost use Rattle.nv_outside.specs.Files.{Files};
-ghost use Rattle.named_sets.specs.NamedSets.{named_set};
-ghost use Rattle.named_sets.specs.declared.version.Version.TheVariants.{V48};
-ghost use Rattle.stored_sets.specs.Stored.{HoldBytes};
+ghost use Rattle.class_sets.specs.NamedSets.{named_set};
+ghost use Rattle.class_sets.specs.declared.version.Version.TheVariants.{V48};
+ghost use Rattle.command_frames_laws.specs.StoredSets.{HoldBytes};
 ghost use Rattle.command_words.specs.declared.named_class.NamedClass.{NamedClass};
 ghost use Rattle.command_deeds.specs.Deeds.{Deed};
 ghost use Rattle.command_frames.specs.Frames.{AreFilesOf};

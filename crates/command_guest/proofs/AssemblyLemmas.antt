@@ -3,7 +3,7 @@ use Rattle.std.proofs.Common.{◌≡◌, ◌<◌, ◌≤◌, Bool, true, nat_lt,
 use Rattle.std.specs.Prelude.{if◌then◌else◌}
 use Rattle.std.proofs.lemmas.Bool.{lt-ltb, le-ltb}
 use Rattle.command_words.specs.declared.named.Named.{Named}
-use Rattle.nv_faults.specs.declared.asm_fault.AsmFault.{AsmFault}
+use Rattle.mips_definition.specs.declared.asm_fault.AsmFault.{AsmFault}
 use Rattle.nv_outside.specs.Files.{Files}
 use Rattle.mips_asm.specs.declared.asm_error.AsmError.{AsmError}
 use Rattle.mips_asm.specs.declared.asm_error.AsmError.TheVariants.{Refused}
@@ -12,7 +12,7 @@ use Rattle.mips_asm.specs.File.{IsAssembled}
 use Rattle.mips_asm.specs.Program.{asm_fault}
 use Rattle.command_deeds.specs.declared.done.Done.TheVariants.{AsmRefused}
 use Rattle.command_deeds.proofs.DeedLemmas.{file_is, file_is_not, gives_ends, gives_then, makes_gives}
-use Rattle.command_deeds.specs.Checks.{Behind, Check, after, file_at, unless}
+use Rattle.command_deeds.specs.Checks.{Behind, Check, after_check, file_at, unless_fault}
 use Rattle.command_deeds.specs.Ends.{CommandAnswer, Comes, GivesEnd, MakesEnd, Over, Works, answers, says}
 use Rattle.command_deeds.specs.World.{OnlyShelf, World}
 use Rattle.command_deeds.specs.declared.stop.Stop.{Stop}
@@ -24,10 +24,10 @@ use Rattle.command_guest.specs.Assembly.{IsAssembledTo, IsDueOfAsm, IsProgramOf,
 
 -- by whether it is long, and by its first faulty line
 abbrev checked : Bool → List ℕ → Check (List ℕ) → Type 0
-checked long text check = Behind (after (if long then Err (says (AsmRefused TEXT_TOO_LONG)) else Ok text) sound_text) IsAssembledTo check
+checked long text check = Behind (after_check (if long then Err (says (AsmRefused TEXT_TOO_LONG)) else Ok text) sound_text) IsAssembledTo check
 
 abbrev sound : Option (ℕ × ℕ) → List ℕ → Check (List ℕ) → Type 0
-sound fault text check = Behind (unless fault asm_refused text) IsAssembledTo check
+sound fault text check = Behind (unless_fault fault asm_refused text) IsAssembledTo check
 
 pub too_long : (text : List ℕ) → LONGEST_TEXT < length text → IsProgramOf text (Err (says (AsmRefused TEXT_TOO_LONG)))
 too_long text h =
@@ -50,7 +50,7 @@ program_of text program h none is = fits text (Ok program) h (subst (λ found. s
 from_file : (input : Named) (name file bytes : List ℕ) (files : Files) (check : Check (List ℕ)) → name ≡ input.text → bytes ≡ file
     → Ok file ≡ file_at files input.word name → IsProgramOf bytes check → IsProgramFrom input files check
 from_file input name file bytes files check is same found h =
-    subst (λ f. Behind (after f text_checked) IsAssembledTo check) (file_is input name file bytes files is same found) h
+    subst (λ f. Behind (after_check f text_checked) IsAssembledTo check) (file_is input name file bytes files is same found) h
 
 -- it is not there
 pub asm_lacks : (input : Named) (output name : List ℕ) (w v : World) (end : Result CommandAnswer Stop) → name ≡ input.text
@@ -58,7 +58,7 @@ pub asm_lacks : (input : Named) (output name : List ℕ) (w v : World) (end : Re
 asm_lacks input output name w v end is gives only =
     gives_ends (IsDueOfAsm input output) (λ files answer. Err answer ≡ file_at files input.word name) w v end gives only
     (λ files answer agree h. asm_due input output w files (Err answer) (answers answer) agree
-    (subst (λ f. Behind (after f text_checked) IsAssembledTo (Err answer)) (file_is_not input name files answer is h) refl) refl tt)
+    (subst (λ f. Behind (after_check f text_checked) IsAssembledTo (Err answer)) (file_is_not input name files answer is h) refl) refl tt)
 
 -- its program was made, and worked on
 pub asm_comes : (input : Named) (output name file bytes program : List ℕ) (w u v : World) (end : Result CommandAnswer Stop) → name ≡ input.text

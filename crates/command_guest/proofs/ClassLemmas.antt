@@ -1,20 +1,20 @@
 -- The checks of a set of classes, stage by stage.
 use Rattle.std.proofs.Common.{◌≡◌, ◌∙◌, ℕ, List, Option, Some, None, Result, Ok, Err, refl, sym, ap, subst}
 use Rattle.nv_outside.specs.Files.{Files, SameFiles}
-use Rattle.nv_faults.specs.declared.link_fault.LinkFault.{LinkFault}
+use Rattle.class_definition.specs.declared.link_fault.LinkFault.{LinkFault}
 use Rattle.command_words.specs.declared.named_class.NamedClass.{NamedClass}
-use Rattle.jvm_program.specs.Typing.{AllTyped}
-use Rattle.jvm_code.specs.declared.class.Class.{Class}
-use Rattle.name_resolution.specs.Faults.{link_fault}
-use Rattle.jvm_link.specs.Linking.{program_of}
+use Rattle.jvm_definition.specs.Typing.{AllTyped}
+use Rattle.class_definition.specs.declared.class.Class.{Class}
+use Rattle.class_definition.specs.LinkFault.{link_fault}
+use Rattle.class_definition.specs.Linking.{program_of}
 use Rattle.jvm_link.specs.declared.linked.Linked.{Linked}
-use Rattle.class_set.specs.ClassSets.{IsLoaded, class_set}
-use Rattle.class_set.specs.declared.loaded.Loaded.{Loaded}
-use Rattle.class_set.specs.declared.loaded.Loaded.TheVariants.{Classes}
-use Rattle.type_inference.specs.Unique.{AllTyped-from_least}
+use Rattle.class_sets.specs.ClassSets.{IsLoaded, class_set}
+use Rattle.class_sets.specs.declared.loaded.Loaded.{Loaded}
+use Rattle.class_sets.specs.declared.loaded.Loaded.TheVariants.{Classes}
+use Rattle.jvm_type_inference.proofs.Unique.{AllTyped-from_least}
 use Rattle.type_verifier.specs.declared.verified.Verified.{Verified}
 use Rattle.command_deeds.proofs.DeedLemmas.{makes_as, makes_over}
-use Rattle.command_deeds.specs.Checks.{Behind, Check, unless}
+use Rattle.command_deeds.specs.Checks.{Behind, Check, unless_fault}
 use Rattle.command_deeds.specs.Ends.{Gives, Makes, says}
 use Rattle.command_deeds.specs.World.{Seen}
 use Rattle.command_deeds.specs.declared.done.Done.TheVariants.{LinkRefused}
@@ -29,7 +29,7 @@ type_checked classes v is =
 -- classes that do not link
 pub link_refused : (classes : List Class) (fault : LinkFault) → link_fault classes ≡ Some fault → IsAccepted classes (Err (says (LinkRefused fault)))
 link_refused classes fault e =
-    subst (λ found. Behind (unless found LinkRefused classes) IsTypeChecked (Err (says (LinkRefused fault)))) (sym e) refl
+    subst (λ found. Behind (unless_fault found LinkRefused classes) IsTypeChecked (Err (says (LinkRefused fault)))) (sym e) refl
 
 -- classes that link, and were verified or not
 pub linked_makes : (classes : List Class) (linked : Linked) (result : Result Verified Ending) → linked.classes ≡ classes
@@ -37,7 +37,7 @@ pub linked_makes : (classes : List Class) (linked : Linked) (result : Result Ver
 linked_makes classes linked result is makes =
     makes_as (λ check. IsTypeChecked linked.classes (classes_of check)) (λ check. IsAccepted classes (classes_of check)) result
     (λ check h. subst (λ cs. IsAccepted cs (classes_of check)) is
-    (subst (λ found. Behind (unless found LinkRefused linked.classes) IsTypeChecked (classes_of check)) (sym linked.faultless) h)) makes
+    (subst (λ found. Behind (unless_fault found LinkRefused linked.classes) IsTypeChecked (classes_of check)) (sym linked.faultless) h)) makes
 
 -- the classes of a set that was loaded
 pub classes_make : (named : NamedClass) (set : Loaded) (classes these : List Class) (result : Result Verified Ending) → set ≡ Classes classes → these ≡ classes

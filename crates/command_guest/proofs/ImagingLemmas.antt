@@ -2,16 +2,16 @@
 use Rattle.std.proofs.Common.{◌≡◌, List, ℕ, Option, Some, None, Result, Ok, Err, refl, sym, ap, ◌∙◌, subst}
 use Rattle.command_words.specs.declared.named.Named.{Named}
 use Rattle.command_words.specs.declared.pages.Pages.{Pages}
-use Rattle.elf_reader.specs.Area.{area}
-use Rattle.elf_reader.specs.Fault.{elf_fault, IsRunsOf}
-use Rattle.elf_reader.specs.declared.range.Range.{Range}
-use Rattle.elf_image.specs.Refusals.{image_fault}
-use Rattle.elf_image.specs.Start.{Source}
-use Rattle.nv_faults.specs.declared.elf_fault.ElfFault.{ElfFault}
-use Rattle.nv_faults.specs.declared.image_fault.ImageFault.{ImageFault}
+use Rattle.elf_definition.specs.Area.{area}
+use Rattle.elf_definition.specs.Fault.{elf_fault, IsRunsOf}
+use Rattle.elf_definition.specs.declared.range.Range.{Range}
+use Rattle.elf_definition.specs.ImageFault.{image_fault}
+use Rattle.elf_definition.specs.Start.{Source}
+use Rattle.elf_definition.specs.declared.elf_fault.ElfFault.{ElfFault}
+use Rattle.elf_definition.specs.declared.image_fault.ImageFault.{ImageFault}
 use Rattle.nv_outside.specs.Files.{Files}
 use Rattle.command_deeds.proofs.DeedLemmas.{file_is, file_is_not, gives_end_as, makes_over, same_shelf}
-use Rattle.command_deeds.specs.Checks.{Behind, Check, file_at, file_named, unless}
+use Rattle.command_deeds.specs.Checks.{Behind, Check, file_at, file_that_is_named, unless_fault}
 use Rattle.command_deeds.specs.Ends.{CommandAnswer, Gives, GivesEnd, Makes, Over, says}
 use Rattle.command_deeds.specs.World.{Seen}
 use Rattle.command_deeds.specs.declared.done.Done.TheVariants.{ElfRefused, ImageRefused}
@@ -23,26 +23,26 @@ use Rattle.command_guest.specs.Imaging.{IsImageChecked, IsImaged, IsImagedFrom, 
 
 pub elf_refused : (pages : Pages) (file : List ℕ) (fault : ElfFault) → elf_fault file ≡ Some fault → IsImaged pages file (Err (says (ElfRefused fault)))
 elf_refused pages file fault e =
-    subst (λ found. Behind (unless found ElfRefused (source_of pages file)) IsImageChecked (Err (says (ElfRefused fault)))) (sym e) refl
+    subst (λ found. Behind (unless_fault found ElfRefused (source_of pages file)) IsImageChecked (Err (says (ElfRefused fault)))) (sym e) refl
 
 -- its image was looked at
 image_checked : (pages : Pages) (file : List ℕ) (runs : List Range) (check : Check Source) → elf_fault file ≡ None → IsRunsOf (area file) runs
-    → check ≡ unless (image_fault file runs pages.heap pages.stack) ImageRefused (source_of pages file) → IsImaged pages file check
+    → check ≡ unless_fault (image_fault file runs pages.heap pages.stack) ImageRefused (source_of pages file) → IsImaged pages file check
 image_checked pages file runs check accepted are is =
-    subst (λ found. Behind (unless found ElfRefused (source_of pages file)) IsImageChecked check) (sym accepted)
+    subst (λ found. Behind (unless_fault found ElfRefused (source_of pages file)) IsImageChecked check) (sym accepted)
     (record { runs = runs; are_runs = are; is = is })
 
 pub image_made : (pages : Pages) (file : List ℕ) (runs : List Range) (image : Source) → elf_fault file ≡ None → IsRunsOf (area file) runs
     → image_fault file runs pages.heap pages.stack ≡ None → image ≡ source_of pages file → IsImaged pages file (Ok image)
 image_made pages file runs image accepted are passed is =
     image_checked pages file runs (Ok image) accepted are
-    (ap (λ s. Ok s) is ∙ ap (λ found. unless found ImageRefused (source_of pages file)) (sym passed))
+    (ap (λ s. Ok s) is ∙ ap (λ found. unless_fault found ImageRefused (source_of pages file)) (sym passed))
 
 pub image_refused : (pages : Pages) (file : List ℕ) (runs : List Range) (fault : ImageFault) → elf_fault file ≡ None → IsRunsOf (area file) runs
     → image_fault file runs pages.heap pages.stack ≡ Some fault → IsImaged pages file (Err (says (ImageRefused fault)))
 image_refused pages file runs fault accepted are failed =
     image_checked pages file runs (Err (says (ImageRefused fault))) accepted are
-    (ap (λ found. unless found ImageRefused (source_of pages file)) (sym failed))
+    (ap (λ found. unless_fault found ImageRefused (source_of pages file)) (sym failed))
 
 -- ---- the file of a name
 
@@ -67,10 +67,10 @@ image_gives input pages name file bytes shelf now result is same found makes =
 pub image_is : (pages : Pages) (file : List ℕ) (image : Source) → IsImaged pages file (Ok image) → image ≡ source_of pages file
 image_is pages file image h = by_elf (elf_fault file) h
   where
-    by_image : (found : Option ImageFault) → Ok image ≡ unless found ImageRefused (source_of pages file) → image ≡ source_of pages file
+    by_image : (found : Option ImageFault) → Ok image ≡ unless_fault found ImageRefused (source_of pages file) → image ≡ source_of pages file
     by_image None e = cc
     by_image (Some fault) e = cc
 
-    by_elf : (found : Option ElfFault) → Behind (unless found ElfRefused (source_of pages file)) IsImageChecked (Ok image) → image ≡ source_of pages file
+    by_elf : (found : Option ElfFault) → Behind (unless_fault found ElfRefused (source_of pages file)) IsImageChecked (Ok image) → image ≡ source_of pages file
     by_elf None checked = by_image (image_fault file checked.runs pages.heap pages.stack) checked.is
     by_elf (Some fault) e = cc

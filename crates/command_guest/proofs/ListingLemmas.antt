@@ -1,15 +1,15 @@
 -- How far the writing of a listing has come.
 use Rattle.std.proofs.Common.{◌≡◌, ℕ, suc, ◌+◌, ◌-◌, ◌%◌, ◌^◌, ◌<◌, List, [], ◌∷◌, ◌++◌, length, length-append, drop, get_or, codes}
 use Rattle.std.proofs.Common.{Option, sym, ap, refl, ◌∙◌, append_assoc, add-one, drop-cons, subst, arith}
-use Rattle.elf_reader.specs.declared.range.Range.{Range}
+use Rattle.elf_definition.specs.declared.range.Range.{Range}
 use Rattle.nv_outside.specs.Gains.{AppendsProperPart}
 use Rattle.command_deeds.specs.World.{FailsIn, Seen, StopsPrint, Takes}
 use Rattle.command_deeds.specs.declared.stop.Stop.{Stop}
 use Rattle.command_deeds.specs.declared.stop.Stop.TheVariants.{ReadFault, WriteFault, ShelfFault, NoMemory}
-use Rattle.command_deeds.specs.Line.{hex_word, joined}
-use Rattle.mips_decode.specs.Table.{inst}
+use Rattle.command_deeds.specs.Line.{hex_word, pieces_joined}
+use Rattle.mips_definition.specs.Table.{inst}
 use Rattle.mips_decode.specs.Text.{text_of}
-use Rattle.command_guest.specs.Listing.{line_at, run_lines, runs_lines, word_line}
+use Rattle.command_guest.specs.Listing.{listing_line_at, run_lines, runs_lines, word_line}
 use Rattle.nv_outside.proofs.SeenLemmas.{fails-before, fails-behind}
 use Rattle.nv_outside.proofs.WriteLemmas.{Appends-both, Appends-nothing}
 
@@ -61,13 +61,13 @@ some_before xs ys long = omega (arith, length-append xs ys, long)
 
 pub none_printed : (old : Seen (List ℕ)) (at word : ℕ) → StopsPrint old old (word_line at word) NoMemory
 none_printed old at word =
-    let behind : List ℕ = joined (codes ": " ∷ hex_word word ∷ codes " " ∷ text_of (inst word) at ∷ codes "\n" ∷ []) in
+    let behind : List ℕ = pieces_joined (codes ": " ∷ hex_word word ∷ codes " " ∷ text_of (inst word) at ∷ codes "\n" ∷ []) in
     none_of old (word_line at word) (some_before (hex_word at) behind (hex_long at))
 
 one_less : (n i : ℕ) → i < n → n - i ≡ suc (n - (i + 1))
 one_less n i h = omega arith
 
-pub run_next : (code : ℕ → Option ℕ) (at n i : ℕ) → i < n → run_lines code at (n - i) ≡ line_at code at
+pub run_next : (code : ℕ → Option ℕ) (at n i : ℕ) → i < n → run_lines code at (n - i) ≡ listing_line_at code at
     ++ run_lines code ((at + 4) % 2 ^ 32) (n - (i + 1))
 run_next code at n i h = ap (run_lines code at) (one_less n i h)
 

@@ -6,7 +6,7 @@ use Rattle.mips_asm.specs.Program.{asm_fault}
 use Rattle.nv_outside.specs.Files.{AgreeWith, Files}
 use Rattle.command_deeds.specs.declared.done.Done.{Done}
 use Rattle.command_deeds.specs.declared.done.Done.TheVariants.{Good, AsmRefused}
-use Rattle.command_deeds.specs.Checks.{Behind, Check, after, file_named, unless}
+use Rattle.command_deeds.specs.Checks.{Behind, Check, after_check, file_that_is_named, unless_fault}
 use Rattle.command_deeds.specs.Deeds.{stores, prints}
 use Rattle.command_deeds.specs.Ends.{Due, answers, says}
 use Rattle.command_deeds.specs.Line.{number_line}
@@ -26,10 +26,10 @@ short_text text = if nat_lt LONGEST_TEXT (length text) then Err (says (AsmRefuse
 
 -- no line is faulty, or this is the first that is
 abbrev pub sound_text : List ℕ → Check (List ℕ)
-sound_text text = unless (asm_fault text) asm_refused text
+sound_text text = unless_fault (asm_fault text) asm_refused text
 
 abbrev pub text_checked : List ℕ → Check (List ℕ)
-text_checked text = after (short_text text) sound_text
+text_checked text = after_check (short_text text) sound_text
 
 -- a sound text is assembled
 abbrev pub IsAssembledTo : List ℕ → Check (List ℕ) → Type 0
@@ -58,10 +58,10 @@ pub record IsDueOfAsm (input : Named) (output : List ℕ) (w : World) (due : Due
   pub agree : AgreeWith w.shelf.told files
   -- the text's file is there
   pub file : Check (List ℕ)
-  pub file_is : file ≡ file_named files input
+  pub file_is : file ≡ file_that_is_named files input
   -- it is neither too long nor faulty
   pub text : Check (List ℕ)
-  pub text_is : text ≡ after file text_checked
+  pub text_is : text ≡ after_check file text_checked
   -- its program
   pub program : Check (List ℕ)
   pub program_is : Behind text IsAssembledTo program

@@ -3,10 +3,10 @@ use Rattle.std.specs.Prelude.{◌≡◌, List, ℕ, IfErr, IfOk}
 use Rattle.nv_outside.specs.Files.{AgreeWith, Files}
 use Rattle.command_words.specs.declared.named.Named.{Named}
 use Rattle.command_words.specs.declared.pages.Pages.{Pages}
-use Rattle.mips_decode.specs.Step.{turn}
-use Rattle.elf_image.specs.Start.{Source, image_of}
-use Rattle.mips_machine.specs.Loading.{start_of}
-use Rattle.command_deeds.specs.Checks.{Behind, Check, after, file_named}
+use Rattle.mips_definition.specs.Step.{turn}
+use Rattle.elf_definition.specs.Start.{Source, image_of}
+use Rattle.elf_definition.specs.Loading.{start_of}
+use Rattle.command_deeds.specs.Checks.{Behind, Check, after_check, file_that_is_named}
 use Rattle.command_deeds.specs.Ends.{Due, answers}
 use Rattle.command_deeds.specs.Runs.{GivenFile, Plan, found_for, session_run}
 use Rattle.command_deeds.specs.World.{World}
@@ -23,13 +23,13 @@ pub record IsDueOfInterp (input : Named) (pages : Pages) (plan : Plan) (w : Worl
   pub with_agree : AgreeWith w.shelf.told with_files
   -- the program's file is there
   pub file : Check (List ℕ)
-  pub file_is : file ≡ file_named files input
+  pub file_is : file ≡ file_that_is_named files input
   -- it is a program, and has an image
   pub source : Check Source
   pub source_is : Behind file (IsImaged pages) source
   -- the arguments fit, and the files of --with are there and fit
   pub found : Check (List GivenFile)
-  pub found_is : found ≡ after source (λ image. found_for plan with_files)
+  pub found_is : found ≡ after_check source (λ image. found_for plan with_files)
   -- pieces of input, of which one comes before each call where it does not tell what it has left
   pub pieces : List (List ℕ)
   -- the answer where one of these refused

@@ -2,18 +2,18 @@
 use Rattle.std.specs.Prelude.{ℕ, zero, suc, ◌+◌, ◌%◌, ◌^◌, ◌≡◌, ◌++◌, List, [], ◌∷◌, Option, Some, IfErr, IfOk, codes}
 use Rattle.std.specs.Option.{option_map_or}
 use Rattle.command_words.specs.declared.named.Named.{Named}
-use Rattle.elf_reader.specs.declared.range.Range.{Range}
-use Rattle.elf_reader.specs.Area.{area}
-use Rattle.elf_reader.specs.Fault.{IsRunsOf}
-use Rattle.elf_image.specs.Start.{Source, image_of}
-use Rattle.mips_decode.specs.Table.{inst}
+use Rattle.elf_definition.specs.declared.range.Range.{Range}
+use Rattle.elf_definition.specs.Area.{area}
+use Rattle.elf_definition.specs.Fault.{IsRunsOf}
+use Rattle.elf_definition.specs.Start.{Source, image_of}
+use Rattle.mips_definition.specs.Table.{inst}
 use Rattle.mips_decode.specs.Text.{text_of}
 use Rattle.nv_outside.specs.Files.{AgreeWith, Files}
 use Rattle.command_deeds.specs.declared.done.Done.TheVariants.{Good}
-use Rattle.command_deeds.specs.Checks.{Behind, Check, file_named}
+use Rattle.command_deeds.specs.Checks.{Behind, Check, file_that_is_named}
 use Rattle.command_deeds.specs.Deeds.{prints}
 use Rattle.command_deeds.specs.Ends.{Due, answers, says}
-use Rattle.command_deeds.specs.Line.{hex_word, joined}
+use Rattle.command_deeds.specs.Line.{hex_word, pieces_joined}
 use Rattle.command_deeds.specs.World.{World}
 use Rattle.command_guest.specs.Imaging.{IsImaged}
 use Rattle.command_guest.specs.declared.imaging.TheConstants.{DEFAULT_PAGES}
@@ -21,21 +21,21 @@ use Rattle.command_guest.specs.declared.imaging.TheConstants.{DEFAULT_PAGES}
 -- the columns of a line: an address, a word, and a text
 abbrev pub columns : ℕ → ℕ → List ℕ → List ℕ
 columns at word text =
-    joined (hex_word at ∷ codes ": " ∷ hex_word word ∷ codes " " ∷ text ∷ codes "\n" ∷ [])
+    pieces_joined (hex_word at ∷ codes ": " ∷ hex_word word ∷ codes " " ∷ text ∷ codes "\n" ∷ [])
 
 -- the line of a word at an address
 abbrev pub word_line : ℕ → ℕ → List ℕ
 word_line at word = columns at word (text_of (inst word) at)
 
 -- the line of an address of the code
-abbrev pub line_at : (ℕ → Option ℕ) → ℕ → List ℕ
-line_at code at = option_map_or (word_line at) (code at) []
+abbrev pub listing_line_at : (ℕ → Option ℕ) → ℕ → List ℕ
+listing_line_at code at = option_map_or (word_line at) (code at) []
 
 -- the lines of so many words that follow one another from an address on; an address is a number of
 -- 32 bits
 abbrev pub run_lines : (ℕ → Option ℕ) → ℕ → ℕ → List ℕ
 run_lines code at zero = []
-run_lines code at (suc words) = line_at code at ++ run_lines code ((at + 4) % 2 ^ 32) words
+run_lines code at (suc words) = listing_line_at code at ++ run_lines code ((at + 4) % 2 ^ 32) words
 
 -- the lines of runs that rise
 abbrev pub runs_lines : (ℕ → Option ℕ) → List Range → List ℕ
@@ -53,7 +53,7 @@ pub record IsDueOfList (input : Named) (w : World) (due : Due) : Type 0 where
   pub agree : AgreeWith w.shelf.told files
   -- the program's file is there
   pub file : Check (List ℕ)
-  pub file_is : file ≡ file_named files input
+  pub file_is : file ≡ file_that_is_named files input
   -- it is a program, and has an image
   pub source : Check Source
   pub source_is : Behind file (IsImaged DEFAULT_PAGES) source

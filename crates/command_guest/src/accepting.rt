@@ -1,11 +1,11 @@
 ghost use Rattle.std.specs.Prelude.{All};
-ghost use Rattle.name_resolution.specs.Kept.{IsClass};
-ghost use Rattle.class_set.specs.Kept.{IsKeptSet};
+ghost use Rattle.class_names.specs.Kept.{IsClass};
+ghost use Rattle.class_sets.specs.Kept.{IsKeptSet};
 ghost use Rattle.command_deeds.specs.Ends.{Gives, Makes};
 ghost use Rattle.command_deeds.specs.World.{shelf_seen};
 ghost use Rattle.command_guest.specs.Classes.{IsAccepted, IsAcceptedLoaded, IsAcceptedSet, IsTypeChecked, classes_of};
 
-use class_set::{Loaded, class_file, load_set};
+use class_sets::{Loaded, class_file, load_set};
 use command_deeds::{Done, Ending, Stop};
 use command_words::NamedClass;
 use jvm_code::Class;

@@ -1,10 +1,10 @@
 //! From the name of a file to the image of a program.
 ghost use Rattle.std.specs.Prelude.{◌≡◌, None};
 ghost use Rattle.command_words.specs.Limits.{ArePages};
-ghost use Rattle.elf_reader.specs.Area.{area};
-ghost use Rattle.elf_reader.specs.Fault.{elf_fault, IsRunsOf};
-ghost use Rattle.elf_reader.specs.Header.{header_of};
-ghost use Rattle.elf_reader.specs.Segments.{live};
+ghost use Rattle.elf_definition.specs.Area.{area};
+ghost use Rattle.elf_definition.specs.Fault.{elf_fault, IsRunsOf};
+ghost use Rattle.elf_definition.specs.Header.{header_of};
+ghost use Rattle.elf_definition.specs.Segments.{live};
 ghost use Rattle.command_deeds.specs.Ends.{Gives, Makes};
 ghost use Rattle.command_deeds.specs.World.{shelf_seen};
 ghost use Rattle.command_guest.specs.Imaging.{IsImaged, IsImagedFrom};

@@ -1,7 +1,7 @@
-ghost use Rattle.elf_image.specs.Start.{image_of};
+ghost use Rattle.elf_definition.specs.Start.{image_of};
 ghost use Rattle.command_deeds.specs.Ends.{Ends};
 ghost use Rattle.command_deeds.specs.World.{Prints, Writes, output_seen};
-ghost use Rattle.command_guest.specs.Listing.{IsDueOfList, columns, line_at, run_lines, runs_lines, word_line};
+ghost use Rattle.command_guest.specs.Listing.{IsDueOfList, columns, listing_line_at, run_lines, runs_lines, word_line};
 
 use crate::imaging::{DEFAULT_PAGES, load_image};
 use command_deeds::{Done, Ending, Outside, Stop, hexadecimal, write_pieces};
@@ -59,7 +59,7 @@ fn write_run<O: Sink>(alloc: Global, image: &Image, run: Range, out: &mut O) -> 
 /// Writes the line of an address of the code.
 fn write_at<O: Sink>(alloc: Global, image: &Image, at: u32, out: &mut O) -> Result<(), Stop>
     ensures prints { Prints (output_seen O.Sink out.old) (output_seen O.Sink out.new)
-        (line_at ((image_of image.now).code) at) result }
+        (listing_line_at ((image_of image.now).code) at) result }
 {
     match image.word(at) {
         Some(word) => write_word(alloc, at, word, out),

@@ -6,10 +6,10 @@ ghost use Rattle.command_guest.specs.Classes.{IsDueOfRun};
 
 use crate::accepting::accept;
 use command_deeds::{Done, Ending, Launch, Outside, play_session};
-use command_values::RegionWords;
 use command_words::NamedClass;
 use jvm_machine::Jvm;
 use nv_outside::{Shelf, Sink, Source};
+use nv_values::RegionWords;
 use std::alloc::Global;
 
 /// Loads the set of a class, links it and verifies it, runs it in a region of so many words, and keeps files.

@@ -5,12 +5,12 @@ use Rattle.nv_outside.specs.Files.{AgreeWith, Files}
 use Rattle.nv_outside.proofs.FilesLemmas.{agree_before}
 use Rattle.obj_reader.specs.Files.{files_of}
 use Rattle.command_words.specs.declared.named.Named.{Named}
-use Rattle.command_deeds.specs.Checks.{Behind, Check, after, file_at, file_named}
+use Rattle.command_deeds.specs.Checks.{Behind, Check, after_check, file_at, file_that_is_named}
 use Rattle.command_deeds.specs.Ends.{CommandAnswer, GivesEnd, Over}
 use Rattle.command_deeds.specs.World.{SameShelf, Seen}
 use Rattle.command_deeds.specs.declared.stop.Stop.{Stop}
 use Rattle.command_deeds.proofs.DeedLemmas.{over_any, same_shelf, same_then_load, same_then_shelf}
-use Rattle.command_link.specs.Loading.{AreLoaded, IsWithOthers}
+use Rattle.command_link.specs.Loading.{AreLoaded, IsWithOtherFiles}
 
 -- ---- lists
 
@@ -28,14 +28,14 @@ named_at xs i x within is =
 
 -- files before what others come to
 abbrev joined : List (List ℕ) → Check (List (List ℕ)) → Check (List (List ℕ))
-joined files check = after check (λ others. Ok (files ++ others))
+joined files check = after_check check (λ others. Ok (files ++ others))
 
 none_before : (check : Check (List (List ℕ))) → check ≡ joined [] check
 none_before (Ok others) = refl
 none_before (Err answer) = refl
 
 one_before : (file : List ℕ) (files : List (List ℕ)) (check : Check (List (List ℕ)))
-    → joined (file ∷ files) check ≡ after (joined files check) (λ rest. Ok (file ∷ rest))
+    → joined (file ∷ files) check ≡ after_check (joined files check) (λ rest. Ok (file ∷ rest))
 one_before file files (Ok others) = refl
 one_before file files (Err answer) = refl
 
@@ -45,31 +45,31 @@ loaded_then told [] rest files check h more =
     let none : files ≡ [] = cc in
     subst (AreLoaded told rest) (none_before check ∙ ap (λ f. joined f check) (sym none)) more
 loaded_then told (name ∷ names) rest files check h more =
-    (h.0, h.1, behind (file_named h.0 name) h.2 (λ others are. loaded_then told names rest others check are more))
+    (h.0, h.1, behind (file_that_is_named h.0 name) h.2 (λ others are. loaded_then told names rest others check are more))
   where
-    split : (file : List ℕ) (others : Check (List (List ℕ))) → AreLoaded told names others → Ok files ≡ after others (λ rest. Ok (file ∷ rest))
+    split : (file : List ℕ) (others : Check (List (List ℕ))) → AreLoaded told names others → Ok files ≡ after_check others (λ rest. Ok (file ∷ rest))
         → ((others : List (List ℕ)) → AreLoaded told names (Ok others) → AreLoaded told (names ++ rest) (joined others check))
-        → IsWithOthers (AreLoaded told (names ++ rest)) file (joined files check)
+        → IsWithOtherFiles (AreLoaded told (names ++ rest)) file (joined files check)
     split file (Err answer) are is next = absurd (cc)
     split file (Ok others) are is next =
         let e : files ≡ file ∷ others = cc in
         (joined others check, next others are, ap (λ f. joined f check) e ∙ one_before file others check)
 
-    behind : (c : Check (List ℕ)) → Behind c (IsWithOthers (AreLoaded told names)) (Ok files)
+    behind : (c : Check (List ℕ)) → Behind c (IsWithOtherFiles (AreLoaded told names)) (Ok files)
         → ((others : List (List ℕ)) → AreLoaded told names (Ok others) → AreLoaded told (names ++ rest) (joined others check))
-        → Behind c (IsWithOthers (AreLoaded told (names ++ rest))) (joined files check)
+        → Behind c (IsWithOtherFiles (AreLoaded told (names ++ rest))) (joined files check)
     behind (Err answer) h next = absurd (cc)
     behind (Ok file) h next = split file h.0 h.1 h.2 next
 
-one_loaded : (told : Option Files) (name : Named) (files : Files) (file : List ℕ) → AgreeWith told files → Ok file ≡ file_named files name
+one_loaded : (told : Option Files) (name : Named) (files : Files) (file : List ℕ) → AgreeWith told files → Ok file ≡ file_that_is_named files name
     → AreLoaded told (name ∷ []) (Ok (file ∷ []))
 one_loaded told name files file agree is =
-    (files, agree, subst (λ c. Behind c (IsWithOthers (AreLoaded told [])) (Ok (file ∷ []))) is (Ok [], refl, refl))
+    (files, agree, subst (λ c. Behind c (IsWithOtherFiles (AreLoaded told [])) (Ok (file ∷ []))) is (Ok [], refl, refl))
 
 one_lacks : (told : Option Files) (name : Named) (names : List Named) (files : Files) (answer : CommandAnswer) → AgreeWith told files
-    → Err answer ≡ file_named files name → AreLoaded told (name ∷ names) (Err answer)
+    → Err answer ≡ file_that_is_named files name → AreLoaded told (name ∷ names) (Err answer)
 one_lacks told name names files answer agree is =
-    (files, agree, subst (λ c. Behind c (IsWithOthers (AreLoaded told names)) (Err answer)) is refl)
+    (files, agree, subst (λ c. Behind c (IsWithOtherFiles (AreLoaded told names)) (Err answer)) is refl)
 
 -- ---- from the shelf
 

@@ -2,7 +2,7 @@ ghost use Rattle.std.specs.Prelude.{◌≡◌, ◌≤◌, ◌<◌, ◌^◌, leng
 ghost use Rattle.obj_reader.specs.Files.{files_of};
 ghost use Rattle.command_deeds.specs.Checks.{bytes_of};
 ghost use Rattle.command_deeds.specs.Ends.{Ends, Makes};
-ghost use Rattle.command_link.specs.Linking.{IsDueOfLink, IsProgramOf, too_large};
+ghost use Rattle.command_link.specs.Linking.{IsDueOfLink, IsProgramOf, object_too_large};
 
 use crate::loading::load_files;
 use command_deeds::{Done, Ending, Outside, Stop, store, write_number};
@@ -49,7 +49,7 @@ fn linked(alloc: Global, objects: &[Vec<u8>], entry: &str) -> Result<Vec<u8>, En
 /// The fault of an object of this number, that it is too large.
 fn too_large(object: usize) -> ObjFault
     requires { object < 2 ^ 32 }
-    ensures { result ≡ too_large object }
+    ensures { result ≡ object_too_large object }
 {
     ObjFault {
         object: object as u32,

@@ -3,13 +3,13 @@ use Rattle.std.proofs.Common.{◌≡◌, ◌∙◌, ◌≤◌, ◌-◌, ℕ, suc
 use Rattle.std.proofs.lemmas.List.{append-nil, length-map}
 use Rattle.nv_outside.proofs.WriteLemmas.{Appends-nothing}
 use Rattle.nv_outside.specs.Seen.{Seen}
-use Rattle.nv_events.specs.Run.{Run}
-use Rattle.nv_events.specs.declared.io_fault.IoFault.TheVariants.{ReadFault, WriteFault}
-use Rattle.unix_system.specs.System.{System}
-use Rattle.pipe_laws.specs.Pipelines.{Pipeline}
-use Rattle.pipe_laws.specs.Alone.{run_alone_of}
-use Rattle.jvm_program.specs.Step.{Loaded}
-use Rattle.jvm_code.specs.declared.class.Class.{Class}
+use Rattle.run_definition.specs.Run.{Run}
+use Rattle.run_definition.specs.declared.io_fault.IoFault.TheVariants.{ReadFault, WriteFault}
+use Rattle.unix_definition.specs.System.{System}
+use Rattle.unix_pipe_laws.specs.Pipelines.{Pipeline}
+use Rattle.unix_pipe_laws.specs.Alone.{run_alone_of}
+use Rattle.jvm_definition.specs.Step.{Loaded}
+use Rattle.class_definition.specs.declared.class.Class.{Class}
 use Rattle.pipe_net.specs.Histories.{EndsInOrder, StopsInOrder, first_run_over}
 use Rattle.pipe_net.specs.Showing.{stage_count}
 use Rattle.pipe_net.specs.Turning.{CountsFaults, errors_of, outcomes_of}
@@ -22,7 +22,7 @@ use Rattle.command_deeds.proofs.DeedLemmas.{same_shelf, stays}
 use Rattle.command_deeds.proofs.PieceLemmas.{Joins}
 use Rattle.command_deeds.specs.Deeds.{CountsStop, DoesDeed, pipes}
 use Rattle.command_deeds.specs.Ends.{CommandAnswer, Comes, Due, answers, says}
-use Rattle.command_deeds.specs.Line.{joined}
+use Rattle.command_deeds.specs.Line.{pieces_joined}
 use Rattle.command_deeds.specs.World.{FailsIn, SameShelf, Takes, World, world}
 use Rattle.command_deeds.specs.declared.done.Done.TheVariants.{Piped}
 use Rattle.command_deeds.specs.declared.stage_outcomes.StageOutcomes.{StageOutcomes}
@@ -37,9 +37,9 @@ use Rattle.command_pipe.specs.declared.launch.PipeLaunch.{PipeLaunch}
 pub nothing-joined : (old : Seen (List ℕ)) (all : List (List ℕ)) → Joins old old all all
 nothing-joined old all = record { gained = []; took = (Appends-nothing old.told, refl); splits = refl }
 
-pub all-joined : (old now : Seen (List ℕ)) (all later : List (List ℕ)) → later ≡ [] → Joins old now all later → Takes old now (joined all)
+pub all-joined : (old now : Seen (List ℕ)) (all later : List (List ℕ)) → later ≡ [] → Joins old now all later → Takes old now (pieces_joined all)
 all-joined old now all later none j =
-    subst (λ text. Takes old now text) (sym (j.splits ∙ ap (λ l. j.gained ++ joined l) none ∙ append-nil j.gained)) j.took
+    subst (λ text. Takes old now text) (sym (j.splits ∙ ap (λ l. j.gained ++ pieces_joined l) none ∙ append-nil j.gained)) j.took
 
 -- ---- counts
 
@@ -107,12 +107,12 @@ module _ (launch : PipeLaunch) (classes : List NamedClass) (sets : List (List Cl
         (length-map net.stages.items (λ (x : Stage). x.outcome) ∙ all) e.outcomes
 
     -- error output took what all wrote
-    pub all-ended : (err : Seen (List ℕ)) (stages : StageOutcomes) → Takes w.err err (joined (errors_of net)) → stages ≡ ended_so (outcomes_of net)
+    pub all-ended : (err : Seen (List ℕ)) (stages : StageOutcomes) → Takes w.err err (pieces_joined (errors_of net)) → stages ≡ ended_so (outcomes_of net)
         → Comes true (IsDueOfSets classes launch sets) w (world w.shelf input out err) (Ok (says (Piped stages)))
     all-ended err stages took is =
         let v = world w.shelf input out err in
-        let text : Takes w.err err (joined (each (λ i. (run e.pieces i).system.console.error_output) (length classes))) =
-        subst (λ (l : List (List ℕ)). Takes w.err err (joined l)) errors-are took in
+        let text : Takes w.err err (pieces_joined (each (λ i. (run e.pieces i).system.console.error_output) (length classes))) =
+        subst (λ (l : List (List ℕ)). Takes w.err err (pieces_joined l)) errors-are took in
         let same : ended_so (each (λ i. (run e.pieces i).outcome) (length classes)) ≡ stages = sym (is ∙ ap ended_so outcomes-are) in
         inr (
           due e.pieces,
@@ -121,11 +121,11 @@ module _ (launch : PipeLaunch) (classes : List NamedClass) (sets : List (List Cl
         )
 
     -- or error output failed
-    pub errors-failed : (err : Seen (List ℕ)) → FailsIn w.err err (joined (errors_of net))
+    pub errors-failed : (err : Seen (List ℕ)) → FailsIn w.err err (pieces_joined (errors_of net))
         → Comes true (IsDueOfSets classes launch sets) w (world w.shelf input out err) (Err stop.WriteFault)
     errors-failed err fails =
-        let text : FailsIn w.err err (joined (each (λ i. (run e.pieces i).system.console.error_output) (length classes))) =
-        subst (λ (l : List (List ℕ)). FailsIn w.err err (joined l)) errors-are fails in
+        let text : FailsIn w.err err (pieces_joined (each (λ i. (run e.pieces i).system.console.error_output) (length classes))) =
+        subst (λ (l : List (List ℕ)). FailsIn w.err err (pieces_joined l)) errors-are fails in
         inr (due e.pieces, (e.pieces, refl), inr (u, pipes-done, inl (refl, text, (same_shelf w.shelf, refl, refl))))
 
 -- ---- no memory for the net

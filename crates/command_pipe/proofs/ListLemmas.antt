@@ -4,7 +4,7 @@ use Rattle.std.proofs.lemmas.Bool.Decides.{nat_tests}
 use Rattle.std.proofs.lemmas.Option.{get_or_from_slice_get, same_Some}
 use Rattle.std.specs.List.{list_all}
 use Rattle.std.specs.Prelude.{nat_lt}
-use Rattle.command_values.specs.Names.{is_class_name, is_letter, is_letter_or_digit}
+use Rattle.nv_values.specs.Names.{is_class_name, is_letter, is_letter_or_digit}
 use Rattle.command_pipe.specs.Pipe.{each}
 
 pub is-nil : {A : Type 0} (xs : List A) → length xs ≡ 0 → xs ≡ []

@@ -4,7 +4,7 @@ use Rattle.std.proofs.lemmas.List.{append-nil}
 use Rattle.nv_outside.specs.Files.{Files}
 use Rattle.nv_outside.proofs.FilesLemmas.{agree_before}
 use Rattle.command_words.specs.declared.named_class.NamedClass.{NamedClass}
-use Rattle.jvm_code.specs.declared.class.Class.{Class}
+use Rattle.class_definition.specs.declared.class.Class.{Class}
 use Rattle.command_deeds.specs.Checks.{Check, shown}
 use Rattle.command_deeds.specs.Ends.{CommandAnswer, GivesEnd, Over}
 use Rattle.command_deeds.specs.World.{SameShelf, Seen}

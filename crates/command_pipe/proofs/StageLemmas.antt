@@ -4,11 +4,11 @@ use Rattle.std.proofs.lemmas.List.{append-nil}
 use Rattle.std.proofs.lemmas.Option.{same_Some}
 use Rattle.unix_calls.specs.Held.{Held, limited, system_of}
 use Rattle.unix_calls.specs.Starting.{held_at_start}
-use Rattle.pipe_laws.specs.Pipelines.{Pipeline}
-use Rattle.pipe_laws.specs.Alone.{IsFreshPipeline}
-use Rattle.jvm_program.specs.Step.{Loaded, loaded}
-use Rattle.jvm_code.specs.declared.class.Class.{Class}
-use Rattle.jvm_link.specs.Linking.{program_of}
+use Rattle.unix_pipe_laws.specs.Pipelines.{Pipeline}
+use Rattle.unix_pipe_laws.specs.Alone.{IsFreshPipeline}
+use Rattle.jvm_definition.specs.Step.{Loaded, loaded_program}
+use Rattle.class_definition.specs.declared.class.Class.{Class}
+use Rattle.class_definition.specs.Linking.{program_of}
 use Rattle.jvm_machine.specs.Machine.{state_of, words_of}
 use Rattle.jvm_machine.specs.declared.jvm.Jvm.{Jvm}
 use Rattle.pipe_net.specs.Showing.{AreFresh, IsFreshStage, IsPipelineOf}
@@ -80,7 +80,7 @@ module _ (launch : PipeLaunch) (classes : List NamedClass) (stages : List Loadin
   fresh-stage i jvm unix e =
       let here = at i jvm unix e in
       record {
-        state = here.is.state ∙ ap (loaded (program_of (set_of (jvm, unix)))) (sym (words-are i jvm unix e));
+        state = here.is.state ∙ ap (loaded_program (program_of (set_of (jvm, unix)))) (sym (words-are i jvm unix e));
         going = here.is.going;
         none = here.is.none;
         fresh = record {
@@ -103,7 +103,7 @@ module _ (launch : PipeLaunch) (classes : List NamedClass) (stages : List Loadin
     machine-is : (i : ℕ) (jvm : Jvm) (unix : Held) → slice_get stages i ≡ Some (jvm, unix) → p.machines i ≡ state_of jvm
     machine-is i jvm unix e =
         let here = at i jvm unix e in
-        ap (λ (set : List Class). loaded (program_of set) launch.words) here.set ∙ sym here.is.state
+        ap (λ (set : List Class). loaded_program (program_of set) launch.words) here.set ∙ sym here.is.state
 
     system-is : (i : ℕ) (jvm : Jvm) (unix : Held) → slice_get stages i ≡ Some (jvm, unix)
         → p.systems i ≡ system_of (limited unix launch.size) [] [] []

@@ -1,17 +1,17 @@
 -- What `pipe` is to do: the sets of its classes are loaded, linked and verified, and run, where what
 -- one of them writes to output is the next one's input.
 use Rattle.std.specs.Prelude.{◌≡◌, ◌++◌, ◌-◌, ℕ, zero, suc, List, [], ◌∷◌, length, map, get_or, replicate, Option, Some, None, IfErr, IfOk}
-use Rattle.nv_events.specs.Run.{Run}
-use Rattle.nv_events.specs.declared.outcome.Outcome.{Outcome}
-use Rattle.unix_system.specs.System.{System}
+use Rattle.run_definition.specs.Run.{Run}
+use Rattle.run_definition.specs.declared.outcome.Outcome.{Outcome}
+use Rattle.unix_definition.specs.System.{System}
 use Rattle.unix_calls.specs.Drawing.{known}
 use Rattle.unix_calls.specs.Held.{limited, system_of}
 use Rattle.unix_calls.specs.Starting.{held_at_start}
-use Rattle.pipe_laws.specs.Pipelines.{Pipeline}
-use Rattle.pipe_laws.specs.Alone.{run_alone_of}
-use Rattle.jvm_program.specs.Step.{Loaded, loaded, loaded_turn}
-use Rattle.jvm_code.specs.declared.class.Class.{Class}
-use Rattle.jvm_link.specs.Linking.{program_of}
+use Rattle.unix_pipe_laws.specs.Pipelines.{Pipeline}
+use Rattle.unix_pipe_laws.specs.Alone.{run_alone_of}
+use Rattle.jvm_definition.specs.Step.{Loaded, loaded_program, loaded_turn}
+use Rattle.class_definition.specs.declared.class.Class.{Class}
+use Rattle.class_definition.specs.Linking.{program_of}
 use Rattle.pipe_net.specs.Histories.{first_run_over}
 use Rattle.pipe_net.specs.declared.net_fault.NetFault.{NetFault}
 use Rattle.pipe_net.specs.declared.net_fault.NetFault.TheVariants as net
@@ -19,7 +19,7 @@ use Rattle.command_words.specs.declared.named_class.NamedClass.{NamedClass}
 use Rattle.command_deeds.specs.Checks.{Check}
 use Rattle.command_deeds.specs.Deeds.{pipes, tells}
 use Rattle.command_deeds.specs.Ends.{Due, answers, says}
-use Rattle.command_deeds.specs.Line.{joined}
+use Rattle.command_deeds.specs.Line.{pieces_joined}
 use Rattle.command_deeds.specs.Stops.{stop_of}
 use Rattle.command_deeds.specs.World.{World}
 use Rattle.command_deeds.specs.declared.done.Done.TheVariants.{Piped}
@@ -36,7 +36,7 @@ abbrev pub pipeline_for : PipeLaunch → List NamedClass → List (List Class) �
 pipeline_for launch classes sets input = record {
   turn = loaded_turn;
   count = length classes;
-  machines = λ i. loaded (program_of (get_or sets i [])) launch.words;
+  machines = λ i. loaded_program (program_of (get_or sets i [])) launch.words;
   systems = λ i. system_of (limited (held_at_start launch.disk launch.moment []
       (get_or (map (λ c. c.name) classes) i [] ∷ [])) launch.size) [] [] [];
   input = known input;
@@ -59,7 +59,7 @@ ended_so outcomes = record {
 abbrev pub of_stages : ℕ → (ℕ → Run Loaded System) → Due
 of_stages count run = record {
   deeds = pipes (run 0).system.console.rest (run (count - 1)).system.console.output
-      ∷ tells (joined (each (λ i. (run i).system.console.error_output) count)) ∷ [];
+      ∷ tells (pieces_joined (each (λ i. (run i).system.console.error_output) count)) ∷ [];
   answer = Some (says (Piped (ended_so (each (λ i. (run i).outcome) count))));
 }
 

@@ -4,9 +4,9 @@ use Rattle.std.specs.Prelude.{Vec}
 use Rattle.std.specs.declared.alloc.Global.{Global}
 use Rattle.nv_outside.specs.Files.{AgreeWith, Files}
 use Rattle.command_words.specs.declared.named_class.NamedClass.{NamedClass}
-use Rattle.jvm_program.specs.Step.{loaded}
-use Rattle.jvm_code.specs.declared.class.Class.{Class}
-use Rattle.jvm_link.specs.Linking.{program_of}
+use Rattle.jvm_definition.specs.Step.{loaded_program}
+use Rattle.class_definition.specs.declared.class.Class.{Class}
+use Rattle.class_definition.specs.Linking.{program_of}
 use Rattle.jvm_machine.specs.Machine.{classes_of, has_ended, state_of}
 use Rattle.jvm_machine.specs.Counting.{count_of}
 use Rattle.jvm_machine.specs.declared.jvm.Jvm.{Jvm}
@@ -19,9 +19,9 @@ use Rattle.command_pipe.specs.declared.launch.PipeLaunch.{PipeLaunch}
 -- ---- the sets
 
 -- a set that is accepted, before what others come to
-abbrev pub IsWithOthers : (Check (List (List Class)) → Type 0) → List Class
+abbrev pub IsWithOtherSets : (Check (List (List Class)) → Type 0) → List Class
     → Check (List (List Class)) → Type 0
-IsWithOthers AreOthers set check = (others : Check (List (List Class))) × AreOthers others
+IsWithOtherSets AreOthers set check = (others : Check (List (List Class))) × AreOthers others
     × (check ≡ shown (λ sets. set ∷ sets) others)
 
 -- The sets of these classes, each of which is loaded, links and is typed; or the answer of the first
@@ -31,7 +31,7 @@ abbrev pub AreAccepted : Option Files → List NamedClass → Check (List (List 
 AreAccepted told [] check = check ≡ Ok []
 AreAccepted told (class ∷ classes) check = (files : Files) × AgreeWith told files
     × ((set : Check (List Class)) × IsAcceptedSet class files set
-    × Behind set (IsWithOthers (AreAccepted told classes)) check)
+    × Behind set (IsWithOtherSets (AreAccepted told classes)) check)
 
 -- ---- the stages
 
@@ -56,7 +56,7 @@ sets_in check = shown (λ (stages : Vec Loading Global). sets_of stages.items) c
 -- The stage of a class before its first instruction: its system has no files, and the name as the one
 -- argument.
 pub record IsStageOf (launch : PipeLaunch) (class : NamedClass) (stage : Loading) : Type 0 where
-  pub state : state_of stage.0 ≡ loaded (program_of (set_of stage)) launch.words
+  pub state : state_of stage.0 ≡ loaded_program (program_of (set_of stage)) launch.words
   pub going : has_ended stage.0 ≡ false
   pub none : count_of stage.0 ≡ 0
   pub begins : Begins stage.1 launch.disk launch.moment [] (class.name ∷ [])

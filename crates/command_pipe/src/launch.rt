@@ -1,4 +1,4 @@
-use command_values::{PipeBytes, RegionWords};
+use nv_values::{PipeBytes, RegionWords};
 
 /// How the stages of a pipeline are started.
 #[derive(Debug, Drop)]

@@ -4,7 +4,7 @@ ghost use Rattle.command_words.specs.Limits.{AreStages};
 ghost use Rattle.pipe_net.specs.Showing.{stage_count};
 ghost use Rattle.pipe_net.specs.Turning.{errors_of, outcomes_of};
 ghost use Rattle.command_deeds.specs.Ends.{Comes, Ends, ended};
-ghost use Rattle.command_deeds.specs.Line.{joined};
+ghost use Rattle.command_deeds.specs.Line.{pieces_joined};
 ghost use Rattle.command_deeds.specs.World.{SameParts, Writes, output_seen, seen};
 ghost use Rattle.command_deeds.specs.declared.ending.Ending.TheVariants.{Stopped};
 ghost use Rattle.command_pipe.specs.Pipe.{IsDueOfPipe, IsDueOfSets, ended_so, net_stop};
@@ -81,7 +81,7 @@ fn ending_of(fault: NetFault) -> Ending
 fn write_errors<E: Sink>(net: &Net, count: usize, err: &mut E) -> Result<(), Failed>
     requires all { stage_count net.now ≡ count }
     ensures writes { Writes (output_seen E.Sink err.old) (output_seen E.Sink err.new)
-        (joined (errors_of net.now)) result }
+        (pieces_joined (errors_of net.now)) result }
 {
     for i in 0..count {
         write_text(err, net.errors(i))?;

@@ -4,12 +4,12 @@ use Rattle.std.proofs.lemmas.List.{take_more}
 use Rattle.std.proofs.lemmas.List.Elements.{All-cons, All-nil}
 use Rattle.std.proofs.lemmas.Option.{none-some}
 use Rattle.std.specs.List.{All}
-use Rattle.nv_faults.specs.declared.class_fault.ClassFault.{ClassFault}
-use Rattle.jvm_code.specs.declared.class.Class.{Class}
-use Rattle.class_file.proofs.ClassLaws.{no_fault, same_class}
-use Rattle.class_file.specs.ClassFile as format
-use Rattle.name_resolution.specs.Kept.{IsClass}
-use Rattle.program_translation.specs.declared.named_file.NamedFile.{NamedFile}
+use Rattle.class_definition.specs.declared.class_fault.ClassFault.{ClassFault}
+use Rattle.class_definition.specs.declared.class.Class.{Class}
+use Rattle.class_definition_laws.proofs.ClassLaws.{no_fault, same_class}
+use Rattle.class_definition.specs.ClassFile as format
+use Rattle.class_names.specs.Kept.{IsClass}
+use Rattle.translate_program.specs.declared.named_file.NamedFile.{NamedFile}
 use Rattle.command_translate.specs.Classes.{HoldAccepted, SpellClasses}
 
 -- files spell one list of classes

@@ -2,19 +2,20 @@
 use Rattle.std.proofs.Common.{◌≡◌, ◌∙◌, ℕ, true, List, Option, Some, None, Result, Ok, Err, refl, sym, subst}
 use Rattle.nv_outside.specs.Files.{AgreeWith, Files}
 use Rattle.nv_outside.proofs.FilesLemmas.{agree_before}
+use Rattle.nv_translate.specs.Made.{AreMade}
 use Rattle.command_words.specs.declared.named.Named.{Named}
 use Rattle.command_words.specs.declared.pages.Pages.{Pages}
-use Rattle.elf_image.specs.Start.{Source, image_of}
+use Rattle.elf_definition.specs.Start.{Source, image_of}
 use Rattle.unix_calls.specs.Held.{Held}
 use Rattle.unix_calls.specs.Starting.{Begins}
-use Rattle.jvm_program.specs.Step.{loaded, loaded_turn}
-use Rattle.jvm_link.specs.Linking.{program_of}
-use Rattle.program_translation.specs.Bounds.{need}
-use Rattle.program_translation.specs.declared.built.Built.{Built}
+use Rattle.jvm_definition.specs.Step.{loaded_program, loaded_turn}
+use Rattle.class_definition.specs.Linking.{program_of}
+use Rattle.translate_program.specs.Bounds.{need}
+use Rattle.translate_program.specs.declared.named_file.NamedFile.{NamedFile}
 use Rattle.nv_translate.specs.Translated.{Translated}
 use Rattle.command_deeds.proofs.DeedLemmas.{gives_ends, gives_then, stays_then, stays_then_comes}
 use Rattle.command_deeds.proofs.PlayLemmas.{StartsAs, held_due}
-use Rattle.command_deeds.specs.Checks.{file_named}
+use Rattle.command_deeds.specs.Checks.{file_that_is_named}
 use Rattle.command_deeds.specs.Ends.{CommandAnswer, Comes, Due, GivesEnd, Over, WorksOn, answers}
 use Rattle.command_deeds.specs.Readying.{IsReady}
 use Rattle.command_deeds.specs.Runs.{GivenFile, Plan, arguments_of, found_for}
@@ -30,13 +31,13 @@ use Rattle.command_translate.specs.Stores.{IsDueBehind}
 
 -- the image was refused
 pub go_refused : (input : Named) (pages : Pages) (method_bytes : ℕ) (meter : Option ℕ) (plan : Plan) (w : World) (files : Files) (answer : CommandAnswer)
-    → AgreeWith w.shelf.told files → IsImagedFrom input pages files (Err answer) → IsDueOfGo input pages method_bytes meter plan w (answers answer)
+    → AgreeWith w.shelf.told files → IsImagedFrom input pages files (Err answer) → IsDueOfGo AreMade input pages method_bytes meter plan w (answers answer)
 go_refused input pages method_bytes meter plan w files answer agree h = record {
   files = files;
   agree = agree;
   with_files = files;
   with_agree = agree;
-  file = file_named files input;
+  file = file_that_is_named files input;
   file_is = refl;
   source = Err answer;
   source_is = h;
@@ -55,15 +56,15 @@ IsUnready plan w due = (files : Files) × (answer : CommandAnswer) × AgreeWith 
 pub go_unready : (plan : Plan) (input : Named) (pages : Pages) (method_bytes : ℕ) (meter : Option ℕ) (image : Source) (w u v : World) (end : Result CommandAnswer Stop)
     → Over (λ files. IsImagedFrom input pages files (Ok image)) w.shelf u.shelf → OnlyShelf w u
     → GivesEnd (λ files answer. found_for plan files ≡ Err answer) u.shelf v.shelf end → OnlyShelf u v
-    → Comes true (IsDueOfGo input pages method_bytes meter plan) w v end
+    → Comes true (IsDueOfGo AreMade input pages method_bytes meter plan) w v end
 go_unready plan input pages method_bytes meter image w u v end imaged only ends only' =
-    gives_then (IsDueOfGo input pages method_bytes meter plan) (IsUnready plan) (λ files. IsImagedFrom input pages files (Ok image)) w u v end imaged only
+    gives_then (IsDueOfGo AreMade input pages method_bytes meter plan) (IsUnready plan) (λ files. IsImagedFrom input pages files (Ok image)) w u v end imaged only
     (λ files due agree h later. record {
       files = files;
       agree = agree;
       with_files = later.0;
       with_agree = agree_before w.shelf.told u.shelf.told later.0 imaged.same.0 later.2;
-      file = file_named files input;
+      file = file_that_is_named files input;
       file_is = refl;
       source = Ok image;
       source_is = h;
@@ -78,37 +79,37 @@ go_unready plan input pages method_bytes meter image w u v end imaged only ends 
 module _ (plan : Plan) (starts : (held : Held) → StartsAs plan held) where
   translated_due : (method_bytes : ℕ) (image : Source) (unix : Held) (given : List GivenFile) (rest : Option (List ℕ)) (due : Due)
       → Begins unix plan.session.disk plan.moment given (arguments_of plan) → IsDueOfHeldGo plan method_bytes image unix rest due
-      → IsDueOfTranslated plan method_bytes image given rest due
+      → IsDueOfTranslated AreMade plan method_bytes image given rest due
   translated_due method_bytes image unix given rest due begins h =
-      run_due plan method_bytes image h.0 h.1 given rest h.2.0 due
-      (held_due (allowed plan image) loaded_turn (loaded (program_of h.1.linked.classes) (need (image_of image).mapped))
-      plan unix given rest h.2.0 (starts unix) begins h.2.1) h.2.2
+      run_due plan method_bytes image h.0 h.1 h.2 given rest h.3.0 due
+      (held_due (allowed plan image) loaded_turn (loaded_program (program_of h.1.classes) (need (image_of image).mapped))
+      plan unix given rest h.3.0 (starts unix) begins h.3.1) h.3.2
 
   by_meter_due : (method_bytes turns : ℕ) (image : Source) (unix : Held) (given : List GivenFile) (rest : Option (List ℕ)) (due : Due)
       → Begins unix plan.session.disk plan.moment given (arguments_of plan) → IsDueOfHeldMetered plan method_bytes turns image unix rest due
-      → IsDueOfMetered plan method_bytes turns image given rest due
+      → IsDueOfMetered AreMade plan method_bytes turns image given rest due
   by_meter_due method_bytes turns image unix given rest due begins h =
-      metered_due plan method_bytes turns image h.0 h.1 given rest h.3.0 h.2 due
-      (held_due (allowed_by_meter turns image) loaded_turn (loaded (program_of h.1.linked.classes) (need (image_of image).mapped))
-      plan unix given rest h.3.0 (starts unix) begins h.3.1) h.3.2 h.4
+      metered_due plan method_bytes turns image h.0 h.1 h.2 given rest h.4.0 h.3 due
+      (held_due (allowed_by_meter turns image) loaded_turn (loaded_program (program_of h.1.classes) (need (image_of image).mapped))
+      plan unix given rest h.4.0 (starts unix) begins h.4.1) h.4.2 h.5
 
   -- the image was made and the system is ready, and the rest came to what is due of it
   came : (meter : Option ℕ) (IsHeldDue : Option (List ℕ) → Due → Type 0) (method_bytes : ℕ) (input : Named) (pages : Pages) (image : Source) (unix : Held)
       (w u x v : World) (end : Result CommandAnswer Stop)
       → ((given : List GivenFile) (rest : Option (List ℕ)) (due : Due) → Begins unix plan.session.disk plan.moment given (arguments_of plan)
-      → IsHeldDue rest due → IsDueOfTranslatedBy meter plan method_bytes image given rest due)
+      → IsHeldDue rest due → IsDueOfTranslatedBy AreMade meter plan method_bytes image given rest due)
       → Over (λ files. IsImagedFrom input pages files (Ok image)) w.shelf u.shelf → OnlyShelf w u → Over (λ files. IsReady plan files unix) u.shelf x.shelf
       → OnlyShelf u x → Comes true (λ y. IsHeldDue y.input.told) x v end
-      → Comes true (IsDueOfGo input pages method_bytes meter plan) w v end
+      → Comes true (IsDueOfGo AreMade input pages method_bytes meter plan) w v end
   came meter IsHeldDue method_bytes input pages image unix w u x v end is imaged only ready only' comes =
-      stays_then_comes true (λ y. IsHeldDue y.input.told) (IsDueOfGo input pages method_bytes meter plan) w x v end
+      stays_then_comes true (λ y. IsHeldDue y.input.told) (IsDueOfGo AreMade input pages method_bytes meter plan) w x v end
       (stays_then w u x (imaged.same, only) (ready.same, only'))
       (λ due later. record {
         files = imaged.files;
         agree = imaged.agree;
         with_files = ready.files;
         with_agree = agree_before w.shelf.told u.shelf.told ready.files imaged.same.0 ready.agree;
-        file = file_named imaged.files input;
+        file = file_that_is_named imaged.files input;
         file_is = refl;
         source = Ok image;
         source_is = imaged.is;
@@ -121,7 +122,7 @@ module _ (plan : Plan) (starts : (held : Held) → StartsAs plan held) where
   pub go_comes : (method_bytes : ℕ) (input : Named) (pages : Pages) (image : Source) (unix : Held) (w u x v : World) (end : Result CommandAnswer Stop)
       → Over (λ files. IsImagedFrom input pages files (Ok image)) w.shelf u.shelf → OnlyShelf w u → Over (λ files. IsReady plan files unix) u.shelf x.shelf
       → OnlyShelf u x → Comes true (λ y. IsDueOfHeldGo plan method_bytes image unix y.input.told) x v end
-      → Comes true (IsDueOfGo input pages method_bytes None plan) w v end
+      → Comes true (IsDueOfGo AreMade input pages method_bytes None plan) w v end
   go_comes method_bytes input pages image unix w u x v end =
       came None (IsDueOfHeldGo plan method_bytes image unix) method_bytes input pages image unix w u x v end
       (λ given rest due begins h. translated_due method_bytes image unix given rest due begins h)
@@ -130,15 +131,15 @@ module _ (plan : Plan) (starts : (held : Held) → StartsAs plan held) where
       (end : Result CommandAnswer Stop)
       → Over (λ files. IsImagedFrom input pages files (Ok image)) w.shelf u.shelf → OnlyShelf w u → Over (λ files. IsReady plan files unix) u.shelf x.shelf
       → OnlyShelf u x → Comes true (λ y. IsDueOfHeldMetered plan method_bytes turns image unix y.input.told) x v end
-      → Comes true (IsDueOfGo input pages method_bytes (Some turns) plan) w v end
+      → Comes true (IsDueOfGo AreMade input pages method_bytes (Some turns) plan) w v end
   go_comes_by_meter method_bytes turns input pages image unix w u x v end =
       came (Some turns) (IsDueOfHeldMetered plan method_bytes turns image unix) method_bytes input pages image unix w u x v end
       (λ given rest due begins h. by_meter_due method_bytes turns image unix given rest due begins h)
 
 -- a translation was made, and its files and classes worked on
-pub built_works : (plan : Plan) (method_bytes : ℕ) (image : Source) (unix : Held) (built : Built) (w v : World) (end : Result CommandAnswer Stop)
-    → (t : Translated image plan.name method_bytes built)
-    → WorksOn (λ x. IsDueBehind built.files.items (IsDueOfHeldRun (allowed plan image) (need (image_of image).mapped) unix plan.session.keep.names t.linked.classes
+pub built_works : (plan : Plan) (method_bytes : ℕ) (image : Source) (unix : Held) (files : List NamedFile) (w v : World) (end : Result CommandAnswer Stop)
+    → (t : Translated image plan.name files) → AreMade None image plan.name method_bytes files
+    → WorksOn (λ x. IsDueBehind files (IsDueOfHeldRun (allowed plan image) (need (image_of image).mapped) unix plan.session.keep.names t.classes
     x.input.told)) w v end
     → WorksOn (λ x. IsDueOfHeldGo plan method_bytes image unix x.input.told) w v end
-built_works plan method_bytes image unix built w v end t q = (q.0, (built, t, q.1), q.2)
+built_works plan method_bytes image unix files w v end t made q = (q.0, (files, t, made, q.1), q.2)

@@ -6,3 +6,13 @@ pub mod RunLemmas
 pub mod MeteredRuns
 pub mod GoLemmas
 pub mod MakeLemmas
+pub mod PlainWords
+pub mod TextBytes
+pub mod TextPages
+pub mod TextImage
+pub mod BlockPlaces
+pub mod BlockTurns
+pub mod WholeRun
+pub mod ProgramStart
+pub mod ProgramEnd
+pub mod WordLemmas

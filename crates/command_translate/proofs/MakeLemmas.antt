@@ -1,19 +1,20 @@
 -- What is due of the program that is made.
 use Rattle.std.proofs.Common.{◌≡◌, ◌≢◌, ℕ, ℤ, ◌≤◌, ◌%◌, false, pos, List, [], Option, None, Some, Result, Ok, Err, ap, ◌∙◌, subst, arith}
-use Rattle.elf_reader.specs.Area.{area}
-use Rattle.elf_reader.specs.Fault.{elf_fault, IsRunsOf}
-use Rattle.elf_reader.specs.declared.range.Range.{Range}
-use Rattle.elf_image.specs.Refusals.{image_fault}
-use Rattle.elf_image.specs.Start.{Source}
-use Rattle.elf_writer.specs.Fields.{words}
+use Rattle.elf_definition.specs.Area.{area}
+use Rattle.elf_definition.specs.Fault.{elf_fault, IsRunsOf}
+use Rattle.elf_definition.specs.declared.range.Range.{Range}
+use Rattle.elf_definition.specs.ImageFault.{image_fault}
+use Rattle.elf_definition.specs.Start.{Source}
+use Rattle.elf_definition.specs.FileFields.{words}
 use Rattle.mips_asm.specs.File.{IsFileOf}
-use Rattle.made_program.specs.Words.{made_words}
-use Rattle.jvm_code.specs.declared.class.Class.{Class}
-use Rattle.program_translation.specs.declared.built.Built.{Built}
+use Rattle.nv_translate.specs.Made.{AreMade}
+use Rattle.command_translate.specs.MadeWords.{made_words}
+use Rattle.class_definition.specs.declared.class.Class.{Class}
+use Rattle.translate_program.specs.declared.named_file.NamedFile.{NamedFile}
 use Rattle.nv_translate.specs.Translated.{Translated}
-use Rattle.made_program.specs.Ends.{ExitsLow, made_outcome}
+use Rattle.command_translate.specs.MadeEnds.{ExitsLow, made_outcome}
 use Rattle.command_deeds.proofs.DeedLemmas.{due_as}
-use Rattle.command_deeds.specs.Checks.{Behind, unless}
+use Rattle.command_deeds.specs.Checks.{Behind, unless_fault}
 use Rattle.command_deeds.specs.Ends.{CommandAnswer, Comes, Due}
 use Rattle.command_deeds.specs.Line.{status_of}
 use Rattle.command_deeds.specs.World.{World}
@@ -49,7 +50,7 @@ pub record IsDueOfBoth (count moment : ℕ) (source : Source) (made : List Class
 -- what is due of the image of the program
 abbrev pub IsDueOfMade : ℕ → ℕ → ℕ → Source → Due → Type 0
 IsDueOfMade count method_bytes moment source due =
-    (built : Built) × (t : Translated source made_name method_bytes built) × IsDueOfBoth count moment source t.linked.classes due
+    (files : List NamedFile) × (t : Translated source made_name files) × AreMade None source made_name method_bytes files × IsDueOfBoth count moment source t.classes due
 
 -- the program exits by itself, and both runs are told
 pub ends_told : (count method_bytes moment steps : ℕ) (file this : List ℕ) (source : Source) (interp classes : Done) (i k : ℕ) → steps ≡ made_steps count
@@ -62,17 +63,18 @@ ends_told count method_bytes moment steps file this source interp classes i k sa
     let t = second.translated in
     let as_source : source ≡ source_of DEFAULT_PAGES file = imaged ∙ ap (source_of DEFAULT_PAGES) is_file in
     let end : interp_end by moment source ≡ Some (Exited (pos exits.status)) = ap (interp_end by moment) as_source ∙ ap answer_of exits.is in
-    let alike : classes_end by moment source t.linked.classes ≡ interp_end by moment source =
-    same_end by moment method_bytes source second.built t (not_spent (interp_end by moment source) (pos exits.status) end) in
+    let alike : classes_end by moment source t.classes ≡ interp_end by moment source =
+    same_end by moment source second.files t (not_spent (interp_end by moment source) (pos exits.status) end) in
     let one : interp_end by moment source ≡ Some interp = subst (λ n. interp_end n moment source ≡ Some interp) same first in
-    let two : classes_end by moment source t.linked.classes ≡ Some classes =
-    subst (λ n. classes_end n moment source t.linked.classes ≡ Some classes) same second.is in
+    let two : classes_end by moment source t.classes ≡ Some classes =
+    subst (λ n. classes_end n moment source t.classes ≡ Some classes) same second.is in
     let interp_is : interp ≡ Exited (pos exits.status) = cc (one, end) in
     let classes_is : classes ≡ Exited (pos exits.status) = cc (two, alike, end) in
     let i_is : i ≡ exits.status = is_i ∙ low_status interp exits.status exits.low interp_is in
     let k_is : k ≡ exits.status = is_k ∙ low_status classes exits.status exits.low classes_is in (
-      second.built,
+      second.files,
       t,
+      second.made,
       record {
         status = exits.status;
         low = exits.low;
@@ -86,28 +88,29 @@ ends_told count method_bytes moment steps file this source interp classes i k sa
 
 -- the program in its file
 made_due : (count method_bytes moment : ℕ) (file this : List ℕ) (image : Source) (due : Due) → IsFileOf (words (made_words count)) [] file → this ≡ file
-    → image ≡ source_of DEFAULT_PAGES this → IsDueOfMade count method_bytes moment image due → IsDueOfMake count method_bytes moment due
+    → image ≡ source_of DEFAULT_PAGES this → IsDueOfMade count method_bytes moment image due → IsDueOfMake AreMade count method_bytes moment due
 made_due count method_bytes moment file this image due is same imaged h =
     let made = subst (λ s. IsDueOfMade count method_bytes moment s due) (imaged ∙ ap (source_of DEFAULT_PAGES) same) h in
     record {
       file = file;
       file_is = is;
-      built = made.0;
+      files = made.0;
       translated = made.1;
-      status = made.2.status;
-      low = made.2.low;
-      interp = made.2.interp;
-      classes = made.2.classes;
-      done = made.2.is;
+      made = made.2;
+      status = made.3.status;
+      low = made.3.low;
+      interp = made.3.interp;
+      classes = made.3.classes;
+      done = made.3.is;
     }
 
 -- its image was made, and the rest came to this
 pub make_comes : (count method_bytes moment : ℕ) (file this : List ℕ) (image : Source) (w v : World) (end : Result CommandAnswer Stop)
     → IsFileOf (words (made_words count)) [] file → this ≡ file
     → IsImaged DEFAULT_PAGES this (Ok image) → Comes false (λ x. IsDueOfMade count method_bytes moment image) w v end
-    → Comes false (λ x. IsDueOfMake count method_bytes moment) w v end
+    → Comes false (λ x. IsDueOfMake AreMade count method_bytes moment) w v end
 make_comes count method_bytes moment file this image w v end is same imaged comes =
-    due_as false (λ x. IsDueOfMade count method_bytes moment image) (λ x. IsDueOfMake count method_bytes moment) w v end
+    due_as false (λ x. IsDueOfMade count method_bytes moment image) (λ x. IsDueOfMake AreMade count method_bytes moment) w v end
     (λ due h. made_due count method_bytes moment file this image due is same (image_is DEFAULT_PAGES this image imaged) h) comes
 
 -- it is not refused
@@ -115,7 +118,7 @@ pub make_accepted : (file this : List ℕ) (answer : CommandAnswer) → this ≡
     → ((runs : List Range) → IsRunsOf (area file) runs → image_fault file runs 256 64 ≡ None) → IsImaged DEFAULT_PAGES this (Err answer) → ⊥
 make_accepted file this answer same accepted passed refused =
     let source = source_of DEFAULT_PAGES file in
-    let checked : IsImageChecked source (Err answer) = subst (λ f. Behind (unless f ElfRefused source) IsImageChecked (Err answer)) accepted
+    let checked : IsImageChecked source (Err answer) = subst (λ f. Behind (unless_fault f ElfRefused source) IsImageChecked (Err answer)) accepted
     (subst (λ f. IsImaged DEFAULT_PAGES f (Err answer)) same refused) in
-    let e : Err answer ≡ Ok source = checked.is ∙ ap (λ f. unless f ImageRefused source) (passed checked.runs checked.are_runs) in
+    let e : Err answer ≡ Ok source = checked.is ∙ ap (λ f. unless_fault f ImageRefused source) (passed checked.runs checked.are_runs) in
     cc

@@ -1,27 +1,27 @@
 -- Classes with a meter run as their program over each system, of whatever kind, where they do so over each list of answers.
 use Rattle.std.proofs.Common.{◌≡◌, ◌≢◌, ◌⊎◌, ◌+◌, ◌∙◌, ℕ, ◌≤◌, IsTrue, List, [], Option, Some, refl, sym, inl, inr, arith}
 use Rattle.std.proofs.lemmas.List.{append-nil}
-use Rattle.nv_events.specs.Answer.{Answer, fits, next_answer}
-use Rattle.nv_events.specs.Question.{Question}
-use Rattle.nv_events.specs.Run.{Run, run_of}
-use Rattle.nv_events.specs.Turn.{End}
-use Rattle.nv_events.specs.declared.outcome.Outcome.{Outcome}
-use Rattle.nv_events.specs.declared.outcome.Outcome.TheVariants.{Exited, Faulted, Trapped, Waiting, Going}
-use Rattle.run_laws.proofs.Answering.{agrees_told}
-use Rattle.run_laws.proofs.Following.{end_is_over}
-use Rattle.run_laws.proofs.Metering.{metered_run}
-use Rattle.run_laws.specs.Meter.{IsMetered, metered}
-use Rattle.run_laws.specs.Runs.{Agrees, AgreesInCalls}
-use Rattle.mips_decode.specs.State as guest
-use Rattle.mips_decode.specs.Step as guest_step
-use Rattle.elf_image.specs.Start.{Source, image_of}
-use Rattle.mips_machine.specs.Loading.{start_of}
-use Rattle.metered_programs.specs.Metering.{spent}
-use Rattle.jvm_program.specs.Program.{Program}
-use Rattle.jvm_program.specs.Step.{start, turn, loaded, loaded_turn}
-use Rattle.code_paths.specs.Classes.{IsRunLoaded}
-use Rattle.code_paths.proofs.Loaded.{loaded_run}
-use Rattle.program_translation.specs.Bounds.{meter_allow, need}
+use Rattle.run_definition.specs.Answer.{Answer, answer_fits, next_answer}
+use Rattle.run_definition.specs.Question.{Question}
+use Rattle.run_definition.specs.Run.{Run, run_of}
+use Rattle.run_definition.specs.Turn.{End}
+use Rattle.run_definition.specs.declared.outcome.Outcome.{Outcome}
+use Rattle.run_definition.specs.declared.outcome.Outcome.TheVariants.{Exited, Faulted, Trapped, Waiting, Going}
+use Rattle.run_simulation_laws.proofs.Answering.{agrees_told}
+use Rattle.run_simulation_laws.proofs.Following.{end_is_over}
+use Rattle.run_simulation_laws.proofs.Metering.{metered_run}
+use Rattle.run_simulation_laws.specs.Meter.{IsMetered, metered}
+use Rattle.run_simulation_laws.specs.Runs.{Agrees, AgreesInCalls}
+use Rattle.mips_definition.specs.State as guest
+use Rattle.mips_definition.specs.Step as guest_step
+use Rattle.elf_definition.specs.Start.{Source, image_of}
+use Rattle.elf_definition.specs.Loading.{start_of}
+use Rattle.emit_metered_laws.specs.Metering.{spent}
+use Rattle.jvm_definition.specs.Program.{Program}
+use Rattle.jvm_definition.specs.Step.{jvm_start, jvm_turn, loaded_program, loaded_turn}
+use Rattle.emit_paths_laws.specs.Classes.{IsRunLoaded}
+use Rattle.emit_paths_laws.proofs.Loaded.{loaded_run}
+use Rattle.translate_program.specs.Bounds.{meter_allow, need}
 use Rattle.nv_translate.specs.Metered.{StopsByItsMeter}
 
 pub going_or_not : (o : Outcome) → (o ≡ Going) ⊎ (o ≢ Going)
@@ -57,7 +57,7 @@ is_over end run one h = by (going_or_not run.outcome)
 
 -- ---- the classes of a translation
 
-module _ {K : Type 0} (reply : K → Question → Option (Answer × K)) (fitting : (k l : K) (q : Question) (a : Answer) → reply k q ≡ Some (a, l) → IsTrue (fits a q))
+module _ {K : Type 0} (reply : K → Question → Option (Answer × K)) (fitting : (k l : K) (q : Question) (a : Answer) → reply k q ≡ Some (a, l) → IsTrue (answer_fits a q))
     (source : Source) (turns : ℕ) (program : Program) (words m : ℕ) (stops : StopsByItsMeter source turns program) (room : need (image_of source).mapped ≤ words)
     (enough : meter_allow (image_of source).mapped turns ≤ m) (system : K) where
   -- how the guest begins, and with its meter
@@ -71,22 +71,22 @@ module _ {K : Type 0} (reply : K → Question → Option (Answer × K)) (fitting
   with_meter : (answers : List Answer) → IsMetered spent (run_of guest_step.turn next_answer turns begins answers) (metered_for next_answer answers)
   with_meter answers = metered_run guest_step.turn spent next_answer turns (turns + 1) begins answers (omega arith)
 
-  forth : (answers : List Answer) → AgreesInCalls (metered_for next_answer answers) (run_of (turn program words) next_answer m (start program) answers)
+  forth : (answers : List Answer) → AgreesInCalls (metered_for next_answer answers) (run_of (jvm_turn program words) next_answer m (jvm_start program) answers)
   forth answers = metered_agree spent _ _ _ (with_meter answers) (stops.metered words m answers room enough)
 
-  back : (answers : List Answer) → AgreesInCalls (run_of (turn program words) next_answer m (start program) answers) (metered_for next_answer answers)
+  back : (answers : List Answer) → AgreesInCalls (run_of (jvm_turn program words) next_answer m (jvm_start program) answers) (metered_for next_answer answers)
   back answers = metered_agree spent _ _ _ (stops.metered words m answers room enough) (with_meter answers)
 
   -- so they do over the system
-  agree : Agrees (metered_for reply system) (run_of (turn program words) reply m (start program) system)
+  agree : Agrees (metered_for reply system) (run_of (jvm_turn program words) reply m (jvm_start program) system)
   agree =
-      agrees_told reply fitting (metered guest_step.turn spent) (turn program words) (turns + 1) m (turns + 1) (turns, begins) (start program)
+      agrees_told reply fitting (metered guest_step.turn spent) (jvm_turn program words) (turns + 1) m (turns + 1) (turns, begins) (jvm_start program)
       forth back system
 
-  is_loaded : IsRunLoaded program words (run_of (turn program words) reply m (start program) system) (run_of loaded_turn reply m (loaded program words) system)
-  is_loaded = loaded_run program words reply m (start program) system
+  is_loaded : IsRunLoaded program words (run_of (jvm_turn program words) reply m (jvm_start program) system) (run_of loaded_turn reply m (loaded_program program words) system)
+  is_loaded = loaded_run program words reply m (jvm_start program) system
 
-  pub metered_over : IsMetered spent (run_of guest_step.turn reply turns begins system) (run_of loaded_turn reply m (loaded program words) system)
+  pub metered_over : IsMetered spent (run_of guest_step.turn reply turns begins system) (run_of loaded_turn reply m (loaded_program program words) system)
   metered_over =
       let by = metered_run guest_step.turn spent reply turns (turns + 1) begins system (omega arith) in
       let ends = agree.over (is_over spent _ _ by) in

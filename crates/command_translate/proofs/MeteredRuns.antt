@@ -2,29 +2,30 @@
 use Rattle.std.proofs.Common.{◌≡◌, ◌≢◌, ◌⊎◌, ◌∙◌, ◌==◌, ◌≤◌, if◌then◌else◌, ℕ, Bool, true, false, List, [], ◌∷◌, Option, Some, None, option_map, Result, Ok, Err, refl, sym, ap, ap₂, inl, inr, arith}
 use Rattle.std.proofs.lemmas.Bool.Decides.{nat_tests}
 use Rattle.std.proofs.lemmas.Option.{same_Some}
-use Rattle.nv_events.specs.Run.{Run}
-use Rattle.nv_events.specs.Turn.{End, outcome_of}
-use Rattle.nv_events.specs.declared.fault.Fault.{Fault}
-use Rattle.nv_events.specs.declared.outcome.Outcome.{Outcome}
-use Rattle.nv_events.specs.declared.outcome.Outcome.TheVariants.{Exited, Faulted, Trapped, Waiting, Going}
-use Rattle.run_laws.specs.Meter.{IsMetered}
-use Rattle.guest_faults.specs.Kinds.{IsGuestKind}
-use Rattle.mips_decode.specs.State.{State}
-use Rattle.elf_image.specs.Start.{Source, image_of}
-use Rattle.unix_files.specs.Files.{Files}
-use Rattle.unix_system.specs.System.{System}
-use Rattle.unix_system.specs.Unix.{reply}
+use Rattle.run_definition.specs.Run.{Run}
+use Rattle.run_definition.specs.Turn.{End, outcome_of}
+use Rattle.run_definition.specs.declared.fault.Fault.{Fault}
+use Rattle.run_definition.specs.declared.outcome.Outcome.{Outcome}
+use Rattle.run_definition.specs.declared.outcome.Outcome.TheVariants.{Exited, Faulted, Trapped, Waiting, Going}
+use Rattle.run_simulation_laws.specs.Meter.{IsMetered}
+use Rattle.mips_decode.specs.FaultKinds.{IsGuestKind}
+use Rattle.mips_definition.specs.State.{State}
+use Rattle.elf_definition.specs.Start.{Source, image_of}
+use Rattle.unix_definition.specs.Files.{GuestFiles}
+use Rattle.unix_definition.specs.System.{System}
+use Rattle.unix_definition.specs.Unix.{reply}
 use Rattle.unix_calls.specs.Arriving.{Arriving, arriving, reply_arriving, without_pieces}
 use Rattle.unix_calls.specs.Held.{Held}
 use Rattle.unix_calls.specs.Stages.{stage_of}
 use Rattle.meter.specs.Guards.{spent_kind}
-use Rattle.metered_programs.specs.Metering.{spent}
-use Rattle.jvm_program.specs.Step.{loaded, loaded_turn}
-use Rattle.jvm_link.specs.Linking.{program_of}
-use Rattle.program_translation.specs.Bounds.{need}
-use Rattle.program_translation.specs.declared.built.Built.{Built}
+use Rattle.emit_metered_laws.specs.Metering.{spent}
+use Rattle.jvm_definition.specs.Step.{loaded_program, loaded_turn}
+use Rattle.class_definition.specs.Linking.{program_of}
+use Rattle.translate_program.specs.Bounds.{need}
+use Rattle.translate_program.specs.declared.named_file.NamedFile.{NamedFile}
 use Rattle.nv_translate.proofs.EndedRuns.{system_fits}
 use Rattle.nv_translate.specs.Metered.{TranslatedMetered}
+use Rattle.nv_translate.specs.Made.{AreMade}
 use Rattle.command_deeds.proofs.PlayLemmas.{IsDueOfSteps}
 use Rattle.command_deeds.specs.Deeds.{plays}
 use Rattle.command_deeds.specs.Ends.{CommandAnswer, Due, Works, WorksOn, is_stop, says}
@@ -93,13 +94,13 @@ told_works : (later : Due) (w v : World) (end : Result CommandAnswer Stop)
 told_works later w v (Ok answer) none p = (ap (option_map said_by_meter) p.0, none answer p.0, p.2)
 told_works later w v (Err stop) none p = p
 
-pub metered_works : (plan : Plan) (method_bytes turns : ℕ) (image : Source) (unix : Held) (built : Built) (w v : World) (end : Result CommandAnswer Stop)
-    → (t : TranslatedMetered image plan.name method_bytes turns built)
-    → WorksOn (λ x. IsDueBehind built.files.items (IsDueOfHeldRun (allowed_by_meter turns image) (need (image_of image).mapped) unix plan.session.keep.names t.linked.classes
+pub metered_works : (plan : Plan) (method_bytes turns : ℕ) (image : Source) (unix : Held) (files : List NamedFile) (w v : World) (end : Result CommandAnswer Stop)
+    → (t : TranslatedMetered image plan.name turns files) → AreMade (Some turns) image plan.name method_bytes files
+    → WorksOn (λ x. IsDueBehind files (IsDueOfHeldRun (allowed_by_meter turns image) (need (image_of image).mapped) unix plan.session.keep.names t.classes
     x.input.told)) w v end
     → WorksOn (λ x. IsDueOfHeldMetered plan method_bytes turns image unix x.input.told) w v (ended_by_meter end)
-metered_works plan method_bytes turns image unix built w v end t q =
-    (told_by_meter q.0, (built, t, q.0, q.1, refl), told_works q.0 w v end none q.2)
+metered_works plan method_bytes turns image unix files w v end t made q =
+    (told_by_meter q.0, (files, t, made, q.0, q.1, refl), told_works q.0 w v end none q.2)
   where
     none : (answer : CommandAnswer) → q.0.answer ≡ Some answer → is_stop (by_meter answer.done) ≡ false
     none answer is =
@@ -111,7 +112,7 @@ without : {S T : Type 0} (end : S → End) (run : Run S Arriving) (other : Run T
     → IsMetered end (without_pieces run) (without_pieces other)
 without end run other m = record { questions = m.questions; system = ap (λ k. k.system) m.system; goes = m.goes; over = m.over }
 
-module _ (plan : Plan) (method_bytes turns : ℕ) (source : Source) (built : Built) (t : TranslatedMetered source plan.name method_bytes turns built)
+module _ (plan : Plan) (turns : ℕ) (source : Source) (files : List NamedFile) (t : TranslatedMetered source plan.name turns files)
     (found : List GivenFile) (pieces : List (List ℕ)) where
   abbrev bound : ℕ
   bound = allowed_by_meter turns source
@@ -120,48 +121,49 @@ module _ (plan : Plan) (method_bytes turns : ℕ) (source : Source) (built : Bui
   room = need (image_of source).mapped
 
   as_program : (input : Option (List ℕ)) → IsMetered spent (program_for plan source found input pieces turns)
-      (classes_for plan source found t.linked.classes input pieces bound)
+      (classes_for plan source found t.classes input pieces bound)
   as_program (Some input) =
-      metered_over reply system_fits source turns (program_of t.linked.classes) room bound t.stops (omega arith) (omega arith)
+      metered_over reply system_fits source turns (program_of t.classes) room bound t.stops (omega arith) (omega arith)
       (system plan source found pieces input)
   as_program None =
-      without spent _ _ (metered_over reply_arriving arriving_fits source turns (program_of t.linked.classes) room bound t.stops (omega arith) (omega arith)
+      without spent _ _ (metered_over reply_arriving arriving_fits source turns (program_of t.classes) room bound t.stops (omega arith) (omega arith)
       (arriving (system plan source found pieces []) pieces))
 
   -- the run and its answer, by the meter
   is_run : (input : Option (List ℕ))
-      → told_by_meter (of_runs loaded_turn bound (classes_for plan source found t.linked.classes input pieces) plan.session.keep.names)
-      ≡ metered_run plan turns source found t.linked.classes input pieces
+      → told_by_meter (of_runs loaded_turn bound (classes_for plan source found t.classes input pieces) plan.session.keep.names)
+      ≡ metered_run plan turns source found t.classes input pieces
   is_run input =
-      let classes = classes_for plan source found t.linked.classes input pieces in
+      let classes = classes_for plan source found t.classes input pieces in
       let program = program_for plan source found input pieces turns in
       let metered = as_program input in
-      ap₂ (λ (files : Files) (answer : Option CommandAnswer). record {
+      ap₂ (λ (files : GuestFiles) (answer : Option CommandAnswer). record {
         deeds = plays bound (λ n. stage_of loaded_turn (classes n)) ∷ kept files plan.session.keep.names;
         answer = answer;
       }) (ap (λ (s : System). s.files) metered.system) (same_answer program (classes bound) (program_faults_so plan source found pieces input turns) metered)
 
   no_trap : (input : Option (List ℕ)) (due : Due)
-      → due ≡ after_stores built.files.items (metered_run plan turns source found t.linked.classes input pieces)
+      → due ≡ after_stores files (metered_run plan turns source found t.classes input pieces)
       → (k : ℕ) → due.answer ≢ Some (says (done.Trapped k))
   no_trap input due is k h =
       program_traps_not plan source found pieces input turns k
       (trap_told (program_for plan source found input pieces turns).outcome k (sym (ap (λ (d : Due). d.answer) is) ∙ h))
 
 -- what is due of a translation with a meter, whose files are stored and whose classes run
-pub metered_due : (plan : Plan) (method_bytes turns : ℕ) (source : Source) (built : Built) (t : TranslatedMetered source plan.name method_bytes turns built)
-    (given : List GivenFile) (rest : Option (List ℕ)) (run later due : Due)
-    → IsDueOfSteps (allowed_by_meter turns source) loaded_turn (loaded (program_of t.linked.classes) (need (image_of source).mapped)) plan rest given run
-    → later ≡ after_stores built.files.items run → due ≡ told_by_meter later → IsDueOfMetered plan method_bytes turns source given rest due
-metered_due plan method_bytes turns source built t given rest run later due h behind told_is =
-    let is : due ≡ after_stores built.files.items (metered_run plan turns source given t.linked.classes rest h.0) =
-    told_is ∙ ap told_by_meter (behind ∙ ap (after_stores built.files.items) h.1)
-    ∙ ap (after_stores built.files.items) (is_run plan method_bytes turns source built t given h.0 rest) in
+pub metered_due : (plan : Plan) (method_bytes turns : ℕ) (source : Source) (files : List NamedFile) (t : TranslatedMetered source plan.name turns files)
+    → AreMade (Some turns) source plan.name method_bytes files → (given : List GivenFile) (rest : Option (List ℕ)) (run later due : Due)
+    → IsDueOfSteps (allowed_by_meter turns source) loaded_turn (loaded_program (program_of t.classes) (need (image_of source).mapped)) plan rest given run
+    → later ≡ after_stores files run → due ≡ told_by_meter later → IsDueOfMetered AreMade plan method_bytes turns source given rest due
+metered_due plan method_bytes turns source files t made given rest run later due h behind told_is =
+    let is : due ≡ after_stores files (metered_run plan turns source given t.classes rest h.0) =
+    told_is ∙ ap told_by_meter (behind ∙ ap (after_stores files) h.1)
+    ∙ ap (after_stores files) (is_run plan turns source files t given h.0 rest) in
     record {
-      built = built;
+      files = files;
       translated = t;
+      made = made;
       pieces = h.0;
       is = is;
-      as_program = as_program plan method_bytes turns source built t given h.0 rest;
-      no_trap = no_trap plan method_bytes turns source built t given h.0 rest due is;
+      as_program = as_program plan turns source files t given h.0 rest;
+      no_trap = no_trap plan turns source files t given h.0 rest due is;
     }

@@ -1,10 +1,10 @@
 -- The classes that files hold.
 use Rattle.std.specs.Prelude.{List}
 use Rattle.std.specs.List.{AllZip}
-use Rattle.class_file.specs.ClassFile.{Spells}
-use Rattle.jvm_code.specs.declared.class.Class.{Class}
-use Rattle.jvm_link.specs.Linking.{Accepted}
-use Rattle.program_translation.specs.declared.named_file.NamedFile.{NamedFile}
+use Rattle.class_definition.specs.ClassFile.{Spells}
+use Rattle.class_definition.specs.declared.class.Class.{Class}
+use Rattle.class_definition.specs.Linking.{Accepted}
+use Rattle.translate_program.specs.declared.named_file.NamedFile.{NamedFile}
 
 -- files spell these classes, one each
 abbrev pub SpellClasses : List NamedFile → List Class → Type 0

@@ -1,17 +1,16 @@
 -- What `go` is to do.
 use Rattle.std.specs.Prelude.{◌≡◌, ◌≢◌, ℕ, List, Option, Some, None, IfErr, IfOk}
 use Rattle.nv_outside.specs.Files.{AgreeWith, Files}
-use Rattle.nv_events.specs.declared.outcome.Outcome.TheVariants.{Going}
+use Rattle.run_definition.specs.declared.outcome.Outcome.TheVariants.{Going}
 use Rattle.command_words.specs.declared.named.Named.{Named}
 use Rattle.command_words.specs.declared.pages.Pages.{Pages}
-use Rattle.elf_image.specs.Start.{Source, image_of}
-use Rattle.jvm_program.specs.Step.{loaded_turn}
-use Rattle.jvm_code.specs.declared.class.Class.{Class}
-use Rattle.program_translation.specs.Bounds.{allow}
-use Rattle.program_translation.specs.declared.built.Built.{Built}
-use Rattle.nv_translate.specs.Ends.{EndsAs}
-use Rattle.nv_translate.specs.Translated.{Translated}
-use Rattle.command_deeds.specs.Checks.{Behind, Check, after, file_named}
+use Rattle.elf_definition.specs.Start.{Source, image_of}
+use Rattle.jvm_definition.specs.Step.{loaded_turn}
+use Rattle.class_definition.specs.declared.class.Class.{Class}
+use Rattle.translate_program.specs.Bounds.{allow}
+use Rattle.translate_program.specs.declared.named_file.NamedFile.{NamedFile}
+use Rattle.nv_translate.specs.Translated.{EndsAs, Making, Translated}
+use Rattle.command_deeds.specs.Checks.{Behind, Check, after_check, file_that_is_named}
 use Rattle.command_deeds.specs.Ends.{Due, answers, says}
 use Rattle.command_deeds.specs.declared.done.Done.TheVariants.{Trapped}
 use Rattle.command_deeds.specs.Runs.{GivenFile, Plan, found_for, of_runs}
@@ -26,48 +25,49 @@ abbrev pub allowed : Plan → Source → ℕ
 allowed plan source = allow (image_of source).mapped plan.session.steps
 
 -- what is due of the run of the classes, for so many
-abbrev pub classes_run : Plan → Source → List GivenFile → List Class → Option (List ℕ)
+abbrev pub due_of_classes : Plan → Source → List GivenFile → List Class → Option (List ℕ)
     → List (List ℕ) → Due
-classes_run plan source given classes input pieces =
+due_of_classes plan source given classes input pieces =
     of_runs loaded_turn (allowed plan source)
     (classes_for plan source given classes input pieces) plan.session.keep.names
 
 -- What is due of a program that has an image, with the files of --with.
-pub record IsDueOfTranslated (plan : Plan) (method_bytes : ℕ) (source : Source)
+pub record IsDueOfTranslated (IsMade : Making) (plan : Plan) (method_bytes : ℕ) (source : Source)
     (given : List GivenFile) (input : Option (List ℕ)) (due : Due) : Type 0 where
   -- a translation: its files spell classes that are accepted, and that run as the program
-  pub built : Built
-  pub translated : Translated source plan.name method_bytes built
+  pub files : List NamedFile
+  pub translated : Translated source plan.name files
+  pub made : IsMade None source plan.name method_bytes files
   -- pieces of input, of which one comes before each call where it does not tell what it has left
   pub pieces : List (List ℕ)
   -- its files are stored, and then its classes run
-  pub is : due ≡ after_stores built.files.items
-      (classes_run plan source given translated.linked.classes input pieces)
+  pub is : due ≡ after_stores files
+      (due_of_classes plan source given translated.classes input pieces)
   -- Where the program itself ends within its steps, as `interp` makes it, they end as it does:
   -- after the same calls, in the same way, and with the same files, input and output.
   pub as_program : (program_for plan source given input pieces plan.session.steps).outcome ≢ Going
       → EndsAs (program_for plan source given input pieces plan.session.steps)
-      (classes_for plan source given translated.linked.classes input pieces (allowed plan source))
+      (classes_for plan source given translated.classes input pieces (allowed plan source))
   -- And where they end, the program ends as they do within as many steps as they may make: they
   -- exit and fault only where it does.
-  pub as_classes : (classes_for plan source given translated.linked.classes input pieces
+  pub as_classes : (classes_for plan source given translated.classes input pieces
       (allowed plan source)).outcome ≢ Going
-      → EndsAs (classes_for plan source given translated.linked.classes input pieces
+      → EndsAs (classes_for plan source given translated.classes input pieces
       (allowed plan source)) (program_for plan source given input pieces (allowed plan source))
   -- they never end in a trap
   pub no_trap : (k : ℕ) → due.answer ≢ Some (says (Trapped k))
 
 -- the same, with a meter or without one
-abbrev pub IsDueOfTranslatedBy : Option ℕ → Plan → ℕ → Source → List GivenFile → Option (List ℕ)
-    → Due → Type 0
-IsDueOfTranslatedBy None plan method_bytes source given input due =
-    IsDueOfTranslated plan method_bytes source given input due
-IsDueOfTranslatedBy (Some turns) plan method_bytes source given input due =
-    IsDueOfMetered plan method_bytes turns source given input due
+abbrev pub IsDueOfTranslatedBy : Making → Option ℕ → Plan → ℕ → Source → List GivenFile
+    → Option (List ℕ) → Due → Type 0
+IsDueOfTranslatedBy IsMade None plan method_bytes source given input due =
+    IsDueOfTranslated IsMade plan method_bytes source given input due
+IsDueOfTranslatedBy IsMade (Some turns) plan method_bytes source given input due =
+    IsDueOfMetered IsMade plan method_bytes turns source given input due
 
 -- What `go` is to do with the program of a file that the words name.
-pub record IsDueOfGo (input : Named) (pages : Pages) (method_bytes : ℕ) (meter : Option ℕ)
-    (plan : Plan) (w : World) (due : Due) : Type 0 where
+pub record IsDueOfGo (IsMade : Making) (input : Named) (pages : Pages) (method_bytes : ℕ)
+    (meter : Option ℕ) (plan : Plan) (w : World) (due : Due) : Type 0 where
   -- the files as the program is loaded: those of the shelf, where it tells them
   pub files : Files
   pub agree : AgreeWith w.shelf.told files
@@ -76,15 +76,15 @@ pub record IsDueOfGo (input : Named) (pages : Pages) (method_bytes : ℕ) (meter
   pub with_agree : AgreeWith w.shelf.told with_files
   -- the program's file is there
   pub file : Check (List ℕ)
-  pub file_is : file ≡ file_named files input
+  pub file_is : file ≡ file_that_is_named files input
   -- it is a program, and has an image
   pub source : Check Source
   pub source_is : Behind file (IsImaged pages) source
   -- the arguments fit, and the files of --with are there and fit
   pub found : Check (List GivenFile)
-  pub found_is : found ≡ after source (λ image. found_for plan with_files)
+  pub found_is : found ≡ after_check source (λ image. found_for plan with_files)
   -- the answer where one of these refused
   pub refused : IfErr found (λ answer. due ≡ answers answer)
   -- where all passed, a translation of the program and the run of its classes
   pub done : IfOk source (λ image. IfOk found (λ given.
-      IsDueOfTranslatedBy meter plan method_bytes image given w.input.told due))
+      IsDueOfTranslatedBy IsMade meter plan method_bytes image given w.input.told due))

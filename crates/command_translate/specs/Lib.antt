@@ -6,3 +6,5 @@ pub mod Held
 pub mod Translate
 pub mod Go
 pub mod Make
+pub mod MadeEnds
+pub mod MadeWords

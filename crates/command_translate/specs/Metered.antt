@@ -1,34 +1,27 @@
 -- What is due of a program whose classes have a meter.
 use Rattle.std.specs.Prelude.{◌≡◌, ◌≢◌, ◌==◌, if◌then◌else◌, ℕ, Bool, false, List, Option, Some, None, option_map, Result, Ok, Err}
-use Rattle.nv_events.specs.Run.{Run}
-use Rattle.command_values.specs.Names.{Text}
-use Rattle.run_laws.specs.Meter.{IsMetered}
-use Rattle.mips_decode.specs.State.{State}
-use Rattle.elf_image.specs.Start.{Source, image_of}
-use Rattle.unix_system.specs.System.{System}
+use Rattle.run_definition.specs.Run.{Run}
+use Rattle.nv_values.specs.Names.{Text}
+use Rattle.run_simulation_laws.specs.Meter.{IsMetered}
+use Rattle.mips_definition.specs.State.{State}
+use Rattle.elf_definition.specs.Start.{Source, image_of}
+use Rattle.unix_definition.specs.System.{System}
 use Rattle.unix_calls.specs.Stages.{stage_of}
 use Rattle.meter.specs.Guards.{spent_kind}
-use Rattle.metered_programs.specs.Metering.{spent}
-use Rattle.jvm_program.specs.Step.{loaded_turn}
-use Rattle.jvm_code.specs.declared.class.Class.{Class}
-use Rattle.program_translation.specs.Bounds.{meter_allow}
-use Rattle.program_translation.specs.declared.built.Built.{Built}
-use Rattle.program_translation.specs.declared.named_file.NamedFile.{NamedFile}
-use Rattle.nv_translate.specs.Metered.{AreMeteredFiles, TranslatedMetered}
-use Rattle.nv_translate.specs.Translated.{AreTranslatedFiles}
+use Rattle.emit_metered_laws.specs.Metering.{spent}
+use Rattle.jvm_definition.specs.Step.{loaded_turn}
+use Rattle.class_definition.specs.declared.class.Class.{Class}
+use Rattle.translate_program.specs.Bounds.{meter_allow, need}
+use Rattle.translate_program.specs.declared.named_file.NamedFile.{NamedFile}
+use Rattle.nv_translate.specs.Metered.{TranslatedMetered}
+use Rattle.nv_translate.specs.Translated.{Making}
 use Rattle.command_deeds.specs.Ends.{CommandAnswer, Due, says}
 use Rattle.command_deeds.specs.Runs.{GivenFile, Plan, played}
 use Rattle.command_deeds.specs.declared.done.Done.{Done}
 use Rattle.command_deeds.specs.declared.done.Done.TheVariants as done
 use Rattle.command_deeds.specs.declared.stop.Stop.{Stop}
 use Rattle.command_translate.specs.Runs.{classes_for, program_for}
-use Rattle.command_translate.specs.Stores.{after_stores, counted}
-
--- the files of a translation, with a meter or without one
-abbrev pub AreFilesBy : Option ℕ → Source → Text → ℕ → List NamedFile → Type 0
-AreFilesBy None source name method_bytes files = AreTranslatedFiles source name method_bytes files
-AreFilesBy (Some turns) source name method_bytes files =
-    AreMeteredFiles source name method_bytes turns files
+use Rattle.command_translate.specs.Stores.{after_stores, files_counted}
 
 -- ---- answers
 
@@ -75,32 +68,35 @@ metered_run plan turns source given classes input pieces =
 
 -- What is due of a program that has an image, with the files of --with, where so many turns are put
 -- on a meter of its classes.
-pub record IsDueOfMetered (plan : Plan) (method_bytes turns : ℕ) (source : Source)
-    (given : List GivenFile) (input : Option (List ℕ)) (due : Due) : Type 0 where
-  -- a translation: its files spell classes that are accepted, and that run as the program does
-  -- until its turns are spent
-  pub built : Built
-  pub translated : TranslatedMetered source plan.name method_bytes turns built
-  -- pieces of input, of which one comes before each call where it does not tell what it has left
-  pub pieces : List (List ℕ)
-  -- its files are stored, and then its classes run
-  pub is : due ≡ after_stores built.files.items
-      (metered_run plan turns source given translated.linked.classes input pieces)
-  -- Their run has come to where the program's own stands after so many steps, as `interp` makes it:
-  -- after the same calls, and with the same files, input and output. It has ended in the same way,
-  -- or where the program goes on, in the fault of a spent meter.
-  pub as_program : IsMetered spent (program_for plan source given input pieces turns)
-      (classes_for plan source given translated.linked.classes input pieces
-      (allowed_by_meter turns source))
-  -- they never end in a trap
-  pub no_trap : (k : ℕ) → due.answer ≢ Some (says (done.Trapped k))
+pub record IsDueOfMetered (IsMade : Making) (plan : Plan) (method_bytes turns : ℕ)
+    (source : Source) (given : List GivenFile) (input : Option (List ℕ)) (due : Due) : Type 0
+  where
+    -- a translation: its files spell classes that are accepted, and that run as the program does
+    -- until its turns are spent
+    pub files : List NamedFile
+    pub translated : TranslatedMetered source plan.name turns files
+    pub made : IsMade (Some turns) source plan.name method_bytes files
+    -- pieces of input, of which one comes before each call where it does not tell what it has left
+    pub pieces : List (List ℕ)
+    -- its files are stored, and then its classes run
+    pub is : due ≡ after_stores files
+        (metered_run plan turns source given translated.classes input pieces)
+    -- Their run has come to where the program's own stands after so many steps, as `interp` makes it:
+    -- after the same calls, and with the same files, input and output. It has ended in the same way,
+    -- or where the program goes on, in the fault of a spent meter.
+    pub as_program : IsMetered spent (program_for plan source given input pieces turns)
+        (classes_for plan source given translated.classes input pieces
+        (allowed_by_meter turns source))
+    -- they never end in a trap
+    pub no_trap : (k : ℕ) → due.answer ≢ Some (says (done.Trapped k))
 
 -- The same where its classes are stored alone: every program that has an image is translated.
-pub record IsDueOfMeteredImage (source : Source) (name : Text) (method_bytes turns : ℕ) (due : Due)
-    : Type 0 where
+pub record IsDueOfMeteredImage (IsMade : Making) (source : Source) (name : Text)
+    (method_bytes turns : ℕ) (due : Due) : Type 0 where
   -- a translation: its files spell classes that are accepted, and that run as the program does
   -- until its turns are spent
-  pub built : Built
-  pub translated : TranslatedMetered source name method_bytes turns built
+  pub files : List NamedFile
+  pub translated : TranslatedMetered source name turns files
+  pub made : IsMade (Some turns) source name method_bytes files
   -- its files are stored, and counted
-  pub is : due ≡ counted built
+  pub is : due ≡ files_counted files (need (image_of source).mapped)

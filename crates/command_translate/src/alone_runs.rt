@@ -4,10 +4,10 @@ ghost use Rattle.command_translate.specs.Make.{IsEndOfTranslation, interp_end, m
 
 use crate::classes::machine_of;
 use command_deeds::{Done, play_alone};
-use command_values::{ClassName, MethodBytes};
 use elf_image::Image;
 use mips_machine::Mips;
 use nv_translate::{allow, need, translate_files};
+use nv_values::{ClassName, MethodBytes};
 use std::alloc::{AllocError, Global};
 
 /// The name of the program.

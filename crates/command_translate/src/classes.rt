@@ -1,19 +1,19 @@
 //! From the files of a translation to classes that may be run.
 ghost use Rattle.std.specs.Prelude.{◌≡◌, ◌++◌, ◌∷◌, [], All, IfOk, List, OnOk, false};
-ghost use Rattle.jvm_program.specs.Step.{loaded};
-ghost use Rattle.jvm_program.specs.Typing.{AllTyped};
-ghost use Rattle.jvm_code.specs.declared.class.Class.{Class};
-ghost use Rattle.name_resolution.specs.Kept.{IsClass};
-ghost use Rattle.jvm_link.specs.Linking as linking;
+ghost use Rattle.jvm_definition.specs.Step.{loaded_program};
+ghost use Rattle.jvm_definition.specs.Typing.{AllTyped};
+ghost use Rattle.class_definition.specs.declared.class.Class.{Class};
+ghost use Rattle.class_names.specs.Kept.{IsClass};
+ghost use Rattle.class_definition.specs.Linking as linking;
 ghost use Rattle.jvm_machine.specs.Machine.{has_ended, state_of};
 ghost use Rattle.command_translate.specs.Classes.{HoldAccepted, SpellClasses};
 
 use class_reader::{ReadError, read_class};
-use command_values::RegionWords;
 use jvm_code::Class;
 use jvm_link::{LinkError, Linked, link};
 use jvm_machine::Jvm;
 use nv_translate::NamedFile;
+use nv_values::RegionWords;
 use std::alloc::{AllocError, Global};
 
 /// The class machine with the classes that the files of a translation spell, in a region of so many words. That their methods are typed is
@@ -22,7 +22,7 @@ pub fn machine_of(alloc: Global, words: RegionWords, files: &[NamedFile]) -> Res
     requires { HoldAccepted files.now }
     ensures state { (classes : List Class) → SpellClasses files.now classes
         → IfOk result (λ jvm. state_of jvm
-        ≡ loaded (linking.program_of classes) words) }
+        ≡ loaded_program (linking.program_of classes) words) }
     ensures going { IfOk result (λ jvm. has_ended jvm ≡ false) }
 {
     let linked = linked_files(alloc, files)?;

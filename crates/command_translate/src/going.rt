@@ -1,4 +1,5 @@
 ghost use Rattle.std.specs.Prelude.{◌≤◌, ◌^◌, true};
+ghost use Rattle.nv_translate.specs.Made.{AreMade};
 ghost use Rattle.command_words.specs.Limits.{AreFileNames, ArePages};
 ghost use Rattle.command_deeds.specs.Ends.{Comes, Ends, ended};
 ghost use Rattle.command_deeds.specs.Runs.{plan_of};
@@ -10,15 +11,15 @@ use crate::metering::end_by_meter;
 use crate::playing::play_stored;
 use command_deeds::{Done, Ending, Launch, Outside, ready};
 use command_guest::{Guest, load_image};
-use command_values::{MeterTurns, MethodBytes};
 use elf_image::Image;
 use nv_outside::{Shelf, Sink, Source};
 use nv_translate::{allow, meter_allow, need, translate_files, translate_files_metered};
+use nv_values::{MeterTurns, MethodBytes};
 use std::alloc::Global;
 use unix_calls::Unix;
 use unix_calls::laws::begins_at_start;
 
-/// Loads a program, translates it, stores its classes, runs them, and keeps files of the run. Where the classes have a meter, they run until
+/// Loads a program, translates it, stores its classes, runs them, and keeps files of the run. If the classes have a meter, they run until
 /// the program ends, or so many of its steps are spent.
 pub fn go<H: Shelf, S: Source, O: Sink, E: Sink>(
     alloc: Global,
@@ -32,7 +33,7 @@ pub fn go<H: Shelf, S: Source, O: Sink, E: Sink>(
     requires disk { guest.now.launch.session.now.disk ≤ 65536 }
     requires names { AreFileNames guest.now.launch.session.now.with.names }
     ensures ends { Ends H.Shelf S.Source O.Sink E.Sink
-        (IsDueOfGo guest.now.input.now guest.now.pages method_bytes meter
+        (IsDueOfGo AreMade guest.now.input.now guest.now.pages method_bytes meter
         (plan_of guest.now.launch)) outside.old outside.new result }
 {
     begins_at_start();

@@ -1,17 +1,18 @@
 ghost use Rattle.std.specs.Prelude.{◌≤◌, false};
+ghost use Rattle.nv_translate.specs.Made.{AreMade};
 ghost use Rattle.command_deeds.specs.Ends.{Comes, ended};
 ghost use Rattle.command_deeds.specs.World.{SameParts, Writes, output_seen, seen};
 ghost use Rattle.command_translate.specs.Make.{IsDueOfMake, made_lines};
 
 use crate::alone_runs::{run_image, run_translated};
+use crate::made_file;
+use crate::made_laws::{made_files_are_accepted, made_programs_end};
 use crate::statuses::Statuses;
 use command_deeds::{Done, Ending, Outside, decimal_long, write_pieces};
 use command_guest::{DEFAULT_PAGES, image_of_file};
-use command_values::MethodBytes;
 use itoa::Buffer;
-use made_program::laws::{made_files_are_accepted, made_programs_end};
-use made_program::made_file;
 use nv_outside::{Failed, Shelf, Sink, Source};
+use nv_values::MethodBytes;
 use std::alloc::Global;
 
 /// Makes a program of `count` blocks, runs it in the reference machine and its classes in the class machine, and writes
@@ -25,7 +26,7 @@ pub fn make<H: Shelf, S: Source, O: Sink, E: Sink>(
 ) -> Result<Done, Ending>
     requires count { count ≤ 65536 }
     ensures same { SameParts outside.old outside.new }
-    ensures comes { Comes false (λ w. IsDueOfMake count method_bytes moment)
+    ensures comes { Comes false (λ w. IsDueOfMake AreMade count method_bytes moment)
         (seen H.Shelf S.Source O.Sink E.Sink outside.old)
         (seen H.Shelf S.Source O.Sink E.Sink outside.new) (ended result) }
 {

@@ -1,6 +1,6 @@
 //! The run of a translation whose files are stored first.
 ghost use Rattle.std.specs.Prelude.{List};
-ghost use Rattle.jvm_code.specs.declared.class.Class.{Class};
+ghost use Rattle.class_definition.specs.declared.class.Class.{Class};
 ghost use Rattle.command_deeds.specs.Ends.{WorksOn, ended};
 ghost use Rattle.command_deeds.specs.World.{SameParts, seen};
 ghost use Rattle.command_translate.specs.Classes.{HoldAccepted, SpellClasses};
@@ -10,10 +10,10 @@ ghost use Rattle.command_translate.specs.Stores.{IsDueBehind};
 use crate::classes::machine_of;
 use crate::storing::store_files;
 use command_deeds::{Done, Ending, Outside, play_for};
-use command_values::RegionWords;
 use command_words::NameList;
 use nv_outside::{Shelf, Sink, Source};
 use nv_translate::NamedFile;
+use nv_values::RegionWords;
 use std::alloc::Global;
 use unix_calls::Unix;
 

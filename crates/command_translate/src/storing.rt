@@ -2,7 +2,7 @@
 ghost use Rattle.std.specs.Prelude.{◌∷◌, []};
 ghost use Rattle.command_deeds.specs.Ends.{ShelfDoes};
 ghost use Rattle.command_deeds.specs.World.{shelf_seen};
-ghost use Rattle.command_translate.specs.Stores.{file_stored, stored};
+ghost use Rattle.command_translate.specs.Stores.{file_stored, files_stored};
 
 use command_deeds::{Stop, store};
 use nv_outside::Shelf;
@@ -10,7 +10,7 @@ use nv_translate::NamedFile;
 
 /// Stores files, one after the other.
 pub fn store_files<H: Shelf>(files: &[NamedFile], shelf: &mut H) -> Result<(), Stop>
-    ensures stores { ShelfDoes (stored files.now) (shelf_seen H.Shelf shelf.old)
+    ensures stores { ShelfDoes (files_stored files.now) (shelf_seen H.Shelf shelf.old)
         (shelf_seen H.Shelf shelf.new) result }
 {
     for file in files {

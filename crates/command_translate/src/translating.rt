@@ -1,20 +1,21 @@
 ghost use Rattle.std.specs.Prelude.{IfOk};
+ghost use Rattle.nv_translate.specs.Made.{AreMade};
 ghost use Rattle.command_words.specs.Limits.{ArePages};
 ghost use Rattle.command_deeds.specs.Ends.{Ends};
 ghost use Rattle.command_deeds.specs.World.{Writes, output_seen};
-ghost use Rattle.command_translate.specs.Metered.{AreFilesBy};
-ghost use Rattle.command_translate.specs.Stores.{counts_line};
+ghost use Rattle.command_translate.specs.Held.{AreTranslatedBy};
+ghost use Rattle.command_translate.specs.Stores.{translation_line};
 ghost use Rattle.command_translate.specs.Translate.{IsDueOfTranslate};
 
 use crate::storing::store_files;
 use command_deeds::{Done, Ending, Outside, decimal_long, write_pieces};
 use command_guest::load_image;
-use command_values::{ClassName, MeterTurns, MethodBytes, RegionWords};
 use command_words::{Named, Pages};
 use elf_image::Image;
 use itoa::Buffer;
 use nv_outside::{Failed, Shelf, Sink, Source};
 use nv_translate::{NamedFile, NoMemory, need, translate_files, translate_files_metered};
+use nv_values::{ClassName, MeterTurns, MethodBytes, RegionWords};
 use std::alloc::Global;
 
 /// Loads a program, translates it with a meter or without one, stores its classes under a name, and writes how many files they are and
@@ -30,7 +31,7 @@ pub fn translate<H: Shelf, S: Source, O: Sink, E: Sink>(
 ) -> Result<Done, Ending>
     requires pages { ArePages pages }
     ensures ends { Ends H.Shelf S.Source O.Sink E.Sink
-        (IsDueOfTranslate input.now name.now pages method_bytes meter)
+        (IsDueOfTranslate AreMade input.now name.now pages method_bytes meter)
         outside.old outside.new result }
 {
     let image = load_image(alloc, input, pages, outside.shelf)?;
@@ -50,8 +51,8 @@ fn files_of(
     method_bytes: MethodBytes,
     meter: Option<MeterTurns>,
 ) -> Result<Vec<NamedFile>, NoMemory>
-    ensures { IfOk result (λ files.
-        AreFilesBy meter image name.now method_bytes files.items) }
+    ensures translated { IfOk result (λ files. AreTranslatedBy meter image name.now files.items) }
+    ensures made { IfOk result (λ files. AreMade meter image name.now method_bytes files.items) }
 {
     match meter {
         Some(turns) => translate_files_metered(alloc, image, name, method_bytes, turns),
@@ -62,7 +63,7 @@ fn files_of(
 /// Writes the line of the counts of files that need so many words. Takes no memory.
 fn write_counts<O: Sink>(files: &[NamedFile], words: RegionWords, out: &mut O) -> Result<(), Failed>
     ensures writes { Writes (output_seen O.Sink out.old) (output_seen O.Sink out.new)
-        (counts_line files.now words) result }
+        (translation_line files.now words) result }
 {
     let (mut file_digits, mut need_digits) = (Buffer::new(), Buffer::new());
     let count = decimal_long(&mut file_digits, files.len() as u64);

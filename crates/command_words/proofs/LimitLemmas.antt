@@ -5,12 +5,12 @@ use Rattle.std.specs.List.{All, list_all}
 use Rattle.std.proofs.lemmas.List.Elements.{All-cons, All-nil}
 use Rattle.std.proofs.lemmas.Bool.Decides.{nat_tests}
 use Rattle.std.specs.Str.Parse.{digits_value}
-use Rattle.command_values.specs.Ranges.{lies_in}
-use Rattle.command_values.specs.Names.{Text}
+use Rattle.nv_values.specs.Ranges.{lies_in}
+use Rattle.nv_values.specs.Names.{Text}
 use Rattle.command_forms.specs.Given.{given_in, value_in}
-use Rattle.command_words.specs.Values.{all_different, are_arguments, are_file_names, has_zero, is_file_name, is_symbol_name, is_number, names_in, names_of, number_in, number_or}
-use Rattle.command_forms.specs.Forms.{formed_words, has_end, takes_arguments, form_of, before_end, after_end}
-use Rattle.command_words.specs.Meaning.{Value, class_of, classes_in, classes_of, entry_in, inputs_in, linked_from, plain_words, symbol_name, arguments_in, class_in, class_steps, command_after, disk_in, guest_steps, input_in, made, maker_of, meter_in, method_bytes_in, name_in, name_list_in, pages_in, pipe_bytes_in, region_words_in, session_in, stack_in, heap_in, steps_in}
+use Rattle.command_words.specs.Values.{all_different, are_arguments, are_file_names, has_zero, is_file_name, is_symbol_name, is_number_text, names_in, comma_names, number_in, number_or}
+use Rattle.command_forms.specs.Forms.{formed_words, has_end, takes_arguments, command_form, before_end, after_end}
+use Rattle.command_words.specs.Meaning.{Value, class_named, classes_in, classes_of, entry_in, inputs_in, linked_from, plain_words, symbol_name, arguments_in, class_word, class_steps, command_after, disk_in, guest_steps, input_in, command_made, maker_of, meter_in, method_bytes_in, name_in, name_list_in, pages_in, pipe_bytes_in, region_words_in, session_in, stack_in, heap_in, steps_in}
 use Rattle.command_words.specs.Answers.{Reads}
 use Rattle.std.specs.Option.{option_map_or}
 use Rattle.command_words.specs.declared.named.Named.{Named}
@@ -47,8 +47,8 @@ in_range : (least most n : ℕ) → lies_in least most n ≡ true → (least ≤
 in_range least most n e = grind (arith, nat_tests)
 
 number_limits : (least most : ℕ) (text : Text) → IfSome (number_in least most text) (λ n. (least ≤ n) × (n ≤ most))
-number_limits least most text = if_some (is_number text && lies_in least most (digits_value 10 text)) (digits_value 10 text) (λ n. (least ≤ n) × (n ≤ most))
-    (λ e. in_range least most (digits_value 10 text) (and_second (is_number text) (lies_in least most (digits_value 10 text)) e))
+number_limits least most text = if_some (is_number_text text && lies_in least most (digits_value 10 text)) (digits_value 10 text) (λ n. (least ≤ n) × (n ≤ most))
+    (λ e. in_range least most (digits_value 10 text) (and_second (is_number_text text) (lies_in least most (digits_value 10 text)) e))
 
 option_limits : (least most default : ℕ) (text : Option Text) → least ≤ default → default ≤ most → IfSome (number_or least most default text) (λ n. (least ≤ n) × (n ≤ most))
 option_limits least most default None low high = (low, high)
@@ -90,7 +90,7 @@ list_limits words name value = mapped (names_in (value name)) _ AreFileNames (λ
   where
     go : (o : Option Text) → IfSome (names_in o) AreFileNames
     go None = names_limits [] refl
-    go (Some text) = if_some (are_file_names (names_of text)) (names_of text) AreFileNames (names_limits (names_of text))
+    go (Some text) = if_some (are_file_names (comma_names text)) (comma_names text) AreFileNames (names_limits (comma_names text))
 
 arguments_limits : (arguments : List Text) → IfSome (arguments_in arguments) (λ a. All (λ t. has_zero t ≡ false) a)
 arguments_limits arguments = if_some (are_arguments arguments) arguments (λ a. All (λ t. has_zero t ≡ false) a)
@@ -133,7 +133,7 @@ linked_limits value (output ∷ inputs) =
 classes_count : (words : List Named) → IfSome (classes_of words) (λ classes. length classes ≡ length words)
 classes_count [] = refl
 classes_count (word ∷ others) =
-    through (class_of word) _ (λ _. ⊤) (λ classes. length classes ≡ length (word ∷ others)) (always _) (λ class _.
+    through (class_named word) _ (λ _. ⊤) (λ classes. length classes ≡ length (word ∷ others)) (always _) (λ class _.
     mapped (classes_of others) _ (λ classes. length classes ≡ length others) (λ classes. length classes ≡ length (word ∷ others)) (classes_count others) (λ classes e. omega (arith, e)))
 
 stages_limits : (words : List Named) → IfSome (classes_in words) AreStages
@@ -166,12 +166,12 @@ maker_limits name.Interp words value arguments =
     through (pages_in value) _ ArePages IsWithinLimits (pages_limits value) (λ pages p.
     mapped (session_in guest_steps words value arguments) _ (IsSession guest_steps) IsWithinLimits (session_limits guest_steps words value arguments) (λ session s. (p, s)))))
 maker_limits name.Run words value arguments =
-    through (class_in words value) _ (λ _. ⊤) IsWithinLimits (always _) (λ class _.
+    through (class_word words value) _ (λ _. ⊤) IsWithinLimits (always _) (λ class _.
     through (region_words_in value) _ (λ _. ⊤) IsWithinLimits (always _) (λ region _.
     mapped (session_in class_steps words value arguments) _ (IsSession class_steps) IsWithinLimits (session_limits class_steps words value arguments) (λ session s. s)))
-maker_limits name.Verify words value arguments = mapped (class_in words value) _ (λ _. ⊤) IsWithinLimits (always _) (λ class _. tt)
-maker_limits name.Frames words value arguments = mapped (class_in words value) _ (λ _. ⊤) IsWithinLimits (always _) (λ class _. tt)
-maker_limits name.Check words value arguments = mapped (class_in words value) _ (λ _. ⊤) IsWithinLimits (always _) (λ class _. tt)
+maker_limits name.Verify words value arguments = mapped (class_word words value) _ (λ _. ⊤) IsWithinLimits (always _) (λ class _. tt)
+maker_limits name.Frames words value arguments = mapped (class_word words value) _ (λ _. ⊤) IsWithinLimits (always _) (λ class _. tt)
+maker_limits name.Check words value arguments = mapped (class_word words value) _ (λ _. ⊤) IsWithinLimits (always _) (λ class _. tt)
 maker_limits name.Asm words value arguments =
     through (input_in words (codes "IN") value) _ (λ _. ⊤) IsWithinLimits (always _) (λ input _.
     mapped (value (codes "OUT")) _ (λ _. ⊤) IsWithinLimits (always _) (λ output _. tt))
@@ -192,13 +192,13 @@ maker_limits name.Pipe words value arguments =
 pub within_limits : (name : CommandName) (words : List Text) (command : Command) → command_after name words ≡ Some command → IsWithinLimits command
 within_limits name words command is = subst (λ o. IfSome o IsWithinLimits) is (go (has_end words && not (takes_arguments name)))
   where
-    taken : (b : Bool) → IfSome (cond b (maker_of name (before_end words) (value_in (form_of name) (formed_words name (before_end words))) (after_end words)) None) IsWithinLimits
-    taken true = maker_limits name (before_end words) (value_in (form_of name) (formed_words name (before_end words))) (after_end words)
+    taken : (b : Bool) → IfSome (cond b (maker_of name (before_end words) (value_in (command_form name) (formed_words name (before_end words))) (after_end words)) None) IsWithinLimits
+    taken true = maker_limits name (before_end words) (value_in (command_form name) (formed_words name (before_end words))) (after_end words)
     taken false = tt
 
-    go : (b : Bool) → IfSome (cond b None (made (form_of name) (maker_of name) (before_end words) (formed_words name (before_end words)) (after_end words))) IsWithinLimits
+    go : (b : Bool) → IfSome (cond b None (command_made (command_form name) (maker_of name) (before_end words) (formed_words name (before_end words)) (after_end words))) IsWithinLimits
     go true = tt
-    go false = taken (is_some (given_in (form_of name) (formed_words name (before_end words))))
+    go false = taken (is_some (given_in (command_form name) (formed_words name (before_end words))))
 
 pub read_within : (name : CommandName) (words : List Text) (r : Result Command WordsError) → Reads (command_after name words) r → IfOk r IsWithinLimits
 read_within name words (Ok command) reads = within_limits name words command reads

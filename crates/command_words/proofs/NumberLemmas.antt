@@ -5,9 +5,9 @@ use Rattle.std.specs.Char.{digit_value}
 use Rattle.std.specs.Str.Parse.{AllDigits, IsNumeral, digits_value, without_leading_plus}
 use Rattle.std.proofs.lemmas.Bool.{cases_lt}
 use Rattle.std.proofs.lemmas.Bool.Decides.{nat_tests}
-use Rattle.command_values.specs.Ranges.{lies_in}
-use Rattle.command_values.specs.Names.{Text, is_digit}
-use Rattle.command_words.specs.Values.{is_number, number_in}
+use Rattle.nv_values.specs.Ranges.{lies_in}
+use Rattle.nv_values.specs.Names.{Text, is_digit}
+use Rattle.command_words.specs.Values.{is_number_text, number_in}
 use Rattle.command_forms.proofs.FormWalk.{and_first, and_second}
 use Rattle.command_forms.proofs.FormRules.{differs}
 
@@ -35,7 +35,7 @@ lies_above least most n above = grind (arith, nat_tests)
 length_bounds : (n : ℕ) → lies_in 1 20 n ≡ true → 0 < n
 length_bounds n e = grind (arith, nat_tests)
 
-pub number_overflows : (least most : ℕ) (text : Text) → most < 2 ^ 64 → is_number text ≡ true
+pub number_overflows : (least most : ℕ) (text : Text) → most < 2 ^ 64 → is_number_text text ≡ true
     → (IsNumeral 10 (without_leading_plus text) × (digits_value 10 (without_leading_plus text) < 2 ^ 64) → ⊥) → number_in least most text ≡ None
 number_overflows least most text small number fails =
     let digits : list_all is_digit text ≡ true = and_second (lies_in 1 20 (length text)) _ number in

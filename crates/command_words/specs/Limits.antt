@@ -1,7 +1,7 @@
 -- What holds of every command that words mean, besides what its types say.
 use Rattle.std.specs.Prelude.{◌≡◌, ◌≤◌, ℕ, true, false, List, length}
 use Rattle.std.specs.List.{All}
-use Rattle.command_values.specs.Names.{Text}
+use Rattle.nv_values.specs.Names.{Text}
 use Rattle.command_words.specs.Values.{all_different, has_zero}
 use Rattle.command_words.specs.Meaning.{class_steps, guest_steps}
 use Rattle.command_words.specs.declared.command.Command.{Command}

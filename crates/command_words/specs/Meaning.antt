@@ -1,14 +1,14 @@
 -- The command that lawful words mean.
 use Rattle.std.specs.Prelude.{ℕ, ◌+◌, ◌^◌, ◌-◌, Bool, true, false, not, ◌&&◌, if◌then◌else◌, List, [], ◌∷◌, Option, Some, None, Result, Err, codes, is_some, length, min, option_and_then, option_map}
 use Rattle.std.specs.Option.{ok_or, option_map_or}
-use Rattle.command_values.specs.Names.{Text, lawful_name}
-use Rattle.command_values.specs.MeterTurns.{least_meter_turns, most_meter_turns}
-use Rattle.command_values.specs.MethodBytes.{least_method_bytes, most_method_bytes}
-use Rattle.command_values.specs.PipeBytes.{least_pipe_bytes, most_pipe_bytes}
-use Rattle.command_values.specs.RegionWords.{least_region_words, most_region_words}
-use Rattle.command_values.specs.Ranges.{lies_in}
+use Rattle.nv_values.specs.Names.{Text, lawful_name}
+use Rattle.nv_values.specs.MeterTurns.{least_meter_turns, most_meter_turns}
+use Rattle.nv_values.specs.MethodBytes.{least_method_bytes, most_method_bytes}
+use Rattle.nv_values.specs.PipeBytes.{least_pipe_bytes, most_pipe_bytes}
+use Rattle.nv_values.specs.RegionWords.{least_region_words, most_region_words}
+use Rattle.nv_values.specs.Ranges.{lies_in}
 use Rattle.command_forms.specs.Word.{is_plain, waits_for_value}
-use Rattle.command_forms.specs.Forms.{after_end, before_end, form_of, formed_words, has_end, name_of, takes_arguments}
+use Rattle.command_forms.specs.Forms.{after_end, before_end, command_form, formed_words, has_end, command_name_of, takes_arguments}
 use Rattle.command_forms.specs.Given.{Form, given_in, value_in, value_place, word_place}
 use Rattle.command_words.specs.Values.{are_arguments, is_symbol_name, names_in, number_in, number_or}
 use Rattle.command_words.specs.declared.command.Command.{Command}
@@ -84,8 +84,8 @@ input_in words name value =
     option_map (λ text. record { word = word_number (word_place false words); text = text })
     (value name)
 
-abbrev pub class_in : List Text → Value → Option NamedClass
-class_in words value =
+abbrev pub class_word : List Text → Value → Option NamedClass
+class_word words value =
     option_map (λ name. record { word = word_number (word_place false words); name = name })
     (option_and_then lawful_name (value (codes "NAME")))
 
@@ -141,8 +141,8 @@ abbrev pub symbol_name : Text → Option Text
 symbol_name text = if is_symbol_name text then Some text else None
 
 -- the class that a word names
-abbrev pub class_of : Named → Option NamedClass
-class_of named =
+abbrev pub class_named : Named → Option NamedClass
+class_named named =
     option_map (λ name. record { word = named.word; name = name }) (lawful_name named.text)
 
 -- the classes that all these words name
@@ -150,7 +150,7 @@ abbrev pub classes_of : List Named → Option (List NamedClass)
 classes_of [] = Some []
 classes_of (named ∷ others) =
     option_and_then (λ class. option_map (λ classes. class ∷ classes) (classes_of others))
-    (class_of named)
+    (class_named named)
 
 -- the classes of a pipeline
 abbrev pub classes_in : List Named → Option (List NamedClass)
@@ -193,16 +193,16 @@ abbrev pub run_from : Maker
 run_from words value arguments =
     option_and_then (λ class. option_and_then (λ region.
     option_map (λ session. Run class region session)
-    (session_in class_steps words value arguments)) (region_words_in value)) (class_in words value)
+    (session_in class_steps words value arguments)) (region_words_in value)) (class_word words value)
 
 abbrev pub verify_from : Maker
-verify_from words value arguments = option_map (λ class. Verify class) (class_in words value)
+verify_from words value arguments = option_map (λ class. Verify class) (class_word words value)
 
-abbrev pub frames_from : Maker
-frames_from words value arguments = option_map (λ class. Frames class) (class_in words value)
+abbrev pub frames_command : Maker
+frames_command words value arguments = option_map (λ class. Frames class) (class_word words value)
 
 abbrev pub check_from : Maker
-check_from words value arguments = option_map (λ class. Check class) (class_in words value)
+check_from words value arguments = option_map (λ class. Check class) (class_word words value)
 
 abbrev pub asm_from : Maker
 asm_from words value arguments =
@@ -242,7 +242,7 @@ maker_of name.Translate = translate_from
 maker_of name.Interp = interp_from
 maker_of name.Run = run_from
 maker_of name.Verify = verify_from
-maker_of name.Frames = frames_from
+maker_of name.Frames = frames_command
 maker_of name.Check = check_from
 maker_of name.Asm = asm_from
 maker_of name.List = list_from
@@ -253,14 +253,14 @@ maker_of name.Pipe = pipe_from
 -- ---- all the words
 
 -- What the words before `--` mean with those after it, where those of them that the form is read from break no rule of it.
-abbrev pub made : Form → Maker → List Text → List Text → List Text → Option Command
-made form maker words formed arguments =
+abbrev pub command_made : Form → Maker → List Text → List Text → List Text → Option Command
+command_made form maker words formed arguments =
     if is_some (given_in form formed) then maker words (value_in form formed) arguments else None
 
 -- what the words after COMMAND mean
 abbrev pub command_after : CommandName → List Text → Option Command
 command_after name words = if has_end words && not (takes_arguments name) then None
-    else made (form_of name) (maker_of name) (before_end words)
+    else command_made (command_form name) (maker_of name) (before_end words)
     (formed_words name (before_end words)) (after_end words)
 
 abbrev pub named_command : Option CommandName → List Text → Result Command Usage
@@ -270,4 +270,4 @@ named_command (Some name) words = ok_or (command_after name words) NotLawful
 -- the command that the words mean, or what is wrong with them
 abbrev pub command_of : List Text → Result Command Usage
 command_of [] = Err NoCommand
-command_of (word ∷ words) = named_command (name_of word) words
+command_of (word ∷ words) = named_command (command_name_of word) words

@@ -1,7 +1,7 @@
 //! Classes that plain words name, one after the other.
 ghost use Rattle.std.specs.Prelude.{◌≡◌};
 ghost use Rattle.command_words.specs.Answers.{Reads};
-ghost use Rattle.command_words.specs.Meaning.{class_of, classes_in, classes_of};
+ghost use Rattle.command_words.specs.Meaning.{class_named, classes_in, classes_of};
 
 use crate::named::Named;
 use crate::named_class::NamedClass;
@@ -43,7 +43,7 @@ fn classes_of(alloc: Global, words: &[Named]) -> Result<NamedClasses, WordsError
 
 /// The class of a word.
 fn class_of(alloc: Global, word: &Named) -> Result<NamedClass, WordsError>
-    ensures { Reads (class_of word.now) result }
+    ensures { Reads (class_named word.now) result }
 {
     let name = lawful_name(alloc, word.text.as_str())?;
     Ok(NamedClass {

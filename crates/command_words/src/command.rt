@@ -6,7 +6,7 @@ use crate::named_classes::NamedClasses;
 use crate::pages::Pages;
 use crate::session::Session;
 use crate::text::Text;
-use command_values::{ClassName, MeterTurns, MethodBytes, PipeBytes, RegionWords};
+use nv_values::{ClassName, MeterTurns, MethodBytes, PipeBytes, RegionWords};
 
 /// A command, with its words and options.
 #[derive(Debug, Drop)]

@@ -1,7 +1,7 @@
 ghost use Rattle.std.specs.Prelude.{[]};
 ghost use Rattle.clap.specs.Words.{first_value, found_of};
 ghost use Rattle.command_words.specs.Answers.{Reads};
-ghost use Rattle.command_words.specs.Meaning.{asm_from, check_from, frames_from, go_from, interp_from, list_from, make_from, maker_of, pipe_from, run_from, translate_from, verify_from};
+ghost use Rattle.command_words.specs.Meaning.{asm_from, check_from, frames_command, go_from, interp_from, list_from, make_from, maker_of, pipe_from, run_from, translate_from, verify_from};
 ghost use Rattle.command_forms.specs.Word.{texts};
 
 use crate::classes::classes;
@@ -145,7 +145,7 @@ fn verify(alloc: Global, words: &[String], matches: &ArgMatches<'_>) -> Result<C
 }
 
 fn frames(alloc: Global, words: &[String], matches: &ArgMatches<'_>) -> Result<Command, WordsError>
-    ensures { Reads (frames_from (texts words.now) (first_value (found_of matches.now)) []) result }
+    ensures { Reads (frames_command (texts words.now) (first_value (found_of matches.now)) []) result }
 {
     let class = class(alloc, words, matches)?;
     Ok(Command::Frames { class })

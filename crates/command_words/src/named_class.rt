@@ -1,4 +1,4 @@
-use command_values::ClassName;
+use nv_values::ClassName;
 
 /// A class and the word that names it.
 #[derive(Debug, Drop)]

@@ -2,7 +2,7 @@ ghost use Rattle.std.specs.Prelude.{◌≡◌, IfOk, map, string_bytes, option_m
 ghost use Rattle.std.specs.List.{list_any, list_all};
 ghost use Rattle.command_forms.specs.Answers.{shown};
 ghost use Rattle.command_words.specs.Answers.{Reads};
-ghost use Rattle.command_words.specs.Values.{all_different, are_arguments, are_file_names, has_zero, is_file_name, names_in, names_of};
+ghost use Rattle.command_words.specs.Values.{all_different, are_arguments, are_file_names, has_zero, is_file_name, names_in, comma_names};
 ghost use Rattle.command_forms.specs.Word.{texts};
 
 use crate::texts::Texts;
@@ -26,7 +26,7 @@ pub(crate) fn names_in(alloc: Global, text: Option<&str>) -> Result<Texts, Words
     }
 }
 
-/// The names between the commas, where they are names of files.
+/// The names between the commas, if they are names of files.
 fn file_names(alloc: Global, text: &str) -> Result<Texts, WordsError>
     ensures { Reads (names_in (Some text.now)) result }
 {
@@ -40,7 +40,7 @@ fn file_names(alloc: Global, text: &str) -> Result<Texts, WordsError>
 
 /// The texts between the commas.
 fn split_names<'a>(alloc: Global, text: &'a str) -> Result<Vec<&'a str>, AllocError>
-    ensures { IfOk result (λ v. shown v.items ≡ names_of text.entry.now) }
+    ensures { IfOk result (λ v. shown v.items ≡ comma_names text.entry.now) }
 {
     text.split(',').collect(alloc)
 }

@@ -1,12 +1,12 @@
 ghost use Rattle.std.specs.Prelude.{◌≡◌, ◌≤◌, option_map};
 ghost use Rattle.std.specs.List.{list_all};
-ghost use Rattle.command_values.specs.Names.{is_digit};
-ghost use Rattle.command_values.specs.Ranges.{lies_in};
-ghost use Rattle.command_words.specs.Values.{is_number, number_in, number_or};
+ghost use Rattle.nv_values.specs.Names.{is_digit};
+ghost use Rattle.nv_values.specs.Ranges.{lies_in};
+ghost use Rattle.command_words.specs.Values.{is_number_text, number_in, number_or};
 
-use command_values::is_digit;
+use nv_values::is_digit;
 
-/// The number that 1 to 20 decimal digits write, where it is in the range.
+/// The number that 1 to 20 decimal digits write, if it is in the range.
 pub(crate) fn number_in(text: &str, least: u64, most: u64) -> Option<u64>
     ensures { result ≡ number_in least most text.now }
 {
@@ -54,7 +54,7 @@ pub(crate) fn small_number_in(text: &str, least: u32, most: u32) -> Option<u32>
 
 /// Whether the text is 1 to 20 decimal digits.
 fn is_number(text: &[u8]) -> bool
-    ensures { result ≡ is_number text.now }
+    ensures { result ≡ is_number_text text.now }
 {
     1 <= text.len() && text.len() <= 20 && all_digits(text)
 }

@@ -1,10 +1,10 @@
 ghost use Rattle.std.specs.Prelude.{◌≡◌, if◌then◌else◌};
 ghost use Rattle.command_forms.specs.Given.{value_place};
 ghost use Rattle.clap.specs.Words.{first_value, found_of};
-ghost use Rattle.command_values.specs.MeterTurns.{least_meter_turns, most_meter_turns};
-ghost use Rattle.command_values.specs.Names.{lawful_name};
+ghost use Rattle.nv_values.specs.MeterTurns.{least_meter_turns, most_meter_turns};
+ghost use Rattle.nv_values.specs.Names.{lawful_name};
 ghost use Rattle.command_words.specs.Answers.{Reads};
-ghost use Rattle.command_words.specs.Meaning.{arguments_in, class_in, disk_in, heap_in, input_in, meter_in, method_bytes_in, name_in, name_list_in, pages_in, pipe_bytes_in, region_words_in, session_in, stack_in, steps_in, word_number};
+ghost use Rattle.command_words.specs.Meaning.{arguments_in, class_word, disk_in, heap_in, input_in, meter_in, method_bytes_in, name_in, name_list_in, pages_in, pipe_bytes_in, region_words_in, session_in, stack_in, steps_in, word_number};
 ghost use Rattle.command_words.specs.Values.{number_in};
 ghost use Rattle.command_forms.specs.Word.{texts};
 
@@ -20,7 +20,7 @@ use crate::text::Text;
 use crate::texts::Texts;
 use clap::ArgMatches;
 use command_forms::{WordsError, value_place, word_place};
-use command_values::{ClassName, MeterTurns, MethodBytes, PipeBytes, RegionWords};
+use nv_values::{ClassName, MeterTurns, MethodBytes, PipeBytes, RegionWords};
 use std::alloc::{AllocError, Global};
 
 /// The words of a region where the option is left out.
@@ -53,7 +53,7 @@ pub(crate) fn class(
     words: &[String],
     matches: &ArgMatches<'_>,
 ) -> Result<NamedClass, WordsError>
-    ensures { Reads (class_in (texts words.now) (first_value (found_of matches.now))) result }
+    ensures { Reads (class_word (texts words.now) (first_value (found_of matches.now))) result }
 {
     let text = matches.get_str("NAME").ok_or(WordsError::NOT_LAWFUL)?;
     let name = lawful_name(alloc, text)?;

@@ -1,8 +1,8 @@
 ghost use Rattle.std.specs.Prelude.{◌≡◌, IfOk, Ok, Err};
 ghost use Rattle.command_words.specs.Answers.{Reads};
 ghost use Rattle.command_words.specs.Limits.{IsWithinLimits};
-ghost use Rattle.command_forms.specs.Forms.{form_of};
-ghost use Rattle.command_words.specs.Meaning.{command_after, command_of, made, maker_of};
+ghost use Rattle.command_forms.specs.Forms.{command_form};
+ghost use Rattle.command_words.specs.Meaning.{command_after, command_of, command_made, maker_of};
 ghost use Rattle.command_forms.specs.Word.{texts};
 ghost use Rattle.command_forms.specs.declared.usage.Usage.{Usage};
 
@@ -13,8 +13,8 @@ use std::alloc::Global;
 
 /// The command that the words mean. `words` are those after the program's name.
 ///
-/// `Usage` comes exactly where the first word is missing or no command, or where the others break the rules of the command; but
-/// it yields to want of memory, as the command does.
+/// `Usage` comes exactly if the first word is missing or no command, or where the others break the rules of the command; but
+/// it yields to running out of memory, as the command does.
 pub fn read_words(alloc: Global, words: &[String]) -> Result<Command, WordsError>
     ensures ok { IfOk result (λ command. command_of (texts words.now) ≡ Ok command) }
     ensures limits { IfOk result IsWithinLimits }
@@ -54,7 +54,7 @@ fn read_formed(
     formed: &[String],
     arguments: &[String],
 ) -> Result<Command, WordsError>
-    ensures { Reads (made (form_of name) (maker_of name) (texts words.now) (texts formed.now)
+    ensures { Reads (command_made (command_form name) (maker_of name) (texts words.now) (texts formed.now)
         (texts arguments.now)) result }
 {
     let matches = match_words(alloc, formed, name.words(), name.options())?;

@@ -3,12 +3,12 @@ use Rattle.std.proofs.Common.{◌≡◌, ℕ, ◌-◌, ◌&&◌, Bool, true, fal
 use Rattle.std.specs.Prelude.{◌==◌, ◌||◌, if◌then◌else◌, slice_get, map, option_map}
 use Rattle.std.specs.Option.{option_and_then}
 use Rattle.std.proofs.lemmas.Option.{slice_get-map}
-use Rattle.constant_pool.specs.declared.entry.Entry.{Entry}
-use Rattle.constant_pool.specs.declared.entry.Entry.TheVariants.{Utf8, Integer, Long, LongRest, ClassName, Text, FieldRef, MethodRef, NameAnd}
+use Rattle.class_definition.specs.declared.entry.Entry.{Entry}
+use Rattle.class_definition.specs.declared.entry.Entry.TheVariants.{Utf8, Integer, Long, LongRest, ClassName, Text, FieldRef, MethodRef, NameAnd}
 use Rattle.constant_pool.specs.declared.form.Form.{Form}
-use Rattle.constant_pool.specs.Names.{is_member_name, is_class_name, is_array_name, is_field_descriptor, is_method_descriptor}
-use Rattle.constant_pool.specs.Entries.{utf8_of}
-use Rattle.constant_pool.specs.Checks.{entry_at, text_at, text_fault, pair_fault}
+use Rattle.class_definition.specs.NameGrammar.{is_member_name, is_class_file_name, is_array_name, is_field_descriptor, is_method_descriptor}
+use Rattle.class_definition.specs.PoolEntries.{utf8_of}
+use Rattle.class_definition.specs.PoolChecks.{entry_at, text_at, text_fault, pair_fault}
 use Rattle.constant_pool.specs.Forms.{form_of, form_at, form_fault, least_kind}
 
 -- ---- the form in a slot is that of the entry there
@@ -28,7 +28,7 @@ form_at-map pool n =
 -- ---- what is wrong with a name
 
 class_names : (o : Option Entry) → form_fault (λ f. f.class_name) (option_and_then form_of o)
-    ≡ text_fault (λ cs. is_class_name cs || is_array_name cs) (option_and_then utf8_of o)
+    ≡ text_fault (λ cs. is_class_file_name cs || is_array_name cs) (option_and_then utf8_of o)
 class_names None = refl
 class_names (Some (Utf8 x)) = refl
 class_names (Some (Integer x)) = refl
@@ -54,7 +54,7 @@ member_names (Some (MethodRef x y)) = refl
 member_names (Some (NameAnd x y)) = refl
 
 pub class_name_fault_is : (pool : List Entry) (forms : List (Option Form)) (n : ℕ) → forms ≡ map form_of pool
-    → form_fault (λ f. f.class_name) (form_at forms n) ≡ text_fault (λ cs. is_class_name cs || is_array_name cs) (text_at pool n)
+    → form_fault (λ f. f.class_name) (form_at forms n) ≡ text_fault (λ cs. is_class_file_name cs || is_array_name cs) (text_at pool n)
 class_name_fault_is pool forms n same = rw same (rw (form_at-map pool n) (class_names (entry_at pool n)))
 
 pub member_name_fault_is : (pool : List Entry) (forms : List (Option Form)) (n : ℕ) → forms ≡ map form_of pool

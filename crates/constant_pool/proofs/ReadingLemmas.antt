@@ -1,9 +1,9 @@
 -- What reading a pool at a place gives.
 use Rattle.std.proofs.Common.{◌≡◌, ℕ, ◌+◌, ◌-◌, ◌≤◌, List, ◌++◌, length, drop, Result, Ok, refl, sym, ap, ◌∙◌, subst, arith}
 use Rattle.std.proofs.lemmas.List.{get_or-drop, drop-drop, drop_at, length-append}
-use Rattle.class_format.specs.declared.miss.Miss.{Miss}
-use Rattle.class_format.specs.Format.{Format}
-use Rattle.class_format.specs.Laws.{IsBytes, Begins, IsFormat}
+use Rattle.class_definition.specs.declared.miss.Miss.{Miss}
+use Rattle.class_definition.specs.Format.{Format}
+use Rattle.class_definition.specs.Spelling.{IsBytes, Begins, IsFormat}
 use Rattle.class_format.proofs.Readings.{same_value}
 
 -- what was read at a place

@@ -10,10 +10,10 @@ use Rattle.std.proofs.lemmas.Bool.{and_parts, and_from, eqb-true, eq-eqb, ne_eqb
 use Rattle.std.proofs.lemmas.Bool.Decides.{Decides-eqb, Decides-int_eq}
 use Rattle.std.proofs.lemmas.Slice.Eq.{slice_eq-Decides}
 use Rattle.std.proofs.lemmas.List.{length-append, append-nil}
-use Rattle.constant_pool.specs.declared.entry.Entry.{Entry}
-use Rattle.constant_pool.specs.declared.entry.Entry.TheVariants.{Utf8, Integer, Long, LongRest, ClassName, Text, FieldRef, MethodRef, NameAnd}
-use Rattle.constant_pool.specs.Parts.{tag_of, text_part, number_part, first_part, second_part}
-use Rattle.constant_pool.specs.Entries.{is_long}
+use Rattle.class_definition.specs.declared.entry.Entry.{Entry}
+use Rattle.class_definition.specs.declared.entry.Entry.TheVariants.{Utf8, Integer, Long, LongRest, ClassName, Text, FieldRef, MethodRef, NameAnd}
+use Rattle.class_definition.specs.EntryParts.{tag_of, text_part, number_part, first_part, second_part}
+use Rattle.class_definition.specs.PoolEntries.{is_long_entry}
 use Rattle.constant_pool.specs.Slots.{slots_of_entry, is_rest, IsAt, IsMissing, slots_of_map, AreSlots, IsKeptPool}
 use Rattle.std.proofs.lemmas.Option.{same_Some}
 
@@ -200,7 +200,7 @@ not_there [] i e none rest there = cc
 not_there (p ∷ es) i e none rest there =
     (elim (same_entry e p.0) as (λ b. same_entry e p.0 ≡ b → cond b (Some p.1) (lookup (same_entry e) es) ≡ None → ⊥) [
       | true ↦ λ s here. cc
-      | false ↦ λ s others. not_first (is_long p.0) p.0 (slots_of_map es) i e s rest (λ j at. not_there es j e others rest at) there
+      | false ↦ λ s others. not_first (is_long_entry p.0) p.0 (slots_of_map es) i e s rest (λ j at. not_there es j e others rest at) there
     ]) refl none
 
 at_no_slot : (es : List (Entry × ℕ)) (pool : List Entry) (slot : ℕ) (e : Entry) → lookup (same_entry e) es ≡ None → is_rest e ≡ false → slots_of_map es ≡ pool → IsAt pool slot e → ⊥
@@ -238,7 +238,7 @@ inserted es new pool e slot are view missing is =
     is ∙ insert_new es e slot (looked_none es e (lookup (same_entry e) es) are (subst P (sym view) missing) refl)
 
 slots_more : (es : List (Entry × ℕ)) (p : Entry × ℕ) → slots_of_map (es ++ p ∷ []) ≡ slots_of_map es ++ slots_of_entry p.0
-slots_more [] p = ap (λ (xs : List Entry). p.0 ∷ xs) (append-nil (cond (is_long p.0) (LongRest ∷ []) []))
+slots_more [] p = ap (λ (xs : List Entry). p.0 ∷ xs) (append-nil (cond (is_long_entry p.0) (LongRest ∷ []) []))
 slots_more (q ∷ es) p = ap (λ (xs : List Entry). slots_of_entry q.0 ++ xs) (slots_more es p) ∙ sym (append_assoc (slots_of_entry q.0) (slots_of_map es) (slots_of_entry p.0))
 
 pub pool_more : (es new : List (Entry × ℕ)) (pool : List Entry) (e : Entry) (slot : ℕ) → slots_of_map es ≡ pool → new ≡ es ++ (e, slot) ∷ []

@@ -5,12 +5,12 @@ use Rattle.std.proofs.lemmas.Bool.{ltb-true, lt-ltb, le-ltb, leb-true, le-leb, e
 use Rattle.std.proofs.lemmas.Bool.Decides.{nat_tests}
 use Rattle.std.proofs.lemmas.List.Concat.{flat_map-cons}
 use Rattle.class_format.proofs.Parts.{IsParser}
-use Rattle.constant_pool.specs.declared.partial.Partial.{Partial}
-use Rattle.constant_pool.specs.declared.partial.Partial.TheVariants.{Start, Two, Three, Last}
-use Rattle.constant_pool.specs.declared.step.Step.{Step}
-use Rattle.constant_pool.specs.declared.step.Step.TheVariants.{More, Character, Wrong}
+use Rattle.class_definition.specs.declared.partial.Partial.{Partial}
+use Rattle.class_definition.specs.declared.partial.Partial.TheVariants.{Start, Two, Three, Last}
+use Rattle.class_definition.specs.declared.step.Step.{Step}
+use Rattle.class_definition.specs.declared.step.Step.TheVariants.{More, Character, Wrong}
 use Rattle.constant_pool.specs.Answer.{whole_text}
-use Rattle.constant_pool.specs.Text.{character_bytes, text_bytes, is_text, first_step, low_bits, two_bytes, three_bytes, gone_on, step, resumed, text_from, text_of_bytes, IsPartial}
+use Rattle.class_definition.specs.Utf8.{character_bytes, text_bytes, has_16_bit_characters, first_step, low_six_bits, two_bytes, three_bytes, gone_on, step, resumed, text_from, text_of_bytes, IsPartial}
 
 -- ---- what is written is found
 
@@ -23,7 +23,7 @@ lead_two c high = grind (arith, nat_tests)
 lead_three : (c : ℕ) → c < 0x1_0000 → first_step (0xE0 + c / 4096) ≡ More (Three (c / 4096))
 lead_three c high = grind (arith, nat_tests)
 
-low_of : (n : ℕ) → n < 64 → low_bits (0x80 + n) ≡ Some n
+low_of : (n : ℕ) → n < 64 → low_six_bits (0x80 + n) ≡ Some n
 low_of n high = grind (arith, nat_tests)
 
 two_whole : (c : ℕ) → (c ≡ 0) ⊎ (0x80 ≤ c) → two_bytes c ≡ Character c
@@ -84,11 +84,11 @@ finds_character c bytes high =
       | inr (inr three) ↦ rw (character_is_three c three) (found_three c bytes three high)
     ]
 
-pub finds_text : (cs : List ℕ) → is_text cs ≡ true → text_of_bytes (text_bytes cs) ≡ Some cs
+pub finds_text : (cs : List ℕ) → has_16_bit_characters cs ≡ true → text_of_bytes (text_bytes cs) ≡ Some cs
 unfolding text_from
 finds_text [] e = refl
 finds_text (c ∷ cs) e =
-    let p = and_parts (ltb c 0x1_0000) (is_text cs) e in
+    let p = and_parts (ltb c 0x1_0000) (has_16_bit_characters cs) e in
     rw (flat_map-cons character_bytes c cs) (finds_character c (text_bytes cs) (ltb-true _ _ p.0) ∙ rw (finds_text cs p.1) refl)
 
 -- ---- what is found was written
@@ -144,7 +144,7 @@ three_stepped high low a b =
 more_stepped : (high low : ℕ) → high < 16 → low < 64 → Stepped ((0xE0 + high) ∷ (0x80 + low) ∷ []) (More (Last (high * 64 + low)))
 more_stepped high low a b = (cell2 _ _ _ _ (omega arith) (omega arith), omega arith)
 
-gone_stepped : (front : List ℕ) (b : ℕ) (f : ℕ → Step) → ((low : ℕ) → low < 64 → Stepped (front ++ (0x80 + low) ∷ []) (f low)) → Stepped (front ++ b ∷ []) (gone_on f (low_bits b))
+gone_stepped : (front : List ℕ) (b : ℕ) (f : ℕ → Step) → ((low : ℕ) → low < 64 → Stepped (front ++ (0x80 + low) ∷ []) (f low)) → Stepped (front ++ b ∷ []) (gone_on f (low_six_bits b))
 gone_stepped front b f each =
     (elim (leb 0x80 b && ltb b 0xC0) as (λ t. (leb 0x80 b && ltb b 0xC0) ≡ t → Stepped (front ++ b ∷ []) (gone_on f (cond t (Some (b - 0x80)) None))) [
       | true ↦ λ e. let p = within 0x80 0xC0 b e in let same : 0x80 + (b - 0x80) ≡ b = omega arith in
@@ -170,7 +170,7 @@ mapped_some f None cs e = absurd cc
 mapped_some f (Some ds) cs e = (ds, refl, cc)
 
 abbrev IsFound : Partial → List ℕ → List ℕ → Type 0
-IsFound partial bytes cs = (is_text cs ≡ true) × (partial_bytes partial ++ bytes ≡ text_bytes cs)
+IsFound partial bytes cs = (has_16_bit_characters cs ≡ true) × (partial_bytes partial ++ bytes ≡ text_bytes cs)
 
 after_step : (partial : Partial) (b : ℕ) (bytes : List ℕ) (s : Step) (cs : List ℕ) → Stepped (partial_bytes partial ++ b ∷ []) s
     → ((next : Partial) (ds : List ℕ) → IsPartial next → text_from next bytes ≡ Some ds → IsFound next bytes ds)
@@ -183,7 +183,7 @@ after_step partial b bytes (Character c) cs so each e =
     let p = each Start m.0 tt m.1 in
     let q : partial_bytes partial ++ b ∷ bytes ≡ text_bytes (c ∷ m.0) =
     sym (append_assoc (partial_bytes partial) (b ∷ []) bytes) ∙ ap (λ (xs : List ℕ). xs ++ bytes) so.0 ∙ ap (λ (xs : List ℕ). character_bytes c ++ xs) p.1 ∙ sym (flat_map-cons character_bytes c m.0) in
-    subst (λ (ds : List ℕ). IsFound partial (b ∷ bytes) ds) m.2 (and_from (ltb c 0x1_0000) (is_text m.0) (lt-ltb _ _ so.1) p.0, q)
+    subst (λ (ds : List ℕ). IsFound partial (b ∷ bytes) ds) m.2 (and_from (ltb c 0x1_0000) (has_16_bit_characters m.0) (lt-ltb _ _ so.1) p.0, q)
 after_step partial b bytes Wrong cs so each e = absurd cc
 
 found_nothing : (cs : List ℕ) → text_from Start [] ≡ Some cs → IsFound Start [] cs
@@ -212,7 +212,7 @@ found_from (Last high) [] cs h e = absurd (found_none (Last high) cs tt e)
 found_from partial (b ∷ bytes) cs h e =
     after_step partial b bytes (step partial b) cs (stepped partial b h) (λ next ds so is. found_from next bytes ds so is) (sym (one_more partial b bytes) ∙ e)
 
-pub text_parser : IsParser text_of_bytes is_text text_bytes
+pub text_parser : IsParser text_of_bytes has_16_bit_characters text_bytes
 text_parser = record {
   finds = finds_text;
   found_is = λ bytes cs e. let p = found_from Start bytes cs tt e in (p.0, sym p.1);

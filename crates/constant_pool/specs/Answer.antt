@@ -1,16 +1,16 @@
 -- What reading a pool answers, and how far a text was read.
 use Rattle.std.specs.Prelude.{◌≡◌, ℕ, ◌-◌, List, ◌++◌, length, drop, Option, Some, None, option_map, Ok, Err}
-use Rattle.nv_faults.specs.declared.class_fault.ClassFault.{ClassFault}
-use Rattle.class_format.specs.declared.miss.Miss.{Miss}
-use Rattle.constant_pool.specs.declared.partial.Partial.{Partial}
+use Rattle.class_definition.specs.declared.class_fault.ClassFault.{ClassFault}
+use Rattle.class_definition.specs.declared.miss.Miss.{Miss}
+use Rattle.class_definition.specs.declared.partial.Partial.{Partial}
 use Rattle.constant_pool.specs.declared.error.ReadError.{ReadError}
 use Rattle.constant_pool.specs.declared.error.ReadError.TheVariants.{Refused, NoMemory}
 use Rattle.class_format.specs.declared.failure.Failure.{Failure}
 use Rattle.class_format.specs.declared.failure.Failure.TheVariants.{Missed}
 use Rattle.class_format.specs.declared.failure.Failure.TheVariants as failures
-use Rattle.class_format.specs.Format.{Reading, fault_at}
-use Rattle.constant_pool.specs.Text.{text_from}
-use Rattle.constant_pool.specs.Checks.{pool}
+use Rattle.class_definition.specs.Format.{Reading, fault_at}
+use Rattle.class_definition.specs.Utf8.{text_from}
+use Rattle.class_definition.specs.PoolChecks.{pool}
 
 -- a text with a front that was read before
 abbrev pub whole_text : List ℕ → Option (List ℕ) → Option (List ℕ)

@@ -1,16 +1,16 @@
 -- What the texts of a pool can be, slot by slot.
 use Rattle.std.specs.Prelude.{ℕ, min, ◌-◌, ◌||◌, ◌==◌, Bool, if◌then◌else◌, List, slice_get, Option, Some, None}
 use Rattle.std.specs.Option.{option_and_then}
-use Rattle.class_format.specs.Kinds.{index, utf8}
-use Rattle.constant_pool.specs.declared.entry.Entry.{Entry}
-use Rattle.constant_pool.specs.declared.entry.Entry.TheVariants.{Utf8}
+use Rattle.class_definition.specs.Kinds.{index, utf8}
+use Rattle.class_definition.specs.declared.entry.Entry.{Entry}
+use Rattle.class_definition.specs.declared.entry.Entry.TheVariants.{Utf8}
 use Rattle.constant_pool.specs.declared.form.Form.{Form}
-use Rattle.constant_pool.specs.Names.{is_member_name, is_class_name, is_array_name}
+use Rattle.class_definition.specs.NameGrammar.{is_member_name, is_class_file_name, is_array_name}
 
 abbrev pub form_of : Entry → Option Form
 form_of (Utf8 cs) =
     Some (record {
-      class_name = is_class_name cs
+      class_name = is_class_file_name cs
           || is_array_name cs;
       member_name = is_member_name cs;
     })

@@ -1,14 +1,14 @@
 -- The slots of a pool that is made.
 use Rattle.std.specs.Prelude.{◌≡◌, ℕ, ◌+◌, ◌≤◌, if◌then◌else◌, Bool, true, false, List, [], ◌∷◌, length, Some}
 use Rattle.std.specs.List.{flat_map}
-use Rattle.constant_pool.specs.declared.entry.Entry.{Entry}
-use Rattle.constant_pool.specs.declared.entry.Entry.TheVariants.{LongRest}
-use Rattle.constant_pool.specs.Entries.{is_long}
-use Rattle.constant_pool.specs.Checks.{entry_at}
+use Rattle.class_definition.specs.declared.entry.Entry.{Entry}
+use Rattle.class_definition.specs.declared.entry.Entry.TheVariants.{LongRest}
+use Rattle.class_definition.specs.PoolEntries.{is_long_entry}
+use Rattle.class_definition.specs.PoolChecks.{entry_at}
 
 -- the slots that an entry takes
 abbrev pub slots_of_entry : Entry → List Entry
-slots_of_entry e = e ∷ (if is_long e then LongRest ∷ [] else [])
+slots_of_entry e = e ∷ (if is_long_entry e then LongRest ∷ [] else [])
 
 abbrev pub is_rest : Entry → Bool
 is_rest LongRest = true

@@ -1,21 +1,21 @@
 //! What the entries name.
 ghost use Rattle.std.specs.Prelude.{◌≡◌, ◌||◌, true, option_map};
 ghost use Rattle.std.specs.Option.{option_and_then};
-ghost use Rattle.constant_pool.specs.Names as profile;
-ghost use Rattle.constant_pool.specs.Entries.{class_of, name_of};
-ghost use Rattle.constant_pool.specs.Checks as checks;
+ghost use Rattle.class_definition.specs.NameGrammar as profile;
+ghost use Rattle.class_definition.specs.PoolEntries.{class_entry_name, name_entry};
+ghost use Rattle.class_definition.specs.PoolChecks as checks;
 ghost use Rattle.constant_pool.specs.Forms.{least_kind};
 
-use crate::entry::Entry;
 use crate::form::utf8_unless;
 use crate::names::{is_field_descriptor, is_method_descriptor};
 use crate::slots::Slots;
+use class_definition::Entry;
 use class_format::ClassFault;
 
 /// The kind of what is wrong with what an entry names.
-#[tactic(auto, unfolding(crate::specs::Checks::entry_fault))]
+#[tactic(auto, unfolding(class_definition::specs::PoolChecks::pool_entry_fault))]
 pub fn entry_fault(pool: &Slots, entry: &Entry) -> Option<u32>
-    ensures { result ≡ checks.entry_fault pool.now entry.now }
+    ensures { result ≡ checks.pool_entry_fault pool.now entry.now }
 {
     match entry {
         Entry::Utf8(_) | Entry::Integer(_) | Entry::Long(_) | Entry::LongRest => None,
@@ -72,8 +72,8 @@ fn least_kind(name: Option<u32>, descriptor: Option<u32>) -> Option<u32>
 
 fn field_fault(pool: &Slots, class: u16, name: u16) -> Option<u32>
     ensures { result ≡ checks.ref_fault pool.now profile.is_field_descriptor
-        (option_and_then class_of (checks.entry_at pool.now class))
-        (option_and_then name_of (checks.entry_at pool.now name)) }
+        (option_and_then class_entry_name (checks.entry_at pool.now class))
+        (option_and_then name_entry (checks.entry_at pool.now name)) }
 {
     match (class_slot(pool, class), descriptor_slot(pool, name)) {
         (Some(_), Some(descriptor)) => match pool.text(descriptor) {
@@ -86,8 +86,8 @@ fn field_fault(pool: &Slots, class: u16, name: u16) -> Option<u32>
 
 fn method_fault(pool: &Slots, class: u16, name: u16) -> Option<u32>
     ensures { result ≡ checks.ref_fault pool.now profile.is_method_descriptor
-        (option_and_then class_of (checks.entry_at pool.now class))
-        (option_and_then name_of (checks.entry_at pool.now name)) }
+        (option_and_then class_entry_name (checks.entry_at pool.now class))
+        (option_and_then name_entry (checks.entry_at pool.now name)) }
 {
     match (class_slot(pool, class), descriptor_slot(pool, name)) {
         (Some(_), Some(descriptor)) => match pool.text(descriptor) {
@@ -100,7 +100,7 @@ fn method_fault(pool: &Slots, class: u16, name: u16) -> Option<u32>
 
 // The slot of the name of the class in a slot.
 fn class_slot(pool: &Slots, slot: u16) -> Option<u16>
-    ensures { result ≡ option_and_then class_of (checks.entry_at pool.now slot) }
+    ensures { result ≡ option_and_then class_entry_name (checks.entry_at pool.now slot) }
 {
     match pool.entry(slot)? {
         Entry::ClassName(name) => Some(*name),
@@ -111,7 +111,7 @@ fn class_slot(pool: &Slots, slot: u16) -> Option<u16>
 // The slot of the descriptor of the name and descriptor in a slot.
 fn descriptor_slot(pool: &Slots, slot: u16) -> Option<u16>
     ensures { result
-        ≡ option_map (λ x. x.1) (option_and_then name_of (checks.entry_at pool.now slot)) }
+        ≡ option_map (λ x. x.1) (option_and_then name_entry (checks.entry_at pool.now slot)) }
 {
     match pool.entry(slot)? {
         Entry::NameAnd(_, descriptor) => Some(*descriptor),

@@ -2,19 +2,19 @@
 ghost use Rattle.std.specs.Prelude.{◌≡◌, List, ℕ};
 ghost use Rattle.std.specs.Int.{w32};
 ghost use Rattle.class_format.specs.Gives.{Gives};
-ghost use Rattle.class_format.specs.Format.{Format, mapped, signed, number};
-ghost use Rattle.constant_pool.specs.declared.entry.Entry.TheVariants.{Utf8, Integer, ClassName, Text, FieldRef, MethodRef, NameAnd};
-ghost use Rattle.constant_pool.specs.Entries as format;
+ghost use Rattle.class_definition.specs.Format.{Format, mapped, signed, number_format};
+ghost use Rattle.class_definition.specs.declared.entry.Entry.TheVariants.{Utf8, Integer, ClassName, Text, FieldRef, MethodRef, NameAnd};
+ghost use Rattle.class_definition.specs.PoolEntries as format;
 
-use crate::entry::Entry;
 use crate::text_reading::read_text;
+use class_definition::Entry;
 use class_format::{
     ClassFault, Failure, Miss, byte_of, half_of, missed, raw_of, signed_long_of, signed_word_of,
 };
-use jvm_names::Sequence;
+use jvm_definition::Sequence;
 use std::alloc::Global;
 
-/// What stands in a slot behind which so many are to come.
+/// What is in a slot after which so many are to come.
 pub fn slot_of(
     alloc: Global,
     after_long: bool,
@@ -29,7 +29,7 @@ pub fn slot_of(
     entry_of(alloc, to_come, bytes)
 }
 
-#[tactic(auto, unfolding(crate::specs::Entries::entry))]
+#[tactic(auto, unfolding(class_definition::specs::PoolEntries::entry))]
 fn entry_of(alloc: Global, to_come: u16, bytes: &[u8]) -> Result<(Entry, &[u8]), Failure>
     ensures { Gives (λ x. (x.0, x.1.now)) result ((format.entry to_come).read bytes.now) }
 {
@@ -85,7 +85,7 @@ fn long_of(to_come: u16, bytes: &[u8]) -> Result<(Entry, &[u8]), Failure>
 
 fn class_of(bytes: &[u8]) -> Result<(Entry, &[u8]), Failure>
     ensures { Gives (λ x. (x.0, x.1.now)) result
-        ((mapped ClassName format.class_of format.slot_index).read bytes.now) }
+        ((mapped ClassName format.class_entry_name format.slot_index).read bytes.now) }
 {
     let (name, rest) = half_of(ClassFault::CUT, bytes)?;
     Ok((Entry::ClassName(name), rest))
@@ -101,7 +101,7 @@ fn string_of(bytes: &[u8]) -> Result<(Entry, &[u8]), Failure>
 
 fn field_of(bytes: &[u8]) -> Result<(Entry, &[u8]), Failure>
     ensures { Gives (λ x. (x.0, x.1.now)) result
-        ((mapped (λ x. FieldRef x.0 x.1) format.field_of format.two_slots).read bytes.now) }
+        ((mapped (λ x. FieldRef x.0 x.1) format.field_entry format.two_slots).read bytes.now) }
 {
     let (class, rest) = half_of(ClassFault::CUT, bytes)?;
     let (name, rest) = half_of(ClassFault::CUT, rest)?;
@@ -110,7 +110,7 @@ fn field_of(bytes: &[u8]) -> Result<(Entry, &[u8]), Failure>
 
 fn method_of(bytes: &[u8]) -> Result<(Entry, &[u8]), Failure>
     ensures { Gives (λ x. (x.0, x.1.now)) result
-        ((mapped (λ x. MethodRef x.0 x.1) format.method_of format.two_slots).read bytes.now) }
+        ((mapped (λ x. MethodRef x.0 x.1) format.method_entry format.two_slots).read bytes.now) }
 {
     let (class, rest) = half_of(ClassFault::CUT, bytes)?;
     let (name, rest) = half_of(ClassFault::CUT, rest)?;
@@ -119,7 +119,7 @@ fn method_of(bytes: &[u8]) -> Result<(Entry, &[u8]), Failure>
 
 fn name_of(bytes: &[u8]) -> Result<(Entry, &[u8]), Failure>
     ensures { Gives (λ x. (x.0, x.1.now)) result
-        ((mapped (λ x. NameAnd x.0 x.1) format.name_of format.two_slots).read bytes.now) }
+        ((mapped (λ x. NameAnd x.0 x.1) format.name_entry format.two_slots).read bytes.now) }
 {
     let (name, rest) = half_of(ClassFault::CUT, bytes)?;
     let (descriptor, rest) = half_of(ClassFault::CUT, rest)?;

@@ -1,9 +1,9 @@
 ghost use Rattle.std.specs.Prelude.{◌≡◌, IfOk, if◌then◌else◌, map, None, Some};
 ghost use Rattle.constant_pool.specs.Forms.{form_of, form_at, form_fault};
 
-use crate::entry::Entry;
 use crate::error::NoMemory;
 use crate::names::{is_array_name, is_class_name, is_member_name};
+use class_definition::Entry;
 use class_format::ClassFault;
 use std::alloc::Global;
 

@@ -1,23 +1,21 @@
 //! The constant pool of a class file (JVM Specification, 4.4): its entries, as they are made and as they are read.
 #![tactic(auto)]
 
-mod entry;
 mod entry_check;
 mod entry_reading;
 mod error;
 mod form;
 mod lookups;
 mod names;
-mod partial;
 mod pool;
 mod pool_reading;
 mod slots;
-mod step;
+mod stepping;
 mod text;
 mod text_reading;
 
+pub use class_definition::Entry;
 pub use class_format::ClassFault;
-pub use entry::Entry;
 pub use error::{NoMemory, PoolError, ReadError};
 pub use lookups::{class_name_of, entry_of, text_of};
 pub use names::{

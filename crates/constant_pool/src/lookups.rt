@@ -1,8 +1,8 @@
-//! What stands in the slots of a pool.
+//! What is in the slots of a pool.
 ghost use Rattle.std.specs.Prelude.{◌≡◌, option_copied, option_map};
-ghost use Rattle.constant_pool.specs.Checks.{entry_at, text_at, class_text_at};
+ghost use Rattle.class_definition.specs.PoolChecks.{entry_at, text_at, class_text_at};
 
-use crate::entry::Entry;
+use class_definition::Entry;
 
 /// The entry in a slot, counted from 1.
 pub fn entry_of(pool: &[Entry], slot: u16) -> Option<&Entry>
@@ -14,7 +14,7 @@ pub fn entry_of(pool: &[Entry], slot: u16) -> Option<&Entry>
     pool.get(slot as usize - 1)
 }
 
-/// The text of the Utf8 entry in a slot, counted from 1; None exactly where no such entry stands there.
+/// The text of the Utf8 entry in a slot, counted from 1; None exactly if no such entry is there.
 pub fn text_of(pool: &[Entry], slot: u16) -> Option<&[u16]>
     ensures { option_map (λ x. x.now) result ≡ text_at pool.now slot }
 {
@@ -24,7 +24,7 @@ pub fn text_of(pool: &[Entry], slot: u16) -> Option<&[u16]>
     }
 }
 
-/// The name of the class in a slot, counted from 1; None exactly where no such entry stands there, or it names no Utf8 entry.
+/// The name of the class in a slot, counted from 1; None exactly if no such entry is there, or it names no Utf8 entry.
 pub fn class_name_of(pool: &[Entry], slot: u16) -> Option<&[u16]>
     ensures { option_map (λ x. x.now) result ≡ class_text_at pool.now slot }
 {

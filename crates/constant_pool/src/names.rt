@@ -2,7 +2,7 @@
 ghost use Rattle.std.specs.Prelude.{◌≡◌, ◌==◌, if◌then◌else◌, codes, option_map};
 ghost use Rattle.std.specs.Option.{option_and_then};
 ghost use Rattle.std.specs.List.{list_all};
-ghost use Rattle.constant_pool.specs.Names as profile;
+ghost use Rattle.class_definition.specs.NameGrammar as profile;
 
 const ARRAY: [u16; 2] = [91, 73];
 
@@ -34,7 +34,7 @@ fn are_part_characters(text: &[u16]) -> bool
 
 /// Whether a text can be the name of a class: such parts, joined by `/`.
 pub fn is_class_name(text: &[u16]) -> bool
-    ensures { result ≡ profile.is_class_name text.now }
+    ensures { result ≡ profile.is_class_file_name text.now }
 {
     let mut inside = false;
     let mut rest = text;
@@ -84,7 +84,7 @@ pub fn is_field_descriptor(text: &[u16]) -> bool
 
 /// Whether a text is the descriptor of a method of a class here: `(`, at most 255 field descriptors, `)`, and `I` or `V`.
 pub fn is_own_descriptor(text: &[u16]) -> bool
-    ensures { result ≡ profile.is_own_descriptor text.now }
+    ensures { result ≡ profile.gives_int_or_nothing text.now }
 {
     match after_descriptors(text) {
         None => false,
@@ -102,7 +102,7 @@ pub fn is_method_descriptor(text: &[u16]) -> bool
 // What follows the parameters of a method descriptor.
 fn after_descriptors(text: &[u16]) -> Option<&[u16]>
     ensures { option_map (λ x. x.now) result
-        ≡ option_and_then (profile.after_parameters 255) (profile.after (codes "(") text.now) }
+        ≡ option_and_then (profile.after_parameters 255) (profile.after_front (codes "(") text.now) }
 {
     after_parameters(after(text, &[40])?)
 }
@@ -123,8 +123,8 @@ fn after_parameters(text: &[u16]) -> Option<&[u16]>
     after(rest, &[41])
 }
 
-/// What follows a field descriptor at the front of a text; None exactly where none stands there.
-#[tactic(auto, unfolding(crate::specs::Names::after_field))]
+/// What follows a field descriptor at the front of a text; None exactly if none is there.
+#[tactic(auto, unfolding(class_definition::specs::NameGrammar::after_field))]
 pub fn after_field(text: &[u16]) -> Option<&[u16]>
     ensures { option_map (λ x. x.now) result ≡ profile.after_field text.now }
 {
@@ -142,7 +142,7 @@ pub fn after_field(text: &[u16]) -> Option<&[u16]>
 
 // What follows a text at the front.
 fn after<'a>(text: &'a [u16], front: &[u16]) -> Option<&'a [u16]>
-    ensures { option_map (λ x. x.now) result ≡ profile.after front.now text.now }
+    ensures { option_map (λ x. x.now) result ≡ profile.after_front front.now text.now }
 {
     if text.starts_with(front) {
         Some(text.split_at(front.len()).1)

@@ -2,9 +2,9 @@ ghost use Rattle.std.specs.Prelude.{◌≡◌, ◌⊎◌, ℕ, ◌+◌, ◌-◌,
 ghost use Rattle.constant_pool.specs.Slots.{IsAt, IsMissing, is_rest, slots_of_entry};
 ghost use Rattle.constant_pool.specs.declared.error.PoolError.TheVariants.{Full};
 
-use crate::entry::Entry;
 use crate::error::{NoMemory, PoolError};
 use crate::pool_reading::is_long;
+use class_definition::Entry;
 use indexmap::IndexMap;
 use std::alloc::Global;
 use std::marker::Model;
@@ -12,7 +12,7 @@ use std::marker::Model;
 /// The greatest number of slots: their number and 1 has two bytes.
 const SLOTS: u32 = 65_534;
 
-/// A constant pool that is made entry by entry (JVM Specification, 4.4). No entry stands in it twice.
+/// A constant pool that is made entry by entry (JVM Specification, 4.4). No entry is in it twice.
 ///
 /// A contract sees it as the list of its slots, of which the first one is slot 1. A Long takes two. It keeps the allocator.
 #[derive(Drop)]
@@ -23,7 +23,7 @@ pub struct Pool {
 
 impl Model for Pool {
     ghost use Rattle.std.specs.Prelude.{List};
-    ghost use Rattle.constant_pool.specs.declared.entry.Entry.{Entry};
+    ghost use Rattle.class_definition.specs.declared.entry.Entry.{Entry};
 
     ghost Value = { List Entry };
 
@@ -53,7 +53,7 @@ impl Pool {
         SLOTS - (u32::from(self.next) - 1)
     }
 
-    /// The slot of an equal entry; None exactly where there is none.
+    /// The slot of an equal entry; None exactly if there is none.
     fn slot_of(&self, e: &Entry) -> Option<u16>
         requires { is_rest e.now ≡ false }
         ensures found { IfSome result (λ slot. IsAt self.now slot e.now) }
@@ -62,12 +62,12 @@ impl Pool {
         self.entries.get(e).copied()
     }
 
-    /// The slot of an entry: that of an equal one where there is one, and then nothing changes and it takes no memory; else the
-    /// first free one, in which the entry now stands.
+    /// The slot of an entry: that of an equal one where there is one, and then nothing changes and it takes no memory; otherwise the
+    /// first free one, in which the entry now is.
     ///
     /// # Errors
     ///
-    /// Full, exactly where no equal entry is there and fewer slots are left than it takes, two for a Long and one for any
+    /// Full, exactly if no equal entry is there and fewer slots are left than it takes, two for a Long and one for any
     /// other. NoMemory. After either the pool is as before.
     pub fn add(&mut self, e: Entry) -> Result<u16, PoolError>
         requires { is_rest e ≡ false }

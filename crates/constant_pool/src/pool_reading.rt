@@ -1,24 +1,24 @@
 //! Pools from bytes.
 ghost use Rattle.std.specs.Prelude.{◌≡◌, ◌+◌, ℕ, List, drop, None, IfOk, OnOk, IfErr, length, option_map};
 ghost use Rattle.class_format.specs.Gives.{Gives};
-ghost use Rattle.class_format.specs.Format.{checked};
-ghost use Rattle.constant_pool.specs.Entries as format;
-ghost use Rattle.constant_pool.specs.Checks as checks;
+ghost use Rattle.class_definition.specs.Format.{checked};
+ghost use Rattle.class_definition.specs.PoolEntries as format;
+ghost use Rattle.class_definition.specs.PoolChecks as checks;
 ghost use Rattle.constant_pool.specs.Answer.{missed_by, IsAnswer, pool_fault, refusal_of};
-ghost use Rattle.class_format.specs.Laws.{Begins};
-ghost use Rattle.constant_pool.specs.declared.entry.Entry.{Entry};
+ghost use Rattle.class_definition.specs.Spelling.{Begins};
+ghost use Rattle.class_definition.specs.declared.entry.Entry.{Entry};
 
-use crate::entry::Entry;
 use crate::entry_check::entry_fault;
 use crate::entry_reading::slot_of;
 use crate::error::ReadError;
 use crate::slots::Slots;
 use crate::text::text_size;
+use class_definition::Entry;
 use class_format::{ClassFault, Failure, Miss, fault_of, half_of, missed};
 use std::alloc::Global;
 
 /// The pool at the front, and what follows it.
-#[tactic(auto, unfolding(crate::specs::Checks::pool))]
+#[tactic(auto, unfolding(class_definition::specs::PoolChecks::pool))]
 pub fn entries_of(alloc: Global, bytes: &[u8]) -> Result<(Slots, &[u8]), Failure>
     ensures { Gives (λ x. (x.0, x.1.now)) result (checks.pool.read bytes.now) }
 {
@@ -31,7 +31,7 @@ pub fn entries_of(alloc: Global, bytes: &[u8]) -> Result<(Slots, &[u8]), Failure
 
 fn sound_slots_of(alloc: Global, count: u16, bytes: &[u8]) -> Result<(Slots, &[u8]), Failure>
     ensures { Gives (λ x. (x.0, x.1.now)) result
-        ((checked (λ entries. checks.entries_fault entries entries 0) (format.slots count)).read
+        ((checked (λ entries. checks.pool_entries_fault entries entries 0) (format.slots count)).read
         bytes.now) }
 {
     let (entries, rest) = slots_of(alloc, count, bytes)?;
@@ -60,14 +60,14 @@ fn slots_of(alloc: Global, count: u16, bytes: &[u8]) -> Result<(Vec<Entry>, &[u8
 }
 
 pub fn is_long(entry: &Entry) -> bool
-    ensures { result ≡ format.is_long entry.now }
+    ensures { result ≡ format.is_long_entry entry.now }
 {
     matches!(entry, Entry::Long(_))
 }
 
 // The first entry at fault, where so many bytes are left at the first one's tag.
 fn entries_miss(pool: &Slots, size: usize) -> Option<Miss>
-    ensures { result ≡ missed_by size (checks.entries_fault pool.now pool.now 0) }
+    ensures { result ≡ missed_by size (checks.pool_entries_fault pool.now pool.now 0) }
 {
     let mut left = size;
     let mut rest = pool.as_slice();
@@ -95,7 +95,7 @@ pub fn slot_size(entry: &Entry) -> usize
     }
 }
 
-/// The pool whose count stands at a place in some bytes, and the place behind it.
+/// The pool whose count is at a place in some bytes, and the place after it.
 ///
 /// # Errors
 ///

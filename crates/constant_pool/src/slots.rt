@@ -1,11 +1,11 @@
 ghost use Rattle.std.specs.Prelude.{◌≡◌, ◌||◌, IfOk, option_map};
-ghost use Rattle.constant_pool.specs.Names as profile;
-ghost use Rattle.constant_pool.specs.Checks as checks;
+ghost use Rattle.class_definition.specs.NameGrammar as profile;
+ghost use Rattle.class_definition.specs.PoolChecks as checks;
 
-use crate::entry::Entry;
 use crate::error::NoMemory;
 use crate::form::{Form, class_name_fault, form_at, forms_of, member_name_fault};
 use crate::lookups::{class_name_of, entry_of, text_of};
+use class_definition::Entry;
 use std::alloc::Global;
 use std::marker::Model;
 
@@ -20,7 +20,7 @@ pub struct Slots {
 
 impl Model for Slots {
     ghost use Rattle.std.specs.Prelude.{◌≡◌, List, map};
-    ghost use Rattle.constant_pool.specs.declared.entry.Entry.{Entry};
+    ghost use Rattle.class_definition.specs.declared.entry.Entry.{Entry};
     ghost use Rattle.constant_pool.specs.Forms.{form_of};
 
     ghost Value = { List Entry };
@@ -60,14 +60,14 @@ impl Slots {
         entry_of(&self.entries, slot)
     }
 
-    /// The text of the Utf8 entry in a slot; None exactly where no such entry stands there.
+    /// The text of the Utf8 entry in a slot; None exactly if no such entry is there.
     pub fn text(&self, slot: u16) -> Option<&[u16]>
         ensures { option_map (λ x. x.now) result ≡ checks.text_at self.now slot }
     {
         text_of(&self.entries, slot)
     }
 
-    /// The name of the class in a slot; None exactly where no such entry stands there, or it names no Utf8 entry.
+    /// The name of the class in a slot; None exactly if no such entry is there, or it names no Utf8 entry.
     pub fn class_name(&self, slot: u16) -> Option<&[u16]>
         ensures { option_map (λ x. x.now) result ≡ checks.class_text_at self.now slot }
     {
@@ -77,7 +77,7 @@ impl Slots {
     /// The kind of what is wrong with a slot that is to hold the name of a class or of a type of arrays.
     #[tactic(auto, using(crate::proofs::FormLemmas::class_name_fault_is))]
     pub fn class_name_fault(&self, slot: u16) -> Option<u32>
-        ensures { result ≡ checks.text_fault (λ cs. profile.is_class_name cs
+        ensures { result ≡ checks.text_fault (λ cs. profile.is_class_file_name cs
             || profile.is_array_name cs) (checks.text_at self.now slot) }
     {
         class_name_fault(form_at(&self.forms, slot))

@@ -1,6 +1,6 @@
 //! Texts as bytes.
 ghost use Rattle.std.specs.Prelude.{◌≡◌, ◌+◌, ◌<◌, ◌^◌, ◌++◌, OnOk, length};
-ghost use Rattle.constant_pool.specs.Text.{character_bytes, text_bytes};
+ghost use Rattle.class_definition.specs.Utf8.{character_bytes, text_bytes};
 
 use crate::error::NoMemory;
 

@@ -1,16 +1,16 @@
 //! Texts from bytes.
 ghost use Rattle.std.specs.Prelude.{◌≡◌, ℕ, List, [], ◌∷◌, ◌++◌, IfOk, IfSome, option_map, Option};
-ghost use Rattle.constant_pool.specs.Text.{text_from, text_of_bytes, IsPartial};
+ghost use Rattle.class_definition.specs.Utf8.{text_from, text_of_bytes, IsPartial};
 ghost use Rattle.constant_pool.specs.Answer.{whole_text, goes_on};
-ghost use Rattle.constant_pool.specs.declared.partial.Partial.TheVariants.{Start};
+ghost use Rattle.class_definition.specs.declared.partial.Partial.TheVariants.{Start};
 
 use crate::error::NoMemory;
-use crate::partial::Partial;
-use crate::step::{Step, step_by};
-use jvm_names::Sequence;
+use crate::stepping::step_by;
+use class_definition::{Partial, Step};
+use jvm_definition::Sequence;
 use std::alloc::Global;
 
-/// The text whose modified UTF-8 the bytes are; None exactly where they are no text's.
+/// The text whose modified UTF-8 the bytes are; None exactly if they are no text's.
 pub fn read_text(alloc: Global, bytes: &[u8]) -> Result<Option<Sequence<u16>>, NoMemory>
     ensures { IfOk result (λ text. text ≡ text_of_bytes bytes.now) }
 {
@@ -28,7 +28,7 @@ pub fn read_text(alloc: Global, bytes: &[u8]) -> Result<Option<Sequence<u16>>, N
 }
 
 // The text, where no character is begun.
-#[tactic(auto, unfolding(crate::specs::Text::text_from))]
+#[tactic(auto, unfolding(class_definition::specs::Utf8::text_from))]
 fn ended(text: Vec<u16>, partial: Partial) -> Option<Sequence<u16>>
     ensures { result ≡ whole_text text.items (text_from partial []) }
 {

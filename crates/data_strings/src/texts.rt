@@ -4,14 +4,14 @@ ghost use Rattle.data_strings.specs.Texts as texts;
 
 use std::alloc::{AllocError, Global};
 
-/// Want of memory, the one error of `page_text`.
+/// Out of memory, the one error of `page_text`.
 pub type NoMemory = AllocError;
 
 /// The text of a page's words: five characters of 7 bits for each, most significant first, of the 35 bits that are three zeros and the
 /// word. All its characters are below 128, so in a class file each takes one byte, or two where it is 0.
 ///
 /// # Errors
-/// Want of memory for the text.
+/// Out of memory for the text.
 pub fn page_text(alloc: Global, words: &[u32]) -> Result<Vec<u16>, NoMemory>
     ensures { IfOk result (λ text. text.items ≡ texts.page_text words.now) }
 {

@@ -1,13 +1,13 @@
 -- Units of known words, and what they do.
 use Rattle.std.proofs.Common.{◌≡◌, ℕ, zero, suc, ◌+◌, ◌*◌, ◌/◌, ◌-◌, ◌%◌, ◌^◌, ◌<◌, true, false, ◌==◌, nat_lt, if◌then◌else◌, List, [], ◌∷◌, Option, Some, None, pos, refl, arith, lit<}
 use Rattle.std.specs.List.{slice_get, slice_index}
-use Rattle.nv_events.specs.Turn.{Turn, moves, ends, leaves, asks, outcome_of}
-use Rattle.nv_events.specs.Memory.{Memory}
-use Rattle.nv_events.specs.declared.outcome.Outcome.{Outcome}
-use Rattle.nv_events.specs.declared.outcome.Outcome.TheVariants.{Faulted, Going}
-use Rattle.nv_words.specs.declared.order.Order.TheVariants.{Big}
-use Rattle.mips_decode.specs.Table.{inst}
-use Rattle.mips_decode.specs.State.{State, register, start}
+use Rattle.run_definition.specs.Turn.{Turn, moves, ends, leaves, asks, outcome_of}
+use Rattle.run_definition.specs.Memory.{Memory}
+use Rattle.run_definition.specs.declared.outcome.Outcome.{Outcome}
+use Rattle.run_definition.specs.declared.outcome.Outcome.TheVariants.{Faulted, Going}
+use Rattle.run_definition.specs.declared.order.Order.TheVariants.{Big}
+use Rattle.mips_definition.specs.Table.{inst}
+use Rattle.mips_definition.specs.State.{State, register, start}
 use Rattle.delay_slots.specs.declared.unit.Unit.{Unit}
 use Rattle.delay_slots.specs.declared.unit.Unit.TheVariants.{Plain, Branch, Call}
 use Rattle.delay_slots.specs.Units.{units_of}

@@ -2,16 +2,16 @@
 use Rattle.std.proofs.Common.{◌≡◌, ℕ, Bool, true, false, not, ◌&&◌, ◌||◌, ◌==◌, if◌then◌else◌, List, [], ◌∷◌, refl, ap, subst, ◌∙◌}
 use Rattle.std.specs.List.{slice_get}
 use Rattle.std.specs.Prelude.{Some}
-use Rattle.nv_words.specs.Words.{signed_of}
-use Rattle.nv_events.specs.Turn.{Turn, moves, leaves, asks, exit}
-use Rattle.mips_decode.specs.Table.{inst}
+use Rattle.run_definition.specs.Words.{signed_of}
+use Rattle.run_definition.specs.Turn.{Turn, moves, leaves, asks, exit}
+use Rattle.mips_definition.specs.Table.{inst}
 use Rattle.mips_decode.specs.Encoding.{word_of}
-use Rattle.mips_decode.specs.State.{State, register}
-use Rattle.mips_decode.specs.Branches.{taken_or_not, equal_likely, equal_taken, zero_likely, zero_taken, sign_likely, sign_linked, sign_taken}
-use Rattle.mips_decode.specs.Effect.{Effect, goes_on, branches, skips_slot, faults, calls, fetch_fault, branch_in_slot_fault}
-use Rattle.mips_decode.specs.Step.{effect, question_of, after_call, faulted}
-use Rattle.mips_decode.specs.declared.inst.Inst.{Inst}
-use Rattle.mips_decode.specs.declared.inst.Inst.TheVariants.{JumpRegister, JumpAndLinkRegister, Syscall, Break, BranchSign, Jump, BranchEqual, BranchZero, Reserved}
+use Rattle.mips_definition.specs.State.{State, register}
+use Rattle.mips_definition.specs.Branches.{taken_or_not, equal_likely, equal_taken, zero_likely, zero_taken, sign_likely, sign_linked, sign_taken}
+use Rattle.mips_definition.specs.Effect.{Effect, goes_on, branches, skips_slot, faults, calls, fetch_fault, branch_in_slot_fault}
+use Rattle.mips_definition.specs.Step.{effect, question_of, after_call, faulted}
+use Rattle.mips_definition.specs.declared.inst.Inst.{Inst}
+use Rattle.mips_definition.specs.declared.inst.Inst.TheVariants.{JumpRegister, JumpAndLinkRegister, Syscall, Break, BranchSign, Jump, BranchEqual, BranchZero, Reserved}
 use Rattle.mips_decode.proofs.Steps.{Keeps, Keeps-effect}
 use Rattle.delay_slots.specs.declared.unit.Unit.{Unit}
 use Rattle.delay_slots.specs.declared.unit.Unit.TheVariants.{SlotIsBranch, Branch}

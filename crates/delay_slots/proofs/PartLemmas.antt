@@ -1,7 +1,7 @@
 -- The units of a range, one by one and in parts.
 use Rattle.std.proofs.Common.{◌≡◌, ℕ, zero, suc, ◌+◌, ◌-◌, ◌<◌, ◌≤◌, List, [], ◌∷◌, ◌++◌, length, get_or, take, drop, refl, ap, ◌∙◌, arith}
 use Rattle.std.proofs.lemmas.List.{take_more, get_or-drop, length-drop, drop-take, take-take, drop-drop}
-use Rattle.mips_decode.specs.Table.{inst}
+use Rattle.mips_definition.specs.Table.{inst}
 use Rattle.delay_slots.specs.declared.unit.Unit.{Unit}
 use Rattle.delay_slots.specs.Units.{unit_of, units_of}
 

@@ -3,10 +3,10 @@ use Rattle.std.proofs.Common.{◌≡◌, ℕ, suc, ◌+◌, ◌*◌, ◌%◌, �
 use Rattle.std.proofs.Math.Nat.{mod-eq_of_lt}
 use Rattle.std.proofs.lemmas.Option.{get_or_from_slice_get, slice_get_within}
 use Rattle.std.specs.List.{slice_get}
-use Rattle.nv_words.specs.Words.{IsWord}
-use Rattle.mips_decode.specs.Table.{inst}
+use Rattle.run_definition.specs.Words.{IsWord}
+use Rattle.mips_definition.specs.Table.{inst}
 use Rattle.mips_decode.specs.Encoding.{word_of}
-use Rattle.mips_decode.specs.State.{State}
+use Rattle.mips_definition.specs.State.{State}
 use Rattle.delay_slots.specs.declared.unit.Unit.{Unit}
 use Rattle.delay_slots.specs.Units.{units_of}
 use Rattle.delay_slots.specs.Turns.{HasRange, StandsAt, unit_turns, AreMade}

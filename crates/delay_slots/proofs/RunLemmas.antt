@@ -1,12 +1,13 @@
 -- A run from a state that makes a unit's turns.
 use Rattle.std.proofs.Common.{◌≡◌, ℕ, ◌+◌, Option, ap, ◌∙◌, arith}
-use Rattle.nv_events.specs.Question.{Question}
-use Rattle.nv_events.specs.Answer.{Answer}
-use Rattle.nv_events.specs.Turn.{Turn, moves}
-use Rattle.nv_events.specs.Run.{run_of, then_run}
+use Rattle.run_definition.specs.Question.{Question}
+use Rattle.run_definition.specs.Answer.{Answer}
+use Rattle.run_definition.specs.Turn.{Turn, moves}
+use Rattle.run_definition.specs.Run.{run_of}
+use Rattle.nv_events.specs.Parts.{then_run}
 use Rattle.nv_events.proofs.RunLaws.{run_of-add}
-use Rattle.mips_decode.specs.State.{State}
-use Rattle.mips_decode.specs.Step.{turn}
+use Rattle.mips_definition.specs.State.{State}
+use Rattle.mips_definition.specs.Step.{turn}
 use Rattle.delay_slots.specs.Turns.{UnitTurns, one_turn, two_turns, turn_count, unit_run, AreMade}
 
 module _ {K : Type 0} (reply : K → Question → Option (Answer × K)) where

@@ -1,22 +1,22 @@
 -- A unit's turns are those that the machine makes.
 use Rattle.std.proofs.Common.{◌≡◌, ℕ, ◌+◌, ◌%◌, ◌^◌, Bool, true, false, not, ◌||◌, ◌==◌, if◌then◌else◌, List, [], ◌∷◌, Option, Some, None, is_none, refl, ap, sym, ◌∙◌}
-use Rattle.nv_events.specs.Turn.{Turn, moves}
-use Rattle.nv_words.specs.Words.{signed_of}
-use Rattle.mips_decode.specs.Table.{inst}
+use Rattle.run_definition.specs.Turn.{Turn, moves}
+use Rattle.run_definition.specs.Words.{signed_of}
+use Rattle.mips_definition.specs.Table.{inst}
 use Rattle.mips_decode.specs.Encoding.{word_of}
-use Rattle.mips_decode.specs.State.{State, register, with_register}
-use Rattle.mips_decode.specs.Effect.{Effect, goes_on, branches, skips_slot, faults, calls, fetch_fault, read_align_fault, read_unmapped_fault, write_align_fault, write_refused_fault, branch_in_slot_fault}
-use Rattle.mips_decode.specs.Arithmetic.{arithmetic_result, arithmetic_immediate_result}
-use Rattle.mips_decode.specs.Branches.{taken_or_not, equal_likely, equal_taken, zero_likely, zero_taken, sign_likely, sign_linked, sign_taken}
-use Rattle.mips_decode.specs.Loads.{address_of, concluded, load_aligned, loaded, store_aligned, store_allowed, stored}
-use Rattle.mips_decode.specs.Traps.{trap_by, trap_holds, trap_immediate_holds}
-use Rattle.mips_decode.specs.Step.{effect, result_effect, turn_by, into_slot, past_slot, faulted, turn}
-use Rattle.mips_decode.specs.declared.inst.Inst.{Inst}
-use Rattle.mips_decode.specs.declared.inst.Inst.TheVariants.{Arithmetic, VariableShift, Shift, JumpRegister, JumpAndLinkRegister, Syscall, Break, MoveFrom, MoveTo, Product, BranchSign, Jump, BranchEqual, BranchZero, ArithmeticImmediate, LogicalImmediate, LoadUpper, Load, Store, Trap, TrapImmediate, Sync, LoadLinked, StoreConditional, Reserved, Float}
-use Rattle.mips_decode.specs.declared.names.load_name.LoadName.TheVariants.{Lw}
-use Rattle.mips_decode.specs.declared.names.store_name.StoreName.TheVariants.{Sw}
+use Rattle.mips_definition.specs.State.{State, register, with_register}
+use Rattle.mips_definition.specs.Effect.{Effect, goes_on, branches, skips_slot, faults, calls, fetch_fault, read_align_fault, read_unmapped_fault, write_align_fault, write_refused_fault, branch_in_slot_fault}
+use Rattle.mips_definition.specs.Arithmetic.{arithmetic_result, arithmetic_immediate_result}
+use Rattle.mips_definition.specs.Branches.{taken_or_not, equal_likely, equal_taken, zero_likely, zero_taken, sign_likely, sign_linked, sign_taken}
+use Rattle.mips_definition.specs.Loads.{access_address, concluded, load_aligned, loaded_word, store_aligned, store_allowed, memory_stored}
+use Rattle.mips_definition.specs.Traps.{trap_by, trap_holds, trap_immediate_holds}
+use Rattle.mips_definition.specs.Step.{effect, result_effect, turn_by, into_slot, past_slot, faulted, turn}
+use Rattle.mips_definition.specs.declared.inst.Inst.{Inst}
+use Rattle.mips_definition.specs.declared.inst.Inst.TheVariants.{Arithmetic, VariableShift, Shift, JumpRegister, JumpAndLinkRegister, Syscall, Break, MoveFrom, MoveTo, Product, BranchSign, Jump, BranchEqual, BranchZero, ArithmeticImmediate, LogicalImmediate, LoadUpper, Load, Store, Trap, TrapImmediate, Sync, LoadLinked, StoreConditional, Reserved, Float}
+use Rattle.mips_definition.specs.declared.names.load_name.LoadName.TheVariants.{Lw}
+use Rattle.mips_definition.specs.declared.names.store_name.StoreName.TheVariants.{Sw}
 use Rattle.mips_decode.proofs.Steps.{Keeps, Keeps-effect}
-use Rattle.mips_decode.specs.declared.names.hi_lo.HiLo.TheVariants.{Hi, Lo}
+use Rattle.mips_definition.specs.declared.names.hi_lo.HiLo.TheVariants.{Hi, Lo}
 use Rattle.delay_slots.specs.declared.unit.Unit.TheVariants.{SlotIsBranch, Branch}
 use Rattle.delay_slots.specs.Units.{is_branch, branch_unit, unit_of}
 use Rattle.delay_slots.specs.Turns.{UnitTurns, one_turn, two_turns, done_by, done, then_slot, unit_turns, AreMade}
@@ -134,22 +134,22 @@ no_branch (BranchZero name rs imm) word s h = cc
 no_branch (LogicalImmediate name rs rt imm) word s h = tt
 no_branch (LoadUpper rt imm) word s h = tt
 no_branch (Load name rs rt imm) word s h =
-    let a : ℕ = address_of s rs imm in
-    let t : State = with_register s rt (loaded name s.order s.memory a (register s rt)) in
+    let a : ℕ = access_address s rs imm in
+    let t : State = with_register s rt (loaded_word name s.order s.memory a (register s rt)) in
     no_branch-tests (not (load_aligned name a)) (is_none (s.memory.byte a)) read_align_fault a read_unmapped_fault a t
 no_branch (Store name rs rt imm) word s h =
-    let a : ℕ = address_of s rs imm in
-    let t : State = record s { memory = stored name s.order s.memory a (register s rt) } in
+    let a : ℕ = access_address s rs imm in
+    let t : State = record s { memory = memory_stored name s.order s.memory a (register s rt) } in
     no_branch-tests (not (store_aligned name a)) (not (store_allowed name s.order s.memory a)) write_align_fault a write_refused_fault a t
 no_branch (Trap name rs rt code) word s h = no_branch-trap (trap_holds name (register s rs) (register s rt)) word s
 no_branch (TrapImmediate name rs imm) word s h = no_branch-trap (trap_immediate_holds name (register s rs) imm) word s
 no_branch (Sync sa) word s h = tt
 no_branch (LoadLinked rs rt imm) word s h =
-    let a : ℕ = address_of s rs imm in
-    let t : State = record (with_register s rt (loaded Lw s.order s.memory a (register s rt))) { load_link = Some a } in
+    let a : ℕ = access_address s rs imm in
+    let t : State = record (with_register s rt (loaded_word Lw s.order s.memory a (register s rt))) { load_link = Some a } in
     no_branch-tests (not (load_aligned Lw a)) (is_none (s.memory.byte a)) read_align_fault a read_unmapped_fault a t
 no_branch (StoreConditional rs rt imm) word s h =
-    let a : ℕ = address_of s rs imm in
+    let a : ℕ = access_address s rs imm in
     no_branch-tests (not (store_aligned Sw a)) (not (store_allowed Sw s.order s.memory a)) write_align_fault a write_refused_fault a (concluded s rt a)
 no_branch (Reserved w) word s h = tt
 no_branch (Float w) word s h = tt

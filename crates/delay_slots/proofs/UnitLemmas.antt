@@ -1,7 +1,7 @@
 -- The unit at a place of a range, by the word there and the words that follow it.
 use Rattle.std.proofs.Common.{◌≡◌, ℕ, zero, suc, ◌+◌, List, [], ◌∷◌, length, Option, Some, None, refl, arith}
 use Rattle.std.specs.List.{slice_get}
-use Rattle.mips_decode.specs.Table.{inst}
+use Rattle.mips_definition.specs.Table.{inst}
 use Rattle.delay_slots.specs.declared.unit.Unit.{Unit}
 use Rattle.delay_slots.specs.Units.{unit_of, units_of}
 

@@ -1,10 +1,11 @@
 -- What holds of the units of every range of code.
 use Rattle.std.specs.Prelude.{◌≡◌, ℕ, ◌+◌, true, List, Option, Some, slice_get}
-use Rattle.nv_events.specs.Question.{Question}
-use Rattle.nv_events.specs.Answer.{Answer}
-use Rattle.nv_events.specs.Run.{run_of, then_run}
-use Rattle.mips_decode.specs.State.{State}
-use Rattle.mips_decode.specs.Step.{turn}
+use Rattle.run_definition.specs.Question.{Question}
+use Rattle.run_definition.specs.Answer.{Answer}
+use Rattle.run_definition.specs.Run.{run_of}
+use Rattle.nv_events.specs.Parts.{then_run}
+use Rattle.mips_definition.specs.State.{State}
+use Rattle.mips_definition.specs.Step.{turn}
 use Rattle.delay_slots.specs.declared.unit.Unit.{Unit}
 use Rattle.delay_slots.specs.Places.{Address, WordIndex}
 use Rattle.delay_slots.specs.Units.{units_of}

@@ -1,17 +1,17 @@
 -- What a unit does: the machine's turns from a state that stands at the unit's word with no branch pending, by the unit alone.
 use Rattle.std.specs.Prelude.{◌≡◌, ℕ, ◌+◌, ◌*◌, ◌%◌, ◌^◌, ◌<◌, Bool, true, false, not, ◌&&◌, if◌then◌else◌, ⊤, List, length, slice_get, slice_index, Option, Some, None}
-use Rattle.nv_words.specs.Words.{IsWord, signed_of}
-use Rattle.nv_events.specs.Question.{Question}
-use Rattle.nv_events.specs.Answer.{Answer}
-use Rattle.nv_events.specs.Turn.{Turn, moves, ends, leaves, asks}
-use Rattle.nv_events.specs.Run.{Run, run_of}
+use Rattle.run_definition.specs.Words.{IsWord, signed_of}
+use Rattle.run_definition.specs.Question.{Question}
+use Rattle.run_definition.specs.Answer.{Answer}
+use Rattle.run_definition.specs.Turn.{Turn, moves, ends, leaves, asks}
+use Rattle.run_definition.specs.Run.{Run, run_of}
 use Rattle.mips_decode.specs.Encoding.{word_of}
-use Rattle.mips_decode.specs.State.{State, register}
-use Rattle.mips_decode.specs.Branches.{equal_likely, equal_taken, zero_likely, zero_taken, sign_likely, sign_taken}
-use Rattle.mips_decode.specs.Effect.{Effect, goes_on, branches, skips_slot, faults, calls, fetch_fault, branch_in_slot_fault}
-use Rattle.mips_decode.specs.Step.{effect, advanced, into_slot, past_slot, faulted, called, turn}
-use Rattle.mips_decode.specs.declared.inst.Inst.{Inst}
-use Rattle.mips_decode.specs.declared.inst.Inst.TheVariants.{BranchSign, BranchEqual, BranchZero}
+use Rattle.mips_definition.specs.State.{State, register}
+use Rattle.mips_definition.specs.Branches.{equal_likely, equal_taken, zero_likely, zero_taken, sign_likely, sign_taken}
+use Rattle.mips_definition.specs.Effect.{Effect, goes_on, branches, skips_slot, faults, calls, fetch_fault, branch_in_slot_fault}
+use Rattle.mips_definition.specs.Step.{effect, advanced, into_slot, past_slot, faulted, called, turn}
+use Rattle.mips_definition.specs.declared.inst.Inst.{Inst}
+use Rattle.mips_definition.specs.declared.inst.Inst.TheVariants.{BranchSign, BranchEqual, BranchZero}
 use Rattle.delay_slots.specs.declared.unit.Unit.{Unit}
 use Rattle.delay_slots.specs.declared.unit.Unit.TheVariants.{Plain, Branch, SlotMissing, SlotIsBranch, Call, Trap}
 use Rattle.delay_slots.specs.Places.{Address, WordIndex}

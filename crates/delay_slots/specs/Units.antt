@@ -3,10 +3,10 @@
 -- done.
 use Rattle.std.specs.Prelude.{ℕ, Bool, true, false, not, IsTrue, List, [], ◌∷◌, if◌then◌else◌}
 use Rattle.std.specs.List.{list_all}
-use Rattle.mips_decode.specs.Table.{inst, is_float}
-use Rattle.mips_decode.specs.Effect.{break_fault, reserved_fault}
-use Rattle.mips_decode.specs.declared.inst.Inst.{Inst}
-use Rattle.mips_decode.specs.declared.inst.Inst.TheVariants.{JumpRegister, JumpAndLinkRegister, Syscall, Break, BranchSign, Jump, BranchEqual, BranchZero, Reserved}
+use Rattle.mips_definition.specs.Table.{inst, is_float}
+use Rattle.mips_definition.specs.Effect.{break_fault, reserved_fault}
+use Rattle.mips_definition.specs.declared.inst.Inst.{Inst}
+use Rattle.mips_definition.specs.declared.inst.Inst.TheVariants.{JumpRegister, JumpAndLinkRegister, Syscall, Break, BranchSign, Jump, BranchEqual, BranchZero, Reserved}
 use Rattle.delay_slots.specs.declared.unit.Unit.{Unit}
 use Rattle.delay_slots.specs.declared.unit.Unit.TheVariants.{Plain, Branch, SlotMissing, SlotIsBranch, Call, Trap}
 

@@ -1,6 +1,6 @@
 //! From the words of a range to its units.
 ghost use Rattle.std.specs.Prelude.{◌≡◌, ◌<◌, IfOk, IsTrue, length};
-ghost use Rattle.mips_decode.specs.Table.{inst};
+ghost use Rattle.mips_definition.specs.Table.{inst};
 ghost use Rattle.delay_slots.specs.Units.{is_branch, branch_unit, unit_of, units_of, HasNoFloat};
 
 use crate::range_units::RangeUnits;
@@ -9,7 +9,7 @@ use mips_decode::fault_kinds::{BREAK, RESERVED};
 use mips_decode::{Inst, decode};
 use std::alloc::{AllocError, Global};
 
-/// Want of memory, the one error of `units`.
+/// Out of memory, the one error of `units`.
 pub type NoMemory = AllocError;
 
 /// The units of the words of one whole range of code, one for each word in order.
@@ -17,7 +17,7 @@ pub type NoMemory = AllocError;
 /// The range is not empty and has no word of the floating-point coprocessor.
 ///
 /// # Errors
-/// Want of memory for the words, which the units keep.
+/// Out of memory for the words, which the units keep.
 pub fn units(alloc: Global, words: &[u32]) -> Result<RangeUnits, NoMemory>
     requires some_words { 0 < length words.now }
     requires no_float { HasNoFloat words.now }

@@ -67,7 +67,7 @@ impl RangeUnits {
     /// The units of so many words from one on.
     ///
     /// # Errors
-    /// Want of memory for them.
+    /// Out of memory for them.
     #[tactic(auto, using(crate::proofs::PartLemmas::unit_count))]
     pub fn part(&self, alloc: Global, first: usize, count: usize) -> Result<Vec<Unit>, AllocError>
         requires { first + count ≤ length self.now }
@@ -99,7 +99,7 @@ impl RangeUnits {
     /// Keeps the units of so many words from one on, in place of those that it kept.
     ///
     /// # Errors
-    /// Want of memory for them; it keeps what it kept.
+    /// Out of memory for them; it keeps what it kept.
     #[tactic(auto, using(crate::proofs::PartLemmas::unit_count))]
     pub fn keep(&mut self, alloc: Global, first: usize, count: usize) -> Result<(), AllocError>
         requires { first + count ≤ length self.old }

@@ -4,15 +4,16 @@ use Rattle.std.specs.List.{All, AllPairs}
 use Rattle.std.specs.Option.{option_or}
 use Rattle.std.proofs.lemmas.Bool.Decides.{nat_tests}
 use Rattle.std.proofs.lemmas.List.Elements.{All-filter, All-map, filter_passes}
-use Rattle.nv_faults.specs.declared.elf_fault.ElfFault.{ElfFault}
-use Rattle.elf_reader.specs.declared.segment.Segment.{Segment}
-use Rattle.elf_reader.specs.declared.program_header.ProgramHeader.{ProgramHeader}
-use Rattle.elf_reader.specs.Check.{fails_at, first_fault}
-use Rattle.elf_reader.specs.Segments.{program_headers, live, is_live, is_too_high, segment_end, segment_fault, is_dynamic, is_outside, is_oversized, overlap_from, is_writable_text, IsApart}
-use Rattle.elf_reader.specs.Header.{identity_fault, program_table_fault}
-use Rattle.elf_reader.specs.Sections.{section_table_fault, section_fault, section_headers}
-use Rattle.elf_reader.specs.Area.{area_fault, code_ranges}
-use Rattle.elf_reader.specs.Fault.{elf_fault, IsSound}
+use Rattle.elf_definition.specs.declared.elf_fault.ElfFault.{ElfFault}
+use Rattle.elf_definition.specs.declared.segment.Segment.{Segment}
+use Rattle.elf_definition.specs.declared.program_header.ProgramHeader.{ProgramHeader}
+use Rattle.elf_definition.specs.Check.{fails_at, first_fault}
+use Rattle.elf_definition.specs.Segments.{program_headers, live, is_live, is_too_high, segment_end, segment_fault, is_dynamic, is_outside, is_oversized, overlap_from, is_writable_text, IsApart}
+use Rattle.elf_definition.specs.Header.{identity_fault, program_table_fault}
+use Rattle.elf_definition.specs.Sections.{section_table_fault, section_fault, section_headers}
+use Rattle.elf_definition.specs.Area.{area_fault, code_ranges}
+use Rattle.elf_definition.specs.Fault.{elf_fault}
+use Rattle.elf_reader.specs.Answer.{IsSound}
 use Rattle.elf_reader.proofs.FaultLemmas.{segments_sound, fails_at_none, position_none_all}
 use Rattle.elf_reader.proofs.PassedLemmas.{segments_apart, or_parts}
 

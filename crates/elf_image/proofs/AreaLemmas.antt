@@ -4,14 +4,14 @@ use Rattle.std.specs.List.{list_any, list_all}
 use Rattle.std.specs.Option.{option_or}
 use Rattle.std.proofs.lemmas.Bool.{cases_lt}
 use Rattle.std.proofs.lemmas.Bool.Decides.{nat_tests}
-use Rattle.nv_faults.specs.declared.elf_fault.ElfFault.{ElfFault}
-use Rattle.elf_reader.specs.declared.range.Range.{Range}
-use Rattle.elf_reader.specs.Check.{fails}
-use Rattle.elf_reader.specs.Header.{identity_fault, program_table_fault}
-use Rattle.elf_reader.specs.Segments.{program_headers, live, segment_fault}
-use Rattle.elf_reader.specs.Sections.{section_table_fault, section_fault, section_headers}
-use Rattle.elf_reader.specs.Area.{area, area_fault, code_ranges, has_address}
-use Rattle.elf_reader.specs.Fault.{elf_fault, IsRunsOf}
+use Rattle.elf_definition.specs.declared.elf_fault.ElfFault.{ElfFault}
+use Rattle.elf_definition.specs.declared.range.Range.{Range}
+use Rattle.elf_definition.specs.Check.{fails}
+use Rattle.elf_definition.specs.Header.{identity_fault, program_table_fault}
+use Rattle.elf_definition.specs.Segments.{program_headers, live, segment_fault}
+use Rattle.elf_definition.specs.Sections.{section_table_fault, section_fault, section_headers}
+use Rattle.elf_definition.specs.Area.{area, area_fault, code_ranges, has_address}
+use Rattle.elf_definition.specs.Fault.{elf_fault, IsRunsOf}
 use Rattle.elf_reader.proofs.PassedLemmas.{or_parts}
 
 sixth_none : (a b c d e f : Option ElfFault) → option_or a (option_or b (option_or c (option_or d (option_or e (option_or f None))))) ≡ None → f ≡ None

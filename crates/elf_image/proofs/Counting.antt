@@ -1,7 +1,7 @@
 -- Counting and searching the numbers below a limit, one more at a time.
 use Rattle.std.proofs.Common.{◌≡◌, ℕ, zero, suc, ◌+◌, ◌<◌, ◌≤◌, Bool, true, false, Some, None, refl, sym, ap, ◌∙◌, ◌⊎◌, inl, inr, arith, add-one}
-use Rattle.elf_reader.specs.Check.{least_below}
-use Rattle.elf_image.specs.Pages.{count_below}
+use Rattle.elf_definition.specs.Check.{least_below}
+use Rattle.elf_definition.specs.Pages.{count_below}
 
 pub count_none : (test : ℕ → Bool) → count_below test 0 ≡ 0
 unfolding count_below

@@ -1,9 +1,9 @@
 -- The definitions, computed for a program of three words and for one with data across two pages.
 use Rattle.std.proofs.Common.{◌≡◌, ℕ, true, false, List, [], ◌∷◌, refl}
-use Rattle.elf_reader.specs.declared.segment.Segment.{Segment}
-use Rattle.elf_image.specs.Pages.{heap_page, is_segment_page, is_data_page, is_shared, is_readable_page, is_writable_page}
-use Rattle.elf_image.specs.Content.{stored_byte, stored_word}
-use Rattle.mips_decode.specs.Table.{is_float}
+use Rattle.elf_definition.specs.declared.segment.Segment.{Segment}
+use Rattle.elf_definition.specs.Pages.{heap_page, is_segment_page, is_data_page, is_shared, is_readable_page, is_writable_page}
+use Rattle.elf_definition.specs.Content.{stored_byte, stored_word}
+use Rattle.mips_definition.specs.Table.{is_float}
 
 text : Segment
 text = record { offset = 84; vaddr = 0x400000; filesz = 12; memsz = 12; flags = 5 }

@@ -2,9 +2,9 @@
 use Rattle.std.proofs.Common.{◌≡◌, ℕ, ◌+◌, ◌<◌, ◌≤◌, List, length, get_or, drop, Some, None, sym, ap, ◌∙◌}
 use Rattle.std.specs.Option.{option_or}
 use Rattle.std.proofs.lemmas.List.{at_drop_more, at_drop_all}
-use Rattle.elf_reader.specs.declared.segment.Segment.{Segment}
-use Rattle.elf_reader.specs.declared.range.Range.{Range}
-use Rattle.elf_image.specs.Refusals.{float_in, first_float}
+use Rattle.elf_definition.specs.declared.segment.Segment.{Segment}
+use Rattle.elf_definition.specs.declared.range.Range.{Range}
+use Rattle.elf_definition.specs.ImageFault.{float_in, first_float}
 
 step : (file : List ℕ) (segments : List Segment) (code : List Range) (i : ℕ) (d : Range) → i < length code
     → first_float file segments (drop i code) ≡ option_or (float_in file segments (get_or code i d)) (first_float file segments (drop (i + 1) code))

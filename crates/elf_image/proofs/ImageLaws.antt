@@ -6,16 +6,17 @@ use Rattle.std.specs.Option.{option_or}
 use Rattle.std.proofs.lemmas.Bool.{cases_Bool}
 use Rattle.std.proofs.lemmas.Bool.Decides.{nat_tests}
 use Rattle.std.proofs.lemmas.List.Folds.{Any-from_list_any, list_any_none}
-use Rattle.nv_faults.specs.declared.elf_fault.ElfFault.{ElfFault}
-use Rattle.elf_reader.specs.declared.segment.Segment.{Segment}
-use Rattle.elf_reader.specs.Check.{first_fault}
-use Rattle.elf_reader.specs.Header.{identity_fault, program_table_fault}
-use Rattle.elf_reader.specs.Segments.{program_headers, live, segment_end, file_end, segment_fault, is_executable}
-use Rattle.elf_reader.specs.Sections.{section_table_fault, section_fault, section_headers}
-use Rattle.elf_reader.specs.Area.{area, area_fault, code_ranges, is_in_text}
-use Rattle.elf_reader.specs.Fault.{elf_fault, IsSound}
+use Rattle.elf_definition.specs.declared.elf_fault.ElfFault.{ElfFault}
+use Rattle.elf_definition.specs.declared.segment.Segment.{Segment}
+use Rattle.elf_definition.specs.Check.{first_fault}
+use Rattle.elf_definition.specs.Header.{identity_fault, program_table_fault}
+use Rattle.elf_definition.specs.Segments.{program_headers, live, segment_end, file_end, segment_fault, is_executable}
+use Rattle.elf_definition.specs.Sections.{section_table_fault, section_fault, section_headers}
+use Rattle.elf_definition.specs.Area.{area, area_fault, code_ranges, is_in_text}
+use Rattle.elf_definition.specs.Fault.{elf_fault}
+use Rattle.elf_reader.specs.Answer.{IsSound}
 use Rattle.elf_reader.proofs.PassedLemmas.{area_text, text_low}
-use Rattle.elf_image.specs.Pages.{heap_page, is_on_page, is_segment_page, is_heap_page, is_stack_page, is_argument_page, is_readable_page}
+use Rattle.elf_definition.specs.Pages.{heap_page, is_on_page, is_segment_page, is_heap_page, is_stack_page, is_argument_page, is_readable_page}
 
 -- ---- the pages end low
 

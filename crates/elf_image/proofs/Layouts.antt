@@ -2,8 +2,8 @@
 use Rattle.std.proofs.Common.{◌≡◌, ℕ, suc, zero, ◌+◌, ◌-◌, ◌<◌, ◌≤◌, Bool, true, false, ◌&&◌, ◌||◌, ◌==◌, nat_lt, nat_le, max, List, [], ◌∷◌, length, get_or, refl, arith}
 use Rattle.std.specs.List.{All, fold}
 use Rattle.std.proofs.lemmas.Bool.Decides.{nat_tests}
-use Rattle.elf_reader.specs.declared.segment.Segment.{Segment}
-use Rattle.elf_image.specs.Pages.{page_behind, heap_page, is_segment_page, is_heap_page, is_stack_page, is_argument_page, is_readable_page, is_shared}
+use Rattle.elf_definition.specs.declared.segment.Segment.{Segment}
+use Rattle.elf_definition.specs.Pages.{page_behind, heap_page, is_segment_page, is_heap_page, is_stack_page, is_argument_page, is_readable_page, is_shared}
 
 -- ---- the first page past the highest segment
 

@@ -1,16 +1,16 @@
 -- The checks of an image, made in three groups.
 use Rattle.std.proofs.Common.{◌≡◌, ℕ, Bool, List, length, Option, Some, None, refl, sym, ap, ◌∙◌}
 use Rattle.std.specs.Option.{option_or}
-use Rattle.elf_reader.specs.Segments.{live}
-use Rattle.elf_reader.specs.declared.segment.Segment.{Segment}
-use Rattle.elf_reader.specs.declared.range.Range.{Range}
-use Rattle.nv_faults.specs.declared.image_fault.ImageFault.{ImageFault}
+use Rattle.elf_definition.specs.Segments.{live}
+use Rattle.elf_definition.specs.declared.segment.Segment.{Segment}
+use Rattle.elf_definition.specs.declared.range.Range.{Range}
+use Rattle.elf_definition.specs.declared.image_fault.ImageFault.{ImageFault}
 use Rattle.elf_image.specs.declared.image_error.ImageError.{ImageError}
 use Rattle.elf_image.specs.declared.image_error.ImageError.TheVariants.{Refused, NoMemory}
 use Rattle.elf_image.specs.Answer.{IsAnswer, IsAnswerTo}
-use Rattle.elf_image.specs.Refusals.{size_fault, pages_fault, data_fault, layout_fault, float_fault, image_fault, exceeds}
-use Rattle.elf_image.specs.Pages.{count_below}
-use Rattle.elf_image.specs.Content.{is_filled_page}
+use Rattle.elf_definition.specs.ImageFault.{size_fault, pages_fault, data_fault, layout_fault, float_fault, image_fault, exceeds}
+use Rattle.elf_definition.specs.Pages.{count_below}
+use Rattle.elf_definition.specs.Content.{is_filled_page}
 use Rattle.elf_image.specs.PageTable.{marked}
 use Rattle.elf_image.proofs.MarkLemmas.{count_same_tests}
 

@@ -2,11 +2,11 @@
 use Rattle.std.proofs.Common.{◌≡◌, ℕ, zero, suc, ◌+◌, ◌-◌, ◌<◌, ◌≤◌, Bool, true, false, ◌&&◌, ◌||◌, ◌==◌, nat_lt, nat_le, cond, min, List, Option, Some, None, option_map, refl, sym, ◌∙◌, inl, inr, arith}
 use Rattle.std.proofs.lemmas.Bool.{cases_Bool, cases_lt, or_parts}
 use Rattle.std.proofs.lemmas.Bool.Decides.{nat_tests}
-use Rattle.elf_reader.specs.declared.segment.Segment.{Segment}
-use Rattle.elf_reader.specs.Check.{least_below}
-use Rattle.nv_faults.specs.declared.image_fault.ImageFault.{ImageFault}
-use Rattle.elf_image.specs.Pages.{pages_below, count_below, heap_page, is_segment_page, is_heap_page, is_stack_page, is_argument_page, is_readable_page, is_shared, segment_pages, mapped_pages}
-use Rattle.elf_image.specs.Refusals.{layout_fault}
+use Rattle.elf_definition.specs.declared.segment.Segment.{Segment}
+use Rattle.elf_definition.specs.Check.{least_below}
+use Rattle.elf_definition.specs.declared.image_fault.ImageFault.{ImageFault}
+use Rattle.elf_definition.specs.Pages.{pages_below, count_below, heap_page, is_segment_page, is_heap_page, is_stack_page, is_argument_page, is_readable_page, is_shared, segment_pages, mapped_pages}
+use Rattle.elf_definition.specs.ImageFault.{layout_fault}
 use Rattle.elf_image.proofs.TableLemmas.{least_all}
 use Rattle.elf_image.proofs.MarkLemmas.{count_same_tests}
 

@@ -7,8 +7,8 @@ use Rattle.std.proofs.lemmas.List.{get_or-set_same, get_or-set_other, get_or-rep
 use Rattle.std.proofs.lemmas.List.Folds.{list_any_more}
 use Rattle.std.proofs.lemmas.Bool.{cases_Bool, cases_lt, cases_eq, and_right, or_right}
 use Rattle.std.proofs.lemmas.Bool.Decides.{nat_tests}
-use Rattle.elf_reader.specs.declared.segment.Segment.{Segment}
-use Rattle.elf_image.specs.Pages.{is_on_page, count_below, page_behind}
+use Rattle.elf_definition.specs.declared.segment.Segment.{Segment}
+use Rattle.elf_definition.specs.Pages.{is_on_page, count_below, page_behind}
 use Rattle.elf_image.specs.PageTable.{marked, number_of}
 
 -- pages before the first one are not marked

@@ -5,12 +5,12 @@ use Rattle.std.specs.Option.{option_map_or}
 use Rattle.std.proofs.lemmas.List.Folds.{list_any_at, list_any_none}
 use Rattle.std.proofs.lemmas.Bool.{cases_Bool, and_left, or_right}
 use Rattle.std.proofs.lemmas.Bool.Decides.{nat_tests}
-use Rattle.elf_reader.specs.declared.segment.Segment.{Segment}
-use Rattle.elf_reader.specs.Check.{least_below}
-use Rattle.elf_reader.specs.Segments.{IsApart, file_end, segment_end}
-use Rattle.elf_reader.specs.Fault.{IsSound}
-use Rattle.elf_image.specs.Pages.{is_segment_page}
-use Rattle.elf_image.specs.Content.{is_in_file_part, file_byte, stored_byte, is_filled_page, has_data}
+use Rattle.elf_definition.specs.declared.segment.Segment.{Segment}
+use Rattle.elf_definition.specs.Check.{least_below}
+use Rattle.elf_definition.specs.Segments.{IsApart, file_end, segment_end}
+use Rattle.elf_reader.specs.Answer.{IsSound}
+use Rattle.elf_definition.specs.Pages.{is_segment_page}
+use Rattle.elf_definition.specs.Content.{is_in_file_part, file_byte, stored_byte, is_filled_page, has_data}
 use Rattle.elf_image.proofs.TableLemmas.{least_all, not_stored, some_false}
 use Rattle.elf_image.proofs.StoreLemmas.{part_low, part_high}
 use Rattle.std.proofs.lemmas.Option.{same_Some}

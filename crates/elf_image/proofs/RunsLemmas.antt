@@ -4,9 +4,9 @@ use Rattle.std.specs.List.{All, AllAdjacentBelow, list_any}
 use Rattle.std.proofs.lemmas.Bool.{cases_lt, or_left}
 use Rattle.std.proofs.lemmas.List.Folds.{list_any_at}
 use Rattle.std.proofs.lemmas.Bool.Decides.{nat_tests}
-use Rattle.elf_reader.specs.declared.range.Range.{Range}
-use Rattle.elf_reader.specs.Area.{range_end, has_address}
-use Rattle.elf_reader.specs.Fault.{IsRunsOf}
+use Rattle.elf_definition.specs.declared.range.Range.{Range}
+use Rattle.elf_definition.specs.Area.{range_end, has_address}
+use Rattle.elf_definition.specs.Fault.{IsRunsOf}
 
 -- filled runs that begin at a place or behind it, and rise with a gap between each two
 abbrev Above : ℕ → List Range → Type 0

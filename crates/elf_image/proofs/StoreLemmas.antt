@@ -4,11 +4,11 @@ use Rattle.std.specs.Option.{option_map_or}
 use Rattle.std.proofs.lemmas.List.{get_or-set_same, get_or-set_other, drop_more, drop_all}
 use Rattle.std.proofs.lemmas.Bool.{cases_Bool, cases_lt, cases_eq, and_right}
 use Rattle.std.proofs.lemmas.Bool.Decides.{nat_tests}
-use Rattle.elf_reader.specs.declared.segment.Segment.{Segment}
-use Rattle.elf_reader.specs.Segments.{file_end}
-use Rattle.elf_image.specs.Content.{is_in_file_part, file_byte, stored_byte}
+use Rattle.elf_definition.specs.declared.segment.Segment.{Segment}
+use Rattle.elf_definition.specs.Segments.{file_end}
+use Rattle.elf_definition.specs.Content.{is_in_file_part, file_byte, stored_byte}
 use Rattle.elf_image.specs.PageTable.{byte_in, table_word, table_byte}
-use Rattle.nv_words.specs.Words.{lane_of_word}
+use Rattle.run_definition.specs.Words.{lane_of_word}
 use Rattle.elf_image.proofs.TableLemmas.{lane_of_zero}
 
 -- one byte is put

@@ -6,13 +6,13 @@ use Rattle.std.proofs.lemmas.List.{get_or-take, get_or-drop}
 use Rattle.std.proofs.lemmas.List.Folds.{list_any_at}
 use Rattle.std.proofs.lemmas.Bool.{cases_Bool, cases_lt, cases_eq}
 use Rattle.std.proofs.lemmas.Bool.Decides.{nat_tests}
-use Rattle.elf_reader.specs.declared.segment.Segment.{Segment}
-use Rattle.elf_reader.specs.Check.{least_below}
-use Rattle.elf_reader.specs.Fault.{IsSound}
-use Rattle.elf_image.specs.Pages.{is_on_page, is_segment_page, count_below}
-use Rattle.elf_image.specs.Content.{is_in_file_part, file_byte, stored_byte, stored_word, is_filled_page}
+use Rattle.elf_definition.specs.declared.segment.Segment.{Segment}
+use Rattle.elf_definition.specs.Check.{least_below}
+use Rattle.elf_reader.specs.Answer.{IsSound}
+use Rattle.elf_definition.specs.Pages.{is_on_page, is_segment_page, count_below}
+use Rattle.elf_definition.specs.Content.{is_in_file_part, file_byte, stored_byte, stored_word, is_filled_page}
 use Rattle.elf_image.specs.PageTable.{marked, number_of, table_word, table_byte}
-use Rattle.nv_words.specs.Words.{word_of_bytes, lane_of_word}
+use Rattle.run_definition.specs.Words.{word_of_bytes, lane_of_word}
 use Rattle.nv_words.proofs.LaneLemmas.{lane_of_word-of_bytes, below_four, same_lanes}
 
 find_none : {X : Type 0} (p : X → Bool) (xs : List X) → All (λ x. p x ≡ false) xs → find p xs ≡ None

@@ -3,22 +3,22 @@ use Rattle.std.proofs.Common.{◌≡◌, ℕ, zero, suc, ◌+◌, ◌-◌, ◌*�
 use Rattle.std.specs.List.{All}
 use Rattle.std.specs.Option.{option_or}
 use Rattle.std.proofs.lemmas.Bool.{cases_lt, eq-eqb, lt-ltb}
-use Rattle.nv_words.specs.Words.{IsWord}
-use Rattle.nv_words.specs.declared.order.Order.{Order}
-use Rattle.nv_words.specs.declared.order.Order.TheVariants.{Big, Little}
-use Rattle.mips_decode.specs.Memory.{word_of_lanes}
-use Rattle.elf_reader.specs.Header.{order_of}
-use Rattle.elf_reader.specs.Segments.{live}
-use Rattle.elf_reader.specs.Area.{area, range_end}
-use Rattle.elf_reader.specs.Fault.{elf_fault, IsRunsOf}
-use Rattle.elf_reader.specs.declared.segment.Segment.{Segment}
-use Rattle.elf_reader.specs.declared.range.Range.{Range}
-use Rattle.nv_faults.specs.declared.image_fault.ImageFault.{ImageFault}
-use Rattle.elf_image.specs.Content.{stored_word, code_word}
-use Rattle.mips_decode.specs.Table.{is_float}
-use Rattle.elf_image.specs.Pages.{mapped_pages}
-use Rattle.elf_image.specs.Refusals.{exceeds, code_words, float_in, first_float, size_fault, pages_fault, data_fault, layout_fault, float_fault, image_fault}
-use Rattle.elf_image.specs.Start.{Source, image_of, code_at}
+use Rattle.run_definition.specs.Words.{IsWord}
+use Rattle.run_definition.specs.declared.order.Order.{Order}
+use Rattle.run_definition.specs.declared.order.Order.TheVariants.{Big, Little}
+use Rattle.mips_definition.specs.Memory.{word_of_lanes}
+use Rattle.elf_definition.specs.Header.{order_of}
+use Rattle.elf_definition.specs.Segments.{live}
+use Rattle.elf_definition.specs.Area.{area, range_end}
+use Rattle.elf_definition.specs.Fault.{elf_fault, IsRunsOf}
+use Rattle.elf_definition.specs.declared.segment.Segment.{Segment}
+use Rattle.elf_definition.specs.declared.range.Range.{Range}
+use Rattle.elf_definition.specs.declared.image_fault.ImageFault.{ImageFault}
+use Rattle.elf_definition.specs.Content.{stored_word, stored_code_word}
+use Rattle.mips_definition.specs.Table.{is_float}
+use Rattle.elf_definition.specs.Pages.{mapped_pages}
+use Rattle.elf_definition.specs.ImageFault.{exceeds, code_words, float_in, first_float, size_fault, pages_fault, data_fault, layout_fault, float_fault, image_fault}
+use Rattle.elf_definition.specs.Start.{Source, image_of, code_at}
 use Rattle.elf_image.specs.Whole.{IsPlainWord, IsWholeRange}
 use Rattle.elf_image.proofs.Accepted.{sound_of}
 use Rattle.elf_image.proofs.ImageLaws.{code_low}
@@ -69,18 +69,18 @@ map_none f None e = refl
 map_none f (Some x) e = absurd (cc)
 
 no_float_in : (file : List ℕ) (segments : List Segment) (code : List Range) → first_float file segments code ≡ None → (i k : ℕ) (d : Range) → i < length code
-    → k < (get_or code i d).words → is_float (code_word file segments ((get_or code i d).first + 4 * k)) ≡ false
+    → k < (get_or code i d).words → is_float (stored_code_word file segments ((get_or code i d).first + 4 * k)) ≡ false
 unfolding first_float
 no_float_in file segments [] none i k d within lt = absurd (omega (arith, within))
 no_float_in file segments (r ∷ code) none zero k d within lt =
     let both = or_none (float_in file segments r) (first_float file segments code) none in
-    least_all (λ k. is_float (code_word file segments (r.first + 4 * k))) r.words (map_none (λ k. r.first + 4 * k) _ both.0) k lt
+    least_all (λ k. is_float (stored_code_word file segments (r.first + 4 * k))) r.words (map_none (λ k. r.first + 4 * k) _ both.0) k lt
 no_float_in file segments (r ∷ code) none (suc i) k d within lt =
     let both = or_none (float_in file segments r) (first_float file segments code) none in
     no_float_in file segments code both.1 i k d (omega (arith, within)) lt
 
 pub no_float : (file : List ℕ) (code : List Range) (heap stack : ℕ) → image_fault file code heap stack ≡ None → (i k : ℕ) (d : Range) → i < length code
-    → k < (get_or code i d).words → is_float (code_word file (live file) ((get_or code i d).first + 4 * k)) ≡ false
+    → k < (get_or code i d).words → is_float (stored_code_word file (live file) ((get_or code i d).first + 4 * k)) ≡ false
 no_float file code heap stack none = no_float_in file (live file) code (map_none _ (first_float file (live file) code) (passes file code heap stack none).floats)
 
 -- ---- whole ranges
@@ -89,16 +89,16 @@ word_of_lanes-fits : (order : Order) (w : ℕ) → w < 2 ^ 32 → word_of_lanes 
 word_of_lanes-fits Big w fits = fits
 word_of_lanes-fits Little w fits = omega (arith, fits)
 
-code_word-fits : (file : List ℕ) (segments : List Segment) (at : ℕ) → at % 4 ≡ 0 → ((k : ℕ) → stored_word file segments (4 * k) < 2 ^ 32) → IsWord (code_word file segments at)
-unfolding code_word
+code_word-fits : (file : List ℕ) (segments : List Segment) (at : ℕ) → at % 4 ≡ 0 → ((k : ℕ) → stored_word file segments (4 * k) < 2 ^ 32) → IsWord (stored_code_word file segments at)
+unfolding stored_code_word
 code_word-fits file segments at even words =
     let place : 4 * (at / 4) ≡ at = omega (arith, even) in
     word_of_lanes-fits (order_of file) (stored_word file segments at) (subst (λ a. stored_word file segments a < 2 ^ 32) place (words (at / 4)))
 
 module _ (v : Source) (code : List Range) (runs : IsRunsOf (area v.file) code) (accepted : elf_fault v.file ≡ None) (passed : image_fault v.file code v.heap v.stack ≡ None)
     (words : (k : ℕ) → stored_word v.file (live v.file) (4 * k) < 2 ^ 32) where
-  there_by : (at : ℕ) (even on : Bool) → (at % 4 == 0) ≡ even → area v.file at ≡ on → even ≡ true → on ≡ true → IsWord (code_word v.file (live v.file) at)
-      → is_float (code_word v.file (live v.file) at) ≡ false → IsPlainWord (if even && on then Some (code_word v.file (live v.file) at) else None)
+  there_by : (at : ℕ) (even on : Bool) → (at % 4 == 0) ≡ even → area v.file at ≡ on → even ≡ true → on ≡ true → IsWord (stored_code_word v.file (live v.file) at)
+      → is_float (stored_code_word v.file (live v.file) at) ≡ false → IsPlainWord (if even && on then Some (stored_code_word v.file (live v.file) at) else None)
   there_by at true true e f te tf fits plain = (fits, plain)
   there_by at true false e f te tf fits plain = absurd (cc)
   there_by at false on e f te tf fits plain = absurd (cc)

@@ -1,10 +1,10 @@
 -- What making an image answers where it makes none.
 use Rattle.std.specs.Prelude.{◌≡◌, ℕ, List, Option, Some}
-use Rattle.elf_reader.specs.declared.range.Range.{Range}
+use Rattle.elf_definition.specs.declared.range.Range.{Range}
 use Rattle.elf_image.specs.declared.image_error.ImageError.{ImageError}
-use Rattle.nv_faults.specs.declared.image_fault.ImageFault.{ImageFault}
+use Rattle.elf_definition.specs.declared.image_fault.ImageFault.{ImageFault}
 use Rattle.elf_image.specs.declared.image_error.ImageError.TheVariants.{Refused, NoMemory}
-use Rattle.elf_image.specs.Refusals.{image_fault}
+use Rattle.elf_definition.specs.ImageFault.{image_fault}
 
 -- an error is a check that failed; want of memory may come at any file
 abbrev pub IsAnswer : Option ImageFault → ImageError → Type 0

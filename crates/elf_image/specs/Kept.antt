@@ -1,13 +1,13 @@
 -- What an image keeps beside its file: numbers and tables of it that are looked up again and again.
 use Rattle.std.specs.Prelude.{◌≡◌, ℕ, List, None}
-use Rattle.elf_reader.specs.declared.segment.Segment.{Segment}
-use Rattle.elf_reader.specs.declared.range.Range.{Range}
-use Rattle.elf_reader.specs.Header.{header_of}
-use Rattle.elf_reader.specs.Segments.{live}
-use Rattle.elf_reader.specs.Area.{area}
-use Rattle.elf_reader.specs.Fault.{elf_fault, IsRunsOf}
-use Rattle.elf_image.specs.Pages.{mapped_pages}
-use Rattle.elf_image.specs.Refusals.{image_fault}
+use Rattle.elf_definition.specs.declared.segment.Segment.{Segment}
+use Rattle.elf_definition.specs.declared.range.Range.{Range}
+use Rattle.elf_definition.specs.Header.{header_of}
+use Rattle.elf_definition.specs.Segments.{live}
+use Rattle.elf_definition.specs.Area.{area}
+use Rattle.elf_definition.specs.Fault.{elf_fault, IsRunsOf}
+use Rattle.elf_definition.specs.Pages.{mapped_pages}
+use Rattle.elf_definition.specs.ImageFault.{image_fault}
 
 -- the segments of the layout and of the page table are those of the file, and the image passed its checks
 pub record IsKeptImage (file : List ℕ) (entry : ℕ) (code : List Range) (laid stored : List Segment)

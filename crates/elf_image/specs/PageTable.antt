@@ -1,7 +1,7 @@
 -- What an image keeps of the segments' pages: marks, and the words of the pages that are not all zero.
 use Rattle.std.specs.Prelude.{ℕ, ◌+◌, ◌-◌, ◌*◌, ◌/◌, ◌%◌, ◌==◌, Bool, false, if◌then◌else◌, List, slice_index, slice_index_or}
-use Rattle.elf_image.specs.Pages.{count_below}
-use Rattle.nv_words.specs.Words.{lane_of_word}
+use Rattle.elf_definition.specs.Pages.{count_below}
+use Rattle.run_definition.specs.Words.{lane_of_word}
 
 -- a page is marked; none past the end of the marks is
 abbrev pub marked : List Bool → ℕ → Bool

@@ -1,9 +1,9 @@
 -- A range of code, as what is made of it one word at a time finds it.
 use Rattle.std.specs.Prelude.{◌≡◌, ℕ, ◌+◌, ◌*◌, ◌%◌, ◌<◌, ◌≤◌, false, Option, Some, None}
-use Rattle.nv_words.specs.Words.{IsWord}
-use Rattle.elf_reader.specs.Area.{range_end}
-use Rattle.elf_reader.specs.declared.range.Range.{Range}
-use Rattle.mips_decode.specs.Table.{is_float}
+use Rattle.run_definition.specs.Words.{IsWord}
+use Rattle.elf_definition.specs.Area.{range_end}
+use Rattle.elf_definition.specs.declared.range.Range.{Range}
+use Rattle.mips_definition.specs.Table.{is_float}
 
 -- a word is there, of 32 bits, and it is none of the floating-point coprocessor
 abbrev pub IsPlainWord : Option ℕ → Type 0

@@ -1,20 +1,20 @@
 //! The checks that a file's image passes.
 ghost use Rattle.std.specs.Prelude.{◌≡◌, ◌%◌, ◌≤◌, All, length};
-ghost use Rattle.elf_reader.specs.declared.range.Range.{Range};
-ghost use Rattle.elf_image.specs.Content.{is_filled_page};
-ghost use Rattle.elf_image.specs.Pages.{count_below};
+ghost use Rattle.elf_definition.specs.declared.range.Range.{Range};
+ghost use Rattle.elf_definition.specs.Content.{is_filled_page};
+ghost use Rattle.elf_definition.specs.Pages.{count_below};
 ghost use Rattle.elf_image.specs.PageTable.{marked};
-ghost use Rattle.elf_image.specs.Refusals.{IsApart, exceeds, code_words, size_fault, pages_fault, layout_fault, float_fault};
+ghost use Rattle.elf_definition.specs.ImageFault.{IsApart, exceeds, code_words, size_fault, pages_fault, layout_fault, float_fault};
 
 use crate::floats::first_float;
 use crate::layout::Layout;
 use crate::page_marks::count_marks;
 use crate::page_table::PageTable;
+use elf_definition::ImageFault;
 use elf_reader::Range;
-use nv_faults::ImageFault;
 
 /// The checks of the sizes of the file and of its code.
-#[tactic(auto, unfolding(crate::specs::Refusals::size_fault))]
+#[tactic(auto, unfolding(elf_definition::specs::ImageFault::size_fault))]
 pub fn check_sizes(len: usize, code: &[Range]) -> Option<ImageFault>
     requires { IsApart code.now }
     ensures { result ≡ size_fault len code.now }
@@ -28,7 +28,7 @@ pub fn check_sizes(len: usize, code: &[Range]) -> Option<ImageFault>
     fault_above(ImageFault::TOO_MANY_RANGES, 64, code.len() as u64)
 }
 
-/// The fault of a check of a number against its limit, where it fails.
+/// The fault of a check of a number against its limit, if it fails.
 fn fault_above(kind: u32, limit: u64, number: u64) -> Option<ImageFault>
     ensures { result ≡ exceeds kind limit number }
 {

@@ -1,10 +1,10 @@
 //! The bytes that segments have in the file, page by page.
 ghost use Rattle.std.specs.Prelude.{◌≡◌, ℕ, ◌+◌, ◌-◌, ◌*◌, ◌/◌, ◌<◌, ◌≤◌, ◌==◌, not, max, min, ◌||◌, All, AllPairs, length, slice_index, IfOk};
 ghost use Rattle.std.specs.List.{list_any};
-ghost use Rattle.elf_reader.specs.Fault.{IsSound};
-ghost use Rattle.elf_reader.specs.Segments.{IsApart, file_end};
-ghost use Rattle.elf_reader.specs.declared.segment.Segment.{Segment};
-ghost use Rattle.elf_image.specs.Content.{file_byte, has_data, is_filled_page};
+ghost use Rattle.elf_reader.specs.Answer.{IsSound};
+ghost use Rattle.elf_definition.specs.Segments.{IsApart, file_end};
+ghost use Rattle.elf_definition.specs.declared.segment.Segment.{Segment};
+ghost use Rattle.elf_definition.specs.Content.{file_byte, has_data, is_filled_page};
 ghost use Rattle.elf_image.specs.PageTable.{marked};
 
 use crate::page_marks::{mark, unmarked};
@@ -12,7 +12,7 @@ use crate::pages::heap_page;
 use elf_reader::Segment;
 use std::alloc::{AllocError, Global};
 
-/// The first address behind a segment's bytes in the file.
+/// The first address after a segment's bytes in the file.
 pub fn file_end(segment: &Segment) -> u64
     ensures { result ≡ file_end segment.now }
 {
@@ -59,7 +59,7 @@ fn is_filled(bytes: &[u8]) -> bool
     bytes.iter().any(|byte| *byte != 0)
 }
 
-/// The first page behind a segment's bytes in the file.
+/// The first page after a segment's bytes in the file.
 pub fn page_behind_data(segment: &Segment) -> u32
     requires { file_end segment.now ≤ 0x7F00_0000 }
     ensures page { result ≡ (file_end segment.now + 4095) / 4096 }

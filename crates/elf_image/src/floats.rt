@@ -1,10 +1,10 @@
 //! Floating-point instructions among the words of a program.
 ghost use Rattle.std.specs.Prelude.{◌≡◌, ◌+◌, ◌*◌, ◌%◌, ◌^◌, ◌<◌, All, IfSome};
-ghost use Rattle.elf_reader.specs.Check.{least_below};
-ghost use Rattle.elf_reader.specs.declared.range.Range.{Range};
-ghost use Rattle.elf_image.specs.Content.{code_word};
-ghost use Rattle.mips_decode.specs.Table.{is_float};
-ghost use Rattle.elf_image.specs.Refusals.{float_in, first_float};
+ghost use Rattle.elf_definition.specs.Check.{least_below};
+ghost use Rattle.elf_definition.specs.declared.range.Range.{Range};
+ghost use Rattle.elf_definition.specs.Content.{stored_code_word};
+ghost use Rattle.mips_definition.specs.Table.{is_float};
+ghost use Rattle.elf_definition.specs.ImageFault.{float_in, first_float};
 
 use crate::page_table::PageTable;
 use elf_reader::Range;
@@ -16,7 +16,7 @@ fn float_word(table: &PageTable, range: Range) -> Option<u32>
     requires { range.first % 4 ≡ 0 }
     ensures value { result
         ≡ least_below (λ k.
-        is_float (code_word table.now.file.bytes table.now.segments.value.items
+        is_float (stored_code_word table.now.file.bytes table.now.segments.value.items
         (range.first + 4 * k))) range.words }
     ensures bound { IfSome result (λ k. k < 2 ^ 32) }
 {

@@ -1,16 +1,16 @@
 ghost use Rattle.std.specs.Prelude.{◌≡◌, ℕ, ◌+◌, ◌-◌, ◌*◌, ◌/◌, ◌%◌, ◌^◌, ◌<◌, ◌≤◌, max, min, false, List, All, None, IfOk, IfSome, is_some, length, slice_index};
 ghost use Rattle.std.specs.List.{list_any};
-ghost use Rattle.elf_reader.specs.Header.{header_of};
-ghost use Rattle.elf_reader.specs.Segments.{live};
-ghost use Rattle.elf_reader.specs.Area.{area, has_address};
-ghost use Rattle.elf_reader.specs.Fault.{elf_fault, IsRunsOf};
-ghost use Rattle.elf_image.specs.Content.{stored_byte, stored_word, is_filled_page};
-ghost use Rattle.nv_words.specs.Words.{lane_of_word};
-ghost use Rattle.elf_image.specs.Pages.{pages_below, argument_page, heap_page, count_below};
-ghost use Rattle.elf_image.specs.Refusals.{code_words, image_fault};
-ghost use Rattle.elf_image.specs.Start.{image_of, readable, writable};
+ghost use Rattle.elf_definition.specs.Header.{header_of};
+ghost use Rattle.elf_definition.specs.Segments.{live};
+ghost use Rattle.elf_definition.specs.Area.{area, has_address};
+ghost use Rattle.elf_definition.specs.Fault.{elf_fault, IsRunsOf};
+ghost use Rattle.elf_definition.specs.Content.{stored_byte, stored_word, is_filled_page};
+ghost use Rattle.run_definition.specs.Words.{lane_of_word};
+ghost use Rattle.elf_definition.specs.Pages.{pages_below, argument_page_number, heap_page, count_below};
+ghost use Rattle.elf_definition.specs.ImageFault.{code_words, image_fault};
+ghost use Rattle.elf_definition.specs.Start.{image_of, readable, writable};
 ghost use Rattle.elf_image.specs.Whole.{IsWholeRange};
-ghost use Rattle.elf_reader.specs.declared.range.Range.{Range};
+ghost use Rattle.elf_definition.specs.declared.range.Range.{Range};
 
 use crate::layout::Layout;
 use crate::page_table::PageTable;
@@ -34,7 +34,7 @@ pub struct Image {
 }
 
 impl Model for Image {
-    ghost use Rattle.elf_image.specs.Start.{Source};
+    ghost use Rattle.elf_definition.specs.Start.{Source};
     ghost use Rattle.elf_image.specs.Kept.{IsKeptImage};
 
     ghost Value = { Source };
@@ -80,15 +80,15 @@ impl Image {
     }
 
     /// The address at which the program starts.
-    #[tactic(auto, unfolding(crate::specs::Start::image_of))]
+    #[tactic(auto, unfolding(elf_definition::specs::Start::image_of))]
     pub fn entry(&self) -> u32
         ensures { result ≡ (image_of self.now).entry }
     {
         self.entry
     }
 
-    /// The order of the bytes of the program's words. The code's are read in it; those of pages stand as they are in memory.
-    #[tactic(auto, unfolding(crate::specs::Start::image_of))]
+    /// The order of the bytes of the program's words. The code's are read in it; those of pages are as they are in memory.
+    #[tactic(auto, unfolding(elf_definition::specs::Start::image_of))]
     pub fn order(&self) -> Order
         ensures { result ≡ (image_of self.now).order }
     {
@@ -102,8 +102,8 @@ impl Image {
         self.code.as_slice()
     }
 
-    /// The word at an address, where it is a multiple of 4 in the code area.
-    #[tactic(auto, unfolding(crate::specs::Start::image_of, crate::specs::Start::code_at))]
+    /// The word at an address, if it is a multiple of 4 in the code area.
+    #[tactic(auto, unfolding(elf_definition::specs::Start::image_of, elf_definition::specs::Start::code_at))]
     pub fn word(&self, at: u32) -> Option<u32>
         ensures { result ≡ (image_of self.now).code at }
     {
@@ -128,11 +128,11 @@ impl Image {
         self.layout.is_writable(page)
     }
 
-    /// Pages that cannot be read, one behind the other: those between the heap and the stack, which are most of all.
+    /// Pages that cannot be read, one after the other: those between the heap and the stack, which are most of all.
     pub fn gap(&self) -> ops::Range<u32>
         ensures start { result.start
             ≡ min (heap_page (live self.now.file) + self.now.heap) pages_below }
-        ensures end { result.end ≡ max (argument_page - self.now.stack) result.start }
+        ensures end { result.end ≡ max (argument_page_number - self.now.stack) result.start }
         ensures low { result.end ≤ 524288 }
         ensures ordered { result.start ≤ result.end }
         ensures unused { (page : ℕ) → result.start ≤ page → page < result.end
@@ -142,7 +142,7 @@ impl Image {
     }
 
     /// The byte at an address, where its page can be read.
-    #[tactic(auto, unfolding(crate::specs::Start::image_of, crate::specs::Start::byte_at))]
+    #[tactic(auto, unfolding(elf_definition::specs::Start::image_of, elf_definition::specs::Start::start_byte))]
     pub fn byte(&self, at: u32) -> Option<u8>
         ensures { result ≡ (image_of self.now).memory.byte at }
     {
@@ -166,7 +166,7 @@ impl Image {
     }
 
     /// How many pages can be read.
-    #[tactic(auto, unfolding(crate::specs::Start::image_of))]
+    #[tactic(auto, unfolding(elf_definition::specs::Start::image_of))]
     pub fn mapped(&self) -> u32
         ensures sum { result ≡ (image_of self.now).mapped }
         ensures count { result ≡ count_below (readable self.now) pages_below }
@@ -175,7 +175,7 @@ impl Image {
     }
 
     /// The first address of the heap.
-    #[tactic(auto, unfolding(crate::specs::Start::image_of))]
+    #[tactic(auto, unfolding(elf_definition::specs::Start::image_of))]
     pub fn heap_start(&self) -> u32
         ensures { result ≡ (image_of self.now).heap_start }
     {
@@ -183,7 +183,7 @@ impl Image {
     }
 
     /// The length of the heap in bytes.
-    #[tactic(auto, unfolding(crate::specs::Start::image_of))]
+    #[tactic(auto, unfolding(elf_definition::specs::Start::image_of))]
     pub fn heap_bytes(&self) -> u32
         ensures { result ≡ (image_of self.now).heap_bytes }
     {

@@ -1,7 +1,7 @@
 ghost use Rattle.std.specs.Prelude.{◌≡◌};
 ghost use Rattle.elf_image.specs.declared.image_error.ImageError.TheVariants.{NoMemory};
 
-use nv_faults::ImageFault;
+use elf_definition::ImageFault;
 use std::alloc::AllocError;
 use thiserror::Error;
 

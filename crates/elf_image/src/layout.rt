@@ -1,8 +1,8 @@
 ghost use Rattle.std.specs.Prelude.{◌≡◌, ℕ, ◌+◌, ◌-◌, ◌≤◌, ◌<◌, max, min, None, false, All, IfOk, length};
-ghost use Rattle.elf_reader.specs.Check.{least_below};
-ghost use Rattle.elf_reader.specs.Segments.{segment_end};
-ghost use Rattle.elf_reader.specs.declared.segment.Segment.{Segment};
-ghost use Rattle.elf_image.specs.Pages.{pages_below, argument_page, heap_page, is_segment_page, is_data_page, is_heap_page, is_stack_page, is_readable_page, is_writable_page, is_shared, segment_pages, mapped_pages};
+ghost use Rattle.elf_definition.specs.Check.{least_below};
+ghost use Rattle.elf_definition.specs.Segments.{segment_end};
+ghost use Rattle.elf_definition.specs.declared.segment.Segment.{Segment};
+ghost use Rattle.elf_definition.specs.Pages.{pages_below, argument_page_number, heap_page, is_segment_page, is_data_page, is_heap_page, is_stack_page, is_readable_page, is_writable_page, is_shared, segment_pages, mapped_pages};
 ghost use Rattle.elf_image.specs.PageTable.{marked};
 
 use crate::page_marks::{count_marks, data_marks, is_marked, segment_marks};
@@ -95,7 +95,7 @@ impl Layout {
     }
 
     /// Whether the page belongs to two of segments, heap, stack and argument page.
-    #[tactic(auto, unfolding(crate::specs::Pages::is_shared))]
+    #[tactic(auto, unfolding(elf_definition::specs::Pages::is_shared))]
     fn is_shared(&self, page: u32) -> bool
         ensures { result
             ≡ is_shared self.now.segments.value.items self.now.heap self.now.stack page }
@@ -108,7 +108,7 @@ impl Layout {
     }
 
     /// Whether the page can be read.
-    #[tactic(auto, unfolding(crate::specs::Pages::is_readable_page))]
+    #[tactic(auto, unfolding(elf_definition::specs::Pages::is_readable_page))]
     pub fn is_readable(&self, page: u32) -> bool
         ensures { result
             ≡ is_readable_page self.now.segments.value.items self.now.heap self.now.stack page }
@@ -120,7 +120,7 @@ impl Layout {
     }
 
     /// Whether the page can be written.
-    #[tactic(auto, unfolding(crate::specs::Pages::is_writable_page))]
+    #[tactic(auto, unfolding(elf_definition::specs::Pages::is_writable_page))]
     pub fn is_writable(&self, page: u32) -> bool
         ensures { result
             ≡ is_writable_page self.now.segments.value.items self.now.heap self.now.stack page }
@@ -132,7 +132,7 @@ impl Layout {
     }
 
     /// How many pages segments, heap, stack and argument page have, each page counted for each of these that it belongs to.
-    #[tactic(auto, unfolding(crate::specs::Pages::mapped_pages))]
+    #[tactic(auto, unfolding(elf_definition::specs::Pages::mapped_pages))]
     pub fn pages(&self) -> u32
         ensures { result ≡ mapped_pages self.now.segments.value.items self.now.heap self.now.stack }
     {
@@ -161,7 +161,7 @@ impl Layout {
         }
     }
 
-    /// The lowest such page, where there is none below the first one of these.
+    /// The lowest such page, if there is none below the first one of these.
     #[tactic(auto, using(crate::proofs::Counting::least_more, crate::proofs::Counting::least_found))]
     fn first_shared_from(&self, first: u32, end: u32) -> Option<u32>
         requires ordered { first ≤ end }
@@ -183,7 +183,7 @@ impl Layout {
     pub fn gap(&self) -> Range<u32>
         ensures start { result.start
             ≡ min (heap_page self.now.segments.value.items + self.now.heap) pages_below }
-        ensures end { result.end ≡ max (argument_page - self.now.stack) result.start }
+        ensures end { result.end ≡ max (argument_page_number - self.now.stack) result.start }
         ensures low { result.end ≤ 524288 }
         ensures ordered { result.start ≤ result.end }
         ensures unused { (page : ℕ) → result.start ≤ page → page < result.end

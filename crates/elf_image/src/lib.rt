@@ -15,8 +15,8 @@ mod pages;
 mod runs;
 mod store;
 
+pub use elf_definition::ImageFault;
 pub use guest_image::Image;
 pub use image_error::ImageError;
 pub use loader::image;
-pub use nv_faults::ImageFault;
 pub use runs::runs_are_one;

@@ -1,10 +1,11 @@
 ghost use Rattle.std.specs.Prelude.{◌≡◌, ◌≤◌, None, OnOk, IfOk, IfErr, All, AllPairs, length};
 ghost use Rattle.std.specs.Option.{option_or};
-ghost use Rattle.elf_reader.specs.Header.{header_of};
-ghost use Rattle.elf_reader.specs.Segments.{live, IsApart as IsApartFrom};
-ghost use Rattle.elf_reader.specs.Area.{area};
-ghost use Rattle.elf_reader.specs.Fault.{elf_fault, IsRunsOf, IsSound};
-ghost use Rattle.elf_image.specs.Refusals.{size_fault, pages_fault, data_fault, layout_fault, float_fault, image_fault};
+ghost use Rattle.elf_definition.specs.Header.{header_of};
+ghost use Rattle.elf_definition.specs.Segments.{live, IsApart as IsApartFrom};
+ghost use Rattle.elf_definition.specs.Area.{area};
+ghost use Rattle.elf_definition.specs.Fault.{elf_fault, IsRunsOf};
+ghost use Rattle.elf_reader.specs.Answer.{IsSound};
+ghost use Rattle.elf_definition.specs.ImageFault.{size_fault, pages_fault, data_fault, layout_fault, float_fault, image_fault};
 ghost use Rattle.elf_image.specs.Answer.{IsAnswer, IsAnswerTo};
 
 use crate::checks::{check_data, check_float, check_layout, check_pages, check_sizes};
@@ -13,8 +14,8 @@ use crate::guest_image::Image;
 use crate::image_error::ImageError;
 use crate::layout::Layout;
 use crate::page_table::PageTable;
+use elf_definition::ImageFault;
 use elf_reader::{Elf, Segment};
-use nv_faults::ImageFault;
 use std::alloc::Global;
 
 /// The memory and code with which the program of an accepted ELF file starts, given `heap` pages of heap and `stack` pages of

@@ -1,9 +1,9 @@
 //! Marks of pages, from page 0 to the last one of the segments.
 ghost use Rattle.std.specs.Prelude.{◌≡◌, ℕ, ◌<◌, ◌≤◌, ◌==◌, false, ◌&&◌, ◌||◌, All, length, slice_index, IfOk};
-ghost use Rattle.elf_reader.specs.Fault.{IsSound};
-ghost use Rattle.elf_reader.specs.Segments.{segment_end, is_writable};
-ghost use Rattle.elf_reader.specs.declared.segment.Segment.{Segment};
-ghost use Rattle.elf_image.specs.Pages.{is_on_page, page_behind, heap_page, is_segment_page, is_data_page, count_below};
+ghost use Rattle.elf_reader.specs.Answer.{IsSound};
+ghost use Rattle.elf_definition.specs.Segments.{segment_end, is_writable};
+ghost use Rattle.elf_definition.specs.declared.segment.Segment.{Segment};
+ghost use Rattle.elf_definition.specs.Pages.{is_on_page, page_behind, heap_page, is_segment_page, is_data_page, count_below};
 ghost use Rattle.elf_image.specs.PageTable.{marked, number_of};
 
 use crate::pages::{heap_page, is_on_page, page_behind};
@@ -25,7 +25,7 @@ pub fn is_marked(marks: &[bool], page: u32) -> bool
     marks.get(page as usize).copied().unwrap_or(false)
 }
 
-/// Marks a page, where it is `on`.
+/// Marks a page, if it is `on`.
 pub fn mark(marks: &mut [bool], page: u32, on: bool)
     requires { page < length marks.old }
     ensures len { length marks.new ≡ length marks.old }

@@ -1,7 +1,7 @@
 ghost use Rattle.std.specs.Prelude.{◌≡◌, ℕ, ◌+◌, ◌*◌, ◌%◌, ◌^◌, ◌<◌, ◌≤◌, ◌==◌, not, All, length, slice_index, is_some, IfOk, IfSome};
-ghost use Rattle.elf_reader.specs.Fault.{IsSound};
-ghost use Rattle.elf_reader.specs.Header.{order_of};
-ghost use Rattle.elf_image.specs.Content.{stored_byte, stored_word, code_word, is_filled_page};
+ghost use Rattle.elf_reader.specs.Answer.{IsSound};
+ghost use Rattle.elf_definition.specs.Header.{order_of};
+ghost use Rattle.elf_definition.specs.Content.{stored_byte, stored_word, stored_code_word, is_filled_page};
 ghost use Rattle.elf_image.specs.PageTable.{marked, table_word, table_byte};
 
 use crate::contents::Contents;
@@ -71,7 +71,7 @@ impl PageTable {
         self.index.get(page as usize).copied().unwrap_or(0)
     }
 
-    /// The k-th word, which stands at address 4 k.
+    /// The k-th word, which is at address 4 k.
     #[tactic(auto, unfolding(crate::specs::PageTable::table_word))]
     fn word(&self, k: u64) -> u32
         ensures { result ≡ table_word self.now.index.items self.now.stored.items k }
@@ -88,10 +88,10 @@ impl PageTable {
     }
 
     /// The instruction word at an address that is a multiple of 4, in the file's order.
-    #[tactic(auto, unfolding(crate::specs::Content::code_word))]
+    #[tactic(auto, unfolding(elf_definition::specs::Content::stored_code_word))]
     pub fn code_word(&self, at: u64) -> u32
         requires { at % 4 ≡ 0 }
-        ensures { result ≡ code_word self.now.file.bytes self.now.segments.value.items at }
+        ensures { result ≡ stored_code_word self.now.file.bytes self.now.segments.value.items at }
     {
         word_of_lanes(self.order, self.word(at / 4))
     }

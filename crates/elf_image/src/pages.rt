@@ -1,8 +1,8 @@
 //! The pages that segments lie on.
 ghost use Rattle.std.specs.Prelude.{◌≡◌, ◌≤◌, All};
-ghost use Rattle.elf_image.specs.Pages.{is_on_page, page_behind, heap_page};
-ghost use Rattle.elf_reader.specs.Segments.{segment_end};
-ghost use Rattle.elf_reader.specs.declared.segment.Segment.{Segment};
+ghost use Rattle.elf_definition.specs.Pages.{is_on_page, page_behind, heap_page};
+ghost use Rattle.elf_definition.specs.Segments.{segment_end};
+ghost use Rattle.elf_definition.specs.declared.segment.Segment.{Segment};
 
 use elf_reader::Segment;
 
@@ -19,7 +19,7 @@ pub fn is_on_page(segment: &Segment, page: u32) -> bool
 }
 
 /// The first page past the highest segment.
-#[tactic(auto, unfolding(crate::specs::Pages::heap_page))]
+#[tactic(auto, unfolding(elf_definition::specs::Pages::heap_page))]
 pub fn heap_page(segments: &[Segment]) -> u32
     requires low { All (λ (s : Segment). segment_end s ≤ 0x7F00_0000) segments.now }
     ensures page { result ≡ heap_page segments.now }

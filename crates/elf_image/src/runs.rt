@@ -1,5 +1,5 @@
 ghost use Rattle.std.specs.Prelude.{◌≡◌, ℕ, Bool};
-ghost use Rattle.elf_reader.specs.Fault.{IsRunsOf};
+ghost use Rattle.elf_definition.specs.Fault.{IsRunsOf};
 
 use elf_reader::Range;
 

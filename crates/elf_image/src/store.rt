@@ -1,7 +1,7 @@
 //! The words of the pages that hold a byte that is not 0.
 ghost use Rattle.std.specs.Prelude.{◌≡◌, ℕ, ◌+◌, ◌-◌, ◌*◌, ◌/◌, ◌<◌, ◌≤◌, ◌==◌, nat_le, nat_lt, ◌&&◌, if◌then◌else◌, All, length, slice_index, IfOk};
-ghost use Rattle.elf_reader.specs.Fault.{IsSound};
-ghost use Rattle.elf_image.specs.Content.{is_in_file_part, file_byte, stored_byte};
+ghost use Rattle.elf_reader.specs.Answer.{IsSound};
+ghost use Rattle.elf_definition.specs.Content.{is_in_file_part, file_byte, stored_byte};
 ghost use Rattle.elf_image.specs.PageTable.{byte_in, table_byte};
 
 use crate::filled::{first_on_page, page_behind_data, piece};
@@ -20,7 +20,7 @@ fn put_byte(words: &mut [u32], at: usize, byte: u8)
     words[place] = with_lane(words[place], (at % 4) as u32, byte);
 }
 
-/// Puts bytes at a place of words, one behind the other.
+/// Puts bytes at a place of words, one after the other.
 fn put_bytes(words: &mut [u32], first: usize, bytes: &[u8])
     requires { first + length bytes.now ≤ 4 * length words.old }
     ensures len { length words.new ≡ length words.old }

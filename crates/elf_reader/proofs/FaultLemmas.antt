@@ -4,21 +4,22 @@ use Rattle.std.specs.List.{All, list_any, position_from}
 use Rattle.std.proofs.lemmas.Bool.{cases_Bool}
 use Rattle.std.proofs.lemmas.Bool.Decides.{nat_tests}
 use Rattle.std.proofs.lemmas.Iterator.Adapters.{position_from-zero}
-use Rattle.nv_faults.specs.declared.elf_fault.ElfFault.{ElfFault}
-use Rattle.elf_reader.specs.declared.program_header.ProgramHeader.{ProgramHeader}
-use Rattle.elf_reader.specs.declared.segment.Segment.{Segment}
-use Rattle.elf_reader.specs.Check.{fails_at, first_fault}
-use Rattle.elf_reader.specs.declared.section_header.SectionHeader.{SectionHeader}
-use Rattle.elf_reader.specs.declared.range.Range.{Range}
-use Rattle.elf_reader.specs.Area.{area, area_fault, code_ranges, has_address, ranges_of, section_range, segment_range, range_end}
-use Rattle.elf_reader.specs.Sections.{has_sections, section_headers, is_code, holds_section, is_code_outside, is_code_unaligned, section_fault, section_table_fault}
+use Rattle.elf_definition.specs.declared.elf_fault.ElfFault.{ElfFault}
+use Rattle.elf_definition.specs.declared.program_header.ProgramHeader.{ProgramHeader}
+use Rattle.elf_definition.specs.declared.segment.Segment.{Segment}
+use Rattle.elf_definition.specs.Check.{fails_at, first_fault}
+use Rattle.elf_definition.specs.declared.section_header.SectionHeader.{SectionHeader}
+use Rattle.elf_definition.specs.declared.range.Range.{Range}
+use Rattle.elf_definition.specs.Area.{area, area_fault, code_ranges, has_address, ranges_of, section_range, segment_range, range_end}
+use Rattle.elf_definition.specs.Sections.{has_sections, section_headers, is_code, holds_section, is_code_outside, is_code_unaligned, section_fault, section_table_fault}
 use Rattle.std.proofs.lemmas.List.Folds.{Any-from_list_any}
-use Rattle.elf_reader.specs.Fault.{IsSound, IsAnswer, IsRunsOf}
-use Rattle.elf_reader.specs.Header.{header_of}
-use Rattle.elf_reader.specs.declared.elf_header.ElfHeader.{ElfHeader}
+use Rattle.elf_reader.specs.Answer.{IsSound, IsAnswer}
+use Rattle.elf_definition.specs.Fault.{IsRunsOf}
+use Rattle.elf_definition.specs.Header.{header_of}
+use Rattle.elf_definition.specs.declared.elf_header.ElfHeader.{ElfHeader}
 use Rattle.elf_reader.specs.declared.elf_error.ElfError.{ElfError}
 use Rattle.std.specs.Option.{option_or}
-use Rattle.elf_reader.specs.Segments.{live, file_end, is_executable, is_live, is_dynamic, is_writable_text, overlap_from, is_outside, is_oversized, is_too_high, segment_fault}
+use Rattle.elf_definition.specs.Segments.{live, file_end, is_executable, is_live, is_dynamic, is_writable_text, overlap_from, is_outside, is_oversized, is_too_high, segment_fault}
 
 -- where no check of a list fails, none does
 pub first_none : (check : Option ElfFault) (checks : List (Option ElfFault)) → first_fault (check ∷ checks) ≡ None

@@ -5,8 +5,8 @@ use Rattle.std.proofs.lemmas.Bool.Decides.{nat_tests}
 use Rattle.std.proofs.lemmas.List.Sums.{sum_by-take-drop, sum_by-drop_more}
 use Rattle.std.proofs.lemmas.List.{at_drop_more}
 use Rattle.std.proofs.lemmas.List.Sorted.{sum_by-IsPermutation}
-use Rattle.elf_reader.specs.declared.program_header.ProgramHeader.{ProgramHeader}
-use Rattle.elf_reader.specs.Segments.{is_live, segment_end, overlap, overlap_from}
+use Rattle.elf_definition.specs.declared.program_header.ProgramHeader.{ProgramHeader}
+use Rattle.elf_definition.specs.Segments.{is_live, segment_end, overlap, overlap_from}
 use Rattle.elf_reader.proofs.CountLemmas.{count_by-cons, one, nothing}
 use Rattle.std.proofs.lemmas.Bool.{cases_Bool}
 

@@ -4,12 +4,12 @@ use Rattle.std.specs.List.{list_any, All}
 use Rattle.std.proofs.lemmas.Bool.{cases_Bool, cases_lt}
 use Rattle.std.proofs.lemmas.Bool.Decides.{nat_tests}
 use Rattle.std.proofs.lemmas.List.Elements.{All-filter}
-use Rattle.elf_reader.specs.declared.range.Range.{Range}
-use Rattle.elf_reader.specs.declared.segment.Segment.{Segment}
+use Rattle.elf_definition.specs.declared.range.Range.{Range}
+use Rattle.elf_definition.specs.declared.segment.Segment.{Segment}
 use Rattle.elf_reader.specs.declared.span.Span.{Span}
-use Rattle.elf_reader.specs.Area.{range_is_on_page, data_is_on_page, is_shared_page}
-use Rattle.elf_reader.specs.Check.{least_below, meet}
-use Rattle.elf_reader.specs.Segments.{is_writable, segment_end}
+use Rattle.elf_definition.specs.Area.{range_is_on_page, data_is_on_page, is_shared_page}
+use Rattle.elf_definition.specs.Check.{least_below, meet}
+use Rattle.elf_definition.specs.Segments.{is_writable, segment_end}
 use Rattle.elf_reader.specs.Spans.{are_within, AreFilled, IsLeastFrom, page_span}
 
 -- the pages of segments with bytes in memory

@@ -6,17 +6,18 @@ use Rattle.std.proofs.lemmas.Bool.{cases_Bool}
 use Rattle.std.proofs.lemmas.Bool.Decides.{nat_tests}
 use Rattle.std.proofs.lemmas.List.Kept.{AllPairs-cons}
 use Rattle.std.proofs.lemmas.List.Folds.{Any-from_list_any, list_any_at}
-use Rattle.nv_faults.specs.declared.elf_fault.ElfFault.{ElfFault}
-use Rattle.elf_reader.specs.declared.program_header.ProgramHeader.{ProgramHeader}
-use Rattle.elf_reader.specs.declared.section_header.SectionHeader.{SectionHeader}
-use Rattle.elf_reader.specs.declared.segment.Segment.{Segment}
-use Rattle.elf_reader.specs.declared.range.Range.{Range}
-use Rattle.elf_reader.specs.Check.{fails_at, first_fault}
-use Rattle.elf_reader.specs.Header.{header_of}
-use Rattle.elf_reader.specs.Segments.{live, file_end, is_executable, is_live, is_dynamic, is_outside, is_oversized, is_too_high, is_writable_text, overlap, overlap_from, segment_fault, IsApart}
-use Rattle.elf_reader.specs.Sections.{has_sections, section_headers, is_code, holds_section, is_code_outside, is_code_unaligned, section_fault, section_table_fault}
-use Rattle.elf_reader.specs.Area.{area, code_ranges, ranges_of, section_range, segment_range, range_end, has_address, is_in_text}
-use Rattle.elf_reader.specs.Fault.{IsSound, IsRunsOf}
+use Rattle.elf_definition.specs.declared.elf_fault.ElfFault.{ElfFault}
+use Rattle.elf_definition.specs.declared.program_header.ProgramHeader.{ProgramHeader}
+use Rattle.elf_definition.specs.declared.section_header.SectionHeader.{SectionHeader}
+use Rattle.elf_definition.specs.declared.segment.Segment.{Segment}
+use Rattle.elf_definition.specs.declared.range.Range.{Range}
+use Rattle.elf_definition.specs.Check.{fails_at, first_fault}
+use Rattle.elf_definition.specs.Header.{header_of}
+use Rattle.elf_definition.specs.Segments.{live, file_end, is_executable, is_live, is_dynamic, is_outside, is_oversized, is_too_high, is_writable_text, overlap, overlap_from, segment_fault, IsApart}
+use Rattle.elf_definition.specs.Sections.{has_sections, section_headers, is_code, holds_section, is_code_outside, is_code_unaligned, section_fault, section_table_fault}
+use Rattle.elf_definition.specs.Area.{area, code_ranges, ranges_of, section_range, segment_range, range_end, has_address, is_in_text}
+use Rattle.elf_reader.specs.Answer.{IsSound}
+use Rattle.elf_definition.specs.Fault.{IsRunsOf}
 use Rattle.elf_reader.proofs.FaultLemmas.{first_none, fails_at_none, position_none_all, kept_map, segment_nones}
 
 pub or_parts : (a b : Option ElfFault) → option_or a b ≡ None → (a ≡ None) × (b ≡ None)

@@ -8,9 +8,9 @@ use Rattle.std.proofs.lemmas.List.{at_drop_more, at_drop_all, get_or_default}
 use Rattle.std.proofs.lemmas.List.Elements.{All-filter, filter_passes}
 use Rattle.std.proofs.lemmas.List.Sorted.{All-permutation, list_any-IsPermutation}
 use Rattle.std.proofs.lemmas.List.Folds.{list_any_at}
-use Rattle.elf_reader.specs.declared.range.Range.{Range}
-use Rattle.elf_reader.specs.Area.{range_end, has_address}
-use Rattle.elf_reader.specs.Fault.{IsRunsOf}
+use Rattle.elf_definition.specs.declared.range.Range.{Range}
+use Rattle.elf_definition.specs.Area.{range_end, has_address}
+use Rattle.elf_definition.specs.Fault.{IsRunsOf}
 
 -- two ranges as one
 abbrev pub join : Range → Range → Range

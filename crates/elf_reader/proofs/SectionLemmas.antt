@@ -3,11 +3,11 @@ use Rattle.std.proofs.Common.{◌≡◌, ℕ, ◌+◌, ◌<◌, Bool, true, fals
 use Rattle.std.specs.List.{list_any}
 use Rattle.std.proofs.lemmas.Bool.{cases_Bool}
 use Rattle.std.proofs.lemmas.Bool.Decides.{nat_tests}
-use Rattle.elf_reader.specs.declared.segment.Segment.{Segment}
-use Rattle.elf_reader.specs.declared.section_header.SectionHeader.{SectionHeader}
+use Rattle.elf_definition.specs.declared.segment.Segment.{Segment}
+use Rattle.elf_definition.specs.declared.section_header.SectionHeader.{SectionHeader}
 use Rattle.elf_reader.specs.declared.span.Span.{Span}
-use Rattle.elf_reader.specs.Segments.{is_executable, file_end}
-use Rattle.elf_reader.specs.Sections.{is_code, holds_section, is_code_outside}
+use Rattle.elf_definition.specs.Segments.{is_executable, file_end}
+use Rattle.elf_definition.specs.Sections.{is_code, holds_section, is_code_outside}
 use Rattle.elf_reader.specs.Spans.{are_within, text_span}
 
 -- the spans of the executable segments tell whether one of these holds the section

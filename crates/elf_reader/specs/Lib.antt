@@ -1,7 +1,2 @@
-pub mod Check
-pub mod Header
-pub mod Segments
 pub mod Spans
-pub mod Sections
-pub mod Area
-pub mod Fault
+pub mod Answer

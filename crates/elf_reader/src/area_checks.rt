@@ -1,25 +1,23 @@
 //! The checks of the code area.
 ghost use Rattle.std.specs.Prelude.{◌≡◌, ℕ, ◌+◌, ◌^◌, ◌<◌, ◌≤◌, ◌&&◌, ◌==◌, length, map, filter, All, IfOk, IfSome};
 ghost use Rattle.std.specs.List.{list_any, list_all};
-ghost use Rattle.elf_reader.specs.Area.{range_end, range_is_on_page, is_shared_page, area_fault, page_count};
-ghost use Rattle.elf_reader.specs.Check.{least_below};
-ghost use Rattle.elf_reader.specs.Segments.{is_writable};
+ghost use Rattle.elf_definition.specs.Area.{range_end, range_is_on_page, is_shared_page, area_fault, page_count};
+ghost use Rattle.elf_definition.specs.Check.{least_below};
+ghost use Rattle.elf_definition.specs.Segments.{is_writable};
 ghost use Rattle.elf_reader.specs.Spans.{are_within, AreRising, AreFilled, IsLeastFrom, lesser, page_span};
-ghost use Rattle.elf_reader.specs.declared.range.Range.{Range};
-ghost use Rattle.elf_reader.specs.declared.segment.Segment.{Segment};
+ghost use Rattle.elf_definition.specs.declared.range.Range.{Range};
+ghost use Rattle.elf_definition.specs.declared.segment.Segment.{Segment};
 
 use crate::fault::{fault_at, fault_when};
-use crate::range::Range;
 use crate::reach::{next_within, rising};
-use crate::segment::Segment;
 use crate::span::Span;
-use nv_faults::ElfFault;
+use elf_definition::{ElfFault, Range, Segment};
 use std::alloc::{AllocError, Global};
 
 /// The first of the checks of the code area, beside the live segments.
 ///
 /// The writable segments are sorted by their pages, and each range of code looks for the next such page.
-#[tactic(auto, unfolding(crate::specs::Area::area_fault))]
+#[tactic(auto, unfolding(elf_definition::specs::Area::area_fault))]
 pub fn check_area(
     alloc: Global,
     ranges: &[Range],

@@ -2,17 +2,14 @@
 ghost use Rattle.std.specs.Prelude.{◌≡◌, ℕ, ◌*◌, ◌%◌, ◌^◌, ◌≤◌, nat_lt, length, map, filter, All, IfOk, IsPermutation};
 ghost use Rattle.std.specs.List.{list_any};
 ghost use Rattle.std.specs.List.Sorted.{IsNonDecreasingBy};
-ghost use Rattle.elf_reader.specs.Area.{ranges_of, section_range, segment_range, range_end, has_address};
-ghost use Rattle.elf_reader.specs.Fault.{IsRunsOf};
-ghost use Rattle.elf_reader.specs.Segments.{file_end, is_executable};
-ghost use Rattle.elf_reader.specs.Sections.{has_sections, is_code};
-ghost use Rattle.elf_reader.specs.declared.range.Range.{Range};
-ghost use Rattle.elf_reader.specs.declared.segment.Segment.{Segment};
+ghost use Rattle.elf_definition.specs.Area.{ranges_of, section_range, segment_range, range_end, has_address};
+ghost use Rattle.elf_definition.specs.Fault.{IsRunsOf};
+ghost use Rattle.elf_definition.specs.Segments.{file_end, is_executable};
+ghost use Rattle.elf_definition.specs.Sections.{has_sections, is_code};
+ghost use Rattle.elf_definition.specs.declared.range.Range.{Range};
+ghost use Rattle.elf_definition.specs.declared.segment.Segment.{Segment};
 
-use crate::elf_header::ElfHeader;
-use crate::range::Range;
-use crate::section_header::SectionHeader;
-use crate::segment::Segment;
+use elf_definition::{ElfHeader, Range, SectionHeader, Segment};
 use std::alloc::{AllocError, Global};
 
 /// The words of each code section, or, without sections, of each executable segment; not sorted, and some may be empty.

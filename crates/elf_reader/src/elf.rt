@@ -1,26 +1,24 @@
 ghost use Rattle.std.specs.Prelude.{true, ℕ, AllPairs, ◌≡◌, [], ◌∷◌, ◌+◌, ◌*◌, ◌≤◌, All, length, IfOk, IfErr, OnOk};
-ghost use Rattle.elf_reader.specs.Area.{area, code_ranges, ranges_of, area_fault, has_address, range_end, is_in_text};
-ghost use Rattle.elf_reader.specs.Check.{first_fault};
-ghost use Rattle.elf_reader.specs.Fault.{elf_fault, IsAnswer, IsSound, IsRunsOf};
-ghost use Rattle.elf_reader.specs.Header.{order_of, header_of, identity_fault, program_table_fault};
-ghost use Rattle.elf_reader.specs.Sections.{has_sections, section_headers, section_table_fault, section_fault};
-ghost use Rattle.elf_reader.specs.Segments.{program_headers, live, file_end, segment_fault, IsApart};
-ghost use Rattle.elf_reader.specs.declared.range.Range.{Range};
-ghost use Rattle.elf_reader.specs.declared.segment.Segment.{Segment};
+ghost use Rattle.elf_definition.specs.Area.{area, code_ranges, ranges_of, area_fault, has_address, range_end, is_in_text};
+ghost use Rattle.elf_definition.specs.Check.{first_fault};
+ghost use Rattle.elf_definition.specs.Fault.{elf_fault, IsRunsOf};
+ghost use Rattle.elf_reader.specs.Answer.{IsAnswer, IsSound};
+ghost use Rattle.elf_definition.specs.Header.{order_of, header_of, identity_fault, program_table_fault};
+ghost use Rattle.elf_definition.specs.Sections.{has_sections, section_headers, section_table_fault, section_fault};
+ghost use Rattle.elf_definition.specs.Segments.{program_headers, live, file_end, segment_fault, IsApart};
+ghost use Rattle.elf_definition.specs.declared.range.Range.{Range};
+ghost use Rattle.elf_definition.specs.declared.segment.Segment.{Segment};
 ghost use Rattle.std.specs.List.{list_any};
 
 use crate::area_checks::check_area;
 use crate::code_area::{code_ranges, runs};
 use crate::elf_error::ElfError;
-use crate::elf_header::ElfHeader;
 use crate::fields::order_of;
 use crate::header_checks::{check_identity, check_program_table};
-use crate::range::Range;
+use crate::headers::header_at_start;
 use crate::section_checks::{check_section_table, check_sections, read_section_headers};
-use crate::section_header::SectionHeader;
-use crate::segment::Segment;
 use crate::segment_checks::{check_segments, live_segments, read_program_headers};
-use nv_faults::ElfFault;
+use elf_definition::{ElfFault, ElfHeader, Range, SectionHeader, Segment};
 use nv_words::Order;
 use std::alloc::Global;
 
@@ -46,7 +44,7 @@ pub struct Elf<'a> {
 ///
 /// # Errors
 /// `Refused` with the first of the 22 checks that the file fails; `NoMemory` where there is no memory for its tables.
-#[tactic(auto, unfolding(crate::specs::Fault::elf_fault))]
+#[tactic(auto, unfolding(elf_definition::specs::Fault::elf_fault))]
 pub fn read_elf(alloc: Global, b: &[u8]) -> Result<Elf<'_>, ElfError>
     ensures refused { IfErr result (IsAnswer (elf_fault b.now)) }
     ensures accepted { OnOk result (elf_fault b.now ≡ None) }
@@ -76,7 +74,7 @@ pub fn read_elf(alloc: Global, b: &[u8]) -> Result<Elf<'_>, ElfError>
     })
 }
 
-/// Reads the header, with the checks up to where the program header table stands.
+/// Reads the header, with the checks up to where the program header table is.
 fn read_header(b: &[u8]) -> Result<ElfHeader, ElfError>
     ensures refused { IfErr result
         (IsAnswer (first_fault (identity_fault b.now ∷ program_table_fault b.now ∷ []))) }
@@ -87,7 +85,7 @@ fn read_header(b: &[u8]) -> Result<ElfHeader, ElfError>
     ensures there { IfOk result (λ header. header.e_phoff + 32 * header.e_phnum ≤ length b.now) }
 {
     refuse(check_identity(b))?;
-    let header = ElfHeader::read(b);
+    let header = header_at_start(b);
     refuse(check_program_table(b, header))?;
     Ok(header)
 }

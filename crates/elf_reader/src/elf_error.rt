@@ -1,7 +1,7 @@
 ghost use Rattle.std.specs.Prelude.{◌≡◌};
 ghost use Rattle.elf_reader.specs.declared.elf_error.ElfError.TheVariants.{NoMemory};
 
-use nv_faults::ElfFault;
+use elf_definition::ElfFault;
 use std::alloc::AllocError;
 use thiserror::Error;
 

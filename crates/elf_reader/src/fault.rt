@@ -1,10 +1,10 @@
-//! One check of a file: its fault, where it fails.
+//! One check of a file: its fault, if it fails.
 ghost use Rattle.std.specs.Prelude.{◌≡◌, ◌^◌, ◌<◌, IfSome};
-ghost use Rattle.elf_reader.specs.Check.{fails, fails_at};
+ghost use Rattle.elf_definition.specs.Check.{fails, fails_at};
 
-use nv_faults::ElfFault;
+use elf_definition::ElfFault;
 
-/// The fault of a check that names no header, where it fails.
+/// The fault of a check that names no header, if it fails.
 pub fn fault_when(kind: u32, failed: bool) -> Option<ElfFault>
     ensures { result ≡ fails kind failed }
 {

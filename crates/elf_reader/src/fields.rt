@@ -1,12 +1,12 @@
 //! Numbers in a part of the file that is known to be there, in the order that the file names.
 ghost use Rattle.std.specs.Prelude.{◌≡◌, ◌+◌, ◌≤◌, length};
-ghost use Rattle.elf_reader.specs.Header.{order_of, half, word};
+ghost use Rattle.elf_definition.specs.Header.{order_of, half, word};
 
-use crate::abi::ELFDATA2LSB;
+use elf_definition::abi::ELFDATA2LSB;
 use nv_words::{Order, half_in, word_in};
 
 /// The order of the numbers of a file, which `e_ident[EI_DATA]` names.
-#[tactic(auto, unfolding(crate::specs::Header::order_of))]
+#[tactic(auto, unfolding(elf_definition::specs::Header::order_of))]
 pub fn order_of(b: &[u8]) -> Order
     ensures { result ≡ order_of b.now }
 {

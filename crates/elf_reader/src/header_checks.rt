@@ -1,15 +1,14 @@
 //! The checks of the ELF header (System V ABI, "ELF Header").
 ghost use Rattle.std.specs.Prelude.{◌≡◌, ◌≤◌, ◌+◌, ◌*◌, IfNone, length};
-ghost use Rattle.elf_reader.specs.Header.{has_magic, header_of, identity_fault, program_table_fault};
+ghost use Rattle.elf_definition.specs.Header.{has_magic, header_of, identity_fault, program_table_fault};
 
-use crate::abi::{ELFCLASS32, ELFDATA2LSB, ELFDATA2MSB, EM_MIPS, ET_EXEC, EV_CURRENT};
-use crate::elf_header::ElfHeader;
 use crate::fault::fault_when;
-use crate::program_header::ProgramHeader;
-use nv_faults::ElfFault;
+use crate::headers::header_at_start;
+use elf_definition::abi::{ELFCLASS32, ELFDATA2LSB, ELFDATA2MSB, EM_MIPS, ET_EXEC, EV_CURRENT};
+use elf_definition::{ElfFault, ElfHeader, ProgramHeader};
 
 /// The first of the checks of what kind of file it is: a 32-bit executable for MIPS, in one of the two orders of bytes.
-#[tactic(auto, unfolding(crate::specs::Header::identity_fault))]
+#[tactic(auto, unfolding(elf_definition::specs::Header::identity_fault))]
 pub fn check_identity(b: &[u8]) -> Option<ElfFault>
     ensures first { result ≡ identity_fault b.now }
     ensures has_header { IfNone result (52 ≤ length b.now) }
@@ -20,7 +19,7 @@ pub fn check_identity(b: &[u8]) -> Option<ElfFault>
     if !has_magic(b) {
         return fault_when(ElfFault::BAD_MAGIC, true);
     }
-    let header = ElfHeader::read(b);
+    let header = header_at_start(b);
     if header.ei_class != ELFCLASS32 {
         return fault_when(ElfFault::NOT_CLASS_32, true);
     }
@@ -44,8 +43,8 @@ pub fn has_magic(b: &[u8]) -> bool
     b[0] == 0x7F && b[1] == b'E' && b[2] == b'L' && b[3] == b'F'
 }
 
-/// The first of the checks of where the program header table stands.
-#[tactic(auto, unfolding(crate::specs::Header::program_table_fault))]
+/// The first of the checks of where the program header table is.
+#[tactic(auto, unfolding(elf_definition::specs::Header::program_table_fault))]
 pub fn check_program_table(b: &[u8], header: ElfHeader) -> Option<ElfFault>
     requires { header ≡ header_of b.now }
     ensures first { result ≡ program_table_fault b.now }

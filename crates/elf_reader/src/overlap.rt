@@ -1,18 +1,17 @@
 //! Whether live segments share an address.
 ghost use Rattle.std.specs.Prelude.{◌≡◌, ℕ, ◌+◌, ◌<◌, ◌≤◌, IsTrue, nat_lt, nat_le, length, map, filter, count_by, position, IfOk, IfSome, IsPermutation};
 ghost use Rattle.std.specs.List.Sorted.{IsNonDecreasing};
-ghost use Rattle.elf_reader.specs.Segments.{is_live, segment_end, overlap, overlap_from};
-ghost use Rattle.elf_reader.specs.declared.program_header.ProgramHeader.{ProgramHeader};
+ghost use Rattle.elf_definition.specs.Segments.{is_live, segment_end, overlap, overlap_from};
+ghost use Rattle.elf_definition.specs.declared.program_header.ProgramHeader.{ProgramHeader};
 
-use crate::program_header::ProgramHeader;
-use nv_faults::ElfFault;
+use elf_definition::{ElfFault, ProgramHeader};
 use std::alloc::{AllocError, Global};
 
 /// The first live segment that shares an address with a later one, and the first of those.
 ///
-/// A segment is compared with those behind it only where the sorted ends of all show that it meets another one, so the time is
+/// A segment is compared with those after it only if the sorted ends of all show that it meets another one, so the time is
 /// that of sorting: 0.03 seconds for a whole file of 65,535 headers of either kind.
-#[tactic(auto, unfolding(crate::specs::Segments::overlap_from))]
+#[tactic(auto, unfolding(elf_definition::specs::Segments::overlap_from))]
 pub fn check_overlap(
     alloc: Global,
     headers: &[ProgramHeader],
@@ -101,7 +100,7 @@ fn sorted_firsts(alloc: Global, headers: &[ProgramHeader]) -> Result<Vec<u64>, A
     Ok(firsts)
 }
 
-/// The first addresses behind the live segments, in rising order.
+/// The first addresses after the live segments, in rising order.
 fn sorted_ends(alloc: Global, headers: &[ProgramHeader]) -> Result<Vec<u64>, AllocError>
     ensures rise { IfOk result (λ v. IsNonDecreasing v.items) }
     ensures same { IfOk result (λ v.
@@ -125,7 +124,7 @@ fn live_firsts(alloc: Global, headers: &[ProgramHeader]) -> Result<Vec<u64>, All
         .collect(alloc)
 }
 
-/// The first addresses behind the live segments.
+/// The first addresses after the live segments.
 fn live_ends(alloc: Global, headers: &[ProgramHeader]) -> Result<Vec<u64>, AllocError>
     ensures { IfOk result (λ v.
         v.items ≡ map (λ (h : ProgramHeader). segment_end h.segment) (filter is_live headers.now)) }

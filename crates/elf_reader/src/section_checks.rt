@@ -1,22 +1,20 @@
 //! The section header table and its checks (System V ABI, "Sections").
 ghost use Rattle.std.specs.Prelude.{◌≡◌, ℕ, ◌+◌, ◌*◌, ◌<◌, ◌≤◌, length, map, filter, position, not, ◌&&◌, IfOk, IfNone, IfSome, IsTrue};
-ghost use Rattle.elf_reader.specs.Header.{header_of};
-ghost use Rattle.elf_reader.specs.Sections.{has_sections, section_headers, section_table_fault, section_fault, is_code, is_code_outside, is_code_unaligned};
-ghost use Rattle.elf_reader.specs.Segments.{is_executable};
+ghost use Rattle.elf_definition.specs.Header.{header_of};
+ghost use Rattle.elf_definition.specs.Sections.{has_sections, section_headers, section_table_fault, section_fault, is_code, is_code_outside, is_code_unaligned};
+ghost use Rattle.elf_definition.specs.Segments.{is_executable};
 ghost use Rattle.elf_reader.specs.Spans.{are_within, AreRising, text_span};
-ghost use Rattle.elf_reader.specs.declared.section_header.SectionHeader.{SectionHeader};
+ghost use Rattle.elf_definition.specs.declared.section_header.SectionHeader.{SectionHeader};
 
-use crate::elf_header::ElfHeader;
 use crate::fault::{fault_at, fault_when};
+use crate::headers::section_header_at;
 use crate::reach::{are_within, rising};
-use crate::section_header::SectionHeader;
-use crate::segment::Segment;
 use crate::span::Span;
-use nv_faults::ElfFault;
+use elf_definition::{ElfFault, ElfHeader, SectionHeader, Segment};
 use std::alloc::{AllocError, Global};
 
-/// The first of the checks of where the section header table stands.
-#[tactic(auto, unfolding(crate::specs::Sections::section_table_fault))]
+/// The first of the checks of where the section header table is.
+#[tactic(auto, unfolding(elf_definition::specs::Sections::section_table_fault))]
 pub fn check_section_table(b: &[u8], header: ElfHeader) -> Option<ElfFault>
     requires { header ≡ header_of b.now }
     ensures first { result ≡ section_table_fault b.now }
@@ -34,7 +32,7 @@ pub fn check_section_table(b: &[u8], header: ElfHeader) -> Option<ElfFault>
 }
 
 /// Reads the section header table, which lies in the file where there is one.
-#[tactic(auto, unfolding(crate::specs::Sections::section_headers))]
+#[tactic(auto, unfolding(elf_definition::specs::Sections::section_headers))]
 pub fn read_section_headers(
     alloc: Global,
     b: &[u8],
@@ -51,7 +49,7 @@ pub fn read_section_headers(
         return Ok(sections);
     }
     for i in 0..header.e_shnum {
-        sections.push(SectionHeader::read(b, header, i))?;
+        sections.push(section_header_at(b, header, i))?;
     }
     Ok(sections)
 }
@@ -91,7 +89,7 @@ fn executable_spans(alloc: Global, segments: &[Segment]) -> Result<Vec<Span>, Al
 /// The first of the checks of the section headers, beside the live segments.
 ///
 /// Each code section is looked up among the sorted segments, so the time is that of sorting and searching.
-#[tactic(auto, unfolding(crate::specs::Sections::section_fault))]
+#[tactic(auto, unfolding(elf_definition::specs::Sections::section_fault))]
 pub fn check_sections(
     alloc: Global,
     segments: &[Segment],

@@ -1,20 +1,18 @@
 //! The program header table and its checks (System V ABI, "Program Header").
 ghost use Rattle.std.specs.Prelude.{◌≡◌, [], ◌∷◌, ◌+◌, ◌*◌, ◌<◌, ◌≤◌, length, map, filter, position, IfOk, IfSome};
-ghost use Rattle.elf_reader.specs.Check.{fails_at, first_fault};
-ghost use Rattle.elf_reader.specs.Header.{header_of};
-ghost use Rattle.elf_reader.specs.Segments.{program_headers, segment_fault, is_live, is_dynamic, is_outside, is_oversized, is_too_high, is_writable_text};
-ghost use Rattle.elf_reader.specs.declared.program_header.ProgramHeader.{ProgramHeader};
+ghost use Rattle.elf_definition.specs.Check.{fails_at, first_fault};
+ghost use Rattle.elf_definition.specs.Header.{header_of};
+ghost use Rattle.elf_definition.specs.Segments.{program_headers, segment_fault, is_live, is_dynamic, is_outside, is_oversized, is_too_high, is_writable_text};
+ghost use Rattle.elf_definition.specs.declared.program_header.ProgramHeader.{ProgramHeader};
 
-use crate::elf_header::ElfHeader;
 use crate::fault::fault_at;
+use crate::headers::program_header_at;
 use crate::overlap::check_overlap;
-use crate::program_header::ProgramHeader;
-use crate::segment::Segment;
-use nv_faults::ElfFault;
+use elf_definition::{ElfFault, ElfHeader, ProgramHeader, Segment};
 use std::alloc::{AllocError, Global};
 
 /// Reads the program header table, which lies in the file.
-#[tactic(auto, unfolding(crate::specs::Segments::program_headers))]
+#[tactic(auto, unfolding(elf_definition::specs::Segments::program_headers))]
 pub fn read_program_headers(
     alloc: Global,
     b: &[u8],
@@ -27,7 +25,7 @@ pub fn read_program_headers(
 {
     let mut headers = Vec::new(alloc);
     for i in 0..header.e_phnum {
-        headers.push(ProgramHeader::read(b, header, i))?;
+        headers.push(program_header_at(b, header, i))?;
     }
     Ok(headers)
 }
@@ -73,7 +71,7 @@ fn first_writable_text(headers: &[ProgramHeader]) -> Option<usize>
 }
 
 /// The first of the checks of the program headers of a file of `len` bytes.
-#[tactic(auto, unfolding(crate::specs::Segments::segment_fault))]
+#[tactic(auto, unfolding(elf_definition::specs::Segments::segment_fault))]
 pub fn check_segments(
     alloc: Global,
     headers: &[ProgramHeader],

@@ -1,11 +1,11 @@
 -- The length of a written file, and where each part's bytes stand in it.
 use Rattle.std.proofs.Common.{◌≡◌, ℕ, ◌+◌, ◌*◌, List, [], ◌∷◌, length, arith, length-append, refl}
 use Rattle.std.proofs.lemmas.List.{length-replicate}
-use Rattle.elf_writer.specs.declared.part.Part.{Part}
-use Rattle.elf_writer.specs.declared.parts.Parts.{Parts}
-use Rattle.elf_writer.specs.declared.sec.Sec.{Sec}
-use Rattle.elf_writer.specs.Places.{aligned, contents_place, part_end, contents_end, header_count, table_place, table_end, segments_end, file_length}
-use Rattle.elf_writer.specs.File.{padding, elf_header, program_headers, contents, section_headers, section_table, elf_file}
+use Rattle.elf_definition.specs.declared.part.Part.{Part}
+use Rattle.elf_definition.specs.declared.parts.Parts.{Parts}
+use Rattle.elf_definition.specs.declared.sec.Sec.{Sec}
+use Rattle.elf_definition.specs.FilePlaces.{aligned, contents_place, part_end, contents_end, header_count, table_place, table_end, segments_end, file_length}
+use Rattle.elf_definition.specs.File.{padding, elf_header, program_header_table, contents, section_header_table, section_table, elf_file}
 
 pub length-elf_header : (entry table segments headers : ℕ) → length (elf_header entry table segments headers) ≡ 52
 length-elf_header entry table segments headers = refl
@@ -13,7 +13,7 @@ length-elf_header entry table segments headers = refl
 pub length-padding : (at : ℕ) → length (padding at) + at ≡ aligned at
 length-padding at = rw length-replicate (omega arith)
 
-pub length-program_headers : (at : ℕ) (segments : List Part) → length (program_headers at segments) ≡ 32 * length segments
+pub length-program_headers : (at : ℕ) (segments : List Part) → length (program_header_table at segments) ≡ 32 * length segments
 length-program_headers at [] = refl
 length-program_headers at (s ∷ segments) = omega (arith, length-program_headers (part_end at s) segments)
 
@@ -25,7 +25,7 @@ length-contents at (s ∷ segments) =
     (omega (arith, length-padding at, length-contents (part_end at s) segments))
 
 pub length-section_headers : (at : ℕ) (segments : List Part) (sections : List Sec)
-    → length (section_headers at segments sections) ≡ 40 * length sections
+    → length (section_header_table at segments sections) ≡ 40 * length sections
 length-section_headers at segments [] = refl
 length-section_headers at segments (s ∷ sections) = omega (arith, length-section_headers at segments sections)
 

@@ -3,19 +3,19 @@ use Rattle.std.proofs.Common.{◌≡◌, ℕ, suc, ◌+◌, ◌-◌, ◌*◌, �
 use Rattle.std.specs.List.{All, range_with_len}
 use Rattle.std.proofs.lemmas.List.{get_or-append_right, append_assoc}
 use Rattle.std.proofs.lemmas.Bool.{cases_Bool}
-use Rattle.nv_words.specs.Words.{word_of_bytes, word_of_list}
-use Rattle.nv_words.specs.declared.order.Order.{Order}
-use Rattle.nv_words.specs.declared.order.Order.TheVariants.{Big}
+use Rattle.run_definition.specs.Words.{word_of_bytes, word_of_list}
+use Rattle.run_definition.specs.declared.order.Order.{Order}
+use Rattle.run_definition.specs.declared.order.Order.TheVariants.{Big}
 use Rattle.nv_words.proofs.LaneLemmas.{word_of_lanes}
-use Rattle.elf_reader.specs.declared.program_header.ProgramHeader.{ProgramHeader}
-use Rattle.elf_reader.specs.declared.segment.Segment.{Segment}
-use Rattle.elf_reader.specs.Header as read
-use Rattle.elf_reader.specs.Segments.{program_header as header_at, program_headers as headers_of, live, is_live}
-use Rattle.elf_writer.specs.declared.part.Part.{Part}
-use Rattle.elf_writer.specs.declared.parts.Parts.{Parts}
-use Rattle.elf_writer.specs.declared.sec.Sec.{Sec}
-use Rattle.elf_writer.specs.Places.{aligned, part_end, contents_place, contents_end, table_end, segments_end, table_place, header_count}
-use Rattle.elf_writer.specs.File.{elf_header, program_header, program_headers, padding, contents, section_table, elf_file}
+use Rattle.elf_definition.specs.declared.program_header.ProgramHeader.{ProgramHeader}
+use Rattle.elf_definition.specs.declared.segment.Segment.{Segment}
+use Rattle.elf_definition.specs.Header as read
+use Rattle.elf_definition.specs.Segments.{program_header as header_at, program_headers as headers_of, live, is_live}
+use Rattle.elf_definition.specs.declared.part.Part.{Part}
+use Rattle.elf_definition.specs.declared.parts.Parts.{Parts}
+use Rattle.elf_definition.specs.declared.sec.Sec.{Sec}
+use Rattle.elf_definition.specs.FilePlaces.{aligned, part_end, contents_place, contents_end, table_end, segments_end, table_place, header_count}
+use Rattle.elf_definition.specs.File.{elf_header, program_header_bytes, program_header_table, padding, contents, section_table, elf_file}
 use Rattle.elf_writer.specs.ReadBack.{segment_of, part_segments, HasWords, HoldsParts}
 use Rattle.elf_writer.specs.Limits.{IsWritable}
 use Rattle.elf_writer.proofs.PlaceLemmas.{le_contents_end}
@@ -38,11 +38,11 @@ word_in xs ys n k size = four (at 0) (at 1) (at 2) (at 3)
 
 -- the header of a part, read at its place
 header_read : (xs ys : List ℕ) (n offset : ℕ) (s : Part) → length xs ≡ n → offset < 2 ^ 32 → length s.bytes.items < 2 ^ 32 → HasWords s
-    → (word_of_list Big (xs ++ (program_header offset s ++ ys)) n ≡ 1) × (word_of_list Big (xs ++ (program_header offset s ++ ys)) (n + 4) ≡ offset)
-    × (word_of_list Big (xs ++ (program_header offset s ++ ys)) (n + 8) ≡ s.vaddr) × (word_of_list Big (xs ++ (program_header offset s ++ ys)) (n + 16) ≡ length s.bytes.items)
-    × (word_of_list Big (xs ++ (program_header offset s ++ ys)) (n + 20) ≡ s.mem) × (word_of_list Big (xs ++ (program_header offset s ++ ys)) (n + 24) ≡ s.flags)
+    → (word_of_list Big (xs ++ (program_header_bytes offset s ++ ys)) n ≡ 1) × (word_of_list Big (xs ++ (program_header_bytes offset s ++ ys)) (n + 4) ≡ offset)
+    × (word_of_list Big (xs ++ (program_header_bytes offset s ++ ys)) (n + 8) ≡ s.vaddr) × (word_of_list Big (xs ++ (program_header_bytes offset s ++ ys)) (n + 16) ≡ length s.bytes.items)
+    × (word_of_list Big (xs ++ (program_header_bytes offset s ++ ys)) (n + 20) ≡ s.mem) × (word_of_list Big (xs ++ (program_header_bytes offset s ++ ys)) (n + 24) ≡ s.flags)
 header_read xs ys n offset s size small short words =
-    let rest = program_header offset s ++ ys in (
+    let rest = program_header_bytes offset s ++ ys in (
       ap (λ k. word_of_list Big (xs ++ rest) k) (let e : n ≡ n + 0 = omega arith in e) ∙ word_in xs rest n 0 size ∙ word_of_lanes 1 (omega arith),
       word_in xs rest n 4 size ∙ word_of_lanes offset small,
       word_in xs rest n 8 size ∙ word_of_lanes s.vaddr words.0,
@@ -64,7 +64,7 @@ same_header t o v f m l t' o' v' f' m' l' a b c d e g = λ i. record { p_type = 
 cons_same : {X : Type 0} (x y : X) (xs ys : List X) → x ≡ y → xs ≡ ys → x ∷ xs ≡ y ∷ ys
 cons_same x y xs ys p q = λ i. p i ∷ q i
 
-one_read : (file xs ys : List ℕ) (j offset : ℕ) (s : Part) → file ≡ xs ++ (program_header offset s ++ ys) → length xs ≡ 52 + 32 * j → read.order_of file ≡ Big
+one_read : (file xs ys : List ℕ) (j offset : ℕ) (s : Part) → file ≡ xs ++ (program_header_bytes offset s ++ ys) → length xs ≡ 52 + 32 * j → read.order_of file ≡ Big
     → (read.header_of file).e_phoff ≡ 52
     → offset < 2 ^ 32 → length s.bytes.items < 2 ^ 32 → HasWords s → header_at file j ≡ record { p_type = 1; segment = segment_of offset s }
 unfolding header_at
@@ -77,14 +77,14 @@ one_read file xs ys j offset s is size order place small short words =
     same_header _ _ _ _ _ _ 1 offset s.vaddr (length s.bytes.items) s.mem s.flags
     (big ((read.header_of file).e_phoff + 32 * j) ∙ ap (word_of_list Big file) from ∙ ap (λ f. word_of_list Big f n) is ∙ facts.0) (at 4 ∙ facts.1) (at 8 ∙ facts.2) (at 16 ∙ facts.3) (at 20 ∙ facts.4) (at 24 ∙ facts.5)
 
-all_read : (file xs rest : List ℕ) (at j : ℕ) (parts : List Part) → file ≡ xs ++ (program_headers at parts ++ rest) → length xs ≡ 52 + 32 * j
+all_read : (file xs rest : List ℕ) (at j : ℕ) (parts : List Part) → file ≡ xs ++ (program_header_table at parts ++ rest) → length xs ≡ 52 + 32 * j
     → read.order_of file ≡ Big → (read.header_of file).e_phoff ≡ 52 → All HasWords parts → contents_end at parts ≤ 67108864
     → map (header_at file) (range_with_len j (length parts)) ≡ part_headers at parts
 unfolding part_headers
 all_read file xs rest at j [] is size order place words short = refl
 all_read file xs rest at j (s ∷ parts) is size order place words short =
-    let head = program_header (aligned at) s in
-    let more = program_headers (part_end at s) parts in
+    let head = program_header_bytes (aligned at) s in
+    let more = program_header_table (part_end at s) parts in
     let within = le_contents_end (part_end at s) parts in
     let apart : xs ++ ((head ++ more) ++ rest) ≡ xs ++ (head ++ (more ++ rest)) = ap (λ ys. xs ++ ys) (append_assoc head more rest) in
     let front : file ≡ xs ++ (head ++ (more ++ rest)) = is ∙ apart in
@@ -135,14 +135,14 @@ headers_read parts writable words =
     let table = table_place (segments_end parts) sections in
     let head = elf_header parts.entry table (length segments) (header_count sections) in
     let rest = contents place segments ++ section_table (segments_end parts) segments sections in
-    let shape : elf_file parts ≡ head ++ (program_headers place segments ++ rest) =
-    append_assoc (head ++ program_headers place segments) (contents place segments) (section_table (segments_end parts) segments sections)
-    ∙ append_assoc head (program_headers place segments) rest in
+    let shape : elf_file parts ≡ head ++ (program_header_table place segments ++ rest) =
+    append_assoc (head ++ program_header_table place segments) (contents place segments) (section_table (segments_end parts) segments sections)
+    ∙ append_assoc head (program_header_table place segments) rest in
     let few : length segments < 65536 = omega (arith, writable.1) in
     let short : contents_end place segments ≤ 67108864 = omega (arith, table_behind (segments_end parts) sections, writable.3) in
-    let order = ap read.order_of shape ∙ order_is parts.entry table (length segments) (header_count sections) (program_headers place segments ++ rest) in
-    let at = ap (λ f. (read.header_of f).e_phoff) shape ∙ table_place_is parts.entry table (length segments) (header_count sections) (program_headers place segments ++ rest) in
-    let count = ap (λ f. (read.header_of f).e_phnum) shape ∙ count_is parts.entry table (length segments) (header_count sections) (program_headers place segments ++ rest) few in
+    let order = ap read.order_of shape ∙ order_is parts.entry table (length segments) (header_count sections) (program_header_table place segments ++ rest) in
+    let at = ap (λ f. (read.header_of f).e_phoff) shape ∙ table_place_is parts.entry table (length segments) (header_count sections) (program_header_table place segments ++ rest) in
+    let count = ap (λ f. (read.header_of f).e_phnum) shape ∙ count_is parts.entry table (length segments) (header_count sections) (program_header_table place segments ++ rest) few in
     counted (elf_file parts) (length segments) (part_headers place segments) count (all_read (elf_file parts) head rest place 0 segments shape refl order at words short)
 
 live_are : (file : List ℕ) (hs : List ProgramHeader) (ss : List Segment) → headers_of file ≡ hs → map (λ (h : ProgramHeader). h.segment) (filter is_live hs) ≡ ss → live file ≡ ss
@@ -183,6 +183,6 @@ parts_held parts =
     let sections = parts.sections.items in
     let place = contents_place segments in
     let head = elf_header parts.entry (table_place (segments_end parts) sections) (length segments) (header_count sections) in
-    holds (elf_file parts) (head ++ program_headers place segments) (section_table (segments_end parts) segments sections) place segments
-    (append_assoc (head ++ program_headers place segments) (contents place segments) (section_table (segments_end parts) segments sections))
+    holds (elf_file parts) (head ++ program_header_table place segments) (section_table (segments_end parts) segments sections) place segments
+    (append_assoc (head ++ program_header_table place segments) (contents place segments) (section_table (segments_end parts) segments sections))
     (omega (arith, length-append {A = ℕ}, length-program_headers place segments, length-elf_header parts.entry (table_place (segments_end parts) sections) (length segments) (header_count sections)))

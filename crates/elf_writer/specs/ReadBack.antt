@@ -1,8 +1,8 @@
 -- What a written file is read as.
 use Rattle.std.specs.Prelude.{◌≡◌, ℕ, ◌+◌, ◌^◌, ◌<◌, slice_index, nat_lt, if◌then◌else◌, List, [], ◌∷◌, length}
-use Rattle.elf_reader.specs.declared.segment.Segment.{Segment}
-use Rattle.elf_writer.specs.declared.part.Part.{Part}
-use Rattle.elf_writer.specs.Places.{aligned, part_end}
+use Rattle.elf_definition.specs.declared.segment.Segment.{Segment}
+use Rattle.elf_definition.specs.declared.part.Part.{Part}
+use Rattle.elf_definition.specs.FilePlaces.{aligned, part_end}
 
 -- the segment of a part whose bytes stand at an offset
 abbrev pub segment_of : ℕ → Part → Segment

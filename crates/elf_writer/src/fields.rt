@@ -1,8 +1,8 @@
 //! Fields that are appended to a file.
 ghost use Rattle.std.specs.Prelude.{◌≡◌, ◌++◌, ◌≤◌, OnOk, replicate, ◌-◌};
-ghost use Rattle.elf_writer.specs.Fields.{halves, words};
-ghost use Rattle.elf_writer.specs.File.{padding};
-ghost use Rattle.elf_writer.specs.Places.{aligned};
+ghost use Rattle.elf_definition.specs.FileFields.{halves, words};
+ghost use Rattle.elf_definition.specs.File.{padding};
+ghost use Rattle.elf_definition.specs.FilePlaces.{aligned};
 
 use crate::place::next_aligned;
 use crate::writer::NoMemory;

@@ -3,17 +3,12 @@
 
 mod fields;
 mod limits;
-mod part;
-mod parts;
 mod place;
 mod read_back;
-mod sec;
 mod tables;
 mod writer;
 
+pub use elf_definition::{Part, Parts, Sec};
 pub use limits::is_writable;
-pub use part::Part;
-pub use parts::Parts;
 pub use read_back::segments_read_back;
-pub use sec::Sec;
 pub use writer::{NoMemory, write_elf};

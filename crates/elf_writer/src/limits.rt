@@ -1,11 +1,9 @@
 ghost use Rattle.std.specs.Prelude.{◌≡◌, ◌≤◌, ◌↔◌, IsTrue, SomeIff, length};
 ghost use Rattle.elf_writer.specs.Limits.{IsWritable};
-ghost use Rattle.elf_writer.specs.Places.{contents_end, table_end};
+ghost use Rattle.elf_definition.specs.FilePlaces.{contents_end, table_end};
 
-use crate::part::Part;
-use crate::parts::Parts;
 use crate::place::{contents_place_of, next_aligned, part_end_of};
-use crate::sec::Sec;
+use elf_definition::{Part, Parts, Sec};
 
 /// The greatest length of a written file, in bytes.
 const MAX_FILE: u32 = 67_108_864;

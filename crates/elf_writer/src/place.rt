@@ -1,8 +1,8 @@
-//! Where the parts of a file stand.
+//! Where the parts of a file are.
 ghost use Rattle.std.specs.Prelude.{◌≡◌, ◌≤◌, length};
-ghost use Rattle.elf_writer.specs.Places.{aligned, contents_place, contents_end, part_end, file_offset};
+ghost use Rattle.elf_definition.specs.FilePlaces.{aligned, contents_place, contents_end, part_end, file_offset};
 
-use crate::part::Part;
+use elf_definition::Part;
 
 /// The first multiple of 4 from `at` on.
 pub fn next_aligned(at: u32) -> u32
@@ -12,7 +12,7 @@ pub fn next_aligned(at: u32) -> u32
     (at + 3) / 4 * 4
 }
 
-/// The place where the bytes of the first segment may begin: behind the header and the program headers.
+/// The place where the bytes of the first segment may begin: after the header and the program headers.
 pub fn contents_place_of(segments: &[Part]) -> u32
     requires { length segments.now ≤ 65534 }
     ensures { result ≡ contents_place segments.now }

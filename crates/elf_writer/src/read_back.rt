@@ -1,11 +1,11 @@
 ghost use Rattle.std.specs.Prelude.{◌≡◌, All};
-ghost use Rattle.elf_reader.specs.Segments.{live};
-ghost use Rattle.elf_writer.specs.File.{elf_file};
+ghost use Rattle.elf_definition.specs.Segments.{live};
+ghost use Rattle.elf_definition.specs.File.{elf_file};
 ghost use Rattle.elf_writer.specs.Limits.{IsWritable};
-ghost use Rattle.elf_writer.specs.Places.{contents_place};
+ghost use Rattle.elf_definition.specs.FilePlaces.{contents_place};
 ghost use Rattle.elf_writer.specs.ReadBack.{HasWords, HoldsParts, part_segments};
 
-use crate::parts::Parts;
+use elf_definition::Parts;
 
 /// The live segments of a written file are the parts that have memory, each with its place, sizes and flags, and the file
 /// holds each part's bytes at its place. So `read_elf` gives these segments of each written file that it accepts.

@@ -1,14 +1,13 @@
 //! The header, the tables of headers and the segments' bytes.
 ghost use Rattle.std.specs.Prelude.{◌≡◌, ◌≤◌, ◌++◌, OnOk, length, replicate};
-ghost use Rattle.elf_writer.specs.File.{elf_header, program_header, program_headers, contents, section_header, section_headers};
-ghost use Rattle.elf_writer.specs.Places.{contents_end, contents_place};
+ghost use Rattle.elf_definition.specs.File.{elf_header, program_header_bytes, program_header_table, contents, section_header_bytes, section_header_table};
+ghost use Rattle.elf_definition.specs.FilePlaces.{contents_end, contents_place};
 
 use crate::fields::{append_halves, append_padding, append_words};
-use crate::part::Part;
 use crate::place::{file_offset_of, next_aligned, part_end_of};
-use crate::sec::Sec;
 use crate::writer::NoMemory;
-use elf_reader::abi::{ELFCLASS32, ELFDATA2MSB, EM_MIPS, ET_EXEC, EV_CURRENT, PT_LOAD};
+use elf_definition::abi::{ELFCLASS32, ELFDATA2MSB, EM_MIPS, ET_EXEC, EV_CURRENT, PT_LOAD};
+use elf_definition::{Part, Sec};
 
 /// `e_ident` of a 32-bit big-endian file of the current version.
 const IDENTIFICATION: [u8; 16] = [
@@ -47,7 +46,7 @@ pub fn append_elf_header(
     append_halves(file, &[52, 32, segments, 40, headers, 0])
 }
 
-/// Appends the program headers of segments whose bytes stand from `start` on.
+/// Appends the program headers of segments whose bytes are from `start` on.
 #[tactic(auto, using(crate::proofs::PlaceLemmas::le_contents_end))]
 pub fn append_program_headers(
     file: &mut Vec<u8>,
@@ -55,7 +54,7 @@ pub fn append_program_headers(
     segments: &[Part],
 ) -> Result<(), NoMemory>
     requires { contents_end start segments.now ≤ 67108864 }
-    ensures { OnOk result (file.new.items ≡ file.old.items ++ program_headers start segments.now) }
+    ensures { OnOk result (file.new.items ≡ file.old.items ++ program_header_table start segments.now) }
 {
     let mut at = start;
     let mut rest = segments;
@@ -69,7 +68,7 @@ pub fn append_program_headers(
 
 fn append_program_header(file: &mut Vec<u8>, offset: u32, part: &Part) -> Result<(), NoMemory>
     requires { length part.now.bytes.items ≤ 67108864 }
-    ensures { OnOk result (file.new.items ≡ file.old.items ++ program_header offset part.now) }
+    ensures { OnOk result (file.new.items ≡ file.old.items ++ program_header_bytes offset part.now) }
 {
     let length = part.bytes.len() as u32;
     append_words(
@@ -97,7 +96,7 @@ pub fn append_contents(file: &mut Vec<u8>, start: u32, segments: &[Part]) -> Res
     Ok(())
 }
 
-/// Appends the headers of the sections of a file with these segments, whose bytes stand from `start` on.
+/// Appends the headers of the sections of a file with these segments, whose bytes are from `start` on.
 pub fn append_section_headers(
     file: &mut Vec<u8>,
     start: u32,
@@ -106,7 +105,7 @@ pub fn append_section_headers(
 ) -> Result<(), NoMemory>
     requires { contents_end start segments.now ≤ 67108864 }
     ensures { OnOk result (file.new.items ≡ file.old.items
-        ++ section_headers start segments.now sections.now) }
+        ++ section_header_table start segments.now sections.now) }
 {
     let mut rest = sections;
     while let Some((section, others)) = rest.split_first() {
@@ -118,7 +117,7 @@ pub fn append_section_headers(
 }
 
 fn append_section_header(file: &mut Vec<u8>, offset: u32, section: &Sec) -> Result<(), NoMemory>
-    ensures { OnOk result (file.new.items ≡ file.old.items ++ section_header offset section.now) }
+    ensures { OnOk result (file.new.items ≡ file.old.items ++ section_header_bytes offset section.now) }
 {
     let (kind, flags, addr, size) = (section.kind, section.flags, section.addr, section.size);
     append_words(file, &[0, kind, flags, addr, offset, size, 0, 0, 4, 0])

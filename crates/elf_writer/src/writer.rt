@@ -1,16 +1,14 @@
 ghost use Rattle.std.specs.Prelude.{◌≡◌, ◌≤◌, ◌++◌, IfOk, OnOk, length, replicate, vec_len};
-ghost use Rattle.elf_writer.specs.File.{elf_file, section_table};
+ghost use Rattle.elf_definition.specs.File.{elf_file, section_table};
 ghost use Rattle.elf_writer.specs.Limits.{IsWritable};
-ghost use Rattle.elf_writer.specs.Places.{contents_end, contents_place, file_length, segments_end, header_count, table_place};
+ghost use Rattle.elf_definition.specs.FilePlaces.{contents_end, contents_place, file_length, segments_end, header_count, table_place};
 
 use crate::fields::append_padding;
-use crate::part::Part;
-use crate::parts::Parts;
 use crate::place::{contents_end_of, contents_place_of, next_aligned};
-use crate::sec::Sec;
 use crate::tables::{
     append_contents, append_elf_header, append_program_headers, append_section_headers,
 };
+use elf_definition::{Part, Parts, Sec};
 use std::alloc::{AllocError, Global};
 
 /// There was no memory for the file.
@@ -24,7 +22,7 @@ const SECTION_HEADER: usize = 40;
 /// There are 1 to 65,534 segments and at most 65,534 sections, and the written file has at most 67,108,864 bytes, which
 /// [`is_writable`](crate::is_writable) tests. The file has the header, a program header for each segment, each segment's bytes at the next multiple of 4 with zeros between, and, where
 /// there are sections, at the next multiple of 4 the section header table: a header of zeros and one for each section.
-/// `e_shnum` counts them all. `sh_offset` is where the byte at the section's address stands, in the first segment whose file
+/// `e_shnum` counts them all. `sh_offset` is where the byte at the section's address is, in the first segment whose file
 /// part holds it, else 0; to find it takes a look at each segment for each section. The addresses and sizes themselves
 /// are not checked.
 ///
@@ -75,7 +73,7 @@ fn header_count_of(sections: &[Sec]) -> u16
     }
 }
 
-/// Appends the section header table, where there are sections, to a file whose segments end at `end`.
+/// Appends the section header table, if there are sections, to a file whose segments end at `end`.
 fn append_section_table(
     file: &mut Vec<u8>,
     end: u32,

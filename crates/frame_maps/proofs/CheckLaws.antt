@@ -4,25 +4,25 @@ use Rattle.std.specs.Prelude.{slice_get, All, IsTrue, ◌↔◌, if◌then◌els
 use Rattle.std.proofs.lemmas.Option.{same_Some, none-some, slice_get_within, get_or_from_slice_get}
 use Rattle.std.proofs.lemmas.Bool.{cases_eq, false≢true}
 use Rattle.std.proofs.lemmas.List.{get_or_default}
-use Rattle.constant_pool.specs.declared.entry.Entry.{Entry}
-use Rattle.jvm_code.specs.declared.class.Class.{Class}
-use Rattle.jvm_program.specs.declared.instruction.Instruction.{Instruction}
-use Rattle.jvm_program.specs.declared.instruction.Instruction.TheVariants.{Call}
-use Rattle.jvm_program.specs.declared.linked_method.LinkedMethod.{LinkedMethod}
-use Rattle.jvm_program.specs.Program.{Program}
-use Rattle.jvm_program.specs.Typing.{Frames, TypeEffect, type_effect, call_type, applied}
-use Rattle.jvm_link.specs.Linking.{program_of, linked_methods}
-use Rattle.type_inference.specs.Actions.{program_over}
+use Rattle.class_definition.specs.declared.entry.Entry.{Entry}
+use Rattle.class_definition.specs.declared.class.Class.{Class}
+use Rattle.jvm_definition.specs.declared.instruction.Instruction.{Instruction}
+use Rattle.jvm_definition.specs.declared.instruction.Instruction.TheVariants.{Call}
+use Rattle.jvm_definition.specs.declared.linked_method.LinkedMethod.{LinkedMethod}
+use Rattle.jvm_definition.specs.Program.{Program}
+use Rattle.jvm_definition.specs.Typing.{Frames, TypeEffect, type_effect, call_type, applied}
+use Rattle.class_definition.specs.Linking.{program_of, linked_methods}
+use Rattle.jvm_type_inference.specs.Actions.{program_over}
 use Rattle.type_verifier.specs.Refusal.{methods_before}
 use Rattle.type_verifier.proofs.VerifyLaws.{typing-same, methods_count, count-is}
 use Rattle.frame_maps.specs.declared.frame_error.FrameError.{FrameError}
 use Rattle.frame_maps.specs.declared.frame_error.FrameError.TheVariants.{Refused, TooLarge, NoMemory}
-use Rattle.frame_tables.specs.Meaning.{frames_of}
-use Rattle.type_inference.specs.declared.frame.Frame.{Frame}
+use Rattle.stackmap_table.specs.Meaning.{frames_of}
+use Rattle.jvm_type_inference.specs.declared.frame.Frame.{Frame}
 use Rattle.type_verifier.specs.Typings.{listed_frames}
 use Rattle.frame_maps.specs.Framed.{Framed}
 use Rattle.frame_maps.specs.Placed.{ArePlaced}
-use Rattle.frame_maps.specs.Checked.{IsResult, IsTyped, IsNotTyped, Fails, IsTypedAt, FailsAt, IsFirstOf, HaveTables, ClassIsTyped, IsAtFault, IsRefusal, IsFault}
+use Rattle.frame_maps.specs.Checked.{IsResult, IsTyped, IsNotTyped, Fails, IsTypedAt, FailsFramesAt, IsFirstOf, HaveTables, ClassIsTyped, IsAtFrameFault, IsCheckRefusal, IsFault}
 
 -- ---- programs with the same methods
 
@@ -99,7 +99,7 @@ module _ (classes : List Class) (methods : List LinkedMethod) (tables : List (Li
       subst (λ x. IsTypedAt (program_of classes) (methods_before classes c) x.pool (get_or tables c []) m) same
       (first-same (program_over methods) (program_of classes) same-methods (methods_before classes c) class.pool (get_or tables c []) None f m less)
 
-  pub class-fails : (method kind : ℕ) (r : FrameError) → IsFirstOf (program_over methods) (methods_before classes c) class.pool (get_or tables c []) (Some (method, kind)) → ((d : ℕ) → d < c → ClassIsTyped classes tables d) → IsFault c method kind r → IsRefusal classes tables r
+  pub class-fails : (method kind : ℕ) (r : FrameError) → IsFirstOf (program_over methods) (methods_before classes c) class.pool (get_or tables c []) (Some (method, kind)) → ((d : ℕ) → d < c → ClassIsTyped classes tables d) → IsFault c method kind r → IsCheckRefusal classes tables r
   class-fails method kind NoMemory f earlier fault = tt
   class-fails method kind (TooLarge number bytes) f earlier fault = fault
   class-fails method kind (Refused x) f earlier fault =
@@ -110,9 +110,9 @@ module _ (classes : List Class) (methods : List LinkedMethod) (tables : List (Li
         class = class;
         class_is = ap (slice_get classes) fault.0 ∙ is;
         within = omega (arith, g.0, fault.1, count);
-        fails = subst (λ k. FailsAt (program_of classes) (methods_before classes k) class.pool (get_or tables k []) x.method x.kind) (sym fault.0)
-            (subst (λ m. FailsAt (program_of classes) (methods_before classes c) class.pool (get_or tables c []) m x.kind) (sym fault.1)
-            (subst (λ k. FailsAt (program_of classes) (methods_before classes c) class.pool (get_or tables c []) method k) (sym fault.2) g.2));
+        fails = subst (λ k. FailsFramesAt (program_of classes) (methods_before classes k) class.pool (get_or tables k []) x.method x.kind) (sym fault.0)
+            (subst (λ m. FailsFramesAt (program_of classes) (methods_before classes c) class.pool (get_or tables c []) m x.kind) (sym fault.1)
+            (subst (λ k. FailsFramesAt (program_of classes) (methods_before classes c) class.pool (get_or tables c []) method k) (sym fault.2) g.2));
         earlier_classes = λ d less. earlier d (omega (arith, less, one));
         earlier_methods = λ m less. subst (λ k. IsTypedAt (program_of classes) (methods_before classes k) class.pool (get_or tables k []) m) (sym fault.0) (g.1 m (omega (arith, less, fault.1)));
       }

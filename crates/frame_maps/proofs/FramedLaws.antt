@@ -4,14 +4,14 @@ use Rattle.std.specs.Prelude.{All, if◌then◌else◌, ◌↔◌, IsSome, is_so
 use Rattle.std.proofs.lemmas.Bool.{false≢true, eq-eqb, ne_eqb, cases_eq}
 use Rattle.std.proofs.lemmas.Option.{same_Some, none-some}
 use Rattle.std.proofs.lemmas.List.Elements.{All-cons}
-use Rattle.jvm_program.specs.declared.linked_line.LinkedLine.{LinkedLine}
-use Rattle.jvm_program.specs.declared.linked_method.LinkedMethod.{LinkedMethod}
-use Rattle.jvm_program.specs.Program.{Program, line_in, LaidFrom, targets_of, falls_through, successors}
-use Rattle.jvm_program.specs.Typing.{TypeFrame, Below, Frames, no_top, type_effect, applied, Receives, Follows, IsTypingTo, entry_frame}
-use Rattle.type_inference.specs.Actions.{Enters}
-use Rattle.type_inference.proofs.CallLaws.{some-there}
-use Rattle.type_inference.proofs.JoinLaws.{Below-refl}
-use Rattle.type_inference.proofs.LeastLaws.{is-some}
+use Rattle.jvm_definition.specs.declared.linked_line.LinkedLine.{LinkedLine}
+use Rattle.jvm_definition.specs.declared.linked_method.LinkedMethod.{LinkedMethod}
+use Rattle.jvm_definition.specs.Program.{Program, line_in, LaidFrom, instruction_targets, falls_through, successors}
+use Rattle.jvm_definition.specs.Typing.{TypeFrame, Below, Frames, no_top, type_effect, applied, Receives, Follows, IsTypingTo, entry_frame}
+use Rattle.jvm_type_inference.specs.Actions.{Enters}
+use Rattle.jvm_type_inference.proofs.CallLaws.{some-there}
+use Rattle.jvm_type_inference.proofs.JoinLaws.{Below-refl}
+use Rattle.jvm_type_inference.proofs.LeastLaws.{is-some}
 use Rattle.frame_maps.specs.Framed.{HasLine, IsFramedBy, Framed}
 use Rattle.frame_maps.specs.Walk.{FlowsBelow, Comes, ListedAbove, Steps, flows_on, Walks}
 
@@ -64,7 +64,7 @@ module _ (program : Program) (method : LinkedMethod) (listed : Frames) where
     behind : TypeFrame
     arrives : (flowing : Option TypeFrame) × Comes (listed at) flowing frame
     enters : Enters program method line.instruction frame behind
-    targets : All (ListedAbove listed behind) (targets_of line.instruction)
+    targets : All (ListedAbove listed behind) (instruction_targets line.instruction)
     next : (l : LinkedLine) → line_in lines line.next ≡ Some l → (g : TypeFrame) × (frames line.next ≡ Some g) × Comes (listed line.next) (flows_on line behind) g
     goes : falls_through line.instruction ≡ true → IsSome (line_in lines line.next)
 
@@ -159,11 +159,11 @@ module _ (program : Program) (method : LinkedMethod) (listed : Frames) where
   first-comes start b (l ∷ lines) laid w =
       (l, w.0, here l lines start laid.0, taken-here (Some b) l lines w start laid.0, subst (λ x. Comes (listed x) (Some b) w.0) laid.0 w.2.comes)
 
-  all-successors : (P : ℕ → Type 0) (line : LinkedLine) → (falls_through line.instruction ≡ true → P line.next) → All P (targets_of line.instruction) → All P (successors line)
+  all-successors : (P : ℕ → Type 0) (line : LinkedLine) → (falls_through line.instruction ≡ true → P line.next) → All P (instruction_targets line.instruction) → All P (successors line)
   all-successors P line next targets = by-test (falls_through line.instruction) next
     where
-      by-test : (b : Bool) → (b ≡ true → P line.next) → All P (if b then line.next ∷ targets_of line.instruction else targets_of line.instruction)
-      by-test true n = All-cons P line.next (targets_of line.instruction) (n refl) targets
+      by-test : (b : Bool) → (b ≡ true → P line.next) → All P (if b then line.next ∷ instruction_targets line.instruction else instruction_targets line.instruction)
+      by-test true n = All-cons P line.next (instruction_targets line.instruction) (n refl) targets
       by-test false n = targets
 
   next-above : (line : LinkedLine) (b : TypeFrame) → falls_through line.instruction ≡ true → flows_on line b ≡ Some b
@@ -208,7 +208,7 @@ module _ (program : Program) (method : LinkedMethod) (listed : Frames) where
               let k = some-there (line_in method.lines line.next) (p.goes t) in
               let n = p.next k.0 k.1 in
               (k.0, n.0, k.1, n.1, comes-above (listed line.next) (flows_on line p.behind) p.behind n.0 (next-above line p.behind t) n.2))
-              (λ k d h. walked-receives (get_or (targets_of line.instruction) k d) p.behind (p.targets k d h));
+              (λ k d h. walked-receives (get_or (instruction_targets line.instruction) k d) p.behind (p.targets k d h));
         })
 
     walked-entry : Receives method walked (entry_frame method) 0
@@ -232,7 +232,7 @@ module _ (program : Program) (method : LinkedMethod) (listed : Frames) where
         };
         each = λ at line l. is-some (walked at) (at-line at line l).frame (at-line at line l).is;
         lists = λ at f e. (lines-there at f e, walked-lists at f e);
-        targets = λ at line l k d h. let p = (at-line at line l).targets k d h in is-some (listed (get_or (targets_of line.instruction) k d)) p.0 p.1;
+        targets = λ at line l k d h. let p = (at-line at line l).targets k d h in is-some (listed (get_or (instruction_targets line.instruction) k d)) p.0 p.1;
         behind = λ at line l stops has.
             let p = at-line at line l in
             let k = some-there (line_in method.lines line.next) has in
@@ -299,7 +299,7 @@ module _ (program : Program) (method : LinkedMethod) (listed frames : Frames) (f
   next-arrives : (line : LinkedLine) (f b : TypeFrame) (at : ℕ) → line_in method.lines at ≡ Some line → frames at ≡ Some f → applied (type_effect program line.instruction) f ≡ Some b → All (Receives method frames b) (successors line) → Arrives line.next (flows_on line b)
   next-arrives line f b at l e fits goes = by-test (falls_through line.instruction) refl goes
     where
-      by-test : (x : Bool) → falls_through line.instruction ≡ x → All (Receives method frames b) (if x then line.next ∷ targets_of line.instruction else targets_of line.instruction) → Arrives line.next (if x then Some b else None)
+      by-test : (x : Bool) → falls_through line.instruction ≡ x → All (Receives method frames b) (if x then line.next ∷ instruction_targets line.instruction else instruction_targets line.instruction) → Arrives line.next (if x then Some b else None)
       by-test true t all =
           let r = all 0 0 (omega arith) in
           record {
@@ -315,10 +315,10 @@ module _ (program : Program) (method : LinkedMethod) (listed frames : Frames) (f
             (λ none. absurd (false≢true (sym (ap is_some none) ∙ framed.behind at line l t has)));
       }
 
-  all-targets : (line : LinkedLine) (b : TypeFrame) → All (Receives method frames b) (successors line) → All (Receives method frames b) (targets_of line.instruction)
+  all-targets : (line : LinkedLine) (b : TypeFrame) → All (Receives method frames b) (successors line) → All (Receives method frames b) (instruction_targets line.instruction)
   all-targets line b all = by-test (falls_through line.instruction) all
     where
-      by-test : (x : Bool) → All (Receives method frames b) (if x then line.next ∷ targets_of line.instruction else targets_of line.instruction) → All (Receives method frames b) (targets_of line.instruction)
+      by-test : (x : Bool) → All (Receives method frames b) (if x then line.next ∷ instruction_targets line.instruction else instruction_targets line.instruction) → All (Receives method frames b) (instruction_targets line.instruction)
       by-test true a = λ k d h. a (suc k) d (omega (arith, h))
       by-test false a = a
 
@@ -332,7 +332,7 @@ module _ (program : Program) (method : LinkedMethod) (listed frames : Frames) (f
       let steps : Steps program method listed flowing l f.0 rule.behind = record {
         comes = subst (λ x. Comes (listed x) flowing f.0) (sym rest.laid.0) (arrives.comes f.0 (is-some _ l is) f.1);
         enters = record { local = rule.local; fits = rule.fits; within = rule.within };
-        targets = λ k d h. target-above (get_or (targets_of l.instruction) k d) rule.behind (framed.targets start l is k d h) (all-targets l rule.behind rule.goes_on k d h);
+        targets = λ k d h. target-above (get_or (instruction_targets l.instruction) k d) rule.behind (framed.targets start l is k d h) (all-targets l rule.behind rule.goes_on k d h);
       } in
       (f.0, rule.behind, steps, walks l.next (flows_on l rule.behind) lines (rest-next start l lines rest) (next-arrives l f.0 rule.behind start is f.1 rule.fits rule.goes_on))
 

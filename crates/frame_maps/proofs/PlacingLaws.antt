@@ -4,15 +4,15 @@ use Rattle.std.specs.Prelude.{option_map, if◌then◌else◌, IsSome, is_some}
 use Rattle.std.proofs.lemmas.Bool.{false≢true, true≢false, eq-eqb, ne_eqb, eqb-true, cases_eq}
 use Rattle.std.proofs.lemmas.List.{get_or-set_same, get_or-set_other, append-nil}
 use Rattle.std.proofs.lemmas.Option.{same_Some, none-some}
-use Rattle.jvm_program.specs.declared.linked_line.LinkedLine.{LinkedLine}
-use Rattle.jvm_program.specs.declared.linked_method.LinkedMethod.{LinkedMethod}
-use Rattle.jvm_program.specs.Program.{Program, line_in}
-use Rattle.jvm_program.specs.Typing.{TypeFrame, Frames}
-use Rattle.type_inference.specs.declared.frame.Frame.{Frame}
-use Rattle.type_inference.specs.Frames.{type_frame, frame_at}
-use Rattle.type_inference.proofs.CallLaws.{some-there}
-use Rattle.type_inference.proofs.FlowLaws.{frame_at-is}
-use Rattle.type_inference.proofs.TableLaws.{none-of}
+use Rattle.jvm_definition.specs.declared.linked_line.LinkedLine.{LinkedLine}
+use Rattle.jvm_definition.specs.declared.linked_method.LinkedMethod.{LinkedMethod}
+use Rattle.jvm_definition.specs.Program.{Program, line_in}
+use Rattle.jvm_definition.specs.Typing.{TypeFrame, Frames}
+use Rattle.jvm_type_inference.specs.declared.frame.Frame.{Frame}
+use Rattle.jvm_type_inference.specs.Frames.{type_frame, frame_at}
+use Rattle.jvm_type_inference.proofs.CallLaws.{some-there}
+use Rattle.jvm_type_inference.proofs.FlowLaws.{frame_at-is}
+use Rattle.jvm_type_inference.proofs.TableLaws.{none-of}
 use Rattle.type_verifier.specs.Typings.{listed_frames}
 use Rattle.frame_maps.specs.Framed.{HasLine, IsFramedBy, Framed}
 use Rattle.frame_maps.specs.Placed.{ArePlaced}

@@ -1,15 +1,15 @@
 -- Which linked classes pass with tables of frames, and which method is the first that does not.
 use Rattle.std.specs.Prelude.{◌≡◌, ℕ, ◌+◌, ◌<◌, ◌⊎◌, List, [], length, slice_get, slice_index_or, Option, Some, None}
-use Rattle.nv_faults.specs.declared.frame_fault.FrameFault.{FrameFault}
-use Rattle.constant_pool.specs.declared.entry.Entry.{Entry}
-use Rattle.jvm_code.specs.declared.class.Class.{Class}
-use Rattle.jvm_program.specs.declared.linked_method.LinkedMethod.{LinkedMethod}
-use Rattle.jvm_program.specs.Program.{Program}
-use Rattle.jvm_link.specs.Linking.{program_of}
-use Rattle.type_inference.specs.declared.frame.Frame.{Frame}
+use Rattle.class_definition.specs.declared.frame_fault.FrameFault.{FrameFault}
+use Rattle.class_definition.specs.declared.entry.Entry.{Entry}
+use Rattle.class_definition.specs.declared.class.Class.{Class}
+use Rattle.jvm_definition.specs.declared.linked_method.LinkedMethod.{LinkedMethod}
+use Rattle.jvm_definition.specs.Program.{Program}
+use Rattle.class_definition.specs.Linking.{program_of}
+use Rattle.jvm_type_inference.specs.declared.frame.Frame.{Frame}
 use Rattle.type_verifier.specs.Refusal.{methods_before}
 use Rattle.type_verifier.specs.Typings.{listed_frames}
-use Rattle.frame_tables.specs.Meaning.{frames_of}
+use Rattle.stackmap_table.specs.Meaning.{frames_of}
 use Rattle.frame_maps.specs.Framed.{Framed}
 use Rattle.frame_maps.specs.declared.frame_error.FrameError.{FrameError}
 use Rattle.frame_maps.specs.declared.frame_error.FrameError.TheVariants.{Refused, TooLarge, NoMemory}
@@ -51,8 +51,8 @@ IsTypedAt program first pool tables m =
     (method : LinkedMethod) → program.method (first + m) ≡ Some method
     → IsTyped program pool method (table_at tables m)
 
-abbrev pub FailsAt : Program → ℕ → List Entry → List (List ℕ) → ℕ → ℕ → Type 0
-FailsAt program first pool tables m kind =
+abbrev pub FailsFramesAt : Program → ℕ → List Entry → List (List ℕ) → ℕ → ℕ → Type 0
+FailsFramesAt program first pool tables m kind =
     (method : LinkedMethod) → program.method (first + m) ≡ Some method
     → Fails program pool method (table_at tables m) kind
 
@@ -63,7 +63,7 @@ IsFirstOf program first pool tables None =
 IsFirstOf program first pool tables (Some fault) =
     (fault.0 < length tables)
     × ((m : ℕ) → m < fault.0 → IsTypedAt program first pool tables m)
-    × FailsAt program first pool tables fault.0 fault.1
+    × FailsFramesAt program first pool tables fault.0 fault.1
 
 -- ---- all classes
 
@@ -85,12 +85,12 @@ abbrev pub AreTyped : List Class → List (List (List ℕ)) → Type 0
 AreTyped classes tables = (c : ℕ) → ClassIsTyped classes tables c
 
 -- A method of a class, both numbered from 0, is at fault; all before it pass.
-pub record IsAtFault (classes : List Class) (tables : List (List (List ℕ))) (fault : FrameFault)
+pub record IsAtFrameFault (classes : List Class) (tables : List (List (List ℕ))) (fault : FrameFault)
     : Type 0 where
   pub class : Class
   pub class_is : slice_get classes fault.class ≡ Some class
   pub within : fault.method < length class.methods
-  pub fails : FailsAt (program_of classes) (methods_before classes fault.class) class.pool
+  pub fails : FailsFramesAt (program_of classes) (methods_before classes fault.class) class.pool
       (slice_index_or tables fault.class []) fault.method fault.kind
   pub earlier_classes : (c : ℕ) → c < fault.class → ClassIsTyped classes tables c
   pub earlier_methods : (m : ℕ) → m < fault.method
@@ -98,10 +98,10 @@ pub record IsAtFault (classes : List Class) (tables : List (List (List ℕ))) (f
       (slice_index_or tables fault.class []) m
 
 -- a refusal names the first method at fault, by class and then by method; want of memory may come anywhere
-abbrev pub IsRefusal : List Class → List (List (List ℕ)) → FrameError → Type 0
-IsRefusal classes tables (Refused fault) = IsAtFault classes tables fault
-IsRefusal classes tables (TooLarge class bytes) = ⊥
-IsRefusal classes tables NoMemory = Unit {0}
+abbrev pub IsCheckRefusal : List Class → List (List (List ℕ)) → FrameError → Type 0
+IsCheckRefusal classes tables (Refused fault) = IsAtFrameFault classes tables fault
+IsCheckRefusal classes tables (TooLarge class bytes) = ⊥
+IsCheckRefusal classes tables NoMemory = Unit {0}
 
 -- a fault names this class, method and kind
 abbrev pub IsFault : ℕ → ℕ → ℕ → FrameError → Type 0

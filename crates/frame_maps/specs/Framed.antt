@@ -1,9 +1,9 @@
 -- JVM Specification, Java SE 7 edition, 4.10.1: when a method's code is typed by the frames that its StackMapTable lists.
 use Rattle.std.specs.Prelude.{◌≡◌, ℕ, false, All, Some, None, IsSome}
-use Rattle.jvm_program.specs.declared.linked_line.LinkedLine.{LinkedLine}
-use Rattle.jvm_program.specs.declared.linked_method.LinkedMethod.{LinkedMethod}
-use Rattle.jvm_program.specs.Program.{Program, line_in, targets_of, falls_through}
-use Rattle.jvm_program.specs.Typing.{TypeFrame, Frames, type_effect, applied, IsTyping, entry_frame}
+use Rattle.jvm_definition.specs.declared.linked_line.LinkedLine.{LinkedLine}
+use Rattle.jvm_definition.specs.declared.linked_method.LinkedMethod.{LinkedMethod}
+use Rattle.jvm_definition.specs.Program.{Program, line_in, instruction_targets, falls_through}
+use Rattle.jvm_definition.specs.Typing.{TypeFrame, Frames, type_effect, applied, IsTyping, entry_frame}
 
 -- the offset has an instruction
 abbrev pub HasLine : LinkedMethod → ℕ → Type 0
@@ -21,7 +21,7 @@ pub record IsFramedBy (program : Program) (method : LinkedMethod) (listed frames
   pub lists : (at : ℕ) (f : TypeFrame) → listed at ≡ Some f
       → HasLine method at × (frames at ≡ Some f)
   pub targets : (at : ℕ) (line : LinkedLine) → line_in method.lines at ≡ Some line
-      → All (λ to. IsSome (listed to)) (targets_of line.instruction)
+      → All (λ to. IsSome (listed to)) (instruction_targets line.instruction)
   pub behind : (at : ℕ) (line : LinkedLine) → line_in method.lines at ≡ Some line
       → falls_through line.instruction ≡ false → HasLine method line.next
       → IsSome (listed line.next)

@@ -1,11 +1,11 @@
 -- The instructions of a method from the first to the last, with the frame that flows to the next one.
 use Rattle.std.specs.Prelude.{◌≡◌, ℕ, true, false, if◌then◌else◌, List, [], ◌∷◌, All, Option, Some, None}
-use Rattle.jvm_program.specs.declared.linked_line.LinkedLine.{LinkedLine}
-use Rattle.jvm_program.specs.declared.linked_method.LinkedMethod.{LinkedMethod}
-use Rattle.jvm_program.specs.Program.{Program, targets_of, falls_through}
-use Rattle.jvm_program.specs.Typing.{TypeFrame, Below, Frames, no_top}
-use Rattle.type_inference.specs.Actions.{Enters}
-use Rattle.type_inference.specs.Frames.{type_frame}
+use Rattle.jvm_definition.specs.declared.linked_line.LinkedLine.{LinkedLine}
+use Rattle.jvm_definition.specs.declared.linked_method.LinkedMethod.{LinkedMethod}
+use Rattle.jvm_definition.specs.Program.{Program, instruction_targets, falls_through}
+use Rattle.jvm_definition.specs.Typing.{TypeFrame, Below, Frames, no_top}
+use Rattle.jvm_type_inference.specs.Actions.{Enters}
+use Rattle.jvm_type_inference.specs.Frames.{type_frame}
 use Rattle.frame_maps.specs.declared.way.Way.{Way}
 use Rattle.frame_maps.specs.declared.way.Way.TheVariants.{Fails, Stops, GoesOn}
 
@@ -28,7 +28,7 @@ pub record Steps (program : Program) (method : LinkedMethod) (listed : Frames)
     (flowing : Option TypeFrame) (line : LinkedLine) (f b : TypeFrame) : Type 0 where
   pub comes : Comes (listed line.at) flowing f
   pub enters : Enters program method line.instruction f b
-  pub targets : All (ListedAbove listed b) (targets_of line.instruction)
+  pub targets : All (ListedAbove listed b) (instruction_targets line.instruction)
 
 abbrev pub flows_on : LinkedLine → TypeFrame → Option TypeFrame
 flows_on line b = if falls_through line.instruction then Some b else None

@@ -1,26 +1,25 @@
 //! Whether classes are typed by their tables of frames (JVM Specification, Java SE 7 edition, 4.10.1).
 ghost use Rattle.std.specs.Prelude.{◌≡◌, ◌+◌, ◌<◌, ◌≤◌, ℕ, All, IfOk, IfErr, Some, length, slice_get, slice_index_or, []};
-ghost use Rattle.jvm_code.specs.declared.class.Class.{Class};
-ghost use Rattle.jvm_link.specs.Linking.{program_of};
+ghost use Rattle.class_definition.specs.declared.class.Class.{Class};
+ghost use Rattle.class_definition.specs.Linking.{program_of};
 ghost use Rattle.jvm_link.specs.Order.{IsInOrder};
-ghost use Rattle.jvm_program.specs.declared.linked_method.LinkedMethod.{LinkedMethod};
-ghost use Rattle.type_inference.specs.Actions.{program_over};
+ghost use Rattle.jvm_definition.specs.declared.linked_method.LinkedMethod.{LinkedMethod};
+ghost use Rattle.jvm_type_inference.specs.Actions.{program_over};
 ghost use Rattle.frame_maps.specs.Checked as checked;
 
 use crate::frame_error::FrameError;
 use crate::placing::placed;
 use crate::walk::is_framed;
+use class_definition::FrameFault;
 use constant_pool::Entry;
-use frame_tables::listed_frames;
 use jvm_code::Class;
+use jvm_definition::{LinkedMethod, Sequence};
 use jvm_link::Linked;
-use jvm_names::Sequence;
-use jvm_program::LinkedMethod;
-use nv_faults::FrameFault;
+use jvm_type_inference::{Code, starts_of};
+use stackmap_table::listed_frames;
 use std::alloc::{AllocError, Global};
-use type_inference::{Code, starts_of};
 
-/// Passes, exactly where each method of each class is typed by the frames that its table lists: one list of tables for each
+/// Passes, exactly if each method of each class is typed by the frames that its table lists: one list of tables for each
 /// class, and in it one table for each method.
 ///
 /// # Errors
@@ -34,7 +33,7 @@ pub fn check(
 ) -> Result<(), FrameError>
     requires { checked.HaveTables linked.now.classes tables.now }
     ensures passes { IfOk result (λ _. checked.AreTyped linked.now.classes tables.now) }
-    ensures refused { IfErr result (checked.IsRefusal linked.now.classes tables.now) }
+    ensures refused { IfErr result (checked.IsCheckRefusal linked.now.classes tables.now) }
 {
     let classes = linked.classes.as_slice();
     let methods = linked.methods.as_slice();

@@ -1,4 +1,4 @@
-use nv_faults::FrameFault;
+use class_definition::FrameFault;
 use std::alloc::AllocError;
 
 /// Why classes have no tables, or do not pass with those that they have.

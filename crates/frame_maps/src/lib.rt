@@ -8,5 +8,5 @@ mod walk;
 mod way;
 
 pub use checking::check;
+pub use class_definition::FrameFault;
 pub use frame_error::FrameError;
-pub use nv_faults::FrameFault;

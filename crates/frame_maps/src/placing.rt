@@ -1,16 +1,16 @@
 //! Frames that are listed with their offsets, at these offsets.
 ghost use Rattle.std.specs.Prelude.{◌≡◌, ◌≤◌, ◌^◌, ℕ, IfOk, MatchOption, None, Some, length, replicate};
-ghost use Rattle.jvm_program.specs.Program.{Program};
-ghost use Rattle.jvm_program.specs.Typing.{TypeFrame};
-ghost use Rattle.type_inference.specs.Flow.{IsTable};
-ghost use Rattle.type_inference.specs.Frames.{frame_at};
+ghost use Rattle.jvm_definition.specs.Program.{Program};
+ghost use Rattle.jvm_definition.specs.Typing.{TypeFrame};
+ghost use Rattle.jvm_type_inference.specs.Flow.{IsTable};
+ghost use Rattle.jvm_type_inference.specs.Frames.{frame_at};
 ghost use Rattle.type_verifier.specs.Typings.{listed_frames};
 ghost use Rattle.frame_maps.specs.Framed.{Framed};
 ghost use Rattle.frame_maps.specs.Placed.{ArePlaced};
 
-use jvm_names::Sequence;
+use jvm_definition::Sequence;
+use jvm_type_inference::{Code, Frame};
 use std::alloc::{AllocError, Global};
-use type_inference::{Code, Frame};
 
 /// The frames at their offsets; None where one of them is at no instruction, so that the method is not typed by them.
 pub fn placed(

@@ -1,20 +1,20 @@
 //! One pass over the instructions of a method (JVM Specification, Java SE 7 edition, 4.10.1).
 ghost use Rattle.std.specs.Prelude.{◌≡◌, ◌↔◌, ℕ, [], None, Some, IfOk, IsTrue, MatchOption, All, option_map, if◌then◌else◌};
-ghost use Rattle.jvm_program.specs.Program.{LaidFrom};
-ghost use Rattle.jvm_program.specs.Typing.{TypeFrame};
-ghost use Rattle.type_inference.specs.Actions.{program_over};
-ghost use Rattle.type_inference.specs.Frames.{type_frame, frame_at};
+ghost use Rattle.jvm_definition.specs.Program.{LaidFrom};
+ghost use Rattle.jvm_definition.specs.Typing.{TypeFrame};
+ghost use Rattle.jvm_type_inference.specs.Actions.{program_over};
+ghost use Rattle.jvm_type_inference.specs.Frames.{type_frame, frame_at};
 ghost use Rattle.frame_maps.specs.Framed.{Framed, HasLine};
 ghost use Rattle.frame_maps.specs.Walk.{Comes, FlowsBelow, ListedAbove, IsWay};
 ghost use Rattle.frame_maps.specs.declared.way.Way.TheVariants.{GoesOn, Stops};
-ghost use Rattle.jvm_program.specs.Program as program;
+ghost use Rattle.jvm_definition.specs.Program as program;
 
 use crate::way::Way;
-use jvm_program::{Instruction, LinkedLine};
-use std::alloc::{AllocError, Global};
-use type_inference::{
+use jvm_definition::{Instruction, LinkedLine};
+use jvm_type_inference::{
     Code, Frame, KindList, SharedKinds, falls_through, has_no_top, is_frame_below, targets_of,
 };
+use std::alloc::{AllocError, Global};
 
 /// Whether a method is typed by the frames that are listed for some of its offsets, each of which has an instruction.
 pub fn is_framed(

@@ -1,4 +1,4 @@
-use type_inference::Frame;
+use jvm_type_inference::Frame;
 
 /// What comes of one instruction.
 #[derive(Drop)]

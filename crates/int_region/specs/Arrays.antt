@@ -1,6 +1,6 @@
 -- The arrays of a region, where each stands, and how they change.
 use Rattle.std.specs.Prelude.{◌≡◌, ◌==◌, ◌<◌, ◌≤◌, ◌+◌, ℕ, List, [], ◌∷◌, Option, Some, None, if◌then◌else◌, IsSome, length, replicate, slice_set, take}
-use Rattle.command_values.specs.RegionWords.{most_region_words}
+use Rattle.nv_values.specs.RegionWords.{most_region_words}
 
 -- An array: its kind, 0 for ints and 1 for references, and its values.
 pub record Block : Type 0 where

@@ -20,7 +20,7 @@ pub fn places()
     ensures fits { (c : Contents) (p : ℕ) → IsSound c → IsLive c.arrays p → p < 2 ^ 32 }
 {}
 
-/// A new array stands where no array stood, behind all others, and no other place changes.
+/// A new array is where no array was, after all others, and no other place changes.
 pub fn new_array()
     ensures was_free { (arrays : List Block) → array_at arrays (used_by arrays) ≡ None }
     ensures places { (arrays : List Block) (b : Block) (q : ℕ)
@@ -47,7 +47,7 @@ pub fn new_value()
         → used_by (with_value arrays p i v) ≡ used_by arrays }
 {}
 
-/// The first arrays keep their places, which lie below the words that they use, and no others stand anywhere. No other number of
+/// The first arrays keep their places, which lie below the words that they use, and no others are anywhere. No other number of
 /// first arrays uses as many words, unless it takes them all.
 pub fn first_arrays()
     ensures places { (arrays : List Block) (k q : ℕ)

@@ -2,14 +2,14 @@ ghost use Rattle.std.specs.Prelude.{◌≡◌, ◌≤◌, ◌<◌, ◌+◌, ◌�
 ghost use Rattle.int_region.specs.Arrays.{used_by, array_at, IsLive, kind_at, values_at, zeros, with_value, IsMark, IsSound};
 ghost use Rattle.int_region.specs.Kept.{words_of};
 
-use command_values::RegionWords;
+use nv_values::RegionWords;
 use std::alloc::{AllocError, Global};
 use std::marker::Model;
 
 /// The allocator had no room.
 pub type NoMemory = AllocError;
 
-/// Where an array stands: the number of words that the arrays before it use.
+/// Where an array is: the number of words that the arrays before it use.
 #[derive(Clone, Copy, Debug, PartialEq, Eq)]
 pub struct Place(pub u32);
 

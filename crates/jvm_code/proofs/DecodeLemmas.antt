@@ -4,9 +4,10 @@ use Rattle.std.proofs.lemmas.Bool.{or_parts, ltb-false}
 use Rattle.class_format.specs.declared.failure.Failure.{Failure}
 use Rattle.class_format.specs.declared.failure.Failure.TheVariants.{Missed, NoMemory}
 use Rattle.class_format.specs.Gives.{Fails}
-use Rattle.class_format.specs.Laws.{IsBytes}
-use Rattle.jvm_code.specs.declared.line.Line.{Line}
-use Rattle.jvm_code.specs.Code.{Lines, LinesFrom, lines_from, code_fault, is_bad_length, IsAnswer, refusal_of}
+use Rattle.class_definition.specs.Spelling.{IsBytes}
+use Rattle.class_definition.specs.declared.line.Line.{Line}
+use Rattle.class_definition.specs.Code.{Lines, LinesFrom, lines_from, code_fault, is_bad_length}
+use Rattle.jvm_code.specs.Answer.{IsAnswer, refusal_of}
 use Rattle.jvm_code.specs.Writing.{AreCode}
 use Rattle.jvm_code.proofs.LineLaws.{lines_are}
 

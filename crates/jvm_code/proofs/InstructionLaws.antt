@@ -2,50 +2,50 @@
 use Rattle.std.proofs.Common.{◌≡◌, ℕ, ◌^◌, ◌%◌, ◌<◌, Bool, true, false, cond, eqb, List, [], ◌∷◌, ◌++◌, length, Option, Some, None, Ok, Err, refl, sym, ap, subst, ◌∙◌, arith, lit<}
 use Rattle.std.specs.Int.{w8, w16, to_be_bytes}
 use Rattle.std.proofs.lemmas.Bool.{eqb-true, lt-ltb, ltb-true}
-use Rattle.jvm_names.specs.declared.array_name.ArrayName.TheVariants.{Iaload, Aaload, Iastore, Aastore}
-use Rattle.jvm_names.specs.declared.stack_name.StackName.TheVariants.{Pop, Pop2, Dup, DupX1, DupX2, Dup2, Swap}
-use Rattle.jvm_names.specs.declared.int_arithmetic.IntArithmetic.TheVariants.{Iadd, Isub, Imul, Iand, Ior, Ixor}
-use Rattle.jvm_names.specs.declared.int_division.IntDivision.TheVariants.{Idiv, Irem}
-use Rattle.jvm_names.specs.declared.int_shift.IntShift.TheVariants.{Ishl, Ishr, Iushr}
-use Rattle.jvm_names.specs.declared.long_arithmetic.LongArithmetic.TheVariants.{Ladd, Lmul, Land}
-use Rattle.jvm_names.specs.declared.long_division.LongDivision.TheVariants.{Ldiv, Lrem}
-use Rattle.jvm_names.specs.declared.long_shift.LongShift.TheVariants.{Lshl, Lshr, Lushr}
-use Rattle.jvm_names.specs.declared.conversion.Conversion.TheVariants.{I2l, L2i, I2b, I2c, I2s}
-use Rattle.jvm_names.specs.declared.return_name.ReturnName.TheVariants.{Ireturn, Return}
-use Rattle.jvm_names.specs.declared.branch_name.BranchName.TheVariants.{Ifeq, Ifne, Iflt, Ifge, Ifgt, Ifle, IfIcmpeq, IfIcmpne, IfIcmplt, IfIcmpge, IfIcmpgt, IfIcmple, Goto, Ifnull, Ifnonnull}
-use Rattle.class_format.specs.declared.miss.Miss.{Miss}
-use Rattle.class_format.specs.Format.{Format, Reading, signed}
-use Rattle.class_format.specs.Laws.{IsBytes, Begins, IsFormat}
+use Rattle.jvm_definition.specs.declared.array_name.ArrayName.TheVariants.{Iaload, Aaload, Iastore, Aastore}
+use Rattle.jvm_definition.specs.declared.stack_name.StackName.TheVariants.{Pop, Pop2, Dup, DupX1, DupX2, Dup2, Swap}
+use Rattle.jvm_definition.specs.declared.int_arithmetic.IntArithmetic.TheVariants.{Iadd, Isub, Imul, Iand, Ior, Ixor}
+use Rattle.jvm_definition.specs.declared.int_division.IntDivision.TheVariants.{Idiv, Irem}
+use Rattle.jvm_definition.specs.declared.int_shift.IntShift.TheVariants.{Ishl, Ishr, Iushr}
+use Rattle.jvm_definition.specs.declared.long_arithmetic.LongArithmetic.TheVariants.{Ladd, Lmul, Land}
+use Rattle.jvm_definition.specs.declared.long_division.LongDivision.TheVariants.{Ldiv, Lrem}
+use Rattle.jvm_definition.specs.declared.long_shift.LongShift.TheVariants.{Lshl, Lshr, Lushr}
+use Rattle.jvm_definition.specs.declared.conversion.Conversion.TheVariants.{I2l, L2i, I2b, I2c, I2s}
+use Rattle.jvm_definition.specs.declared.return_name.ReturnName.TheVariants.{Ireturn, Return}
+use Rattle.jvm_definition.specs.declared.branch_name.BranchName.TheVariants.{Ifeq, Ifne, Iflt, Ifge, Ifgt, Ifle, IfIcmpeq, IfIcmpne, IfIcmplt, IfIcmpge, IfIcmpgt, IfIcmple, Goto, Ifnull, Ifnonnull}
+use Rattle.class_definition.specs.declared.miss.Miss.{Miss}
+use Rattle.class_definition.specs.Format.{Format, Reading, signed}
+use Rattle.class_definition.specs.Spelling.{IsBytes, Begins, IsFormat}
 use Rattle.class_format.proofs.Readings.{went_on, same_value, IsBytes-rest}
 use Rattle.class_format.proofs.FieldLaws.{wide8, wide16, number_law}
 use Rattle.class_format.proofs.Signed.{signed8, signed16, signed_law}
 use Rattle.class_format.proofs.Combined.{both_law}
 use Rattle.class_format.proofs.Parts.{exactly_law}
-use Rattle.jvm_code.specs.declared.op.Op.{Op}
-use Rattle.jvm_code.specs.declared.op.Op.TheVariants.{Nop, AconstNull, Iconst, Bipush, Sipush, Ldc, Pool, Local, ShortLocal, Array, Stack, IntArithmetic, IntDivision, IntShift, LongArithmetic, LongDivision, LongShift, Iinc, Convert, Lcmp, Branch, GotoW, TableSwitch, LookupSwitch, Give, Newarray, Arraylength}
-use Rattle.jvm_code.specs.declared.names.iconst.Iconst.TheVariants as iconsts
-use Rattle.jvm_code.specs.declared.names.local_name.LocalName.TheVariants.{Iload, Aload, Istore, Astore}
-use Rattle.jvm_code.specs.declared.names.pool_name.PoolName.TheVariants.{LdcW, Ldc2W, Getstatic, Putstatic, Invokevirtual, Invokestatic, Anewarray}
-use Rattle.jvm_code.specs.declared.names.short_index.ShortIndex.TheVariants.{Zero, One, Two, Three}
-use Rattle.jvm_code.specs.Opcodes.{row_of, plain_of, local_names, branch_names, pool_names}
-use Rattle.jvm_code.specs.Targets.{outside, cut, near, wide}
-use Rattle.jvm_code.specs.Switches.{table_switch, lookup_switch}
-use Rattle.jvm_code.specs.Instructions.{opcode, byte, half, byte_pair, ints, operand_bytes, operands_fit, made, chosen, single, operands, inner, as_one, instruction}
+use Rattle.class_definition.specs.declared.op.Op.{Op}
+use Rattle.class_definition.specs.declared.op.Op.TheVariants.{Nop, AconstNull, Iconst, Bipush, Sipush, Ldc, Pool, Local, ShortLocal, Array, Stack, IntArithmetic, IntDivision, IntShift, LongArithmetic, LongDivision, LongShift, Iinc, Convert, Lcmp, Branch, GotoW, TableSwitch, LookupSwitch, Give, Newarray, Arraylength}
+use Rattle.class_definition.specs.declared.iconst.Iconst.TheVariants as iconsts
+use Rattle.class_definition.specs.declared.local_name.LocalName.TheVariants.{Iload, Aload, Istore, Astore}
+use Rattle.class_definition.specs.declared.pool_name.PoolName.TheVariants.{LdcW, Ldc2W, Getstatic, Putstatic, Invokevirtual, Invokestatic, Anewarray}
+use Rattle.class_definition.specs.declared.short_index.ShortIndex.TheVariants.{Zero, One, Two, Three}
+use Rattle.class_definition.specs.Opcodes.{row_of, plain_of, local_names, branch_names, pool_names}
+use Rattle.class_definition.specs.Targets.{outside, cut_instruction, near, wide}
+use Rattle.class_definition.specs.Switches.{table_switch, lookup_switch}
+use Rattle.class_definition.specs.Instructions.{opcode, byte, half_field, byte_pair, ints, operand_bytes, operands_fit, made_from, chosen, single, operands, inner, as_one, instruction}
 use Rattle.jvm_code.proofs.TargetLaws.{near_law, wide_law}
 use Rattle.jvm_code.proofs.SwitchLaws.{table_law, lookup_law}
 use Rattle.jvm_code.proofs.TableLaws.{IsPlain, plain_is, local_name_is, branch_name_is, pool_name_is}
 
 byte_law : IsFormat byte
-byte_law = number_law cut w8 wide8
+byte_law = number_law cut_instruction w8 wide8
 
-half_law : IsFormat half
-half_law = number_law cut w16 wide16
+half_law : IsFormat half_field
+half_law = number_law cut_instruction w16 wide16
 
 pair_law : IsFormat byte_pair
-pair_law = both_law byte (λ _. signed cut w8) byte_law (λ _. signed_law cut w8 wide8 signed8)
+pair_law = both_law byte (λ _. signed cut_instruction w8) byte_law (λ _. signed_law cut_instruction w8 wide8 signed8)
 
 ints_law : IsFormat ints
-ints_law = exactly_law cut w8 outside 10 wide8
+ints_law = exactly_law cut_instruction w8 outside 10 wide8
 
 -- ---- what is read
 
@@ -55,7 +55,7 @@ pub record Taken (at n : ℕ) (bytes : List ℕ) (op : Op) (rest : List ℕ) : T
   pub spelled : bytes ≡ operand_bytes at op ++ rest
 
 made_taken : {B : Type 0} (make : B → Op) (f : Format B) (at n : ℕ) → IsFormat f → ((b : B) → opcode (make b) ≡ n) → ((b : B) → operands_fit at (make b) ≡ f.fits b)
-    → ((b : B) → operand_bytes at (make b) ≡ f.spell b) → (bytes : List ℕ) (op : Op) (rest : List ℕ) → IsBytes bytes → made make f bytes ≡ Ok (op, rest) → Taken at n bytes op rest
+    → ((b : B) → operand_bytes at (make b) ≡ f.spell b) → (bytes : List ℕ) (op : Op) (rest : List ℕ) → IsBytes bytes → made_from make f bytes ≡ Ok (op, rest) → Taken at n bytes op rest
 made_taken make f at n law codes fit spell bytes op rest h e =
     let p = went_on (f.read bytes) (λ b. Ok (make b.0, b.1)) (op, rest) e in
     let t = law.taken bytes p.0.0 p.0.1 h p.1 in
@@ -78,8 +78,8 @@ plain_taken at n op' op bytes rest p e =
 single_taken : (at : ℕ) → at < 2 ^ 16 → (n : ℕ) (bytes : List ℕ) (op : Op) (rest : List ℕ) → IsBytes bytes → single at n bytes ≡ Ok (op, rest) → Taken at n bytes op rest
 unfolding single
 single_taken at low n bytes op rest h e =
-    by_test (Taken at n bytes op rest) (eqb n 16) _ _ (Ok (op, rest)) e (λ t r. made_taken Bipush (signed cut w8) at n (signed_law cut w8 wide8 signed8) (λ b. sym (eqb-true n 16 t)) (λ b. refl) (λ b. refl) bytes op rest h r) (λ e'.
-    by_test (Taken at n bytes op rest) (eqb n 17) _ _ (Ok (op, rest)) e' (λ t r. made_taken Sipush (signed cut w16) at n (signed_law cut w16 wide16 signed16) (λ b. sym (eqb-true n 17 t)) (λ b. refl) (λ b. refl) bytes op rest h r) (λ e'.
+    by_test (Taken at n bytes op rest) (eqb n 16) _ _ (Ok (op, rest)) e (λ t r. made_taken Bipush (signed cut_instruction w8) at n (signed_law cut_instruction w8 wide8 signed8) (λ b. sym (eqb-true n 16 t)) (λ b. refl) (λ b. refl) bytes op rest h r) (λ e'.
+    by_test (Taken at n bytes op rest) (eqb n 17) _ _ (Ok (op, rest)) e' (λ t r. made_taken Sipush (signed cut_instruction w16) at n (signed_law cut_instruction w16 wide16 signed16) (λ b. sym (eqb-true n 17 t)) (λ b. refl) (λ b. refl) bytes op rest h r) (λ e'.
     by_test (Taken at n bytes op rest) (eqb n 18) _ _ (Ok (op, rest)) e' (λ t r. made_taken Ldc (byte) at n (byte_law) (λ b. sym (eqb-true n 18 t)) (λ b. refl) (λ b. refl) bytes op rest h r) (λ e'.
     by_test (Taken at n bytes op rest) (eqb n 132) _ _ (Ok (op, rest)) e' (λ t r. made_taken (λ x. Iinc x.0 x.1) (byte_pair) at n (pair_law) (λ b. sym (eqb-true n 132 t)) (λ b. refl) (λ b. refl) bytes op rest h r) (λ e'.
     by_test (Taken at n bytes op rest) (eqb n 170) _ _ (Ok (op, rest)) e' (λ t r. made_taken TableSwitch (table_switch at) at n (table_law at low) (λ b. sym (eqb-true n 170 t)) (λ b. refl) (λ b. refl) bytes op rest h r) (λ e'.
@@ -97,7 +97,7 @@ operands_taken at low n bytes op rest h e =
     by_choice (Taken at n bytes op rest) (row_of n branch_names) _ _ (Ok (op, rest)) e2
     (λ name is r. made_taken (Branch name) (near at) at n (near_law at low) (λ b. branch_name_is n name is) (λ b. refl) (λ b. refl) bytes op rest h r) (λ e3.
     by_choice (Taken at n bytes op rest) (row_of n pool_names) _ _ (Ok (op, rest)) e3
-    (λ name is r. made_taken (Pool name) half at n half_law (λ b. pool_name_is n name is) (λ b. refl) (λ b. refl) bytes op rest h r)
+    (λ name is r. made_taken (Pool name) half_field at n half_law (λ b. pool_name_is n name is) (λ b. refl) (λ b. refl) bytes op rest h r)
     (λ e4. single_taken at low n bytes op rest h e4))))
 
 one_ok : {A : Type 0} (size : ℕ) (r : Reading A) (x : A × List ℕ) → as_one size r ≡ Ok x → r ≡ Ok x
@@ -117,7 +117,7 @@ instruction_taken at low bytes op rest h e =
 
 -- ---- what is spelled
 
-made_back : {B : Type 0} (make : B → Op) (f : Format B) → IsFormat f → (b : B) (rest : List ℕ) → f.fits b ≡ true → made make f (f.spell b ++ rest) ≡ Ok (make b, rest)
+made_back : {B : Type 0} (make : B → Op) (f : Format B) → IsFormat f → (b : B) (rest : List ℕ) → f.fits b ≡ true → made_from make f (f.spell b ++ rest) ≡ Ok (make b, rest)
 made_back make f law b rest e = rw (law.back b rest e) refl
 
 operands_back : (at : ℕ) → at < 2 ^ 16 → (op : Op) (rest : List ℕ) → operands_fit at op ≡ true → operands at (opcode op) (operand_bytes at op ++ rest) ≡ Ok (op, rest)
@@ -186,16 +186,16 @@ operands_back at low (ShortLocal Astore Zero) rest e = refl
 operands_back at low (ShortLocal Astore One) rest e = refl
 operands_back at low (ShortLocal Astore Two) rest e = refl
 operands_back at low (ShortLocal Astore Three) rest e = refl
-operands_back at low (Bipush n) rest e = made_back Bipush (signed cut w8) (signed_law cut w8 wide8 signed8) n rest e
-operands_back at low (Sipush n) rest e = made_back Sipush (signed cut w16) (signed_law cut w16 wide16 signed16) n rest e
+operands_back at low (Bipush n) rest e = made_back Bipush (signed cut_instruction w8) (signed_law cut_instruction w8 wide8 signed8) n rest e
+operands_back at low (Sipush n) rest e = made_back Sipush (signed cut_instruction w16) (signed_law cut_instruction w16 wide16 signed16) n rest e
 operands_back at low (Ldc slot) rest e = made_back Ldc byte byte_law slot rest e
-operands_back at low (Pool LdcW slot) rest e = made_back (Pool LdcW) half half_law slot rest e
-operands_back at low (Pool Ldc2W slot) rest e = made_back (Pool Ldc2W) half half_law slot rest e
-operands_back at low (Pool Getstatic slot) rest e = made_back (Pool Getstatic) half half_law slot rest e
-operands_back at low (Pool Putstatic slot) rest e = made_back (Pool Putstatic) half half_law slot rest e
-operands_back at low (Pool Invokevirtual slot) rest e = made_back (Pool Invokevirtual) half half_law slot rest e
-operands_back at low (Pool Invokestatic slot) rest e = made_back (Pool Invokestatic) half half_law slot rest e
-operands_back at low (Pool Anewarray slot) rest e = made_back (Pool Anewarray) half half_law slot rest e
+operands_back at low (Pool LdcW slot) rest e = made_back (Pool LdcW) half_field half_law slot rest e
+operands_back at low (Pool Ldc2W slot) rest e = made_back (Pool Ldc2W) half_field half_law slot rest e
+operands_back at low (Pool Getstatic slot) rest e = made_back (Pool Getstatic) half_field half_law slot rest e
+operands_back at low (Pool Putstatic slot) rest e = made_back (Pool Putstatic) half_field half_law slot rest e
+operands_back at low (Pool Invokevirtual slot) rest e = made_back (Pool Invokevirtual) half_field half_law slot rest e
+operands_back at low (Pool Invokestatic slot) rest e = made_back (Pool Invokestatic) half_field half_law slot rest e
+operands_back at low (Pool Anewarray slot) rest e = made_back (Pool Anewarray) half_field half_law slot rest e
 operands_back at low (Local Iload index) rest e = made_back (Local Iload) byte byte_law index rest e
 operands_back at low (Local Aload index) rest e = made_back (Local Aload) byte byte_law index rest e
 operands_back at low (Local Istore index) rest e = made_back (Local Istore) byte byte_law index rest e

@@ -2,14 +2,14 @@
 use Rattle.std.proofs.Common.{◌≡◌, ℕ, zero, suc, ◌+◌, ◌-◌, ◌<◌, ◌≤◌, true, false, cond, eqb, List, [], ◌∷◌, length, Result, Ok, Err, refl, ap, subst, ◌∙◌, arith}
 use Rattle.std.proofs.lemmas.Bool.{eqb-true}
 use Rattle.std.proofs.lemmas.List.{nil_from_length, length-append}
-use Rattle.class_format.specs.declared.miss.Miss.{Miss}
-use Rattle.class_format.specs.Format.{Reading}
-use Rattle.class_format.specs.Laws.{IsBytes, Begins}
+use Rattle.class_definition.specs.declared.miss.Miss.{Miss}
+use Rattle.class_definition.specs.Format.{Reading}
+use Rattle.class_definition.specs.Spelling.{IsBytes, Begins}
 use Rattle.class_format.proofs.Readings.{same_value, IsBytes-rest}
-use Rattle.jvm_code.specs.declared.line.Line.{Line}
-use Rattle.jvm_code.specs.declared.op.Op.{Op}
-use Rattle.jvm_code.specs.Instructions.{opcode, operand_bytes, instruction}
-use Rattle.jvm_code.specs.Code.{LinesFrom, behind_line, then_lines, lines_from}
+use Rattle.class_definition.specs.declared.line.Line.{Line}
+use Rattle.class_definition.specs.declared.op.Op.{Op}
+use Rattle.class_definition.specs.Instructions.{opcode, operand_bytes, instruction}
+use Rattle.class_definition.specs.Code.{LinesFrom, behind_line, then_lines, lines_from}
 use Rattle.jvm_code.proofs.InstructionLaws.{instruction_law}
 
 went_on : (f : Op × List ℕ → Result (List Line) Miss) (r : Reading Op) (lines : List Line) → then_lines f r ≡ Ok lines → (x : Op × List ℕ) × (r ≡ Ok x) × (f x ≡ Ok lines)

@@ -2,14 +2,14 @@
 use Rattle.std.proofs.Common.{◌≡◌, ℕ, suc, ◌-◌, eqb, false, List, [], ◌∷◌, ◌++◌, length, Result, Ok, Err, refl, sym, ap, ◌∙◌, append_assoc}
 use Rattle.std.proofs.lemmas.List.{append-nil}
 use Rattle.std.proofs.lemmas.Bool.{eq-eqb}
-use Rattle.class_format.specs.declared.miss.Miss.{Miss}
+use Rattle.class_definition.specs.declared.miss.Miss.{Miss}
 use Rattle.class_format.specs.declared.failure.Failure.{Failure}
 use Rattle.class_format.specs.declared.failure.Failure.TheVariants.{Missed, NoMemory}
 use Rattle.class_format.specs.Gives.{Fails}
-use Rattle.jvm_code.specs.declared.line.Line.{Line}
-use Rattle.jvm_code.specs.declared.op.Op.{Op}
-use Rattle.jvm_code.specs.Instructions.{instruction}
-use Rattle.jvm_code.specs.Code.{behind_line, lines_from}
+use Rattle.class_definition.specs.declared.line.Line.{Line}
+use Rattle.class_definition.specs.declared.op.Op.{Op}
+use Rattle.class_definition.specs.Instructions.{instruction}
+use Rattle.class_definition.specs.Code.{behind_line, lines_from}
 
 -- the lines before, and those that are still read
 abbrev pub with_lines : List Line → Result (List Line) Miss → Result (List Line) Miss

@@ -2,12 +2,13 @@
 use Rattle.std.proofs.Common.{◌≡◌, ℕ, zero, suc, ◌+◌, ◌-◌, ◌<◌, ◌≤◌, true, false, eqb, List, [], ◌∷◌, ◌++◌, length, None, Ok, refl, sym, ap, subst, ◌∙◌, arith, append_assoc}
 use Rattle.std.proofs.lemmas.Bool.{ne_eqb, le-ltb}
 use Rattle.std.proofs.lemmas.List.{length-append, append-nil, nil_from_length}
-use Rattle.class_format.specs.declared.miss.Miss.{Miss}
+use Rattle.class_definition.specs.declared.miss.Miss.{Miss}
 use Rattle.class_format.proofs.Readings.{same_value}
-use Rattle.jvm_code.specs.declared.line.Line.{Line}
-use Rattle.jvm_code.specs.Instructions.{instruction}
-use Rattle.jvm_code.specs.Code.{Lines, LinesFrom, lines_from, code_fault, is_bad_length, target_fault}
-use Rattle.jvm_code.specs.Writing.{size_at, AreLaid, AreCode}
+use Rattle.class_definition.specs.declared.line.Line.{Line}
+use Rattle.class_definition.specs.Instructions.{instruction}
+use Rattle.class_definition.specs.Code.{Lines, LinesFrom, lines_from, code_fault, is_bad_length, line_target_fault}
+use Rattle.class_definition.specs.Sizes.{size_at}
+use Rattle.jvm_code.specs.Writing.{AreLaid, AreCode}
 use Rattle.jvm_code.proofs.InstructionLaws.{instruction_law}
 use Rattle.jvm_code.proofs.SizeLemmas.{size_is}
 
@@ -95,7 +96,7 @@ some_lines : (code : List ℕ) (lines : List Line) → is_bad_length (length cod
 some_lines code [] good are = absurd (let P : List ℕ → Type 0 = λ bytes. is_bad_length (length bytes) ≡ false in let e : is_bad_length 0 ≡ false = subst P are good in cc)
 some_lines code (l ∷ lines) good are = omega arith
 
-pub are_code : (code : List ℕ) (lines : List Line) → is_bad_length (length code) ≡ false → length code ≤ 65535 → Lines code lines → target_fault lines lines ≡ None → AreCode lines
+pub are_code : (code : List ℕ) (lines : List Line) → is_bad_length (length code) ≡ false → length code ≤ 65535 → Lines code lines → line_target_fault lines lines ≡ None → AreCode lines
 are_code code lines good few are targets = (some_lines code lines good are, laid_of 0 code lines are (omega arith), targets)
 
 -- ---- what encoding promises
@@ -127,7 +128,7 @@ made_only code lines others is laid are =
     let few : length code ≤ 65535 = rw is (spelling_few lines laid) in
     one_list code lines others few (made_lines code lines is laid) are
 
-pub made_sound : (code : List ℕ) (lines : List Line) → code ≡ spelling lines → 0 < length lines → AreLaid 0 lines → target_fault lines lines ≡ None → code_fault code ≡ None
+pub made_sound : (code : List ℕ) (lines : List Line) → code ≡ spelling lines → 0 < length lines → AreLaid 0 lines → line_target_fault lines lines ≡ None → code_fault code ≡ None
 made_sound code lines is some laid targets =
     let few : length code ≤ 65535 = rw is (spelling_few lines laid) in
     let positive : 0 < length code = rw is (some_bytes lines some) in

@@ -4,17 +4,17 @@ use Rattle.std.specs.Int.{w32}
 use Rattle.std.proofs.lemmas.Int.{ints}
 use Rattle.std.proofs.lemmas.Bool.{and_parts, eqb-true, ltb-true}
 use Rattle.std.proofs.lemmas.Option.{same_Some}
-use Rattle.jvm_names.specs.declared.pair.Pair.{Pair}
-use Rattle.jvm_names.specs.declared.table_switch.TableSwitch.{TableSwitch}
-use Rattle.jvm_names.specs.declared.lookup_switch.LookupSwitch.{LookupSwitch}
-use Rattle.class_format.specs.Format.{number, raw, both, repeated, tested, unless, is_sound, signed}
-use Rattle.class_format.specs.Laws.{IsFormat}
+use Rattle.jvm_definition.specs.declared.pair.Pair.{Pair}
+use Rattle.jvm_definition.specs.declared.table_switch.TableSwitch.{TableSwitch}
+use Rattle.jvm_definition.specs.declared.lookup_switch.LookupSwitch.{LookupSwitch}
+use Rattle.class_definition.specs.Format.{number_format, raw, both, repeated, tested, fault_unless, is_sound, signed}
+use Rattle.class_definition.specs.Spelling.{IsFormat}
 use Rattle.class_format.proofs.FieldLaws.{wide32, number_law, raw_law}
 use Rattle.class_format.proofs.Signed.{signed32, signed_law}
 use Rattle.class_format.proofs.Combined.{both_law, repeated_law, mapped_law, tested_law}
 use Rattle.class_format.proofs.Parts.{passes}
-use Rattle.jvm_code.specs.Targets.{cut, switch_keys, wide}
-use Rattle.jvm_code.specs.Switches.{pad_of, is_padding, keys_in, TableHead, table_count, table_head, last_key, table_switch, LookupHead, lookup_head, pair, rises, lookup_switch}
+use Rattle.class_definition.specs.Targets.{cut_instruction, switch_keys, wide}
+use Rattle.class_definition.specs.Switches.{pad_of, is_padding, keys_in, TableHead, table_count, table_head, last_key, table_switch, LookupHead, lookup_head, pair, rises, lookup_switch}
 use Rattle.jvm_code.proofs.TargetLaws.{wide_law}
 
 -- padding is zeros
@@ -27,10 +27,10 @@ padding_is (b ∷ bytes) n e len =
 table_head_law : (at : ℕ) → at < 2 ^ 16 → IsFormat (table_head at)
 table_head_law at low =
     tested_law switch_keys (λ head. is_padding head.0 && ltb 0 (table_count head))
-    (both (raw cut (pad_of at)) (λ _. both (wide at) (λ _. both (signed cut w32) (λ _. signed cut w32))))
-    (both_law (raw cut (pad_of at)) (λ _. both (wide at) (λ _. both (signed cut w32) (λ _. signed cut w32))) (raw_law cut (pad_of at))
-    (λ _. both_law (wide at) (λ _. both (signed cut w32) (λ _. signed cut w32)) (wide_law at low)
-    (λ _. both_law (signed cut w32) (λ _. signed cut w32) (signed_law cut w32 wide32 signed32) (λ _. signed_law cut w32 wide32 signed32))))
+    (both (raw cut_instruction (pad_of at)) (λ _. both (wide at) (λ _. both (signed cut_instruction w32) (λ _. signed cut_instruction w32))))
+    (both_law (raw cut_instruction (pad_of at)) (λ _. both (wide at) (λ _. both (signed cut_instruction w32) (λ _. signed cut_instruction w32))) (raw_law cut_instruction (pad_of at))
+    (λ _. both_law (wide at) (λ _. both (signed cut_instruction w32) (λ _. signed cut_instruction w32)) (wide_law at low)
+    (λ _. both_law (signed cut_instruction w32) (λ _. signed cut_instruction w32) (signed_law cut_instruction w32 wide32 signed32) (λ _. signed_law cut_instruction w32 wide32 signed32))))
 
 -- the greatest key is as far from the least as there are keys
 last_from : (d low high : ℤ) (n : ℕ) → high -ℤ low ≡ d → n ≡ keys_in d → 0 < n → (low +ℤ pos n) -ℤ pos 1 ≡ high
@@ -52,7 +52,7 @@ table_back : (at : ℕ) (b : TableHead × List ℕ) → (both (table_head at) (�
     → table_value (replicate (pad_of at) 0) b.0.1.0 b.0.1.1.0 (last_key (table_made b)) b.1 ≡ b
 table_back at b e =
     let p = and_parts ((table_head at).fits b.0) ((repeated (wide at) (table_count b.0)).fits b.1) e in
-    let q = and_parts _ (is_sound (unless switch_keys (is_padding b.0.0 && ltb 0 (table_count b.0)))) p.0 in
+    let q = and_parts _ (is_sound (fault_unless switch_keys (is_padding b.0.0 && ltb 0 (table_count b.0)))) p.0 in
     let r = and_parts (eqb (length b.0.0) (pad_of at)) _ q.0 in
     let s = and_parts (is_padding b.0.0) (ltb 0 (table_count b.0)) (passes switch_keys (is_padding b.0.0 && ltb 0 (table_count b.0)) q.1) in
     let t = and_parts (eqb (length b.1) (table_count b.0)) _ p.1 in
@@ -78,17 +78,17 @@ table_law at low =
 
 lookup_head_law : (at : ℕ) → at < 2 ^ 16 → IsFormat (lookup_head at)
 lookup_head_law at low =
-    tested_law switch_keys (λ head. is_padding head.0 && ltb head.1.1 (2 ^ 31)) (both (raw cut (pad_of at)) (λ _. both (wide at) (λ _. number cut w32)))
-    (both_law (raw cut (pad_of at)) (λ _. both (wide at) (λ _. number cut w32)) (raw_law cut (pad_of at))
-    (λ _. both_law (wide at) (λ _. number cut w32) (wide_law at low) (λ _. number_law cut w32 wide32)))
+    tested_law switch_keys (λ head. is_padding head.0 && ltb head.1.1 (2 ^ 31)) (both (raw cut_instruction (pad_of at)) (λ _. both (wide at) (λ _. number_format cut_instruction w32)))
+    (both_law (raw cut_instruction (pad_of at)) (λ _. both (wide at) (λ _. number_format cut_instruction w32)) (raw_law cut_instruction (pad_of at))
+    (λ _. both_law (wide at) (λ _. number_format cut_instruction w32) (wide_law at low) (λ _. number_law cut_instruction w32 wide32)))
 
 abbrev pair_made : ℤ × ℕ → Pair
 pair_made x = record { key = x.0; target = x.1 }
 
 pair_law : (at : ℕ) → at < 2 ^ 16 → IsFormat (pair at)
 pair_law at low =
-    mapped_law (λ x. record { key = x.0; target = x.1 }) (λ p. Some (p.key, p.target)) (both (signed cut w32) (λ _. wide at))
-    (both_law (signed cut w32) (λ _. wide at) (signed_law cut w32 wide32 signed32) (λ _. wide_law at low))
+    mapped_law (λ x. record { key = x.0; target = x.1 }) (λ p. Some (p.key, p.target)) (both (signed cut_instruction w32) (λ _. wide at))
+    (both_law (signed cut_instruction w32) (λ _. wide at) (signed_law cut_instruction w32 wide32 signed32) (λ _. wide_law at low))
     (record { back_of = λ b e. refl; made_of = λ p b e. sym (ap pair_made (same_Some (p.key, p.target) b e)) })
 
 abbrev lookup_value : List ℕ → ℕ → ℕ → List Pair → LookupHead × List Pair
@@ -104,10 +104,10 @@ lookup_back : (at : ℕ) (b : LookupHead × List Pair) → (both (lookup_head at
     → lookup_value (replicate (pad_of at) 0) b.0.1.0 (length b.1) b.1 ≡ b
 lookup_back at b e =
     let p = and_parts ((lookup_head at).fits b.0) ((tested switch_keys rises (repeated (pair at) b.0.1.1)).fits b.1) e in
-    let q = and_parts _ (is_sound (unless switch_keys (is_padding b.0.0 && ltb b.0.1.1 (2 ^ 31)))) p.0 in
+    let q = and_parts _ (is_sound (fault_unless switch_keys (is_padding b.0.0 && ltb b.0.1.1 (2 ^ 31)))) p.0 in
     let r = and_parts (eqb (length b.0.0) (pad_of at)) _ q.0 in
     let s = and_parts (is_padding b.0.0) (ltb b.0.1.1 (2 ^ 31)) (passes switch_keys (is_padding b.0.0 && ltb b.0.1.1 (2 ^ 31)) q.1) in
-    let t = and_parts ((repeated (pair at) b.0.1.1).fits b.1) (is_sound (unless switch_keys (rises b.1))) p.1 in
+    let t = and_parts ((repeated (pair at) b.0.1.1).fits b.1) (is_sound (fault_unless switch_keys (rises b.1))) p.1 in
     let u = and_parts (eqb (length b.1) b.0.1.1) _ t.0 in
     lookup_again (replicate (pad_of at) 0) b.0.0 b.0.1.0 (length b.1) b.0.1.1 b.1 (sym (padding_is b.0.0 (pad_of at) s.0 (eqb-true _ _ r.0))) (eqb-true _ _ u.0)
 

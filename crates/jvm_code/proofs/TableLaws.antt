@@ -3,12 +3,12 @@ use Rattle.std.proofs.Common.{◌≡◌, ℕ, true, false, cond, eqb, List, [], 
 use Rattle.std.specs.Option.{option_or}
 use Rattle.std.proofs.lemmas.Bool.{eqb-true}
 use Rattle.std.proofs.lemmas.Option.{same_Some}
-use Rattle.jvm_names.specs.declared.branch_name.BranchName.{BranchName}
-use Rattle.jvm_code.specs.declared.op.Op.{Op}
-use Rattle.jvm_code.specs.declared.names.local_name.LocalName.{LocalName}
-use Rattle.jvm_code.specs.declared.names.pool_name.PoolName.{PoolName}
-use Rattle.jvm_code.specs.Opcodes.{row_of, constants, short_locals, moves, arithmetic, others, plain_of, local_names, branch_names, pool_names, local_name_opcode, branch_name_opcode, pool_name_opcode}
-use Rattle.jvm_code.specs.Instructions.{opcode, operand_bytes, operands_fit}
+use Rattle.jvm_definition.specs.declared.branch_name.BranchName.{BranchName}
+use Rattle.class_definition.specs.declared.op.Op.{Op}
+use Rattle.class_definition.specs.declared.local_name.LocalName.{LocalName}
+use Rattle.class_definition.specs.declared.pool_name.PoolName.{PoolName}
+use Rattle.class_definition.specs.Opcodes.{row_of, constants, short_locals, move_opcodes, arithmetic_opcodes, others, plain_of, local_names, branch_names, pool_names, local_name_opcode, branch_name_opcode, pool_name_opcode}
+use Rattle.class_definition.specs.Instructions.{opcode, operand_bytes, operands_fit}
 
 -- an instruction of an opcode, without operands
 abbrev pub IsPlain : ℕ → Op → Type 0
@@ -38,10 +38,10 @@ constants_plain = ((refl, ((λ at. refl), (λ at. refl))), ((refl, ((λ at. refl
 short_locals_plain : Rows IsPlain short_locals
 short_locals_plain = ((refl, ((λ at. refl), (λ at. refl))), ((refl, ((λ at. refl), (λ at. refl))), ((refl, ((λ at. refl), (λ at. refl))), ((refl, ((λ at. refl), (λ at. refl))), ((refl, ((λ at. refl), (λ at. refl))), ((refl, ((λ at. refl), (λ at. refl))), ((refl, ((λ at. refl), (λ at. refl))), ((refl, ((λ at. refl), (λ at. refl))), ((refl, ((λ at. refl), (λ at. refl))), ((refl, ((λ at. refl), (λ at. refl))), ((refl, ((λ at. refl), (λ at. refl))), ((refl, ((λ at. refl), (λ at. refl))), ((refl, ((λ at. refl), (λ at. refl))), ((refl, ((λ at. refl), (λ at. refl))), ((refl, ((λ at. refl), (λ at. refl))), ((refl, ((λ at. refl), (λ at. refl))), tt))))))))))))))))
 
-moves_plain : Rows IsPlain moves
+moves_plain : Rows IsPlain move_opcodes
 moves_plain = ((refl, ((λ at. refl), (λ at. refl))), ((refl, ((λ at. refl), (λ at. refl))), ((refl, ((λ at. refl), (λ at. refl))), ((refl, ((λ at. refl), (λ at. refl))), ((refl, ((λ at. refl), (λ at. refl))), ((refl, ((λ at. refl), (λ at. refl))), ((refl, ((λ at. refl), (λ at. refl))), ((refl, ((λ at. refl), (λ at. refl))), ((refl, ((λ at. refl), (λ at. refl))), ((refl, ((λ at. refl), (λ at. refl))), ((refl, ((λ at. refl), (λ at. refl))), tt)))))))))))
 
-arithmetic_plain : Rows IsPlain arithmetic
+arithmetic_plain : Rows IsPlain arithmetic_opcodes
 arithmetic_plain = ((refl, ((λ at. refl), (λ at. refl))), ((refl, ((λ at. refl), (λ at. refl))), ((refl, ((λ at. refl), (λ at. refl))), ((refl, ((λ at. refl), (λ at. refl))), ((refl, ((λ at. refl), (λ at. refl))), ((refl, ((λ at. refl), (λ at. refl))), ((refl, ((λ at. refl), (λ at. refl))), ((refl, ((λ at. refl), (λ at. refl))), ((refl, ((λ at. refl), (λ at. refl))), ((refl, ((λ at. refl), (λ at. refl))), ((refl, ((λ at. refl), (λ at. refl))), ((refl, ((λ at. refl), (λ at. refl))), ((refl, ((λ at. refl), (λ at. refl))), ((refl, ((λ at. refl), (λ at. refl))), ((refl, ((λ at. refl), (λ at. refl))), ((refl, ((λ at. refl), (λ at. refl))), ((refl, ((λ at. refl), (λ at. refl))), ((refl, ((λ at. refl), (λ at. refl))), ((refl, ((λ at. refl), (λ at. refl))), tt)))))))))))))))))))
 
 others_plain : Rows IsPlain others
@@ -57,10 +57,10 @@ plain_is n op e =
       | inl a ↦ found_row IsPlain constants constants_plain n op a
       | inr b ↦ elim (either (row_of n short_locals) _ op b) [
         | inl a ↦ found_row IsPlain short_locals short_locals_plain n op a
-        | inr c ↦ elim (either (row_of n moves) _ op c) [
-          | inl a ↦ found_row IsPlain moves moves_plain n op a
-          | inr d ↦ elim (either (row_of n arithmetic) (row_of n others) op d) [
-            | inl a ↦ found_row IsPlain arithmetic arithmetic_plain n op a
+        | inr c ↦ elim (either (row_of n move_opcodes) _ op c) [
+          | inl a ↦ found_row IsPlain move_opcodes moves_plain n op a
+          | inr d ↦ elim (either (row_of n arithmetic_opcodes) (row_of n others) op d) [
+            | inl a ↦ found_row IsPlain arithmetic_opcodes arithmetic_plain n op a
             | inr f ↦ found_row IsPlain others others_plain n op f
           ]
         ]

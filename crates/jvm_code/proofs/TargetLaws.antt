@@ -3,11 +3,11 @@ use Rattle.std.proofs.Common.{◌≡◌, ℕ, ◌-◌, ◌^◌, ◌<◌, ◌≤�
 use Rattle.std.specs.Int.{w16, w32}
 use Rattle.std.proofs.lemmas.Bool.{ltb-true, leb-true, lt-ltb, le-ltb}
 use Rattle.std.proofs.lemmas.Bool.Decides.{nat_tests}
-use Rattle.class_format.specs.Format.{number}
-use Rattle.class_format.specs.Laws.{IsFormat}
+use Rattle.class_definition.specs.Format.{number_format}
+use Rattle.class_definition.specs.Spelling.{IsFormat}
 use Rattle.class_format.proofs.FieldLaws.{wide16, wide32, number_law}
 use Rattle.class_format.proofs.Combined.{mapped_law}
-use Rattle.jvm_code.specs.Targets.{cut, extended, target_from, offset_to, near_bits, near, wide}
+use Rattle.class_definition.specs.Targets.{cut_instruction, extended, target_from, offset_to, near_bits, near, wide}
 use Rattle.std.proofs.lemmas.Option.{same_Some}
 
 -- a choice that gave something
@@ -35,7 +35,7 @@ wide_back at low bits e = rw (target_below at bits, offset_back at bits low (ltb
 
 pub wide_law : (at : ℕ) → at < 2 ^ 16 → IsFormat (wide at)
 wide_law at low =
-    mapped_law (λ bits. target_from at bits) (λ target. cond (ltb target (2 ^ 32)) (Some (offset_to at target)) None) (number cut w32) (number_law cut w32 wide32)
+    mapped_law (λ bits. target_from at bits) (λ target. cond (ltb target (2 ^ 32)) (Some (offset_to at target)) None) (number_format cut_instruction w32) (number_law cut_instruction w32 wide32)
     (record { back_of = wide_back at low; made_of = wide_made at low })
 
 extended_below : (bits : ℕ) → bits < 2 ^ 16 → extended bits < 2 ^ 32
@@ -76,5 +76,5 @@ near_made at low target bits e =
 
 pub near_law : (at : ℕ) → at < 2 ^ 16 → IsFormat (near at)
 near_law at low =
-    mapped_law (λ bits. target_from at (extended bits)) (λ target. cond (ltb target (2 ^ 32)) (near_bits (offset_to at target)) None) (number cut w16) (number_law cut w16 wide16)
+    mapped_law (λ bits. target_from at (extended bits)) (λ target. cond (ltb target (2 ^ 32)) (near_bits (offset_to at target)) None) (number_format cut_instruction w16) (number_law cut_instruction w16 wide16)
     (record { back_of = near_back at low; made_of = near_made at low })

@@ -1,6 +1,2 @@
-pub mod Opcodes
-pub mod Targets
-pub mod Switches
-pub mod Instructions
-pub mod Code
 pub mod Writing
+pub mod Answer

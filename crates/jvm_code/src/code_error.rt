@@ -1,4 +1,4 @@
-use crate::code_fault::CodeFault;
+use class_definition::CodeFault;
 
 /// Why code was not read.
 #[derive(Debug, PartialEq, Eq, Drop)]

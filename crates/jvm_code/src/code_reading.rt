@@ -1,10 +1,10 @@
 //! Code from bytes.
 ghost use Rattle.std.specs.Prelude.{◌≡◌, ◌≤◌, ◌<◌, ◌^◌, length};
 ghost use Rattle.class_format.specs.Gives.{Gives};
-ghost use Rattle.jvm_code.specs.Code as format;
+ghost use Rattle.class_definition.specs.Code as format;
 
 use crate::instruction_reading::instruction_of;
-use crate::line::Line;
+use class_definition::Line;
 use class_format::Failure;
 use std::alloc::Global;
 

@@ -1,14 +1,14 @@
 //! Code from bytes, with what is wrong.
 ghost use Rattle.std.specs.Prelude.{◌≡◌, ◌≤◌, List, None, IfOk, OnOk, IfErr, length};
-ghost use Rattle.jvm_code.specs.declared.line.Line.{Line};
-ghost use Rattle.jvm_code.specs.Code as format;
+ghost use Rattle.class_definition.specs.declared.line.Line.{Line};
+ghost use Rattle.jvm_code.specs.Answer.{refusal_of, IsAnswer};
+ghost use Rattle.class_definition.specs.Code as format;
 ghost use Rattle.jvm_code.specs.Writing.{AreCode};
 
 use crate::code_error::CodeError;
-use crate::code_fault::CodeFault;
 use crate::code_reading::lines_of;
-use crate::line::Line;
 use crate::marks::{marks_of, target_fault};
+use class_definition::{CodeFault, Line};
 use class_format::{Failure, Miss};
 use std::alloc::Global;
 
@@ -23,7 +23,7 @@ const LENGTH: u32 = 5;
 ///
 /// Refused, exactly with the first instruction at fault. NoMemory.
 pub fn decode_ops(alloc: Global, code: &[u8]) -> Result<Vec<Line>, CodeError>
-    ensures refused { IfErr result (format.IsAnswer (format.code_fault code.now)) }
+    ensures refused { IfErr result (IsAnswer (format.code_fault code.now)) }
     ensures accepted { OnOk result (format.code_fault code.now ≡ None) }
     ensures lines { IfOk result (λ lines. format.Lines code.now lines.items) }
     ensures only_lines { IfOk result (λ lines. (others : List Line) → format.Lines code.now others
@@ -50,7 +50,7 @@ fn is_bad_length(length: usize) -> bool
 
 fn refusal(size: usize, failure: Failure) -> CodeError
     requires { size ≤ 65535 }
-    ensures { result ≡ format.refusal_of size failure }
+    ensures { result ≡ refusal_of size failure }
 {
     match failure {
         Failure::Missed(Miss { kind, left }) => CodeError::Refused(CodeFault {
@@ -63,9 +63,9 @@ fn refusal(size: usize, failure: Failure) -> CodeError
 
 // These lines of a code of so many bytes, where their targets are lines.
 fn with_targets(alloc: Global, size: usize, lines: Vec<Line>) -> Result<Vec<Line>, CodeError>
-    ensures refused { IfErr result (format.IsAnswer (format.target_fault lines.items lines.items)) }
+    ensures refused { IfErr result (IsAnswer (format.line_target_fault lines.items lines.items)) }
     ensures accepted { IfOk result (λ kept. (kept.items ≡ lines.items)
-        × (format.target_fault lines.items lines.items ≡ None)) }
+        × (format.line_target_fault lines.items lines.items ≡ None)) }
 {
     match marks_of(alloc, size, &lines) {
         Err(_) => Err(CodeError::NoMemory),

@@ -1,11 +1,11 @@
 //! Code as bytes.
 ghost use Rattle.std.specs.Prelude.{◌≡◌, ℕ, List, None, IfOk};
-ghost use Rattle.jvm_code.specs.declared.line.Line.{Line};
-ghost use Rattle.jvm_code.specs.Code as format;
+ghost use Rattle.class_definition.specs.declared.line.Line.{Line};
+ghost use Rattle.class_definition.specs.Code as format;
 ghost use Rattle.jvm_code.specs.Writing.{AreCode};
 
 use crate::instruction_writing::append_instruction;
-use crate::line::Line;
+use class_definition::Line;
 use std::alloc::{AllocError, Global};
 
 /// Memory ran out.
@@ -13,7 +13,7 @@ pub type NoMemory = AllocError;
 
 /// The bytes of code, from which [`decode_ops`](crate::decode_ops) reads these lines and no others.
 ///
-/// There is a line. The first one stands at 0 and each other where the one before ends, by its [`size`](crate::size); the last
+/// There is a line. The first one is at 0 and each other where the one before ends, by its [`size`](crate::size); the last
 /// one ends at 65,535 or below. Each target is a line's offset, and a branch with an offset of two bytes reaches it. A
 /// `tableswitch` has a target and no key above the greatest `i32`; the keys of a `lookupswitch` rise.
 ///

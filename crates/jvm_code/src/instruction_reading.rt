@@ -1,16 +1,16 @@
 //! Instructions from bytes.
 ghost use Rattle.std.specs.Prelude.{◌≡◌, ◌<◌, ◌^◌};
 ghost use Rattle.class_format.specs.Gives.{Gives};
-ghost use Rattle.jvm_code.specs.Instructions as format;
+ghost use Rattle.class_definition.specs.Instructions as format;
 
-use crate::op::Op;
 use crate::opcodes::{branch_name_of, local_name_of, plain_by_opcode, pool_name_of};
 use crate::reading::{near_of, wide_of};
 use crate::switch_reading::{lookup_switch_of, table_switch_of};
+use class_definition::Op;
 use class_format::{
     Failure, byte_of, exact_byte_of, half_of, missed, signed_byte_of, signed_half_of,
 };
-use jvm_names::Kept;
+use jvm_definition::Kept;
 use std::alloc::Global;
 
 const OUTSIDE: u32 = 1;
@@ -20,7 +20,7 @@ const CUT: u32 = 2;
 /// The kind of arrays of ints (JVM Specification, 6.5, newarray).
 const INTS: u8 = 10;
 
-/// The instruction at the front, which stands at a place of the code. Whatever is at fault within it is at fault at its opcode.
+/// The instruction at the front, which is at a place of the code. Whatever is at fault within it is at fault at its opcode.
 pub fn instruction_of(alloc: Global, at: u32, bytes: &[u8]) -> Result<(Op, &[u8]), Failure>
     requires { at < 2 ^ 16 }
     ensures { Gives (λ x. (x.0, x.1.now)) result ((format.instruction at).read bytes.now) }
@@ -40,7 +40,7 @@ fn inner_of(alloc: Global, at: u32, bytes: &[u8]) -> Result<(Op, &[u8]), Failure
     operands_of(alloc, at, opcode, rest)
 }
 
-#[tactic(auto, unfolding(crate::specs::Instructions::operands))]
+#[tactic(auto, unfolding(class_definition::specs::Instructions::operands))]
 fn operands_of(alloc: Global, at: u32, opcode: u8, bytes: &[u8]) -> Result<(Op, &[u8]), Failure>
     requires { at < 2 ^ 16 }
     ensures { Gives (λ x. (x.0, x.1.now)) result (format.operands at opcode bytes.now) }
@@ -63,7 +63,7 @@ fn operands_of(alloc: Global, at: u32, opcode: u8, bytes: &[u8]) -> Result<(Op, 
     single_of(alloc, at, opcode, bytes)
 }
 
-#[tactic(auto, unfolding(crate::specs::Instructions::single))]
+#[tactic(auto, unfolding(class_definition::specs::Instructions::single))]
 fn single_of(alloc: Global, at: u32, opcode: u8, bytes: &[u8]) -> Result<(Op, &[u8]), Failure>
     requires { at < 2 ^ 16 }
     ensures { Gives (λ x. (x.0, x.1.now)) result (format.single at opcode bytes.now) }

@@ -1,18 +1,18 @@
 //! Instructions as bytes.
 ghost use Rattle.std.specs.Prelude.{◌≡◌, ◌<◌, ◌^◌, ◌++◌, true, OnOk};
-ghost use Rattle.jvm_code.specs.Instructions as format;
+ghost use Rattle.class_definition.specs.Instructions as format;
 
 use crate::encode::NoMemory;
 use crate::number_writing::{append_byte, append_half, append_signed_byte, append_signed_half};
-use crate::op::Op;
 use crate::opcode::opcode_of;
 use crate::switch_writing::{append_lookup_switch, append_table_switch};
 use crate::target_writing::{append_near, append_wide};
+use class_definition::Op;
 
 /// The kind of arrays of ints (JVM Specification, 6.5, newarray).
 const INTS: u8 = 10;
 
-/// Appends an instruction that stands at a place.
+/// Appends an instruction that is at a place.
 pub fn append_instruction(code: &mut Vec<u8>, at: u32, op: &Op) -> Result<(), NoMemory>
     requires low { at < 2 ^ 16 }
     requires fits { (format.instruction at).fits op.now ≡ true }

@@ -1,19 +1,18 @@
 //! Whether the targets of instructions are lines.
 ghost use Rattle.std.specs.Prelude.{◌≡◌, List, IfOk, true, map, slice_set};
 ghost use Rattle.std.specs.List.{list_all};
-ghost use Rattle.jvm_code.specs.Code as format;
+ghost use Rattle.jvm_code.specs.Answer.{AreMarks};
+ghost use Rattle.class_definition.specs.Code as format;
 
-use crate::code_fault::CodeFault;
-use crate::line::Line;
-use crate::op::Op;
-use jvm_names::Pair;
+use class_definition::{CodeFault, Line, Op};
+use jvm_definition::Pair;
 use std::alloc::{AllocError, Global};
 
 const BAD_TARGET: u32 = 3;
 
 /// For each byte of a code of so many bytes, whether a line begins there.
 pub fn marks_of(alloc: Global, size: usize, lines: &[Line]) -> Result<Vec<bool>, AllocError>
-    ensures { IfOk result (λ marks. format.AreMarks lines.now marks.items) }
+    ensures { IfOk result (λ marks. AreMarks lines.now marks.items) }
 {
     let mut marks = vec![in alloc; false; size]?;
     for line in lines {
@@ -32,8 +31,8 @@ fn mark(marks: &mut Vec<bool>, at: usize)
 
 /// The first line with a target that is no line's offset.
 pub fn target_fault(marks: &[bool], lines: &[Line]) -> Option<CodeFault>
-    requires { format.AreMarks lines.now marks.now }
-    ensures { result ≡ format.target_fault lines.now lines.now }
+    requires { AreMarks lines.now marks.now }
+    ensures { result ≡ format.line_target_fault lines.now lines.now }
 {
     let mut rest = lines;
     while let Some((line, others)) = rest.split_first() {
@@ -49,7 +48,7 @@ pub fn target_fault(marks: &[bool], lines: &[Line]) -> Option<CodeFault>
 }
 
 fn are_targets_lines(marks: &[bool], lines: &[Line], op: &Op) -> bool
-    requires { format.AreMarks lines.now marks.now }
+    requires { AreMarks lines.now marks.now }
     ensures { result ≡ list_all (format.is_line lines.now) (format.targets_of op.now) }
 {
     match op {
@@ -70,7 +69,7 @@ fn are_targets_lines(marks: &[bool], lines: &[Line], op: &Op) -> bool
 }
 
 fn are_lines(marks: &[bool], lines: &[Line], targets: &[u32]) -> bool
-    requires { format.AreMarks lines.now marks.now }
+    requires { AreMarks lines.now marks.now }
     ensures { result ≡ list_all (format.is_line lines.now) targets.now }
 {
     let mut rest = targets;
@@ -84,7 +83,7 @@ fn are_lines(marks: &[bool], lines: &[Line], targets: &[u32]) -> bool
 }
 
 fn are_pairs_lines(marks: &[bool], lines: &[Line], pairs: &[Pair]) -> bool
-    requires { format.AreMarks lines.now marks.now }
+    requires { AreMarks lines.now marks.now }
     ensures { result ≡ list_all (format.is_line lines.now) (map (λ p. p.target) pairs.now) }
 {
     let mut rest = pairs;
@@ -99,7 +98,7 @@ fn are_pairs_lines(marks: &[bool], lines: &[Line], pairs: &[Pair]) -> bool
 
 // A target past the marks is looked for among the lines: it is not there, so this ends the search for the first fault.
 fn is_line(marks: &[bool], lines: &[Line], target: u32) -> bool
-    requires { format.AreMarks lines.now marks.now }
+    requires { AreMarks lines.now marks.now }
     ensures { result ≡ format.is_line lines.now target }
 {
     match marks.get(target as usize) {

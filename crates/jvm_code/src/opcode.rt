@@ -1,5 +1,5 @@
 ghost use Rattle.std.specs.Prelude.{◌≡◌};
-ghost use Rattle.jvm_code.specs.Instructions.{opcode};
+ghost use Rattle.class_definition.specs.Instructions.{opcode};
 
 use crate::names::array_name::opcode_of_array_name;
 use crate::names::branch_name::opcode_of_branch_name;
@@ -16,7 +16,7 @@ use crate::names::pool_name::opcode_of_pool_name;
 use crate::names::return_name::opcode_of_return_name;
 use crate::names::short_index::opcode_of_short;
 use crate::names::stack_name::opcode_of_stack_name;
-use crate::op::Op;
+use class_definition::Op;
 
 /// The opcode of an instruction (JVM Specification, 6.5).
 pub fn opcode_of(op: &Op) -> u8

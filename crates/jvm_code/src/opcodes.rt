@@ -1,13 +1,9 @@
 //! Instructions without operands, and names, from opcodes.
 ghost use Rattle.std.specs.Prelude.{◌≡◌};
-ghost use Rattle.jvm_code.specs.Opcodes.{row_of, constants, short_locals, moves, arithmetic, others, plain_of, local_names, branch_names, pool_names};
+ghost use Rattle.class_definition.specs.Opcodes.{row_of, constants, short_locals, move_opcodes, arithmetic_opcodes, others, plain_of, local_names, branch_names, pool_names};
 
-use crate::names::iconst::Iconst;
-use crate::names::local_name::LocalName;
-use crate::names::pool_name::PoolName;
-use crate::names::short_index::ShortIndex;
-use crate::op::Op;
-use jvm_names::{
+use class_definition::{Iconst, LocalName, Op, PoolName, ShortIndex};
+use jvm_definition::{
     ArrayName, BranchName, Conversion, IntArithmetic, IntDivision, IntShift, LongArithmetic,
     LongDivision, LongShift, ReturnName, StackName,
 };
@@ -73,7 +69,7 @@ fn short_locals_of(opcode: u8) -> Option<Op>
 }
 
 fn moves_of(opcode: u8) -> Option<Op>
-    ensures { result ≡ row_of opcode moves }
+    ensures { result ≡ row_of opcode move_opcodes }
 {
     Some(match opcode {
         46 => Op::Array(ArrayName::Iaload),
@@ -92,7 +88,7 @@ fn moves_of(opcode: u8) -> Option<Op>
 }
 
 fn arithmetic_of(opcode: u8) -> Option<Op>
-    ensures { result ≡ row_of opcode arithmetic }
+    ensures { result ≡ row_of opcode arithmetic_opcodes }
 {
     Some(match opcode {
         96 => Op::IntArithmetic(IntArithmetic::Iadd),

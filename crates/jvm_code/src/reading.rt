@@ -1,9 +1,9 @@
 //! Instructions from bytes.
 ghost use Rattle.std.specs.Prelude.{◌≡◌, ◌<◌, ◌^◌, length};
 ghost use Rattle.class_format.specs.Gives.{Gives};
-ghost use Rattle.jvm_code.specs.Targets as targets;
-ghost use Rattle.jvm_code.specs.Switches as switches;
-ghost use Rattle.jvm_code.specs.Instructions as format;
+ghost use Rattle.class_definition.specs.Targets as targets;
+ghost use Rattle.class_definition.specs.Switches as switches;
+ghost use Rattle.class_definition.specs.Instructions as format;
 
 use class_format::{Failure, half_of, word_of};
 

@@ -1,17 +1,18 @@
 //! How long instructions are.
 ghost use Rattle.std.specs.Prelude.{◌≡◌, true, length};
-ghost use Rattle.jvm_code.specs.Instructions.{instruction};
+ghost use Rattle.class_definition.specs.Instructions.{instruction};
+ghost use Rattle.class_definition.specs.Sizes.{size_at};
 ghost use Rattle.jvm_code.specs.Writing as format;
 
-use crate::op::Op;
 use crate::switch_reading::pad_of;
+use class_definition::Op;
 
-/// The number of bytes of an instruction that stands at `at`, an offset from the code's start. A switch has at most 16,384
+/// The number of bytes of an instruction that is at `at`, an offset from the code's start. A switch has at most 16,384
 /// targets but for its default. It takes no memory.
 #[tactic(auto, using(crate::proofs::SizeLemmas::size_is))]
 pub fn size(op: &Op, at: u32) -> u32
     requires { format.HasFewTargets op.now }
-    ensures value { result ≡ format.size_at at op.now }
+    ensures value { result ≡ size_at at op.now }
     ensures spelled { (instruction at).fits op.now ≡ true
         → length ((instruction at).spell op.now) ≡ result }
 {

@@ -1,13 +1,13 @@
 //! The operands of switches from bytes.
 ghost use Rattle.std.specs.Prelude.{◌≡◌, ◌<◌, ◌^◌, ◌&&◌, nat_lt};
 ghost use Rattle.class_format.specs.Gives.{Gives};
-ghost use Rattle.class_format.specs.Format.{repeated};
-ghost use Rattle.jvm_code.specs.Targets.{wide};
-ghost use Rattle.jvm_code.specs.Switches as format;
+ghost use Rattle.class_definition.specs.Format.{repeated};
+ghost use Rattle.class_definition.specs.Targets.{wide};
+ghost use Rattle.class_definition.specs.Switches as format;
 
 use crate::reading::wide_of;
 use class_format::{Failure, missed, raw_of, signed_word_of, word_of};
-use jvm_names::{LookupSwitch, Pair, Sequence, TableSwitch};
+use jvm_definition::{LookupSwitch, Pair, Sequence, TableSwitch};
 use std::alloc::Global;
 
 const CUT: u32 = 2;
@@ -15,7 +15,7 @@ const CUT: u32 = 2;
 const SWITCH_KEYS: u32 = 4;
 
 /// The operands of a `tableswitch` at a place.
-#[tactic(auto, unfolding(crate::specs::Switches::table_switch))]
+#[tactic(auto, unfolding(class_definition::specs::Switches::table_switch))]
 pub fn table_switch_of(
     alloc: Global,
     at: u32,
@@ -59,7 +59,7 @@ fn is_table_head(padding: &[u8], low: i32, high: i32) -> bool
     is_padding(padding) && 0 < key_count(low, high)
 }
 
-/// The number of padding bytes behind a switch's opcode at a place.
+/// The number of padding bytes after a switch's opcode at a place.
 pub fn pad_of(at: u32) -> usize
     ensures { result ≡ format.pad_of at }
 {
@@ -112,7 +112,7 @@ fn targets_of(
 }
 
 /// The operands of a `lookupswitch` at a place.
-#[tactic(auto, unfolding(crate::specs::Switches::lookup_switch))]
+#[tactic(auto, unfolding(class_definition::specs::Switches::lookup_switch))]
 pub fn lookup_switch_of(
     alloc: Global,
     at: u32,

@@ -1,15 +1,15 @@
 //! The operands of switches as bytes.
 ghost use Rattle.std.specs.Prelude.{◌≡◌, ◌≤◌, ◌<◌, ◌^◌, ◌++◌, true, OnOk, length, replicate};
 ghost use Rattle.std.specs.Int.{w32};
-ghost use Rattle.class_format.specs.Format.{fits_signed, chain_spelling};
-ghost use Rattle.jvm_code.specs.Targets.{wide};
-ghost use Rattle.jvm_code.specs.Switches as format;
+ghost use Rattle.class_definition.specs.Format.{fits_signed, chain_spelling};
+ghost use Rattle.class_definition.specs.Targets.{wide};
+ghost use Rattle.class_definition.specs.Switches as format;
 
 use crate::encode::NoMemory;
 use crate::number_writing::{append_signed_word, append_word};
 use crate::switch_reading::pad_of;
 use crate::target_writing::append_wide;
-use jvm_names::{LookupSwitch, Pair, TableSwitch};
+use jvm_definition::{LookupSwitch, Pair, TableSwitch};
 
 /// Appends the operands of a `tableswitch` at a place.
 pub fn append_table_switch(

@@ -1,6 +1,6 @@
 //! Targets as bytes: offsets from the instruction.
 ghost use Rattle.std.specs.Prelude.{◌≡◌, ◌<◌, ◌^◌, ◌++◌, true, OnOk};
-ghost use Rattle.jvm_code.specs.Targets.{near, wide, offset_to};
+ghost use Rattle.class_definition.specs.Targets.{near, wide, offset_to};
 
 use crate::encode::NoMemory;
 use crate::number_writing::{append_half, append_word};

@@ -1,14 +1,14 @@
 -- The effects of the instructions on arrays, over a region's arrays.
 use Rattle.std.proofs.Common.{◌≡◌, ◌≢◌, ℕ, ◌+◌, ◌<◌, ◌≤◌, ◌^◌, nat_lt, ◌==◌, ◌&&◌, Bool, true, false, if◌then◌else◌, List, [], ◌∷◌, ◌++◌, length, slice_index, Option, Some, None, option_map, refl, ap, sym, subst, ◌∙◌, arith}
 use Rattle.std.proofs.lemmas.Bool.{lt-ltb, le-ltb, le-leb, lt-leb, eqb-true, eqb-false}
-use Rattle.jvm_names.specs.declared.array_name.ArrayName.TheVariants.{Iastore, Aastore}
-use Rattle.jvm_program.specs.declared.array_kind.ArrayKind.{ArrayKind}
-use Rattle.jvm_program.specs.declared.instruction.Instruction.{Instruction}
-use Rattle.jvm_program.specs.declared.instruction.Instruction.TheVariants as instructions
-use Rattle.jvm_program.specs.declared.value.Value.{Value}
-use Rattle.jvm_program.specs.declared.value.Value.TheVariants.{Int as int, Null as null, Array as array}
-use Rattle.jvm_program.specs.Values.{Array, ints, pages, Heap, is_ints, is_ints_reference, is_pages, is_pages_reference, new_array, with_new, with_int, with_page}
-use Rattle.jvm_program.specs.Effect.{Workspace, Effect, goes_on, traps, wrong, index_trap, size_trap, room_trap, effect, with_heap, as_ints, as_pages, within}
+use Rattle.jvm_definition.specs.declared.array_name.ArrayName.TheVariants.{Iastore, Aastore}
+use Rattle.jvm_definition.specs.declared.array_kind.ArrayKind.{ArrayKind}
+use Rattle.jvm_definition.specs.declared.instruction.Instruction.{Instruction}
+use Rattle.jvm_definition.specs.declared.instruction.Instruction.TheVariants as instructions
+use Rattle.jvm_definition.specs.declared.value.Value.{Value}
+use Rattle.jvm_definition.specs.declared.value.Value.TheVariants.{Int as int, Null as null, Array as array}
+use Rattle.jvm_definition.specs.Values.{Array, ints, pages, Heap, is_ints, is_ints_reference, is_pages, is_pages_reference, new_array, with_new, with_int, with_page}
+use Rattle.jvm_definition.specs.Effect.{Workspace, InstructionEffect, goes_on, traps, wrong, index_trap, size_trap, room_trap, instruction_effect, workspace_with_heap, as_ints, as_pages, within}
 use Rattle.int_region.specs.Arrays.{Block, used_by, array_at, with_value, zeros, values_at, values_in, kind_at, kind_in}
 use Rattle.jvm_heap.specs.Regions.{place_of, value_of, kind_of, array_of, heap_of}
 use Rattle.jvm_heap.specs.HeapForms.{Does, Traps}
@@ -21,48 +21,48 @@ found_ints arrays p b is e = ap (option_map array_of) is ∙ ap Some (ints_of b 
 found_pages : (arrays : List Block) (p : ℕ) (b : Block) → array_at arrays p ≡ Some b → b.kind ≡ 1 → option_map array_of (array_at arrays p) ≡ Some (pages (length b.values) (λ i. place_of (slice_index b.values i)))
 found_pages arrays p b is e = ap (option_map array_of) is ∙ ap Some (pages_of b e)
 
-inside : (i size : ℕ) (e : Effect) → i < size → within i size e ≡ e
+inside : (i size : ℕ) (e : InstructionEffect) → i < size → within i size e ≡ e
 inside i size e h = ap (λ t. if t then e else traps index_trap) (lt-ltb i size h)
 
-outside : (i size : ℕ) (e : Effect) → size ≤ i → within i size e ≡ traps index_trap
+outside : (i size : ℕ) (e : InstructionEffect) → size ≤ i → within i size e ≡ traps index_trap
 outside i size e h = ap (λ t. if t then e else traps index_trap) (le-ltb i size h)
 
 pub int_stored : (arrays : List Block) (words p i n : ℕ) (rest : List Value) (b : Block) → array_at arrays p ≡ Some b → b.kind ≡ 0 → i < length b.values → Does words (instructions.Array Iastore) (int n ∷ int i ∷ array p ∷ rest) (heap_of arrays) rest (heap_of (with_value arrays p i n))
 int_stored arrays words p i n rest b is e h program w =
-    let done = goes_on (with_heap w rest (with_int (heap_of arrays) p i n)) in
+    let done = goes_on (workspace_with_heap w rest (with_int (heap_of arrays) p i n)) in
     ap (λ a. as_ints a (λ size f. within i size done)) (found_ints arrays p b is e)
     ∙ inside i (length b.values) done h
-    ∙ ap (λ heap. goes_on (with_heap w rest heap)) (sym (heap_put_int arrays p i n b is e h))
+    ∙ ap (λ heap. goes_on (workspace_with_heap w rest heap)) (sym (heap_put_int arrays p i n b is e h))
 
-page_put : (arrays : List Block) (words p i : ℕ) (element : Option ℕ) (rest : List Value) (b : Block) (w : Workspace) → array_at arrays p ≡ Some b → b.kind ≡ 1 → i < length b.values → as_pages (option_map array_of (array_at arrays p)) (λ size f. within i size (goes_on (with_heap w rest (with_page (heap_of arrays) p i element)))) ≡ goes_on (with_heap w rest (heap_of (with_value arrays p i (value_of element))))
+page_put : (arrays : List Block) (words p i : ℕ) (element : Option ℕ) (rest : List Value) (b : Block) (w : Workspace) → array_at arrays p ≡ Some b → b.kind ≡ 1 → i < length b.values → as_pages (option_map array_of (array_at arrays p)) (λ size f. within i size (goes_on (workspace_with_heap w rest (with_page (heap_of arrays) p i element)))) ≡ goes_on (workspace_with_heap w rest (heap_of (with_value arrays p i (value_of element))))
 page_put arrays words p i element rest b w is e h =
-    let done = goes_on (with_heap w rest (with_page (heap_of arrays) p i element)) in
+    let done = goes_on (workspace_with_heap w rest (with_page (heap_of arrays) p i element)) in
     ap (λ a. as_pages a (λ size f. within i size done)) (found_pages arrays p b is e)
     ∙ inside i (length b.values) done h
-    ∙ ap (λ heap. goes_on (with_heap w rest heap)) (sym (heap_put_page arrays p i element b is e h))
+    ∙ ap (λ heap. goes_on (workspace_with_heap w rest heap)) (sym (heap_put_page arrays p i element b is e h))
 
 pub null_stored : (arrays : List Block) (words p i : ℕ) (rest : List Value) (b : Block) → array_at arrays p ≡ Some b → b.kind ≡ 1 → i < length b.values → Does words (instructions.Array Aastore) (null ∷ int i ∷ array p ∷ rest) (heap_of arrays) rest (heap_of (with_value arrays p i 0))
 null_stored arrays words p i rest b is e h program w = page_put arrays words p i None rest b w is e h
 
 pub page_stored : (arrays : List Block) (words p i q : ℕ) (rest : List Value) (b c : Block) → array_at arrays p ≡ Some b → b.kind ≡ 1 → i < length b.values → array_at arrays q ≡ Some c → c.kind ≡ 0 → Does words (instructions.Array Aastore) (array q ∷ int i ∷ array p ∷ rest) (heap_of arrays) rest (heap_of (with_value arrays p i (q + 1)))
 page_stored arrays words p i q rest b c is e h there kind program w =
-    let put = λ (element : Option ℕ). as_pages (option_map array_of (array_at arrays p)) (λ size f. within i size (goes_on (with_heap w rest (with_page (heap_of arrays) p i element)))) in
+    let put = λ (element : Option ℕ). as_pages (option_map array_of (array_at arrays p)) (λ size f. within i size (goes_on (workspace_with_heap w rest (with_page (heap_of arrays) p i element)))) in
     ap (λ o. if is_ints o then put (Some q) else wrong) (found_ints arrays q c there kind)
     ∙ page_put arrays words p i (Some q) rest b w is e h
 
 -- ---- lengths and new arrays
 
-allocation : (arrays : List Block) (kind : ArrayKind) (size : ℕ) (rest : List Value) (w : Workspace) → Bool → Bool → Effect
+allocation : (arrays : List Block) (kind : ArrayKind) (size : ℕ) (rest : List Value) (w : Workspace) → Bool → Bool → InstructionEffect
 allocation arrays kind size rest w too_large no_room =
     if too_large then traps size_trap else if no_room then traps room_trap
-    else goes_on (with_heap w (array (used_by arrays) ∷ rest) (with_new (heap_of arrays) (new_array kind size)))
+    else goes_on (workspace_with_heap w (array (used_by arrays) ∷ rest) (with_new (heap_of arrays) (new_array kind size)))
 
 pub allocated : (arrays : List Block) (words size : ℕ) (kind : ArrayKind) (rest : List Value) → size < 2 ^ 31 → used_by arrays + size + 2 ≤ words → Does words (instructions.NewArray kind) (int size ∷ rest) (heap_of arrays) (array (used_by arrays) ∷ rest) (heap_of (arrays ++ zeros (kind_of kind) size ∷ []))
 unfolding allocation
 allocated arrays words size kind rest small room program w =
     ap (λ t. allocation arrays kind size rest w t (nat_lt words (used_by arrays + size + 2))) (lt-leb (2 ^ 31) size small)
     ∙ ap (allocation arrays kind size rest w false) (le-ltb words (used_by arrays + size + 2) room)
-    ∙ ap (λ heap. goes_on (with_heap w (array (used_by arrays) ∷ rest) heap)) (sym (heap_new arrays kind size))
+    ∙ ap (λ heap. goes_on (workspace_with_heap w (array (used_by arrays) ∷ rest) heap)) (sym (heap_new arrays kind size))
 
 pub too_large : (arrays : List Block) (words size : ℕ) (kind : ArrayKind) (rest : List Value) → 2 ^ 31 ≤ size → Traps words (instructions.NewArray kind) (int size ∷ rest) (heap_of arrays) size_trap
 unfolding allocation
@@ -79,9 +79,9 @@ no_room arrays words size kind rest small none program w =
 
 pub does_by : (words : ℕ) (i : Instruction) (old given new left : List Value) (heap after made : Heap) → old ≡ given → left ≡ new → made ≡ after → Does words i given heap left made → Does words i old heap new after
 does_by words i old given new left heap after made e f g does program w =
-    ap (λ operands. effect program words i (with_heap w operands heap)) e
+    ap (λ operands. instruction_effect program words i (workspace_with_heap w operands heap)) e
     ∙ does program w
-    ∙ (λ j. goes_on (with_heap w (f j) (g j)))
+    ∙ (λ j. goes_on (workspace_with_heap w (f j) (g j)))
 
 -- ---- what operands are arrays
 

@@ -2,9 +2,9 @@
 use Rattle.std.proofs.Common.{◌≡◌, ◌≢◌, ℕ, zero, suc, ◌+◌, ◌-◌, ◌<◌, ◌==◌, Bool, true, false, if◌then◌else◌, List, [], ◌∷◌, ◌++◌, length, slice_index, slice_set, replicate, Option, Some, None, option_map, refl, ap, sym, ◌∙◌, arith, add_assoc}
 use Rattle.std.proofs.lemmas.Bool.{eqb-true, eq-eqb, ne_eqb, eqb-false}
 use Rattle.std.proofs.lemmas.List.{get_or-set_same, get_or-set_other, length-set, length-replicate}
-use Rattle.jvm_program.specs.declared.array_kind.ArrayKind.{ArrayKind}
-use Rattle.jvm_program.specs.declared.array_kind.ArrayKind.TheVariants as array_kinds
-use Rattle.jvm_program.specs.Values.{Array, ints, pages, array_length, new_array, with_new, set_int, set_page, with_int, with_page}
+use Rattle.jvm_definition.specs.declared.array_kind.ArrayKind.{ArrayKind}
+use Rattle.jvm_definition.specs.declared.array_kind.ArrayKind.TheVariants as array_kinds
+use Rattle.jvm_definition.specs.Values.{Array, ints, pages, array_length, new_array, with_new, set_int, set_page, with_int, with_page}
 use Rattle.int_region.specs.Arrays.{Block, used_by, array_at, with_element, with_value, zeros}
 use Rattle.int_region.proofs.ArrayLemmas.{used_by-with_value, used_by-added, array_at-with_value, array_at-added}
 use Rattle.jvm_heap.specs.Regions.{place_of, value_of, kind_of, array_of, heap_of}

@@ -3,9 +3,9 @@ use Rattle.std.specs.Prelude.{◌≡◌, ℕ, ◌/◌, ◌%◌, ◌^◌, ◌≤�
 use Rattle.std.specs.Option.{option_or}
 use Rattle.std.proofs.Common.{ap, sym, ◌∙◌}
 use Rattle.std.proofs.lemmas.Bool.{le-ltb}
-use Rattle.nv_words.specs.Words.{lane_of_word, word_with_lane}
-use Rattle.jvm_program.specs.Values.{Array, ints, pages, Heap, set_int, with_int}
-use Rattle.jvm_program.specs.HostMemory.{HostMemory, Cell, page_in, word_in, cell_of, byte_of, memory_of, with_cell, with_byte}
+use Rattle.run_definition.specs.Words.{lane_of_word, word_with_lane}
+use Rattle.jvm_definition.specs.Values.{Array, ints, pages, Heap, set_int, with_int}
+use Rattle.jvm_definition.specs.HostMemory.{HostMemory, Cell, page_in, word_in_array, cell_of, byte_of, memory_of, with_cell, with_host_byte}
 
 or_some : (o p : Option ℕ) → is_some p ≡ true → is_some (option_or o p) ≡ true
 or_some None p h = h
@@ -46,7 +46,7 @@ some_word size k x y = by_test (nat_lt k size)
     by_test false = refl
 
 word_kept : (o : Option Array) (i w k : ℕ) (t : Bool)
-    → is_some (word_in (if t then set_int o i w else o) k) ≡ is_some (word_in o k)
+    → is_some (word_in_array (if t then set_int o i w else o) k) ≡ is_some (word_in_array o k)
 word_kept None i w k true = refl
 word_kept (Some (ints size f)) i w k true = some_word size k (if k == i then w else f k) (f k)
 word_kept (Some (pages size f)) i w k true = refl
@@ -59,7 +59,7 @@ some_map f (Some x) = refl
 -- a cell is there where its page and its word are
 cell_there : (heap : Heap) (a : ℕ) (page : Option ℕ) → Bool
 cell_there heap a None = false
-cell_there heap a (Some p) = is_some (word_in (heap.array_at p) (a / 4 % 1024))
+cell_there heap a (Some p) = is_some (word_in_array (heap.array_at p) (a / 4 % 1024))
 
 abbrev page_at : Heap → Option ℕ → ℕ → Option ℕ
 page_at heap table a = option_and_then (λ t. page_in (heap.array_at t) (a / 4096)) table
@@ -69,11 +69,11 @@ cell_in p i w = record { place = p; index = i; word = w }
 
 cell_by : (heap : Heap) (a : ℕ) (page : Option ℕ)
     → is_some (option_and_then (λ p. option_map (cell_in p (a / 4 % 1024))
-    (word_in (heap.array_at p) (a / 4 % 1024))) page) ≡ cell_there heap a page
+    (word_in_array (heap.array_at p) (a / 4 % 1024))) page) ≡ cell_there heap a page
 unfolding cell_there
 cell_by heap a None = refl
 cell_by heap a (Some p) =
-    some_map (cell_in p (a / 4 % 1024)) (word_in (heap.array_at p) (a / 4 % 1024))
+    some_map (cell_in p (a / 4 % 1024)) (word_in_array (heap.array_at p) (a / 4 % 1024))
 
 there_kept : (heap : Heap) (q i w a : ℕ) (page : Option ℕ)
     → cell_there (with_int heap q i w) a page ≡ cell_there heap a page
@@ -125,7 +125,7 @@ or_kept (Some x) p None t e f = let bad : false ≡ true = e in absurd cc
 or_kept (Some x) p (Some y) t e f = refl
 
 pub readable_stays : (m : HostMemory) (a b x : ℕ) → b < 256 → IsTrue ((memory_of m).writable a)
-    → is_some ((memory_of (with_byte m a b)).byte x) ≡ is_some ((memory_of m).byte x)
+    → is_some ((memory_of (with_host_byte m a b)).byte x) ≡ is_some ((memory_of m).byte x)
 readable_stays m a b x small h =
     let cell = cell_of m.heap m.writable a in
     or_kept (byte_of m.heap m.readable x) (byte_of m.heap m.writable x)
@@ -135,5 +135,5 @@ readable_stays m a b x small h =
     (kept_by m.heap cell (a % 4) b x m.writable)
 
 pub writable_stays : (m : HostMemory) (a b x : ℕ) → b < 256 → IsTrue ((memory_of m).writable a)
-    → (memory_of (with_byte m a b)).writable x ≡ (memory_of m).writable x
+    → (memory_of (with_host_byte m a b)).writable x ≡ (memory_of m).writable x
 writable_stays m a b x small h = kept_by m.heap (cell_of m.heap m.writable a) (a % 4) b x m.writable

@@ -1,19 +1,19 @@
-//! The instructions on arrays. Where one traps, operands and arrays are as they were.
+//! The instructions on arrays. If one traps, operands and arrays are as they were.
 ghost use Rattle.std.specs.Prelude.{◌≡◌, ◌∷◌, [], ℕ, List, Option, IsTrue, IsFalse, OnOk, OnErr, IfErr, option_map};
-ghost use Rattle.jvm_names.specs.declared.array_name.ArrayName.TheVariants.{Iaload, Aaload, Iastore, Aastore};
-ghost use Rattle.jvm_program.specs.declared.instruction.Instruction.TheVariants as instructions;
-ghost use Rattle.jvm_program.specs.declared.value.Value.{Value as StackValue};
-ghost use Rattle.jvm_program.specs.declared.value.Value.TheVariants.{Int as int};
-ghost use Rattle.jvm_program.specs.Values.{is_int, is_ints_reference, is_pages_reference, reference as reference_to};
-ghost use Rattle.jvm_frames.specs.Stack.{on_top};
-ghost use Rattle.jvm_frames.specs.Trap.{trap_kind};
+ghost use Rattle.jvm_definition.specs.declared.array_name.ArrayName.TheVariants.{Iaload, Aaload, Iastore, Aastore};
+ghost use Rattle.jvm_definition.specs.declared.instruction.Instruction.TheVariants as instructions;
+ghost use Rattle.jvm_definition.specs.declared.value.Value.{Value as StackValue};
+ghost use Rattle.jvm_definition.specs.declared.value.Value.TheVariants.{Int as int};
+ghost use Rattle.jvm_definition.specs.Values.{is_int, is_ints_reference, is_pages_reference, reference_value as reference_to};
+ghost use Rattle.jvm_activations.specs.Stack.{on_top};
+ghost use Rattle.jvm_activations.specs.Trap.{trap_kind};
 ghost use Rattle.jvm_heap.specs.Regions.{heap_of, is_array_reference, place_of, element_word, kind_of as region_kind};
 ghost use Rattle.jvm_heap.specs.Heaps.{IsSafe};
 ghost use Rattle.jvm_heap.specs.HeapForms.{Does, Gives, Traps, element_trap};
 
 use int_region::{Place, Region};
-use jvm_frames::{Operands, Trap};
-use jvm_program::{ArrayKind, Value};
+use jvm_activations::{Operands, Trap};
+use jvm_definition::{ArrayKind, Value};
 
 /// `iaload`.
 #[inline]
@@ -69,7 +69,7 @@ pub fn load_page(operands: &mut Operands, region: &Region) -> Result<(), Trap>
     Ok(())
 }
 
-/// `iaload` at an index that is not pushed. Where it traps, the operands are as they were without it.
+/// `iaload` at an index that is not pushed. If it traps, the operands are as they were without it.
 #[inline(always)]
 pub fn int_at(operands: &mut Operands, region: &Region, i: u32) -> Result<(), Trap>
     requires { IsTrue
@@ -94,7 +94,7 @@ pub fn int_at(operands: &mut Operands, region: &Region, i: u32) -> Result<(), Tr
     Ok(())
 }
 
-/// `aaload` at an index that is not pushed. Where it traps, the operands are as they were without it.
+/// `aaload` at an index that is not pushed. If it traps, the operands are as they were without it.
 #[inline(always)]
 pub fn page_at(operands: &mut Operands, region: &Region, i: u32) -> Result<(), Trap>
     requires { IsTrue

@@ -1,5 +1,5 @@
 ghost use Rattle.std.specs.Prelude.{◌≡◌, ◌<◌, None, option_map, length, IfSome};
-ghost use Rattle.jvm_program.specs.HostMemory.{cell_of as definition, page_in, word_in};
+ghost use Rattle.jvm_definition.specs.HostMemory.{cell_of as definition, page_in, word_in_array};
 ghost use Rattle.int_region.specs.Arrays.{values_at};
 ghost use Rattle.jvm_heap.specs.Heaps.{IsSafe, IsTable, StandsAt, cell_as};
 ghost use Rattle.jvm_heap.specs.Regions.{heap_of};
@@ -37,7 +37,7 @@ fn page_of(region: &Region, table: u32, page: u32) -> Option<u32>
 #[inline]
 fn word_of(region: &Region, place: u32, index: u32) -> Option<u32>
     requires { StandsAt region.now.arrays place 0 }
-    ensures found { result ≡ word_in ((heap_of region.now.arrays).array_at place) index }
+    ensures found { result ≡ word_in_array ((heap_of region.now.arrays).array_at place) index }
     ensures within { IfSome result (λ _. index < length (values_at region.now.arrays place)) }
 {
     if region.len(Place(place)) <= index {

@@ -1,13 +1,13 @@
 ghost use Rattle.std.specs.Prelude.{◌≡◌, ◌≤◌, ◌∷◌, [], ℕ, None, IfOk, IsTrue, OnOk, OnErr, IfErr};
-ghost use Rattle.jvm_program.specs.Values.{is_pages_reference, reference};
-ghost use Rattle.jvm_program.specs.HostMemory.{memory_of, byte_of};
+ghost use Rattle.jvm_definition.specs.Values.{is_pages_reference, reference_value};
+ghost use Rattle.jvm_definition.specs.HostMemory.{memory_of, byte_of};
 ghost use Rattle.jvm_heap.specs.Regions.{heap_of};
 ghost use Rattle.jvm_heap.specs.Viewing.{written_is_readable, memory_ends, readable_stays, writable_stays};
 
 use crate::cell::cell_of;
-use command_values::RegionWords;
 use int_region::{Mark, NoMemory, Place, Region};
 use nv_events::View;
+use nv_values::RegionWords;
 use nv_words::{lane, with_lane};
 use std::alloc::Global;
 use std::marker::Model;
@@ -73,9 +73,9 @@ impl Heap {
     /// The arrays of pages that a call of the system may use; None for null.
     pub fn open(&mut self, readable: Option<u32>, writable: Option<u32>)
         requires reads { IsTrue
-            (is_pages_reference (heap_of self.old.region.arrays) (reference readable)) }
+            (is_pages_reference (heap_of self.old.region.arrays) (reference_value readable)) }
         requires writes { IsTrue
-            (is_pages_reference (heap_of self.old.region.arrays) (reference writable)) }
+            (is_pages_reference (heap_of self.old.region.arrays) (reference_value writable)) }
         ensures { self.new
             ≡ record { region = self.old.region; readable = readable; writable = writable } }
     {

@@ -1,19 +1,19 @@
 //! The instructions on the arrays of a program.
 ghost use Rattle.std.specs.Prelude.{◌≡◌, ◌∷◌, [], List, IsTrue, IsFalse, OnOk, OnErr, IfErr, option_map};
-ghost use Rattle.jvm_names.specs.declared.array_name.ArrayName.TheVariants.{Iaload, Aaload, Iastore, Aastore};
-ghost use Rattle.jvm_program.specs.declared.instruction.Instruction.TheVariants as instructions;
-ghost use Rattle.jvm_program.specs.declared.value.Value.{Value as StackValue};
-ghost use Rattle.jvm_program.specs.declared.value.Value.TheVariants.{Int as int};
-ghost use Rattle.jvm_program.specs.Values.{is_int, is_ints_reference, is_pages_reference};
-ghost use Rattle.jvm_frames.specs.Stack.{on_top};
-ghost use Rattle.jvm_frames.specs.Trap.{trap_kind};
+ghost use Rattle.jvm_definition.specs.declared.array_name.ArrayName.TheVariants.{Iaload, Aaload, Iastore, Aastore};
+ghost use Rattle.jvm_definition.specs.declared.instruction.Instruction.TheVariants as instructions;
+ghost use Rattle.jvm_definition.specs.declared.value.Value.{Value as StackValue};
+ghost use Rattle.jvm_definition.specs.declared.value.Value.TheVariants.{Int as int};
+ghost use Rattle.jvm_definition.specs.Values.{is_int, is_ints_reference, is_pages_reference};
+ghost use Rattle.jvm_activations.specs.Stack.{on_top};
+ghost use Rattle.jvm_activations.specs.Trap.{trap_kind};
 ghost use Rattle.jvm_heap.specs.Regions.{heap_of, is_array_reference};
 ghost use Rattle.jvm_heap.specs.HeapForms.{Does, Gives, Traps, element_trap};
 
 use crate::access;
 use crate::heap::Heap;
-use jvm_frames::{Operands, Trap};
-use jvm_program::{ArrayKind, Value};
+use jvm_activations::{Operands, Trap};
+use jvm_definition::{ArrayKind, Value};
 
 impl Heap {
     /// `iaload`.
@@ -52,7 +52,7 @@ impl Heap {
         access::load_page(operands, &self.region)
     }
 
-    /// `iaload` at an index that is not pushed. Where it traps, the operands are as they were without it.
+    /// `iaload` at an index that is not pushed. If it traps, the operands are as they were without it.
     #[inline(always)]
     pub fn int_at(&self, operands: &mut Operands, i: u32) -> Result<(), Trap>
         requires { IsTrue (on_top (is_ints_reference (heap_of self.now.region.arrays) ∷ [])
@@ -70,7 +70,7 @@ impl Heap {
         access::int_at(operands, &self.region, i)
     }
 
-    /// `aaload` at an index that is not pushed. Where it traps, the operands are as they were without it.
+    /// `aaload` at an index that is not pushed. If it traps, the operands are as they were without it.
     #[inline(always)]
     pub fn page_at(&self, operands: &mut Operands, i: u32) -> Result<(), Trap>
         requires { IsTrue (on_top (is_pages_reference (heap_of self.now.region.arrays) ∷ [])

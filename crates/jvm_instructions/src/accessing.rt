@@ -1,19 +1,18 @@
 //! Arrays and fields (JVM Specification, 2.11.5).
 ghost use Rattle.std.specs.Prelude.{◌≡◌, ◌<◌, ◌∷◌, [], length, IsTrue, OnOk, OnErr, IfErr};
-ghost use Rattle.jvm_program.specs.declared.instruction.Instruction.TheVariants as instructions;
-ghost use Rattle.jvm_program.specs.Values.{is_int, conforms};
-ghost use Rattle.jvm_program.specs.Program.{Program};
-ghost use Rattle.jvm_program.specs.Typing.{access_type};
-ghost use Rattle.jvm_frames.specs.Stack.{on_top};
+ghost use Rattle.jvm_definition.specs.declared.instruction.Instruction.TheVariants as instructions;
+ghost use Rattle.jvm_definition.specs.Values.{is_int, conforms};
+ghost use Rattle.jvm_definition.specs.Program.{Program};
+ghost use Rattle.jvm_definition.specs.Typing.{access_type};
+ghost use Rattle.jvm_activations.specs.Stack.{on_top};
 ghost use Rattle.jvm_heap.specs.Regions.{is_array_reference};
 ghost use Rattle.jvm_instructions.specs.Workings.{workspace, Keeps};
 ghost use Rattle.jvm_instructions.specs.Ready.{finds};
 ghost use Rattle.jvm_instructions.specs.Executes.{Does, Traps};
 
 use crate::working::Working;
-use jvm_frames::Trap;
-use jvm_names::ArrayName;
-use jvm_program::{ArrayKind, Kind};
+use jvm_activations::Trap;
+use jvm_definition::{ArrayKind, ArrayName, Kind};
 
 impl Working {
     /// `iaload` to `aastore`.

@@ -1,24 +1,23 @@
 //! Constants, arithmetic, conversions, shuffles and local variables (JVM Specification, 2.11.2 to 2.11.6).
 ghost use Rattle.std.specs.Prelude.{◌≡◌, ◌<◌, ◌≤◌, ◌∷◌, [], length, slice_index_or, IsTrue, IsSomeAnd, OnOk, OnErr, IfErr};
-ghost use Rattle.jvm_program.specs.declared.instruction.Instruction.TheVariants as instructions;
-ghost use Rattle.jvm_program.specs.declared.value.Value.TheVariants.{Unset as unset};
-ghost use Rattle.jvm_program.specs.Values.{is_int, is_long};
-ghost use Rattle.jvm_program.specs.Shuffles.{forms_of, shuffled};
-ghost use Rattle.jvm_program.specs.Program.{Program};
-ghost use Rattle.jvm_program.specs.Effect.{moves};
-ghost use Rattle.jvm_frames.specs.Stack.{on_top};
-ghost use Rattle.jvm_frames.specs.Forms.{converted};
-ghost use Rattle.jvm_frames.specs.Variables.{numbered};
+ghost use Rattle.jvm_definition.specs.declared.instruction.Instruction.TheVariants as instructions;
+ghost use Rattle.jvm_definition.specs.declared.value.Value.TheVariants.{Unset as unset};
+ghost use Rattle.jvm_definition.specs.Values.{is_int, is_long_value};
+ghost use Rattle.jvm_definition.specs.Shuffles.{forms_of, shuffled};
+ghost use Rattle.jvm_definition.specs.Program.{Program};
+ghost use Rattle.jvm_definition.specs.Effect.{moves_value};
+ghost use Rattle.jvm_activations.specs.Stack.{on_top};
+ghost use Rattle.jvm_activations.specs.Forms.{converted};
+ghost use Rattle.jvm_activations.specs.Variables.{numbered};
 ghost use Rattle.jvm_instructions.specs.Workings.{Keeps};
 ghost use Rattle.jvm_instructions.specs.Executes.{Does, Traps};
 
 use crate::working::Working;
-use jvm_frames::Trap;
-use jvm_names::{
-    Conversion, IntArithmetic, IntDivision, IntShift, LongArithmetic, LongDivision, LongShift,
-    StackName,
+use jvm_activations::Trap;
+use jvm_definition::{
+    Constant, Conversion, IntArithmetic, IntDivision, IntShift, LocalKind, LongArithmetic,
+    LongDivision, LongShift, StackName,
 };
-use jvm_program::{Constant, LocalKind};
 
 impl Working {
     /// A constant.
@@ -36,7 +35,7 @@ impl Working {
     /// `pop` to `swap`.
     #[inline]
     pub(crate) fn shuffle(&mut self, name: StackName)
-        requires { IsSomeAnd (shuffled is_long (forms_of name)
+        requires { IsSomeAnd (shuffled is_long_value (forms_of name)
             self.old.frames.current.operands.items)
             (λ items. length items ≤ self.old.frames.current.operands.limit) }
         ensures does { (program : Program)
@@ -85,7 +84,7 @@ impl Working {
     /// `ladd`, `lmul` and `land`.
     #[inline]
     pub(crate) fn long_arithmetic(&mut self, name: LongArithmetic)
-        requires { IsTrue (on_top (is_long ∷ is_long ∷ []) self.old.frames.current.operands.items) }
+        requires { IsTrue (on_top (is_long_value ∷ is_long_value ∷ []) self.old.frames.current.operands.items) }
         ensures does { (program : Program)
             → Does program (instructions.LongArithmetic name) self.old self.new }
         ensures keeps { Keeps self.old self.new }
@@ -96,7 +95,7 @@ impl Working {
     /// `ldiv` and `lrem`.
     #[inline]
     pub(crate) fn long_division(&mut self, name: LongDivision) -> Result<(), Trap>
-        requires { IsTrue (on_top (is_long ∷ is_long ∷ []) self.old.frames.current.operands.items) }
+        requires { IsTrue (on_top (is_long_value ∷ is_long_value ∷ []) self.old.frames.current.operands.items) }
         ensures ok { OnOk result ((program : Program)
             → Does program (instructions.LongDivision name) self.old self.new) }
         ensures err { IfErr result (λ trap. (program : Program)
@@ -110,7 +109,7 @@ impl Working {
     /// `lshl`, `lshr` and `lushr`.
     #[inline]
     pub(crate) fn long_shift(&mut self, name: LongShift)
-        requires { IsTrue (on_top (is_int ∷ is_long ∷ []) self.old.frames.current.operands.items) }
+        requires { IsTrue (on_top (is_int ∷ is_long_value ∷ []) self.old.frames.current.operands.items) }
         ensures does { (program : Program)
             → Does program (instructions.LongShift name) self.old self.new }
         ensures keeps { Keeps self.old self.new }
@@ -121,7 +120,7 @@ impl Working {
     /// `lcmp`.
     #[inline]
     pub(crate) fn long_compare(&mut self)
-        requires { IsTrue (on_top (is_long ∷ is_long ∷ []) self.old.frames.current.operands.items) }
+        requires { IsTrue (on_top (is_long_value ∷ is_long_value ∷ []) self.old.frames.current.operands.items) }
         ensures does { (program : Program)
             → Does program instructions.LongCompare self.old self.new }
         ensures keeps { Keeps self.old self.new }
@@ -144,7 +143,7 @@ impl Working {
     #[inline]
     pub(crate) fn load(&mut self, kind: LocalKind, i: u8)
         requires local { i < length self.old.frames.current.locals.items }
-        requires kind { IsTrue (moves kind (numbered self.old.frames.current.locals.items i)) }
+        requires kind { IsTrue (moves_value kind (numbered self.old.frames.current.locals.items i)) }
         requires room { length self.old.frames.current.operands.items
             < self.old.frames.current.operands.limit }
         ensures does { (program : Program)
@@ -159,7 +158,7 @@ impl Working {
     pub(crate) fn store(&mut self, kind: LocalKind, i: u8)
         requires local { i < length self.old.frames.current.locals.items }
         requires operand { IsTrue
-            (on_top (moves kind ∷ []) self.old.frames.current.operands.items) }
+            (on_top (moves_value kind ∷ []) self.old.frames.current.operands.items) }
         ensures does { (program : Program)
             → Does program (instructions.Store kind i) self.old self.new }
         ensures keeps { Keeps self.old self.new }

@@ -1,4 +1,4 @@
-use jvm_names::ReturnName;
+use jvm_definition::ReturnName;
 
 /// What an instruction came to that did not trap.
 #[derive(Clone, Copy)]

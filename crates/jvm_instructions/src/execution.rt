@@ -1,14 +1,14 @@
 //! What an instruction does that makes no frame and ends none.
-ghost use Rattle.jvm_link.specs.Linking.{program_of};
+ghost use Rattle.class_definition.specs.Linking.{program_of};
 ghost use Rattle.jvm_instructions.specs.Workings.{Keeps, TextsFit};
 ghost use Rattle.jvm_instructions.specs.Ready.{IsReady};
 ghost use Rattle.jvm_instructions.specs.Executes.{Executes};
 
 use crate::executed::Executed;
 use crate::working::Working;
+use jvm_activations::Trap;
 use jvm_code::Class;
-use jvm_frames::Trap;
-use jvm_program::Instruction;
+use jvm_definition::Instruction;
 
 impl Working {
     /// Executes an instruction whose targets are indices. Calls, returns and ends are only told.

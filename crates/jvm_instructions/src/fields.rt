@@ -1,8 +1,8 @@
 ghost use Rattle.std.specs.Prelude.{◌≡◌, ◌<◌, length, map, slice_index_or, slice_set, IfOk};
-ghost use Rattle.jvm_program.specs.declared.value.Value.TheVariants.{Unset as unset};
-ghost use Rattle.jvm_program.specs.Values.{zero_of};
+ghost use Rattle.jvm_definition.specs.declared.value.Value.TheVariants.{Unset as unset};
+ghost use Rattle.jvm_definition.specs.Values.{zero_of};
 
-use jvm_program::{Kind, Value};
+use jvm_definition::{Kind, Value};
 use std::alloc::{AllocError, Global};
 use std::marker::Model;
 
@@ -14,7 +14,7 @@ pub struct Fields {
 
 impl Model for Fields {
     ghost use Rattle.std.specs.Prelude.{List};
-    ghost use Rattle.jvm_program.specs.declared.value.Value.{Value as FieldValue};
+    ghost use Rattle.jvm_definition.specs.declared.value.Value.{Value as FieldValue};
 
     ghost Value = { List FieldValue };
 

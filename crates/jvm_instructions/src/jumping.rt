@@ -1,18 +1,18 @@
 //! Branches and switches (JVM Specification, 2.11.7). Targets are indices.
 ghost use Rattle.std.specs.Prelude.{◌≡◌, ◌≤◌, ◌∷◌, [], length, IsTrue};
-ghost use Rattle.jvm_program.specs.declared.instruction.Instruction.TheVariants as instructions;
-ghost use Rattle.jvm_program.specs.Values.{is_int};
-ghost use Rattle.jvm_program.specs.Program.{Program};
-ghost use Rattle.jvm_program.specs.Effect.{lookup_target};
-ghost use Rattle.jvm_frames.specs.Stack.{on_top};
-ghost use Rattle.jvm_frames.specs.Forms.{branch_operands};
-ghost use Rattle.jvm_frames.specs.Keys.{keys_of, rise};
+ghost use Rattle.jvm_definition.specs.declared.instruction.Instruction.TheVariants as instructions;
+ghost use Rattle.jvm_definition.specs.Values.{is_int};
+ghost use Rattle.jvm_definition.specs.Program.{Program};
+ghost use Rattle.jvm_definition.specs.Effect.{lookup_target};
+ghost use Rattle.jvm_activations.specs.Stack.{on_top};
+ghost use Rattle.jvm_activations.specs.Forms.{branch_operands};
+ghost use Rattle.jvm_activations.specs.Keys.{keys_of, rise};
 ghost use Rattle.jvm_instructions.specs.Workings.{Keeps};
 ghost use Rattle.jvm_instructions.specs.Executes.{Comes, Jumps};
 
 use crate::executed::Executed;
 use crate::working::Working;
-use jvm_names::{BranchName, LookupSwitch, Pair, TableSwitch};
+use jvm_definition::{BranchName, LookupSwitch, Pair, TableSwitch};
 use nv_words::signed;
 
 impl Working {

@@ -1,5 +1,5 @@
 //! What the instructions of the class machine do to a frame, fields and arrays (JVM Specification, 2.11 and 6.5), one by one and in
-//! groups of those that often stand one behind the other.
+//! groups of those that often are one after the other.
 #![tactic(auto)]
 
 mod accessing;

@@ -1,17 +1,17 @@
-//! The methods of strings (`java.lang.String`). A string's characters stand in its class's constant pool.
+//! The methods of strings (`java.lang.String`). A string's characters are in its class's constant pool.
 ghost use Rattle.std.specs.Prelude.{◌≡◌, ℕ, ◌<◌, ◌^◌, ◌∷◌, [], length, IsTrue, OnOk, OnErr, IfErr};
-ghost use Rattle.jvm_program.specs.declared.instruction.Instruction.TheVariants as instructions;
-ghost use Rattle.jvm_program.specs.Values.{is_int, is_text_reference};
-ghost use Rattle.jvm_link.specs.Linking.{program_of, class_characters};
-ghost use Rattle.jvm_frames.specs.Stack.{on_top};
+ghost use Rattle.jvm_definition.specs.declared.instruction.Instruction.TheVariants as instructions;
+ghost use Rattle.jvm_definition.specs.Values.{is_int, is_text_reference};
+ghost use Rattle.class_definition.specs.Linking.{program_of, class_characters};
+ghost use Rattle.jvm_activations.specs.Stack.{on_top};
 ghost use Rattle.jvm_instructions.specs.Workings.{Keeps, TextsFit};
 ghost use Rattle.jvm_instructions.specs.Executes.{Does, Traps};
 
 use crate::working::Working;
 use constant_pool::text_of;
+use jvm_activations::Trap;
 use jvm_code::Class;
-use jvm_frames::Trap;
-use jvm_program::Value;
+use jvm_definition::Value;
 
 impl Working {
     /// `String.length`.

@@ -1,5 +1,5 @@
 use crate::fields::Fields;
-use jvm_frames::Frames;
+use jvm_activations::Frames;
 use jvm_heap::Heap;
 
 /// What the instructions of a program work on (JVM Specification, 2.5 and 2.6).

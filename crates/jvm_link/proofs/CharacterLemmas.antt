@@ -3,11 +3,11 @@ use Rattle.std.specs.Prelude.{slice_get}
 use Rattle.std.proofs.Common.{◌≡◌, ℕ, zero, suc, ◌<◌, List, [], ◌∷◌, length, get_or, Option, Some, None, refl, subst, arith}
 use Rattle.std.specs.List.{All}
 use Rattle.std.proofs.lemmas.Option.{get_or_from_slice_get}
-use Rattle.jvm_code.specs.declared.class.Class.{Class}
-use Rattle.name_resolution.specs.Kept.{IsClass}
-use Rattle.name_resolution.specs.Names.{text_of}
-use Rattle.name_resolution.proofs.KeptLemmas.{kept_text}
-use Rattle.jvm_link.specs.Linking.{class_characters}
+use Rattle.class_definition.specs.declared.class.Class.{Class}
+use Rattle.class_names.specs.Kept.{IsClass}
+use Rattle.class_definition.specs.MemberNames.{slot_text}
+use Rattle.class_names.proofs.KeptLemmas.{kept_text}
+use Rattle.class_definition.specs.Linking.{class_characters}
 
 within : (xs : List Class) (k : ℕ) (x : Class) → slice_get xs k ≡ Some x → k < length xs
 within [] k x e = absurd cc
@@ -21,5 +21,5 @@ kept_characters cs kept at n = by (slice_get cs at) refl
     by None e = omega arith
     by (Some c) e =
         let is : get_or cs at c ≡ c = get_or_from_slice_get cs at c c e in
-        let P : Class → Type 0 = λ x. length (text_of x n) < 65536 in
+        let P : Class → Type 0 = λ x. length (slot_text x n) < 65536 in
         subst P is (kept_text (get_or cs at c) (kept at c (within cs at c e)) n)

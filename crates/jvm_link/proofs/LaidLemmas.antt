@@ -1,14 +1,14 @@
 -- The lines of code stand one after the other, and the keys of its switches rise.
 use Rattle.std.proofs.Common.{◌≡◌, ℕ, ◌+◌, ◌<◌, Bool, List, [], ◌∷◌, map, ap, subst, sym, arith, lit<}
 use Rattle.std.specs.List.{AllByRecursion}
-use Rattle.jvm_code.specs.declared.class.Class.{Class}
-use Rattle.jvm_code.specs.declared.line.Line.{Line}
-use Rattle.jvm_code.specs.declared.op.Op.{Op}
-use Rattle.jvm_code.specs.declared.op.Op.TheVariants.{TableSwitch, LookupSwitch}
+use Rattle.class_definition.specs.declared.class.Class.{Class}
+use Rattle.class_definition.specs.declared.line.Line.{Line}
+use Rattle.class_definition.specs.declared.op.Op.{Op}
+use Rattle.class_definition.specs.declared.op.Op.TheVariants.{TableSwitch, LookupSwitch}
 use Rattle.jvm_code.specs.Writing as writing
-use Rattle.jvm_code.specs.Writing.{size_at}
-use Rattle.jvm_program.specs.Program.{LaidFrom}
-use Rattle.jvm_link.specs.Linking.{linked_line}
+use Rattle.class_definition.specs.Sizes.{size_at}
+use Rattle.jvm_definition.specs.Program.{LaidFrom}
+use Rattle.class_definition.specs.Linking.{linked_line}
 use Rattle.jvm_link.specs.Order.{LineRises, AreInOrder}
 use Rattle.jvm_link.proofs.RiseLaws.{op_rises}
 

@@ -2,11 +2,12 @@
 use Rattle.std.proofs.Common.{◌≡◌, ◌≤◌, Bool, true, false, cond, ltb, List, [], length, Option, Some, None, refl, sym, ap, subst, ◌∙◌}
 use Rattle.std.specs.Option.{option_or}
 use Rattle.std.proofs.lemmas.Bool.{le-ltb}
-use Rattle.jvm_code.specs.declared.class.Class.{Class}
-use Rattle.nv_faults.specs.declared.link_fault.LinkFault.{LinkFault}
-use Rattle.name_resolution.specs.declared.link_error.LinkError.{LinkError}
-use Rattle.name_resolution.specs.declared.link_error.LinkError.TheVariants.{NoMemory}
-use Rattle.name_resolution.specs.Faults.{too_many, no_run, at_class, twice_fault, references_fault, has_run, run_fault, link_fault, IsAnswer}
+use Rattle.class_definition.specs.declared.class.Class.{Class}
+use Rattle.class_definition.specs.declared.link_fault.LinkFault.{LinkFault}
+use Rattle.class_names.specs.declared.link_error.LinkError.{LinkError}
+use Rattle.class_names.specs.declared.link_error.LinkError.TheVariants.{NoMemory}
+use Rattle.class_definition.specs.LinkFault.{too_many, no_run, at_class, twice_fault, references_fault, has_run, run_fault, link_fault}
+use Rattle.class_names.specs.Answer.{IsAnswer}
 use Rattle.jvm_link.specs.Meant.{IsMeant}
 
 few_fault : (cs : List Class) → length cs ≤ 1024 → link_fault cs ≡ option_or (twice_fault [] 0 cs) (option_or (references_fault cs 0 cs) (run_fault cs))

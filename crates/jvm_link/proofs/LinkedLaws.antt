@@ -5,33 +5,33 @@ use Rattle.std.specs.List.{AllByRecursion}
 use Rattle.std.proofs.lemmas.Bool.{and_parts}
 use Rattle.std.proofs.lemmas.List.{map-append}
 use Rattle.std.proofs.lemmas.Slice.Eq.{bytes_eq-Decides}
-use Rattle.jvm_names.specs.declared.return_name.ReturnName.{ReturnName}
-use Rattle.jvm_names.specs.declared.return_name.ReturnName.TheVariants as returns
-use Rattle.jvm_program.specs.declared.kind.Kind.{Kind}
-use Rattle.jvm_program.specs.declared.linked_line.LinkedLine.{LinkedLine}
-use Rattle.jvm_program.specs.declared.linked_method.LinkedMethod.{LinkedMethod}
-use Rattle.jvm_program.specs.declared.instruction.Instruction.{Instruction}
-use Rattle.jvm_program.specs.declared.instruction.Instruction.TheVariants.{Wrong, Get, Put}
-use Rattle.jvm_program.specs.Program.{line_in}
-use Rattle.jvm_program.specs.Typing.{NamesField, IsLinked}
-use Rattle.constant_pool.specs.declared.entry.Entry.{Entry}
-use Rattle.constant_pool.specs.declared.entry.Entry.TheVariants as entries
-use Rattle.constant_pool.specs.Names.{same_text, after_field}
-use Rattle.constant_pool.specs.Checks.{entry_at}
-use Rattle.jvm_code.specs.declared.class.Class.{Class}
-use Rattle.jvm_code.specs.declared.line.Line.{Line}
-use Rattle.jvm_code.specs.declared.member.Member.{Member}
-use Rattle.jvm_code.specs.declared.method.Method.{Method}
-use Rattle.jvm_code.specs.declared.op.Op.{Op}
-use Rattle.jvm_code.specs.declared.op.Op.TheVariants as ops
-use Rattle.jvm_code.specs.declared.names.local_name.LocalName.{LocalName}
-use Rattle.jvm_code.specs.declared.names.local_name.LocalName.TheVariants.{Iload, Aload, Istore, Astore}
-use Rattle.jvm_code.specs.declared.names.pool_name.PoolName.{PoolName}
-use Rattle.jvm_code.specs.declared.names.pool_name.PoolName.TheVariants.{LdcW, Ldc2W, Getstatic, Putstatic, Invokevirtual, Invokestatic, Anewarray}
-use Rattle.name_resolution.specs.Names.{text_of, class_name_at, own_name, Signature, same_signature, signature_at, Reference, reference, same_reference, field_signature, method_signature, all_fields, field_number, method_number, string_name, host_name, length_signature, char_at_signature, host_call_signature, host_fault_signature}
-use Rattle.name_resolution.specs.Faults.{run_signature, has_run}
-use Rattle.name_resolution.proofs.PlaceLemmas.{position-cons}
-use Rattle.jvm_link.specs.Linking.{kind_of, parameters_from, parameters_of, gives_int, field_kind, field_kinds, field_of, field_instruction, call_of, host_method, static_call, string_method, string_call, call_instruction, word_constant, long_constant, pool_instruction, local_instruction, return_instruction, linked_instruction, linked_line, lines_of, linked_method, methods_from, linked_methods, first_method, program_of}
+use Rattle.jvm_definition.specs.declared.return_name.ReturnName.{ReturnName}
+use Rattle.jvm_definition.specs.declared.return_name.ReturnName.TheVariants as returns
+use Rattle.jvm_definition.specs.declared.kind.Kind.{Kind}
+use Rattle.jvm_definition.specs.declared.linked_line.LinkedLine.{LinkedLine}
+use Rattle.jvm_definition.specs.declared.linked_method.LinkedMethod.{LinkedMethod}
+use Rattle.jvm_definition.specs.declared.instruction.Instruction.{Instruction}
+use Rattle.jvm_definition.specs.declared.instruction.Instruction.TheVariants.{Wrong, Get, Put}
+use Rattle.jvm_definition.specs.Program.{line_in}
+use Rattle.jvm_definition.specs.Typing.{NamesField, IsLinked}
+use Rattle.class_definition.specs.declared.entry.Entry.{Entry}
+use Rattle.class_definition.specs.declared.entry.Entry.TheVariants as entries
+use Rattle.class_definition.specs.NameGrammar.{same_text, after_field}
+use Rattle.class_definition.specs.PoolChecks.{entry_at}
+use Rattle.class_definition.specs.declared.class.Class.{Class}
+use Rattle.class_definition.specs.declared.line.Line.{Line}
+use Rattle.class_definition.specs.declared.member.Member.{Member}
+use Rattle.class_definition.specs.declared.method.Method.{Method}
+use Rattle.class_definition.specs.declared.op.Op.{Op}
+use Rattle.class_definition.specs.declared.op.Op.TheVariants as ops
+use Rattle.class_definition.specs.declared.local_name.LocalName.{LocalName}
+use Rattle.class_definition.specs.declared.local_name.LocalName.TheVariants.{Iload, Aload, Istore, Astore}
+use Rattle.class_definition.specs.declared.pool_name.PoolName.{PoolName}
+use Rattle.class_definition.specs.declared.pool_name.PoolName.TheVariants.{LdcW, Ldc2W, Getstatic, Putstatic, Invokevirtual, Invokestatic, Anewarray}
+use Rattle.class_definition.specs.MemberNames.{slot_text, class_name_at, own_name, Signature, same_signature, signature_at, Reference, reference_to, same_reference, field_signature, method_signature, all_fields, field_number, method_number, string_name, host_name, length_signature, char_at_signature, host_call_signature, host_fault_signature}
+use Rattle.class_definition.specs.LinkFault.{run_signature, has_run}
+use Rattle.class_names.proofs.PlaceLemmas.{position-cons}
+use Rattle.class_definition.specs.Linking.{descriptor_kind, parameters_from, parameters_of, gives_int, field_kind, field_kinds, field_of_number, field_instruction, call_of_number, host_method, static_call, string_method, string_call, call_instruction, word_constant, long_constant, pool_instruction, local_instruction, return_instruction, linked_instruction, linked_line, lines_of_code, linked_method, methods_from, linked_methods, first_method, program_of}
 use Rattle.jvm_link.proofs.ReturnLaws.{returns_are}
 use Rattle.jvm_link.proofs.RunLemmas.{run_found, run_there}
 
@@ -59,25 +59,25 @@ at_place p g (x ∷ xs) n h = place_back p g x xs (p x) refl (position p xs) ref
 -- ---- fields
 
 abbrev kind_by : Reference → Kind
-kind_by r = kind_of r.signature.descriptor
+kind_by r = descriptor_kind r.signature.descriptor
 
-own_kinds : (c : Class) (fs : List Member) → map (field_kind c) fs ≡ map kind_by (map (reference (own_name c)) (map (field_signature c) fs))
+own_kinds : (c : Class) (fs : List Member) → map (field_kind c) fs ≡ map kind_by (map (reference_to (own_name c)) (map (field_signature c) fs))
 own_kinds c [] = refl
 own_kinds c (f ∷ fs) = ap (λ (ks : List Kind). field_kind c f ∷ ks) (own_kinds c fs)
 
 kinds_are : (cs : List Class) → field_kinds cs ≡ map kind_by (all_fields cs)
 kinds_are [] = refl
 kinds_are (c ∷ cs) =
-    (λ i. own_kinds c c.fields i ++ kinds_are cs i) ∙ sym (map-append kind_by (map (reference (own_name c)) (map (field_signature c) c.fields)) (all_fields cs))
+    (λ i. own_kinds c c.fields i ++ kinds_are cs i) ∙ sym (map-append kind_by (map (reference_to (own_name c)) (map (field_signature c) c.fields)) (all_fields cs))
 
-field_kind_is : (cs : List Class) (r : Reference) (n : ℕ) → field_number cs r ≡ Some n → slice_get (field_kinds cs) n ≡ Some (kind_of r.signature.descriptor)
+field_kind_is : (cs : List Class) (r : Reference) (n : ℕ) → field_number cs r ≡ Some n → slice_get (field_kinds cs) n ≡ Some (descriptor_kind r.signature.descriptor)
 field_kind_is cs r n h =
     let found = at_place (same_reference r) kind_by (all_fields cs) n h in
     let q = found.0 in
     let same = and_parts (same_text r.class_name q.class_name) (same_signature r.signature q.signature) found.1 in
     let parts = and_parts (same_text r.signature.name q.signature.name) (same_text r.signature.descriptor q.signature.descriptor) same.1 in
     let one : r.signature.descriptor ≡ q.signature.descriptor = (bytes_eq-Decides r.signature.descriptor q.signature.descriptor).0 parts.1 in
-    ap (λ (ks : List Kind). slice_get ks n) (kinds_are cs) ∙ found.2 ∙ ap (λ d. Some (kind_of d)) (sym one)
+    ap (λ (ks : List Kind). slice_get ks n) (kinds_are cs) ∙ found.2 ∙ ap (λ d. Some (descriptor_kind d)) (sym one)
 
 -- ---- instructions
 
@@ -89,16 +89,16 @@ module _ (cs : List Class) where
   either true x y a b = a
   either false x y a b = b
 
-  get_named : (r : Reference) (o : Option ℕ) → field_number cs r ≡ o → Named (field_of Get o r.signature)
+  get_named : (r : Reference) (o : Option ℕ) → field_number cs r ≡ o → Named (field_of_number Get o r.signature)
   get_named r None e = tt
   get_named r (Some n) e = field_kind_is cs r n e
 
-  put_named : (r : Reference) (o : Option ℕ) → field_number cs r ≡ o → Named (field_of Put o r.signature)
+  put_named : (r : Reference) (o : Option ℕ) → field_number cs r ≡ o → Named (field_of_number Put o r.signature)
   put_named r None e = tt
   put_named r (Some n) e = field_kind_is cs r n e
 
   get_by : (c : Class) (e : Option Entry) → Named (field_instruction cs Get c e)
-  get_by c (Some (entries.FieldRef class name)) = get_named (reference (class_name_at c class) (signature_at c name)) (field_number cs (reference (class_name_at c class) (signature_at c name))) refl
+  get_by c (Some (entries.FieldRef class name)) = get_named (reference_to (class_name_at c class) (signature_at c name)) (field_number cs (reference_to (class_name_at c class) (signature_at c name))) refl
   get_by c None = tt
   get_by c (Some (entries.Utf8 t)) = tt
   get_by c (Some (entries.Integer n)) = tt
@@ -110,7 +110,7 @@ module _ (cs : List Class) where
   get_by c (Some (entries.NameAnd a b)) = tt
 
   put_by : (c : Class) (e : Option Entry) → Named (field_instruction cs Put c e)
-  put_by c (Some (entries.FieldRef class name)) = put_named (reference (class_name_at c class) (signature_at c name)) (field_number cs (reference (class_name_at c class) (signature_at c name))) refl
+  put_by c (Some (entries.FieldRef class name)) = put_named (reference_to (class_name_at c class) (signature_at c name)) (field_number cs (reference_to (class_name_at c class) (signature_at c name))) refl
   put_by c None = tt
   put_by c (Some (entries.Utf8 t)) = tt
   put_by c (Some (entries.Integer n)) = tt
@@ -122,7 +122,7 @@ module _ (cs : List Class) where
   put_by c (Some (entries.NameAnd a b)) = tt
 
   call_by : (call : Reference → Instruction) → ((r : Reference) → Named (call r)) → (c : Class) (e : Option Entry) → Named (call_instruction call c e)
-  call_by call h c (Some (entries.MethodRef class name)) = h (reference (class_name_at c class) (signature_at c name))
+  call_by call h c (Some (entries.MethodRef class name)) = h (reference_to (class_name_at c class) (signature_at c name))
   call_by call h c None = tt
   call_by call h c (Some (entries.Utf8 t)) = tt
   call_by call h c (Some (entries.Integer n)) = tt
@@ -133,7 +133,7 @@ module _ (cs : List Class) where
   call_by call h c (Some (entries.FieldRef a b)) = tt
   call_by call h c (Some (entries.NameAnd a b)) = tt
 
-  called : (o : Option ℕ) → Named (call_of o)
+  called : (o : Option ℕ) → Named (call_of_number o)
   called None = tt
   called (Some n) = tt
 
@@ -141,7 +141,7 @@ module _ (cs : List Class) where
   host_named s = either (same_signature s host_call_signature) _ _ tt (either (same_signature s host_fault_signature) _ _ tt tt)
 
   static_named : (r : Reference) → Named (static_call cs r)
-  static_named r = either (same_text r.class_name host_name) (host_method r.signature) (call_of (method_number cs r)) (host_named r.signature) (called (method_number cs r))
+  static_named r = either (same_text r.class_name host_name) (host_method r.signature) (call_of_number (method_number cs r)) (host_named r.signature) (called (method_number cs r))
 
   method_named : (s : Signature) → Named (string_method s)
   method_named s = either (same_signature s length_signature) _ _ tt (either (same_signature s char_at_signature) _ _ tt tt)
@@ -245,7 +245,7 @@ module _ (cs : List Class) where
 
   method_lines : (number : ℕ) (c : Class) (m : Method) → IsNamed (linked_method cs number c m)
   unfolding linked_method
-  method_lines number c m at line h = lines_named number c (gives_int (text_of c m.desc)) (lines_of m.code) at line h
+  method_lines number c m at line h = lines_named number c (gives_int (slot_text c m.desc)) (lines_of_code m.code) at line h
 
   own_methods : (number : ℕ) (c : Class) (ms : List Method) (others : List LinkedMethod) → AllByRecursion IsNamed others → AllByRecursion IsNamed (map (linked_method cs number c) ms ++ others)
   own_methods number c [] others h = h
@@ -286,8 +286,8 @@ no_result = refl
 run_parts : (cs : List Class) (c : Class) (m : Method) → same_signature run_signature (method_signature c m) ≡ true → ((linked_method cs 0 c m).parameters ≡ []) × ((linked_method cs 0 c m).gives_int ≡ false)
 unfolding linked_method
 run_parts cs c m e =
-    let p = and_parts (same_text run_signature.name (text_of c m.name)) (same_text run_signature.descriptor (text_of c m.desc)) e in
-    let one : run_signature.descriptor ≡ text_of c m.desc = (bytes_eq-Decides run_signature.descriptor (text_of c m.desc)).0 p.1 in
+    let p = and_parts (same_text run_signature.name (slot_text c m.name)) (same_text run_signature.descriptor (slot_text c m.desc)) e in
+    let one : run_signature.descriptor ≡ slot_text c m.desc = (bytes_eq-Decides run_signature.descriptor (slot_text c m.desc)).0 p.1 in
     (ap parameters_of (sym one) ∙ no_parameters, ap gives_int (sym one) ∙ no_result)
 
 run_first : (c : Class) (cs : List Class) (n : ℕ) → position (λ m. same_signature run_signature (method_signature c m)) c.methods ≡ Some n → IsFirst (c ∷ cs)

@@ -2,30 +2,31 @@
 use Rattle.std.proofs.Common.{◌≡◌, ℕ, suc, ◌+◌, ◌<◌, ◌≤◌, Bool, true, false, List, [], ◌∷◌, ◌++◌, map, length, get_or, drop, Some, None, Result, Ok, Err, refl, sym, ap, subst, ◌∙◌, append_assoc, append-nil, add-one, arith}
 use Rattle.std.specs.List.{All}
 use Rattle.std.proofs.lemmas.List.Elements.{All-get_or}
-use Rattle.class_format.specs.declared.miss.Miss.{Miss}
-use Rattle.class_format.specs.Laws.{IsBytes}
-use Rattle.jvm_code.specs.declared.class.Class.{Class}
-use Rattle.jvm_code.specs.declared.line.Line.{Line}
-use Rattle.jvm_code.specs.declared.method.Method.{Method}
-use Rattle.jvm_code.specs.Code.{Lines, lines_from, lines_fault, code_fault, is_bad_length}
-use Rattle.jvm_code.specs.Writing.{AreLaid, size_at}
-use Rattle.jvm_code.proofs.DecodeLemmas.{lines_of_code, good_length}
-use Rattle.jvm_program.specs.declared.linked_method.LinkedMethod.{LinkedMethod}
-use Rattle.name_resolution.specs.declared.numbered_class.NumberedClass.{NumberedClass}
-use Rattle.name_resolution.specs.Kept.{IsClass}
-use Rattle.name_resolution.specs.Keys.{classes_in}
-use Rattle.jvm_link.specs.Linking.{lines_read, lines_of, linked_method, methods_from}
-use Rattle.name_resolution.proofs.KeptLemmas.{kept_code}
-use Rattle.name_resolution.proofs.FaultLemmas.{one_class}
+use Rattle.class_definition.specs.declared.miss.Miss.{Miss}
+use Rattle.class_definition.specs.Spelling.{IsBytes}
+use Rattle.class_definition.specs.declared.class.Class.{Class}
+use Rattle.class_definition.specs.declared.line.Line.{Line}
+use Rattle.class_definition.specs.declared.method.Method.{Method}
+use Rattle.class_definition.specs.Code.{Lines, lines_from, lines_fault, code_fault, is_bad_length}
+use Rattle.jvm_code.specs.Writing.{AreLaid}
+use Rattle.class_definition.specs.Sizes.{size_at}
+use Rattle.jvm_code.proofs.DecodeLemmas.{lines_of_code as decoded_lines, good_length}
+use Rattle.jvm_definition.specs.declared.linked_method.LinkedMethod.{LinkedMethod}
+use Rattle.class_names.specs.declared.numbered_class.NumberedClass.{NumberedClass}
+use Rattle.class_names.specs.Kept.{IsClass}
+use Rattle.class_names.specs.Keys.{classes_in}
+use Rattle.class_definition.specs.Linking.{lines_read, lines_of_code, linked_method, methods_from}
+use Rattle.class_names.proofs.KeptLemmas.{kept_code}
+use Rattle.class_names.proofs.FaultLemmas.{one_class}
 
 -- ---- lines of code
 
-pub code_lines : (code : List ℕ) (lines : List Line) → code_fault code ≡ None → IsBytes code → ((others : List Line) → Lines code others → others ≡ lines) → lines ≡ lines_of code
+pub code_lines : (code : List ℕ) (lines : List Line) → code_fault code ≡ None → IsBytes code → ((others : List Line) → Lines code others → others ≡ lines) → lines ≡ lines_of_code code
 code_lines code lines sound bytes only = by (is_bad_length (length code)) refl (lines_from (length code) (length code) code) refl sound
   where
-    by : (b : Bool) → is_bad_length (length code) ≡ b → (r : Result (List Line) Miss) → lines_from (length code) (length code) code ≡ r → code_fault code ≡ None → lines ≡ lines_of code
+    by : (b : Bool) → is_bad_length (length code) ≡ b → (r : Result (List Line) Miss) → lines_from (length code) (length code) code ≡ r → code_fault code ≡ None → lines ≡ lines_of_code code
     by true bad r e none = absurd (let some : code_fault code ≡ Some (record { at = 0; kind = 5 }) = rw bad refl in cc)
-    by false good (Ok found) e none = sym (only found (lines_of_code code found (good_length (length code) good) bytes e)) ∙ sym (ap lines_read e)
+    by false good (Ok found) e none = sym (only found (decoded_lines code found (good_length (length code) good) bytes e)) ∙ sym (ap lines_read e)
     by false good (Err miss) e none = absurd (let some : code_fault code ≡ lines_fault (length code) (Err miss) = rw (good, e) refl in cc)
 
 pub laid_end : (at : ℕ) (lines : List Line) → AreLaid at lines → at ≤ 65535

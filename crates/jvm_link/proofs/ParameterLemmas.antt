@@ -1,8 +1,8 @@
 -- The types of parameters, one after the other.
 use Rattle.std.proofs.Common.{◌≡◌, ℕ, suc, List, [], ◌∷◌, ◌++◌, Some, None, sym, ap, ◌∙◌, append_assoc, append-nil}
-use Rattle.constant_pool.specs.Names.{after_field}
-use Rattle.jvm_program.specs.declared.kind.Kind.{Kind}
-use Rattle.jvm_link.specs.Linking.{front_kind, then_kinds, parameters_from}
+use Rattle.class_definition.specs.NameGrammar.{after_field}
+use Rattle.jvm_definition.specs.declared.kind.Kind.{Kind}
+use Rattle.class_definition.specs.Linking.{front_kind, then_kinds, parameters_from}
 
 pub kinds_more : (k n : ℕ) (kinds made : List Kind) (rest behind : List ℕ) (total : List Kind) → k ≡ suc n → after_field rest ≡ Some behind → kinds ++ parameters_from k rest ≡ total
     → made ≡ kinds ++ front_kind rest ∷ [] → made ++ parameters_from n behind ≡ total

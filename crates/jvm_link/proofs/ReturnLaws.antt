@@ -2,30 +2,30 @@
 use Rattle.std.proofs.Common.{◌≡◌, ℕ, zero, suc, Bool, true, false, cond, eqb, List, [], ◌∷◌, ◌++◌, map, Option, Some, None, refl, subst, slice_get}
 use Rattle.std.specs.Prelude.{codes}
 use Rattle.std.specs.List.{AllByRecursion}
-use Rattle.jvm_names.specs.declared.return_name.ReturnName.{ReturnName}
-use Rattle.jvm_names.specs.declared.return_name.ReturnName.TheVariants as returns
-use Rattle.jvm_program.specs.declared.kind.Kind.{Kind}
-use Rattle.jvm_program.specs.declared.linked_line.LinkedLine.{LinkedLine}
-use Rattle.jvm_program.specs.declared.linked_method.LinkedMethod.{LinkedMethod}
-use Rattle.jvm_program.specs.declared.instruction.Instruction.{Instruction}
-use Rattle.jvm_program.specs.declared.instruction.Instruction.TheVariants.{Wrong, Get, Put, Return}
-use Rattle.jvm_program.specs.Program.{line_in}
-use Rattle.jvm_program.specs.Typing.{GivesAs, returns_int}
-use Rattle.constant_pool.specs.declared.entry.Entry.{Entry}
-use Rattle.constant_pool.specs.declared.entry.Entry.TheVariants as entries
-use Rattle.constant_pool.specs.Names.{same_text}
-use Rattle.constant_pool.specs.Checks.{entry_at}
-use Rattle.jvm_code.specs.declared.class.Class.{Class}
-use Rattle.jvm_code.specs.declared.line.Line.{Line}
-use Rattle.jvm_code.specs.declared.method.Method.{Method}
-use Rattle.jvm_code.specs.declared.op.Op.{Op}
-use Rattle.jvm_code.specs.declared.op.Op.TheVariants as ops
-use Rattle.jvm_code.specs.declared.names.local_name.LocalName.{LocalName}
-use Rattle.jvm_code.specs.declared.names.local_name.LocalName.TheVariants.{Iload, Aload, Istore, Astore}
-use Rattle.jvm_code.specs.declared.names.pool_name.PoolName.{PoolName}
-use Rattle.jvm_code.specs.declared.names.pool_name.PoolName.TheVariants.{LdcW, Ldc2W, Getstatic, Putstatic, Invokevirtual, Invokestatic, Anewarray}
-use Rattle.name_resolution.specs.Names.{text_of, class_name_at, Signature, same_signature, signature_at, Reference, reference, field_number, method_number, string_name, host_name, length_signature, char_at_signature, host_call_signature, host_fault_signature}
-use Rattle.jvm_link.specs.Linking.{gives_int, field_of, field_instruction, call_of, host_method, static_call, string_method, string_call, call_instruction, word_constant, long_constant, pool_instruction, local_instruction, return_instruction, linked_instruction, linked_line, lines_of, linked_method, methods_from, linked_methods}
+use Rattle.jvm_definition.specs.declared.return_name.ReturnName.{ReturnName}
+use Rattle.jvm_definition.specs.declared.return_name.ReturnName.TheVariants as returns
+use Rattle.jvm_definition.specs.declared.kind.Kind.{Kind}
+use Rattle.jvm_definition.specs.declared.linked_line.LinkedLine.{LinkedLine}
+use Rattle.jvm_definition.specs.declared.linked_method.LinkedMethod.{LinkedMethod}
+use Rattle.jvm_definition.specs.declared.instruction.Instruction.{Instruction}
+use Rattle.jvm_definition.specs.declared.instruction.Instruction.TheVariants.{Wrong, Get, Put, Return}
+use Rattle.jvm_definition.specs.Program.{line_in}
+use Rattle.jvm_definition.specs.Typing.{GivesAs, returns_int}
+use Rattle.class_definition.specs.declared.entry.Entry.{Entry}
+use Rattle.class_definition.specs.declared.entry.Entry.TheVariants as entries
+use Rattle.class_definition.specs.NameGrammar.{same_text}
+use Rattle.class_definition.specs.PoolChecks.{entry_at}
+use Rattle.class_definition.specs.declared.class.Class.{Class}
+use Rattle.class_definition.specs.declared.line.Line.{Line}
+use Rattle.class_definition.specs.declared.method.Method.{Method}
+use Rattle.class_definition.specs.declared.op.Op.{Op}
+use Rattle.class_definition.specs.declared.op.Op.TheVariants as ops
+use Rattle.class_definition.specs.declared.local_name.LocalName.{LocalName}
+use Rattle.class_definition.specs.declared.local_name.LocalName.TheVariants.{Iload, Aload, Istore, Astore}
+use Rattle.class_definition.specs.declared.pool_name.PoolName.{PoolName}
+use Rattle.class_definition.specs.declared.pool_name.PoolName.TheVariants.{LdcW, Ldc2W, Getstatic, Putstatic, Invokevirtual, Invokestatic, Anewarray}
+use Rattle.class_definition.specs.MemberNames.{slot_text, class_name_at, Signature, same_signature, signature_at, Reference, reference_to, field_number, method_number, string_name, host_name, length_signature, char_at_signature, host_call_signature, host_fault_signature}
+use Rattle.class_definition.specs.Linking.{gives_int, field_of_number, field_instruction, call_of_number, host_method, static_call, string_method, string_call, call_instruction, word_constant, long_constant, pool_instruction, local_instruction, return_instruction, linked_instruction, linked_line, lines_of_code, linked_method, methods_from, linked_methods}
 
 -- a return of a method that gives an int, or nothing
 abbrev Gives : Bool → Instruction → Type 0
@@ -38,18 +38,18 @@ module _ (gives : Bool) where
   either false x y a b = b
 
   field_by : (make : ℕ → Kind → Instruction) → ((n : ℕ) (k : Kind) → Gives gives (make n k)) → (cs : List Class) (c : Class) (e : Option Entry) → Gives gives (field_instruction cs make c e)
-  field_by make h cs c (Some (entries.FieldRef class name)) = by (field_number cs (reference (class_name_at c class) (signature_at c name)))
+  field_by make h cs c (Some (entries.FieldRef class name)) = by (field_number cs (reference_to (class_name_at c class) (signature_at c name)))
     where
-      by : (o : Option ℕ) → Gives gives (field_of make o (signature_at c name))
+      by : (o : Option ℕ) → Gives gives (field_of_number make o (signature_at c name))
       by None = tt
       by (Some n) = h n _
   field_by make h cs c _ = tt
 
   call_by : (call : Reference → Instruction) → ((r : Reference) → Gives gives (call r)) → (c : Class) (e : Option Entry) → Gives gives (call_instruction call c e)
-  call_by call h c (Some (entries.MethodRef class name)) = h (reference (class_name_at c class) (signature_at c name))
+  call_by call h c (Some (entries.MethodRef class name)) = h (reference_to (class_name_at c class) (signature_at c name))
   call_by call h c _ = tt
 
-  called : (o : Option ℕ) → Gives gives (call_of o)
+  called : (o : Option ℕ) → Gives gives (call_of_number o)
   called None = tt
   called (Some n) = tt
 
@@ -57,7 +57,7 @@ module _ (gives : Bool) where
   host_by s = either (same_signature s host_call_signature) _ _ tt (either (same_signature s host_fault_signature) _ _ tt tt)
 
   static_by : (cs : List Class) (r : Reference) → Gives gives (static_call cs r)
-  static_by cs r = either (same_text r.class_name host_name) (host_method r.signature) (call_of (method_number cs r)) (host_by r.signature) (called (method_number cs r))
+  static_by cs r = either (same_text r.class_name host_name) (host_method r.signature) (call_of_number (method_number cs r)) (host_by r.signature) (called (method_number cs r))
 
   method_by : (s : Signature) → Gives gives (string_method s)
   method_by s = either (same_signature s length_signature) _ _ tt (either (same_signature s char_at_signature) _ _ tt tt)
@@ -129,7 +129,7 @@ Returns m = (at : ℕ) (line : LinkedLine) → line_in m.lines at ≡ Some line 
 method_returns : (cs : List Class) (number : ℕ) (c : Class) (m : Method) → Returns (linked_method cs number c m)
 unfolding linked_method
 method_returns cs number c m at line h =
-    gives_as (linked_method cs number c m) line.instruction (lines_by cs number c (gives_int (text_of c m.desc)) (lines_of m.code) at line h)
+    gives_as (linked_method cs number c m) line.instruction (lines_by cs number c (gives_int (slot_text c m.desc)) (lines_of_code m.code) at line h)
 
 own_return : (cs : List Class) (number : ℕ) (c : Class) (ms : List Method) (others : List LinkedMethod) → AllByRecursion Returns others → AllByRecursion Returns (map (linked_method cs number c) ms ++ others)
 own_return cs number c [] others h = h

@@ -1,8 +1,8 @@
 -- A field that an instruction names, with its type.
 use Rattle.std.specs.Prelude.{ℕ, Option, Some, None}
-use Rattle.jvm_program.specs.declared.kind.Kind.{Kind}
-use Rattle.jvm_program.specs.declared.instruction.Instruction.{Instruction}
-use Rattle.jvm_program.specs.declared.instruction.Instruction.TheVariants.{Wrong}
+use Rattle.jvm_definition.specs.declared.kind.Kind.{Kind}
+use Rattle.jvm_definition.specs.declared.instruction.Instruction.{Instruction}
+use Rattle.jvm_definition.specs.declared.instruction.Instruction.TheVariants.{Wrong}
 
 abbrev pub field_made : (ℕ → Kind → Instruction) → Option (ℕ × Kind) → Instruction
 field_made make None = Wrong

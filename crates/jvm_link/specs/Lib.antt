@@ -1,4 +1,3 @@
-pub mod Linking
 pub mod Fields
 pub mod Meant
 pub mod Order

@@ -3,12 +3,12 @@ use Rattle.std.specs.Prelude.{◌≡◌, ℕ, true, List, [], ◌∷◌, All, sl
 use Rattle.std.specs.List.{AllByRecursion}
 use Rattle.std.proofs.Props.{props}
 use mathlib.Core.HLevel.{Π_prop, Unit-prop}
-use Rattle.jvm_code.specs.Switches.{rises}
-use Rattle.jvm_program.specs.declared.instruction.Instruction.{Instruction}
-use Rattle.jvm_program.specs.declared.instruction.Instruction.TheVariants.{LookupSwitch}
-use Rattle.jvm_program.specs.declared.linked_line.LinkedLine.{LinkedLine}
-use Rattle.jvm_program.specs.declared.linked_method.LinkedMethod.{LinkedMethod}
-use Rattle.jvm_program.specs.Program.{LaidFrom}
+use Rattle.class_definition.specs.Switches.{rises}
+use Rattle.jvm_definition.specs.declared.instruction.Instruction.{Instruction}
+use Rattle.jvm_definition.specs.declared.instruction.Instruction.TheVariants.{LookupSwitch}
+use Rattle.jvm_definition.specs.declared.linked_line.LinkedLine.{LinkedLine}
+use Rattle.jvm_definition.specs.declared.linked_method.LinkedMethod.{LinkedMethod}
+use Rattle.jvm_definition.specs.Program.{LaidFrom}
 
 -- the keys of a switch rise
 abbrev pub KeysRise : Instruction → Type 0

@@ -1,15 +1,14 @@
 //! Instructions that push constants.
 ghost use Rattle.std.specs.Prelude.{◌≡◌};
-ghost use Rattle.constant_pool.specs.Checks.{entry_at};
-ghost use Rattle.name_resolution.specs.Names.{class_name_at};
-ghost use Rattle.jvm_link.specs.Linking as linking;
+ghost use Rattle.class_definition.specs.PoolChecks.{entry_at};
+ghost use Rattle.class_definition.specs.MemberNames.{class_name_at};
+ghost use Rattle.class_definition.specs.Linking as linking;
 
 use crate::kinds::is_ints;
+use class_names::class_name_at;
 use constant_pool::{Entry, entry_of};
 use jvm_code::{Class, Iconst, LocalName, ShortIndex};
-use jvm_names::ReturnName;
-use jvm_program::{ArrayKind, Constant, Instruction, LocalKind};
-use name_resolution::class_name_at;
+use jvm_definition::{ArrayKind, Constant, Instruction, LocalKind, ReturnName};
 use nv_words::unsigned;
 
 /// The word that `iconst_<n>` pushes.

@@ -1,11 +1,11 @@
 //! The types of fields.
 ghost use Rattle.std.specs.Prelude.{◌≡◌, ◌++◌, map, IfOk, OnOk};
-ghost use Rattle.jvm_link.specs.Linking as linking;
+ghost use Rattle.class_definition.specs.Linking as linking;
 
 use crate::kinds::kind_of;
+use class_names::{NoMemory, text_of};
 use jvm_code::Class;
-use jvm_program::Kind;
-use name_resolution::{NoMemory, text_of};
+use jvm_definition::Kind;
 use std::alloc::Global;
 
 /// The types of the fields of all classes, class by class.

@@ -1,16 +1,15 @@
 //! Instructions with what they name.
 ghost use Rattle.std.specs.Prelude.{◌≡◌};
-ghost use Rattle.name_resolution.specs.Keys.{IsNumbered, classes_in};
-ghost use Rattle.jvm_link.specs.Linking as linking;
+ghost use Rattle.class_names.specs.Keys.{IsNumbered, classes_in};
+ghost use Rattle.class_definition.specs.Linking as linking;
 
 use crate::constants::{
     iconst_word, local_instruction, pushed_int, return_instruction, short_index, word_constant,
 };
 use crate::pool_instructions::pool_instruction;
+use class_names::{Names, NumberedClass};
 use jvm_code::Op;
-use jvm_names::BranchName;
-use jvm_program::{ArrayKind, Constant, Instruction};
-use name_resolution::{Names, NumberedClass};
+use jvm_definition::{ArrayKind, BranchName, Constant, Instruction};
 use nv_words::unsigned;
 
 /// The instruction of a method of a class with a number; the method gives an int or nothing.

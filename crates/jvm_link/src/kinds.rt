@@ -1,11 +1,11 @@
 //! The types that descriptors name (JVM Specification, 4.3).
 ghost use Rattle.std.specs.Prelude.{◌≡◌, IfOk, codes};
-ghost use Rattle.constant_pool.specs.Names.{same_text};
-ghost use Rattle.jvm_link.specs.Linking as linking;
+ghost use Rattle.class_definition.specs.NameGrammar.{same_text};
+ghost use Rattle.class_definition.specs.Linking as linking;
 
+use class_names::NoMemory;
 use constant_pool::after_field;
-use jvm_program::Kind;
-use name_resolution::NoMemory;
+use jvm_definition::Kind;
 use std::alloc::Global;
 
 /// `I`, `[I` and `[[I`.
@@ -17,7 +17,7 @@ const PAGES: [u16; 3] = [91, 91, 73];
 
 /// The type that a field descriptor names.
 pub fn kind_of(descriptor: &[u16]) -> Kind
-    ensures { result ≡ linking.kind_of descriptor.now }
+    ensures { result ≡ linking.descriptor_kind descriptor.now }
 {
     if descriptor == INT.as_slice() {
         Kind::Int

@@ -11,6 +11,6 @@ mod methods;
 mod pool_instructions;
 mod run;
 
+pub use class_names::{LinkError, LinkFault, NoMemory};
 pub use linked::Linked;
 pub use linking::link;
-pub use name_resolution::{LinkError, LinkFault, NoMemory};

@@ -1,13 +1,12 @@
 ghost use Rattle.std.specs.Prelude.{◌≡◌, Option, None, All};
-ghost use Rattle.name_resolution.specs.Kept.{IsClass};
-ghost use Rattle.name_resolution.specs.Faults.{link_fault};
-ghost use Rattle.jvm_link.specs.Linking.{field_kinds, linked_methods, first_method};
+ghost use Rattle.class_names.specs.Kept.{IsClass};
+ghost use Rattle.class_definition.specs.LinkFault.{link_fault};
+ghost use Rattle.class_definition.specs.Linking.{field_kinds, linked_methods, first_method};
 ghost use Rattle.jvm_link.specs.Order.{IsInOrder, AllInOrder-prop};
 
+use class_names::text_of;
 use jvm_code::Class;
-use jvm_names::Sequence;
-use jvm_program::{Kind, LinkedMethod};
-use name_resolution::text_of;
+use jvm_definition::{Kind, LinkedMethod, Sequence};
 
 /// Classes that link, and the program that they are.
 #[derive(Drop)]
@@ -29,9 +28,9 @@ pub struct Linked {
 
 impl Linked {
     ghost use Rattle.std.specs.Prelude.{length, slice_get};
-    ghost use Rattle.jvm_link.specs.Linking.{program_of};
+    ghost use Rattle.class_definition.specs.Linking.{program_of};
 
-    /// A character of a text, by the number of its class, its slot and its place; None exactly where the text ends before. It takes
+    /// A character of a text, by the number of its class, its slot and its place; None exactly if the text ends before. It takes
     /// no memory.
     pub fn character(&self, class: u16, slot: u16, i: u32) -> Option<u16>
         ensures { result ≡ slice_get ((program_of self.now.classes).characters class slot) i }

@@ -1,10 +1,11 @@
 //! Linking classes (JVM Specification, 5.4.3).
 ghost use Rattle.std.specs.Prelude.{◌≡◌, ◌≤◌, length, IfOk, IfErr, OnOk, All, None};
-ghost use Rattle.jvm_program.specs.Typing.{IsLinked};
-ghost use Rattle.name_resolution.specs.Kept.{IsClass};
-ghost use Rattle.name_resolution.specs.Faults.{IsAnswer, link_fault};
-ghost use Rattle.name_resolution.specs.Keys.{classes_in};
-ghost use Rattle.jvm_link.specs.Linking as linking;
+ghost use Rattle.jvm_definition.specs.Typing.{IsLinked};
+ghost use Rattle.class_names.specs.Kept.{IsClass};
+ghost use Rattle.class_names.specs.Answer.{IsAnswer};
+ghost use Rattle.class_definition.specs.LinkFault.{link_fault};
+ghost use Rattle.class_names.specs.Keys.{classes_in};
+ghost use Rattle.class_definition.specs.Linking as linking;
 ghost use Rattle.jvm_link.specs.Order.{IsInOrder};
 ghost use Rattle.jvm_link.specs.Meant.{IsMeant};
 
@@ -12,10 +13,9 @@ use crate::fields::field_kinds;
 use crate::linked::Linked;
 use crate::methods::linked_methods;
 use crate::run::first_method;
+use class_names::{LinkError, LinkFault, Names, Numbered, references_fault, twice_fault};
 use jvm_code::Class;
-use jvm_names::Sequence;
-use jvm_program::{Kind, LinkedMethod};
-use name_resolution::{LinkError, LinkFault, Names, Numbered, references_fault, twice_fault};
+use jvm_definition::{Kind, LinkedMethod, Sequence};
 use std::alloc::Global;
 
 /// The greatest number of classes.

@@ -1,17 +1,17 @@
 //! Methods with their code.
 ghost use Rattle.std.specs.Prelude.{◌≡◌, ◌≤◌, ◌<◌, ◌++◌, ◌+◌, map, IfOk, OnOk, None, length, All};
-ghost use Rattle.jvm_code.specs.Code.{code_fault};
-ghost use Rattle.jvm_code.specs.Writing.{AreLaid, size_at};
-ghost use Rattle.name_resolution.specs.Keys.{IsNumbered, classes_in};
-ghost use Rattle.jvm_link.specs.Linking as linking;
+ghost use Rattle.class_definition.specs.Code.{code_fault};
+ghost use Rattle.jvm_code.specs.Writing.{AreLaid};
+ghost use Rattle.class_definition.specs.Sizes.{size_at};
+ghost use Rattle.class_names.specs.Keys.{IsNumbered, classes_in};
+ghost use Rattle.class_definition.specs.Linking as linking;
 ghost use Rattle.jvm_link.specs.Order.{AreInOrder, IsInOrder};
 
 use crate::instructions::linked_instruction;
 use crate::kinds::{gives_int, parameters_of};
+use class_names::{Names, NoMemory, NumberedClass, text_of};
 use jvm_code::{Line, Method, decode_ops, size};
-use jvm_names::Sequence;
-use jvm_program::{LinkedLine, LinkedMethod};
-use name_resolution::{Names, NoMemory, NumberedClass, text_of};
+use jvm_definition::{LinkedLine, LinkedMethod, Sequence};
 use std::alloc::{AllocError, Global};
 
 /// The methods of all classes, class by class.
@@ -50,7 +50,7 @@ fn push_methods(
     Ok(())
 }
 
-#[tactic(auto, unfolding(crate::specs::Linking::linked_method))]
+#[tactic(auto, unfolding(class_definition::specs::Linking::linked_method))]
 fn linked_method(
     alloc: Global,
     names: &Names,
@@ -82,7 +82,7 @@ fn linked_method(
 // The lines of code without a fault.
 fn lines_of(alloc: Global, code: &[u8]) -> Result<Vec<Line>, NoMemory>
     requires { code_fault code.now ≡ None }
-    ensures lines { IfOk result (λ lines. lines.items ≡ linking.lines_of code.now) }
+    ensures lines { IfOk result (λ lines. lines.items ≡ linking.lines_of_code code.now) }
     ensures laid { IfOk result (λ lines. AreLaid 0 lines.items) }
 {
     match decode_ops(alloc, code) {

@@ -1,23 +1,23 @@
 //! Instructions with a slot of the constant pool.
 ghost use Rattle.std.specs.Prelude.{◌≡◌, ℕ, if◌then◌else◌};
-ghost use Rattle.constant_pool.specs.Checks.{entry_at};
-ghost use Rattle.constant_pool.specs.Names.{same_text};
-ghost use Rattle.jvm_program.specs.declared.kind.Kind.{Kind};
-ghost use Rattle.jvm_program.specs.declared.instruction.Instruction.{Instruction};
-ghost use Rattle.name_resolution.specs.Names as words;
-ghost use Rattle.jvm_link.specs.Linking as linking;
+ghost use Rattle.class_definition.specs.PoolChecks.{entry_at};
+ghost use Rattle.class_definition.specs.NameGrammar.{same_text};
+ghost use Rattle.jvm_definition.specs.declared.kind.Kind.{Kind};
+ghost use Rattle.jvm_definition.specs.declared.instruction.Instruction.{Instruction};
+ghost use Rattle.class_definition.specs.MemberNames as words;
+ghost use Rattle.class_definition.specs.Linking as linking;
 ghost use Rattle.jvm_link.specs.Fields.{field_made};
-ghost use Rattle.name_resolution.specs.Keys.{IsNumbered, classes_in};
+ghost use Rattle.class_names.specs.Keys.{IsNumbered, classes_in};
 
 use crate::constants::{long_constant, new_pages, word_constant};
 use crate::kinds::kind_of;
-use constant_pool::{Entry, entry_of};
-use jvm_code::PoolName;
-use jvm_program::{Instruction, Kind};
-use name_resolution::{
+use class_names::{
     Names, NumberedClass, class_name_at, is_char_at, is_host, is_host_call, is_host_fault,
     is_length, is_string, signature_at,
 };
+use constant_pool::{Entry, entry_of};
+use jvm_code::PoolName;
+use jvm_definition::{Instruction, Kind};
 
 /// What an instruction with a slot is, in a class with a number.
 pub fn pool_instruction(
@@ -81,8 +81,8 @@ fn field(names: &Names, class: &NumberedClass, slot: u16) -> Option<(u32, Kind)>
 fn typed_field(names: &Names, class: &NumberedClass, owner: u16, name: u16) -> Option<(u32, Kind)>
     requires { IsNumbered names.now.numbered.texts.keys class.now }
     ensures { (make : ℕ → Kind → Instruction)
-        → linking.field_of make (words.field_number (classes_in names.now.numbered.classes.items)
-        (words.reference (words.class_name_at class.now.class.now owner)
+        → linking.field_of_number make (words.field_number (classes_in names.now.numbered.classes.items)
+        (words.reference_to (words.class_name_at class.now.class.now owner)
         (words.signature_at class.now.class.now name)))
         (words.signature_at class.now.class.now name) ≡ field_made make result }
 {
@@ -133,7 +133,7 @@ fn static_call(names: &Names, class: &NumberedClass, slot: u16) -> Instruction
 fn method_call(names: &Names, class: &NumberedClass, owner: u16, name: u16) -> Instruction
     requires { IsNumbered names.now.numbered.texts.keys class.now }
     ensures { result ≡ linking.static_call (classes_in names.now.numbered.classes.items)
-        (words.reference (words.class_name_at class.now.class.now owner)
+        (words.reference_to (words.class_name_at class.now.class.now owner)
         (words.signature_at class.now.class.now name)) }
 {
     if is_host(class_name_at(class.class, owner)) {

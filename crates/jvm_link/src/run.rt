@@ -1,21 +1,21 @@
 //! The method with which a program begins.
 ghost use Rattle.std.specs.Prelude.{◌≡◌, codes, position, length, ◌≤◌, IfSome, All};
 ghost use Rattle.std.specs.Option.{is_some};
-ghost use Rattle.constant_pool.specs.Names.{same_text};
-ghost use Rattle.name_resolution.specs.Kept.{IsClass};
-ghost use Rattle.name_resolution.specs.Names as names;
-ghost use Rattle.name_resolution.specs.Faults.{run_signature, has_run};
-ghost use Rattle.jvm_link.specs.Linking as linking;
+ghost use Rattle.class_definition.specs.NameGrammar.{same_text};
+ghost use Rattle.class_names.specs.Kept.{IsClass};
+ghost use Rattle.class_definition.specs.MemberNames as names;
+ghost use Rattle.class_definition.specs.LinkFault.{run_signature, has_run};
+ghost use Rattle.class_definition.specs.Linking as linking;
 
+use class_names::text_of;
 use jvm_code::{Class, Method};
-use name_resolution::text_of;
 
 /// `run` and `()V`.
 const RUN: [u16; 3] = [114, 117, 110];
 
 const RUN_DESCRIPTOR: [u16; 3] = [40, 41, 86];
 
-/// The number of the method `run()V` of the first class; None exactly where it has none.
+/// The number of the method `run()V` of the first class; None exactly if it has none.
 pub fn first_method(classes: &[Class]) -> Option<u32>
     requires { All IsClass classes.now }
     ensures there { is_some result ≡ has_run classes.now }

@@ -1,25 +1,25 @@
 //! The parts of a machine, with all the memory that it uses.
 ghost use Rattle.std.specs.Prelude.{◌≡◌, ◌≤◌, ◌<◌, IfOk, map, length, Some, slice_get};
-ghost use Rattle.jvm_program.specs.Step.{start};
-ghost use Rattle.jvm_program.specs.Values.{zero_of};
-ghost use Rattle.jvm_link.specs.Linking.{program_of};
-ghost use Rattle.jvm_frames.specs.Frames.{HasRoom};
+ghost use Rattle.jvm_definition.specs.Step.{jvm_start};
+ghost use Rattle.jvm_definition.specs.Values.{zero_of};
+ghost use Rattle.class_definition.specs.Linking.{program_of};
+ghost use Rattle.jvm_activations.specs.Frames.{HasRoom};
 ghost use Rattle.jvm_heap.specs.Heaps.{nothing_in};
-ghost use Rattle.jvm_turns.specs.declared.machine_method.MachineMethod.{MachineMethod};
-ghost use Rattle.jvm_turns.specs.Standing.{Going, Roomy, state_in};
-ghost use Rattle.jvm_turns.specs.Loading.{IsLoaded};
+ghost use Rattle.jvm_steps.specs.declared.machine_method.MachineMethod.{MachineMethod};
+ghost use Rattle.jvm_steps.specs.Standing.{Going, Roomy, state_in};
+ghost use Rattle.jvm_steps.specs.Loading.{IsLoaded};
 ghost use Rattle.jvm_machine.specs.Rooms.{IsRoomFor};
 
 use crate::room::room_for;
-use command_values::RegionWords;
-use jvm_frames::{Callee, Frames};
+use jvm_activations::{Callee, Frames};
+use jvm_definition::{Kind, LinkedMethod};
 use jvm_heap::Heap;
 use jvm_instructions::{Fields, Working};
-use jvm_program::{Kind, LinkedMethod};
-use jvm_turns::{Executable, MachineCode};
+use jvm_steps::{Executable, MachineCode};
+use nv_values::RegionWords;
 use std::alloc::{AllocError, Global};
 
-/// Want of memory.
+/// Out of memory.
 pub type NoMemory = AllocError;
 
 /// What the instructions of methods work on: fields of these types, a region of so many words, and 64 frames that have room for each
@@ -72,7 +72,7 @@ pub(crate) fn begin(program: &Executable, kinds: &[Kind], entry: Callee, working
     ensures going { Going program.now.classes program.now.code working.new }
     ensures roomy { Roomy program.now.classes working.new }
     ensures state { state_in program.now.classes working.new
-        ≡ start (program_of program.now.classes) }
+        ≡ jvm_start (program_of program.now.classes) }
     ensures size { working.new.heap.region.size ≡ working.old.heap.region.size }
 {
     working.fields.reset(kinds);

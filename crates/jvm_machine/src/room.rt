@@ -1,6 +1,6 @@
 ghost use Rattle.jvm_machine.specs.Rooms.{IsRoomFor};
 
-use jvm_program::LinkedMethod;
+use jvm_definition::LinkedMethod;
 
 /// How many local variables and operands a frame needs to have room for.
 #[derive(Clone, Copy)]

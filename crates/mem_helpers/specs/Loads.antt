@@ -1,21 +1,21 @@
 -- The helper methods that load: the address is their last parameter but one, the instruction's own address the last one.
 use Rattle.std.specs.Prelude.{ℕ, ◌+◌, List, [], ◌∷◌, ◌++◌}
-use Rattle.nv_words.specs.declared.order.Order.{Order}
-use Rattle.nv_words.specs.declared.order.Order.TheVariants.{Big, Little}
-use Rattle.jvm_names.specs.declared.array_name.ArrayName.TheVariants.{Iaload}
-use Rattle.jvm_names.specs.declared.conversion.Conversion.{Conversion}
-use Rattle.jvm_names.specs.declared.conversion.Conversion.TheVariants.{I2b, I2c, I2s}
-use Rattle.jvm_names.specs.declared.int_arithmetic.IntArithmetic.TheVariants.{Iand, Ior, Ixor}
-use Rattle.jvm_names.specs.declared.int_shift.IntShift.{IntShift}
-use Rattle.jvm_names.specs.declared.int_shift.IntShift.TheVariants.{Ishl, Iushr}
-use Rattle.jvm_names.specs.declared.return_name.ReturnName.TheVariants.{Ireturn}
-use Rattle.jvm_names.specs.declared.stack_name.StackName.TheVariants.{Dup, Swap}
-use Rattle.jvm_program.specs.declared.instruction.Instruction.TheVariants as instructions
-use Rattle.code_steps.specs.declared.step.Step.{Step}
-use Rattle.code_steps.specs.declared.step.Step.TheVariants.{Does}
-use Rattle.guest_layout.specs.FieldNumbers.{readable_field}
-use Rattle.guest_code.specs.Access.{push_word, put_field, arithmetic}
-use Rattle.guest_code.specs.Fields.{link_field, linked_field}
+use Rattle.run_definition.specs.declared.order.Order.{Order}
+use Rattle.run_definition.specs.declared.order.Order.TheVariants.{Big, Little}
+use Rattle.jvm_definition.specs.declared.array_name.ArrayName.TheVariants.{Iaload}
+use Rattle.jvm_definition.specs.declared.conversion.Conversion.{Conversion}
+use Rattle.jvm_definition.specs.declared.conversion.Conversion.TheVariants.{I2b, I2c, I2s}
+use Rattle.jvm_definition.specs.declared.int_arithmetic.IntArithmetic.TheVariants.{Iand, Ior, Ixor}
+use Rattle.jvm_definition.specs.declared.int_shift.IntShift.{IntShift}
+use Rattle.jvm_definition.specs.declared.int_shift.IntShift.TheVariants.{Ishl, Iushr}
+use Rattle.jvm_definition.specs.declared.return_name.ReturnName.TheVariants.{Ireturn}
+use Rattle.jvm_definition.specs.declared.stack_name.StackName.TheVariants.{Dup, Swap}
+use Rattle.jvm_definition.specs.declared.instruction.Instruction.TheVariants as instructions
+use Rattle.emit_steps.specs.declared.step.Step.{Step}
+use Rattle.emit_steps.specs.declared.step.Step.TheVariants.{Does}
+use Rattle.emit_layout.specs.FieldNumbers.{readable_field}
+use Rattle.emit_instructions.specs.Access.{push_word, put_field, arithmetic}
+use Rattle.emit_instructions.specs.Fields.{link_field, linked_field}
 use Rattle.mem_helpers.specs.declared.amount.Amount.{Amount}
 use Rattle.mem_helpers.specs.Parts.{load, shift, stack, accessed, index_code, backward_code, ordered_code, amount_code, left_amount, right_amount}
 

@@ -1,13 +1,13 @@
 -- The helper methods in the order in which they stand in the main class, and the two that end the run for them.
 use Rattle.std.specs.Prelude.{ℕ, ◌==◌, if◌then◌else◌, List, [], ◌∷◌, ◌++◌}
-use Rattle.nv_words.specs.declared.order.Order.{Order}
-use Rattle.mips_decode.specs.Effect.{read_unmapped_fault, read_align_fault, write_refused_fault, write_align_fault}
-use Rattle.jvm_names.specs.declared.branch_name.BranchName.TheVariants.{Ifne, Goto}
-use Rattle.jvm_names.specs.declared.int_arithmetic.IntArithmetic.TheVariants.{Iand}
-use Rattle.jvm_program.specs.declared.instruction.Instruction.TheVariants as instructions
-use Rattle.code_steps.specs.declared.step.Step.{Step}
-use Rattle.code_steps.specs.declared.step.Step.TheVariants.{Does, Skips}
-use Rattle.guest_code.specs.Access.{push_word, arithmetic}
+use Rattle.run_definition.specs.declared.order.Order.{Order}
+use Rattle.mips_definition.specs.Effect.{read_unmapped_fault, read_align_fault, write_refused_fault, write_align_fault}
+use Rattle.jvm_definition.specs.declared.branch_name.BranchName.TheVariants.{Ifne, Goto}
+use Rattle.jvm_definition.specs.declared.int_arithmetic.IntArithmetic.TheVariants.{Iand}
+use Rattle.jvm_definition.specs.declared.instruction.Instruction.TheVariants as instructions
+use Rattle.emit_steps.specs.declared.step.Step.{Step}
+use Rattle.emit_steps.specs.declared.step.Step.TheVariants.{Does, Skips}
+use Rattle.emit_instructions.specs.Access.{push_word, arithmetic}
 use Rattle.mem_helpers.specs.Parts.{load}
 use Rattle.mem_helpers.specs.Loads.{gives, lw_method, lh_method, lhu_method, lb_method, lbu_method, lwl_method, lwr_method, ll_method}
 use Rattle.mem_helpers.specs.Stores.{returns_nothing, sw_method, sh_method, sb_method, swl_method, swr_method, sc_method}

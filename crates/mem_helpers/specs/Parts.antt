@@ -1,21 +1,21 @@
 -- Parts of the helper methods' code. Tables of pages are arrays of 524,288 pages, and a page is an array of 1,024 words: the byte at
 -- address a is lane a modulo 4 of word (a / 4) modulo 1,024 of page a / 4,096.
 use Rattle.std.specs.Prelude.{ℕ, ◌+◌, ◌==◌, if◌then◌else◌, List, [], ◌∷◌, ◌++◌, length}
-use Rattle.nv_words.specs.declared.order.Order.{Order}
-use Rattle.nv_words.specs.declared.order.Order.TheVariants.{Big, Little}
-use Rattle.jvm_names.specs.declared.array_name.ArrayName.TheVariants.{Aaload}
-use Rattle.jvm_names.specs.declared.int_arithmetic.IntArithmetic.TheVariants.{Iand, Ior, Ixor}
-use Rattle.jvm_names.specs.declared.int_shift.IntShift.{IntShift}
-use Rattle.jvm_names.specs.declared.int_shift.IntShift.TheVariants.{Ishl, Iushr}
-use Rattle.jvm_names.specs.declared.stack_name.StackName.{StackName}
-use Rattle.jvm_names.specs.declared.stack_name.StackName.TheVariants.{Pop, Dup}
-use Rattle.jvm_names.specs.declared.branch_name.BranchName.TheVariants.{Ifne, Iflt, Ifnull}
-use Rattle.jvm_program.specs.declared.kind.Kind.TheVariants as kinds
-use Rattle.jvm_program.specs.declared.local_kind.LocalKind.TheVariants as local_kinds
-use Rattle.jvm_program.specs.declared.instruction.Instruction.TheVariants as instructions
-use Rattle.code_steps.specs.declared.step.Step.{Step}
-use Rattle.code_steps.specs.declared.step.Step.TheVariants.{Does, Skips}
-use Rattle.guest_code.specs.Access.{push_word, arithmetic}
+use Rattle.run_definition.specs.declared.order.Order.{Order}
+use Rattle.run_definition.specs.declared.order.Order.TheVariants.{Big, Little}
+use Rattle.jvm_definition.specs.declared.array_name.ArrayName.TheVariants.{Aaload}
+use Rattle.jvm_definition.specs.declared.int_arithmetic.IntArithmetic.TheVariants.{Iand, Ior, Ixor}
+use Rattle.jvm_definition.specs.declared.int_shift.IntShift.{IntShift}
+use Rattle.jvm_definition.specs.declared.int_shift.IntShift.TheVariants.{Ishl, Iushr}
+use Rattle.jvm_definition.specs.declared.stack_name.StackName.{StackName}
+use Rattle.jvm_definition.specs.declared.stack_name.StackName.TheVariants.{Pop, Dup}
+use Rattle.jvm_definition.specs.declared.branch_name.BranchName.TheVariants.{Ifne, Iflt, Ifnull}
+use Rattle.jvm_definition.specs.declared.kind.Kind.TheVariants as kinds
+use Rattle.jvm_definition.specs.declared.local_kind.LocalKind.TheVariants as local_kinds
+use Rattle.jvm_definition.specs.declared.instruction.Instruction.TheVariants as instructions
+use Rattle.emit_steps.specs.declared.step.Step.{Step}
+use Rattle.emit_steps.specs.declared.step.Step.TheVariants.{Does, Skips}
+use Rattle.emit_instructions.specs.Access.{push_word, arithmetic}
 use Rattle.mem_helpers.specs.declared.amount.Amount.{Amount}
 use Rattle.mem_helpers.specs.declared.amount.Amount.TheVariants.{Forward, Backward}
 

@@ -1,20 +1,20 @@
 -- The helper methods of products and quotients, of two words: the results go to HI and LO.
 use Rattle.std.specs.Prelude.{ℕ, List, [], ◌∷◌, ◌++◌}
-use Rattle.jvm_names.specs.declared.branch_name.BranchName.TheVariants.{Ifne}
-use Rattle.jvm_names.specs.declared.conversion.Conversion.TheVariants.{I2l, L2i}
-use Rattle.jvm_names.specs.declared.int_division.IntDivision.{IntDivision}
-use Rattle.jvm_names.specs.declared.int_division.IntDivision.TheVariants.{Idiv, Irem}
-use Rattle.jvm_names.specs.declared.long_arithmetic.LongArithmetic.TheVariants.{Land, Lmul}
-use Rattle.jvm_names.specs.declared.long_division.LongDivision.{LongDivision}
-use Rattle.jvm_names.specs.declared.long_division.LongDivision.TheVariants.{Ldiv, Lrem}
-use Rattle.jvm_names.specs.declared.long_shift.LongShift.TheVariants.{Lushr}
-use Rattle.jvm_names.specs.declared.stack_name.StackName.TheVariants.{Dup2}
-use Rattle.jvm_program.specs.declared.constant.Constant.TheVariants as constants
-use Rattle.jvm_program.specs.declared.instruction.Instruction.TheVariants as instructions
-use Rattle.code_steps.specs.declared.step.Step.{Step}
-use Rattle.code_steps.specs.declared.step.Step.TheVariants.{Does, Skips}
-use Rattle.guest_layout.specs.FieldNumbers.{hi_field, lo_field}
-use Rattle.guest_code.specs.Access.{push_word, put_field}
+use Rattle.jvm_definition.specs.declared.branch_name.BranchName.TheVariants.{Ifne}
+use Rattle.jvm_definition.specs.declared.conversion.Conversion.TheVariants.{I2l, L2i}
+use Rattle.jvm_definition.specs.declared.int_division.IntDivision.{IntDivision}
+use Rattle.jvm_definition.specs.declared.int_division.IntDivision.TheVariants.{Idiv, Irem}
+use Rattle.jvm_definition.specs.declared.long_arithmetic.LongArithmetic.TheVariants.{Land, Lmul}
+use Rattle.jvm_definition.specs.declared.long_division.LongDivision.{LongDivision}
+use Rattle.jvm_definition.specs.declared.long_division.LongDivision.TheVariants.{Ldiv, Lrem}
+use Rattle.jvm_definition.specs.declared.long_shift.LongShift.TheVariants.{Lushr}
+use Rattle.jvm_definition.specs.declared.stack_name.StackName.TheVariants.{Dup2}
+use Rattle.jvm_definition.specs.declared.constant.Constant.TheVariants as constants
+use Rattle.jvm_definition.specs.declared.instruction.Instruction.TheVariants as instructions
+use Rattle.emit_steps.specs.declared.step.Step.{Step}
+use Rattle.emit_steps.specs.declared.step.Step.TheVariants.{Does, Skips}
+use Rattle.emit_layout.specs.FieldNumbers.{hi_field, lo_field}
+use Rattle.emit_instructions.specs.Access.{push_word, put_field}
 use Rattle.mem_helpers.specs.Parts.{load, stack}
 use Rattle.mem_helpers.specs.Stores.{returns_nothing}
 

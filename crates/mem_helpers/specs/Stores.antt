@@ -1,20 +1,20 @@
 -- The helper methods that store: the word is local variable 0, the address 1 and the instruction's own address 2.
 use Rattle.std.specs.Prelude.{ℕ, List, [], ◌∷◌, ◌++◌, length}
-use Rattle.nv_words.specs.declared.order.Order.{Order}
-use Rattle.nv_words.specs.declared.order.Order.TheVariants.{Big, Little}
-use Rattle.jvm_names.specs.declared.array_name.ArrayName.TheVariants.{Iaload, Iastore}
-use Rattle.jvm_names.specs.declared.branch_name.BranchName.TheVariants.{Ifeq, IfIcmpne}
-use Rattle.jvm_names.specs.declared.int_arithmetic.IntArithmetic.TheVariants.{Iand, Ior, Ixor}
-use Rattle.jvm_names.specs.declared.int_shift.IntShift.{IntShift}
-use Rattle.jvm_names.specs.declared.int_shift.IntShift.TheVariants.{Ishl, Iushr}
-use Rattle.jvm_names.specs.declared.return_name.ReturnName.TheVariants as returns
-use Rattle.jvm_names.specs.declared.stack_name.StackName.TheVariants.{Pop, Dup2}
-use Rattle.jvm_program.specs.declared.instruction.Instruction.TheVariants as instructions
-use Rattle.code_steps.specs.declared.step.Step.{Step}
-use Rattle.code_steps.specs.declared.step.Step.TheVariants.{Does, Skips}
-use Rattle.guest_layout.specs.FieldNumbers.{writable_field}
-use Rattle.guest_code.specs.Access.{push_word, get_field, put_field, arithmetic}
-use Rattle.guest_code.specs.Fields.{link_field, linked_field}
+use Rattle.run_definition.specs.declared.order.Order.{Order}
+use Rattle.run_definition.specs.declared.order.Order.TheVariants.{Big, Little}
+use Rattle.jvm_definition.specs.declared.array_name.ArrayName.TheVariants.{Iaload, Iastore}
+use Rattle.jvm_definition.specs.declared.branch_name.BranchName.TheVariants.{Ifeq, IfIcmpne}
+use Rattle.jvm_definition.specs.declared.int_arithmetic.IntArithmetic.TheVariants.{Iand, Ior, Ixor}
+use Rattle.jvm_definition.specs.declared.int_shift.IntShift.{IntShift}
+use Rattle.jvm_definition.specs.declared.int_shift.IntShift.TheVariants.{Ishl, Iushr}
+use Rattle.jvm_definition.specs.declared.return_name.ReturnName.TheVariants as returns
+use Rattle.jvm_definition.specs.declared.stack_name.StackName.TheVariants.{Pop, Dup2}
+use Rattle.jvm_definition.specs.declared.instruction.Instruction.TheVariants as instructions
+use Rattle.emit_steps.specs.declared.step.Step.{Step}
+use Rattle.emit_steps.specs.declared.step.Step.TheVariants.{Does, Skips}
+use Rattle.emit_layout.specs.FieldNumbers.{writable_field}
+use Rattle.emit_instructions.specs.Access.{push_word, get_field, put_field, arithmetic}
+use Rattle.emit_instructions.specs.Fields.{link_field, linked_field}
 use Rattle.mem_helpers.specs.declared.amount.Amount.{Amount}
 use Rattle.mem_helpers.specs.Parts.{load, shift, stack, accessed, index_code, backward_code, reversed_code, ordered_code, amount_code, left_amount, right_amount}
 use Rattle.mem_helpers.specs.Loads.{gives}

@@ -10,5 +10,5 @@ mod stores;
 
 pub use methods::{METHODS, append_helper};
 
-/// Want of memory, the one error of what makes code.
+/// Out of memory, the one error of what makes code.
 pub type NoMemory = std::alloc::AllocError;

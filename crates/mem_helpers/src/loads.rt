@@ -8,10 +8,11 @@ use crate::parts::{
     append_accessed, append_amount, append_backward, append_index, append_ordered, left_amount,
     load, right_amount, shift, stack,
 };
-use code_steps::Step;
-use guest_code::{append_steps, arithmetic, fields, push_word, put_field};
-use jvm_names::{ArrayName, Conversion, IntArithmetic, IntShift, ReturnName, StackName};
-use jvm_program::Instruction;
+use emit_instructions::{append_steps, arithmetic, fields, push_word, put_field};
+use emit_steps::Step;
+use jvm_definition::{
+    ArrayName, Conversion, Instruction, IntArithmetic, IntShift, ReturnName, StackName,
+};
 use nv_words::Order;
 use std::alloc::Global;
 

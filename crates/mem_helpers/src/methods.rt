@@ -1,4 +1,4 @@
-//! The helper methods in the order in which they stand in the main class.
+//! The helper methods in the order in which they are in the main class.
 ghost use Rattle.std.specs.Prelude.{◌≡◌, ◌++◌, OnOk, List, ℕ};
 ghost use Rattle.mem_helpers.specs.Methods as emitted;
 
@@ -12,10 +12,9 @@ use crate::products::{append_div, append_divu, append_mult, append_multu};
 use crate::stores::{
     append_return, append_sb, append_sc, append_sh, append_sw, append_swl, append_swr,
 };
-use code_steps::Step;
-use guest_code::{append_steps, arithmetic, push_word};
-use jvm_names::{BranchName, IntArithmetic};
-use jvm_program::Instruction;
+use emit_instructions::{append_steps, arithmetic, push_word};
+use emit_steps::Step;
+use jvm_definition::{BranchName, Instruction, IntArithmetic};
 use mips_decode::fault_kinds::{READ_ALIGN, READ_UNMAPPED, WRITE_ALIGN, WRITE_REFUSED};
 use nv_words::Order;
 use std::alloc::Global;
@@ -26,7 +25,7 @@ pub const METHODS: u32 = 20;
 /// Appends the code of a helper method, by its number below 20.
 ///
 /// # Errors
-/// Want of memory for the code.
+/// Out of memory for the code.
 pub fn append_helper(
     alloc: Global,
     number: u32,

@@ -4,10 +4,11 @@ ghost use Rattle.mem_helpers.specs.Parts as emitted;
 
 use crate::NoMemory;
 use crate::amount::Amount;
-use code_steps::Step;
-use guest_code::{append_steps, arithmetic, push_word};
-use jvm_names::{ArrayName, BranchName, IntArithmetic, IntShift, StackName};
-use jvm_program::{Instruction, Kind, LocalKind};
+use emit_instructions::{append_steps, arithmetic, push_word};
+use emit_steps::Step;
+use jvm_definition::{
+    ArrayName, BranchName, Instruction, IntArithmetic, IntShift, Kind, LocalKind, StackName,
+};
 use nv_words::Order;
 use std::alloc::Global;
 

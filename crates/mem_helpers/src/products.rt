@@ -5,12 +5,12 @@ ghost use Rattle.mem_helpers.specs.Products as emitted;
 use crate::NoMemory;
 use crate::parts::{load, stack};
 use crate::stores::append_return;
-use code_steps::Step;
-use guest_code::{append_steps, fields, push_word, put_field};
-use jvm_names::{
-    BranchName, Conversion, IntDivision, LongArithmetic, LongDivision, LongShift, StackName,
+use emit_instructions::{append_steps, fields, push_word, put_field};
+use emit_steps::Step;
+use jvm_definition::{
+    BranchName, Constant, Conversion, Instruction, IntDivision, LongArithmetic, LongDivision,
+    LongShift, StackName,
 };
-use jvm_program::{Constant, Instruction};
 
 // A word as a long, with its sign.
 fn append_signed(i: u8, code: &mut Vec<Step>) -> Result<(), NoMemory>

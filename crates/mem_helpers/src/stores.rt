@@ -1,7 +1,7 @@
 //! The helper methods that store.
 ghost use Rattle.std.specs.Prelude.{◌≡◌, ◌++◌, ◌<◌, ◌≤◌, ◌^◌, OnOk, length};
-ghost use Rattle.nv_words.specs.declared.order.Order.TheVariants.{Big, Little};
-ghost use Rattle.jvm_names.specs.declared.int_shift.IntShift.TheVariants.{Ishl};
+ghost use Rattle.run_definition.specs.declared.order.Order.TheVariants.{Big, Little};
+ghost use Rattle.jvm_definition.specs.declared.int_shift.IntShift.TheVariants.{Ishl};
 ghost use Rattle.mem_helpers.specs.Parts.{backward_code};
 ghost use Rattle.mem_helpers.specs.Stores as emitted;
 
@@ -12,10 +12,11 @@ use crate::parts::{
     append_accessed, append_amount, append_backward, append_index, append_ordered, append_reversed,
     left_amount, load, right_amount, shift, stack,
 };
-use code_steps::Step;
-use guest_code::{append_steps, arithmetic, fields, get_field, push_word, put_field};
-use jvm_names::{ArrayName, BranchName, IntArithmetic, IntShift, ReturnName, StackName};
-use jvm_program::Instruction;
+use emit_instructions::{append_steps, arithmetic, fields, get_field, push_word, put_field};
+use emit_steps::Step;
+use jvm_definition::{
+    ArrayName, BranchName, Instruction, IntArithmetic, IntShift, ReturnName, StackName,
+};
 use nv_words::Order;
 use std::alloc::Global;
 

@@ -1,14 +1,14 @@
 -- What the helper methods count.
 use Rattle.std.specs.Prelude.{◌≡◌, ℕ, List}
-use Rattle.nv_words.specs.declared.order.Order.{Order}
-use Rattle.mips_decode.specs.declared.names.load_name.LoadName.{LoadName}
-use Rattle.mips_decode.specs.declared.names.product_name.ProductName.{ProductName}
-use Rattle.mips_decode.specs.declared.names.store_name.StoreName.{StoreName}
-use Rattle.mips_decode.specs.declared.names.store_name.StoreName.TheVariants.{Sw}
-use Rattle.code_steps.specs.declared.step.Step.{Step}
-use Rattle.code_paths.specs.Classes.{reads, chars, switches}
-use Rattle.code_paths.specs.Paths.{weigh}
-use Rattle.guest_code.specs.Helpers.{load_helper, load_linked_helper, product_helper, store_helper, store_conditional_helper}
+use Rattle.run_definition.specs.declared.order.Order.{Order}
+use Rattle.mips_definition.specs.declared.names.load_name.LoadName.{LoadName}
+use Rattle.mips_definition.specs.declared.names.product_name.ProductName.{ProductName}
+use Rattle.mips_definition.specs.declared.names.store_name.StoreName.{StoreName}
+use Rattle.mips_definition.specs.declared.names.store_name.StoreName.TheVariants.{Sw}
+use Rattle.emit_steps.specs.declared.step.Step.{Step}
+use Rattle.emit_paths_laws.specs.Classes.{reads, chars, switches}
+use Rattle.emit_paths_laws.specs.Paths.{weigh}
+use Rattle.emit_instructions.specs.Helpers.{load_helper, load_linked_helper, product_helper, store_helper, store_conditional_helper}
 use Rattle.mem_helpers.specs.Loads.{read_fault_number}
 use Rattle.mem_helpers.specs.Methods.{helper_code}
 use Rattle.mem_helpers.specs.Stores.{write_fault_number}

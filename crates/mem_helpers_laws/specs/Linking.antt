@@ -1,20 +1,20 @@
 -- What the helper method that stores where an address is linked comes to.
 use Rattle.std.specs.Prelude.{◌≡◌, ◌≢◌, ℕ, ◌==◌, if◌then◌else◌, Some}
-use Rattle.nv_words.specs.Words.{IsWord}
-use Rattle.nv_words.specs.declared.order.Order.{Order}
-use Rattle.nv_events.specs.Memory.{Memory}
-use Rattle.mips_decode.specs.Loads.{stored}
-use Rattle.mips_decode.specs.declared.names.store_name.StoreName.TheVariants.{Sw}
-use Rattle.jvm_program.specs.declared.value.Value.{Value}
-use Rattle.jvm_program.specs.declared.value.Value.TheVariants.{Int as int}
-use Rattle.jvm_program.specs.Program.{Program}
-use Rattle.jvm_program.specs.Values.{Heap}
-use Rattle.jvm_program.specs.Effect.{Workspace}
-use Rattle.guest_code.specs.Fields.{link_field, linked_field}
-use Rattle.guest_code.specs.Helpers.{store_conditional_helper}
+use Rattle.run_definition.specs.Words.{IsWord}
+use Rattle.run_definition.specs.declared.order.Order.{Order}
+use Rattle.run_definition.specs.Memory.{Memory}
+use Rattle.mips_definition.specs.Loads.{memory_stored}
+use Rattle.mips_definition.specs.declared.names.store_name.StoreName.TheVariants.{Sw}
+use Rattle.jvm_definition.specs.declared.value.Value.{Value}
+use Rattle.jvm_definition.specs.declared.value.Value.TheVariants.{Int as int}
+use Rattle.jvm_definition.specs.Program.{Program}
+use Rattle.jvm_definition.specs.Values.{Heap}
+use Rattle.jvm_definition.specs.Effect.{Workspace}
+use Rattle.emit_instructions.specs.Fields.{link_field, linked_field}
+use Rattle.emit_instructions.specs.Helpers.{store_conditional_helper}
 use Rattle.mem_helpers.specs.Methods.{helper_code}
-use Rattle.guest_follows.specs.Match.{HoldsMemory}
-use Rattle.guest_follows.specs.Outcomes.{Gives}
+use Rattle.emit_simulation_laws.specs.Match.{HoldsMemory}
+use Rattle.emit_simulation_laws.specs.Outcomes.{Gives}
 use Rattle.mem_helpers_laws.specs.Storing.{MayStore, given_to_store, store_turns}
 
 -- This address is linked.
@@ -45,7 +45,7 @@ pub record ConcludesStore (program : Program) (words pc value a readable writabl
   pub linked : (at : ℕ) → IsWord value → IsLinked w at → at ≡ a
       → Gives program words store_turns (helper_code order store_conditional_helper)
       (given_to_store value a pc) w (Some (int 1))
-      (LeavesStored w readable writable (stored Sw order memory a value))
+      (LeavesStored w readable writable (memory_stored Sw order memory a value))
   -- it gives 0 and stores nothing where another one is
   pub elsewhere : (at : ℕ) → IsLinked w at → at ≢ a
       → Gives program words store_turns (helper_code order store_conditional_helper)

@@ -1,26 +1,26 @@
 -- What the helper methods that load come to.
 use Rattle.std.specs.Prelude.{◌≡◌, ℕ, Bool, true, false, List, [], ◌∷◌, Some, ◌==◌, if◌then◌else◌, is_none}
-use Rattle.nv_words.specs.Words.{IsWord}
-use Rattle.nv_words.specs.declared.order.Order.{Order}
-use Rattle.nv_events.specs.Memory.{Memory}
-use Rattle.jvm_program.specs.declared.value.Value.{Value}
-use Rattle.jvm_program.specs.declared.value.Value.TheVariants.{Int as int, Array as array}
-use Rattle.jvm_program.specs.Program.{Program}
-use Rattle.jvm_program.specs.Values.{Heap}
-use Rattle.jvm_program.specs.Effect.{Workspace}
-use Rattle.mips_decode.specs.Effect.{read_align_fault, read_unmapped_fault}
-use Rattle.mips_decode.specs.Loads.{load_aligned, loaded}
-use Rattle.mips_decode.specs.declared.names.load_name.LoadName.{LoadName}
-use Rattle.mips_decode.specs.declared.names.load_name.LoadName.TheVariants.{Lw, Lwl, Lwr}
-use Rattle.code_steps.specs.declared.step.Step.{Step}
-use Rattle.guest_layout.specs.FieldNumbers.{readable_field}
-use Rattle.guest_code.specs.Fields.{link_field, linked_field}
-use Rattle.guest_code.specs.Helpers.{load_helper, load_linked_helper}
+use Rattle.run_definition.specs.Words.{IsWord}
+use Rattle.run_definition.specs.declared.order.Order.{Order}
+use Rattle.run_definition.specs.Memory.{Memory}
+use Rattle.jvm_definition.specs.declared.value.Value.{Value}
+use Rattle.jvm_definition.specs.declared.value.Value.TheVariants.{Int as int, Array as array}
+use Rattle.jvm_definition.specs.Program.{Program}
+use Rattle.jvm_definition.specs.Values.{Heap}
+use Rattle.jvm_definition.specs.Effect.{Workspace}
+use Rattle.mips_definition.specs.Effect.{read_align_fault, read_unmapped_fault}
+use Rattle.mips_definition.specs.Loads.{load_aligned, loaded_word}
+use Rattle.mips_definition.specs.declared.names.load_name.LoadName.{LoadName}
+use Rattle.mips_definition.specs.declared.names.load_name.LoadName.TheVariants.{Lw, Lwl, Lwr}
+use Rattle.emit_steps.specs.declared.step.Step.{Step}
+use Rattle.emit_layout.specs.FieldNumbers.{readable_field}
+use Rattle.emit_instructions.specs.Fields.{link_field, linked_field}
+use Rattle.emit_instructions.specs.Helpers.{load_helper, load_linked_helper}
 use Rattle.mem_helpers.specs.Loads.{read_fault_number}
 use Rattle.mem_helpers.specs.Methods.{helper_code}
-use Rattle.guest_follows.specs.Match.{HoldsMemory}
-use Rattle.guest_follows.specs.Helpers.{HasHelpers}
-use Rattle.guest_follows.specs.Outcomes.{Gives, CallsFault}
+use Rattle.emit_simulation_laws.specs.Match.{HoldsMemory}
+use Rattle.emit_simulation_laws.specs.Helpers.{HasHelpers}
+use Rattle.emit_simulation_laws.specs.Outcomes.{Gives, CallsFault}
 
 -- at most so many instructions before a load's method returns, or calls the method that ends the run, and as many before that ends it
 abbrev pub most_of_a_load : ℕ
@@ -55,7 +55,7 @@ abbrev pub LoadsByName : Program → ℕ → Order → LoadName → Memory → W
 LoadsByName program words order name memory caller old a pc =
     LoadsAs program words order (helper_code order (load_helper name))
     (load_arguments name old a pc) caller pc a
-    (loaded name order memory a old) caller.fields (load_aligned name a) (is_none (memory.byte a))
+    (loaded_word name order memory a old) caller.fields (load_aligned name a) (is_none (memory.byte a))
 
 -- the fields after LL: the address is linked
 abbrev pub linked_fields : (ℕ → Value) → ℕ → ℕ → Value
@@ -66,7 +66,7 @@ linked_fields fields a =
 abbrev pub LoadsLinked : Program → ℕ → Order → Memory → Workspace → ℕ → ℕ → Type 0
 LoadsLinked program words order memory caller a pc =
     LoadsAs program words order (helper_code order load_linked_helper) (int a ∷ int pc ∷ [])
-    caller pc a (loaded Lw order memory a 0)
+    caller pc a (loaded_word Lw order memory a 0)
     (linked_fields caller.fields a) (load_aligned Lw a) (is_none (memory.byte a))
 
 -- ---- the laws
@@ -103,4 +103,4 @@ LoadsWords =
     (heap : Heap) (readable writable a old : ℕ) (memory : Memory) (order : Order)
     (name : LoadName)
     → HoldsMemory heap readable writable memory
-    → IsWord (loaded name order memory a old)
+    → IsWord (loaded_word name order memory a old)

@@ -1,18 +1,18 @@
 -- What the helper methods of products and quotients come to.
 use Rattle.std.specs.Prelude.{◌≡◌, ◌≢◌, ℕ, List, [], ◌∷◌, None}
-use Rattle.nv_words.specs.Words.{IsWord}
-use Rattle.nv_words.specs.declared.order.Order.{Order}
-use Rattle.mips_decode.specs.Arithmetic.{product_hi, product_lo}
-use Rattle.mips_decode.specs.declared.names.product_name.ProductName.{ProductName}
-use Rattle.jvm_program.specs.declared.value.Value.{Value}
-use Rattle.jvm_program.specs.declared.value.Value.TheVariants.{Int as int}
-use Rattle.jvm_program.specs.Program.{Program}
-use Rattle.jvm_program.specs.Values.{Heap}
-use Rattle.jvm_program.specs.Effect.{Workspace}
-use Rattle.guest_layout.specs.FieldNumbers.{hi_field, lo_field}
-use Rattle.guest_code.specs.Helpers.{product_helper}
+use Rattle.run_definition.specs.Words.{IsWord}
+use Rattle.run_definition.specs.declared.order.Order.{Order}
+use Rattle.mips_definition.specs.Arithmetic.{product_hi, product_lo}
+use Rattle.mips_definition.specs.declared.names.product_name.ProductName.{ProductName}
+use Rattle.jvm_definition.specs.declared.value.Value.{Value}
+use Rattle.jvm_definition.specs.declared.value.Value.TheVariants.{Int as int}
+use Rattle.jvm_definition.specs.Program.{Program}
+use Rattle.jvm_definition.specs.Values.{Heap}
+use Rattle.jvm_definition.specs.Effect.{Workspace}
+use Rattle.emit_layout.specs.FieldNumbers.{hi_field, lo_field}
+use Rattle.emit_instructions.specs.Helpers.{product_helper}
 use Rattle.mem_helpers.specs.Methods.{helper_code}
-use Rattle.guest_follows.specs.Outcomes.{Gives}
+use Rattle.emit_simulation_laws.specs.Outcomes.{Gives}
 
 -- two words
 abbrev pub given_to_product : ℕ → ℕ → List Value

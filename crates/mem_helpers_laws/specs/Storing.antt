@@ -1,24 +1,24 @@
 -- What the helper methods that store come to.
 use Rattle.std.specs.Prelude.{◌≡◌, ℕ, true, false, List, [], ◌∷◌, None}
-use Rattle.nv_words.specs.Words.{IsWord}
-use Rattle.nv_words.specs.declared.order.Order.{Order}
-use Rattle.nv_events.specs.Memory.{Memory}
-use Rattle.mips_decode.specs.Effect.{write_refused_fault, write_align_fault}
-use Rattle.mips_decode.specs.Loads.{store_aligned, store_allowed, stored}
-use Rattle.mips_decode.specs.declared.names.store_name.StoreName.{StoreName}
-use Rattle.mips_decode.specs.declared.names.store_name.StoreName.TheVariants.{Sw}
-use Rattle.jvm_program.specs.declared.value.Value.{Value}
-use Rattle.jvm_program.specs.declared.value.Value.TheVariants.{Int as int, Array as array}
-use Rattle.jvm_program.specs.Program.{Program}
-use Rattle.jvm_program.specs.Values.{Heap}
-use Rattle.jvm_program.specs.Effect.{Workspace}
-use Rattle.guest_layout.specs.FieldNumbers.{readable_field, writable_field}
-use Rattle.guest_code.specs.Helpers.{store_helper, store_conditional_helper}
+use Rattle.run_definition.specs.Words.{IsWord}
+use Rattle.run_definition.specs.declared.order.Order.{Order}
+use Rattle.run_definition.specs.Memory.{Memory}
+use Rattle.mips_definition.specs.Effect.{write_refused_fault, write_align_fault}
+use Rattle.mips_definition.specs.Loads.{store_aligned, store_allowed, memory_stored}
+use Rattle.mips_definition.specs.declared.names.store_name.StoreName.{StoreName}
+use Rattle.mips_definition.specs.declared.names.store_name.StoreName.TheVariants.{Sw}
+use Rattle.jvm_definition.specs.declared.value.Value.{Value}
+use Rattle.jvm_definition.specs.declared.value.Value.TheVariants.{Int as int, Array as array}
+use Rattle.jvm_definition.specs.Program.{Program}
+use Rattle.jvm_definition.specs.Values.{Heap}
+use Rattle.jvm_definition.specs.Effect.{Workspace}
+use Rattle.emit_layout.specs.FieldNumbers.{readable_field, writable_field}
+use Rattle.emit_instructions.specs.Helpers.{store_helper, store_conditional_helper}
 use Rattle.mem_helpers.specs.Stores.{write_fault_number}
 use Rattle.mem_helpers.specs.Methods.{helper_code}
-use Rattle.guest_follows.specs.Match.{HoldsMemory}
-use Rattle.guest_follows.specs.Helpers.{HasHelpers}
-use Rattle.guest_follows.specs.Outcomes.{Gives, CallsFault}
+use Rattle.emit_simulation_laws.specs.Match.{HoldsMemory}
+use Rattle.emit_simulation_laws.specs.Helpers.{HasHelpers}
+use Rattle.emit_simulation_laws.specs.Outcomes.{Gives, CallsFault}
 
 -- The tables of pages are in their fields, and what is read through them is the guest's memory.
 pub record HoldsTables (w : Workspace) (readable writable : ℕ) (memory : Memory) : Type 0 where
@@ -96,4 +96,4 @@ StoresAreDone =
     → MayStore name order w readable writable memory a
     → Gives program words store_turns (helper_code order (store_helper name))
     (given_to_store value a pc) w None
-    (LeavesMemory w readable writable (stored name order memory a value))
+    (LeavesMemory w readable writable (memory_stored name order memory a value))

@@ -3,8 +3,8 @@
 ghost use Rattle.mem_helpers_laws.specs.Loading.{LoadsAreTheGuests, LinkedLoadsAreTheGuests, LoadsWords};
 ghost use Rattle.mem_helpers_laws.specs.Counting.{LoadsRead};
 
-/// Each load by its method, where the tables of pages hold the guest's memory: it gives what the guest loads and leaves fields and arrays
-/// alone, or the run ends in the guest's fault.
+/// Each load by its method, where the tables of pages hold the guest's memory: it gives what the guest loads and leaves
+/// fields and arrays alone, or the run ends in the guest's fault. Either takes at most 60 instructions.
 pub fn loads_are_the_guests()
     ensures { LoadsAreTheGuests }
 {}

@@ -11,12 +11,13 @@ pub fn faulty_stores_end_the_run()
     ensures { FaultyStoresEnd }
 {}
 
-/// Every other store is done: the memory is what the instruction leaves, and no field is changed.
+/// Every other store is done: the memory is what the instruction leaves, and no field is changed. It takes at most 80
+/// instructions before its return.
 pub fn stores_are_done()
     ensures { StoresAreDone }
 {}
 
-/// SC faults as SW. Else it stores as SW and gives 1 where its address is linked, and gives 0 and stores nothing where another or none
+/// SC faults as SW. Otherwise it stores as SW and gives 1 where its address is linked, and gives 0 and stores nothing where another or none
 /// is. No address is linked afterwards.
 pub fn conditional_stores_are_concluded()
     ensures faulty { FaultyConditionalStoresEnd }

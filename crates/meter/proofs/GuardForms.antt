@@ -1,19 +1,19 @@
 -- The form of a guard: the parts of which its code is made, on which its bytes, its constants and its marks rest.
 use Rattle.std.proofs.Common.{◌≡◌, ℕ, List, [], ◌∷◌, ◌++◌, map, Option, Some, None, refl}
-use Rattle.mips_decode.specs.Branches.{equal_likely, zero_likely, sign_likely}
-use Rattle.mips_decode.specs.declared.inst.Inst.{Inst}
-use Rattle.mips_decode.specs.declared.inst.Inst.TheVariants as inst
+use Rattle.mips_definition.specs.Branches.{equal_likely, zero_likely, sign_likely}
+use Rattle.mips_definition.specs.declared.inst.Inst.{Inst}
+use Rattle.mips_definition.specs.declared.inst.Inst.TheVariants as inst
 use Rattle.delay_slots.specs.declared.unit.Unit.{Unit}
 use Rattle.delay_slots.specs.declared.unit.Unit.TheVariants.{Plain, Branch, SlotMissing, SlotIsBranch, Call, Trap}
-use Rattle.jvm_names.specs.declared.branch_name.BranchName.{BranchName}
-use Rattle.jvm_names.specs.declared.branch_name.BranchName.TheVariants.{IfIcmpge, Goto}
-use Rattle.jvm_names.specs.declared.int_arithmetic.IntArithmetic.TheVariants.{Isub}
-use Rattle.jvm_program.specs.declared.constant.Constant.TheVariants as constants
-use Rattle.jvm_program.specs.declared.kind.Kind.TheVariants as kinds
-use Rattle.jvm_program.specs.declared.instruction.Instruction.TheVariants.{Push, Get, Put, IntArithmetic, FaultHost}
-use Rattle.guest_code.specs.Branching.{equal_test, zero_test, sign_test}
-use Rattle.guest_code.proofs.Forms.{Part, Acts, Word, Reads, step_of, Form, Straight, Both, code_of}
-use Rattle.guest_code.proofs.InstructionForms.{passes}
+use Rattle.jvm_definition.specs.declared.branch_name.BranchName.{BranchName}
+use Rattle.jvm_definition.specs.declared.branch_name.BranchName.TheVariants.{IfIcmpge, Goto}
+use Rattle.jvm_definition.specs.declared.int_arithmetic.IntArithmetic.TheVariants.{Isub}
+use Rattle.jvm_definition.specs.declared.constant.Constant.TheVariants as constants
+use Rattle.jvm_definition.specs.declared.kind.Kind.TheVariants as kinds
+use Rattle.jvm_definition.specs.declared.instruction.Instruction.TheVariants.{Push, Get, Put, IntArithmetic, FaultHost}
+use Rattle.emit_instructions.specs.Branching.{equal_test, zero_test, sign_test}
+use Rattle.emit_instructions.proofs.Forms.{Part, Acts, Word, Reads, step_of, Form, Straight, Both, code_of}
+use Rattle.emit_instructions.proofs.InstructionForms.{passes}
 use Rattle.meter.specs.Guards.{left_field, spent_kind, likely_test, branch_guard, transfer_guard, guard_code}
 
 -- only the address may be any word

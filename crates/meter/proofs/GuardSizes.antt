@@ -1,22 +1,22 @@
 -- Guards are small, and no branch goes past their end.
 use Rattle.std.proofs.Common.{◌≡◌, ℕ, ◌≤◌, ◌==◌, nat_lt, Bool, true, false, if◌then◌else◌, pos, negsuc, List, [], ◌∷◌, Option, Some, None, refl, ◌∙◌, arith}
-use Rattle.nv_words.specs.Words.{signed_of}
-use Rattle.mips_decode.specs.Branches.{equal_likely, zero_likely, sign_likely}
-use Rattle.mips_decode.specs.declared.inst.Inst.{Inst}
-use Rattle.mips_decode.specs.declared.inst.Inst.TheVariants as inst
+use Rattle.run_definition.specs.Words.{signed_of}
+use Rattle.mips_definition.specs.Branches.{equal_likely, zero_likely, sign_likely}
+use Rattle.mips_definition.specs.declared.inst.Inst.{Inst}
+use Rattle.mips_definition.specs.declared.inst.Inst.TheVariants as inst
 use Rattle.delay_slots.specs.declared.unit.Unit.{Unit}
 use Rattle.delay_slots.specs.declared.unit.Unit.TheVariants.{Plain, Branch, SlotMissing, SlotIsBranch, Call, Trap}
-use Rattle.jvm_names.specs.declared.branch_name.BranchName.{BranchName}
-use Rattle.jvm_program.specs.declared.local_kind.LocalKind.TheVariants as local_kinds
-use Rattle.jvm_program.specs.declared.instruction.Instruction.TheVariants as instructions
-use Rattle.code_steps.specs.declared.step.Step.{Step}
-use Rattle.code_steps.specs.declared.step.Step.TheVariants.{Does}
-use Rattle.code_steps.specs.Outcomes.{stays_within}
-use Rattle.code_steps.specs.Widths.{lies_from, local_width, width, size}
-use Rattle.guest_layout.specs.FieldNumbers.{register_field}
-use Rattle.guest_code.specs.Access.{push_word, get_field, keeps, get_register}
-use Rattle.guest_code.specs.Branching.{equal_test, zero_test, sign_test}
-use Rattle.guest_code.proofs.Forms.{either-most, read-most}
+use Rattle.jvm_definition.specs.declared.branch_name.BranchName.{BranchName}
+use Rattle.jvm_definition.specs.declared.local_kind.LocalKind.TheVariants as local_kinds
+use Rattle.jvm_definition.specs.declared.instruction.Instruction.TheVariants as instructions
+use Rattle.emit_steps.specs.declared.step.Step.{Step}
+use Rattle.emit_steps.specs.declared.step.Step.TheVariants.{Does}
+use Rattle.emit_steps.specs.Outcomes.{stays_within}
+use Rattle.emit_steps.specs.Widths.{lies_from, local_width, width, size}
+use Rattle.emit_layout.specs.FieldNumbers.{register_field}
+use Rattle.emit_instructions.specs.Access.{push_word, get_field, keeps, get_register}
+use Rattle.emit_instructions.specs.Branching.{equal_test, zero_test, sign_test}
+use Rattle.emit_instructions.proofs.Forms.{either-most, read-most}
 use Rattle.meter.specs.Guards.{counted_code, likely_guard, likely_test, branch_guard, transfer_guard, guard_code}
 
 -- ---- bytes

@@ -1,19 +1,19 @@
 -- What stands before the code of a unit in classes with a meter: it takes the unit's turns off, or ends the run where there are not enough.
 use Rattle.std.specs.Prelude.{ℕ, Bool, if◌then◌else◌, List, [], ◌∷◌, ◌++◌, Option, Some, None}
-use Rattle.mips_decode.specs.Branches.{equal_likely, zero_likely, sign_likely}
-use Rattle.mips_decode.specs.declared.inst.Inst.{Inst}
-use Rattle.mips_decode.specs.declared.inst.Inst.TheVariants as inst
+use Rattle.mips_definition.specs.Branches.{equal_likely, zero_likely, sign_likely}
+use Rattle.mips_definition.specs.declared.inst.Inst.{Inst}
+use Rattle.mips_definition.specs.declared.inst.Inst.TheVariants as inst
 use Rattle.delay_slots.specs.declared.unit.Unit.{Unit}
 use Rattle.delay_slots.specs.declared.unit.Unit.TheVariants.{Plain, Branch, SlotMissing, SlotIsBranch, Call, Trap}
 use Rattle.delay_slots.specs.Places.{Address}
-use Rattle.jvm_names.specs.declared.branch_name.BranchName.{BranchName}
-use Rattle.jvm_names.specs.declared.branch_name.BranchName.TheVariants.{IfIcmpge, Goto}
-use Rattle.jvm_names.specs.declared.int_arithmetic.IntArithmetic.TheVariants.{Isub}
-use Rattle.code_steps.specs.declared.step.Step.{Step}
-use Rattle.code_steps.specs.declared.step.Step.TheVariants.{Skips}
-use Rattle.guest_code.specs.Access.{push_word, get_field, put_field, arithmetic, get_register}
-use Rattle.guest_code.specs.Faulting.{fault_code}
-use Rattle.guest_code.specs.Branching.{equal_test, zero_test, sign_test}
+use Rattle.jvm_definition.specs.declared.branch_name.BranchName.{BranchName}
+use Rattle.jvm_definition.specs.declared.branch_name.BranchName.TheVariants.{IfIcmpge, Goto}
+use Rattle.jvm_definition.specs.declared.int_arithmetic.IntArithmetic.TheVariants.{Isub}
+use Rattle.emit_steps.specs.declared.step.Step.{Step}
+use Rattle.emit_steps.specs.declared.step.Step.TheVariants.{Skips}
+use Rattle.emit_instructions.specs.Access.{push_word, get_field, put_field, arithmetic, get_register}
+use Rattle.emit_instructions.specs.Faulting.{fault_code}
+use Rattle.emit_instructions.specs.Branching.{equal_test, zero_test, sign_test}
 
 -- the field of the turns that are left, behind those of the guest's state
 abbrev pub left_field : ℕ

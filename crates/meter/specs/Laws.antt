@@ -2,8 +2,8 @@
 use Rattle.std.specs.Prelude.{◌≡◌, ℕ, ◌≤◌, true}
 use Rattle.delay_slots.specs.declared.unit.Unit.{Unit}
 use Rattle.delay_slots.specs.Places.{Address}
-use Rattle.code_steps.specs.Outcomes.{stays_within}
-use Rattle.code_steps.specs.Widths.{size}
+use Rattle.emit_steps.specs.Outcomes.{stays_within}
+use Rattle.emit_steps.specs.Widths.{size}
 use Rattle.meter.specs.Guards.{guard_code}
 
 -- the bytes that are weighed for the guard of a word

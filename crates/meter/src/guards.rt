@@ -1,29 +1,30 @@
 //! Guards of units.
 ghost use Rattle.std.specs.Prelude.{◌≡◌, ◌++◌, [], ◌∷◌, OnOk};
-ghost use Rattle.guest_code.specs.Access as access;
-ghost use Rattle.guest_code.specs.Faulting.{fault_code};
+ghost use Rattle.emit_instructions.specs.Access as access;
+ghost use Rattle.emit_instructions.specs.Faulting.{fault_code};
 ghost use Rattle.meter.specs.Guards as emitted;
 
 use crate::NoMemory;
 use crate::likely::{equal_likely, sign_likely, zero_likely};
-use code_steps::Step;
 use delay_slots::Unit;
-use guest_code::{Bank, append_steps, arithmetic, get_field, get_register, push_word, put_field};
-use jvm_names::{BranchName, IntArithmetic};
-use jvm_program::Instruction;
+use emit_instructions::{
+    Bank, append_steps, arithmetic, get_field, get_register, push_word, put_field,
+};
+use emit_steps::Step;
+use jvm_definition::{BranchName, Instruction, IntArithmetic};
 use mips_decode::Inst;
 
-/// The field of the main class that says how many turns are left, behind those of the guest's state.
+/// The field of the main class that says how many turns are left, after those of the guest's state.
 pub const LEFT: u32 = 38;
 
 /// The kind of the fault of a spent meter, which is none of the guest's.
 pub const SPENT: u32 = 12;
 
-/// Appends the guard of a unit at an address, which stands before the code of the unit over the fields of the registers. Where enough turns are
+/// Appends the guard of a unit at an address, which is before the code of the unit over the fields of the registers. If enough turns are
 /// left for the unit it takes them off, and changes nothing else; otherwise it ends the run in the fault of a spent meter, at that address.
 ///
 /// # Errors
-/// Want of memory for the code.
+/// Out of memory for the code.
 pub fn append_guard(unit: &Unit, at: u32, code: &mut Vec<Step>) -> Result<(), NoMemory>
     ensures { OnOk result (code.new.items ≡ code.old.items ++ emitted.guard_code unit.now at) }
 {
@@ -40,7 +41,7 @@ pub fn append_guard(unit: &Unit, at: u32, code: &mut Vec<Step>) -> Result<(), No
 /// Appends code that takes so many turns off the meter, or ends the run at an address.
 ///
 /// # Errors
-/// Want of memory for the code.
+/// Out of memory for the code.
 pub fn append_counted(turns: u32, at: u32, code: &mut Vec<Step>) -> Result<(), NoMemory>
     ensures { OnOk result (code.new.items ≡ code.old.items ++ emitted.counted_code turns at) }
 {

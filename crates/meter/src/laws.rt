@@ -6,7 +6,7 @@ pub fn guards_are_small()
     ensures { GuardsAreSmall }
 {}
 
-/// No branch goes past the end of a guard, so that code may stand behind it.
+/// No branch goes past the end of a guard, so that code may be after it.
 pub fn guards_stay_within()
     ensures { GuardsStayWithin }
 {}

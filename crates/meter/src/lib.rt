@@ -7,5 +7,5 @@ mod likely;
 
 pub use guards::{LEFT, SPENT, append_counted, append_guard};
 
-/// Want of memory, the one error of this crate.
+/// Out of memory, the one error of this crate.
 pub type NoMemory = std::alloc::AllocError;

@@ -1,10 +1,10 @@
 //! The tests of the likely branches, which they pass where they are taken. Other branches have none.
 ghost use Rattle.std.specs.Prelude.{◌≡◌};
-ghost use Rattle.mips_decode.specs.Branches as branches;
-ghost use Rattle.guest_code.specs.Branching as emitted;
+ghost use Rattle.mips_definition.specs.Branches as branches;
+ghost use Rattle.emit_instructions.specs.Branching as emitted;
 ghost use Rattle.meter.specs.Guards.{likely_test};
 
-use jvm_names::BranchName;
+use jvm_definition::BranchName;
 use mips_decode::{BranchEqualName, BranchSignName, BranchZeroName};
 
 /// Of BEQ to BNEL.

@@ -1,19 +1,19 @@
 -- What code comes to that takes turns off a meter.
 use Rattle.std.proofs.Common.{◌≡◌, ℕ, ◌+◌, ◌-◌, ◌%◌, ◌^◌, ◌<◌, ◌≤◌, int_lt, Bool, true, false, not, if◌then◌else◌, List, [], ◌∷◌, ◌++◌, ap, ◌∙◌, arith, lit≤}
 use Rattle.std.proofs.lemmas.Int.{ints}
-use Rattle.nv_words.specs.Words.{signed_of}
-use Rattle.jvm_names.specs.declared.branch_name.BranchName.{BranchName}
-use Rattle.jvm_names.specs.declared.branch_name.BranchName.TheVariants.{IfIcmpge, Goto}
-use Rattle.jvm_names.specs.declared.int_arithmetic.IntArithmetic.TheVariants.{Isub}
-use Rattle.jvm_program.specs.declared.value.Value.{Value}
-use Rattle.jvm_program.specs.declared.value.Value.TheVariants.{Int as int}
-use Rattle.jvm_program.specs.Program.{Program}
-use Rattle.jvm_program.specs.Effect.{Workspace, with_operands, with_field, faults, chooses, branches}
-use Rattle.code_steps.specs.declared.step.Step.{Step}
-use Rattle.code_steps.specs.declared.step.Step.TheVariants.{Skips}
-use Rattle.code_steps.specs.Outcomes.{Outcome, ended, stopped, later, beyond, outcome, outcome_from, after_branch}
-use Rattle.guest_code.specs.Access.{push_word, get_field, put_field, arithmetic}
-use Rattle.guest_code.specs.Faulting.{fault_code}
+use Rattle.run_definition.specs.Words.{signed_of}
+use Rattle.jvm_definition.specs.declared.branch_name.BranchName.{BranchName}
+use Rattle.jvm_definition.specs.declared.branch_name.BranchName.TheVariants.{IfIcmpge, Goto}
+use Rattle.jvm_definition.specs.declared.int_arithmetic.IntArithmetic.TheVariants.{Isub}
+use Rattle.jvm_definition.specs.declared.value.Value.{Value}
+use Rattle.jvm_definition.specs.declared.value.Value.TheVariants.{Int as int}
+use Rattle.jvm_definition.specs.Program.{Program}
+use Rattle.jvm_definition.specs.Effect.{Workspace, with_operands, with_field, faults, chooses, branches}
+use Rattle.emit_steps.specs.declared.step.Step.{Step}
+use Rattle.emit_steps.specs.declared.step.Step.TheVariants.{Skips}
+use Rattle.emit_steps.specs.Outcomes.{Outcome, ended, stopped, later, beyond, outcome, outcome_from, after_branch}
+use Rattle.emit_instructions.specs.Access.{push_word, get_field, put_field, arithmetic}
+use Rattle.emit_instructions.specs.Faulting.{fault_code}
 use Rattle.meter.specs.Guards.{left_field, spent_kind, counted_code, likely_guard}
 use Rattle.meter_laws.specs.Meters.{HasLeft, leaving, spent_fault}
 

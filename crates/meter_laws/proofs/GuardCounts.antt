@@ -1,26 +1,26 @@
 -- What guards count, and which fields they write.
 use Rattle.std.proofs.Common.{◌≡◌, ◌≢◌, ℕ, ◌+◌, ◌≤◌, if◌then◌else◌, List, [], ◌∷◌, Option, Some, None, refl, ap, sym, arith}
 use Rattle.std.proofs.lemmas.Bool.{ne_eqb}
-use Rattle.nv_words.specs.declared.order.Order.{Order}
-use Rattle.mips_decode.specs.Branches.{equal_likely, zero_likely, sign_likely}
-use Rattle.mips_decode.specs.declared.inst.Inst.{Inst}
-use Rattle.mips_decode.specs.declared.inst.Inst.TheVariants as inst
+use Rattle.run_definition.specs.declared.order.Order.{Order}
+use Rattle.mips_definition.specs.Branches.{equal_likely, zero_likely, sign_likely}
+use Rattle.mips_definition.specs.declared.inst.Inst.{Inst}
+use Rattle.mips_definition.specs.declared.inst.Inst.TheVariants as inst
 use Rattle.delay_slots.specs.declared.unit.Unit.{Unit}
 use Rattle.delay_slots.specs.declared.unit.Unit.TheVariants.{Plain, Branch, SlotMissing, SlotIsBranch, Call, Trap}
-use Rattle.jvm_names.specs.declared.branch_name.BranchName.{BranchName}
-use Rattle.jvm_program.specs.declared.instruction.Instruction.{Instruction}
-use Rattle.jvm_program.specs.declared.instruction.Instruction.TheVariants as instructions
-use Rattle.jvm_program.specs.declared.local_kind.LocalKind.TheVariants as local_kinds
-use Rattle.jvm_program.specs.declared.constant.Constant.TheVariants as constants
-use Rattle.jvm_program.specs.declared.kind.Kind.TheVariants as kinds
-use Rattle.code_steps.specs.declared.step.Step.{Step}
-use Rattle.guest_layout.specs.FieldNumbers.{register_field}
-use Rattle.guest_code.specs.Access.{get_register}
-use Rattle.guest_code.specs.Branching.{equal_test, zero_test, sign_test}
-use Rattle.guest_code.proofs.Forms.{read-most}
-use Rattle.code_paths.specs.Classes.{reads, chars, switches, entries, puts}
-use Rattle.code_paths.specs.Paths.{step_weight, weigh}
-use Rattle.guest_follows.specs.Sites.{called_weight, whole_weight}
+use Rattle.jvm_definition.specs.declared.branch_name.BranchName.{BranchName}
+use Rattle.jvm_definition.specs.declared.instruction.Instruction.{Instruction}
+use Rattle.jvm_definition.specs.declared.instruction.Instruction.TheVariants as instructions
+use Rattle.jvm_definition.specs.declared.local_kind.LocalKind.TheVariants as local_kinds
+use Rattle.jvm_definition.specs.declared.constant.Constant.TheVariants as constants
+use Rattle.jvm_definition.specs.declared.kind.Kind.TheVariants as kinds
+use Rattle.emit_steps.specs.declared.step.Step.{Step}
+use Rattle.emit_layout.specs.FieldNumbers.{register_field}
+use Rattle.emit_instructions.specs.Access.{get_register}
+use Rattle.emit_instructions.specs.Branching.{equal_test, zero_test, sign_test}
+use Rattle.emit_instructions.proofs.Forms.{read-most}
+use Rattle.emit_paths_laws.specs.Classes.{reads, chars, switches, entries, puts}
+use Rattle.emit_paths_laws.specs.Paths.{step_weight, weigh}
+use Rattle.emit_simulation_laws.specs.Sites.{called_weight, whole_weight}
 use Rattle.meter.specs.Guards.{left_field, counted_code, likely_guard, likely_test, branch_guard, transfer_guard, guard_code}
 use Rattle.meter_laws.specs.Laws.{CountsNothing}
 

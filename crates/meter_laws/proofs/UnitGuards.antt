@@ -2,44 +2,44 @@
 use Rattle.std.proofs.Common.{◌≡◌, ℕ, ◌+◌, ◌-◌, ◌<◌, ◌≤◌, ◌==◌, pos, int_lt, int_le, ℤ, Bool, not, if◌then◌else◌, List, ◌∷◌, Option, Some, None, refl, ap, ◌∙◌, arith, lit≤}
 use Rattle.std.proofs.lemmas.Bool.{ne_eqb}
 use Rattle.std.proofs.lemmas.Int.{ints}
-use Rattle.nv_words.specs.Words.{signed_of}
-use Rattle.nv_words.specs.declared.order.Order.{Order}
-use Rattle.mips_decode.specs.State.{State, register}
-use Rattle.mips_decode.specs.Branches.{zero_taken, sign_taken}
-use Rattle.mips_decode.specs.declared.inst.Inst.{Inst}
-use Rattle.mips_decode.specs.declared.inst.Inst.TheVariants as inst
-use Rattle.mips_decode.specs.declared.names.branch_equal_name.BranchEqualName.{BranchEqualName}
-use Rattle.mips_decode.specs.declared.names.branch_equal_name.BranchEqualName.TheVariants.{Beq, Bne, Beql, Bnel}
-use Rattle.mips_decode.specs.declared.names.branch_zero_name.BranchZeroName.{BranchZeroName}
-use Rattle.mips_decode.specs.declared.names.branch_zero_name.BranchZeroName.TheVariants.{Blez, Bgtz, Blezl, Bgtzl}
-use Rattle.mips_decode.specs.declared.names.branch_sign_name.BranchSignName.{BranchSignName}
-use Rattle.mips_decode.specs.declared.names.branch_sign_name.BranchSignName.TheVariants.{Bltz, Bgez, Bltzal, Bgezal, Bltzl, Bgezl, Bltzall, Bgezall}
+use Rattle.run_definition.specs.Words.{signed_of}
+use Rattle.run_definition.specs.declared.order.Order.{Order}
+use Rattle.mips_definition.specs.State.{State, register}
+use Rattle.mips_definition.specs.Branches.{zero_taken, sign_taken}
+use Rattle.mips_definition.specs.declared.inst.Inst.{Inst}
+use Rattle.mips_definition.specs.declared.inst.Inst.TheVariants as inst
+use Rattle.mips_definition.specs.declared.names.branch_equal_name.BranchEqualName.{BranchEqualName}
+use Rattle.mips_definition.specs.declared.names.branch_equal_name.BranchEqualName.TheVariants.{Beq, Bne, Beql, Bnel}
+use Rattle.mips_definition.specs.declared.names.branch_zero_name.BranchZeroName.{BranchZeroName}
+use Rattle.mips_definition.specs.declared.names.branch_zero_name.BranchZeroName.TheVariants.{Blez, Bgtz, Blezl, Bgtzl}
+use Rattle.mips_definition.specs.declared.names.branch_sign_name.BranchSignName.{BranchSignName}
+use Rattle.mips_definition.specs.declared.names.branch_sign_name.BranchSignName.TheVariants.{Bltz, Bgez, Bltzal, Bgezal, Bltzl, Bgezl, Bltzall, Bgezall}
 use Rattle.delay_slots.specs.declared.unit.Unit.{Unit}
 use Rattle.delay_slots.specs.declared.unit.Unit.TheVariants.{Plain, Branch, SlotMissing, SlotIsBranch, Call, Trap}
 use Rattle.delay_slots.specs.Turns.{skips, unit_turn_count}
 use Rattle.block_builder.specs.Registers.{read_by}
-use Rattle.jvm_names.specs.declared.branch_name.BranchName.TheVariants.{Iflt, Ifge, Ifgt, Ifle, IfIcmpeq, IfIcmpne}
-use Rattle.jvm_program.specs.declared.value.Value.{Value}
-use Rattle.jvm_program.specs.declared.value.Value.TheVariants.{Int as int}
-use Rattle.jvm_program.specs.Program.{Program}
-use Rattle.jvm_program.specs.Effect.{Workspace, with_operands, chooses}
-use Rattle.code_steps.specs.Outcomes.{later, outcome}
-use Rattle.code_steps.specs.declared.step.Step.{Step}
-use Rattle.code_steps.specs.Offsets.{CodeOffset}
-use Rattle.code_steps.specs.Placing.{LiesAt}
-use Rattle.code_steps.specs.Widths.{size}
-use Rattle.guest_layout.specs.FieldNumbers.{register_field}
-use Rattle.guest_code.specs.Access.{get_register}
-use Rattle.lawful_units.specs.Knowing.{IsKnown, AreKnown}
-use Rattle.lawful_units.specs.Lawful.{KnownByUnit}
-use Rattle.code_paths.specs.Laws.{CodeIsPath}
-use Rattle.guest_follows.specs.Holding.{HoldsOn, IsLink}
-use Rattle.guest_follows.specs.Sites.{Site, stands, whole_weight}
-use Rattle.guest_follows.specs.Following.{ComesToEnd, ComesToTurn}
-use Rattle.guest_follows.proofs.Signs.{same-signed}
-use Rattle.guest_follows.proofs.GuestFollows.Outcomes.{code-ends-here, code-stops}
-use Rattle.guest_follows.proofs.RegisterLaws.Reading.{register-pushed, known-word}
-use Rattle.guest_follows.proofs.RegisterLaws.Beside.{beside-held}
+use Rattle.jvm_definition.specs.declared.branch_name.BranchName.TheVariants.{Iflt, Ifge, Ifgt, Ifle, IfIcmpeq, IfIcmpne}
+use Rattle.jvm_definition.specs.declared.value.Value.{Value}
+use Rattle.jvm_definition.specs.declared.value.Value.TheVariants.{Int as int}
+use Rattle.jvm_definition.specs.Program.{Program}
+use Rattle.jvm_definition.specs.Effect.{Workspace, with_operands, chooses}
+use Rattle.emit_steps.specs.Outcomes.{later, outcome}
+use Rattle.emit_steps.specs.declared.step.Step.{Step}
+use Rattle.emit_steps.specs.Offsets.{CodeOffset}
+use Rattle.emit_steps.specs.Placing.{LiesAt}
+use Rattle.emit_steps.specs.Widths.{size}
+use Rattle.emit_layout.specs.FieldNumbers.{register_field}
+use Rattle.emit_instructions.specs.Access.{get_register}
+use Rattle.emit_simulation_laws.specs.Knowing.{IsKnown, AreKnown}
+use Rattle.emit_simulation_laws.specs.Lawful.{KnownByUnit}
+use Rattle.emit_paths_laws.specs.Laws.{CodeIsPath}
+use Rattle.emit_simulation_laws.specs.Holding.{HoldsOn, IsLink}
+use Rattle.emit_simulation_laws.specs.Sites.{Site, stands, whole_weight}
+use Rattle.emit_simulation_laws.specs.Following.{ComesToEnd, ComesToTurn}
+use Rattle.emit_simulation_laws.proofs.Signs.{same-signed}
+use Rattle.emit_simulation_laws.proofs.GuestFollows.Outcomes.{code-ends-here, code-stops}
+use Rattle.emit_simulation_laws.proofs.RegisterLaws.Reading.{register-pushed, known-word}
+use Rattle.emit_simulation_laws.proofs.RegisterLaws.Beside.{beside-held}
 use Rattle.meter.specs.Guards.{left_field, transfer_guard, guard_code}
 use Rattle.meter_laws.specs.Meters.{HasLeft, leaving, spent_fault, EndsSpent}
 use Rattle.meter_laws.specs.Laws.{most_turns}

@@ -1,24 +1,24 @@
 -- What holds of guards.
 use Rattle.std.specs.Prelude.{◌≡◌, ◌≢◌, ℕ, ◌+◌, ◌-◌, ◌<◌, ◌≤◌, Bool, ◌∷◌}
-use Rattle.nv_words.specs.declared.order.Order.{Order}
-use Rattle.mips_decode.specs.State.{State}
+use Rattle.run_definition.specs.declared.order.Order.{Order}
+use Rattle.mips_definition.specs.State.{State}
 use Rattle.delay_slots.specs.declared.unit.Unit.{Unit}
 use Rattle.delay_slots.specs.Places.{Address}
 use Rattle.delay_slots.specs.Turns.{unit_turn_count}
-use Rattle.jvm_program.specs.declared.instruction.Instruction.{Instruction}
-use Rattle.jvm_program.specs.declared.value.Value.TheVariants.{Int as int}
-use Rattle.jvm_program.specs.Program.{Program}
-use Rattle.jvm_program.specs.Effect.{Workspace, faults, with_operands}
-use Rattle.code_steps.specs.Offsets.{CodeOffset}
-use Rattle.code_steps.specs.Outcomes.{outcome, ended, stopped}
-use Rattle.code_steps.specs.Placing.{LiesAt}
-use Rattle.code_steps.specs.Widths.{size}
-use Rattle.code_paths.specs.Classes.{reads, chars, switches, entries, puts}
-use Rattle.code_paths.specs.Paths.{weigh}
-use Rattle.lawful_units.specs.Lawful.{KnownByUnit}
-use Rattle.guest_follows.specs.Holding.{HoldsOn}
-use Rattle.guest_follows.specs.Sites.{Site, stands, whole_weight}
-use Rattle.guest_follows.specs.Following.{ComesToEnd, ComesToTurn}
+use Rattle.jvm_definition.specs.declared.instruction.Instruction.{Instruction}
+use Rattle.jvm_definition.specs.declared.value.Value.TheVariants.{Int as int}
+use Rattle.jvm_definition.specs.Program.{Program}
+use Rattle.jvm_definition.specs.Effect.{Workspace, faults, with_operands}
+use Rattle.emit_steps.specs.Offsets.{CodeOffset}
+use Rattle.emit_steps.specs.Outcomes.{outcome, ended, stopped}
+use Rattle.emit_steps.specs.Placing.{LiesAt}
+use Rattle.emit_steps.specs.Widths.{size}
+use Rattle.emit_paths_laws.specs.Classes.{reads, chars, switches, entries, puts}
+use Rattle.emit_paths_laws.specs.Paths.{weigh}
+use Rattle.emit_simulation_laws.specs.Lawful.{KnownByUnit}
+use Rattle.emit_simulation_laws.specs.Holding.{HoldsOn}
+use Rattle.emit_simulation_laws.specs.Sites.{Site, stands, whole_weight}
+use Rattle.emit_simulation_laws.specs.Following.{ComesToEnd, ComesToTurn}
 use Rattle.meter.specs.Guards.{left_field, spent_kind, counted_code, guard_code}
 use Rattle.meter_laws.specs.Meters.{HasLeft, leaving, spent_fault, EndsSpent}
 

@@ -1,12 +1,12 @@
 -- A meter in the classes of a program.
 use Rattle.std.specs.Prelude.{◌≡◌, ℕ, ◌^◌, ◌<◌}
-use Rattle.nv_events.specs.Turn.{Turn, ends, «fault»}
-use Rattle.nv_events.specs.declared.fault.Fault.{Fault}
+use Rattle.run_definition.specs.Turn.{Turn, ends, «fault»}
+use Rattle.run_definition.specs.declared.fault.Fault.{Fault}
 use Rattle.delay_slots.specs.Places.{Address}
-use Rattle.jvm_program.specs.declared.value.Value.TheVariants.{Int as int}
-use Rattle.jvm_program.specs.Effect.{Workspace, with_field}
-use Rattle.jvm_program.specs.Step.{State}
-use Rattle.code_steps.specs.Offsets.{CodeOffset}
+use Rattle.jvm_definition.specs.declared.value.Value.TheVariants.{Int as int}
+use Rattle.jvm_definition.specs.Effect.{Workspace, with_field}
+use Rattle.jvm_definition.specs.Step.{JvmState}
+use Rattle.emit_steps.specs.Offsets.{CodeOffset}
 use Rattle.meter.specs.Guards.{left_field, spent_kind}
 
 -- so many turns are left
@@ -21,5 +21,5 @@ leaving left w = with_field w left_field (int left) w.operands
 abbrev pub spent_fault : Address → Fault
 spent_fault at = record { kind = spent_kind; pc = at; value = 0 }
 
-abbrev pub EndsSpent : Address → ℕ → CodeOffset → Turn State → Type 0
+abbrev pub EndsSpent : Address → ℕ → CodeOffset → Turn JvmState → Type 0
 EndsSpent at turns place last = last ≡ ends («fault» (spent_fault at))

@@ -2,10 +2,11 @@
 
 ghost use Rattle.meter_laws.specs.Laws.{CountedCodeCountsNothing, CountedCodeEnds, CountedCodeIsPaid, CountedCodeWritesTheMeter, GuardsCountNothing, GuardsEndTheRun, GuardsKeepTheState, GuardsTakeTurnsOff, GuardsWriteTheMeter};
 
-use guest_follows::laws::code_is_paths;
+use emit_simulation_laws::laws::code_is_paths;
 
-/// From where the fields hold a guest's state the guard of a unit comes to its end, with the unit's turns taken off, where so many are left;
-/// and the fields still hold the state. Where fewer are left, it ends the run in the fault of a spent meter at its address.
+/// From where the fields hold a guest's state the guard of a unit comes to its end, with the unit's turns taken off,
+/// where so many are left; and the fields still hold the state. If fewer are left, it ends the run in the fault of a
+/// spent meter at its address. Either takes at most 12 turns.
 pub fn guards_take_turns_off()
     ensures enough { GuardsTakeTurnsOff }
     ensures kept { GuardsKeepTheState }

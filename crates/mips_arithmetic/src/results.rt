@@ -1,6 +1,6 @@
 //! The results of the instructions that compute.
 ghost use Rattle.std.specs.Prelude.{◌≡◌, ◌<◌, ◌/◌, ◌%◌, ◌^◌, Option};
-ghost use Rattle.mips_decode.specs.Arithmetic as manual;
+ghost use Rattle.mips_definition.specs.Arithmetic as manual;
 
 use mips_decode::{
     ArithmeticImmediateName, ArithmeticName, LogicalImmediateName, ProductName, ShiftName,

@@ -2,13 +2,13 @@
 use Rattle.std.proofs.Common.{◌≡◌, ℕ, ◌++◌, Bool, true, false, cond, List, [], ◌∷◌, map, append_assoc, refl, ap, sym, ◌∙◌, Some, None, Ok}
 use Rattle.std.specs.Prelude.{◌==◌, ◌&&◌, slice_index}
 use Rattle.std.specs.List.{slice_split, onto_first}
-use Rattle.asm_lines.specs.Lexical.{after_word, all, bare_line, before, from, is_blank, is_dark, is_name, lines_of, operands_of, trimmed, up_to_last}
-use Rattle.asm_lines.specs.Lines.{Word, Instruction, bare_line_is, by_label, by_word, label_of, line_of}
+use Rattle.asm_lines.specs.Lexical.{after_word, all, bare_line, before_byte, from, is_blank, is_dark, is_name, lines_of_text, operand_texts, trimmed_line, up_to_last}
+use Rattle.asm_lines.specs.Lines.{Word, Instruction, bare_line_is, by_label, by_word, label_of, line_of_text}
 use Rattle.asm_lines.specs.declared.mnemonic.Mnemonic.{Mnemonic}
 use Rattle.asm_lines.proofs.LexicalLemmas.{name_before_end, up_to_dark}
 use Rattle.mips_decode.specs.Encoding.{word_of}
-use Rattle.mips_asm.specs.Instructions.{all_values, forms, instruction, word_with}
-use Rattle.mips_asm.specs.Program.{as_list, asm_fault, data_words, fault_by, fault_from, labels_from, parsed, start, text_words, word_value, words_from, words_in}
+use Rattle.mips_asm.specs.Instructions.{all_values, operand_forms, inst_of_operands, word_with}
+use Rattle.mips_asm.specs.Program.{as_list, asm_fault, data_words, fault_by, lines_fault_from, labels_from, parsed_lines, start_place, text_words, word_value, words_from, words_in}
 
 -- ---- bytes
 abbrev pub is_not : ℕ → ℕ → Bool
@@ -104,15 +104,15 @@ first_part p (x ∷ xs) c ys h e =
     ap (λ t. cond t ([] ∷ slice_split p (xs ++ c ∷ ys)) (onto_first x (slice_split p (xs ++ c ∷ ys)))) (head_lacks p x xs h)
     ∙ ap (λ parts. onto_first x parts) (first_part p xs c ys (tail_lacks p x xs h) e)
 
-before_none : (p : ℕ → Bool) (bs : List ℕ) → Lacks p bs → before p bs ≡ bs
+before_none : (p : ℕ → Bool) (bs : List ℕ) → Lacks p bs → before_byte p bs ≡ bs
 before_none p [] h = refl
 before_none p (b ∷ bs) h =
-    ap (λ t. cond t [] (b ∷ before p bs)) (head_lacks p b bs h) ∙ ap (λ xs. b ∷ xs) (before_none p bs (tail_lacks p b bs h))
+    ap (λ t. cond t [] (b ∷ before_byte p bs)) (head_lacks p b bs h) ∙ ap (λ xs. b ∷ xs) (before_none p bs (tail_lacks p b bs h))
 
-before_first : (p : ℕ → Bool) (xs : List ℕ) (c : ℕ) (ys : List ℕ) → Lacks p xs → p c ≡ true → before p (xs ++ c ∷ ys) ≡ xs
-before_first p [] c ys h e = ap (λ t. cond t [] (c ∷ before p ys)) e
+before_first : (p : ℕ → Bool) (xs : List ℕ) (c : ℕ) (ys : List ℕ) → Lacks p xs → p c ≡ true → before_byte p (xs ++ c ∷ ys) ≡ xs
+before_first p [] c ys h e = ap (λ t. cond t [] (c ∷ before_byte p ys)) e
 before_first p (x ∷ xs) c ys h e =
-    ap (λ t. cond t [] (x ∷ before p (xs ++ c ∷ ys))) (head_lacks p x xs h) ∙ ap (λ zs. x ∷ zs) (before_first p xs c ys (tail_lacks p x xs h) e)
+    ap (λ t. cond t [] (x ∷ before_byte p (xs ++ c ∷ ys))) (head_lacks p x xs h) ∙ ap (λ zs. x ∷ zs) (before_first p xs c ys (tail_lacks p x xs h) e)
 
 from_first : (p : ℕ → Bool) (xs : List ℕ) (c : ℕ) (ys : List ℕ) → Lacks p xs → p c ≡ true → from p (xs ++ c ∷ ys) ≡ c ∷ ys
 from_first p [] c ys h e = ap (λ t. cond t (c ∷ ys) (from p ys)) e
@@ -141,7 +141,7 @@ no_blank other b g h = rw (g, h) refl
 
 -- what begins and ends with plain bytes has no blanks at its ends
 trimmed_same : (other b : ℕ) (bs : List ℕ) → is_blank other b ≡ false → ((c : ℕ) → is_plain c ≡ true → is_blank other c ≡ false)
-    → EndsPlain (b ∷ bs) → trimmed other (b ∷ bs) ≡ b ∷ bs
+    → EndsPlain (b ∷ bs) → trimmed_line other (b ∷ bs) ≡ b ∷ bs
 trimmed_same other b bs dark h e =
     ap (λ t. up_to_last other (cond (cond t false true) (b ∷ bs) (from (is_dark other) bs))) dark
     ∙ ap (λ xs. up_to_last other xs) e.is ∙ up_to_dark other e.front e.last (h e.last e.plain) ∙ sym e.is
@@ -173,16 +173,16 @@ split_operands a (b ∷ cs) h hs =
     first_part (λ b. b == 44) a 44 (joined_operands (b ∷ cs)) (all_weaker is_plain (λ b. cond (b == 44) false true) no_comma a (plain_operand a h)) refl
     ∙ ap (λ parts. a ∷ parts) (split_operands b cs hs.0 hs.1)
 
-trim_operand : (a : List ℕ) → is_operand a ≡ true → trimmed 32 a ≡ a
+trim_operand : (a : List ℕ) → is_operand a ≡ true → trimmed_line 32 a ≡ a
 trim_operand [] h = cc
 trim_operand (b ∷ bs) h = trimmed_same 32 b bs (dark_32 b (left_of (is_plain b) (all is_plain bs) h)) dark_32 (end_of b bs h)
 
-trim_operands : (more : List (List ℕ)) → AreOperands more → map (trimmed 32) more ≡ more
+trim_operands : (more : List (List ℕ)) → AreOperands more → map (trimmed_line 32) more ≡ more
 trim_operands [] h = refl
-trim_operands (a ∷ more) h = ap (λ x. x ∷ map (trimmed 32) more) (trim_operand a h.0) ∙ ap (λ xs. a ∷ xs) (trim_operands more h.1)
+trim_operands (a ∷ more) h = ap (λ x. x ∷ map (trimmed_line 32) more) (trim_operand a h.0) ∙ ap (λ xs. a ∷ xs) (trim_operands more h.1)
 
-pub operands_of_joined : (a : List ℕ) (more : List (List ℕ)) → is_operand a ≡ true → AreOperands more → operands_of (joined_operands (a ∷ more)) ≡ a ∷ more
-operands_of_joined a more h hs = ap (λ parts. map (trimmed 32) parts) (split_operands a more h hs) ∙ trim_operands (a ∷ more) (h, hs)
+pub operands_of_joined : (a : List ℕ) (more : List (List ℕ)) → is_operand a ≡ true → AreOperands more → operand_texts (joined_operands (a ∷ more)) ≡ a ∷ more
+operands_of_joined a more h hs = ap (λ parts. map (trimmed_line 32) parts) (split_operands a more h hs) ∙ trim_operands (a ∷ more) (h, hs)
 
 inner_operands : (a : List ℕ) (more : List (List ℕ)) → is_operand a ≡ true → AreOperands more → all is_inner (joined_operands (a ∷ more)) ≡ true
 inner_operands a [] h hs = all_weaker is_plain is_inner inner_plain a (plain_operand a h)
@@ -207,7 +207,7 @@ no_label xs e =
     ap (λ ys. label_of ys) e.is ∙ name_before_end 58 e.front e.last ∙ ap (λ t. cond (t && is_name e.front) (Some e.front) None) (no_colon e.last e.plain)
 
 worded : (m : ℕ) (ms rest : List ℕ) → all is_plain (m ∷ ms) ≡ true → all is_inner rest ≡ true → EndsPlain rest
-    → from (is_dark 32) rest ≡ rest → line_of ((m ∷ ms) ++ 32 ∷ rest) ≡ by_word (m ∷ ms) rest
+    → from (is_dark 32) rest ≡ rest → line_of_text ((m ∷ ms) ++ 32 ∷ rest) ≡ by_word (m ∷ ms) rest
 worded m ms rest h inner e dark =
     let text = (m ∷ ms) ++ 32 ∷ rest in
     let ends = end_behind (m ∷ ms) 32 rest e in
@@ -215,7 +215,7 @@ worded m ms rest h inner e dark =
     let all_inner = all_append is_inner (m ∷ ms) (32 ∷ rest) (all_weaker is_plain is_inner inner_plain (m ∷ ms) h) inner in
     let comments = all_weaker is_inner (λ b. cond (b == 35) false true) (λ b k. right_of (is_not 10 b) (is_not 35 b) k) text all_inner in
     let bare : bare_line text ≡ text =
-    ap (λ xs. trimmed 9 xs) (before_none (λ b. b == 35) text comments)
+    ap (λ xs. trimmed_line 9 xs) (before_none (λ b. b == 35) text comments)
     ∙ trimmed_same 9 m (ms ++ 32 ∷ rest) (dark_9 m (left_of (is_plain m) (all is_plain ms) h)) dark_9 ends in
     ap (λ xs. bare_line_is xs) bare
     ∙ ap (λ o. by_label text o) (no_label text ends)
@@ -225,13 +225,13 @@ worded m ms rest h inner e dark =
 
 -- a line of a word and operands
 pub line_of_words : (w a : List ℕ) (more : List (List ℕ)) → is_operand w ≡ true → is_operand a ≡ true → AreOperands more
-    → line_of (w ++ 32 ∷ joined_operands (a ∷ more)) ≡ by_word w (joined_operands (a ∷ more))
+    → line_of_text (w ++ 32 ∷ joined_operands (a ∷ more)) ≡ by_word w (joined_operands (a ∷ more))
 line_of_words [] a more g h hs = cc
 line_of_words (m ∷ ms) a more g h hs =
     worded m ms (joined_operands (a ∷ more)) g (inner_operands a more h hs) (end_operands a more h hs) (dark_operands a more h)
 
 pub lines_of_words : (w a : List ℕ) (more : List (List ℕ)) → is_operand w ≡ true → is_operand a ≡ true → AreOperands more
-    → lines_of (w ++ 32 ∷ joined_operands (a ∷ more)) ≡ (w ++ 32 ∷ joined_operands (a ∷ more)) ∷ []
+    → lines_of_text (w ++ 32 ∷ joined_operands (a ∷ more)) ≡ (w ++ 32 ∷ joined_operands (a ∷ more)) ∷ []
 lines_of_words w a more g h hs =
     let inner = all_append is_inner w (32 ∷ joined_operands (a ∷ more)) (all_weaker is_plain is_inner inner_plain w (plain_operand w g)) (inner_operands a more h hs) in
     one_part (λ b. b == 10) (w ++ 32 ∷ joined_operands (a ∷ more))
@@ -242,18 +242,18 @@ lines_of_words w a more g h hs =
 abbrev pub Assembles : List ℕ → ℕ → Type 0
 Assembles text w = (asm_fault text ≡ None) × (text_words text ≡ w ∷ []) × (data_words text ≡ [])
 
-pub assembles_instruction : (text : List ℕ) (m : Mnemonic) (rest : List ℕ) (vs : List ℕ) → parsed text ≡ Instruction m rest ∷ []
-    → all_values [] 0x00400000 (forms m) (operands_of rest) ≡ Ok vs
-    → Assembles text (word_of (instruction m (λ i. slice_index vs i)))
+pub assembles_instruction : (text : List ℕ) (m : Mnemonic) (rest : List ℕ) (vs : List ℕ) → parsed_lines text ≡ Instruction m rest ∷ []
+    → all_values [] 0x00400000 (operand_forms m) (operand_texts rest) ≡ Ok vs
+    → Assembles text (word_of (inst_of_operands m (λ i. slice_index vs i)))
 assembles_instruction text m rest vs is values = (
-  ap (λ ls. fault_from (labels_from start ls) [] start 1 ls) is ∙ ap (λ r. fault_by 1 (as_list (word_with m r)) None) values,
-  ap (λ ls. words_from false (labels_from start ls) [] start ls) is ∙ ap (λ r. words_in false start (as_list (word_with m r)) ++ []) values,
-  ap (λ ls. words_from true (labels_from start ls) [] start ls) is ∙ ap (λ r. words_in true start (as_list (word_with m r)) ++ []) values,
+  ap (λ ls. lines_fault_from (labels_from start_place ls) [] start_place 1 ls) is ∙ ap (λ r. fault_by 1 (as_list (word_with m r)) None) values,
+  ap (λ ls. words_from false (labels_from start_place ls) [] start_place ls) is ∙ ap (λ r. words_in false start_place (as_list (word_with m r)) ++ []) values,
+  ap (λ ls. words_from true (labels_from start_place ls) [] start_place ls) is ∙ ap (λ r. words_in true start_place (as_list (word_with m r)) ++ []) values,
 )
 
-pub assembles_word : (text rest : List ℕ) (w : ℕ) → parsed text ≡ Word rest ∷ [] → word_value rest ≡ Ok w → Assembles text w
+pub assembles_word : (text rest : List ℕ) (w : ℕ) → parsed_lines text ≡ Word rest ∷ [] → word_value rest ≡ Ok w → Assembles text w
 assembles_word text rest w is value = (
-  ap (λ ls. fault_from (labels_from start ls) [] start 1 ls) is ∙ ap (λ r. fault_by 1 (as_list r) None) value,
-  ap (λ ls. words_from false (labels_from start ls) [] start ls) is ∙ ap (λ r. words_in false start (as_list r) ++ []) value,
-  ap (λ ls. words_from true (labels_from start ls) [] start ls) is ∙ ap (λ r. words_in true start (as_list r) ++ []) value,
+  ap (λ ls. lines_fault_from (labels_from start_place ls) [] start_place 1 ls) is ∙ ap (λ r. fault_by 1 (as_list r) None) value,
+  ap (λ ls. words_from false (labels_from start_place ls) [] start_place ls) is ∙ ap (λ r. words_in false start_place (as_list r) ++ []) value,
+  ap (λ ls. words_from true (labels_from start_place ls) [] start_place ls) is ∙ ap (λ r. words_in true start_place (as_list r) ++ []) value,
 )

@@ -6,10 +6,10 @@ use Rattle.std.specs.Char as char
 use Rattle.std.specs.Str.Parse.{AllDigits, IsNumeral, digits_value, digits_value_after}
 use Rattle.std.proofs.lemmas.Fmt.{decimal_is_IsNumeral, digits_is_IsNumeral, decimal_digit, first_decimal}
 use Rattle.asm_lines.specs.Lexical.{all}
-use Rattle.asm_lines.specs.Numbers.{below_32, digit_value, digits_after, digits_number, has_leading_zero, hexadecimal_or_decimal, number_of}
-use Rattle.asm_lines.specs.Operands.{around, both, branch_to, immediate, in_memory, last_opening, later, one, in_range, jump_to, number, numbered, or_kind, register, target}
+use Rattle.asm_lines.specs.Numbers.{below_32, digit_value, digits_after, digits_number, has_leading_zero, hexadecimal_or_decimal, written_number}
+use Rattle.asm_lines.specs.Operands.{around, both_values, branch_to, immediate, in_memory, last_opening, later, one, in_range, jump_to, number_operand, numbered, or_kind, register_operand, target}
 use Rattle.mips_decode.specs.Text.{hex_text}
-use Rattle.mips_decode.specs.Targets.{branch_target, jump_target, signed_imm}
+use Rattle.mips_definition.specs.Targets.{branch_target, jump_target, signed_imm}
 use Rattle.std.proofs.lemmas.Int.{ints}
 use Rattle.asm_lines.proofs.MemoryLemmas.{in_memory_end}
 use Rattle.mips_asm.proofs.PrintLines.{all_append, is_operand, is_plain, both_of_them}
@@ -50,7 +50,7 @@ no_x : (p q : Bool) → q ≡ false → (p && q) ≡ false
 no_x true q h = h
 no_x false q h = refl
 
-number_read : (ds : List ℕ) → IsNumeral 10 ds → number_of ds ≡ Some (record { negative = false; magnitude = digits_value 10 ds })
+number_read : (ds : List ℕ) → IsNumeral 10 ds → written_number ds ≡ Some (record { negative = false; magnitude = digits_value 10 ds })
 number_read [] d = absurd (omega (arith, d.0))
 number_read (b ∷ []) d =
     ap (λ t. cond t (option_map (λ n. record { negative = true; magnitude = n }) (digits_number 10 [])) (option_map (λ n. record { negative = false; magnitude = n }) (digits_number 10 (b ∷ []))))
@@ -79,12 +79,12 @@ decimal_number n h =
     let d = decimal_is_IsNumeral n h in
     numeral_read 10 (decimal n) (omega arith) d.0 ∙ ap (λ v. Some v) d.1
 
-decimal_read : (n : ℕ) → n < 2 ^ 64 → number_of (decimal n) ≡ Some (record { negative = false; magnitude = n })
+decimal_read : (n : ℕ) → n < 2 ^ 64 → written_number (decimal n) ≡ Some (record { negative = false; magnitude = n })
 decimal_read n h =
     let d = decimal_is_IsNumeral n h in
     number_read (decimal n) d.0 ∙ ap (λ v. Some (record { negative = false; magnitude = v })) d.1
 
-pub printed_number : (low high bits n : ℕ) → n ≤ high → n % 2 ^ bits ≡ n → n < 2 ^ 64 → number low high bits (decimal n) ≡ Ok n
+pub printed_number : (low high bits n : ℕ) → n ≤ high → n % 2 ^ bits ≡ n → n < 2 ^ 64 → number_operand low high bits (decimal n) ≡ Ok n
 printed_number low high bits n h same g =
     let within : nat_le n high ≡ true = grind arith in
     ap (λ o. in_range low high bits o) (decimal_read n g)
@@ -103,7 +103,7 @@ no_leading_zero : (n : ℕ) → n < 2 ^ 64 → has_leading_zero (decimal n) ≡ 
 no_leading_zero zero h = single_zero (decimal 0) 48 (decimal_digit 0 (omega arith))
 no_leading_zero (suc n) h = leading (decimal (suc n)) (first_decimal (suc n) (omega arith) h)
 
-pub printed_register : (r : ℕ) → r < 32 → register (36 ∷ decimal r) ≡ Ok r
+pub printed_register : (r : ℕ) → r < 32 → register_operand (36 ∷ decimal r) ≡ Ok r
 printed_register r h =
     let big : r < 2 ^ 64 = omega arith in
     let small : nat_lt r 32 ≡ true = grind arith in
@@ -111,14 +111,14 @@ printed_register r h =
     ∙ ap (λ o. or_kind 2 (below_32 o)) (decimal_number r big)
     ∙ ap (λ t. or_kind 2 (cond t (Some r) None)) small
 
-pub register_operand : (r : ℕ) → r < 32 → is_operand (36 ∷ decimal r) ≡ true
-register_operand r h = both_of_them true (all is_plain (decimal r)) refl (decimal_plain r (omega arith))
+pub plain_register : (r : ℕ) → r < 32 → is_operand (36 ∷ decimal r) ≡ true
+plain_register r h = both_of_them true (all is_plain (decimal r)) refl (decimal_plain r (omega arith))
 
 -- ---- immediates
-not_half : (low : ℕ) (b : ℕ) (bs : List ℕ) → (b == 37) ≡ false → immediate low [] (b ∷ bs) ≡ number low 65535 16 (b ∷ bs)
+not_half : (low : ℕ) (b : ℕ) (bs : List ℕ) → (b == 37) ≡ false → immediate low [] (b ∷ bs) ≡ number_operand low 65535 16 (b ∷ bs)
 not_half low b bs h = rw h refl
 
-immediate_digits : (low : ℕ) (ds : List ℕ) → IsNumeral 10 ds → immediate low [] ds ≡ number low 65535 16 ds
+immediate_digits : (low : ℕ) (ds : List ℕ) → IsNumeral 10 ds → immediate low [] ds ≡ number_operand low 65535 16 ds
 immediate_digits low [] d = absurd (omega (arith, d.0))
 immediate_digits low (b ∷ bs) d = not_half low b bs (other_than b 37 (omega arith) (omega (arith, d.1.0)))
 
@@ -126,7 +126,7 @@ pub printed_unsigned : (low n : ℕ) → n < 2 ^ 16 → immediate low [] (decima
 printed_unsigned low n h =
     immediate_digits low (decimal n) (decimal_is_IsNumeral n (omega arith)).0 ∙ printed_number low 65535 16 n (omega arith) (omega arith) (omega arith)
 
-minus_read : (m : ℕ) → m < 2 ^ 64 → number_of (45 ∷ decimal m) ≡ Some (record { negative = true; magnitude = m })
+minus_read : (m : ℕ) → m < 2 ^ 64 → written_number (45 ∷ decimal m) ≡ Some (record { negative = true; magnitude = m })
 minus_read m h = ap (λ o. option_map (λ n. record { negative = true; magnitude = n }) o) (decimal_number m h)
 
 minus_in_range : (m imm : ℕ) → nat_le m 32768 ≡ true → (2 ^ 16 - m) % 2 ^ 16 ≡ imm
@@ -187,7 +187,7 @@ hex_digits w h =
     not_empty 16 (replicate (8 - length ds) 48 ++ ds) (omega (arith, d.0.0, length-append (replicate (8 - length ds) 48) ds))
     ∙ zeros_before (8 - length ds) ds ∙ digits_read 16 0 ds (omega arith) d.0.1 ∙ ap (λ v. Some v) d.1
 
-pub hex_read : (w : ℕ) → w < 2 ^ 32 → number_of (hex_text w) ≡ Some (record { negative = false; magnitude = w })
+pub hex_read : (w : ℕ) → w < 2 ^ 32 → written_number (hex_text w) ≡ Some (record { negative = false; magnitude = w })
 hex_read w h = ap (λ o. option_map (λ n. record { negative = false; magnitude = n }) o) (hex_digits w h)
 
 pub hex_operand : (w : ℕ) → w < 2 ^ 32 → is_operand (hex_text w) ≡ true
@@ -261,15 +261,15 @@ drop_front xs y ys = let e : length xs + 1 ≡ suc (length xs) = omega arith in 
     by [] = refl
     by (z ∷ zs) = by zs
 
-both_halves : (a b : Result ℕ ℕ) (x y : ℕ) → a ≡ Ok x → b ≡ Ok y → both (one a) (one b) ≡ Ok (x ∷ y ∷ [])
+both_halves : (a b : Result ℕ ℕ) (x y : ℕ) → a ≡ Ok x → b ≡ Ok y → both_values (one a) (one b) ≡ Ok (x ∷ y ∷ [])
 both_halves a b x y e f = rw (e, f) refl
 
-around_halves : (front back : List ℕ) (x y : ℕ) → immediate 32768 [] front ≡ Ok x → register back ≡ Ok y
+around_halves : (front back : List ℕ) (x y : ℕ) → immediate 32768 [] front ≡ Ok x → register_operand back ≡ Ok y
     → around [] (front ++ 40 ∷ back) (Some (length front)) ≡ Ok (x ∷ y ∷ [])
 around_halves front back x y e f =
-    both_halves (immediate 32768 [] (take (length front) (front ++ 40 ∷ back))) (register (drop (length front + 1) (front ++ 40 ∷ back))) x y
+    both_halves (immediate 32768 [] (take (length front) (front ++ 40 ∷ back))) (register_operand (drop (length front + 1) (front ++ 40 ∷ back))) x y
     (ap (λ text. immediate 32768 [] text) (take_front front (40 ∷ back)) ∙ e)
-    (ap (λ text. register text) (drop_front front 40 back) ∙ f)
+    (ap (λ text. register_operand text) (drop_front front 40 back) ∙ f)
 
 abbrev pub memory_text : ℕ → ℕ → List ℕ
 memory_text imm rs = signed_decimal (signed_imm imm) ++ (40 ∷ 36 ∷ (decimal rs ++ 41 ∷ []))
@@ -293,7 +293,7 @@ memory_operand imm rs h r =
     operand_append (signed_decimal (signed_imm imm)) (40 ∷ 36 ∷ (decimal rs ++ 41 ∷ [])) (signed_operand imm h)
     (all_append is_plain (decimal rs) (41 ∷ []) (decimal_plain rs (omega arith)) refl)
 
-pub hex_number : (w : ℕ) → w < 2 ^ 32 → number (2 ^ 31) (2 ^ 32 - 1) 32 (hex_text w) ≡ Ok w
+pub hex_number : (w : ℕ) → w < 2 ^ 32 → number_operand (2 ^ 31) (2 ^ 32 - 1) 32 (hex_text w) ≡ Ok w
 hex_number w h =
     let within : nat_le w (2 ^ 32 - 1) ≡ true = grind arith in
     let same : w % 2 ^ 32 ≡ w = omega arith in

@@ -1,9 +1,9 @@
 -- The parts of a program are few and short enough to be written.
 use Rattle.std.proofs.Common.{◌≡◌, ℕ, ◌+◌, ◌≤◌, ◌++◌, List, [], ◌∷◌, map, length, arith, refl, ap, ◌∙◌}
-use Rattle.elf_writer.specs.declared.part.Part.{Part}
-use Rattle.elf_writer.specs.declared.parts.Parts.{Parts}
+use Rattle.elf_definition.specs.declared.part.Part.{Part}
+use Rattle.elf_definition.specs.declared.parts.Parts.{Parts}
 use Rattle.elf_writer.specs.Limits.{IsWritable}
-use Rattle.elf_writer.specs.Places.{contents_end, contents_place, part_end}
+use Rattle.elf_definition.specs.FilePlaces.{contents_end, contents_place, part_end}
 use Rattle.mips_asm.specs.File.{Segment, data_segments, segment_of, segments_of, whole_segment}
 
 -- the bytes of segments, with room to a multiple of 4

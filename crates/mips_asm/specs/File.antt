@@ -1,10 +1,10 @@
 -- The file of a program: the text at 00400000 to be read and executed, the data at 10000000 to be read and written, where
 -- there is any, and no sections. It begins with the text.
 use Rattle.std.specs.Prelude.{◌≡◌, ℕ, List, [], ◌∷◌, map, length}
-use Rattle.elf_writer.specs.declared.part.Part.{Part}
-use Rattle.elf_writer.specs.declared.parts.Parts.{Parts}
-use Rattle.elf_writer.specs.Fields.{words}
-use Rattle.elf_writer.specs.File.{elf_file}
+use Rattle.elf_definition.specs.declared.part.Part.{Part}
+use Rattle.elf_definition.specs.declared.parts.Parts.{Parts}
+use Rattle.elf_definition.specs.FileFields.{words}
+use Rattle.elf_definition.specs.File.{elf_file}
 use Rattle.mips_asm.specs.Program.{data_words, text_words}
 
 -- a segment: its address, its flags, its length in memory, and its bytes

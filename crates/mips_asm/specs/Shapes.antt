@@ -1,6 +1,6 @@
 -- The values of operands as the program keeps them: numbers beside each other.
 use Rattle.std.specs.Prelude.{ℕ, min, List, [], ◌∷◌, Result, Ok, Err}
-use Rattle.mips_decode.specs.declared.inst.Inst.{Inst}
+use Rattle.mips_definition.specs.declared.inst.Inst.{Inst}
 use Rattle.mips_decode.specs.Encoding.{word_of}
 
 -- both values, or the lower kind

@@ -1,7 +1,7 @@
 ghost use Rattle.std.specs.Prelude.{◌≡◌};
 ghost use Rattle.mips_asm.specs.declared.asm_error.AsmError.TheVariants.{NoMemory};
 
-use nv_faults::AsmFault;
+use mips_definition::AsmFault;
 use std::alloc::AllocError;
 use thiserror::Error;
 

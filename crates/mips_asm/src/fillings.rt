@@ -66,7 +66,7 @@ fn space(place: Place, rest: &[u8]) -> Result<Filling, u32>
 fn has_room_for(place: Place, bytes: u64) -> bool
     requires few { bytes < 2097152 }
     requires low { IsLow (2 ^ 50) place }
-    ensures { result ≡ cond (bytes == 0) true (program.is_within (program.filled bytes place)) }
+    ensures { result ≡ cond (bytes == 0) true (program.is_within_limits (program.filled bytes place)) }
 {
     bytes == 0 || place.filled(bytes).is_within()
 }
@@ -120,7 +120,7 @@ fn zeros(bytes: Result<u64, u32>) -> Result<Filling, u32>
 
 /// The filling, unless there is no room for it.
 fn unless_full(has_room: bool, filling: Result<Filling, u32>) -> Result<Filling, u32>
-    ensures { words_or_kind result ≡ program.unless 3 has_room (words_or_kind filling) }
+    ensures { words_or_kind result ≡ program.kind_unless 3 has_room (words_or_kind filling) }
 {
     match filling {
         Ok(_) if !has_room => Err(OUT_OF_RANGE),

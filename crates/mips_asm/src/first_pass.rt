@@ -1,6 +1,6 @@
 //! The first pass over a text: its labels.
 ghost use Rattle.std.specs.Prelude.{◌≡◌, ◌≤◌, ℕ, List, [], IfOk, OnOk, Some, None, cond, length, option_copied};
-ghost use Rattle.asm_lines.specs.Operands.{address_of, first_of};
+ghost use Rattle.asm_lines.specs.Operands.{label_address, first_of};
 ghost use Rattle.asm_lines.specs.Statements.{line_of_statement};
 ghost use Rattle.mips_asm.specs.Passes.{first_again, is_again};
 ghost use Rattle.mips_asm.specs.Program as program;
@@ -17,10 +17,10 @@ use std::alloc::{AllocError, Global};
 pub fn find_labels<'a>(alloc: Global, text: &'a [u8]) -> Result<Found<'a>, AllocError>
     requires { length text.now ≤ 67108864 }
     ensures labels { IfOk result (λ found. (name : List ℕ)
-        → address_of found.labels name
-        ≡ address_of (program.labels_from program.start (program.parsed text.now)) name) }
+        → label_address found.labels name
+        ≡ label_address (program.labels_from program.start_place (program.parsed_lines text.now)) name) }
     ensures again { IfOk result (λ found. found.again
-        ≡ first_again [] program.start 1 (program.parsed text.now)) }
+        ≡ first_again [] program.start_place 1 (program.parsed_lines text.now)) }
 {
     let mut labels = Labels::new(alloc);
     let mut again = None;
@@ -39,7 +39,7 @@ pub fn find_labels<'a>(alloc: Global, text: &'a [u8]) -> Result<Found<'a>, Alloc
     Ok(Found { labels, again })
 }
 
-/// Adds a line's label, where it has one that is new, and says whether it has one that is not.
+/// Adds a line's label, if it has one that is new, and says whether it has one that is not.
 fn note_label<'a>(
     labels: &mut Labels<'a>,
     statement: Statement<'a>,
@@ -48,9 +48,9 @@ fn note_label<'a>(
     ensures again { IfOk result (λ again. again
         ≡ is_again labels.old (line_of_statement statement.entry)) }
     ensures addresses { OnOk result ((name : List ℕ)
-        → address_of labels.new name
-        ≡ first_of (address_of labels.old name)
-        (address_of (program.with_label (line_of_statement statement.entry) address []) name)) }
+        → label_address labels.new name
+        ≡ first_of (label_address labels.old name)
+        (label_address (program.with_label (line_of_statement statement.entry) address []) name)) }
 {
     match statement {
         Statement::Label(name) => {

@@ -1,7 +1,7 @@
 //! What holds of texts as a whole.
 ghost use Rattle.std.specs.Prelude.{◌≡◌, ℕ, [], ◌∷◌, None};
-ghost use Rattle.nv_words.specs.Words.{IsWord};
-ghost use Rattle.mips_decode.specs.Table.{inst};
+ghost use Rattle.run_definition.specs.Words.{IsWord};
+ghost use Rattle.mips_definition.specs.Table.{inst};
 ghost use Rattle.mips_decode.specs.Text.{text_of};
 ghost use Rattle.mips_asm.specs.Program.{asm_fault, data_words, text_words};
 

@@ -29,7 +29,7 @@ pub use first_pass::find_labels;
 pub use found::Found;
 pub use instruction::instruction_of;
 pub use laws::printed_instructions_assemble_back;
-pub use nv_faults::AsmFault;
+pub use mips_definition::AsmFault;
 pub use operands::Operands;
 pub use place::Place;
 pub use second_pass::fill_segments;

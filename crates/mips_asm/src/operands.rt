@@ -1,6 +1,6 @@
 //! The operands of one instruction.
 ghost use Rattle.std.specs.Prelude.{◌≡◌, ◌<◌, ◌∷◌, []};
-ghost use Rattle.asm_lines.specs.Lexical.{operands_of};
+ghost use Rattle.asm_lines.specs.Lexical.{operand_texts};
 ghost use Rattle.mips_asm.specs.Halves.{form_of};
 ghost use Rattle.mips_asm.specs.Instructions.{all_values, values, Register, Amount, Code, InMemory, Far};
 ghost use Rattle.mips_asm.specs.Shapes.{list_of_one, list_of_two, list_of_three};
@@ -19,7 +19,7 @@ pub struct Operands<'l, 'a> {
     pub labels: &'l Labels<'a>,
     /// The address of the instruction.
     pub at: u64,
-    /// What stands behind the mnemonic.
+    /// What is after the mnemonic.
     pub text: &'a [u8],
     ghost small: { at < 4611686018427387904 },
 }
@@ -30,7 +30,7 @@ impl<'l, 'a> Operands<'l, 'a> {
     pub fn three_registers(&self) -> Result<(u8, (u8, u8)), u32>
         ensures { list_of_three result
             ≡ all_values self.now.labels.now self.now.at (Register ∷ Register ∷ Register ∷ [])
-            (operands_of self.now.text.now) }
+            (operand_texts self.now.text.now) }
     {
         match three_operands(self.text) {
             None => Err(WRONG_FORM),
@@ -43,7 +43,7 @@ impl<'l, 'a> Operands<'l, 'a> {
     pub fn two_registers_and_amount(&self) -> Result<(u8, (u8, u8)), u32>
         ensures { list_of_three result
             ≡ all_values self.now.labels.now self.now.at (Register ∷ Register ∷ Amount ∷ [])
-            (operands_of self.now.text.now) }
+            (operand_texts self.now.text.now) }
     {
         match three_operands(self.text) {
             None => Err(WRONG_FORM),
@@ -56,7 +56,7 @@ impl<'l, 'a> Operands<'l, 'a> {
     pub fn two_registers_and_half(&self, form: HalfForm) -> Result<(u8, (u8, u16)), u32>
         ensures { list_of_three result
             ≡ all_values self.now.labels.now self.now.at (Register ∷ Register ∷ form_of form ∷ [])
-            (operands_of self.now.text.now) }
+            (operand_texts self.now.text.now) }
     {
         match three_operands(self.text) {
             None => Err(WRONG_FORM),
@@ -69,7 +69,7 @@ impl<'l, 'a> Operands<'l, 'a> {
     pub fn two_registers(&self) -> Result<(u8, u8), u32>
         ensures { list_of_two result
             ≡ all_values self.now.labels.now self.now.at (Register ∷ Register ∷ [])
-            (operands_of self.now.text.now) }
+            (operand_texts self.now.text.now) }
     {
         match two_operands(self.text) {
             None => Err(WRONG_FORM),
@@ -82,7 +82,7 @@ impl<'l, 'a> Operands<'l, 'a> {
     pub fn register_and_half(&self, form: HalfForm) -> Result<(u8, u16), u32>
         ensures { list_of_two result
             ≡ all_values self.now.labels.now self.now.at (Register ∷ form_of form ∷ [])
-            (operands_of self.now.text.now) }
+            (operand_texts self.now.text.now) }
     {
         match two_operands(self.text) {
             None => Err(WRONG_FORM),
@@ -95,7 +95,7 @@ impl<'l, 'a> Operands<'l, 'a> {
     pub fn register_and_memory(&self) -> Result<(u8, (u16, u8)), u32>
         ensures { list_of_three result
             ≡ all_values self.now.labels.now self.now.at (Register ∷ InMemory ∷ [])
-            (operands_of self.now.text.now) }
+            (operand_texts self.now.text.now) }
     {
         match two_operands(self.text) {
             None => Err(WRONG_FORM),
@@ -108,7 +108,7 @@ impl<'l, 'a> Operands<'l, 'a> {
     pub fn one_register(&self) -> Result<u8, u32>
         ensures { list_of_one result
             ≡ all_values self.now.labels.now self.now.at (Register ∷ [])
-            (operands_of self.now.text.now) }
+            (operand_texts self.now.text.now) }
     {
         match one_operand(self.text) {
             None => Err(WRONG_FORM),
@@ -121,7 +121,7 @@ impl<'l, 'a> Operands<'l, 'a> {
     pub fn one_amount(&self) -> Result<u8, u32>
         ensures { list_of_one result
             ≡ all_values self.now.labels.now self.now.at (Amount ∷ [])
-            (operands_of self.now.text.now) }
+            (operand_texts self.now.text.now) }
     {
         match one_operand(self.text) {
             None => Err(WRONG_FORM),
@@ -134,7 +134,7 @@ impl<'l, 'a> Operands<'l, 'a> {
     pub fn one_code(&self) -> Result<u32, u32>
         ensures { list_of_one result
             ≡ all_values self.now.labels.now self.now.at (Code ∷ [])
-            (operands_of self.now.text.now) }
+            (operand_texts self.now.text.now) }
     {
         match one_operand(self.text) {
             None => Err(WRONG_FORM),
@@ -147,7 +147,7 @@ impl<'l, 'a> Operands<'l, 'a> {
     pub fn one_index(&self) -> Result<u32, u32>
         ensures { list_of_one result
             ≡ all_values self.now.labels.now self.now.at (Far ∷ [])
-            (operands_of self.now.text.now) }
+            (operand_texts self.now.text.now) }
     {
         match one_operand(self.text) {
             None => Err(WRONG_FORM),

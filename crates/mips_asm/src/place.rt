@@ -1,4 +1,4 @@
-//! Where lines stand.
+//! Where lines are.
 ghost use Rattle.std.specs.Prelude.{◌≡◌, ◌^◌, ◌<◌};
 ghost use Rattle.asm_lines.specs.Statements.{line_of_statement};
 ghost use Rattle.mips_asm.specs.Passes.{IsLow};
@@ -33,7 +33,7 @@ pub struct Place {
 impl Place {
     /// Before the first line.
     pub fn start() -> Place
-        ensures { result ≡ program.start }
+        ensures { result ≡ program.start_place }
     {
         Place {
             in_data: false,
@@ -55,7 +55,7 @@ impl Place {
         }
     }
 
-    /// The place behind so many bytes.
+    /// The place after so many bytes.
     pub fn filled(self, bytes: u64) -> Place
         requires few { bytes < 2097152 }
         requires low { IsLow (2 ^ 50) self }
@@ -76,7 +76,7 @@ impl Place {
 
     /// Whether the segment that lines fill is not too long.
     pub fn is_within(self) -> bool
-        ensures { result ≡ program.is_within self }
+        ensures { result ≡ program.is_within_limits self }
     {
         if self.in_data {
             self.data_bytes <= MAX_DATA
@@ -85,10 +85,10 @@ impl Place {
         }
     }
 
-    /// The place behind a line.
+    /// The place after a line.
     pub fn behind(self, statement: Statement<'_>) -> Place
         requires { IsLow (2 ^ 50) self }
-        ensures { result ≡ program.behind (line_of_statement statement.entry) self }
+        ensures { result ≡ program.place_after (line_of_statement statement.entry) self }
     {
         match statement {
             Statement::TextSegment(rest) => self.entered(false, rest),
@@ -99,9 +99,9 @@ impl Place {
         }
     }
 
-    /// The place where a directive of a segment stands.
+    /// The place where a directive of a segment is.
     fn entered(self, in_data: bool, rest: &[u8]) -> Place
-        ensures { result ≡ program.entered in_data rest.now self }
+        ensures { result ≡ program.entered_segment in_data rest.now self }
     {
         if rest.is_empty() {
             Place { in_data, ..self }

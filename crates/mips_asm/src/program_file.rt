@@ -53,7 +53,7 @@ fn program_parts(alloc: Global, segments: Segments) -> Result<Parts, AllocError>
     })
 }
 
-/// Appends the data, where there is any.
+/// Appends the data, if there is any.
 fn push_data(parts: &mut Vec<Part>, bytes: Vec<u8>) -> Result<(), AllocError>
     requires { length bytes.items ≤ 16777216 }
     ensures { OnOk result (map segment_of parts.new.items ≡ map segment_of parts.old.items

@@ -1,7 +1,7 @@
 //! The second pass over a text: its words.
 ghost use Rattle.std.specs.Prelude.{◌≡◌, ◌≤◌, ◌^◌, [], true, false, IfErr, IfOk, OnOk, None, length};
 ghost use Rattle.asm_lines.specs.Statements.{line_of_statement};
-ghost use Rattle.elf_writer.specs.Fields.{words};
+ghost use Rattle.elf_definition.specs.FileFields.{words};
 ghost use Rattle.mips_asm.specs.Answers.{IsFault};
 ghost use Rattle.mips_asm.specs.Fillings.{words_or_kind};
 ghost use Rattle.mips_asm.specs.Passes.{IsLow, fault_marked, unmarked, words_left};
@@ -15,7 +15,7 @@ use crate::found::Found;
 use crate::place::Place;
 use crate::segments::Segments;
 use asm_lines::{LABEL_TWICE, Statement, first_line, statement_of};
-use nv_faults::AsmFault;
+use mips_definition::AsmFault;
 use std::alloc::Global;
 
 /// The segments of a text whose labels are known.
@@ -29,14 +29,14 @@ pub fn fill_segments<'a>(
 ) -> Result<Segments, AsmError>
     requires { length text.now ≤ 67108864 }
     ensures text { IfOk result (λ s. s.text.items
-        ≡ words (words_left false found.now.labels program.start (program.parsed text.now))) }
+        ≡ words (words_left false found.now.labels program.start_place (program.parsed_lines text.now))) }
     ensures data_bytes { IfOk result (λ s. s.data_bytes.items
-        ≡ words (words_left true found.now.labels program.start (program.parsed text.now))) }
-    ensures whole { OnOk result (fault_marked found.now.labels found.now.again program.start 1
-        (program.parsed text.now) ≡ None) }
+        ≡ words (words_left true found.now.labels program.start_place (program.parsed_lines text.now))) }
+    ensures whole { OnOk result (fault_marked found.now.labels found.now.again program.start_place 1
+        (program.parsed_lines text.now) ≡ None) }
     ensures refused { IfErr result
-        (IsFault (fault_marked found.now.labels found.now.again program.start 1
-        (program.parsed text.now))) }
+        (IsFault (fault_marked found.now.labels found.now.again program.start_place 1
+        (program.parsed_lines text.now))) }
     ensures short_text { IfOk result (λ s. length s.text.items ≤ 4194304) }
     ensures short_data { IfOk result (λ s. length s.data_bytes.items ≤ 16777216) }
 {

@@ -1,6 +1,6 @@
 //! The bytes of the two segments.
 ghost use Rattle.std.specs.Prelude.{◌≡◌, ◌++◌, ◌/◌, [], OnOk, cond, replicate};
-ghost use Rattle.elf_writer.specs.Fields.{words};
+ghost use Rattle.elf_definition.specs.FileFields.{words};
 ghost use Rattle.mips_asm.specs.Fillings.{filling_words};
 
 use crate::filling::Filling;

@@ -5,7 +5,7 @@ use Rattle.std.specs.List.{list_all}
 use Rattle.std.proofs.lemmas.Bool.{eqb-true, eq-eqb}
 use Rattle.std.proofs.lemmas.Nat.Bits.{bit_at_and, same_from_bits}
 use Rattle.std.proofs.lemmas.List.Kept.{AllPairs-cons}
-use Rattle.mips_decode.specs.Table.{Row, table, fits}
+use Rattle.mips_definition.specs.Table.{Row, instruction_table, fits_row}
 use Rattle.mips_decode.proofs.Rows.{both}
 
 -- the rows differ under both masks
@@ -16,7 +16,7 @@ abbrev pub each_apart : List Row → Bool
 each_apart [] = true
 each_apart (row ∷ rows) = list_all (are_apart row) rows && each_apart rows
 
-table_apart : each_apart table ≡ true
+table_apart : each_apart instruction_table ≡ true
 table_apart = refl
 
 -- what a word has under both masks is what it has under each
@@ -31,7 +31,7 @@ under_both w m n = same_from_bits _ _ (λ i.
 
 -- the two rows take no word in common
 abbrev pub Apart : Row → Row → Type 0
-Apart r s = (w : ℕ) → IsTrue (fits w r) → ¬ (IsTrue (fits w s))
+Apart r s = (w : ℕ) → IsTrue (fits_row w r) → ¬ (IsTrue (fits_row w s))
 
 apart : (r s : Row) → are_apart r s ≡ true → Apart r s
 apart r s differ w first second =
@@ -56,5 +56,5 @@ pairs_apart (row ∷ rows) h =
     AllPairs-cons Apart row rows (all_apart row rows split.0) (pairs_apart rows split.1)
 
 -- no word fits two rows
-pub rows_apart : AllPairs Apart table
-rows_apart = pairs_apart table table_apart
+pub rows_apart : AllPairs Apart instruction_table
+rows_apart = pairs_apart instruction_table table_apart

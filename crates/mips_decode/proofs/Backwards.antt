@@ -4,39 +4,39 @@ use Rattle.std.specs.Prelude.{find, bit_and}
 use Rattle.std.proofs.lemmas.Bool.{eqb-true}
 use Rattle.std.proofs.lemmas.Nat.{and_mod, and_mask}
 use Rattle.std.proofs.Math.Nat.{mod-mod}
-use Rattle.nv_words.specs.Words.{IsWord}
-use Rattle.mips_decode.specs.declared.inst.Inst.TheVariants.{Reserved, Float}
-use Rattle.mips_decode.specs.declared.names.arithmetic_name.ArithmeticName.{ArithmeticName}
-use Rattle.mips_decode.specs.declared.names.arithmetic_name.ArithmeticName.TheVariants.{Add, Addu, Sub, Subu, And, Or, Xor, Nor, Slt, Sltu}
-use Rattle.mips_decode.specs.declared.names.variable_shift_name.VariableShiftName.{VariableShiftName}
-use Rattle.mips_decode.specs.declared.names.variable_shift_name.VariableShiftName.TheVariants.{Sllv, Srlv, Srav}
-use Rattle.mips_decode.specs.declared.names.shift_name.ShiftName.{ShiftName}
-use Rattle.mips_decode.specs.declared.names.shift_name.ShiftName.TheVariants.{Sll, Srl, Sra}
-use Rattle.mips_decode.specs.declared.names.hi_lo.HiLo.{HiLo}
-use Rattle.mips_decode.specs.declared.names.hi_lo.HiLo.TheVariants.{Hi, Lo}
-use Rattle.mips_decode.specs.declared.names.product_name.ProductName.{ProductName}
-use Rattle.mips_decode.specs.declared.names.product_name.ProductName.TheVariants.{Mult, Multu, Div, Divu}
-use Rattle.mips_decode.specs.declared.names.branch_sign_name.BranchSignName.{BranchSignName}
-use Rattle.mips_decode.specs.declared.names.branch_sign_name.BranchSignName.TheVariants.{Bltz, Bgez, Bltzal, Bgezal, Bltzl, Bgezl, Bltzall, Bgezall}
-use Rattle.mips_decode.specs.declared.names.jump_name.JumpName.{JumpName}
-use Rattle.mips_decode.specs.declared.names.jump_name.JumpName.TheVariants.{J, Jal}
-use Rattle.mips_decode.specs.declared.names.branch_equal_name.BranchEqualName.{BranchEqualName}
-use Rattle.mips_decode.specs.declared.names.branch_equal_name.BranchEqualName.TheVariants.{Beq, Bne, Beql, Bnel}
-use Rattle.mips_decode.specs.declared.names.branch_zero_name.BranchZeroName.{BranchZeroName}
-use Rattle.mips_decode.specs.declared.names.branch_zero_name.BranchZeroName.TheVariants.{Blez, Bgtz, Blezl, Bgtzl}
-use Rattle.mips_decode.specs.declared.names.arithmetic_immediate_name.ArithmeticImmediateName.{ArithmeticImmediateName}
-use Rattle.mips_decode.specs.declared.names.arithmetic_immediate_name.ArithmeticImmediateName.TheVariants.{Addi, Addiu, Slti, Sltiu}
-use Rattle.mips_decode.specs.declared.names.logical_immediate_name.LogicalImmediateName.{LogicalImmediateName}
-use Rattle.mips_decode.specs.declared.names.logical_immediate_name.LogicalImmediateName.TheVariants.{Andi, Ori, Xori}
-use Rattle.mips_decode.specs.declared.names.load_name.LoadName.{LoadName}
-use Rattle.mips_decode.specs.declared.names.load_name.LoadName.TheVariants.{Lb, Lh, Lwl, Lw, Lbu, Lhu, Lwr}
-use Rattle.mips_decode.specs.declared.names.store_name.StoreName.{StoreName}
-use Rattle.mips_decode.specs.declared.names.store_name.StoreName.TheVariants.{Sb, Sh, Swl, Sw, Swr}
-use Rattle.mips_decode.specs.declared.names.trap_name.TrapName.{TrapName}
-use Rattle.mips_decode.specs.declared.names.trap_name.TrapName.TheVariants.{Tge, Tgeu, Tlt, Tltu, Teq, Tne}
-use Rattle.mips_decode.specs.declared.names.trap_immediate_name.TrapImmediateName.{TrapImmediateName}
-use Rattle.mips_decode.specs.declared.names.trap_immediate_name.TrapImmediateName.TheVariants.{Tgei, Tgeiu, Tlti, Tltiu, Teqi, Tnei}
-use Rattle.mips_decode.specs.Table.{Row, table, fits, read_row, inst, op_of, rs_of, rt_of, rd_of, sa_of, funct_of, arithmetic, variable_shift, shift, jump_register, jump_and_link_register, syscall, break, move_from, move_to, product, branch_sign, jump, branch_equal, branch_zero, arithmetic_immediate, logical_immediate, load_upper, load, store, trap, trap_immediate, sync, load_linked, store_conditional}
+use Rattle.run_definition.specs.Words.{IsWord}
+use Rattle.mips_definition.specs.declared.inst.Inst.TheVariants.{Reserved, Float}
+use Rattle.mips_definition.specs.declared.names.arithmetic_name.ArithmeticName.{ArithmeticName}
+use Rattle.mips_definition.specs.declared.names.arithmetic_name.ArithmeticName.TheVariants.{Add, Addu, Sub, Subu, And, Or, Xor, Nor, Slt, Sltu}
+use Rattle.mips_definition.specs.declared.names.variable_shift_name.VariableShiftName.{VariableShiftName}
+use Rattle.mips_definition.specs.declared.names.variable_shift_name.VariableShiftName.TheVariants.{Sllv, Srlv, Srav}
+use Rattle.mips_definition.specs.declared.names.shift_name.ShiftName.{ShiftName}
+use Rattle.mips_definition.specs.declared.names.shift_name.ShiftName.TheVariants.{Sll, Srl, Sra}
+use Rattle.mips_definition.specs.declared.names.hi_lo.HiLo.{HiLo}
+use Rattle.mips_definition.specs.declared.names.hi_lo.HiLo.TheVariants.{Hi, Lo}
+use Rattle.mips_definition.specs.declared.names.product_name.ProductName.{ProductName}
+use Rattle.mips_definition.specs.declared.names.product_name.ProductName.TheVariants.{Mult, Multu, Div, Divu}
+use Rattle.mips_definition.specs.declared.names.branch_sign_name.BranchSignName.{BranchSignName}
+use Rattle.mips_definition.specs.declared.names.branch_sign_name.BranchSignName.TheVariants.{Bltz, Bgez, Bltzal, Bgezal, Bltzl, Bgezl, Bltzall, Bgezall}
+use Rattle.mips_definition.specs.declared.names.jump_name.JumpName.{JumpName}
+use Rattle.mips_definition.specs.declared.names.jump_name.JumpName.TheVariants.{J, Jal}
+use Rattle.mips_definition.specs.declared.names.branch_equal_name.BranchEqualName.{BranchEqualName}
+use Rattle.mips_definition.specs.declared.names.branch_equal_name.BranchEqualName.TheVariants.{Beq, Bne, Beql, Bnel}
+use Rattle.mips_definition.specs.declared.names.branch_zero_name.BranchZeroName.{BranchZeroName}
+use Rattle.mips_definition.specs.declared.names.branch_zero_name.BranchZeroName.TheVariants.{Blez, Bgtz, Blezl, Bgtzl}
+use Rattle.mips_definition.specs.declared.names.arithmetic_immediate_name.ArithmeticImmediateName.{ArithmeticImmediateName}
+use Rattle.mips_definition.specs.declared.names.arithmetic_immediate_name.ArithmeticImmediateName.TheVariants.{Addi, Addiu, Slti, Sltiu}
+use Rattle.mips_definition.specs.declared.names.logical_immediate_name.LogicalImmediateName.{LogicalImmediateName}
+use Rattle.mips_definition.specs.declared.names.logical_immediate_name.LogicalImmediateName.TheVariants.{Andi, Ori, Xori}
+use Rattle.mips_definition.specs.declared.names.load_name.LoadName.{LoadName}
+use Rattle.mips_definition.specs.declared.names.load_name.LoadName.TheVariants.{Lb, Lh, Lwl, Lw, Lbu, Lhu, Lwr}
+use Rattle.mips_definition.specs.declared.names.store_name.StoreName.{StoreName}
+use Rattle.mips_definition.specs.declared.names.store_name.StoreName.TheVariants.{Sb, Sh, Swl, Sw, Swr}
+use Rattle.mips_definition.specs.declared.names.trap_name.TrapName.{TrapName}
+use Rattle.mips_definition.specs.declared.names.trap_name.TrapName.TheVariants.{Tge, Tgeu, Tlt, Tltu, Teq, Tne}
+use Rattle.mips_definition.specs.declared.names.trap_immediate_name.TrapImmediateName.{TrapImmediateName}
+use Rattle.mips_definition.specs.declared.names.trap_immediate_name.TrapImmediateName.TheVariants.{Tgei, Tgeiu, Tlti, Tltiu, Teqi, Tnei}
+use Rattle.mips_definition.specs.Table.{Row, instruction_table, fits_row, read_row, inst, op_of, rs_of, rt_of, rd_of, sa_of, funct_of, arithmetic, variable_shift, shift, jump_register, jump_and_link_register, syscall, break, move_from, move_to, product, branch_sign, jump, branch_equal, branch_zero, arithmetic_immediate, logical_immediate, load_upper, load, store, trap, trap_immediate, sync, load_linked, store_conditional}
 use Rattle.mips_decode.specs.Encoding.{word_of, arithmetic_funct, variable_shift_funct, shift_funct, move_from_funct, move_to_funct, product_funct, branch_sign_rt, jump_op, branch_equal_op, branch_zero_op, arithmetic_immediate_op, logical_immediate_op, load_op, store_op, trap_funct, trap_immediate_rt}
 use Rattle.mips_decode.proofs.Rows.{and_field}
 
@@ -55,7 +55,7 @@ record Agrees (w : ℕ) (row : Row) : Type 0 where
   sa : sa_of row.mask ≡ 31 → sa_of w ≡ sa_of row.value
   funct : funct_of row.mask ≡ 63 → funct_of w ≡ funct_of row.value
 
-agrees : (w : ℕ) (row : Row) → fits w row ≡ true → Agrees w row
+agrees : (w : ℕ) (row : Row) → fits_row w row ≡ true → Agrees w row
 agrees w row fit = let e = eqb-true (bit_and w row.mask) row.value fit in record {
   op = λ whole. field_from_fit w row.mask row.value 26 6 e whole;
   rs = λ whole. field_from_fit w row.mask row.value 21 5 e whole;
@@ -168,7 +168,7 @@ abbrev EachBack : ℕ → List Row → Type 0
 EachBack w [] = Unit {0}
 EachBack w (row ∷ rows) = (Agrees w row → word_of (row.read w) ≡ w) × EachBack w rows
 
-table_back : (w : ℕ) → IsWord w → EachBack w table
+table_back : (w : ℕ) → IsWord w → EachBack w instruction_table
 table_back w word = (
   λ a. variable_shift_back Sllv w word (a.op refl) (a.funct refl) (a.sa refl),
   (
@@ -415,7 +415,7 @@ table_back w word = (
 )
 
 one_back : (w : ℕ) (row : Row) (found : Option Row) → (Agrees w row → word_of (row.read w) ≡ w) → word_of (read_row w found) ≡ w
-    → (here : Bool) → fits w row ≡ here → word_of (read_row w (cond here (Some row) found)) ≡ w
+    → (here : Bool) → fits_row w row ≡ here → word_of (read_row w (cond here (Some row) found)) ≡ w
 one_back w row found back rest true fit = back (agrees w row fit)
 one_back w row found back rest false fit = rest
 
@@ -423,11 +423,11 @@ no_row_back : (w : ℕ) (float : Bool) → word_of (if float then Float w else R
 no_row_back w true = refl
 no_row_back w false = refl
 
-first_back : (w : ℕ) (rows : List Row) → EachBack w rows → word_of (read_row w (find (fits w) rows)) ≡ w
+first_back : (w : ℕ) (rows : List Row) → EachBack w rows → word_of (read_row w (find (fits_row w) rows)) ≡ w
 first_back w [] each = no_row_back w (op_of w == 0x11 || op_of w == 0x31 || op_of w == 0x39)
-first_back w (row ∷ rows) each = one_back w row (find (fits w) rows) each.0 (first_back w rows each.1) (fits w row) refl
+first_back w (row ∷ rows) each = one_back w row (find (fits_row w) rows) each.0 (first_back w rows each.1) (fits_row w row) refl
 
 -- the word of a word's instruction
 pub word_of-inst : (w : ℕ) → IsWord w → word_of (inst w) ≡ w
 unfolding inst
-word_of-inst w word = first_back w table (table_back w word)
+word_of-inst w word = first_back w instruction_table (table_back w word)

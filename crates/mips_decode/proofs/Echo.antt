@@ -1,13 +1,13 @@
 -- A program that writes its first argument: the argument block is put by the loader's call, and the write shows the text to the
 -- system. It has 29 steps.
 use Rattle.std.proofs.Common.{◌≡◌, refl, ℕ, List, [], ◌∷◌, map, pos}
-use Rattle.nv_events.specs.Question.{Question, no_text, bytes}
-use Rattle.nv_events.specs.Answer.{Answer, next_answer}
-use Rattle.nv_events.specs.Run.{Run, run_of}
-use Rattle.nv_events.specs.declared.outcome.Outcome.TheVariants.{Exited, Going}
-use Rattle.mips_decode.specs.State.{State}
-use Rattle.mips_decode.specs.Step.{turn}
-use Rattle.mips_decode.specs.Table.{inst}
+use Rattle.run_definition.specs.Question.{Question, no_text, bytes}
+use Rattle.run_definition.specs.Answer.{Answer, next_answer}
+use Rattle.run_definition.specs.Run.{Run, run_of}
+use Rattle.run_definition.specs.declared.outcome.Outcome.TheVariants.{Exited, Going}
+use Rattle.mips_definition.specs.State.{State}
+use Rattle.mips_definition.specs.Step.{turn}
+use Rattle.mips_definition.specs.Table.{inst}
 use Rattle.mips_decode.proofs.Programs.{started, value, numbers}
 
 -- lw $5,4($5); addu $6,$5,$0; lbu $7,0($6); bne $7,$0,-2; addiu $6,$6,1; subu $6,$6,$5; addiu $6,$6,-1; write(1, $5, $6); exit(0)

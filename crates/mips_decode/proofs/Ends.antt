@@ -1,13 +1,13 @@
 -- Worked programs that leave, wait or go on.
 use Rattle.std.proofs.Common.{◌≡◌, refl, ℕ, zero, suc, List, [], ◌∷◌, ◌++◌, map, pos, negsuc}
-use Rattle.nv_events.specs.Question.{Question, no_text, unreadable, bytes, missing, there}
-use Rattle.nv_events.specs.Answer.{next_answer}
-use Rattle.nv_events.specs.Run.{run_of}
-use Rattle.nv_events.specs.declared.outcome.Outcome.TheVariants.{Exited, Waiting, Going}
-use Rattle.nv_events.specs.declared.outcome.Outcome.{Outcome}
-use Rattle.mips_decode.specs.State.{register}
-use Rattle.mips_decode.specs.Step.{turn}
-use Rattle.mips_decode.specs.Table.{inst}
+use Rattle.run_definition.specs.Question.{Question, no_text, unreadable, bytes, missing, there}
+use Rattle.run_definition.specs.Answer.{next_answer}
+use Rattle.run_definition.specs.Run.{run_of}
+use Rattle.run_definition.specs.declared.outcome.Outcome.TheVariants.{Exited, Waiting, Going}
+use Rattle.run_definition.specs.declared.outcome.Outcome.{Outcome}
+use Rattle.mips_definition.specs.State.{register}
+use Rattle.mips_definition.specs.Step.{turn}
+use Rattle.mips_definition.specs.Table.{inst}
 use Rattle.mips_decode.proofs.Programs.{run, started, value, numbers}
 
 -- addiu $2,$0,1; addiu $4,$0,7; syscall: four steps, of which the first is the loader's call

@@ -1,9 +1,9 @@
 -- Worked programs that end in a fault: its kind, the address of the instruction, and its value.
 use Rattle.std.proofs.Common.{◌≡◌, refl, ℕ, List, [], ◌∷◌, negsuc}
-use Rattle.nv_events.specs.declared.outcome.Outcome.{Outcome}
-use Rattle.nv_events.specs.declared.outcome.Outcome.TheVariants.{Faulted}
-use Rattle.mips_decode.specs.Effect.{fetch_fault, pc_align_fault, read_unmapped_fault, write_refused_fault, read_align_fault, write_align_fault, overflow_fault, break_fault, reserved_fault, branch_in_slot_fault}
-use Rattle.mips_decode.specs.Table.{inst}
+use Rattle.run_definition.specs.declared.outcome.Outcome.{Outcome}
+use Rattle.run_definition.specs.declared.outcome.Outcome.TheVariants.{Faulted}
+use Rattle.mips_definition.specs.Effect.{fetch_fault, pc_align_fault, read_unmapped_fault, write_refused_fault, read_align_fault, write_align_fault, overflow_fault, break_fault, reserved_fault, branch_in_slot_fault}
+use Rattle.mips_definition.specs.Table.{inst}
 use Rattle.mips_decode.proofs.Programs.{run, value, numbers}
 
 abbrev fault_at : ℕ → ℕ → ℕ → Outcome

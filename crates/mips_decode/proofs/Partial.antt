@@ -1,9 +1,9 @@
 -- LWL, LWR, SWL and SWR in programs: the memory word 11223344 and the register AABBCCDD, at each of the four bytes of a word.
 use Rattle.std.proofs.Common.{◌≡◌, refl, ℕ, ◌+◌, List, [], ◌∷◌, map}
-use Rattle.nv_words.specs.declared.order.Order.TheVariants.{Big}
-use Rattle.mips_decode.specs.Memory.{word_at}
-use Rattle.mips_decode.specs.State.{State, register}
-use Rattle.mips_decode.specs.Table.{inst}
+use Rattle.run_definition.specs.declared.order.Order.TheVariants.{Big}
+use Rattle.mips_definition.specs.Memory.{word_at}
+use Rattle.mips_definition.specs.State.{State, register}
+use Rattle.mips_definition.specs.Table.{inst}
 use Rattle.mips_decode.proofs.Programs.{run}
 
 -- $8 is 7FFF0000 and the low half; the word 11223344 is stored there, and $10 is AABBCCDD

@@ -1,13 +1,13 @@
 -- Programs of a few words at 00400000, and their runs from the start over a list of answers.
 use Rattle.std.proofs.Common.{ℕ, ◌+◌, ◌-◌, ◌/◌, ◌%◌, Bool, ◌&&◌, ◌||◌, ◌==◌, nat_lt, nat_le, if◌then◌else◌, List, [], ◌∷◌, Option, Some, None, ℤ, pos, slice_get, map}
-use Rattle.nv_events.specs.Memory.{Memory}
-use Rattle.nv_events.specs.Question.{Question}
-use Rattle.nv_events.specs.Answer.{Answer, next_answer}
-use Rattle.nv_events.specs.Run.{Run, run_of}
-use Rattle.nv_words.specs.Words.{lane_of_word}
-use Rattle.nv_words.specs.declared.order.Order.TheVariants.{Big}
-use Rattle.mips_decode.specs.State.{State, start}
-use Rattle.mips_decode.specs.Step.{turn}
+use Rattle.run_definition.specs.Memory.{Memory}
+use Rattle.run_definition.specs.Question.{Question}
+use Rattle.run_definition.specs.Answer.{Answer, next_answer}
+use Rattle.run_definition.specs.Run.{Run, run_of}
+use Rattle.run_definition.specs.Words.{lane_of_word}
+use Rattle.run_definition.specs.declared.order.Order.TheVariants.{Big}
+use Rattle.mips_definition.specs.State.{State, start}
+use Rattle.mips_definition.specs.Step.{turn}
 
 abbrev pub code_start : ℕ
 code_start = 0x0040_0000

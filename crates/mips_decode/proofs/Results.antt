@@ -1,17 +1,17 @@
 -- Results of single instructions at the values where a slip shows, and the conditions and targets of branches.
 use Rattle.std.proofs.Common.{◌≡◌, refl, [], ◌∷◌, true, false, map, pos, negsuc, Some, None}
-use Rattle.mips_decode.specs.Arithmetic.{arithmetic_result, arithmetic_immediate_result, logical_immediate_result, shifted, variable_shifted, product_hi, product_lo}
-use Rattle.mips_decode.specs.Branches.{equal_taken, zero_taken, sign_taken}
-use Rattle.mips_decode.specs.Targets.{branch_target, jump_target}
-use Rattle.mips_decode.specs.declared.names.logical_immediate_name.LogicalImmediateName.TheVariants.{Andi, Ori, Xori}
-use Rattle.mips_decode.specs.declared.names.branch_equal_name.BranchEqualName.TheVariants.{Beq, Bne}
-use Rattle.mips_decode.specs.declared.names.branch_zero_name.BranchZeroName.TheVariants.{Blez, Bgtz}
-use Rattle.mips_decode.specs.declared.names.branch_sign_name.BranchSignName.TheVariants.{Bltz, Bgez, Bltzal, Bgezal}
-use Rattle.mips_decode.specs.declared.names.arithmetic_name.ArithmeticName.TheVariants.{Add, Sub, Subu, And, Or, Xor, Nor, Slt, Sltu}
-use Rattle.mips_decode.specs.declared.names.arithmetic_immediate_name.ArithmeticImmediateName.TheVariants.{Addi, Slti, Sltiu}
-use Rattle.mips_decode.specs.declared.names.shift_name.ShiftName.TheVariants.{Sll, Srl, Sra}
-use Rattle.mips_decode.specs.declared.names.variable_shift_name.VariableShiftName.TheVariants.{Sllv, Srlv, Srav}
-use Rattle.mips_decode.specs.declared.names.product_name.ProductName.TheVariants.{Mult, Multu, Div, Divu}
+use Rattle.mips_definition.specs.Arithmetic.{arithmetic_result, arithmetic_immediate_result, logical_immediate_result, shifted, variable_shifted, product_hi, product_lo}
+use Rattle.mips_definition.specs.Branches.{equal_taken, zero_taken, sign_taken}
+use Rattle.mips_definition.specs.Targets.{branch_target, jump_target}
+use Rattle.mips_definition.specs.declared.names.logical_immediate_name.LogicalImmediateName.TheVariants.{Andi, Ori, Xori}
+use Rattle.mips_definition.specs.declared.names.branch_equal_name.BranchEqualName.TheVariants.{Beq, Bne}
+use Rattle.mips_definition.specs.declared.names.branch_zero_name.BranchZeroName.TheVariants.{Blez, Bgtz}
+use Rattle.mips_definition.specs.declared.names.branch_sign_name.BranchSignName.TheVariants.{Bltz, Bgez, Bltzal, Bgezal}
+use Rattle.mips_definition.specs.declared.names.arithmetic_name.ArithmeticName.TheVariants.{Add, Sub, Subu, And, Or, Xor, Nor, Slt, Sltu}
+use Rattle.mips_definition.specs.declared.names.arithmetic_immediate_name.ArithmeticImmediateName.TheVariants.{Addi, Slti, Sltiu}
+use Rattle.mips_definition.specs.declared.names.shift_name.ShiftName.TheVariants.{Sll, Srl, Sra}
+use Rattle.mips_definition.specs.declared.names.variable_shift_name.VariableShiftName.TheVariants.{Sllv, Srlv, Srav}
+use Rattle.mips_definition.specs.declared.names.product_name.ProductName.TheVariants.{Mult, Multu, Div, Divu}
 
 -- signed overflow at both ends, and just within
 sums : map (arithmetic_result Add 0x7fffffff) (0 ∷ 1 ∷ 0xffffffff ∷ []) ≡ Some 0x7fffffff ∷ None ∷ Some 0x7ffffffe ∷ []

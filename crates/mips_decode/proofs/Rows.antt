@@ -8,10 +8,10 @@ use Rattle.std.proofs.lemmas.Bool.{eqb-true, eqb-false, eq-eqb, ltb-true}
 use Rattle.std.proofs.lemmas.Bool.Decides.{same_from_decides, Decides-and, Decides-eqb, Decides-like}
 use Rattle.std.proofs.lemmas.Nat.{and_mod, and_shr, and_mask, and_le_l}
 use Rattle.std.proofs.Math.Nat.{mod-eq_of_lt}
-use Rattle.nv_words.specs.Words.{IsWord}
-use Rattle.mips_decode.specs.declared.inst.Inst.{Inst}
-use Rattle.mips_decode.specs.declared.inst.Inst.TheVariants.{Float, Reserved}
-use Rattle.mips_decode.specs.Table.{Row, table, fits, read_row, no_row, inst, op_of, rs_of, rt_of, rd_of, sa_of, funct_of}
+use Rattle.run_definition.specs.Words.{IsWord}
+use Rattle.mips_definition.specs.declared.inst.Inst.{Inst}
+use Rattle.mips_definition.specs.declared.inst.Inst.TheVariants.{Float, Reserved}
+use Rattle.mips_definition.specs.Table.{Row, instruction_table, fits_row, read_row, no_row, inst, op_of, rs_of, rt_of, rd_of, sa_of, funct_of}
 
 -- a mask takes all n bits of a field, or none and its value has none
 abbrev pub whole_field : ℕ → ℕ → ℕ → Bool
@@ -47,7 +47,7 @@ is_whole row = whole_field 6 (op_of row.mask) (op_of row.value) && (whole_field 
     && (whole_field 5 (rd_of row.mask) (rd_of row.value) && (whole_field 5 (sa_of row.mask) (sa_of row.value)
     && nat_lt row.value (2 ^ 32))))))
 
-table_is_whole : list_all is_whole table ≡ true
+table_is_whole : list_all is_whole instruction_table ≡ true
 table_is_whole = refl
 
 -- the word with these fields fits the row
@@ -87,7 +87,7 @@ fit_from_agree w row word small (a, rest) =
 
 -- the test by the mask is the test by fields
 fits-fields : (w : ℕ) (row : Row) → IsWord w → is_whole row ≡ true
-    → fits w row ≡ fields_fit (op_of w) (funct_of w) (rs_of w) (rt_of w) (rd_of w) (sa_of w) row
+    → fits_row w row ≡ fields_fit (op_of w) (funct_of w) (rs_of w) (rt_of w) (rd_of w) (sa_of w) row
 fits-fields w row word whole =
     let a = both _ _ whole in
     let b = both _ _ a.1 in
@@ -116,15 +116,15 @@ read_by_test w row found true = refl
 read_by_test w row found false = refl
 
 find-fields : (w : ℕ) (rows : List Row) → IsWord w → list_all is_whole rows ≡ true
-    → read_row w (find (fits w) rows) ≡ first_by_fields (op_of w) (funct_of w) (rs_of w) (rt_of w) (rd_of w) (sa_of w) w rows
+    → read_row w (find (fits_row w) rows) ≡ first_by_fields (op_of w) (funct_of w) (rs_of w) (rt_of w) (rd_of w) (sa_of w) w rows
 find-fields w [] word whole = refl
 find-fields w (row ∷ rows) word whole =
     let here = both _ _ whole in
-    read_by_test w row (find (fits w) rows) (fits w row) ∙ rw (fits-fields w row word here.0, find-fields w rows word here.1) refl
+    read_by_test w row (find (fits_row w) rows) (fits_row w row) ∙ rw (fits-fields w row word here.0, find-fields w rows word here.1) refl
 
 -- the instruction of a word whose fields are given
 unfoldable pub by_fields : ℕ → ℕ → ℕ → ℕ → ℕ → ℕ → ℕ → Inst
-by_fields op funct rs rt rd sa w = first_by_fields op funct rs rt rd sa w table
+by_fields op funct rs rt rd sa w = first_by_fields op funct rs rt rd sa w instruction_table
 
 -- the choice of a row with one field that must be 0
 pub one_test : (t : Bool) (i j : Inst) → (if t then i else j) ≡ (if t && true then i else j)
@@ -133,7 +133,7 @@ one_test false i j = refl
 
 pub inst_is : (w : ℕ) → IsWord w → inst w ≡ by_fields (op_of w) (funct_of w) (rs_of w) (rt_of w) (rd_of w) (sa_of w) w
 unfolding inst by_fields
-inst_is w word = find-fields w table word table_is_whole
+inst_is w word = find-fields w instruction_table word table_is_whole
 
 -- ---- opcodes that no row has
 -- p holds of each number below n
@@ -173,7 +173,7 @@ misses_first op funct rs rt rd sa w (row ∷ rows) h =
     other_row hit others (row.read w) (first_by_fields op funct rs rt rd sa w rows) split.0
     ∙ misses_first op funct rs rt rd sa w rows split.1
 
-op_table : all_below 64 (λ op. has_op op || list_all (misses op) table) ≡ true
+op_table : all_below 64 (λ op. has_op op || list_all (misses op) instruction_table) ≡ true
 op_table = refl
 
 either : (a b : Bool) → a ≡ false → (a || b) ≡ true → b ≡ true
@@ -184,5 +184,5 @@ either false b e h = h
 pub inst_unlisted : (w : ℕ) → IsWord w → has_op (op_of w) ≡ false → inst w ≡ no_row w
 unfolding by_fields
 inst_unlisted w word none = let op = op_of w in
-    inst_is w word ∙ misses_first op (funct_of w) (rs_of w) (rt_of w) (rd_of w) (sa_of w) w table
-    (either _ _ none (from_all_below 64 (λ op. has_op op || list_all (misses op) table) op_table op (omega arith)))
+    inst_is w word ∙ misses_first op (funct_of w) (rs_of w) (rt_of w) (rd_of w) (sa_of w) w instruction_table
+    (either _ _ none (from_all_below 64 (λ op. has_op op || list_all (misses op) instruction_table) op_table op (omega arith)))

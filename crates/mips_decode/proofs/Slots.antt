@@ -1,7 +1,7 @@
 -- Links, delay slots, HI and LO and register 0, in programs that leave with $4.
 use Rattle.std.proofs.Common.{◌≡◌, refl, [], ◌∷◌, pos, negsuc}
-use Rattle.nv_events.specs.declared.outcome.Outcome.TheVariants.{Exited}
-use Rattle.mips_decode.specs.Table.{inst}
+use Rattle.run_definition.specs.declared.outcome.Outcome.TheVariants.{Exited}
+use Rattle.mips_definition.specs.Table.{inst}
 use Rattle.mips_decode.proofs.Programs.{run, value}
 
 -- jalr $8,$8 goes to the old $8, and its link 00400010 is then there: it leaves with the link's low 16 bits

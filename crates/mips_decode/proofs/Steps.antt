@@ -1,22 +1,22 @@
 -- What holds of every step: how it goes by the word at pc, and what no instruction changes.
 use Rattle.std.proofs.Common.{◌≡◌, refl, ℕ, ◌%◌, Bool, true, false, ◌||◌, ◌==◌, not, is_none, if◌then◌else◌, Option, Some, None}
-use Rattle.nv_words.specs.Words.{signed_of}
-use Rattle.mips_decode.specs.State.{State, register, with_register}
-use Rattle.mips_decode.specs.Effect.{Effect, goes_on, branches, skips_slot, faults, calls, read_align_fault, read_unmapped_fault, write_align_fault, write_refused_fault}
-use Rattle.mips_decode.specs.Arithmetic.{arithmetic_result, arithmetic_immediate_result}
-use Rattle.mips_decode.specs.Branches.{linked, taken_or_not, branch_effect, sign_linked, equal_taken, equal_likely, zero_taken, zero_likely, sign_taken, sign_likely}
-use Rattle.mips_decode.specs.Loads.{load_aligned, loaded, address_of, is_linked, concluded, store_aligned, store_allowed, stored}
-use Rattle.mips_decode.specs.Traps.{trap_holds, trap_immediate_holds, trap_by}
-use Rattle.mips_decode.specs.Step.{turn, turn_by, effect, result_effect}
-use Rattle.mips_decode.specs.Table.{inst}
-use Rattle.mips_decode.specs.declared.inst.Inst.{Inst}
-use Rattle.mips_decode.specs.declared.inst.Inst.TheVariants.{Arithmetic, VariableShift, Shift, JumpRegister, JumpAndLinkRegister, Syscall, Break, MoveFrom, MoveTo, Product, BranchSign, Jump, BranchEqual, BranchZero, ArithmeticImmediate, LogicalImmediate, LoadUpper, Load, Store, Trap, TrapImmediate, Sync, LoadLinked, StoreConditional, Reserved, Float}
-use Rattle.mips_decode.specs.declared.names.branch_sign_name.BranchSignName.{BranchSignName}
-use Rattle.mips_decode.specs.declared.names.branch_sign_name.BranchSignName.TheVariants.{Bltz, Bgez, Bltzal, Bgezal, Bltzl, Bgezl, Bltzall, Bgezall}
-use Rattle.mips_decode.specs.declared.names.jump_name.JumpName.TheVariants.{J, Jal}
-use Rattle.mips_decode.specs.declared.names.load_name.LoadName.TheVariants.{Lw}
-use Rattle.mips_decode.specs.declared.names.store_name.StoreName.TheVariants.{Sw}
-use Rattle.mips_decode.specs.declared.names.hi_lo.HiLo.TheVariants.{Hi, Lo}
+use Rattle.run_definition.specs.Words.{signed_of}
+use Rattle.mips_definition.specs.State.{State, register, with_register}
+use Rattle.mips_definition.specs.Effect.{Effect, goes_on, branches, skips_slot, faults, calls, read_align_fault, read_unmapped_fault, write_align_fault, write_refused_fault}
+use Rattle.mips_definition.specs.Arithmetic.{arithmetic_result, arithmetic_immediate_result}
+use Rattle.mips_definition.specs.Branches.{with_return_link, taken_or_not, branch_effect, sign_linked, equal_taken, equal_likely, zero_taken, zero_likely, sign_taken, sign_likely}
+use Rattle.mips_definition.specs.Loads.{load_aligned, loaded_word, access_address, is_linked, concluded, store_aligned, store_allowed, memory_stored}
+use Rattle.mips_definition.specs.Traps.{trap_holds, trap_immediate_holds, trap_by}
+use Rattle.mips_definition.specs.Step.{turn, turn_by, effect, result_effect}
+use Rattle.mips_definition.specs.Table.{inst}
+use Rattle.mips_definition.specs.declared.inst.Inst.{Inst}
+use Rattle.mips_definition.specs.declared.inst.Inst.TheVariants.{Arithmetic, VariableShift, Shift, JumpRegister, JumpAndLinkRegister, Syscall, Break, MoveFrom, MoveTo, Product, BranchSign, Jump, BranchEqual, BranchZero, ArithmeticImmediate, LogicalImmediate, LoadUpper, Load, Store, Trap, TrapImmediate, Sync, LoadLinked, StoreConditional, Reserved, Float}
+use Rattle.mips_definition.specs.declared.names.branch_sign_name.BranchSignName.{BranchSignName}
+use Rattle.mips_definition.specs.declared.names.branch_sign_name.BranchSignName.TheVariants.{Bltz, Bgez, Bltzal, Bgezal, Bltzl, Bgezl, Bltzall, Bgezall}
+use Rattle.mips_definition.specs.declared.names.jump_name.JumpName.TheVariants.{J, Jal}
+use Rattle.mips_definition.specs.declared.names.load_name.LoadName.TheVariants.{Lw}
+use Rattle.mips_definition.specs.declared.names.store_name.StoreName.TheVariants.{Sw}
+use Rattle.mips_definition.specs.declared.names.hi_lo.HiLo.TheVariants.{Hi, Lo}
 
 -- ---- the step by what stands at pc
 
@@ -62,12 +62,12 @@ Keeps-branch s t target false kept = kept
 Keeps-sign : (name : BranchSignName) (s : State) (imm : ℕ) (taken : Bool) → Keeps s (branch_effect (sign_likely name) taken s (sign_linked name s) imm)
 Keeps-sign Bltz s imm taken = Keeps-branch s s (taken_or_not s taken imm) (true || taken) refl
 Keeps-sign Bgez s imm taken = Keeps-branch s s (taken_or_not s taken imm) (true || taken) refl
-Keeps-sign Bltzal s imm taken = Keeps-branch s (linked s 31) (taken_or_not s taken imm) (true || taken) refl
-Keeps-sign Bgezal s imm taken = Keeps-branch s (linked s 31) (taken_or_not s taken imm) (true || taken) refl
+Keeps-sign Bltzal s imm taken = Keeps-branch s (with_return_link s 31) (taken_or_not s taken imm) (true || taken) refl
+Keeps-sign Bgezal s imm taken = Keeps-branch s (with_return_link s 31) (taken_or_not s taken imm) (true || taken) refl
 Keeps-sign Bltzl s imm taken = Keeps-branch s s (taken_or_not s taken imm) (false || taken) refl
 Keeps-sign Bgezl s imm taken = Keeps-branch s s (taken_or_not s taken imm) (false || taken) refl
-Keeps-sign Bltzall s imm taken = Keeps-branch s (linked s 31) (taken_or_not s taken imm) (false || taken) refl
-Keeps-sign Bgezall s imm taken = Keeps-branch s (linked s 31) (taken_or_not s taken imm) (false || taken) refl
+Keeps-sign Bltzall s imm taken = Keeps-branch s (with_return_link s 31) (taken_or_not s taken imm) (false || taken) refl
+Keeps-sign Bgezall s imm taken = Keeps-branch s (with_return_link s 31) (taken_or_not s taken imm) (false || taken) refl
 
 Keeps-trap : (holds : Bool) (word : ℕ) (s : State) → Keeps s (trap_by holds word s)
 Keeps-trap true word s = tt
@@ -99,23 +99,23 @@ Keeps-effect (ArithmeticImmediate name rs rt imm) word s = Keeps-result s word r
 Keeps-effect (LogicalImmediate name rs rt imm) word s = refl
 Keeps-effect (LoadUpper rt imm) word s = refl
 Keeps-effect (Load name rs rt imm) word s =
-    let a : ℕ = address_of s rs imm in
-    let t : State = with_register s rt (loaded name s.order s.memory a (register s rt)) in
+    let a : ℕ = access_address s rs imm in
+    let t : State = with_register s rt (loaded_word name s.order s.memory a (register s rt)) in
     Keeps-load s t a (load_aligned name a) (is_none (s.memory.byte a)) refl
 Keeps-effect (Store name rs rt imm) word s =
-    let a : ℕ = address_of s rs imm in
-    let t : State = record s { memory = stored name s.order s.memory a (register s rt) } in
+    let a : ℕ = access_address s rs imm in
+    let t : State = record s { memory = memory_stored name s.order s.memory a (register s rt) } in
     Keeps-store s t a (store_aligned name a) (store_allowed name s.order s.memory a) refl
 Keeps-effect (Trap name rs rt code) word s = Keeps-trap (trap_holds name (register s rs) (register s rt)) word s
 Keeps-effect (TrapImmediate name rs imm) word s = Keeps-trap (trap_immediate_holds name (register s rs) imm) word s
 Keeps-effect (Sync sa) word s = refl
 Keeps-effect (LoadLinked rs rt imm) word s =
-    let a : ℕ = address_of s rs imm in
-    let t : State = record (with_register s rt (loaded Lw s.order s.memory a (register s rt))) { load_link = Some a } in
+    let a : ℕ = access_address s rs imm in
+    let t : State = record (with_register s rt (loaded_word Lw s.order s.memory a (register s rt))) { load_link = Some a } in
     Keeps-load s t a (load_aligned Lw a) (is_none (s.memory.byte a)) refl
 Keeps-effect (StoreConditional rs rt imm) word s =
-    let a : ℕ = address_of s rs imm in
-    let t : State = record (with_register s rt 1) { memory = stored Sw s.order s.memory a (register s rt); load_link = None } in
+    let a : ℕ = access_address s rs imm in
+    let t : State = record (with_register s rt 1) { memory = memory_stored Sw s.order s.memory a (register s rt); load_link = None } in
     let u : State = record (with_register s rt 0) { load_link = None } in
     Keeps-store s (concluded s rt a) a (store_aligned Sw a) (store_allowed Sw s.order s.memory a) (Keeps-choice s t u (is_linked s a) refl refl)
 Keeps-effect (Reserved w) word s = tt

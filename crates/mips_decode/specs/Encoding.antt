@@ -1,37 +1,37 @@
 -- The words of the instructions: how the fields are put together (MIPS II instruction formats).
 use Rattle.std.specs.Prelude.{ℕ, ◌+◌, ◌*◌, ◌%◌, ◌^◌}
-use Rattle.mips_decode.specs.declared.inst.Inst.{Inst}
-use Rattle.mips_decode.specs.declared.inst.Inst.TheVariants.{Arithmetic, VariableShift, Shift, JumpRegister, JumpAndLinkRegister, Syscall, Break, MoveFrom, MoveTo, Product, BranchSign, Jump, BranchEqual, BranchZero, ArithmeticImmediate, LogicalImmediate, LoadUpper, Load, Store, Trap, TrapImmediate, Sync, LoadLinked, StoreConditional, Reserved, Float}
-use Rattle.mips_decode.specs.declared.names.arithmetic_name.ArithmeticName.{ArithmeticName}
-use Rattle.mips_decode.specs.declared.names.arithmetic_name.ArithmeticName.TheVariants.{Add, Addu, Sub, Subu, And, Or, Xor, Nor, Slt, Sltu}
-use Rattle.mips_decode.specs.declared.names.variable_shift_name.VariableShiftName.{VariableShiftName}
-use Rattle.mips_decode.specs.declared.names.variable_shift_name.VariableShiftName.TheVariants.{Sllv, Srlv, Srav}
-use Rattle.mips_decode.specs.declared.names.shift_name.ShiftName.{ShiftName}
-use Rattle.mips_decode.specs.declared.names.shift_name.ShiftName.TheVariants.{Sll, Srl, Sra}
-use Rattle.mips_decode.specs.declared.names.hi_lo.HiLo.{HiLo}
-use Rattle.mips_decode.specs.declared.names.hi_lo.HiLo.TheVariants.{Hi, Lo}
-use Rattle.mips_decode.specs.declared.names.product_name.ProductName.{ProductName}
-use Rattle.mips_decode.specs.declared.names.product_name.ProductName.TheVariants.{Mult, Multu, Div, Divu}
-use Rattle.mips_decode.specs.declared.names.branch_sign_name.BranchSignName.{BranchSignName}
-use Rattle.mips_decode.specs.declared.names.branch_sign_name.BranchSignName.TheVariants.{Bltz, Bgez, Bltzal, Bgezal, Bltzl, Bgezl, Bltzall, Bgezall}
-use Rattle.mips_decode.specs.declared.names.jump_name.JumpName.{JumpName}
-use Rattle.mips_decode.specs.declared.names.jump_name.JumpName.TheVariants.{J, Jal}
-use Rattle.mips_decode.specs.declared.names.branch_equal_name.BranchEqualName.{BranchEqualName}
-use Rattle.mips_decode.specs.declared.names.branch_equal_name.BranchEqualName.TheVariants.{Beq, Bne, Beql, Bnel}
-use Rattle.mips_decode.specs.declared.names.branch_zero_name.BranchZeroName.{BranchZeroName}
-use Rattle.mips_decode.specs.declared.names.branch_zero_name.BranchZeroName.TheVariants.{Blez, Bgtz, Blezl, Bgtzl}
-use Rattle.mips_decode.specs.declared.names.arithmetic_immediate_name.ArithmeticImmediateName.{ArithmeticImmediateName}
-use Rattle.mips_decode.specs.declared.names.arithmetic_immediate_name.ArithmeticImmediateName.TheVariants.{Addi, Addiu, Slti, Sltiu}
-use Rattle.mips_decode.specs.declared.names.logical_immediate_name.LogicalImmediateName.{LogicalImmediateName}
-use Rattle.mips_decode.specs.declared.names.logical_immediate_name.LogicalImmediateName.TheVariants.{Andi, Ori, Xori}
-use Rattle.mips_decode.specs.declared.names.load_name.LoadName.{LoadName}
-use Rattle.mips_decode.specs.declared.names.load_name.LoadName.TheVariants.{Lb, Lh, Lwl, Lw, Lbu, Lhu, Lwr}
-use Rattle.mips_decode.specs.declared.names.store_name.StoreName.{StoreName}
-use Rattle.mips_decode.specs.declared.names.store_name.StoreName.TheVariants.{Sb, Sh, Swl, Sw, Swr}
-use Rattle.mips_decode.specs.declared.names.trap_name.TrapName.{TrapName}
-use Rattle.mips_decode.specs.declared.names.trap_name.TrapName.TheVariants.{Tge, Tgeu, Tlt, Tltu, Teq, Tne}
-use Rattle.mips_decode.specs.declared.names.trap_immediate_name.TrapImmediateName.{TrapImmediateName}
-use Rattle.mips_decode.specs.declared.names.trap_immediate_name.TrapImmediateName.TheVariants.{Tgei, Tgeiu, Tlti, Tltiu, Teqi, Tnei}
+use Rattle.mips_definition.specs.declared.inst.Inst.{Inst}
+use Rattle.mips_definition.specs.declared.inst.Inst.TheVariants.{Arithmetic, VariableShift, Shift, JumpRegister, JumpAndLinkRegister, Syscall, Break, MoveFrom, MoveTo, Product, BranchSign, Jump, BranchEqual, BranchZero, ArithmeticImmediate, LogicalImmediate, LoadUpper, Load, Store, Trap, TrapImmediate, Sync, LoadLinked, StoreConditional, Reserved, Float}
+use Rattle.mips_definition.specs.declared.names.arithmetic_name.ArithmeticName.{ArithmeticName}
+use Rattle.mips_definition.specs.declared.names.arithmetic_name.ArithmeticName.TheVariants.{Add, Addu, Sub, Subu, And, Or, Xor, Nor, Slt, Sltu}
+use Rattle.mips_definition.specs.declared.names.variable_shift_name.VariableShiftName.{VariableShiftName}
+use Rattle.mips_definition.specs.declared.names.variable_shift_name.VariableShiftName.TheVariants.{Sllv, Srlv, Srav}
+use Rattle.mips_definition.specs.declared.names.shift_name.ShiftName.{ShiftName}
+use Rattle.mips_definition.specs.declared.names.shift_name.ShiftName.TheVariants.{Sll, Srl, Sra}
+use Rattle.mips_definition.specs.declared.names.hi_lo.HiLo.{HiLo}
+use Rattle.mips_definition.specs.declared.names.hi_lo.HiLo.TheVariants.{Hi, Lo}
+use Rattle.mips_definition.specs.declared.names.product_name.ProductName.{ProductName}
+use Rattle.mips_definition.specs.declared.names.product_name.ProductName.TheVariants.{Mult, Multu, Div, Divu}
+use Rattle.mips_definition.specs.declared.names.branch_sign_name.BranchSignName.{BranchSignName}
+use Rattle.mips_definition.specs.declared.names.branch_sign_name.BranchSignName.TheVariants.{Bltz, Bgez, Bltzal, Bgezal, Bltzl, Bgezl, Bltzall, Bgezall}
+use Rattle.mips_definition.specs.declared.names.jump_name.JumpName.{JumpName}
+use Rattle.mips_definition.specs.declared.names.jump_name.JumpName.TheVariants.{J, Jal}
+use Rattle.mips_definition.specs.declared.names.branch_equal_name.BranchEqualName.{BranchEqualName}
+use Rattle.mips_definition.specs.declared.names.branch_equal_name.BranchEqualName.TheVariants.{Beq, Bne, Beql, Bnel}
+use Rattle.mips_definition.specs.declared.names.branch_zero_name.BranchZeroName.{BranchZeroName}
+use Rattle.mips_definition.specs.declared.names.branch_zero_name.BranchZeroName.TheVariants.{Blez, Bgtz, Blezl, Bgtzl}
+use Rattle.mips_definition.specs.declared.names.arithmetic_immediate_name.ArithmeticImmediateName.{ArithmeticImmediateName}
+use Rattle.mips_definition.specs.declared.names.arithmetic_immediate_name.ArithmeticImmediateName.TheVariants.{Addi, Addiu, Slti, Sltiu}
+use Rattle.mips_definition.specs.declared.names.logical_immediate_name.LogicalImmediateName.{LogicalImmediateName}
+use Rattle.mips_definition.specs.declared.names.logical_immediate_name.LogicalImmediateName.TheVariants.{Andi, Ori, Xori}
+use Rattle.mips_definition.specs.declared.names.load_name.LoadName.{LoadName}
+use Rattle.mips_definition.specs.declared.names.load_name.LoadName.TheVariants.{Lb, Lh, Lwl, Lw, Lbu, Lhu, Lwr}
+use Rattle.mips_definition.specs.declared.names.store_name.StoreName.{StoreName}
+use Rattle.mips_definition.specs.declared.names.store_name.StoreName.TheVariants.{Sb, Sh, Swl, Sw, Swr}
+use Rattle.mips_definition.specs.declared.names.trap_name.TrapName.{TrapName}
+use Rattle.mips_definition.specs.declared.names.trap_name.TrapName.TheVariants.{Tge, Tgeu, Tlt, Tltu, Teq, Tne}
+use Rattle.mips_definition.specs.declared.names.trap_immediate_name.TrapImmediateName.{TrapImmediateName}
+use Rattle.mips_definition.specs.declared.names.trap_immediate_name.TrapImmediateName.TheVariants.{Tgei, Tgeiu, Tlti, Tltiu, Teqi, Tnei}
 
 -- ---- the formats; a register, a shift amount, an index or a code is cut to the bits of its field
 abbrev pub register_word : ℕ → ℕ → ℕ → ℕ → ℕ → ℕ → ℕ

@@ -1,13 +1,3 @@
+pub mod FaultKinds
 pub mod Encoding
-pub mod Mnemonics
-pub mod Table
-pub mod Targets
 pub mod Text
-pub mod Memory
-pub mod State
-pub mod Effect
-pub mod Arithmetic
-pub mod Loads
-pub mod Branches
-pub mod Traps
-pub mod Step

@@ -1,6 +1,6 @@
 //! From words to instructions.
 ghost use Rattle.std.specs.Prelude.{◌≡◌, ◌<◌};
-ghost use Rattle.mips_decode.specs.Table.{inst, op_of};
+ghost use Rattle.mips_definition.specs.Table.{inst, op_of};
 
 use crate::fields::{funct, op, rt};
 use crate::forms::{
@@ -9,11 +9,10 @@ use crate::forms::{
     move_from, move_to, product, shift, store, store_conditional, sync, syscall, trap,
     trap_immediate, variable_shift,
 };
-use crate::inst::Inst;
-use crate::names::{
+use mips_definition::{
     ArithmeticImmediateName, ArithmeticName, BranchEqualName, BranchSignName, BranchZeroName, HiLo,
-    JumpName, LoadName, LogicalImmediateName, ProductName, ShiftName, StoreName, TrapImmediateName,
-    TrapName, VariableShiftName,
+    Inst, JumpName, LoadName, LogicalImmediateName, ProductName, ShiftName, StoreName,
+    TrapImmediateName, TrapName, VariableShiftName,
 };
 
 /// The instruction that a word is.

@@ -2,12 +2,12 @@
 ghost use Rattle.std.specs.Prelude.{◌≡◌, ◌<◌};
 ghost use Rattle.mips_decode.specs.Encoding.{word_of, register_word, immediate_word, jump_word, code_word, trap_word};
 
-use crate::inst::Inst;
 use crate::numbers::{
     arithmetic_funct, arithmetic_immediate_op, branch_equal_op, branch_sign_rt, branch_zero_op,
     jump_op, load_op, logical_immediate_op, move_from_funct, move_to_funct, product_funct,
     shift_funct, store_op, trap_funct, trap_immediate_rt, variable_shift_funct,
 };
+use mips_definition::Inst;
 
 /// The word of an instruction. Of a register, a shift amount, an index or a code that is too large for its field, the low
 /// bits are taken; no instruction that `decode` gives has one.

@@ -1,6 +1,6 @@
 //! The fields of a word, as the MIPS I manual draws its instruction formats.
 ghost use Rattle.std.specs.Prelude.{◌≡◌};
-ghost use Rattle.mips_decode.specs.Table.{op_of, rs_of, rt_of, rd_of, sa_of, funct_of, imm_of, index_of, code_of, trap_code_of, is_float};
+ghost use Rattle.mips_definition.specs.Table.{op_of, rs_of, rt_of, rd_of, sa_of, funct_of, imm_of, index_of, code_of, trap_code_of, is_float};
 
 /// Bits 31 to 26.
 pub(crate) fn op(w: u32) -> u8

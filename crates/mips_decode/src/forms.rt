@@ -1,16 +1,15 @@
-//! The forms of instructions: one of a name, with the fields of a word. Where a field that must be 0 is not, the word is
+//! The forms of instructions: one of a name, with the fields of a word. If a field that must be 0 is not, the word is
 //! reserved.
 ghost use Rattle.std.specs.Prelude.{◌≡◌, ◌==◌, ◌&&◌, if◌then◌else◌};
-ghost use Rattle.mips_decode.specs.declared.inst.Inst.TheVariants.{Reserved};
-ghost use Rattle.mips_decode.specs.Table.{rs_of, rt_of, rd_of, sa_of};
-ghost use Rattle.mips_decode.specs.Table as table;
+ghost use Rattle.mips_definition.specs.declared.inst.Inst.TheVariants.{Reserved};
+ghost use Rattle.mips_definition.specs.Table.{rs_of, rt_of, rd_of, sa_of};
+ghost use Rattle.mips_definition.specs.Table as table;
 
 use crate::fields::{code, imm, index, rd, rs, rt, sa, trap_code};
-use crate::inst::Inst;
-use crate::names::{
+use mips_definition::{
     ArithmeticImmediateName, ArithmeticName, BranchEqualName, BranchSignName, BranchZeroName, HiLo,
-    JumpName, LoadName, LogicalImmediateName, ProductName, ShiftName, StoreName, TrapImmediateName,
-    TrapName, VariableShiftName,
+    Inst, JumpName, LoadName, LogicalImmediateName, ProductName, ShiftName, StoreName,
+    TrapImmediateName, TrapName, VariableShiftName,
 };
 
 pub(crate) fn arithmetic(name: ArithmeticName, w: u32) -> Inst

@@ -3,13 +3,12 @@
 
 mod decoder;
 mod encoder;
+pub mod fault_kind_laws;
 pub mod fault_kinds;
 mod fields;
 mod forms;
 mod hexadecimal;
-mod inst;
 mod laws;
-mod names;
 mod numbers;
 mod order;
 mod targets;
@@ -18,12 +17,11 @@ mod text;
 pub use decoder::decode;
 pub use encoder::encode;
 pub use fields::is_float;
-pub use inst::Inst;
 pub use laws::{encoding_inverts_decoding, rows_are_disjoint};
-pub use names::{
+pub use mips_definition::{
     ArithmeticImmediateName, ArithmeticName, BranchEqualName, BranchSignName, BranchZeroName, HiLo,
-    JumpName, LoadName, LogicalImmediateName, ProductName, ShiftName, StoreName, TrapImmediateName,
-    TrapName, VariableShiftName,
+    Inst, JumpName, LoadName, LogicalImmediateName, ProductName, ShiftName, StoreName,
+    TrapImmediateName, TrapName, VariableShiftName,
 };
 pub use order::{order_number, word_of_lanes};
 pub use targets::{branch_target, jump_target};

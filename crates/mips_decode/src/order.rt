@@ -1,7 +1,7 @@
 //! The two orders of the bytes of a word in memory.
 ghost use Rattle.std.specs.Prelude.{◌≡◌};
-ghost use Rattle.mips_decode.specs.Memory.{word_of_lanes};
-ghost use Rattle.mips_decode.specs.Step.{order_number};
+ghost use Rattle.mips_definition.specs.Memory.{word_of_lanes};
+ghost use Rattle.mips_definition.specs.Step.{order_number};
 
 use nv_words::Order;
 

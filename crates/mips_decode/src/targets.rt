@@ -1,6 +1,6 @@
 //! Immediates by their sign, and where branches and jumps go.
 ghost use Rattle.std.specs.Prelude.{◌≡◌};
-ghost use Rattle.mips_decode.specs.Targets as targets;
+ghost use Rattle.mips_definition.specs.Targets as targets;
 
 /// The target of a branch with this immediate, at the address `at`: the immediate, extended by its sign, counts words from
 /// the next instruction, modulo 2^32.

@@ -3,8 +3,8 @@ ghost use Rattle.std.specs.Prelude.{◌≡◌, IfOk, string_bytes};
 ghost use Rattle.mips_decode.specs.Text.{text_of};
 
 use crate::hexadecimal::Hexadecimal;
-use crate::inst::Inst;
 use crate::targets::{branch_target, jump_target, signed};
+use mips_definition::Inst;
 use std::alloc::{AllocError, Global};
 
 /// The error of a call that found no memory.
@@ -13,7 +13,7 @@ pub type NoMemory = AllocError;
 /// The assembly text of the instruction at the address `at`, as `addiu $2,$0,1`. Targets are addresses.
 ///
 /// # Errors
-/// Only for want of memory.
+/// Only if memory runs out.
 pub fn print_inst(alloc: Global, inst: &Inst, at: u32) -> Result<String, NoMemory>
     ensures { IfOk result (λ text. string_bytes text ≡ text_of inst.now at) }
 {

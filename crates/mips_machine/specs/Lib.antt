@@ -6,4 +6,3 @@ pub mod Steps
 pub mod Moving
 pub mod Guest
 pub mod GuestLaws
-pub mod Loading

@@ -1,17 +1,17 @@
 //! Loads and stores.
 ghost use Rattle.std.specs.Prelude.{◌≡◌, ℕ, ◌<◌, true, if◌then◌else◌};
-ghost use Rattle.mips_decode.specs.Effect.{read_align_fault, read_unmapped_fault, write_align_fault, write_refused_fault};
-ghost use Rattle.mips_decode.specs.Loads.{load_aligned, store_aligned, load_effect, store_effect, address_of};
+ghost use Rattle.mips_definition.specs.Effect.{read_align_fault, read_unmapped_fault, write_align_fault, write_refused_fault};
+ghost use Rattle.mips_definition.specs.Loads.{load_aligned, store_aligned, load_effect, store_effect, access_address};
 ghost use Rattle.mips_machine.specs.declared.executed.Executed.TheVariants.{Fault};
 ghost use Rattle.mips_machine.specs.Moving.{Steady};
 ghost use Rattle.mips_machine.specs.Processor.{processor_state, effect_of, Stays};
 
 use crate::executed::Executed;
 use crate::processor::Processor;
-use guest_memory::{is_load_aligned, is_store_aligned};
 use mips_arithmetic::extended;
 use mips_decode::fault_kinds::{READ_ALIGN, READ_UNMAPPED, WRITE_ALIGN, WRITE_REFUSED};
 use mips_decode::{LoadName, StoreName};
+use mips_memory::{is_load_aligned, is_store_aligned};
 use nv_words::Order;
 
 impl Processor {
@@ -77,7 +77,7 @@ impl Processor {
     #[inline(always)]
     pub(crate) fn address(&self, rs: u8, imm: u16) -> u32
         requires { rs < 32 }
-        ensures { result ≡ address_of (processor_state self.now) rs imm }
+        ensures { result ≡ access_address (processor_state self.now) rs imm }
     {
         self.register(rs).wrapping_add(extended(imm))
     }

@@ -1,8 +1,8 @@
-//! Branches and jumps, each at an address, which need not be where the processor stands. Each reads its condition and its target before the
+//! Branches and jumps, each at an address, which need not be where the processor is. Each reads its condition and its target before the
 //! link is written.
 ghost use Rattle.std.specs.Prelude.{◌≡◌, ℕ, ◌+◌, ◌%◌, ◌^◌, ◌<◌, Bool, true};
-ghost use Rattle.mips_decode.specs.Branches as manual;
-ghost use Rattle.mips_decode.specs.Targets.{branch_target};
+ghost use Rattle.mips_definition.specs.Branches as manual;
+ghost use Rattle.mips_definition.specs.Targets.{branch_target};
 ghost use Rattle.mips_machine.specs.Moving.{at_word};
 ghost use Rattle.mips_machine.specs.Processor.{processor_state, effect_of, with_link, IsRegister, Stays};
 
@@ -118,7 +118,7 @@ impl Processor {
         Executed::Branch { target, link }
     }
 
-    /// A branch to its target where it is taken, and else past its slot.
+    /// A branch to its target where it is taken, and otherwise past its slot.
     #[inline(always)]
     fn branch(&self, at: u32, taken: bool, imm: u16, link: Option<u8>) -> Executed
         ensures { result
@@ -132,7 +132,7 @@ impl Processor {
         Executed::Branch { target, link }
     }
 
-    /// A likely branch to its target where it is taken, and else past its slot, which is not done.
+    /// A likely branch to its target where it is taken, and otherwise past its slot, which is not done.
     #[inline(always)]
     fn branch_likely(&self, at: u32, taken: bool, imm: u16, link: Option<u8>) -> Executed
         requires { IsRegister link }

@@ -1,9 +1,9 @@
 //! The instructions that compute. Of the register that the result goes to it may be known that it is another than register 0.
 ghost use Rattle.std.specs.Prelude.{◌≡◌, ℕ, ◌<◌, ◌*◌, ◌^◌, true};
-ghost use Rattle.mips_decode.specs.State.{register, with_register};
-ghost use Rattle.mips_decode.specs.Effect.{goes_on};
-ghost use Rattle.mips_decode.specs.Arithmetic as manual;
-ghost use Rattle.mips_decode.specs.Step.{result_effect, move_from_effect, move_to_effect};
+ghost use Rattle.mips_definition.specs.State.{register, with_register};
+ghost use Rattle.mips_definition.specs.Effect.{goes_on};
+ghost use Rattle.mips_definition.specs.Arithmetic as manual;
+ghost use Rattle.mips_definition.specs.Step.{result_effect, move_from_effect, move_to_effect};
 ghost use Rattle.mips_machine.specs.Moving.{Steady};
 ghost use Rattle.mips_machine.specs.Processor.{processor_state, effect_of, Stays};
 

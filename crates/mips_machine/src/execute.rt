@@ -1,6 +1,6 @@
 //! One instruction, apart from where the program goes next.
 ghost use Rattle.std.specs.Prelude.{◌≡◌};
-ghost use Rattle.mips_decode.specs.Step.{effect};
+ghost use Rattle.mips_definition.specs.Step.{effect};
 ghost use Rattle.mips_machine.specs.Fields.{HasFields};
 ghost use Rattle.mips_machine.specs.Processor.{processor_state, effect_of, Stays};
 
@@ -10,7 +10,7 @@ use mips_decode::Inst;
 use mips_decode::fault_kinds::{BREAK, RESERVED};
 
 impl Processor {
-    /// Executes an instruction, which stands in the given word.
+    /// Executes an instruction, which is in the given word.
     pub(crate) fn execute(&mut self, inst: Inst, word: u32) -> Executed
         requires { HasFields inst }
         ensures effect { effect_of result (processor_state self.new)

@@ -1,15 +1,15 @@
 //! LL and SC.
 ghost use Rattle.std.specs.Prelude.{◌≡◌, ◌<◌, None, IsTrue};
-ghost use Rattle.mips_decode.specs.Loads.{store_aligned, store_allowed, stored, load_linked_effect, store_conditional_effect, concluded, is_linked};
-ghost use Rattle.mips_decode.specs.State.{register, with_register};
+ghost use Rattle.mips_definition.specs.Loads.{store_aligned, store_allowed, memory_stored, load_linked_effect, store_conditional_effect, concluded, is_linked};
+ghost use Rattle.mips_definition.specs.State.{register, with_register};
 ghost use Rattle.mips_machine.specs.Processor.{processor_state, effect_of, Stays};
 
 use crate::accessing::refused_load;
 use crate::executed::Executed;
 use crate::processor::Processor;
-use guest_memory::is_store_aligned;
 use mips_decode::fault_kinds::{WRITE_ALIGN, WRITE_REFUSED};
 use mips_decode::{LoadName, StoreName};
+use mips_memory::is_store_aligned;
 
 impl Processor {
     /// LL: as LW, and the address is linked.
@@ -89,7 +89,7 @@ impl Processor {
             (processor_state self.old).memory at) }
         ensures { processor_state self.new
             ≡ record (with_register (processor_state self.old) rt 1) {
-              memory = stored StoreName.Sw (processor_state self.old).order
+              memory = memory_stored StoreName.Sw (processor_state self.old).order
                   (processor_state self.old).memory at (register (processor_state self.old) rt);
               load_link = None;
             } }

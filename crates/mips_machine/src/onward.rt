@@ -1,4 +1,4 @@
-/// Where a program goes after the turn of an instruction, or that one and the turn of the word 0 behind it.
+/// Where a program goes after the turn of an instruction, or that one and the turn of the word 0 after it.
 #[derive(Clone, Copy)]
 pub(crate) enum Onward {
     /// To the next word, or from a delay slot to its branch's target.

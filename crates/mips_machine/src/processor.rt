@@ -1,12 +1,12 @@
 ghost use Rattle.std.specs.Prelude.{◌≡◌, ℕ, ◌<◌, true};
-ghost use Rattle.mips_decode.specs.State.{register, with_register, start};
-ghost use Rattle.guest_memory.specs.Pages.{memory_of};
-ghost use Rattle.guest_memory.specs.CodeChunks.{code_of};
+ghost use Rattle.mips_definition.specs.State.{register, with_register, start};
+ghost use Rattle.mips_memory.specs.Pages.{memory_of};
+ghost use Rattle.mips_memory.specs.CodeChunks.{code_of};
 ghost use Rattle.mips_machine.specs.Moving.{Steady};
 ghost use Rattle.mips_machine.specs.Processor.{processor_state};
 
 use crate::registers::Registers;
-use guest_memory::{Code, GuestMemory};
+use mips_memory::{Code, GuestMemory};
 use nv_words::Order;
 use std::alloc::Global;
 use std::rc::Rc;

@@ -1,6 +1,6 @@
 //! Traps: they fault where a comparison holds.
 ghost use Rattle.std.specs.Prelude.{◌≡◌, ◌<◌};
-ghost use Rattle.mips_decode.specs.Traps as manual;
+ghost use Rattle.mips_definition.specs.Traps as manual;
 ghost use Rattle.mips_machine.specs.Processor.{processor_state, effect_of, Stays};
 
 use crate::executed::Executed;

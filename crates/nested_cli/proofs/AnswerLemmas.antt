@@ -1,5 +1,6 @@
 -- What the work of a call and its line come to.
 use Rattle.std.proofs.Common.{◌≡◌, ◌⊎◌, ℕ, Bool, true, false, List, [], ◌∷◌, ◌++◌, Result, Ok, Err, refl, sym, ◌∙◌, ap, subst, inl, inr}
+use Rattle.nv_translate.specs.Made.{AreMade}
 use Rattle.command_words.specs.Meaning.{command_of}
 use Rattle.command_words.specs.declared.command.Command.{Command}
 use Rattle.command_forms.specs.declared.usage.Usage.{Usage}
@@ -7,14 +8,14 @@ use Rattle.command_deeds.specs.Ends.{CommandAnswer, Comes, Due, end_of, final, i
 use Rattle.command_forms.specs.declared.words_error.WordsError.{WordsError}
 use Rattle.command_forms.specs.declared.words_error.WordsError.TheVariants as words
 use Rattle.command_deeds.proofs.DeedLemmas.{stays}
-use Rattle.command_deeds.specs.Line.{line_of}
+use Rattle.command_deeds.specs.Line.{answer_line}
 use Rattle.command_deeds.specs.Stops.{words_ending}
 use Rattle.command_deeds.specs.World.{FailsIn, World}
 use Rattle.command_deeds.specs.declared.done.Done.{Done}
 use Rattle.command_deeds.specs.declared.done.Done.TheVariants as done
 use Rattle.command_deeds.specs.declared.stop.Stop.{Stop}
 use Rattle.command_deeds.specs.declared.stop.Stop.TheVariants.{ReadFault, WriteFault, ShelfFault, NoMemory}
-use Rattle.nested_cli.specs.Commands.{Does, IsDueOf, loads}
+use Rattle.nested_cli.specs.Commands.{Does, IsDueOf, loads_files}
 use Rattle.nested_cli.specs.Faults.{ErrFailed, Failed, Faults, NoneFailed, OutFailed}
 use Rattle.nested_cli.specs.Line.{Says, Tells}
 use Rattle.nested_cli.specs.Usage.{Misuses}
@@ -74,7 +75,7 @@ none_left (x ∷ front) next rest is = cc
 
 -- a write fault has no line
 line_behind : (end : Result CommandAnswer Stop) (w u v : World) → EndSays end w u
-    → FailsIn u.err v.err (line_of (final end).name (final end).done) → Failed false false false true u v → ErrFailed w v
+    → FailsIn u.err v.err (answer_line (final end).name (final end).done) → Failed false false false true u v → ErrFailed w v
 line_behind (Ok answer) w u v p fails line = inl (err_behind false false w u v p.1 line)
 line_behind (Err ReadFault) w u v p fails line = inr (inr (err_behind false true w u v p line))
 line_behind (Err WriteFault) w u v p fails line = absurd (none_left fails.0.front fails.0.next fails.0.rest fails.0.splits)
@@ -85,7 +86,7 @@ line_failed : (w v : World) → ErrFailed w v → Faults w v done.WriteFault
 line_failed w v failed = record { read = λ e. cc; write = λ e. inr failed; shelf = λ e. cc; none = λ a b c. absurd (b refl) }
 
 told_faults : (end : Result CommandAnswer Stop) (w u v : World) (said : Done) → EndSays end w u
-    → Says (line_of (final end).name (final end).done) u v (final end).done said → Faults w v said
+    → Says (answer_line (final end).name (final end).done) u v (final end).done said → Faults w v said
 told_faults end w u v said p says = by says.3
   where
     input : v.input.faults ≡ u.input.faults
@@ -94,7 +95,7 @@ told_faults end w u v said p says = by says.3
     out : v.out.faults ≡ u.out.faults
     out = ap (λ o. o.faults) says.2
 
-    by : Tells (line_of (final end).name (final end).done) u.err v.err (final end).done said → Faults w v said
+    by : Tells (answer_line (final end).name (final end).done) u.err v.err (final end).done said → Faults w v said
     by (inl told) = subst (Faults w v) (sym told.0) (end_told end w u v p (sound u v says.0.1 input out told.1.1))
     by (inr told) = subst (Faults w v) (sym told.0) (line_failed w v (line_behind end w u v p told.1 (record {
       shelf_count = count_stays u.shelf.faults v.shelf.faults says.0.1;
@@ -108,7 +109,7 @@ told_faults end w u v said p says = by says.3
 -- what an end says of the counts, by the words
 end_says : (words : List (List ℕ)) (moment : ℕ) (w u : World) (end : Result CommandAnswer Stop)
     → ((misuse : Usage) → command_of words ≡ Err misuse → Misuses misuse w u end)
-    → ((c : Command) → command_of words ≡ Ok c → Comes (loads c) (IsDueOf c moment) w u end) → EndSays end w u
+    → ((c : Command) → command_of words ≡ Ok c → Comes (loads_files c) (IsDueOf AreMade c moment) w u end) → EndSays end w u
 end_says words moment w u end usage due = by (command_of words) refl
   where
     misused : (misuse : Usage) → Misuses misuse w u end → EndSays end w u
@@ -116,17 +117,17 @@ end_says words moment w u end usage due = by (command_of words) refl
     misused misuse (stays, inr is) = subst (λ e. EndSays e w u) (sym is) (stays_sound w u stays)
 
     by : (meant : Result Command Usage) → command_of words ≡ meant → EndSays end w u
-    by (Ok c) e = comes_says (loads c) (IsDueOf c moment) w u end (due c e)
+    by (Ok c) e = comes_says (loads_files c) (IsDueOf AreMade c moment) w u end (due c e)
     by (Err misuse) e = misused misuse (usage misuse e)
 
 -- words that mean a command are refused for want of memory alone
 pub refused_due : (error : WordsError) (meant : Result Command Usage) (c : Command) (IsDueAt : World → Due → Type 0) (w : World)
     → ((fault : Usage) → error ≡ words.Usage fault → meant ≡ Err fault) → meant ≡ Ok c
-    → Comes (loads c) IsDueAt w w (end_of (words_ending error))
+    → Comes (loads_files c) IsDueAt w w (end_of (words_ending error))
 refused_due (words.Usage fault) meant c IsDueAt w usage is =
     let both : Err fault ≡ Ok c = sym (usage fault refl) ∙ is in
     cc
-refused_due words.NoMemory meant c IsDueAt w usage is = early (loads c)
+refused_due words.NoMemory meant c IsDueAt w usage is = early (loads_files c)
   where
     early : (l : Bool) → Comes l IsDueAt w w (Err NoMemory)
     early true = inl (stays w)
@@ -134,8 +135,8 @@ refused_due words.NoMemory meant c IsDueAt w usage is = early (loads c)
 
 pub does : (words : List (List ℕ)) (moment : ℕ) (w u v : World) (end : Result CommandAnswer Stop) (said : Done)
     → ((misuse : Usage) → command_of words ≡ Err misuse → Misuses misuse w u end)
-    → ((c : Command) → command_of words ≡ Ok c → Comes (loads c) (IsDueOf c moment) w u end)
-    → Says (line_of (final end).name (final end).done) u v (final end).done said → Does words moment w v said
+    → ((c : Command) → command_of words ≡ Ok c → Comes (loads_files c) (IsDueOf AreMade c moment) w u end)
+    → Says (answer_line (final end).name (final end).done) u v (final end).done said → Does AreMade words moment w v said
 does words moment w u v end said usage due line = record {
   worked = u;
   end = end;

@@ -1,6 +1,6 @@
 -- What is so behind the checks of a command, and of the line behind its work.
 use Rattle.std.proofs.Common.{◌≡◌, ℕ, List, Result, Ok, Err, IfErr, IfOk, subst, inl, inr}
-use Rattle.command_deeds.specs.Checks.{Check, after}
+use Rattle.command_deeds.specs.Checks.{Check, after_check}
 use Rattle.command_deeds.specs.Ends.{CommandAnswer, Due, answers}
 use Rattle.command_deeds.specs.World.{Seen}
 use Rattle.command_deeds.specs.declared.done.Done.{Done}
@@ -19,7 +19,7 @@ passing P Q (Err answer) f p = p
 
 -- behind two
 pub checked-twice : {A B : Type 0} (Goal : Type 0) (P : A → B → Type 0) (due : Due) (one : Check A) (two : Check B) (next : A → Check B)
-    → ((answer : CommandAnswer) → due ≡ answers answer → Goal) → two ≡ after one next
+    → ((answer : CommandAnswer) → due ≡ answers answer → Goal) → two ≡ after_check one next
     → IfErr two (λ answer. due ≡ answers answer) → IfOk one (λ a. IfOk two (P a)) → ((a : A) (b : B) → P a b → Goal) → Goal
 checked-twice Goal P due (Ok a) two next refusal is refused done f = checked Goal due two refusal refused (passing (P a) (λ b. Goal) two (f a) done)
 checked-twice Goal P due (Err answer) two next refusal is refused done f =

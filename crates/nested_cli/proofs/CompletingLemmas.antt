@@ -3,24 +3,25 @@ use Rattle.std.proofs.Common.{◌≡◌, ◌≢◌, ◌⊎◌, ◌<◌, ◌≤�
 use Rattle.std.proofs.lemmas.Option.{same_Some}
 use Rattle.nv_outside.specs.Faults.{CountsFailure, one_more}
 use Rattle.nv_outside.specs.Files.{AgreeWith, Files}
-use Rattle.nv_events.specs.Run.{Run}
-use Rattle.mips_decode.specs.State.{State}
-use Rattle.nv_events.specs.declared.outcome.Outcome.{Outcome}
-use Rattle.nv_events.specs.declared.outcome.Outcome.TheVariants.{Exited, Faulted, Trapped, Waiting, Going}
-use Rattle.command_values.specs.Names.{Text}
+use Rattle.run_definition.specs.Run.{Run}
+use Rattle.mips_definition.specs.State.{State}
+use Rattle.run_definition.specs.declared.outcome.Outcome.{Outcome}
+use Rattle.run_definition.specs.declared.outcome.Outcome.TheVariants.{Exited, Faulted, Trapped, Waiting, Going}
+use Rattle.nv_values.specs.Names.{Text}
+use Rattle.nv_translate.specs.Made.{AreMade}
 use Rattle.command_words.specs.declared.named.Named.{Named}
 use Rattle.command_words.specs.declared.pages.Pages.{Pages}
-use Rattle.elf_reader.specs.Area.{area}
-use Rattle.elf_reader.specs.Fault.{elf_fault, IsRunsOf}
-use Rattle.elf_reader.specs.declared.range.Range.{Range}
-use Rattle.elf_image.specs.Refusals.{image_fault}
-use Rattle.elf_image.specs.Start.{Source}
-use Rattle.jvm_program.specs.Step.{Loaded}
-use Rattle.unix_system.specs.System.{System}
-use Rattle.nv_translate.specs.Ends.{EndsAs}
-use Rattle.command_deeds.specs.Checks.{Behind, Check, after, file_named, there, unless}
+use Rattle.elf_definition.specs.Area.{area}
+use Rattle.elf_definition.specs.Fault.{elf_fault, IsRunsOf}
+use Rattle.elf_definition.specs.declared.range.Range.{Range}
+use Rattle.elf_definition.specs.ImageFault.{image_fault}
+use Rattle.elf_definition.specs.Start.{Source}
+use Rattle.jvm_definition.specs.Step.{Loaded}
+use Rattle.unix_definition.specs.System.{System}
+use Rattle.nv_translate.specs.Translated.{EndsAs}
+use Rattle.command_deeds.specs.Checks.{Behind, Check, after_check, file_that_is_named, there, unless_fault}
 use Rattle.command_deeds.specs.Ends.{CommandAnswer, Comes, Due, done_of_stop, final, is_stop, says}
-use Rattle.command_deeds.specs.Line.{line_of}
+use Rattle.command_deeds.specs.Line.{answer_line}
 use Rattle.command_deeds.specs.Runs.{GivenFile, Plan, answer_of, found_for}
 use Rattle.command_deeds.specs.World.{Seen, World}
 use Rattle.command_deeds.specs.declared.done.Done.{Done}
@@ -39,7 +40,7 @@ use Rattle.nested_cli.proofs.CheckLemmas.{not-told}
 -- ---- the checks pass
 
 file-passes : (w : World) (files : Files) (input : Named) (file : List ℕ) (told : Option Files) → told ≡ Some files → (there-are : Files)
-    → AgreeWith told there-are → files input.text ≡ Some file → file_named there-are input ≡ Ok file
+    → AgreeWith told there-are → files input.text ≡ Some file → file_that_is_named there-are input ≡ Ok file
 file-passes w files input file told e there-are agree has =
     let same : there-are ≡ files = subst (λ t. AgreeWith t there-are) e agree in
     ap (there input.word input.text) (ap (λ (f : Files). f input.text) same ∙ has)
@@ -47,7 +48,7 @@ file-passes w files input file told e there-are agree has =
 image-passes : (source : Source) (check : Check Source)
     → ((runs : List Range) → IsRunsOf (area source.file) runs → image_fault source.file runs source.heap source.stack ≡ None)
     → IsImageChecked source check → check ≡ Ok source
-image-passes source check fits c = c.is ∙ ap (λ fault. unless fault done.ImageRefused source) (fits c.runs c.are_runs)
+image-passes source check fits c = c.is ∙ ap (λ fault. unless_fault fault done.ImageRefused source) (fits c.runs c.are_runs)
 
 source-passes : (pages : Pages) (file : List ℕ) (named : Check (List ℕ)) (check : Check Source) → named ≡ Ok file → elf_fault file ≡ None
     → ((runs : List Range) → IsRunsOf (area file) runs → image_fault file runs pages.heap pages.stack ≡ None)
@@ -55,15 +56,15 @@ source-passes : (pages : Pages) (file : List ℕ) (named : Check (List ℕ)) (ch
 source-passes pages file named check e sound fits behind =
     let read : IsImaged pages file check = subst (λ n. Behind n (IsImaged pages) check) e behind in
     let passed : elf_checked (source_of pages file) ≡ Ok (source_of pages file) =
-    ap (λ fault. unless fault done.ElfRefused (source_of pages file)) sound in
+    ap (λ fault. unless_fault fault done.ElfRefused (source_of pages file)) sound in
     image-passes (source_of pages file) check fits (subst (λ c. Behind c IsImageChecked check) passed read)
 
 found-passes : (p : Plan) (source : Source) (files : Files) (given : List GivenFile) (check : Check Source) (found : Check (List GivenFile)) (told : Option Files)
     → told ≡ Some files → (there-are : Files) → AgreeWith told there-are → check ≡ Ok source → found_for p files ≡ Ok given
-    → found ≡ after check (λ image. found_for p there-are) → found ≡ Ok given
+    → found ≡ after_check check (λ image. found_for p there-are) → found ≡ Ok given
 found-passes p source files given check found told e there-are agree passed fit is =
     let same : there-are ≡ files = subst (λ t. AgreeWith t there-are) e agree in
-    is ∙ ap (λ c. after c (λ image. found_for p there-are)) passed ∙ ap (λ (f : Files). found_for p f) same ∙ fit
+    is ∙ ap (λ c. after_check c (λ image. found_for p there-are)) passed ∙ ap (λ (f : Files). found_for p f) same ∙ fit
 
 -- ---- the answer is that of the run
 
@@ -90,22 +91,22 @@ answers-as run ran steps more said is forth back = record {
     by (inr over) = inr (ap answer_of (back over).outcome ∙ is)
 
 translated-answers : (p : Plan) (method_bytes : ℕ) (source : Source) (given : List GivenFile) (bytes : List ℕ) (due : Due) (answer : CommandAnswer)
-    → IsDueOfTranslated p method_bytes source given (Some bytes) due → due.answer ≡ Some answer
+    → IsDueOfTranslated AreMade p method_bytes source given (Some bytes) due → due.answer ≡ Some answer
     → AnswersAs (program_for p source given (Some bytes) []) p.session.steps (allowed p source) answer.done
 translated-answers p method_bytes source given bytes due answer t is =
-    let ran = classes_for p source given t.translated.linked.classes (Some bytes) t.pieces (allowed p source) in
+    let ran = classes_for p source given t.translated.classes (Some bytes) t.pieces (allowed p source) in
     answers-as (program_for p source given (Some bytes) []) ran p.session.steps (allowed p source) answer.done
     (told-answer (answer_of ran.outcome) answer (sym (ap (λ (d : Due). d.answer) t.is) ∙ is)) t.as_program t.as_classes
 
 metered-answers : (p : Plan) (method_bytes turns : ℕ) (source : Source) (given : List GivenFile) (bytes : List ℕ) (due : Due) (answer : CommandAnswer)
-    → IsDueOfMetered p method_bytes turns source given (Some bytes) due → due.answer ≡ Some answer
+    → IsDueOfMetered AreMade p method_bytes turns source given (Some bytes) due → due.answer ≡ Some answer
     → answer_of (program_for p source given (Some bytes) [] turns).outcome ≡ Some answer.done
 metered-answers p method_bytes turns source given bytes due answer t is =
     told-answer (answer_of (program_for p source given (Some bytes) [] turns).outcome) answer (sym (ap (λ (d : Due). d.answer) t.is) ∙ is)
 
 -- with a meter or without one
 answers-by : (words : List Text) (moment : ℕ) (w : World) (g : GoesAhead words moment w) (meter : Option ℕ) (due : Due) (answer : CommandAnswer)
-    → IsDueOfTranslatedBy meter (plan g.name g.session moment) g.method_bytes (source_of g.pages g.file) g.given (Some g.bytes) due
+    → IsDueOfTranslatedBy AreMade meter (plan g.name g.session moment) g.method_bytes (source_of g.pages g.file) g.given (Some g.bytes) due
     → due.answer ≡ Some answer → AnswersFor g meter answer.done
 answers-by words moment w g None due answer t is =
     translated-answers (plan g.name g.session moment) g.method_bytes (source_of g.pages g.file) g.given g.bytes due answer t is
@@ -113,7 +114,7 @@ answers-by words moment w g (Some turns) due answer t is =
     metered-answers (plan g.name g.session moment) g.method_bytes turns (source_of g.pages g.file) g.given g.bytes due answer t is
 
 work-answers : (words : List Text) (moment : ℕ) (w : World) (g : GoesAhead words moment w) (due : Due) (answer : CommandAnswer)
-    → IsDueOfGo g.input g.pages g.method_bytes g.meter (plan g.name g.session moment) w due → due.answer ≡ Some answer
+    → IsDueOfGo AreMade g.input g.pages g.method_bytes g.meter (plan g.name g.session moment) w due → due.answer ≡ Some answer
     → AnswersFor g g.meter answer.done
 work-answers words moment w g due answer d is =
     let p : Plan = plan g.name g.session moment in
@@ -121,12 +122,12 @@ work-answers words moment w g due answer d is =
     let file : d.file ≡ Ok g.file = d.file_is ∙ file-passes w g.files g.input g.file w.shelf.told g.files_told d.files d.agree g.there in
     let passed : d.source ≡ Ok source = source-passes g.pages g.file d.file d.source file g.is_program g.has_image d.source_is in
     let found : d.found ≡ Ok g.given = found-passes p source g.files g.given d.source d.found w.shelf.told g.files_told d.with_files d.with_agree passed g.fit d.found_is in
-    let behind : IfOk d.found (λ given. IsDueOfTranslatedBy g.meter p g.method_bytes source given w.input.told due) =
-    subst (λ (c : Check Source). IfOk c (λ image. IfOk d.found (λ given. IsDueOfTranslatedBy g.meter p g.method_bytes image given w.input.told due))) passed
+    let behind : IfOk d.found (λ given. IsDueOfTranslatedBy AreMade g.meter p g.method_bytes source given w.input.told due) =
+    subst (λ (c : Check Source). IfOk c (λ image. IfOk d.found (λ given. IsDueOfTranslatedBy AreMade g.meter p g.method_bytes image given w.input.told due))) passed
     d.done in
-    let t : IsDueOfTranslatedBy g.meter p g.method_bytes source g.given w.input.told due =
-    subst (λ (c : Check (List GivenFile)). IfOk c (λ given. IsDueOfTranslatedBy g.meter p g.method_bytes source given w.input.told due)) found behind in
-    answers-by words moment w g g.meter due answer (subst (λ told. IsDueOfTranslatedBy g.meter p g.method_bytes source g.given told due) g.bytes_told t) is
+    let t : IsDueOfTranslatedBy AreMade g.meter p g.method_bytes source g.given w.input.told due =
+    subst (λ (c : Check (List GivenFile)). IfOk c (λ given. IsDueOfTranslatedBy AreMade g.meter p g.method_bytes source given w.input.told due)) found behind in
+    answers-by words moment w g g.meter due answer (subst (λ told. IsDueOfTranslatedBy AreMade g.meter p g.method_bytes source g.given told due) g.bytes_told t) is
 
 -- ---- no call failed
 
@@ -152,12 +153,12 @@ write-rose w v none (inr failed) = err-rose w v none failed
 abbrev Completes : {words : List Text} {moment : ℕ} {w : World} → GoesAhead words moment w → Done → Type 0
 Completes g said = (said ≡ done.NoMemory) ⊎ AnswersFor g g.meter said
 
-go-completes : (words : List Text) (moment : ℕ) (w v : World) (said : Done) (g : GoesAhead words moment w) → Does words moment w v said
+go-completes : (words : List Text) (moment : ℕ) (w v : World) (said : Done) (g : GoesAhead words moment w) → Does AreMade words moment w v said
     → NoCountRose w v → Completes g said
 go-completes words moment w v said g does none = by does.end refl (does.due _ g.means)
   where
     is : said ≡ (final does.end).done
-    is = not-told (line_of (final does.end).name (final does.end).done) does.worked.err v.err (final does.end).done said
+    is = not-told (answer_line (final does.end).name (final does.end).done) does.worked.err v.err (final does.end).done said
         (λ e. write-rose w v none (does.faults.write e)) does.line.3
 
     stopped : (stop : Stop) → said ≡ done_of_stop stop → Completes g said
@@ -167,7 +168,7 @@ go-completes words moment w v said g does none = by does.end refl (does.due _ g.
     stopped NoMemory e = inl e
 
     by : (end : Result CommandAnswer Stop) → does.end ≡ end
-        → Comes true (λ u due. IsDueOfGo g.input g.pages g.method_bytes g.meter (plan g.name g.session moment) u due) w does.worked end → Completes g said
+        → Comes true (λ u due. IsDueOfGo AreMade g.input g.pages g.method_bytes g.meter (plan g.name g.session moment) u due) w does.worked end → Completes g said
     by (Err stop) e comes = stopped stop (is ∙ ap (λ x. (final x).done) e)
     by (Ok answer) e (inl early) = absurd early
     by (Ok answer) e (inr work) = inr (subst (AnswersFor g g.meter) (sym (is ∙ ap (λ x. (final x).done) e))

@@ -1,7 +1,7 @@
 -- What an end says of the counts of faults.
 use Rattle.std.proofs.Common.{◌≡◌, ◌⊎◌, ℕ, suc, Bool, true, false, List, [], ◌∷◌, Result, Ok, Err, refl, sym, ap, subst, inl, inr, arith}
-use Rattle.nv_events.specs.declared.io_fault.IoFault.{IoFault}
-use Rattle.nv_events.specs.declared.io_fault.IoFault.TheVariants as io
+use Rattle.run_definition.specs.declared.io_fault.IoFault.{IoFault}
+use Rattle.run_definition.specs.declared.io_fault.IoFault.TheVariants as io
 use Rattle.nv_outside.specs.Faults.{CountsFailure}
 use Rattle.unix_calls.specs.Stages.{FailsCall, OneFailsBehind, Stage}
 use Rattle.command_deeds.specs.Deeds.{CountsStop, Deed, DoesAll, DoesDeed, StopsDeed, StopsIn, pipes, plays, prepares, prints, stores, tells}

@@ -2,27 +2,28 @@
 use Rattle.std.proofs.Common.{◌≡◌, ◌≢◌, ◌⊎◌, ℕ, Bool, true, false, List, [], ◌∷◌, ◌++◌, ◌&&◌, map, Option, Some, None, Result, Ok, Err, refl, sym, ◌∙◌, ap, subst, inl, inr, append_assoc}
 use Rattle.std.specs.List.{list_all}
 use Rattle.std.proofs.lemmas.Option.{same_Some}
-use Rattle.nv_events.specs.declared.io_fault.IoFault.{IoFault}
-use Rattle.nv_events.specs.declared.io_fault.IoFault.TheVariants as io
-use Rattle.nv_events.specs.Run.{Run}
-use Rattle.nv_events.specs.Turn.{Turn}
-use Rattle.unix_system.specs.System.{System}
-use Rattle.unix_files.specs.Files.{Files as GuestFiles, bytes_at, node_named}
+use Rattle.run_definition.specs.declared.io_fault.IoFault.{IoFault}
+use Rattle.run_definition.specs.declared.io_fault.IoFault.TheVariants as io
+use Rattle.run_definition.specs.Run.{Run}
+use Rattle.run_definition.specs.Turn.{Turn}
+use Rattle.unix_definition.specs.System.{System}
+use Rattle.unix_definition.specs.Files.{GuestFiles, bytes_at, node_named}
 use Rattle.unix_calls.specs.Stages.{ComesTo, LosesRead, Stage, stage_of}
-use Rattle.command_values.specs.Names.{Text}
+use Rattle.nv_values.specs.Names.{Text}
+use Rattle.nv_translate.specs.Made.{AreMade}
 use Rattle.command_words.specs.Meaning.{command_of}
 use Rattle.command_words.specs.declared.command.Command.{Command}
 use Rattle.command_words.specs.declared.command.Command.TheVariants as command
-use Rattle.mips_decode.specs.Step.{turn}
-use Rattle.elf_image.specs.Start.{Source, image_of}
-use Rattle.mips_machine.specs.Loading.{start_of}
-use Rattle.jvm_program.specs.Step.{Loaded, loaded, loaded_turn}
-use Rattle.jvm_link.specs.Linking.{program_of}
-use Rattle.program_translation.specs.declared.named_file.NamedFile.{NamedFile}
+use Rattle.mips_definition.specs.Step.{turn}
+use Rattle.elf_definition.specs.Start.{Source, image_of}
+use Rattle.elf_definition.specs.Loading.{start_of}
+use Rattle.jvm_definition.specs.Step.{Loaded, loaded_program, loaded_turn}
+use Rattle.class_definition.specs.Linking.{program_of}
+use Rattle.translate_program.specs.declared.named_file.NamedFile.{NamedFile}
 use Rattle.command_deeds.specs.Deeds.{Deed, DoesDeed, StopsDeed, StopsIn, pipes, plays, prepares, prints, stores, tells}
 use Rattle.command_deeds.specs.Ends.{CommandAnswer, Comes, Due, StopsEarly, answers, done_of_stop, final, is_stop}
-use Rattle.command_deeds.specs.Line.{line_of}
-use Rattle.command_deeds.specs.Runs.{GivenFile, Plan, found_for, keeps, kept, run_for, session_run}
+use Rattle.command_deeds.specs.Line.{answer_line}
+use Rattle.command_deeds.specs.Runs.{GivenFile, Plan, found_for, keeping, kept, run_for, session_run}
 use Rattle.command_deeds.specs.Stops.{stop_of}
 use Rattle.command_deeds.specs.World.{OnlyShelf, Seen, Takes, World, streams_of}
 use Rattle.command_deeds.specs.declared.done.Done.{Done}
@@ -32,8 +33,8 @@ use Rattle.command_deeds.specs.declared.stop.Stop.TheVariants.{ReadFault, WriteF
 use Rattle.command_translate.specs.Go.{IsDueOfTranslated, IsDueOfTranslatedBy, allowed}
 use Rattle.command_translate.specs.Metered.{IsDueOfMetered, allowed_by_meter}
 use Rattle.command_translate.specs.Runs.{classes_for, program_for}
-use Rattle.command_translate.specs.Stores.{stored}
-use Rattle.nested_cli.specs.Commands.{Does, IsDueOf, loads, plan}
+use Rattle.command_translate.specs.Stores.{files_stored}
+use Rattle.nested_cli.specs.Commands.{Does, IsDueOf, loads_files, plan}
 use Rattle.nested_cli.specs.Laws.{RanWhole, RunsTakeNoMemory, kept_by}
 use Rattle.nested_cli.proofs.CheckLemmas.{checked-twice, not-told}
 
@@ -92,7 +93,7 @@ all-stop (deed ∷ deeds) w v stop h (inr stops) =
     only-then w stops.0 v (quiet-does deed w stops.0 quiet.0 stops.1) (all-stop deeds stops.0 v stop quiet.1 stops.2)
 
 keep-quiet : (files : GuestFiles) (name : Text) (node : Option ℕ) (deeds : List Deed) → list_all is_quiet deeds ≡ true
-    → list_all is_quiet (keeps files name node ++ deeds) ≡ true
+    → list_all is_quiet (keeping files name node ++ deeds) ≡ true
 keep-quiet files name None deeds h = h
 keep-quiet files name (Some n) deeds h = h
 
@@ -100,7 +101,7 @@ kept-quiet : (files : GuestFiles) (names : List Text) → list_all is_quiet (kep
 kept-quiet files [] = refl
 kept-quiet files (name ∷ names) = keep-quiet files name (node_named files name) (kept files names) (kept-quiet files names)
 
-stored-quiet : (files : List NamedFile) → list_all is_quiet (stored files ++ prepares ∷ []) ≡ true
+stored-quiet : (files : List NamedFile) → list_all is_quiet (files_stored files ++ prepares ∷ []) ≡ true
 stored-quiet [] = refl
 stored-quiet (file ∷ files) = stored-quiet files
 
@@ -133,45 +134,45 @@ running turn s plan given input pieces due is = inr (record {
 })
 
 translated : (plan : Plan) (method_bytes : ℕ) (due : Due) (input : Option (List ℕ)) (source : Source) (given : List GivenFile)
-    → IsDueOfTranslated plan method_bytes source given input due → RunsOnceAtMost due plan.session.keep.names
+    → IsDueOfTranslated AreMade plan method_bytes source given input due → RunsOnceAtMost due plan.session.keep.names
 translated plan method_bytes due input source given t =
-    let run : ℕ → Run Loaded System = λ n. classes_for plan source given t.translated.linked.classes input t.pieces n in
+    let run : ℕ → Run Loaded System = λ n. classes_for plan source given t.translated.classes input t.pieces n in
     let rear : List Deed = plays (allowed plan source) (λ n. stage_of loaded_turn (run n)) ∷ kept (run (allowed plan source)).system.files plan.session.keep.names in
     inr (record {
-      front = stored t.built.files.items ++ prepares ∷ [];
-      quiet = stored-quiet t.built.files.items;
+      front = files_stored t.files ++ prepares ∷ [];
+      quiet = stored-quiet t.files;
       turns = allowed plan source;
       stage = λ n. stage_of loaded_turn (run n);
       files = (run (allowed plan source)).system.files;
-      is = ap (λ (d : Due). d.deeds) t.is ∙ sym (append_assoc (stored t.built.files.items) (prepares ∷ []) rear);
+      is = ap (λ (d : Due). d.deeds) t.is ∙ sym (append_assoc (files_stored t.files) (prepares ∷ []) rear);
     })
 
 metered : (plan : Plan) (method_bytes turns : ℕ) (due : Due) (input : Option (List ℕ)) (source : Source) (given : List GivenFile)
-    → IsDueOfMetered plan method_bytes turns source given input due → RunsOnceAtMost due plan.session.keep.names
+    → IsDueOfMetered AreMade plan method_bytes turns source given input due → RunsOnceAtMost due plan.session.keep.names
 metered plan method_bytes turns due input source given t =
-    let run : ℕ → Run Loaded System = λ n. classes_for plan source given t.translated.linked.classes input t.pieces n in
+    let run : ℕ → Run Loaded System = λ n. classes_for plan source given t.translated.classes input t.pieces n in
     let files : GuestFiles = (program_for plan source given input t.pieces turns).system.files in
     let rear : List Deed = plays (allowed_by_meter turns source) (λ n. stage_of loaded_turn (run n)) ∷ kept files plan.session.keep.names in
     inr (record {
-      front = stored t.built.files.items ++ prepares ∷ [];
-      quiet = stored-quiet t.built.files.items;
+      front = files_stored t.files ++ prepares ∷ [];
+      quiet = stored-quiet t.files;
       turns = allowed_by_meter turns source;
       stage = λ n. stage_of loaded_turn (run n);
       files = files;
-      is = ap (λ (d : Due). d.deeds) t.is ∙ sym (append_assoc (stored t.built.files.items) (prepares ∷ []) rear);
+      is = ap (λ (d : Due). d.deeds) t.is ∙ sym (append_assoc (files_stored t.files) (prepares ∷ []) rear);
     })
 
 translated-by : (meter : Option ℕ) (plan : Plan) (method_bytes : ℕ) (due : Due) (input : Option (List ℕ)) (source : Source) (given : List GivenFile)
-    → IsDueOfTranslatedBy meter plan method_bytes source given input due → RunsOnceAtMost due plan.session.keep.names
+    → IsDueOfTranslatedBy AreMade meter plan method_bytes source given input due → RunsOnceAtMost due plan.session.keep.names
 translated-by None plan method_bytes due input source given t = translated plan method_bytes due input source given t
 translated-by (Some turns) plan method_bytes due input source given t = metered plan method_bytes turns due input source given t
 
-runs-once : (c : Command) (moment : ℕ) (w : World) (due : Due) (names : List Text) → kept_by c ≡ Some names → IsDueOf c moment w due
+runs-once : (c : Command) (moment : ℕ) (w : World) (due : Due) (names : List Text) → kept_by c ≡ Some names → IsDueOf AreMade c moment w due
     → RunsOnceAtMost due names
 runs-once (command.Go input name pages method_bytes meter session) moment w due names is d =
     subst (RunsOnceAtMost due) (same_Some session.keep.names names is)
     (checked-twice (RunsOnceAtMost due session.keep.names)
-    (λ image given. IsDueOfTranslatedBy meter (plan name session moment) method_bytes image given w.input.told due) due d.source d.found
+    (λ image given. IsDueOfTranslatedBy AreMade meter (plan name session moment) method_bytes image given w.input.told due) due d.source d.found
     (λ image. found_for (plan name session moment) d.with_files) (refusing due session.keep.names) d.found_is d.refused d.done
     (translated-by meter (plan name session moment) method_bytes due w.input.told))
 runs-once (command.Interp input name pages session) moment w due names is d =
@@ -185,9 +186,9 @@ runs-once (command.Run class words session) moment w due names is d =
     let made : Plan = plan class.name session moment in
     subst (RunsOnceAtMost due) (same_Some session.keep.names names is)
     (checked-twice (RunsOnceAtMost due session.keep.names)
-    (λ accepted given. due ≡ session_run loaded_turn (loaded (program_of accepted) words) made given w.input.told d.pieces) due d.classes d.found
+    (λ accepted given. due ≡ session_run loaded_turn (loaded_program (program_of accepted) words) made given w.input.told d.pieces) due d.classes d.found
     (λ accepted. found_for made d.with_files) (refusing due session.keep.names) d.found_is d.refused d.done
-    (λ accepted given. running loaded_turn (loaded (program_of accepted) words) made given w.input.told d.pieces due))
+    (λ accepted given. running loaded_turn (loaded_program (program_of accepted) words) made given w.input.told d.pieces due))
 runs-once (command.Translate input name pages method_bytes meter) moment w due names is d = cc
 runs-once (command.Verify class) moment w due names is d = cc
 runs-once (command.Frames class) moment w due names is d = cc
@@ -267,15 +268,15 @@ abbrev SparesBy : Command → ℕ → List Text → World → World → Type 0
 SparesBy c moment names w v = ((v.input ≡ w.input) × (v.out ≡ w.out)) ⊎ ((names ≢ []) × RanWhole c moment w v)
 
 work-spares : (c : Command) (moment : ℕ) (names : List Text) (w u : World) (end : Result CommandAnswer Stop) → kept_by c ≡ Some names
-    → Comes (loads c) (IsDueOf c moment) w u end → done.NoMemory ≡ (final end).done → SparesBy c moment names w u
+    → Comes (loads_files c) (IsDueOf AreMade c moment) w u end → done.NoMemory ≡ (final end).done → SparesBy c moment names w u
 work-spares c moment names w u (Ok answer) keeps (inl p) is = absurd p
 work-spares c moment names w u (Ok answer) keeps (inr p) is =
     let both : false ≡ true = sym p.2.1 ∙ sym (ap is_stop is) in
     cc
 work-spares c moment names w u (Err stop) keeps comes is =
-    by (subst (λ s. Comes (loads c) (IsDueOf c moment) w u (Err s)) (no-memory-stop stop is) comes)
+    by (subst (λ s. Comes (loads_files c) (IsDueOf AreMade c moment) w u (Err s)) (no-memory-stop stop is) comes)
   where
-    whole : (due : Due) → IsDueOf c moment w due → Spares due names w u → SparesBy c moment names w u
+    whole : (due : Due) → IsDueOf AreMade c moment w due → Spares due names w u → SparesBy c moment names w u
     whole due d (inl same) = inl same
     whole due d (inr played) = inr (
       played.0,
@@ -292,9 +293,9 @@ work-spares c moment names w u (Err stop) keeps comes is =
       },
     )
 
-    by : Comes (loads c) (IsDueOf c moment) w u (Err NoMemory) → SparesBy c moment names w u
+    by : Comes (loads_files c) (IsDueOf AreMade c moment) w u (Err NoMemory) → SparesBy c moment names w u
     by (inl p) =
-        let only : OnlyShelf w u = early (loads c) w u p in
+        let only : OnlyShelf w u = early (loads_files c) w u p in
         inl (only.0, only.1)
     by (inr p) = whole p.0 p.1 (stopped p.0 names w u (runs-once c moment w p.0 names keeps p.1) p.2)
 
@@ -319,6 +320,6 @@ behind-line c moment names w u v input out (inr ran) = inr (
 
 pub no-memory-in-runs : RunsTakeNoMemory
 no-memory-in-runs words moment w v c names means keeps does =
-    let is : done.NoMemory ≡ (final does.end).done = not-told (line_of (final does.end).name (final does.end).done) does.worked.err v.err (final does.end).done done.NoMemory (λ e. cc) does.line.3 in
+    let is : done.NoMemory ≡ (final does.end).done = not-told (answer_line (final does.end).name (final does.end).done) does.worked.err v.err (final does.end).done done.NoMemory (λ e. cc) does.line.3 in
     behind-line c moment names w does.worked v does.line.1 does.line.2
     (work-spares c moment names w does.worked does.end keeps (does.due c means) is)

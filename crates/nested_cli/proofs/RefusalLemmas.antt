@@ -1,10 +1,11 @@
 -- That what refuses leaves all as it was.
 use Rattle.std.proofs.Common.{◌≡◌, ℕ, Bool, true, false, List, [], ◌∷◌, ◌++◌, Option, Some, None, option_map, length, Result, Ok, Err, IfErr, IfOk, refl, sym, ◌∙◌, ap, subst, inl, inr}
 use Rattle.std.proofs.lemmas.Option.{same_Some}
-use Rattle.nv_events.specs.Run.{Run}
-use Rattle.nv_events.specs.declared.outcome.Outcome.{Outcome}
-use Rattle.nv_events.specs.declared.outcome.Outcome.TheVariants.{Exited, Faulted, Trapped, Waiting, Going}
-use Rattle.command_values.specs.Names.{Text}
+use Rattle.run_definition.specs.Run.{Run}
+use Rattle.run_definition.specs.declared.outcome.Outcome.{Outcome}
+use Rattle.run_definition.specs.declared.outcome.Outcome.TheVariants.{Exited, Faulted, Trapped, Waiting, Going}
+use Rattle.nv_values.specs.Names.{Text}
+use Rattle.nv_translate.specs.Made.{AreMade}
 use Rattle.command_words.specs.Meaning.{command_of}
 use Rattle.command_words.specs.declared.command.Command.{Command}
 use Rattle.command_words.specs.declared.command.Command.TheVariants as command
@@ -12,20 +13,20 @@ use Rattle.command_words.specs.declared.named.Named.{Named}
 use Rattle.command_words.specs.declared.named_class.NamedClass.{NamedClass}
 use Rattle.command_words.specs.declared.pages.Pages.{Pages}
 use Rattle.command_forms.specs.declared.usage.Usage.{Usage}
-use Rattle.mips_decode.specs.Step.{turn}
-use Rattle.unix_system.specs.System.{System}
-use Rattle.pipe_laws.specs.Pipelines.{Pipeline}
-use Rattle.pipe_laws.specs.Alone.{run_alone_of}
+use Rattle.mips_definition.specs.Step.{turn}
+use Rattle.unix_definition.specs.System.{System}
+use Rattle.unix_pipe_laws.specs.Pipelines.{Pipeline}
+use Rattle.unix_pipe_laws.specs.Alone.{run_alone_of}
 use Rattle.pipe_net.specs.Histories.{first_run_over}
-use Rattle.elf_image.specs.Start.{Source, image_of}
-use Rattle.mips_machine.specs.Loading.{start_of}
-use Rattle.jvm_program.specs.Step.{Loaded, loaded, loaded_turn}
-use Rattle.jvm_link.specs.Linking.{program_of}
+use Rattle.elf_definition.specs.Start.{Source, image_of}
+use Rattle.elf_definition.specs.Loading.{start_of}
+use Rattle.jvm_definition.specs.Step.{Loaded, loaded_program, loaded_turn}
+use Rattle.class_definition.specs.Linking.{program_of}
 use Rattle.command_deeds.proofs.DeedLemmas.{same_then_shelf}
 use Rattle.command_deeds.specs.Checks.{Check}
 use Rattle.command_deeds.specs.Deeds.{Deed, DoesAll}
 use Rattle.command_deeds.specs.Ends.{CommandAnswer, Comes, Due, answers, done_of_stop, final, says}
-use Rattle.command_deeds.specs.Line.{line_of}
+use Rattle.command_deeds.specs.Line.{answer_line}
 use Rattle.command_deeds.specs.Runs.{GivenFile, Plan, answer_of, found_for, run_for, session_run}
 use Rattle.command_deeds.specs.World.{SameShelf, Seen, Stays, World}
 use Rattle.command_deeds.specs.declared.done.Done.{Done}
@@ -37,7 +38,7 @@ use Rattle.command_guest.specs.Classes as classes
 use Rattle.command_guest.specs.Interp.{IsDueOfInterp}
 use Rattle.command_guest.specs.Listing.{IsDueOfList, listed}
 use Rattle.command_frames.specs.Frames as frames
-use Rattle.command_link.specs.Linking.{linked}
+use Rattle.command_link.specs.Linking.{linked_and_told}
 use Rattle.command_pipe.specs.Pipe.{IsDueOfPipe, each, ended_so, of_stages, piped, pipeline_for}
 use Rattle.command_pipe.specs.declared.launch.PipeLaunch.{PipeLaunch}
 use Rattle.command_translate.specs.Go.{IsDueOfGo, IsDueOfTranslated, IsDueOfTranslatedBy, allowed}
@@ -45,7 +46,7 @@ use Rattle.command_translate.specs.Make.{IsDueOfMake, told}
 use Rattle.command_translate.specs.Metered.{IsDueOfMetered}
 use Rattle.command_translate.specs.Runs.{classes_for, program_for}
 use Rattle.command_translate.specs.Translate.{IsDueOfImageBy, IsDueOfTranslate}
-use Rattle.nested_cli.specs.Commands.{Does, IsDueOf, loads, plan, pipe_launch}
+use Rattle.nested_cli.specs.Commands.{Does, IsDueOf, loads_files, plan, pipe_launch}
 use Rattle.nested_cli.specs.Laws.{RefusalsLeaveAll, is_refusal}
 use Rattle.nested_cli.specs.Usage.{Misuses}
 use Rattle.nested_cli.proofs.CheckLemmas.{checked, checked-twice, not-told, passing}
@@ -89,22 +90,22 @@ running : (due : Due) (outcome : Outcome) → due.answer ≡ option_map says (an
 running due outcome is answer e h = not-both (is_refusal answer.done) (run-accepts outcome answer (sym is ∙ e)) h
 
 translated : (plan : Plan) (method_bytes : ℕ) (due : Due) (input : Option (List ℕ)) (source : Source) (given : List GivenFile)
-    → IsDueOfTranslated plan method_bytes source given input due → LeavesAll due
+    → IsDueOfTranslated AreMade plan method_bytes source given input due → LeavesAll due
 translated plan method_bytes due input source given t =
-    running due (classes_for plan source given t.translated.linked.classes input t.pieces (allowed plan source)).outcome (ap (λ (d : Due). d.answer) t.is)
+    running due (classes_for plan source given t.translated.classes input t.pieces (allowed plan source)).outcome (ap (λ (d : Due). d.answer) t.is)
 
 metered : (plan : Plan) (method_bytes turns : ℕ) (due : Due) (input : Option (List ℕ)) (source : Source) (given : List GivenFile)
-    → IsDueOfMetered plan method_bytes turns source given input due → LeavesAll due
+    → IsDueOfMetered AreMade plan method_bytes turns source given input due → LeavesAll due
 metered plan method_bytes turns due input source given t =
     running due (program_for plan source given input t.pieces turns).outcome (ap (λ (d : Due). d.answer) t.is)
 
 translated-by : (meter : Option ℕ) (plan : Plan) (method_bytes : ℕ) (due : Due) (input : Option (List ℕ)) (source : Source) (given : List GivenFile)
-    → IsDueOfTranslatedBy meter plan method_bytes source given input due → LeavesAll due
+    → IsDueOfTranslatedBy AreMade meter plan method_bytes source given input due → LeavesAll due
 translated-by None plan method_bytes due input source given t = translated plan method_bytes due input source given t
 translated-by (Some turns) plan method_bytes due input source given t = metered plan method_bytes turns due input source given t
 
 -- a translation is stored and counted, with a meter or without one
-imaged : (meter : Option ℕ) (name : Text) (method_bytes : ℕ) (due : Due) (source : Source) → IsDueOfImageBy meter source name method_bytes due → LeavesAll due
+imaged : (meter : Option ℕ) (name : Text) (method_bytes : ℕ) (due : Due) (source : Source) → IsDueOfImageBy AreMade meter source name method_bytes due → LeavesAll due
 imaged None name method_bytes due source t = accepting due done.Good (ap (λ (e : Due). e.answer) t.is) refl
 imaged (Some turns) name method_bytes due source t = accepting due done.Good (ap (λ (e : Due). e.answer) t.is) refl
 
@@ -114,9 +115,9 @@ due-answer due other is = ap (λ (d : Due). d.answer) is
 -- ---- command by command
 
 go-leaves : (input : Named) (pages : Pages) (method_bytes : ℕ) (meter : Option ℕ) (plan : Plan) (w : World) (due : Due)
-    → IsDueOfGo input pages method_bytes meter plan w due → LeavesAll due
+    → IsDueOfGo AreMade input pages method_bytes meter plan w due → LeavesAll due
 go-leaves input pages method_bytes meter plan w due d =
-    checked-twice (LeavesAll due) (λ image given. IsDueOfTranslatedBy meter plan method_bytes image given w.input.told due) due d.source d.found
+    checked-twice (LeavesAll due) (λ image given. IsDueOfTranslatedBy AreMade meter plan method_bytes image given w.input.told due) due d.source d.found
     (λ image. found_for plan d.with_files) (refusing due) d.found_is d.refused d.done (translated-by meter plan method_bytes due w.input.told)
 
 interp-leaves : (input : Named) (pages : Pages) (plan : Plan) (w : World) (due : Due) → IsDueOfInterp input pages plan w due → LeavesAll due
@@ -128,11 +129,11 @@ interp-leaves input pages plan w due d =
 
 run-leaves : (class : NamedClass) (words : ℕ) (plan : Plan) (w : World) (due : Due) → classes.IsDueOfRun class words plan w due → LeavesAll due
 run-leaves class words plan w due d =
-    checked-twice (LeavesAll due) (λ accepted given. due ≡ session_run loaded_turn (loaded (program_of accepted) words) plan given w.input.told d.pieces)
+    checked-twice (LeavesAll due) (λ accepted given. due ≡ session_run loaded_turn (loaded_program (program_of accepted) words) plan given w.input.told d.pieces)
     due d.classes d.found (λ accepted. found_for plan d.with_files) (refusing due) d.found_is d.refused d.done
     (λ accepted given is. running due
-    (run_for plan.session.steps loaded_turn (loaded (program_of accepted) words) plan given w.input.told d.pieces).outcome
-    (due-answer due (session_run loaded_turn (loaded (program_of accepted) words) plan given w.input.told d.pieces) is))
+    (run_for plan.session.steps loaded_turn (loaded_program (program_of accepted) words) plan given w.input.told d.pieces).outcome
+    (due-answer due (session_run loaded_turn (loaded_program (program_of accepted) words) plan given w.input.told d.pieces) is))
 
 good : (due other : Due) → other.answer ≡ Some (says done.Good) → due ≡ other → LeavesAll due
 good due other answer is = accepting due done.Good (due-answer due other is ∙ answer) refl
@@ -144,9 +145,9 @@ checked-good due other check answer refused done =
     checked (LeavesAll due) due check (refusing due) refused (passing (λ a. due ≡ other a) (λ a. LeavesAll due) check (λ a is. good due (other a) (answer a) is) done)
 
 translate-leaves : (input : Named) (name : Text) (pages : Pages) (method_bytes : ℕ) (meter : Option ℕ) (w : World) (due : Due)
-    → IsDueOfTranslate input name pages method_bytes meter w due → LeavesAll due
+    → IsDueOfTranslate AreMade input name pages method_bytes meter w due → LeavesAll due
 translate-leaves input name pages method_bytes meter w due d =
-    checked (LeavesAll due) due d.source (refusing due) d.refused (passing (λ image. IsDueOfImageBy meter image name method_bytes due) (λ image. LeavesAll due)
+    checked (LeavesAll due) due d.source (refusing due) d.refused (passing (λ image. IsDueOfImageBy AreMade meter image name method_bytes due) (λ image. LeavesAll due)
     d.source (imaged meter name method_bytes due) d.done)
 
 -- where all stages of a pipeline ended
@@ -162,7 +163,7 @@ pipe-leaves stages launch w due d =
     let p : Pipeline Loaded = pipeline_for launch stages sets w.input.told in
     staged due (length stages) (run_alone_of p (first_run_over p w.input.told d.pieces)) is) d.done)
 
-leaves : (c : Command) (moment : ℕ) (w : World) (due : Due) → IsDueOf c moment w due → LeavesAll due
+leaves : (c : Command) (moment : ℕ) (w : World) (due : Due) → IsDueOf AreMade c moment w due → LeavesAll due
 leaves (command.Go input name pages method_bytes meter session) moment w due d =
     go-leaves input pages method_bytes meter (plan name session moment) w due d
 leaves (command.Translate input name pages method_bytes meter) moment w due d = translate-leaves input name pages method_bytes meter w due d
@@ -171,17 +172,17 @@ leaves (command.Asm input output) moment w due d = checked-good due (assembled o
 leaves (command.List input) moment w due d =
     checked-good due (λ image. listed (image_of image).code d.runs) d.source (λ image. refl) d.refused d.done
 leaves (command.Run class words session) moment w due d = run-leaves class words (plan class.name session moment) w due d
-leaves (command.Verify class) moment w due d = checked-good due classes.counted d.classes (λ accepted. refl) d.refused d.done
-leaves (command.Frames class) moment w due d = checked-good due frames.counted d.deeds (λ stored. refl) d.refused d.done
-leaves (command.Check class) moment w due d = checked-good due classes.counted d.classes (λ accepted. refl) d.refused d.done
+leaves (command.Verify class) moment w due d = checked-good due classes.classes_counted d.classes (λ accepted. refl) d.refused d.done
+leaves (command.Frames class) moment w due d = checked-good due frames.stored_and_counted d.deeds (λ stored. refl) d.refused d.done
+leaves (command.Check class) moment w due d = checked-good due classes.classes_counted d.classes (λ accepted. refl) d.refused d.done
 leaves (command.Pipe stages words steps disk pipe) moment w due d =
     pipe-leaves stages (pipe_launch words steps disk pipe moment) w due d
-leaves (command.Link output inputs entry) moment w due d = checked-good due (linked output) d.program (λ bytes. refl) d.refused d.done
+leaves (command.Link output inputs entry) moment w due d = checked-good due (linked_and_told output) d.program (λ bytes. refl) d.refused d.done
 leaves (command.Make count method_bytes) moment w due d = good due (told count d.status d.status) refl d.done
 
 -- ---- the work, and the line behind it
 
-work-stays : (c : Command) (moment : ℕ) (w u : World) (end : Result CommandAnswer Stop) → Comes (loads c) (IsDueOf c moment) w u end
+work-stays : (c : Command) (moment : ℕ) (w u : World) (end : Result CommandAnswer Stop) → Comes (loads_files c) (IsDueOf AreMade c moment) w u end
     → is_refusal (final end).done ≡ true → Stays w u
 work-stays c moment w u (Err stop) comes h = not-both (is_refusal (done_of_stop stop)) (stop-accepts stop) h
 work-stays c moment w u (Ok answer) (inl early) h = absurd early
@@ -201,7 +202,7 @@ refusals-leave words moment w v said does refusal = by (command_of words) refl
         cc
 
     is : said ≡ (final does.end).done
-    is = not-told (line_of (final does.end).name (final does.end).done) does.worked.err v.err (final does.end).done said no-fault does.line.3
+    is = not-told (answer_line (final does.end).name (final does.end).done) does.worked.err v.err (final does.end).done said no-fault does.line.3
 
     stayed : Stays w does.worked → SameShelf w.shelf v.shelf × (v.input ≡ w.input) × (v.out ≡ w.out)
     stayed stays = (same_then_shelf w.shelf does.worked.shelf v.shelf stays.0 does.line.0, does.line.1 ∙ stays.1.0, does.line.2 ∙ stays.1.1)

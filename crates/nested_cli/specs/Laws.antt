@@ -1,22 +1,22 @@
 -- What follows of every call of the program, for those who rely on it.
 use Rattle.std.specs.Prelude.{◌≡◌, ◌≢◌, ◌⊎◌, ◌++◌, ◌∷◌, ◌<◌, ◌-◌, ◌^◌, ℕ, Bool, true, false, List, [], Option, Some, None, Ok}
 use Rattle.nv_outside.specs.Files.{Files}
-use Rattle.nv_events.specs.Run.{Run}
-use Rattle.nv_events.specs.declared.outcome.Outcome.TheVariants.{Going}
-use Rattle.command_values.specs.Names.{Text}
+use Rattle.run_definition.specs.Run.{Run}
+use Rattle.run_definition.specs.declared.outcome.Outcome.TheVariants.{Going}
+use Rattle.nv_values.specs.Names.{Text}
 use Rattle.command_words.specs.Meaning.{command_of}
 use Rattle.command_words.specs.declared.command.Command.{Command}
 use Rattle.command_words.specs.declared.command.Command.TheVariants as command
 use Rattle.command_words.specs.declared.named.Named.{Named}
 use Rattle.command_words.specs.declared.pages.Pages.{Pages}
 use Rattle.command_words.specs.declared.session.Session.{Session}
-use Rattle.mips_decode.specs.State.{State}
-use Rattle.elf_reader.specs.Area.{area}
-use Rattle.elf_reader.specs.Fault.{elf_fault, IsRunsOf}
-use Rattle.elf_reader.specs.declared.range.Range.{Range}
-use Rattle.elf_image.specs.Refusals.{image_fault}
-use Rattle.elf_image.specs.Start.{Source}
-use Rattle.unix_system.specs.System.{System}
+use Rattle.mips_definition.specs.State.{State}
+use Rattle.elf_definition.specs.Area.{area}
+use Rattle.elf_definition.specs.Fault.{elf_fault, IsRunsOf}
+use Rattle.elf_definition.specs.declared.range.Range.{Range}
+use Rattle.elf_definition.specs.ImageFault.{image_fault}
+use Rattle.elf_definition.specs.Start.{Source}
+use Rattle.unix_definition.specs.System.{System}
 use Rattle.unix_calls.specs.Stages.{LosesRead, Stage}
 use Rattle.command_deeds.specs.Deeds.{Deed, plays}
 use Rattle.command_deeds.specs.Ends.{Due}
@@ -27,6 +27,7 @@ use Rattle.command_deeds.specs.declared.done.Done.TheVariants as done
 use Rattle.command_guest.specs.Imaging.{source_of}
 use Rattle.command_translate.specs.Go.{allowed}
 use Rattle.command_translate.specs.Runs.{program_for}
+use Rattle.nv_translate.specs.Made.{AreMade}
 use Rattle.nested_cli.specs.Commands.{Does, IsDueOf, plan}
 
 -- ---- refusals
@@ -61,7 +62,7 @@ is_refusal done.NoMemory = false
 -- What refuses does so before anything is stored, read or written, but for the answer's line.
 abbrev pub RefusalsLeaveAll : Type 0
 RefusalsLeaveAll = (words : List Text) (moment : ℕ) (w v : World) (said : Done)
-    → Does words moment w v said → is_refusal said ≡ true
+    → Does AreMade words moment w v said → is_refusal said ≡ true
     → SameShelf w.shelf v.shelf × (v.input ≡ w.input) × (v.out ≡ w.out)
 
 -- ---- `go` is complete
@@ -133,7 +134,7 @@ pub record NoCountRose (w v : World) : Type 0 where
 -- if memory does not run out.
 abbrev pub GoIsComplete : Type 0
 GoIsComplete = (words : List Text) (moment : ℕ) (w v : World) (said : Done)
-    (g : GoesAhead words moment w) → Does words moment w v said → NoCountRose w v
+    (g : GoesAhead words moment w) → Does AreMade words moment w v said → NoCountRose w v
     → (said ≡ done.NoMemory) ⊎ AnswersFor g g.meter said
 
 -- ---- a run takes no memory
@@ -156,7 +157,7 @@ kept_by (command.Pipe classes words steps disk pipe) = None
 -- The whole run of a command was made: input lost what it read, and output took what it wrote.
 pub record RanWhole (c : Command) (moment : ℕ) (w v : World) : Type 0 where
   pub due : Due
-  pub is_due : IsDueOf c moment w due
+  pub is_due : IsDueOf AreMade c moment w due
   -- the run is among its deeds
   pub turns : ℕ
   pub stage : ℕ → Stage
@@ -172,5 +173,5 @@ pub record RanWhole (c : Command) (moment : ℕ) (w v : World) : Type 0 where
 abbrev pub RunsTakeNoMemory : Type 0
 RunsTakeNoMemory = (words : List Text) (moment : ℕ) (w v : World) (c : Command)
     (names : List Text) → command_of words ≡ Ok c → kept_by c ≡ Some names
-    → Does words moment w v done.NoMemory
+    → Does AreMade words moment w v done.NoMemory
     → ((v.input ≡ w.input) × (v.out ≡ w.out)) ⊎ ((names ≢ []) × RanWhole c moment w v)

@@ -7,8 +7,8 @@ pub fn refusals_leave_all()
     ensures { RefusalsLeaveAll }
 {}
 
-/// Where the program's file is there and passes its checks, arguments and files fit, and no call of the outside fails, `go` answers as
-/// the program itself ends on the reference machine: it exits and faults only where that does, and its steps are spent only where that
+/// If the program's file is there and passes its checks, arguments and files fit, and no call of the outside fails, `go` answers as
+/// the program itself ends on the reference machine: it exits and faults only if that does, and its steps are spent only if that
 /// has not ended within as many; with `--meter` they are spent exactly there. Or memory runs out.
 pub fn go_is_complete()
     ensures { GoIsComplete }

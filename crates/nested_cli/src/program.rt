@@ -1,13 +1,14 @@
 ghost use Rattle.std.specs.Prelude.{◌≡◌, Err, Ok};
+ghost use Rattle.nv_translate.specs.Made.{AreMade};
 ghost use Rattle.command_words.specs.Limits.{IsWithinLimits};
 ghost use Rattle.command_words.specs.Meaning.{command_of};
 ghost use Rattle.command_forms.specs.Word.{texts};
 ghost use Rattle.command_words.specs.declared.command.Command as meant;
 ghost use Rattle.command_forms.specs.declared.usage.Usage as misuse;
 ghost use Rattle.command_deeds.specs.Ends.{Comes, ended, final};
-ghost use Rattle.command_deeds.specs.Line.{line_of};
+ghost use Rattle.command_deeds.specs.Line.{answer_line};
 ghost use Rattle.command_deeds.specs.World.{SameParts, input_seen, output_seen, seen, shelf_seen, world};
-ghost use Rattle.nested_cli.specs.Commands.{Does, IsDueOf, loads};
+ghost use Rattle.nested_cli.specs.Commands.{Does, IsDueOf, loads_files};
 ghost use Rattle.nested_cli.specs.Line.{Tells};
 ghost use Rattle.nested_cli.specs.Usage.{Misuses};
 
@@ -42,7 +43,7 @@ pub fn nested<H: Shelf, S: Source, O: Sink, E: Sink>(
     out: &mut O,
     err: &mut E,
 ) -> Done
-    ensures does { Does (texts words.now) moment
+    ensures does { Does AreMade (texts words.now) moment
         (world (shelf_seen H.Shelf shelf.old) (input_seen S.Source input.old)
         (output_seen O.Sink out.old) (output_seen E.Sink err.old))
         (world (shelf_seen H.Shelf shelf.new) (input_seen S.Source input.new)
@@ -60,7 +61,7 @@ fn call<H: Shelf, S: Source, O: Sink, E: Sink>(
     outside: &mut Outside<'_, H, S, O, E>,
 ) -> Done
     ensures same { SameParts outside.old outside.new }
-    ensures does { Does (texts words.now) moment (seen H.Shelf S.Source O.Sink E.Sink outside.old)
+    ensures does { Does AreMade (texts words.now) moment (seen H.Shelf S.Source O.Sink E.Sink outside.old)
         (seen H.Shelf S.Source O.Sink E.Sink outside.new) result }
 {
     let end = perform(alloc, words, moment, outside);
@@ -81,7 +82,7 @@ fn answer_of(end: &Result<Done, Ending>) -> (Done, &str)
 
 /// Writes the line of an answer, and gives the answer. `name` is the name that was asked for where there is no such file.
 fn tell<E: Sink>(err: &mut E, name: &str, done: Done) -> Done
-    ensures tells { Tells (line_of name.now done) (output_seen E.Sink err.old)
+    ensures tells { Tells (answer_line name.now done) (output_seen E.Sink err.old)
         (output_seen E.Sink err.new) done result }
 {
     match write_line(err, name, &done) {
@@ -102,7 +103,7 @@ fn perform<H: Shelf, S: Source, O: Sink, E: Sink>(
         → Misuses u (seen H.Shelf S.Source O.Sink E.Sink outside.old)
         (seen H.Shelf S.Source O.Sink E.Sink outside.new) (ended result) }
     ensures due { (c : meant.Command) → command_of (texts words.now) ≡ Ok c
-        → Comes (loads c) (IsDueOf c moment) (seen H.Shelf S.Source O.Sink E.Sink outside.old)
+        → Comes (loads_files c) (IsDueOf AreMade c moment) (seen H.Shelf S.Source O.Sink E.Sink outside.old)
         (seen H.Shelf S.Source O.Sink E.Sink outside.new) (ended result) }
 {
     let command = read_words(alloc, words)?;
@@ -118,7 +119,7 @@ fn perform_command<H: Shelf, S: Source, O: Sink, E: Sink>(
 ) -> Result<Done, Ending>
     requires { IsWithinLimits command.now }
     ensures same { SameParts outside.old outside.new }
-    ensures due { Comes (loads command.now) (IsDueOf command.now moment)
+    ensures due { Comes (loads_files command.now) (IsDueOf AreMade command.now moment)
         (seen H.Shelf S.Source O.Sink E.Sink outside.old)
         (seen H.Shelf S.Source O.Sink E.Sink outside.new) (ended result) }
 {

@@ -34,7 +34,7 @@ const HELP: &str = "nested: runs MIPS programs without native code
 In brackets stands what holds where an option is left out. README.md tells more.
 ";
 
-const VERSION: &str = "nested 0.1.0
+const VERSION: &str = "nested 0.9.0
 ";
 
 /// Answers `--help` and `--version`, where one of these is the only word, with the status of the process.

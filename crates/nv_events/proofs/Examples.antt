@@ -1,12 +1,12 @@
 -- The definitions compute as one expects.
 use Rattle.std.proofs.Common.{◌≡◌, ℕ, zero, suc, ◌==◌, nat_lt, if◌then◌else◌, List, [], ◌∷◌, replicate, Some, slice_get, slice_set, pos, refl}
-use Rattle.nv_events.specs.Memory.{Memory}
-use Rattle.nv_events.specs.Question.{Question, asked, text_at, room_at, no_text, unreadable, too_long, bytes, no_room, missing, there}
-use Rattle.nv_events.specs.Answer.{Answer, next_answer, answered}
-use Rattle.nv_events.specs.Turn.{Turn, moves, ends, leaves, asks, exit}
-use Rattle.nv_events.specs.Run.{run_of, stops}
-use Rattle.nv_events.specs.declared.text_place.TextPlace.TheVariants.{Zero, Counted}
-use Rattle.nv_events.specs.declared.outcome.Outcome.TheVariants.{Exited, Waiting, Going}
+use Rattle.run_definition.specs.Memory.{Memory}
+use Rattle.run_definition.specs.Question.{Question, asked, asked_text_at, room_at, no_text, unreadable, too_long, bytes, no_room, missing, there}
+use Rattle.run_definition.specs.Answer.{Answer, next_answer, answered}
+use Rattle.run_definition.specs.Turn.{Turn, moves, ends, leaves, asks, exit}
+use Rattle.run_definition.specs.Run.{run_of, stops}
+use Rattle.run_definition.specs.declared.text_place.TextPlace.TheVariants.{Zero, Counted}
+use Rattle.run_definition.specs.declared.outcome.Outcome.TheVariants.{Exited, Waiting, Going}
 
 -- the text `Hi`, a byte 0 and a `!`, of which the first two bytes may be written
 abbrev small : Memory
@@ -25,25 +25,25 @@ read_shows_its_room = refl
 pub rename_shows_both_paths : asked (record { number = 14; a0 = 0; a1 = 1; a2 = 0; a3 = 0 }) small ≡ record { number = 14; a0 = 0; a1 = 1; a2 = 0; a3 = 0; text = bytes (72 ∷ 105 ∷ []); second = bytes (105 ∷ []); room = no_room }
 rename_shows_both_paths = refl
 
-pub a_path_ends_at_zero : text_at small (Zero 0) ≡ bytes (72 ∷ 105 ∷ [])
+pub a_path_ends_at_zero : asked_text_at small (Zero 0) ≡ bytes (72 ∷ 105 ∷ [])
 a_path_ends_at_zero = refl
 
-pub a_path_may_be_empty : text_at small (Zero 2) ≡ bytes []
+pub a_path_may_be_empty : asked_text_at small (Zero 2) ≡ bytes []
 a_path_may_be_empty = refl
 
-pub a_path_without_end_is_unreadable : text_at small (Zero 3) ≡ unreadable
+pub a_path_without_end_is_unreadable : asked_text_at small (Zero 3) ≡ unreadable
 a_path_without_end_is_unreadable = refl
 
-pub a_path_of_255_bytes_is_read : text_at (sevens 255) (Zero 0) ≡ bytes (replicate 255 7)
+pub a_path_of_255_bytes_is_read : asked_text_at (sevens 255) (Zero 0) ≡ bytes (replicate 255 7)
 a_path_of_255_bytes_is_read = refl
 
-pub a_path_of_256_bytes_is_too_long : text_at (sevens 256) (Zero 0) ≡ too_long
+pub a_path_of_256_bytes_is_too_long : asked_text_at (sevens 256) (Zero 0) ≡ too_long
 a_path_of_256_bytes_is_too_long = refl
 
-pub a_count_past_the_end_is_unreadable : text_at small (Counted 2 3) ≡ unreadable
+pub a_count_past_the_end_is_unreadable : asked_text_at small (Counted 2 3) ≡ unreadable
 a_count_past_the_end_is_unreadable = refl
 
-pub a_count_goes_past_zero : text_at small (Counted 1 3) ≡ bytes (105 ∷ 0 ∷ 33 ∷ [])
+pub a_count_goes_past_zero : asked_text_at small (Counted 1 3) ≡ bytes (105 ∷ 0 ∷ 33 ∷ [])
 a_count_goes_past_zero = refl
 
 pub half_a_room_is_missing : room_at small (Some (1, 2)) ≡ missing

@@ -1,7 +1,7 @@
 -- How a server goes over questions and answers.
 use Rattle.std.proofs.Common.{◌≡◌, ℕ, zero, suc, List, [], ◌∷◌, ◌++◌, length, Some, slice_get, refl, subst, arith}
-use Rattle.nv_events.specs.Question.{Question}
-use Rattle.nv_events.specs.Answer.{Answer}
+use Rattle.run_definition.specs.Question.{Question}
+use Rattle.run_definition.specs.Answer.{Answer}
 use Rattle.nv_events.specs.Serving.{Leads}
 use Rattle.nv_events.specs.Laws.{LeadsOverBoth}
 

@@ -1,14 +1,15 @@
 -- How far a run over a server has come: what the loop over its turns keeps.
 use Rattle.std.proofs.Common.{◌≡◌, ◌≢◌, ℕ, suc, ◌+◌, ◌-◌, ◌<◌, if◌then◌else◌, IsTrue, List, [], ◌∷◌, ◌++◌, length, Option, Some, None, Result, Ok, Err, refl, ap, sym, subst, ◌∙◌, arith}
 use Rattle.std.proofs.lemmas.List.{append_assoc, append-nil, length-append}
-use Rattle.nv_events.specs.Question.{Question}
-use Rattle.nv_events.specs.Answer.{Answer, fits, next_answer}
-use Rattle.nv_events.specs.Turn.{Turn, moves, ends, leaves, asks, End, exit, «fault», trap, outcome_of}
-use Rattle.nv_events.specs.Run.{Run, stops, after, run_of}
+use Rattle.run_definition.specs.Question.{Question}
+use Rattle.run_definition.specs.Answer.{Answer, answer_fits, next_answer}
+use Rattle.run_definition.specs.Turn.{Turn, moves, ends, leaves, asks, End, exit, «fault», trap, outcome_of}
+use Rattle.run_definition.specs.Run.{Run, stops, run_of}
+use Rattle.nv_events.specs.Parts.{after}
 use Rattle.nv_events.specs.Serving.{Leads, StopsAt, Turns, RunsOver, FallsIn, RunsBy, RunsAsTold}
-use Rattle.nv_events.specs.declared.io_fault.IoFault.{IoFault}
-use Rattle.nv_events.specs.declared.outcome.Outcome.{Outcome}
-use Rattle.nv_events.specs.declared.outcome.Outcome.TheVariants.{Waiting, Going}
+use Rattle.run_definition.specs.declared.io_fault.IoFault.{IoFault}
+use Rattle.run_definition.specs.declared.outcome.Outcome.{Outcome}
+use Rattle.run_definition.specs.declared.outcome.Outcome.TheVariants.{Waiting, Going}
 use Rattle.nv_events.proofs.LeadsLaws.{leads_join, leads_over, question_at_end}
 use Rattle.nv_events.proofs.RunLaws.{given, turned, run_of-suc, after_after}
 
@@ -60,7 +61,7 @@ module _ {S K : Type 0} (turn : S → Turn S) (reply : K → Question → Option
       let e : bound ≡ n + 0 = omega arith in
       ap (λ i. run_of turn reply i old k) e ∙ r.runs 0
 
-next_fits : (a : Answer) (further : List Answer) (q : Question) → IsTrue (fits a q) → next_answer (a ∷ further) q ≡ Some (a, further)
+next_fits : (a : Answer) (further : List Answer) (q : Question) → IsTrue (answer_fits a q) → next_answer (a ∷ further) q ≡ Some (a, further)
 next_fits a further q h = ap (λ b. if b then Some (a, further) else None) h
 
 -- what a list of answers reaches, of which the further ones are left

@@ -2,9 +2,9 @@
 use Rattle.std.proofs.Common.{◌≡◌, ℕ, zero, suc, ◌+◌, ◌-◌, ◌<◌, ◌≤◌, Bool, true, false, ◌&&◌, List, [], ◌∷◌, length, Some, None, is_some, refl, ap, sym, ◌∙◌, get_or, nat_le, if◌then◌else◌, inl, inr, arith, nat_lt, ◌^◌}
 use Rattle.std.specs.List.{list_all}
 use Rattle.std.proofs.lemmas.Bool.{and_parts, and_from, cases_Bool, cases_lt, both_ways, lt-ltb, le-leb, leb-true}
-use Rattle.nv_events.specs.Memory.{Memory, can_write, patched}
-use Rattle.nv_events.specs.Question.{missing, there, room_at}
-use Rattle.nv_events.specs.Answer.{fits_room, room_place}
+use Rattle.run_definition.specs.Memory.{Memory, can_write, patched}
+use Rattle.run_definition.specs.Question.{missing, there, room_at}
+use Rattle.run_definition.specs.Answer.{fits_room, room_place}
 
 pub can_write-more : (m : Memory) (a n i : ℕ) → i < n → can_write m (a + i) (n - i) ≡ (m.writable (a + i) && can_write m (a + (i + 1)) (n - (i + 1)))
 can_write-more m a n i h =

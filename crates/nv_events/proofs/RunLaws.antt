@@ -1,13 +1,14 @@
 -- Runs of machines, over any kind of system state.
 use Rattle.std.proofs.Common.{◌≡◌, ◌≢◌, ℕ, zero, suc, Bool, true, false, IsTrue, if◌then◌else◌, ◌+◌, ◌-◌, ◌≤◌, List, [], ◌∷◌, ◌++◌, Option, Some, None, refl, ap, subst, sym, ◌∙◌, arith}
 use Rattle.std.proofs.lemmas.List.{append_assoc, append-nil}
-use Rattle.nv_events.specs.Question.{Question}
-use Rattle.nv_events.specs.Answer.{Answer, fits, next_answer}
-use Rattle.nv_events.specs.Turn.{Turn, moves, ends, leaves, asks, End, exit, «fault», trap, outcome_of}
-use Rattle.nv_events.specs.Run.{Run, stops, asking, after, is_going, then_run, left_over, IsRunOver, run_of}
+use Rattle.run_definition.specs.Question.{Question}
+use Rattle.run_definition.specs.Answer.{Answer, answer_fits, next_answer}
+use Rattle.run_definition.specs.Turn.{Turn, moves, ends, leaves, asks, End, exit, «fault», trap, outcome_of}
+use Rattle.run_definition.specs.Run.{Run, stops, asking, run_of}
+use Rattle.nv_events.specs.Parts.{after, is_going, then_run, left_over, IsRunOver}
 use Rattle.nv_events.specs.Laws.{LongerRuns, LeavesFurtherAnswers, GivesFitting, RunsByAnswers}
-use Rattle.nv_events.specs.declared.outcome.Outcome.{Outcome}
-use Rattle.nv_events.specs.declared.outcome.Outcome.TheVariants.{Exited, Faulted, Trapped, Waiting, Going}
+use Rattle.run_definition.specs.declared.outcome.Outcome.{Outcome}
+use Rattle.run_definition.specs.declared.outcome.Outcome.TheVariants.{Exited, Faulted, Trapped, Waiting, Going}
 
 -- a run's first turn, by the turn, and by the answer that a question got
 abbrev pub given : {S K : Type 0} → Option (Answer × K) → Question → (Answer → S) → S → K → (S → K → Run S K) → Run S K
@@ -126,7 +127,7 @@ given-fits false a answers more q next s go h runs = absurd (runs refl)
 
 given-more : {S : Type 0} (answers more : List Answer) (q : Question) (next : Answer → S) (s : S) (go : S → List Answer → Run S (List Answer)) → ((t : S) (left : List Answer) → (go t left).outcome ≢ Waiting → go t (left ++ more) ≡ left_over (go t left) more) → (given (next_answer answers q) q next s answers go).outcome ≢ Waiting → given (next_answer (answers ++ more) q) q next s (answers ++ more) go ≡ left_over (given (next_answer answers q) q next s answers go) more
 given-more [] more q next s go h runs = absurd (runs refl)
-given-more (a ∷ answers) more q next s go h runs = given-fits (fits a q) a answers more q next s go h runs
+given-more (a ∷ answers) more q next s go h runs = given-fits (answer_fits a q) a answers more q next s go h runs
 
 turned-more : {S : Type 0} (x : Turn S) (s : S) (answers more : List Answer) (go : S → List Answer → Run S (List Answer)) → ((t : S) (left : List Answer) → (go t left).outcome ≢ Waiting → go t (left ++ more) ≡ left_over (go t left) more) → (turned next_answer x s answers go).outcome ≢ Waiting → turned next_answer x s (answers ++ more) go ≡ left_over (turned next_answer x s answers go) more
 turned-more (moves t) s answers more go h runs = h t answers runs
@@ -145,7 +146,7 @@ run_of-more {S} turn (suc n) s answers more runs =
 
 -- A run over system states is a run over the answers that they give, where these fit.
 
-given-list : {S K : Type 0} (got : Option (Answer × K)) (q : Question) (next : Answer → S) (s : S) (k : K) (go : S → K → Run S K) (over : S → List Answer → Run S (List Answer)) → ((a : Answer) (l : K) → got ≡ Some (a, l) → IsTrue (fits a q)) → ((t : S) (l : K) → (answers : List Answer) × IsRunOver (go t l) (over t answers)) → (answers : List Answer) × IsRunOver (given got q next s k go) (given (next_answer answers q) q next s answers over)
+given-list : {S K : Type 0} (got : Option (Answer × K)) (q : Question) (next : Answer → S) (s : S) (k : K) (go : S → K → Run S K) (over : S → List Answer → Run S (List Answer)) → ((a : Answer) (l : K) → got ≡ Some (a, l) → IsTrue (answer_fits a q)) → ((t : S) (l : K) → (answers : List Answer) × IsRunOver (go t l) (over t answers)) → (answers : List Answer) × IsRunOver (given got q next s k go) (given (next_answer answers q) q next s answers over)
 given-list None q next s k go over fitting h =
     ([], record { questions = refl; outcome = refl; last = refl; used = refl })
 given-list {S} {K} (Some got) q next s k go over fitting h =
@@ -156,7 +157,7 @@ given-list {S} {K} (Some got) q next s k go over fitting h =
     let e : next_answer all q ≡ Some (got.0, rest.0) = ap (λ b. if b then Some (got.0, rest.0) else None) (fitting got.0 got.1 refl) in
     (all, subst (λ (y : Option (Answer × List Answer)). IsRunOver (asking q (go (next got.0) got.1)) (given y q next s all over)) (sym e) asked)
 
-turned-list : {S K : Type 0} (reply : K → Question → Option (Answer × K)) (x : Turn S) (s : S) (k : K) (go : S → K → Run S K) (over : S → List Answer → Run S (List Answer)) → ((l m : K) (q : Question) (a : Answer) → reply l q ≡ Some (a, m) → IsTrue (fits a q)) → ((t : S) (l : K) → (answers : List Answer) × IsRunOver (go t l) (over t answers)) → (answers : List Answer) × IsRunOver (turned reply x s k go) (turned next_answer x s answers over)
+turned-list : {S K : Type 0} (reply : K → Question → Option (Answer × K)) (x : Turn S) (s : S) (k : K) (go : S → K → Run S K) (over : S → List Answer → Run S (List Answer)) → ((l m : K) (q : Question) (a : Answer) → reply l q ≡ Some (a, m) → IsTrue (answer_fits a q)) → ((t : S) (l : K) → (answers : List Answer) × IsRunOver (go t l) (over t answers)) → (answers : List Answer) × IsRunOver (turned reply x s k go) (turned next_answer x s answers over)
 turned-list reply (moves t) s k go over fitting h = h t k
 turned-list reply (ends e) s k go over fitting h =
     ([], record { questions = refl; outcome = refl; last = refl; used = refl })

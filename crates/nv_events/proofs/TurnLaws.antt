@@ -1,11 +1,11 @@
 -- One turn of a machine over a server, from what the machine did: it moved on or ended without a call, or passed on what `serve` gave.
 use Rattle.std.proofs.Common.{◌≡◌, ℕ, ℤ, List, Some, None, Ok, Err, sym, subst, refl}
-use Rattle.nv_events.specs.Question.{Question}
-use Rattle.nv_events.specs.Answer.{Answer, answered}
-use Rattle.nv_events.specs.Turn.{Turn, moves, ends, leaves, asks, End, outcome_of}
+use Rattle.run_definition.specs.Question.{Question}
+use Rattle.run_definition.specs.Answer.{Answer, answered}
+use Rattle.run_definition.specs.Turn.{Turn, moves, ends, leaves, asks, End, outcome_of}
 use Rattle.nv_events.specs.Serving.{Serves, Turns}
-use Rattle.nv_events.specs.declared.io_fault.IoFault.{IoFault}
-use Rattle.nv_events.specs.declared.outcome.Outcome.TheVariants.{Waiting}
+use Rattle.run_definition.specs.declared.io_fault.IoFault.{IoFault}
+use Rattle.run_definition.specs.declared.outcome.Outcome.TheVariants.{Waiting}
 
 module _ {S V : Type 0} (goes : V → Question → Answer → V → Type 0) (held fell : V → Question → V → Type 0) where
   pub turns_moves : (x : Turn S) (t old new : S) (v : V) → x ≡ moves t → new ≡ t → Turns goes held fell x old new v v (Ok None)

@@ -1,11 +1,12 @@
 -- What holds of all runs of a machine.
 use Rattle.std.specs.Prelude.{◌≡◌, ◌≢◌, ℕ, ◌+◌, ◌≤◌, List, ◌++◌, length, Option, Some, IsTrue}
-use Rattle.nv_events.specs.Question.{Question}
-use Rattle.nv_events.specs.Answer.{Answer, fits, next_answer}
-use Rattle.nv_events.specs.Turn.{Turn}
-use Rattle.nv_events.specs.Run.{run_of, then_run, left_over, IsRunOver}
+use Rattle.run_definition.specs.Question.{Question}
+use Rattle.run_definition.specs.Answer.{Answer, answer_fits, next_answer}
+use Rattle.run_definition.specs.Turn.{Turn}
+use Rattle.run_definition.specs.Run.{run_of}
+use Rattle.nv_events.specs.Parts.{then_run, left_over, IsRunOver}
 use Rattle.nv_events.specs.Serving.{Leads}
-use Rattle.nv_events.specs.declared.outcome.Outcome.TheVariants.{Waiting, Going}
+use Rattle.run_definition.specs.declared.outcome.Outcome.TheVariants.{Waiting, Going}
 
 -- Longer runs of a machine begin with the shorter ones, over any kind of system state.
 pub record LongerRuns {S K : Type 0} (turn : S → Turn S)
@@ -31,7 +32,7 @@ LeavesFurtherAnswers {S} turn =
 -- each answer of a kind of system state fits the question
 abbrev pub GivesFitting : {K : Type 0} → (K → Question → Option (Answer × K)) → Type 0
 GivesFitting {K} reply =
-    (k l : K) (q : Question) (a : Answer) → reply k q ≡ Some (a, l) → IsTrue (fits a q)
+    (k l : K) (q : Question) (a : Answer) → reply k q ≡ Some (a, l) → IsTrue (answer_fits a q)
 
 -- each run over a kind of system state is the run over a list of answers, all of which are used
 abbrev pub RunsByAnswers : {S K : Type 0} → (S → Turn S) → (K → Question → Option (Answer × K))

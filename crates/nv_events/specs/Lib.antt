@@ -1,8 +1,4 @@
-pub mod Memory
-pub mod Question
-pub mod Answer
-pub mod Turn
-pub mod Run
 pub mod Serving
 pub mod Replies
 pub mod Laws
+pub mod Parts

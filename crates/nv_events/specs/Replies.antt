@@ -1,6 +1,6 @@
 -- Answers that are written down beforehand.
 use Rattle.std.specs.Prelude.{ℕ, List, map, drop}
-use Rattle.nv_events.specs.Answer.{Answer}
+use Rattle.run_definition.specs.Answer.{Answer}
 use Rattle.nv_events.specs.declared.reply.Reply.{Reply}
 
 abbrev pub answer_of : Reply → Answer

@@ -1,13 +1,13 @@
 -- What the answer of a server says of the calls that it was asked, and what a turn and a run of a machine pass on of it.
 use Rattle.std.specs.Prelude.{◌≡◌, ◌≢◌, ℕ, ◌+◌, ◌-◌, ◌^◌, ◌≤◌, ◌⊎◌, min, List, [], ◌∷◌, length, Option, Some, None, Result, Ok, Err, IsTrue, ℤ, slice_get}
-use Rattle.nv_events.specs.Question.{Question}
-use Rattle.nv_events.specs.Answer.{Answer, fits, fits_room, answered, next_answer}
-use Rattle.nv_events.specs.Turn.{Turn, moves, ends, leaves, asks, outcome_of}
-use Rattle.nv_events.specs.Run.{Run, run_of}
-use Rattle.nv_events.specs.declared.io_fault.IoFault.{IoFault}
-use Rattle.nv_events.specs.declared.io_fault.IoFault.TheVariants.{ReadFault, WriteFault}
-use Rattle.nv_events.specs.declared.outcome.Outcome.{Outcome}
-use Rattle.nv_events.specs.declared.outcome.Outcome.TheVariants.{Waiting}
+use Rattle.run_definition.specs.Question.{Question}
+use Rattle.run_definition.specs.Answer.{Answer, answer_fits, fits_room, answered, next_answer}
+use Rattle.run_definition.specs.Turn.{Turn, moves, ends, leaves, asks, outcome_of}
+use Rattle.run_definition.specs.Run.{Run, run_of}
+use Rattle.run_definition.specs.declared.io_fault.IoFault.{IoFault}
+use Rattle.run_definition.specs.declared.io_fault.IoFault.TheVariants.{ReadFault, WriteFault}
+use Rattle.run_definition.specs.declared.outcome.Outcome.{Outcome}
+use Rattle.run_definition.specs.declared.outcome.Outcome.TheVariants.{Waiting}
 
 -- A count of faults rose: it is greater than before, or stands at its greatest value.
 abbrev pub Rose : ℕ → ℕ → Type 0
@@ -41,7 +41,7 @@ abbrev pub Serves : {V C : Type 0} → (V → Question → Answer → V → Type
     → (V → Question → V → Type 0) → (V → Question → V → Type 0) → (C → ℕ → ℕ → C) → Question → V → V
     → C → C → Result (Option ℤ) IoFault → Type 0
 Serves goes held fell put_at q v w c d (Ok (Some value)) = (patch : List ℕ)
-    × IsTrue (fits (record { value = value; patch = patch }) q)
+    × IsTrue (answer_fits (record { value = value; patch = patch }) q)
     × goes v q (record { value = value; patch = patch }) w × (d ≡ answered put_at c q patch)
 Serves goes held fell put_at q v w c d (Ok None) = held v q w × (d ≡ c)
 Serves goes held fell put_at q v w c d (Err e) =
@@ -64,7 +64,7 @@ Turns goes held fell (leaves q end) old new v w (Ok (Some o)) =
     (o ≡ outcome_of end) × (new ≡ old) × (w ≡ v)
 Turns goes held fell (leaves q end) old new v w (Err e) = ⊥
 Turns goes held fell (asks q next) old new v w (Ok None) =
-    (a : Answer) × IsTrue (fits a q) × goes v q a w × (new ≡ next a)
+    (a : Answer) × IsTrue (answer_fits a q) × goes v q a w × (new ≡ next a)
 Turns goes held fell (asks q next) old new v w (Ok (Some o)) =
     (o ≡ Waiting) × held v q w × (new ≡ old)
 Turns goes held fell (asks q next) old new v w (Err e) = fell v q w

@@ -1,11 +1,9 @@
 //! Which words of a call point to texts and to the room for its answer.
 
 ghost use Rattle.std.specs.Prelude.{◌≡◌, Some, None};
-ghost use Rattle.nv_events.specs.Question.{places_of, texts_and_room};
+ghost use Rattle.run_definition.specs.Question.{places_asked, texts_and_room};
 
-use crate::call::Call;
-use crate::call_places::Places;
-use crate::text_place::TextPlace;
+use run_definition::{Call, Places, TextPlace};
 
 fn of_room(place: u32, size: u32) -> Places
     ensures { result ≡ texts_and_room TextPlace.Absent TextPlace.Absent (Some (place, size)) }
@@ -27,9 +25,9 @@ fn of_text(text: TextPlace) -> Places
     }
 }
 
-/// Where the texts of a call and the room for its answer stand, by its number. It takes no memory.
+/// Where the texts of a call and the room for its answer are, by its number. It takes no memory.
 pub fn places(call: &Call) -> Places
-    ensures { result ≡ places_of call.now }
+    ensures { result ≡ places_asked call.now }
 {
     match call.number {
         0 => of_room(call.a0, 4096),

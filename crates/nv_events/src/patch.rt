@@ -1,13 +1,13 @@
 //! A patch of bytes, and the room of a call that it is put into.
 
 ghost use Rattle.std.specs.Prelude.{◌≡◌, ℕ, Some, None, Option, IsTrue, length};
-ghost use Rattle.nv_events.specs.Memory.{can_write, patched};
-ghost use Rattle.nv_events.specs.Question.{room_at};
-ghost use Rattle.nv_events.specs.Answer.{fits_room, room_place};
+ghost use Rattle.run_definition.specs.Memory.{can_write, patched};
+ghost use Rattle.run_definition.specs.Question.{room_at};
+ghost use Rattle.run_definition.specs.Answer.{fits_room, room_place};
 
 use crate::view::View;
 
-/// Whether each of the addresses from `place` on may be written; none stands past FFFFFFFF.
+/// Whether each of the addresses from `place` on may be written; none is past FFFFFFFF.
 fn all_writable<V: View>(view: &V, place: u32, size: u32) -> bool
     ensures { result ≡ can_write (V.memory (V.content view.now)) place size }
 {

@@ -1,16 +1,15 @@
 ghost use Rattle.std.specs.Prelude.{◌≡◌, ℕ, List, [], ◌∷◌, length, drop, Bool, false, Option, Some, None, MatchOption};
-ghost use Rattle.nv_events.specs.Question.{Question};
-ghost use Rattle.nv_events.specs.Answer.{Answer, next_answer};
+ghost use Rattle.run_definition.specs.Question.{Question};
+ghost use Rattle.run_definition.specs.Answer.{Answer, next_answer};
 ghost use Rattle.nv_events.specs.Replies.{answer_of, answers_from};
 ghost use Rattle.nv_events.specs.Serving.{Counts, none_counted};
 
-use crate::call::Call;
 use crate::call_table::places;
-use crate::io_fault::IoFault;
 use crate::patch::{fits, lay};
 use crate::reply::Reply;
 use crate::server::Server;
 use crate::view::View;
+use run_definition::{Call, IoFault};
 use std::marker::Model;
 
 /// A server that gives replies which were written down beforehand, one after the other.
@@ -24,7 +23,7 @@ pub struct Scripted {
 
 impl Model for Scripted {
     ghost use Rattle.std.specs.Prelude.{List};
-    ghost use Rattle.nv_events.specs.Answer.{Answer};
+    ghost use Rattle.run_definition.specs.Answer.{Answer};
 
     ghost Value = { List Answer };
 
@@ -66,7 +65,7 @@ impl Scripted {
     }
 }
 
-/// It answers the replies in their order. It has no answer exactly where they are used up or the next patch does not fit the
+/// It answers the replies in their order. It has no answer exactly if they are used up or the next patch does not fit the
 /// call's room, and from then on.
 impl Server for Scripted {
     ghost use Rattle.std.proofs.Common.{refl};

@@ -1,11 +1,10 @@
 ghost use Rattle.std.specs.Prelude.{◌≡◌, ◌≢◌, ℕ, Bool, Option, Some, None, Ok, OnOk, IsTrue};
-ghost use Rattle.nv_events.specs.Question.{Question, asked};
-ghost use Rattle.nv_events.specs.Answer.{Answer};
+ghost use Rattle.run_definition.specs.Question.{Question, asked};
+ghost use Rattle.run_definition.specs.Answer.{Answer};
 ghost use Rattle.nv_events.specs.Serving.{Serves, Causes, Counts, NoneFalls};
 
-use crate::call::Call;
-use crate::io_fault::IoFault;
 use crate::view::View;
+use run_definition::{Call, IoFault};
 
 /// What answers the calls of a program.
 ///
@@ -44,8 +43,8 @@ pub trait Server {
     /// Answers a call of the program, over its memory.
     ///
     /// The answer's bytes are put into the call's room, one after the other from its start, and the view is not changed otherwise.
-    /// `Ok(None)` says that no answer is there, and leaves the view as it was. A ReadFault comes only where the program's input
-    /// failed in this call, a WriteFault only where its output or error output did. Call 1, which ends the program, is not
+    /// `Ok(None)` says that no answer is there, and leaves the view as it was. A ReadFault comes only if the program's input
+    /// failed in this call, a WriteFault only if its output or error output did. Call 1, which ends the program, is not
     /// asked.
     fn serve<M: View>(&mut self, call: &Call, view: &mut M) -> Result<Option<i32>, IoFault>
         requires not_exit { call.now.number ≢ 1 }
@@ -60,7 +59,7 @@ pub trait Server {
         ensures usable_stays { OnOk result (usable self.new) }
         ensures keeps { keeps self.old self.new };
 
-    /// Where the state is told, an answer is the definition's, and the state after it is told.
+    /// If the state is told, an answer is the definition's, and the state after it is told.
     ghost goes_as_told: { (s t : Self) (q : Question) (a : Answer) (k : State) → told s ≡ Some k
         → goes s q a t → ((l : State) × (reply k q ≡ Some (a, l)) × (told t ≡ Some l)) };
 

@@ -1,5 +1,5 @@
 ghost use Rattle.std.specs.Prelude.{◌≡◌, ◌≤◌, ◌<◌, ◌^◌, ℕ, Option, None, IsTrue, is_some, if◌then◌else◌};
-ghost use Rattle.nv_events.specs.Memory.{Memory};
+ghost use Rattle.run_definition.specs.Memory.{Memory};
 
 /// A memory of bytes, as a server sees it at a call. None of its calls takes memory.
 pub trait View {

@@ -1,6 +1,6 @@
 //! The outside of a program: where it reads bytes, where it writes them, and where its files lie.
 //!
-//! Each trait tells its content where it can, and counts its faults: a call fails only where the count rose.
+//! Each trait tells its content where it can, and counts its faults: a call fails only if the count rose.
 #![tactic(auto)]
 
 mod calls;

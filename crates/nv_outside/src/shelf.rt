@@ -21,7 +21,7 @@ pub trait Shelf {
 
     /// Sets a file to these bytes.
     ///
-    /// After a failure the file may hold anything; after want of memory nothing is changed. The other files stay.
+    /// After a failure the file may hold anything; after running out of memory nothing is changed. The other files stay.
     fn store(&mut self, name: &str, bytes: &[u8]) -> Result<(), ShelfError>
         ensures stored { Stores (files self.old) (files self.new) name.now bytes.now result }
         ensures count { CountsFailure (shelf_failed result) (faults self.old) (faults self.new) };

@@ -1,12 +1,12 @@
 -- What is told of the classes of code of a program is one list of spans, and one of blocks.
 use Rattle.std.proofs.Common.{◌≡◌, ℕ, ◌+◌, List, [], ◌∷◌, ◌++◌, length, map, refl, ap, ◌∙◌, Bool}
 use Rattle.std.specs.List.{AllZip}
-use Rattle.elf_image.specs.Start.{Source}
-use Rattle.program_classes.specs.Blocks.{pieces_of_class}
-use Rattle.program_translation.specs.Blocks.{block_of, blocks_of_class, blocks_of}
-use Rattle.program_translation.specs.Classes.{Placed, AreCodeClasses, span_infos, spans_of_class, spans_of}
-use Rattle.program_translation.proofs.OneCode.Parts.{alike_at}
-use Rattle.program_translation.proofs.OneCode.Classes.{AreSame, classes-one}
+use Rattle.elf_definition.specs.Start.{Source}
+use Rattle.translate_classes.specs.Blocks.{pieces_of_class}
+use Rattle.translate_program.specs.Blocks.{block_of, blocks_of_class, blocks_of}
+use Rattle.translate_program.specs.Classes.{Placed, AreCodeClasses, span_infos, spans_of_class, spans_of}
+use Rattle.translate_program.proofs.OneCode.Parts.{alike_at}
+use Rattle.translate_program.proofs.OneCode.Classes.{AreSame, classes-one}
 
 infos_same : (c d : Placed) → AreSame c d → spans_of_class c ≡ spans_of_class d
 infos_same c d same =

@@ -1,20 +1,20 @@
 -- A linked translation beside its guest, with a meter or without.
 use Rattle.std.proofs.Common.{ℕ, List, Option}
 use Rattle.std.specs.Prelude.{is_some}
-use Rattle.command_values.specs.Names.{Text}
-use Rattle.elf_image.specs.Start.{Source, image_of, readable, writable}
-use Rattle.image_parts.specs.Pages.{page_words}
-use Rattle.jvm_link.specs.Linking.{program_of}
-use Rattle.guest_layout.specs.Numbers.{main_methods, run_number, choose_number, pages_number, missing_number}
-use Rattle.running_laws.specs.LoadingCodeLaws.Loaded.{MakersAreNone, run_shares}
-use Rattle.running_laws.specs.TrampolineLaws.Classes.{is_span}
-use Rattle.running_laws.specs.Translated.{TranslatedProgram}
-use Rattle.program_classes.specs.Content.{text_runs}
-use Rattle.program_translation.specs.Classes.{Placed}
-use Rattle.program_translation.specs.DataFiles.{class_count, filled_pages, first_method}
-use Rattle.program_translation.specs.MainFile.{beginning_of}
-use Rattle.program_translation.specs.Translation.{code_methods}
-use Rattle.program_translation.specs.declared.built.Built.{Built}
+use Rattle.nv_values.specs.Names.{Text}
+use Rattle.elf_definition.specs.Start.{Source, image_of, readable, writable}
+use Rattle.elf_image_parts.specs.Pages.{page_words}
+use Rattle.class_definition.specs.Linking.{program_of}
+use Rattle.emit_layout.specs.Numbers.{main_methods, run_number, choose_number, pages_number, missing_number}
+use Rattle.emit_program_laws.specs.LoadingCodeLaws.Loaded.{MakersAreNone, run_shares}
+use Rattle.emit_program_laws.specs.TrampolineLaws.Classes.{is_span}
+use Rattle.emit_program_laws.specs.Translated.{TranslatedProgram}
+use Rattle.translate_classes.specs.Content.{text_runs}
+use Rattle.translate_program.specs.Classes.{Placed}
+use Rattle.translate_program.specs.DataFiles.{class_count, filled_pages, first_method}
+use Rattle.translate_program.specs.MainFile.{beginning_of}
+use Rattle.translate_program.specs.Translation.{code_methods}
+use Rattle.translate_program.specs.declared.built.Built.{Built}
 use Rattle.nv_translate.specs.Linked.{IsLinkedBy}
 use Rattle.nv_translate.specs.Loading.{LoadsSource}
 use Rattle.nv_translate.specs.Standing.{Stands}

@@ -1,9 +1,9 @@
 -- The classes of a translation are accepted.
 use Rattle.std.specs.Prelude.{ℕ, Option}
-use Rattle.command_values.specs.Names.{Text}
-use Rattle.elf_image.specs.Start.{Source}
-use Rattle.jvm_link.specs.Linking.{Accepted}
-use Rattle.program_translation.specs.declared.built.Built.{Built}
+use Rattle.nv_values.specs.Names.{Text}
+use Rattle.elf_definition.specs.Start.{Source}
+use Rattle.class_definition.specs.Linking.{Accepted}
+use Rattle.translate_program.specs.declared.built.Built.{Built}
 use Rattle.nv_translate.specs.Linked.{IsLinkedBy}
 
 -- They are the program that they were planned to be, they link, and its methods are typed.

@@ -1,9 +1,9 @@
 -- The code of a program that was accepted.
 use Rattle.std.specs.Prelude.{◌≤◌, List, length}
-use Rattle.elf_reader.specs.declared.range.Range.{Range}
-use Rattle.elf_reader.specs.Area.{area}
-use Rattle.elf_reader.specs.Fault.{IsRunsOf}
-use Rattle.elf_image.specs.Start.{Source}
+use Rattle.elf_definition.specs.declared.range.Range.{Range}
+use Rattle.elf_definition.specs.Area.{area}
+use Rattle.elf_definition.specs.Fault.{IsRunsOf}
+use Rattle.elf_definition.specs.Start.{Source}
 use Rattle.nv_translate.specs.WholeCode.{HasWholeCode}
 
 -- It has not too many words, and its runs are whole and at most 64. Each image is so.

@@ -1,20 +1,20 @@
 -- What is counted of a translation's run and of its guest's, in terms of its layout.
 use Rattle.std.specs.Prelude.{◌≡◌, ℕ, ◌+◌, ◌==◌, ◌≤◌, Bool, List, [], ◌∷◌, map}
 use Rattle.std.specs.List.{sum_by, list_any}
-use Rattle.nv_events.specs.Answer.{Answer, next_answer}
-use Rattle.run_laws.specs.Trail.{Step, trail_of, after_call}
-use Rattle.mips_decode.specs.State as guest
-use Rattle.mips_decode.specs.Step as guest_step
-use Rattle.elf_image.specs.Start.{Source, image_of}
-use Rattle.mips_machine.specs.Loading.{start_of}
-use Rattle.jvm_program.specs.Program.{Program}
-use Rattle.jvm_program.specs.Step.{State, start, turn}
-use Rattle.guest_layout.specs.Numbers.{main_methods}
-use Rattle.code_paths.specs.Classes.{reads, chars, switches, entries, executed}
-use Rattle.code_paths.specs.Guest.{Span, crossings, partial}
-use Rattle.program_translation.specs.declared.layout.Layout.{Layout}
-use Rattle.program_translation.specs.declared.span_info.SpanInfo.{SpanInfo}
-use Rattle.program_translation.specs.Bounds.{need}
+use Rattle.run_definition.specs.Answer.{Answer, next_answer}
+use Rattle.run_simulation_laws.specs.Trail.{Step, trail_of, after_call}
+use Rattle.mips_definition.specs.State as guest
+use Rattle.mips_definition.specs.Step as guest_step
+use Rattle.elf_definition.specs.Start.{Source, image_of}
+use Rattle.elf_definition.specs.Loading.{start_of}
+use Rattle.jvm_definition.specs.Program.{Program}
+use Rattle.jvm_definition.specs.Step.{JvmState, jvm_start, jvm_turn}
+use Rattle.emit_layout.specs.Numbers.{main_methods}
+use Rattle.emit_paths_laws.specs.Classes.{reads, chars, switches, entries, executed}
+use Rattle.emit_paths_laws.specs.Guest.{Span, crossings, partial}
+use Rattle.translate_program.specs.declared.layout.Layout.{Layout}
+use Rattle.translate_program.specs.declared.span_info.SpanInfo.{SpanInfo}
+use Rattle.translate_program.specs.Bounds.{need}
 
 -- ---- the spans of a layout, as crossings are counted by
 
@@ -49,13 +49,13 @@ guest_trail source m answers =
     answers)
 
 -- in a region of so many words: from the start on, and behind the first call
-abbrev pub whole_class_trail : Program → ℕ → ℕ → List Answer → List (Step State)
+abbrev pub whole_class_trail : Program → ℕ → ℕ → List Answer → List (Step JvmState)
 whole_class_trail program words m answers =
-    trail_of (turn program words) next_answer m (start program) answers
+    trail_of (jvm_turn program words) next_answer m (jvm_start program) answers
 
-abbrev pub class_trail : Program → ℕ → ℕ → List Answer → List (Step State)
+abbrev pub class_trail : Program → ℕ → ℕ → List Answer → List (Step JvmState)
 class_trail program words m answers =
-    after_call (turn program words) (whole_class_trail program words m answers)
+    after_call (jvm_turn program words) (whole_class_trail program words m answers)
 
 -- ---- both
 

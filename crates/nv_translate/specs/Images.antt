@@ -1,13 +1,13 @@
 -- What holds of each image, and of its translations.
 use Rattle.std.specs.Prelude.{ℕ, ◌^◌, ◌<◌, ◌≤◌, List, Some}
-use Rattle.nv_words.specs.Words.{IsWord}
-use Rattle.command_values.specs.Names.{Text}
-use Rattle.elf_image.specs.Start.{Source, image_of}
-use Rattle.jvm_program.specs.Program.{Program}
-use Rattle.jvm_code.specs.declared.class.Class.{Class}
-use Rattle.jvm_link.specs.Linking.{program_of}
-use Rattle.program_translation.specs.declared.built.Built.{Built}
-use Rattle.program_translation.specs.declared.layout.Layout.{Layout}
+use Rattle.run_definition.specs.Words.{IsWord}
+use Rattle.nv_values.specs.Names.{Text}
+use Rattle.elf_definition.specs.Start.{Source, image_of}
+use Rattle.jvm_definition.specs.Program.{Program}
+use Rattle.class_definition.specs.declared.class.Class.{Class}
+use Rattle.class_definition.specs.Linking.{program_of}
+use Rattle.translate_program.specs.declared.built.Built.{Built}
+use Rattle.translate_program.specs.declared.layout.Layout.{Layout}
 use Rattle.nv_translate.specs.AcceptedCode.{HasAcceptedCode}
 use Rattle.nv_translate.specs.Linked.{IsLinked, IsLinkedBy}
 use Rattle.nv_translate.specs.MappedPages.{HasMappedPages}

@@ -1,6 +1,6 @@
 -- Layouts that are the same.
 use Rattle.std.specs.Prelude.{◌≡◌}
-use Rattle.program_translation.specs.declared.layout.Layout.{Layout}
+use Rattle.translate_program.specs.declared.layout.Layout.{Layout}
 
 -- They have the same spans and blocks, and need the same.
 pub record IsSameLayout (a b : Layout) : Type 0 where

@@ -6,15 +6,11 @@ pub mod Standing
 pub mod MappedPages
 pub mod Loading
 pub mod Accepted
-pub mod Stored
 pub mod Images
 pub mod Layouts
-pub mod Running
 pub mod Counts
 pub mod Staying
 pub mod Warm
 pub mod Sizes
-pub mod Ends
-pub mod Again
-pub mod Entered
 pub mod Metered
+pub mod Made

@@ -1,35 +1,35 @@
 -- The program that the classes of a translation are, method by method.
 use Rattle.std.specs.Prelude.{◌≡◌, ℕ, ◌+◌, ◌<◌, ◌≤◌, List, [], ◌∷◌, ◌++◌, map, length, slice_get, is_some, Option, Some, None}
 use Rattle.std.specs.List.{AllZip}
-use Rattle.command_values.specs.Names.{Text}
-use Rattle.elf_image.specs.Start.{Source}
-use Rattle.image_parts.specs.Pages.{Page}
-use Rattle.jvm_program.specs.declared.linked_method.LinkedMethod.{LinkedMethod}
-use Rattle.jvm_program.specs.Program.{Program}
-use Rattle.jvm_code.specs.declared.class.Class.{Class}
-use Rattle.class_file.specs.ClassFile.{Spells}
-use Rattle.name_resolution.specs.Faults.{twice_fault}
-use Rattle.jvm_link.specs.Linking.{program_of, parameters_of, gives_int, kind_of}
-use Rattle.code_steps.specs.Placing.{laid}
-use Rattle.guest_layout.specs.Fields.{field_descriptor}
-use Rattle.guest_layout.specs.Numbers.{run_number}
-use Rattle.loading_code.specs.declared.page_slot.PageSlot.{PageSlot}
+use Rattle.nv_values.specs.Names.{Text}
+use Rattle.elf_definition.specs.Start.{Source}
+use Rattle.elf_image_parts.specs.Pages.{Page}
+use Rattle.jvm_definition.specs.declared.linked_method.LinkedMethod.{LinkedMethod}
+use Rattle.jvm_definition.specs.Program.{Program}
+use Rattle.class_definition.specs.declared.class.Class.{Class}
+use Rattle.class_definition.specs.ClassFile.{Spells}
+use Rattle.class_definition.specs.LinkFault.{twice_fault}
+use Rattle.class_definition.specs.Linking.{program_of, parameters_of, gives_int, descriptor_kind}
+use Rattle.emit_steps.specs.Placing.{laid}
+use Rattle.emit_layout.specs.Fields.{field_descriptor}
+use Rattle.emit_layout.specs.Numbers.{run_number}
+use Rattle.emit_loading.specs.declared.page_slot.PageSlot.{PageSlot}
 use Rattle.data_strings.specs.Texts.{page_text}
-use Rattle.code_assembly.specs.declared.references.References.{References}
-use Rattle.whole_methods.specs.Naming.{fields_of}
-use Rattle.program_classes.specs.Making.{Plan}
-use Rattle.program_classes.specs.declared.content.MainClass.{MainClass}
-use Rattle.program_classes.specs.Content.{share_texts}
-use Rattle.program_classes.specs.Main.{main_plans}
-use Rattle.program_classes.specs.Code as codes
-use Rattle.program_classes.specs.Data.{words_plan, fill_plan}
-use Rattle.program_translation.specs.declared.named_file.NamedFile.{NamedFile}
-use Rattle.program_translation.specs.Classes.{Placed, AreCodeClasses, run_of, starts_of, spans_of}
-use Rattle.program_translation.specs.Blocks.{blocks_of}
-use Rattle.program_translation.specs.DataFiles.{class_count, filled_pages, pages_of_class, class_number, first_method}
-use Rattle.program_translation.specs.declared.built.Built.{Built}
-use Rattle.program_translation.specs.MainFile.{IsContent}
-use Rattle.program_translation.specs.Translation.{code_methods, fills_behind}
+use Rattle.emit_assembly.specs.declared.references.References.{References}
+use Rattle.emit_methods_laws.specs.Naming.{fields_of}
+use Rattle.translate_classes.specs.Making.{Plan}
+use Rattle.translate_classes.specs.declared.content.MainClass.{MainClass}
+use Rattle.translate_classes.specs.Content.{share_texts}
+use Rattle.translate_classes.specs.Main.{main_plans}
+use Rattle.translate_classes.specs.Code as codes
+use Rattle.translate_classes.specs.Data.{words_plan, fill_plan}
+use Rattle.translate_program.specs.declared.named_file.NamedFile.{NamedFile}
+use Rattle.translate_program.specs.Classes.{Placed, AreCodeClasses, run_of, starts_of, spans_of}
+use Rattle.translate_program.specs.Blocks.{blocks_of}
+use Rattle.translate_program.specs.DataFiles.{class_count, filled_pages, pages_of_class, class_number, first_method}
+use Rattle.translate_program.specs.declared.built.Built.{Built}
+use Rattle.translate_program.specs.MainFile.{IsContent}
+use Rattle.translate_program.specs.Translation.{code_methods, fills_behind}
 
 -- A method of a program is made by a plan.
 pub record IsPlanned (program : Program) (number : ℕ) (p : Plan) : Type 0 where
@@ -101,7 +101,7 @@ pub record IsLinkedBy (meter : Option ℕ) (source : Source) (name : Text) (meth
   pub distinct : twice_fault [] 0 classes ≡ None
   -- the fields of the main class, 38 and with a meter one more, are the program's, and it begins with the method `run`
   pub fields_are : (f : ℕ) → f < fields_of (is_some meter) → (program_of classes).field f
-      ≡ Some (kind_of (field_descriptor f))
+      ≡ Some (descriptor_kind (field_descriptor f))
   pub no_more_fields : (f : ℕ) → fields_of (is_some meter) ≤ f
       → (program_of classes).field f ≡ None
   pub first_is : (program_of classes).first ≡ run_number

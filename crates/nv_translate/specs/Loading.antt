@@ -1,17 +1,17 @@
 -- How the program of a translation makes its memory and begins.
 use Rattle.std.specs.Prelude.{◌≡◌, ◌≢◌, ℕ, ◌+◌, ◌*◌, ◌<◌, ◌≤◌, Bool, true, List, Option}
-use Rattle.elf_image.specs.Start.{Source, image_of, readable, writable}
-use Rattle.image_parts.specs.declared.page_run.PageRun.{PageRun}
-use Rattle.image_parts.specs.Pages.{page_words}
-use Rattle.jvm_program.specs.Program.{Program}
-use Rattle.guest_layout.specs.Numbers.{run_number, choose_number, pages_number}
-use Rattle.running_laws.specs.LoadingCodeLaws.Loaded.{Filler, MakersAreNone, MakesMemory, run_shares, memory_turns}
-use Rattle.running_laws.specs.LoadingCodeLaws.Made.{IsProgram}
-use Rattle.program_classes.specs.Content.{text_runs}
-use Rattle.program_translation.specs.Classes.{Placed}
-use Rattle.program_translation.specs.DataFiles.{class_count, filled_pages, first_method, fill_of}
-use Rattle.program_translation.specs.MainFile.{beginning_of}
-use Rattle.program_translation.specs.Translation.{code_methods}
+use Rattle.elf_definition.specs.Start.{Source, image_of, readable, writable}
+use Rattle.elf_image_parts.specs.declared.page_run.PageRun.{PageRun}
+use Rattle.elf_image_parts.specs.Pages.{page_words}
+use Rattle.jvm_definition.specs.Program.{Program}
+use Rattle.emit_layout.specs.Numbers.{run_number, choose_number, pages_number}
+use Rattle.emit_program_laws.specs.LoadingCodeLaws.Loaded.{Filler, MakersAreNone, MakesMemory, run_shares, memory_turns}
+use Rattle.emit_program_laws.specs.LoadingCodeLaws.Made.{IsProgram}
+use Rattle.translate_classes.specs.Content.{text_runs}
+use Rattle.translate_program.specs.Classes.{Placed}
+use Rattle.translate_program.specs.DataFiles.{class_count, filled_pages, first_method, fill_of}
+use Rattle.translate_program.specs.MainFile.{beginning_of}
+use Rattle.translate_program.specs.Translation.{code_methods}
 
 -- A method takes no part in loading: it is not the program's first one, nor the one that makes pages, nor one of a class of data.
 pub record TakesNoPart (source : Source) (code : List Placed) (m : ℕ) : Type 0 where

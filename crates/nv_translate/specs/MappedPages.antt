@@ -1,8 +1,8 @@
 -- The memory of a program that was accepted.
 use Rattle.std.specs.Prelude.{◌≡◌}
-use Rattle.elf_image.specs.Start.{Source, image_of, readable}
-use Rattle.elf_image.specs.Pages.{pages_below, count_below}
-use Rattle.running_laws.specs.LoadingCodeLaws.Images.{IsWhole}
+use Rattle.elf_definition.specs.Start.{Source, image_of, readable}
+use Rattle.elf_definition.specs.Pages.{pages_below, count_below}
+use Rattle.emit_program_laws.specs.LoadingCodeLaws.Images.{IsWhole}
 
 -- It is pages of words, and as many are mapped as can be read. Each image is so.
 pub record HasMappedPages (source : Source) : Type 0 where

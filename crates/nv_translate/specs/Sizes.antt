@@ -1,12 +1,12 @@
 -- How many bytes of code the methods of spans have, and how few spans there are.
 use Rattle.std.specs.Prelude.{◌≡◌, ℕ, ◌+◌, ◌<◌, ◌≤◌, All, List, length, slice_get, Some}
-use Rattle.jvm_program.specs.declared.linked_line.LinkedLine.{LinkedLine}
-use Rattle.jvm_program.specs.declared.linked_method.LinkedMethod.{LinkedMethod}
-use Rattle.jvm_program.specs.Program.{Program}
+use Rattle.jvm_definition.specs.declared.linked_line.LinkedLine.{LinkedLine}
+use Rattle.jvm_definition.specs.declared.linked_method.LinkedMethod.{LinkedMethod}
+use Rattle.jvm_definition.specs.Program.{Program}
 use Rattle.method_splitter.specs.Cuts.{Cuts}
 use Rattle.method_splitter.specs.declared.span.Span.{Span}
-use Rattle.program_translation.specs.Classes.{Placed}
-use Rattle.program_translation.specs.Spans.{weights_of}
+use Rattle.translate_program.specs.Classes.{Placed}
+use Rattle.translate_program.specs.Spans.{weights_of}
 
 -- a method has at most so many bytes of code: each of its instructions ends within them
 abbrev pub HasBytes : ℕ → LinkedMethod → Type 0

@@ -2,13 +2,13 @@
 use Rattle.std.specs.Prelude.{◌≡◌, ℕ, Bool, List}
 use Rattle.std.specs.List.{AllZip}
 use Rattle.delay_slots.specs.Units.{units_of}
-use Rattle.elf_image.specs.Start.{Source, image_of}
-use Rattle.jvm_program.specs.Program.{Program}
-use Rattle.guest_layout.specs.Numbers.{choose_number, missing_number}
-use Rattle.span_code.specs.Pieces.{flagged}
-use Rattle.running_laws.specs.TrampolineLaws.Classes.{CodeClass}
-use Rattle.running_laws.specs.TrampolineLaws.Programs.{IsTranslated}
-use Rattle.program_translation.specs.Classes.{Placed}
+use Rattle.elf_definition.specs.Start.{Source, image_of}
+use Rattle.jvm_definition.specs.Program.{Program}
+use Rattle.emit_layout.specs.Numbers.{choose_number, missing_number}
+use Rattle.emit_spans.specs.Pieces.{flagged}
+use Rattle.emit_program_laws.specs.TrampolineLaws.Classes.{CodeClass}
+use Rattle.emit_program_laws.specs.TrampolineLaws.Programs.{IsTranslated}
+use Rattle.translate_program.specs.Classes.{Placed}
 
 -- a class of a translation, whose range has these words
 abbrev pub class_of : Placed → List ℕ → CodeClass

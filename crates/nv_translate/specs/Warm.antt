@@ -1,49 +1,49 @@
 -- A translation is warm: the blocks of its layout are the pieces of its code, and what runs of each is its code over local variables.
 use Rattle.std.specs.Prelude.{◌≡◌, ℕ, ◌+◌, ◌-◌, ◌*◌, ◌<◌, ◌≤◌, true, false, List, length, slice_get, Option, Some, None, ⊤}
-use Rattle.nv_words.specs.declared.order.Order.{Order}
-use Rattle.nv_events.specs.Answer.{Answer, next_answer}
-use Rattle.nv_events.specs.Run.{Run, run_of}
-use Rattle.nv_events.specs.Turn.{Turn, moves, ends, leaves, asks}
-use Rattle.nv_events.specs.declared.outcome.Outcome.TheVariants.{Going}
-use Rattle.run_laws.specs.Runs.{ComesBy}
-use Rattle.mips_decode.specs.State as guest
+use Rattle.run_definition.specs.declared.order.Order.{Order}
+use Rattle.run_definition.specs.Answer.{Answer, next_answer}
+use Rattle.run_definition.specs.Run.{Run, run_of}
+use Rattle.run_definition.specs.Turn.{Turn, moves, ends, leaves, asks}
+use Rattle.run_definition.specs.declared.outcome.Outcome.TheVariants.{Going}
+use Rattle.run_simulation_laws.specs.Runs.{ComesBy}
+use Rattle.mips_definition.specs.State as guest
 use Rattle.delay_slots.specs.Places.{WordIndex}
-use Rattle.mips_decode.specs.Step as guest_step
+use Rattle.mips_definition.specs.Step as guest_step
 use Rattle.delay_slots.specs.declared.unit.Unit.{Unit}
 use Rattle.delay_slots.specs.Units.{units_of}
 use Rattle.block_builder.specs.Leaders.{is_leader}
 use Rattle.block_builder.specs.Blocks.{unit_at}
-use Rattle.elf_image.specs.Start.{Source, image_of}
-use Rattle.mips_machine.specs.Loading.{start_of}
-use Rattle.jvm_program.specs.declared.value.Value.TheVariants.{Int as int}
-use Rattle.jvm_program.specs.declared.linked_method.LinkedMethod.{LinkedMethod}
-use Rattle.jvm_program.specs.Program.{Program}
-use Rattle.jvm_program.specs.Effect.{Workspace}
-use Rattle.jvm_program.specs.Step.{State, Frame, start, turn}
-use Rattle.code_steps.specs.declared.step.Step.{Step}
-use Rattle.guest_layout.specs.FieldNumbers.{pc_field}
-use Rattle.guest_layout.specs.Numbers.{choose_number, missing_number}
+use Rattle.elf_definition.specs.Start.{Source, image_of}
+use Rattle.elf_definition.specs.Loading.{start_of}
+use Rattle.jvm_definition.specs.declared.value.Value.TheVariants.{Int as int}
+use Rattle.jvm_definition.specs.declared.linked_method.LinkedMethod.{LinkedMethod}
+use Rattle.jvm_definition.specs.Program.{Program}
+use Rattle.jvm_definition.specs.Effect.{Workspace}
+use Rattle.jvm_definition.specs.Step.{JvmState, Frame, jvm_start, jvm_turn}
+use Rattle.emit_steps.specs.declared.step.Step.{Step}
+use Rattle.emit_layout.specs.FieldNumbers.{pc_field}
+use Rattle.emit_layout.specs.Numbers.{choose_number, missing_number}
 use Rattle.word_emitter.specs.Pieces.{piece_units}
-use Rattle.span_code.specs.declared.span_words.SpanWords.{SpanWords}
-use Rattle.span_code.specs.Pieces.{begins, piece_at, piece_words}
-use Rattle.span_code.specs.Neighbours as words
-use Rattle.span_code.specs.Laying.{stretch_at}
-use Rattle.span_code.specs.Standing.{laid_part}
-use Rattle.running_laws.specs.SpanCodeLaws.Sites.{Site, stands, whole_weight}
-use Rattle.running_laws.specs.SpanCodeLaws.Pieces.{piece_turns}
-use Rattle.running_laws.specs.SpanCodeLaws.Entering.{IsEntered}
-use Rattle.running_laws.specs.SpanCodeLaws.Made.{AreTurns}
-use Rattle.code_paths.specs.Classes.{gets, puts}
-use Rattle.running_laws.specs.SpanCodeLaws.Registers.{AtMostOnce, lines_between, weigh_lines}
-use Rattle.running_laws.specs.SpanCodeLaws.Resuming.{FollowsInSpan, IsAtRest, Resumes, jumps_by_register}
-use Rattle.running_laws.specs.TrampolineLaws.Classes.{CodeClass, address, span_at, span_words}
-use Rattle.running_laws.specs.TrampolineLaws.Programs.{IsTranslated}
-use Rattle.running_laws.specs.Standing.{IsGuest, span_site}
-use Rattle.program_classes.specs.Blocks.{is_slot}
-use Rattle.program_translation.specs.declared.block_info.BlockInfo.{BlockInfo}
-use Rattle.program_translation.specs.declared.layout.Layout.{Layout}
-use Rattle.program_translation.specs.declared.span_info.SpanInfo.{SpanInfo}
-use Rattle.program_translation.specs.Bounds.{allow, need}
+use Rattle.emit_spans.specs.declared.span_words.SpanWords.{SpanWords}
+use Rattle.emit_spans.specs.Pieces.{begins, piece_at, piece_words}
+use Rattle.emit_spans.specs.Neighbours as words
+use Rattle.emit_spans.specs.Laying.{stretch_at}
+use Rattle.emit_spans.specs.Standing.{laid_part}
+use Rattle.emit_program_laws.specs.SpanCodeLaws.Sites.{Site, stands, whole_weight}
+use Rattle.emit_program_laws.specs.SpanCodeLaws.Pieces.{piece_turns}
+use Rattle.emit_program_laws.specs.SpanCodeLaws.Entering.{IsEntered}
+use Rattle.emit_program_laws.specs.SpanCodeLaws.Made.{AreTurns}
+use Rattle.emit_paths_laws.specs.Classes.{gets, puts}
+use Rattle.emit_program_laws.specs.SpanCodeLaws.Registers.{AtMostOnce, lines_between, weigh_lines}
+use Rattle.emit_program_laws.specs.SpanCodeLaws.Resuming.{FollowsInSpan, IsAtRest, Resumes, jumps_by_register}
+use Rattle.emit_program_laws.specs.TrampolineLaws.Classes.{CodeClass, address, span_at, span_words}
+use Rattle.emit_program_laws.specs.TrampolineLaws.Programs.{IsTranslated}
+use Rattle.emit_program_laws.specs.Standing.{IsGuest, span_site}
+use Rattle.translate_classes.specs.Blocks.{is_slot}
+use Rattle.translate_program.specs.declared.block_info.BlockInfo.{BlockInfo}
+use Rattle.translate_program.specs.declared.layout.Layout.{Layout}
+use Rattle.translate_program.specs.declared.span_info.SpanInfo.{SpanInfo}
+use Rattle.translate_program.specs.Bounds.{allow, need}
 use Rattle.nv_translate.specs.Counts.{span_number}
 use Rattle.nv_translate.specs.Staying.{Stays}
 
@@ -126,7 +126,7 @@ module _ {classes : List CodeClass} {layout : Layout} {b : BlockInfo} where
   last_unit p = unit_at (units_of p.class.words) (p.word + length (own_units p) - 1)
 
   -- where the classes go on behind it
-  abbrev pub GoesOn : Program → ℕ → IsPieceOf classes layout b → List Frame → State → guest.State
+  abbrev pub GoesOn : Program → ℕ → IsPieceOf classes layout b → List Frame → JvmState → guest.State
       → Type 0
   GoesOn program words p others y t =
       Resumes (site_of program words p others) (units_of p.class.words) p.class.leads (span_of p)
@@ -170,7 +170,7 @@ module _ {classes : List CodeClass} {layout : Layout} {b : BlockInfo} where
 
   -- The classes stand at the beginning of its code, and match.
   pub record AtBlock (program : Program) (order : Order) (code : ℕ → Option ℕ) (words : ℕ)
-      (p : IsPieceOf classes layout b) (others : List Frame) (t : guest.State) (y : State) : Type 0
+      (p : IsPieceOf classes layout b) (others : List Frame) (t : guest.State) (y : JvmState) : Type 0
     where
       pub workspace : Workspace
       pub matches : Matches order code p others workspace t
@@ -209,7 +209,7 @@ pub record RunsWarm (program : Program) (order : Order) (code : ℕ → Option �
       → AtMostOnce (λ f. weigh_lines (puts f) (lines_between b.from b.to method.lines))
   -- Where the piece does not end with JR or JALR, and the guest goes on at the first word of a block of the same span, the classes go on at that
   -- block's code, and match there: nothing is called, read or written between.
-  pub goes_on : (words : ℕ) (others : List Frame) (y : State) (t : guest.State) (d : BlockInfo)
+  pub goes_on : (words : ℕ) (others : List Frame) (y : JvmState) (t : guest.State) (d : BlockInfo)
       (q : IsPieceOf classes layout d)
       → GoesOn program words p others y t → IsGuest order code t → length others ≤ 31
       → jumps_by_register (last_unit p) ≡ false
@@ -260,9 +260,9 @@ pub record IsWarm (source : Source) (layout : Layout) (program : Program) : Type
       → (guest_run source n answers).outcome ≡ Going
       → (guest_run source n answers).last.pending ≡ None
       → (guest_run source n answers).last.pc ≡ b.first
-      → ComesBy (turn program words) next_answer (allow (image_of source).mapped (n + 1))
+      → ComesBy (jvm_turn program words) next_answer (allow (image_of source).mapped (n + 1))
       (λ y. (others : List Frame)
       × AtBlock program (image_of source).order (image_of source).code words p others
       (guest_run source n answers).last y)
       (guest_run source n answers).questions
-      (start program) answers
+      (jvm_start program) answers

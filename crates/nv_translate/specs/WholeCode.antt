@@ -1,10 +1,10 @@
 -- The code of a program that was accepted.
 use Rattle.std.specs.Prelude.{◌≤◌, List, All}
-use Rattle.elf_reader.specs.declared.range.Range.{Range}
-use Rattle.elf_reader.specs.Area.{area}
-use Rattle.elf_reader.specs.Fault.{IsRunsOf}
-use Rattle.elf_image.specs.Refusals.{code_words}
-use Rattle.elf_image.specs.Start.{Source, image_of}
+use Rattle.elf_definition.specs.declared.range.Range.{Range}
+use Rattle.elf_definition.specs.Area.{area}
+use Rattle.elf_definition.specs.Fault.{IsRunsOf}
+use Rattle.elf_definition.specs.ImageFault.{code_words}
+use Rattle.elf_definition.specs.Start.{Source, image_of}
 use Rattle.elf_image.specs.Whole.{IsWholeRange}
 
 -- It has not too many words, and each of its runs is whole.

@@ -3,16 +3,16 @@
 
 ghost use Rattle.std.specs.Prelude.{◌≡◌, ℕ, Option};
 ghost use Rattle.nv_outside.specs.Files.{Files};
-ghost use Rattle.command_values.specs.Names.{Text, IsClassName};
-ghost use Rattle.elf_image.specs.Start.{Source};
-ghost use Rattle.class_set.specs.declared.loaded.Loaded.TheVariants.{Classes};
-ghost use Rattle.class_set.specs.ClassSets.{class_set};
-ghost use Rattle.program_translation.specs.declared.built.Built.{Built};
-ghost use Rattle.program_translation.specs.Translation.{IsTranslationBy};
+ghost use Rattle.nv_values.specs.Names.{Text, IsClassName};
+ghost use Rattle.elf_definition.specs.Start.{Source};
+ghost use Rattle.class_sets.specs.declared.loaded.Loaded.TheVariants.{Classes};
+ghost use Rattle.class_sets.specs.ClassSets.{class_set};
+ghost use Rattle.translate_program.specs.declared.built.Built.{Built};
+ghost use Rattle.translate_program.specs.Translation.{IsTranslationBy};
 ghost use Rattle.nv_translate.specs.Linked.{IsLinkedBy};
 ghost use Rattle.nv_translate.specs.AcceptedCode.{HasAcceptedCode};
 ghost use Rattle.nv_translate.specs.Accepted.{AreAccepted};
-ghost use Rattle.nv_translate.specs.Stored.{AreStored};
+ghost use Rattle.nv_translate.specs.Translated.{AreStored};
 
 use crate::linked_translations::translations_link;
 use crate::translated_types::translations_are_typed;
@@ -29,7 +29,7 @@ pub fn translations_are_accepted()
     translations_are_typed();
 }
 
-/// Where its files are stored, they are the classes that are loaded by the name of the main class, whatever other files are there.
+/// If its files are stored, they are the classes that are loaded by the name of the main class, whatever other files are there.
 pub fn translations_are_sets()
     ensures { (meter : Option ℕ) (source : Source) (name : Text) (method_bytes : ℕ) (built : Built)
         (files : Files)

@@ -1,14 +1,13 @@
 //! That the classes of a translation do what the program does. Each call here does nothing: its contract is the law.
 
 ghost use Rattle.std.specs.Prelude.{ℕ, ◌^◌, ◌<◌, ◌≤◌, Some};
-ghost use Rattle.nv_words.specs.Words.{IsWord};
-ghost use Rattle.command_values.specs.Names.{IsClassName, Text};
-ghost use Rattle.program_translation.specs.declared.built.Built.{Built};
-ghost use Rattle.program_translation.specs.Translation.{IsTranslation, IsTranslationBy};
+ghost use Rattle.run_definition.specs.Words.{IsWord};
+ghost use Rattle.nv_values.specs.Names.{IsClassName, Text};
+ghost use Rattle.translate_program.specs.declared.built.Built.{Built};
+ghost use Rattle.translate_program.specs.Translation.{IsTranslation, IsTranslationBy};
 ghost use Rattle.nv_translate.specs.Images.{IsImage, OfTranslations};
-ghost use Rattle.nv_translate.specs.Metered.{TranslatedMetered};
-ghost use Rattle.nv_translate.specs.Running.{RunsAlike};
-ghost use Rattle.nv_translate.specs.Translated.{Translated};
+ghost use Rattle.nv_translate.specs.Made.{Made, MadeMetered};
+ghost use Rattle.nv_translate.specs.Translated.{RunsAlike};
 
 use crate::accepted_translations::{translations_are_accepted, translations_are_sets};
 use crate::counted_translations::translations_count_alike;
@@ -22,10 +21,12 @@ use crate::translated_loading::{others_do_not_load, translations_load};
 use crate::translated_methods::translations_stand;
 use crate::warm_translations::translations_are_warm;
 use elf_image::Image;
-use running_laws::images_are_pages;
-use running_laws::laws::translated_programs_run_alike;
+use emit_program_laws::images_are_pages;
+use emit_program_laws::laws::translated_programs_run_alike;
 
-/// The classes of a translation run as the program does: for every list of answers of the system and every bound, both ways.
+/// The classes of a translation run as the program does: for every list of answers of the system and every bound, both
+/// ways. For n turns of the program the classes have the allowance for n, and in m turns they do no more than the
+/// program in m of its own.
 pub fn translations_run_alike()
     ensures { OfTranslations (λ source layout program. RunsAlike source program) }
 {
@@ -41,7 +42,7 @@ pub fn images_are_translated(image: &Image)
     ensures { (name : Text) (method_bytes : ℕ) (built : Built)
         → IsClassName name → 4096 ≤ method_bytes
         → IsTranslation image.now name method_bytes built
-        → Translated image.now name method_bytes built }
+        → Made image.now name method_bytes built }
 {
     is_image(image);
     translations_link();
@@ -62,7 +63,7 @@ pub fn metered_images_are_translated(image: &Image)
     ensures { (name : Text) (method_bytes turns : ℕ) (built : Built)
         → IsClassName name → 4096 ≤ method_bytes → turns < 2 ^ 31
         → IsTranslationBy (Some turns) image.now name method_bytes built
-        → TranslatedMetered image.now name method_bytes turns built }
+        → MadeMetered image.now name method_bytes turns built }
 {
     is_image(image);
     translations_link();

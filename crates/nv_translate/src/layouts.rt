@@ -1,10 +1,10 @@
 //! That a program has one layout. The call here does nothing: its contract is the law.
 
 ghost use Rattle.std.specs.Prelude.{ℕ, Option};
-ghost use Rattle.command_values.specs.Names.{Text};
-ghost use Rattle.elf_image.specs.Start.{Source};
-ghost use Rattle.program_translation.specs.declared.built.Built.{Built};
-ghost use Rattle.program_translation.specs.Translation.{IsTranslationBy};
+ghost use Rattle.nv_values.specs.Names.{Text};
+ghost use Rattle.elf_definition.specs.Start.{Source};
+ghost use Rattle.translate_program.specs.declared.built.Built.{Built};
+ghost use Rattle.translate_program.specs.Translation.{IsTranslationBy};
 ghost use Rattle.nv_translate.specs.Layouts.{IsSameLayout};
 
 /// A program has one layout for each limit of bytes, whatever it is called, and with each meter or none: its spans, its blocks and what it needs.

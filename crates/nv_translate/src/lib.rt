@@ -21,7 +21,7 @@ pub mod warm_translations;
 
 pub use layouts::layouts_are_one;
 pub use metered_translation::{translate_files_metered, translate_metered};
-pub use program_translation::{
+pub use translate_program::{
     BlockInfo, Built, Layout, NamedFile, NoMemory, SpanInfo, allow, meter_allow, need,
 };
 pub use translation::{translate, translate_files};

@@ -2,15 +2,15 @@
 //! the law.
 
 ghost use Rattle.std.specs.Prelude.{ℕ, Bool, List, Option};
-ghost use Rattle.command_values.specs.Names.{Text};
-ghost use Rattle.elf_image.specs.Start.{Source};
-ghost use Rattle.jvm_link.specs.Linking.{program_of};
-ghost use Rattle.program_translation.specs.Classes.{Placed, AreCodeClasses};
-ghost use Rattle.program_translation.specs.declared.built.Built.{Built};
+ghost use Rattle.nv_values.specs.Names.{Text};
+ghost use Rattle.elf_definition.specs.Start.{Source};
+ghost use Rattle.class_definition.specs.Linking.{program_of};
+ghost use Rattle.translate_program.specs.Classes.{Placed, AreCodeClasses};
+ghost use Rattle.translate_program.specs.declared.built.Built.{Built};
 ghost use Rattle.nv_translate.specs.Linked.{IsLinkedBy};
 ghost use Rattle.nv_translate.specs.Sizes.{AreLeast, AreSized};
 
-use code_limits::size_laws::divided_words_keep_to_the_limit;
+use emit_limits::size_laws::divided_words_keep_to_the_limit;
 
 /// The method of each span of a linked translation has at most as many bytes of code as a method may have.
 pub fn translated_spans_keep_to_the_limit()

@@ -1,18 +1,18 @@
 //! How a translation with a meter stops. Each call here does nothing: its contract is the law.
 
 ghost use Rattle.std.specs.Prelude.{◌≡◌, ℕ, List, [], Some};
-ghost use Rattle.command_values.specs.Names.{Text};
-ghost use Rattle.elf_image.specs.Start.{Source};
-ghost use Rattle.jvm_link.specs.Linking.{program_of};
-ghost use Rattle.program_translation.specs.declared.built.Built.{Built};
+ghost use Rattle.nv_values.specs.Names.{Text};
+ghost use Rattle.elf_definition.specs.Start.{Source};
+ghost use Rattle.class_definition.specs.Linking.{program_of};
+ghost use Rattle.translate_program.specs.declared.built.Built.{Built};
 ghost use Rattle.nv_translate.specs.Images.{OfMeteredTranslations};
 ghost use Rattle.nv_translate.specs.Linked.{IsLinkedBy};
 ghost use Rattle.nv_translate.specs.Metered.{EndsByItsMeter, StopsByItsMeter};
 
 use crate::translated_loading::{others_do_not_load, translations_load};
 use crate::translated_methods::translations_stand;
-use metered_programs::laws::metered_programs_follow;
-use running_laws::images_are_pages;
+use emit_metered_laws::laws::metered_programs_follow;
+use emit_program_laws::images_are_pages;
 
 /// The classes of a translation with a meter run as the program does, as far as its turns go, and then stop: over every list of answers, and over
 /// the system from each of its states.
@@ -27,7 +27,7 @@ pub fn metered_translations_stop()
     metered_programs_follow();
 }
 
-/// Its layout has no blocks: each word stands alone, and before it its turns are taken off the meter.
+/// Its layout has no blocks: each word is alone, and before it its turns are taken off the meter.
 pub fn metered_translations_have_no_blocks()
     ensures { (source : Source) (name : Text) (method_bytes turns : ℕ) (built : Built)
         → IsLinkedBy (Some turns) source name method_bytes built

@@ -1,11 +1,12 @@
-ghost use Rattle.std.specs.Prelude.{IfOk};
-ghost use Rattle.nv_translate.specs.Translated.{AreTranslatedFiles, Translated};
+ghost use Rattle.std.specs.Prelude.{IfOk, None};
+ghost use Rattle.nv_translate.specs.Made.{AreMade, Made};
+ghost use Rattle.nv_translate.specs.Translated.{Translated};
 
 use crate::laws::images_are_translated;
-use command_values::{ClassName, MethodBytes};
 use elf_image::Image;
-use program_translation::{Built, NamedFile, NoMemory};
+use nv_values::{ClassName, MethodBytes};
 use std::alloc::Global;
+use translate_program::{Built, NamedFile, NoMemory};
 
 /// Translates a program to class files.
 ///
@@ -16,37 +17,38 @@ use std::alloc::Global;
 /// system, with the same bytes, and end in the same way, for all answers of the system and every bound.
 ///
 /// # Errors
-/// Want of memory for the classes.
+/// Out of memory for the classes.
 pub fn translate(
     alloc: Global,
     image: &Image,
     name: &ClassName,
     method_bytes: MethodBytes,
 ) -> Result<Built, NoMemory>
-    ensures { IfOk result (Translated image.now name.now method_bytes) }
+    ensures translated { IfOk result (λ built. Translated image.now name.now built.files.items) }
+    ensures made { IfOk result (Made image.now name.now method_bytes) }
 {
     images_are_translated(image);
     name.laws();
     method_bytes.laws();
-    program_translation::translate(alloc, image, name, method_bytes)
+    translate_program::translate(alloc, image, name, method_bytes)
 }
 
-/// Translates a program to class files, as `translate` does, and gives these files alone, in less memory: where their blocks stand is not
+/// Translates a program to class files, as `translate` does, and gives these files alone, in less memory: where their blocks are is not
 /// told, and the image is let go before its code is made.
 ///
 /// # Errors
-/// Want of memory for the classes.
+/// Out of memory for the classes.
 pub fn translate_files(
     alloc: Global,
     image: Image,
     name: &ClassName,
     method_bytes: MethodBytes,
 ) -> Result<Vec<NamedFile>, NoMemory>
-    ensures { IfOk result (λ files.
-        AreTranslatedFiles image name.now method_bytes files.items) }
+    ensures translated { IfOk result (λ files. Translated image name.now files.items) }
+    ensures made { IfOk result (λ files. AreMade None image name.now method_bytes files.items) }
 {
     images_are_translated(&image);
     name.laws();
     method_bytes.laws();
-    program_translation::translate_files(alloc, image, name, method_bytes)
+    translate_program::translate_files(alloc, image, name, method_bytes)
 }

@@ -5,13 +5,13 @@ ghost use Rattle.nv_translate.specs.Warm.{IsWarm};
 
 use crate::translated_loading::{others_do_not_load, translations_load};
 use crate::translated_methods::translations_stand;
-use program_classes_laws::named_code::{helpers_name_well, spans_name_well};
-use running_laws::laws::translated_programs_come_to_marks;
-use running_laws::{
+use emit_program_laws::laws::translated_programs_come_to_marks;
+use emit_program_laws::{
     images_are_pages, lines_of_pieces_read_and_write_registers_once, pieces_are_made,
     pieces_follow, spans_are_entered, spans_are_numbered, stretches_are_of_pieces,
     units_are_lawful,
 };
+use translate_classes_laws::named_code::{helpers_name_well, spans_name_well};
 
 /// The blocks of a translation's layout are the pieces of its code, each once and in the order of their addresses. What runs of each is its code over
 /// local variables: from the address of its first word the span's method goes there; from there the classes follow the program through the piece, to

@@ -1,7 +1,7 @@
 -- The four lanes of a word, for the crates above.
 use Rattle.std.proofs.Common.{◌≡◌, ℕ, zero, suc, ◌-◌, ◌*◌, ◌%◌, ◌^◌, ◌<◌, ◌==◌, if◌then◌else◌, arith, lit<}
 use Rattle.std.proofs.lemmas.Grind.{common_steps}
-use Rattle.nv_words.specs.Words.{IsWord, lane_of_word, word_with_lane, word_of_bytes, signed_of, unsigned_of}
+use Rattle.run_definition.specs.Words.{IsWord, lane_of_word, word_with_lane, word_of_bytes, signed_of, unsigned_of}
 
 -- what holds of 0, 1, 2 and 3 holds of each number below 4
 pub below_four : (P : ℕ → Type 0) → P 0 → P 1 → P 2 → P 3 → (i : ℕ) → i < 4 → P i

@@ -2,7 +2,7 @@
 use Rattle.std.proofs.Common.{◌≡◌, ℤ, pos, negsuc, arith}
 use Rattle.std.specs.Prelude.{FitsSigned}
 use Rattle.std.specs.Int.{w32}
-use Rattle.nv_words.specs.Words.{IsWord, unsigned_of, wrapped}
+use Rattle.run_definition.specs.Words.{IsWord, unsigned_of, wrapped}
 
 pub wrapped-word : (z : ℤ) → IsWord (wrapped z)
 wrapped-word (pos n) = omega arith

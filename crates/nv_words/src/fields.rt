@@ -1,12 +1,12 @@
-//! Half-words and words that stand in a slice of bytes.
+//! Half-words and words that are in a slice of bytes.
 ghost use Rattle.std.specs.Prelude.{◌≡◌, ℕ, ◌+◌, ◌-◌, ◌<◌, ◌≤◌, ◌↔◌, length, slice_index, IsTrue, IsSome, IfSome, if◌then◌else◌};
-ghost use Rattle.nv_words.specs.declared.order.Order.TheVariants.{Big};
-ghost use Rattle.nv_words.specs.Words.{half_of_list, word_of_list, bytes_of_half, bytes_of_word, list_with};
+ghost use Rattle.run_definition.specs.declared.order.Order.TheVariants.{Big};
+ghost use Rattle.run_definition.specs.Words.{half_of_list, word_of_list, bytes_of_half, bytes_of_word, list_with};
 
-use crate::order::Order;
 use byteorder::{BigEndian, ByteOrder, LittleEndian};
+use run_definition::Order;
 
-/// The big-endian half-word at `at`; None exactly where it runs past the end.
+/// The big-endian half-word at `at`; None exactly if it runs past the end.
 pub fn half_at(b: &[u8], at: usize) -> Option<u16>
     ensures there { IsSome result ↔ (at + 2 ≤ length b.now) }
     ensures value { IfSome result (λ half. half ≡ half_of_list Big b.now at) }
@@ -14,7 +14,7 @@ pub fn half_at(b: &[u8], at: usize) -> Option<u16>
     half_in(Order::Big, b, at)
 }
 
-/// The big-endian word at `at`; None exactly where it runs past the end.
+/// The big-endian word at `at`; None exactly if it runs past the end.
 pub fn word_at(b: &[u8], at: usize) -> Option<u32>
     ensures there { IsSome result ↔ (at + 4 ≤ length b.now) }
     ensures value { IfSome result (λ word. word ≡ word_of_list Big b.now at) }
@@ -22,7 +22,7 @@ pub fn word_at(b: &[u8], at: usize) -> Option<u32>
     word_in(Order::Big, b, at)
 }
 
-/// The half-word at `at` in the given order; None exactly where it runs past the end.
+/// The half-word at `at` in the given order; None exactly if it runs past the end.
 pub fn half_in(order: Order, b: &[u8], at: usize) -> Option<u16>
     ensures there { IsSome result ↔ (at + 2 ≤ length b.now) }
     ensures value { IfSome result (λ half. half ≡ half_of_list order b.now at) }
@@ -34,7 +34,7 @@ pub fn half_in(order: Order, b: &[u8], at: usize) -> Option<u16>
     })
 }
 
-/// The word at `at` in the given order; None exactly where it runs past the end.
+/// The word at `at` in the given order; None exactly if it runs past the end.
 pub fn word_in(order: Order, b: &[u8], at: usize) -> Option<u32>
     ensures there { IsSome result ↔ (at + 4 ≤ length b.now) }
     ensures value { IfSome result (λ word. word ≡ word_of_list order b.now at) }
@@ -46,7 +46,7 @@ pub fn word_in(order: Order, b: &[u8], at: usize) -> Option<u32>
     })
 }
 
-/// Writes the half-word at `at`, big-endian; false, with nothing changed, exactly where it would run past the end.
+/// Writes the half-word at `at`, big-endian; false, with nothing changed, exactly if it would run past the end.
 pub fn put_half(b: &mut [u8], at: usize, v: u16) -> bool
     ensures fits { IsTrue result ↔ (at + 2 ≤ length b.old) }
     ensures after { b.new ≡ (if result then list_with b.old at (bytes_of_half v) else b.old) }
@@ -58,7 +58,7 @@ pub fn put_half(b: &mut [u8], at: usize, v: u16) -> bool
     true
 }
 
-/// Writes the word at `at`, big-endian; false, with nothing changed, exactly where it would run past the end.
+/// Writes the word at `at`, big-endian; false, with nothing changed, exactly if it would run past the end.
 pub fn put_word(b: &mut [u8], at: usize, v: u32) -> bool
     ensures fits { IsTrue result ↔ (at + 4 ≤ length b.old) }
     ensures after { b.new ≡ (if result then list_with b.old at (bytes_of_word v) else b.old) }

@@ -1,8 +1,8 @@
 //! The four bytes of a word, which are its lanes.
 ghost use Rattle.std.specs.Prelude.{◌≡◌, ℕ, ◌==◌, ◌<◌, if◌then◌else◌};
-ghost use Rattle.nv_words.specs.Words.{lane_of_word, lane_in_order, word_with_lane};
+ghost use Rattle.run_definition.specs.Words.{lane_of_word, lane_in_order, word_with_lane};
 
-use crate::order::Order;
+use run_definition::Order;
 
 /// Lane i of a word, lane 0 the most significant byte.
 pub fn lane(w: u32, i: u32) -> u8

@@ -3,10 +3,9 @@
 
 mod fields;
 mod lanes;
-mod order;
 mod sign;
 
 pub use fields::{half_at, half_in, put_half, put_word, word_at, word_in};
 pub use lanes::{lane, lane_of, with_lane};
-pub use order::Order;
+pub use run_definition::Order;
 pub use sign::{signed, unsigned};

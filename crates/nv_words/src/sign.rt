@@ -1,6 +1,6 @@
 //! Words as two's complement numbers.
 ghost use Rattle.std.specs.Prelude.{◌≡◌};
-ghost use Rattle.nv_words.specs.Words.{signed_of, unsigned_of};
+ghost use Rattle.run_definition.specs.Words.{signed_of, unsigned_of};
 
 /// The word as a two's complement number.
 pub fn signed(w: u32) -> i32

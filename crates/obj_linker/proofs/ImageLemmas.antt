@@ -6,9 +6,9 @@ use Rattle.obj_linker.specs.declared.group.Group.TheVariants.{Code, Constants, D
 use Rattle.obj_linker.specs.declared.layout.Ends.{Ends}
 use Rattle.obj_reader.specs.declared.section.Section.{Section}
 use Rattle.obj_linker.specs.Cursor.{IsEnds}
-use Rattle.obj_linker.specs.Image.{contents_of, group_bytes, image_of, placed_bytes}
+use Rattle.obj_linker.specs.Image.{contents_of, group_bytes, linked_bytes, placed_bytes}
 use Rattle.obj_linker.specs.Layout.{is_in, group_end, next_end, section_start, code_end, text_end, data_end, text_start, data_start}
-use Rattle.obj_linker.specs.Names.{bytes_of}
+use Rattle.obj_linker.specs.Names.{object_bytes}
 use Rattle.obj_reader.specs.Sections.{has_bytes}
 use Rattle.obj_reader.specs.Symbols.{bytes_in}
 use Rattle.obj_linker.proofs.LayoutLemmas.{le_rounded}
@@ -20,8 +20,8 @@ short_by false front size h = omega (arith, length-replicate {A = ℕ} size 0)
 -- a section holds at most its size
 short_contents : (files : List (List ℕ)) (s : Section) → length (contents_of files s) ≤ s.sh_size
 short_contents files s =
-    short_by (has_bytes s) (bytes_in (bytes_of files s.object) s) s.sh_size
-    (omega (arith, length-take (s.sh_offset + s.sh_size - s.sh_offset) (drop s.sh_offset (bytes_of files s.object))))
+    short_by (has_bytes s) (bytes_in (object_bytes files s.object) s) s.sh_size
+    (omega (arith, length-take (s.sh_offset + s.sh_size - s.sh_offset) (drop s.sh_offset (object_bytes files s.object))))
 
 placed_by : (t : Bool) (at start size : ℕ) (bytes : List ℕ) → at ≤ start → length bytes ≤ size
     → at + length (cond t (replicate (start - at) 0 ++ bytes) []) ≤ cond t (start + size) at
@@ -44,8 +44,8 @@ short_group files group at (s ∷ sections) =
       length-append (placed_bytes files group at s) (group_bytes files group (next_end group at s) sections),
     )
 
-pub short_image : (files : List (List ℕ)) (sections : List Section) (e : Ends) → IsEnds sections e → length (image_of files sections) ≤ 33554432
-unfolding image_of code_end text_end data_end
+pub short_image : (files : List (List ℕ)) (sections : List Section) (e : Ends) → IsEnds sections e → length (linked_bytes files sections) ≤ 33554432
+unfolding linked_bytes code_end text_end data_end
 short_image files sections e ends =
     let code = group_bytes files Code text_start sections in
     let constants = group_bytes files Constants (code_end sections) sections in

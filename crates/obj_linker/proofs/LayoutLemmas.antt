@@ -9,7 +9,7 @@ use Rattle.obj_linker.specs.declared.group.Group.TheVariants.{Code, Constants, D
 use Rattle.obj_reader.specs.declared.section.Section.{Section}
 use Rattle.obj_linker.specs.declared.layout.Ends.{Ends}
 use Rattle.obj_linker.specs.Cursor.{HasRoom, IsEnds, place_at}
-use Rattle.obj_linker.specs.Layout.{is_in, group_end, next_end, rounded, section_start, place_of, places_from, code_end, text_end, data_end, zeros_end, text_start, data_start, max_text, max_data, max_zeros, is_too_large}
+use Rattle.obj_linker.specs.Layout.{is_in, group_end, next_end, rounded, section_start, section_place, places_from, code_end, text_end, data_end, zeros_end, text_start, data_start, max_text, max_data, max_zeros, is_too_large}
 
 -- a multiple of a number, from another number on
 multiple_from : (a q r at : ℕ) → 1 ≤ a → a * q + r ≡ at + (a - 1) → r < a → at ≤ q * a
@@ -174,7 +174,7 @@ cursor_more group at cursor next all i d lt is step =
 place_is : (all : List Section) (c : Cursors) (before : List Section) (s : Section)
     → c.code ≡ group_end Code text_start before → c.constants ≡ group_end Constants (code_end all) before
     → c.data_at ≡ group_end Data data_start before → c.zeros ≡ group_end Zeros (data_end all) before
-    → place_at c s ≡ place_of all before s
+    → place_at c s ≡ section_place all before s
 place_is all c before s a b f g = λ j.
     cond (is_in Code s) (section_start (a j) s)
     (cond (is_in Constants s) (section_start (b j) s)

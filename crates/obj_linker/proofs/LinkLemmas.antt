@@ -5,7 +5,7 @@ use Rattle.std.specs.Option.{option_or}
 use Rattle.obj_linker.specs.declared.layout.Ends.{Ends}
 use Rattle.obj_linker.specs.declared.meaning.Meaning.{Meaning}
 use Rattle.obj_reader.specs.declared.obj_error.ObjError.{ObjError}
-use Rattle.nv_faults.specs.declared.obj_fault.ObjFault.{ObjFault}
+use Rattle.elf_definition.specs.declared.obj_fault.ObjFault.{ObjFault}
 use Rattle.obj_reader.specs.declared.relocation.Relocation.{Relocation}
 use Rattle.obj_reader.specs.declared.section.Section.{Section}
 use Rattle.obj_reader.specs.declared.symbol.Symbol.{Symbol}
@@ -16,7 +16,7 @@ use Rattle.obj_linker.specs.Link.{IsFileWith, IsLinked, entry_of, linked_image, 
 use Rattle.obj_linker.specs.Names.{first_repeated, meaning_of}
 use Rattle.obj_reader.specs.Objects.{first_start, relocations_from, sections_from, symbols_from}
 use Rattle.obj_linker.specs.Pairs.{first_alone}
-use Rattle.obj_linker.specs.Program.{IsFileOf}
+use Rattle.obj_linker.specs.Program.{IsLinkedFile}
 use Rattle.obj_linker.specs.Sites.{is_undefined}
 use Rattle.obj_linker.specs.Whole.{relocation_fault_of, symbol_fault_of}
 use Rattle.obj_reader.proofs.FaultLemmas.{first_comes}
@@ -25,14 +25,14 @@ use Rattle.obj_reader.proofs.FaultLemmas.{first_comes}
 pub file_with : (files : List (List ℕ)) (sections : List Section) (symbols : List Symbol) (relocations : List Relocation) (entry file image : List ℕ)
     (at : ℕ) (e : Ends)
     → entry_of files sections symbols entry ≡ Some at → image ≡ linked_image files sections symbols relocations → IsEnds sections e
-    → IsFileOf at image e.code e.text e.zeros file → IsFileWith files sections symbols relocations entry file
+    → IsLinkedFile at image e.code e.text e.zeros file → IsFileWith files sections symbols relocations entry file
 file_with files sections symbols relocations entry file image at e is same ends written = (
   at,
   is,
-  subst (λ i. IsFileOf at i (code_end sections) (text_end sections) (zeros_end sections) file) same
-      (subst (λ n. IsFileOf at image n (text_end sections) (zeros_end sections) file) ends.code
-      (subst (λ n. IsFileOf at image e.code n (zeros_end sections) file) ends.text
-      (subst (λ n. IsFileOf at image e.code e.text n file) ends.zeros written))),
+  subst (λ i. IsLinkedFile at i (code_end sections) (text_end sections) (zeros_end sections) file) same
+      (subst (λ n. IsLinkedFile at image n (text_end sections) (zeros_end sections) file) ends.code
+      (subst (λ n. IsLinkedFile at image e.code n (zeros_end sections) file) ends.text
+      (subst (λ n. IsLinkedFile at image e.code e.text n file) ends.zeros written))),
 )
 
 pub linked : (files : List (List ℕ)) (sections : List Section) (symbols : List Symbol) (relocations : List Relocation) (entry file : List ℕ)

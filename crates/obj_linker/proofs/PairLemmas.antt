@@ -10,7 +10,7 @@ use Rattle.std.proofs.lemmas.List.{drop_at, reverse-append}
 use Rattle.std.proofs.lemmas.Map.Text.{is_eq-slice_cmp}
 use Rattle.obj_reader.specs.declared.relocation.Relocation.{Relocation}
 use Rattle.obj_linker.specs.Pairs.{LowList, first_alone, is_low_of, low_in, low_of, lows}
-use Rattle.obj_reader.specs.Relocations.{is_high, offset_of}
+use Rattle.obj_reader.specs.Relocations.{is_high, relocation_offset}
 
 -- the order of pairs of numbers
 abbrev pub pair_cmp : ℕ × ℕ → ℕ × ℕ → Ordering
@@ -67,27 +67,27 @@ whole_more all rest before r whole cut =
     ∙ sym (append_assoc before (r ∷ []) later) ∙ ap (λ l. l ++ later) (sym cut) ∙ whole
 
 offset_found : (t : Bool) (r : Relocation) (o : Option Relocation)
-    → cond t (Some r.r_offset) (option_map offset_of o) ≡ option_map offset_of (cond t (Some r) o)
+    → cond t (Some r.r_offset) (option_map relocation_offset o) ≡ option_map relocation_offset (cond t (Some r) o)
 offset_found true r o = refl
 offset_found false r o = refl
 
 pub found_more : (old new : LowList) (r : Relocation) (later more : List Relocation)
-    → ((a b : ℕ) → low_in old a b ≡ option_map offset_of (find (is_low_of a b) later))
+    → ((a b : ℕ) → low_in old a b ≡ option_map relocation_offset (find (is_low_of a b) later))
     → ((a b : ℕ) → low_in new a b ≡ cond (is_low_of a b r) (Some r.r_offset) (low_in old a b))
     → more ≡ r ∷ later
-    → (a b : ℕ) → low_in new a b ≡ option_map offset_of (find (is_low_of a b) more)
+    → (a b : ℕ) → low_in new a b ≡ option_map relocation_offset (find (is_low_of a b) more)
 found_more old new r later more was step is a b =
     step a b ∙ ap (λ o. cond (is_low_of a b r) (Some r.r_offset) o) (was a b) ∙ offset_found (is_low_of a b r) r (find (is_low_of a b) later)
-    ∙ ap (λ l. option_map offset_of (find (is_low_of a b) l)) (sym is)
+    ∙ ap (λ l. option_map relocation_offset (find (is_low_of a b) l)) (sym is)
 
 -- the lower half of a relocation
 low_is : (old : LowList) (r : Relocation) (later : List Relocation) (low : Option ℕ)
-    → ((a b : ℕ) → low_in old a b ≡ option_map offset_of (find (is_low_of a b) later))
+    → ((a b : ℕ) → low_in old a b ≡ option_map relocation_offset (find (is_low_of a b) later))
     → low ≡ cond (is_high r) (low_in old r.section r.symbol) None → low ≡ low_of r later
 low_is old r later low was is = is ∙ ap (λ o. cond (is_high r) o None) (was r.section r.symbol)
 
 pub lows_more : (old : LowList) (r : Relocation) (later more : List Relocation) (low : Option ℕ) (xs ys : List (Option ℕ))
-    → ((a b : ℕ) → low_in old a b ≡ option_map offset_of (find (is_low_of a b) later))
+    → ((a b : ℕ) → low_in old a b ≡ option_map relocation_offset (find (is_low_of a b) later))
     → low ≡ cond (is_high r) (low_in old r.section r.symbol) None
     → reverse xs ≡ lows later → ys ≡ xs ++ low ∷ [] → more ≡ r ∷ later
     → reverse ys ≡ lows more
@@ -96,7 +96,7 @@ lows_more old r later more low xs ys was is before pushed all =
     ∙ ap (λ o. o ∷ lows later) (low_is old r later low was is) ∙ ap lows (sym all)
 
 pub alone_more : (old : LowList) (r : Relocation) (later more : List Relocation) (low : Option ℕ) (alone next : Option Relocation)
-    → ((a b : ℕ) → low_in old a b ≡ option_map offset_of (find (is_low_of a b) later))
+    → ((a b : ℕ) → low_in old a b ≡ option_map relocation_offset (find (is_low_of a b) later))
     → low ≡ cond (is_high r) (low_in old r.section r.symbol) None
     → alone ≡ first_alone later → next ≡ cond (is_high r && is_none low) (Some r) alone → more ≡ r ∷ later
     → next ≡ first_alone more

@@ -8,7 +8,7 @@ use Rattle.obj_linker.specs.declared.meaning.Meaning.TheVariants.{Number}
 use Rattle.obj_linker.specs.declared.name.Name.{Name}
 use Rattle.obj_reader.specs.declared.symbol.Symbol.{Symbol}
 use Rattle.obj_reader.specs.Symbols.{binding, is_defined, is_local}
-use Rattle.obj_linker.specs.Names.{defines, defines_weakly, needs, missing_meaning, name_of, own_meaning}
+use Rattle.obj_linker.specs.Names.{defines, defines_weakly, needs, missing_meaning, name_of_symbol, own_meaning}
 use denote.Ref.{Bor}
 
 abbrev pub unknown : Name
@@ -56,12 +56,12 @@ again names name s = is_defined s && binding s == 1 && is_some (known_in names n
 -- what is known of a name with one more symbol, where a local one says nothing
 abbrev pub known_with : List (List ℕ) → NameList → Symbol → List ℕ → Name
 known_with files names s other =
-    if not (is_local s) && bytes_eq (name_of files s) other
-    then with_symbol (known_in names (name_of files s)) s
+    if not (is_local s) && bytes_eq (name_of_symbol files s) other
+    then with_symbol (known_in names (name_of_symbol files s)) s
     else known_in names other
 
 -- what a symbol means, beside the names of all
 abbrev pub meaning_by : NameList → List (List ℕ) → Symbol → Meaning
 meaning_by names files s =
     if s.number == 0 then Number 0
-    else (if is_local s then own_meaning s else name_meaning (known_in names (name_of files s)))
+    else (if is_local s then own_meaning s else name_meaning (known_in names (name_of_symbol files s)))

@@ -3,14 +3,14 @@ use Rattle.std.specs.Prelude.{ℕ, ◌+◌, ◌-◌, ◌*◌, ◌/◌, Bool, not
 use Rattle.obj_linker.specs.declared.group.Group.{Group}
 use Rattle.obj_linker.specs.declared.group.Group.TheVariants.{Code, Constants, Data, Zeros}
 use Rattle.obj_reader.specs.declared.section.Section.{Section}
-use Rattle.obj_reader.specs.Sections.{is_code, is_placed, is_variable, has_bytes, has_zeros}
+use Rattle.obj_reader.specs.Sections.{is_code_object_section, is_placed, is_variable, has_bytes, has_zeros}
 
 -- code; others that are only read; variables with bytes; variables that begin as zeros
 abbrev pub is_in : Group → Section → Bool
-is_in Code s = is_code s
-is_in Constants s = is_placed s && not (is_code s) && not (is_variable s)
-is_in Data s = is_placed s && not (is_code s) && is_variable s && has_bytes s
-is_in Zeros s = is_placed s && not (is_code s) && is_variable s && has_zeros s
+is_in Code s = is_code_object_section s
+is_in Constants s = is_placed s && not (is_code_object_section s) && not (is_variable s)
+is_in Data s = is_placed s && not (is_code_object_section s) && is_variable s && has_bytes s
+is_in Zeros s = is_placed s && not (is_code_object_section s) && is_variable s && has_zeros s
 
 -- the first multiple of an alignment from an address on
 abbrev pub rounded : ℕ → ℕ → ℕ
@@ -63,8 +63,8 @@ is_too_large sections =
     || nat_lt max_zeros (zeros_end sections)
 
 -- where a section of all is placed, given those before it: behind those of its group; 0 where it gets no place
-abbrev pub place_of : List Section → List Section → Section → ℕ
-place_of all before s =
+abbrev pub section_place : List Section → List Section → Section → ℕ
+section_place all before s =
     if is_in Code s then section_start (group_end Code text_start before) s
     else (if is_in Constants s then section_start (group_end Constants (code_end all) before) s
     else (if is_in Data s then section_start (group_end Data data_start before) s
@@ -73,7 +73,7 @@ place_of all before s =
 abbrev pub places_from : List Section → List Section → List Section → List ℕ
 places_from all before [] = []
 places_from all before (s ∷ later) =
-    place_of all before s ∷ places_from all (before ++ s ∷ []) later
+    section_place all before s ∷ places_from all (before ++ s ∷ []) later
 
 unfoldable pub places_of : List Section → List ℕ
 places_of all = places_from all [] all

@@ -8,22 +8,22 @@ use Rattle.obj_reader.specs.declared.symbol.Symbol.{Symbol}
 use Rattle.obj_reader.specs.Symbols.{binding, is_defined, is_local}
 
 -- the text at a place of a file: the bytes up to a 00
-abbrev pub text_at : List ℕ → ℕ → List ℕ
-text_at file at = before_first (λ b. b == 0) (drop at file)
+abbrev pub text_in_file : List ℕ → ℕ → List ℕ
+text_in_file file at = before_first (λ b. b == 0) (drop at file)
 
-abbrev pub bytes_of : List (List ℕ) → ℕ → List ℕ
-bytes_of files object = option_map_or (λ (file : List ℕ). file) (slice_get files object) []
+abbrev pub object_bytes : List (List ℕ) → ℕ → List ℕ
+object_bytes files object = option_map_or (λ (file : List ℕ). file) (slice_get files object) []
 
 -- the name of a symbol, in the string table of its object
-unfoldable pub name_of : List (List ℕ) → Symbol → List ℕ
-name_of files s = text_at (bytes_of files s.object) (s.strings + s.st_name)
+unfoldable pub name_of_symbol : List (List ℕ) → Symbol → List ℕ
+name_of_symbol files s = text_in_file (object_bytes files s.object) (s.strings + s.st_name)
 
 -- STB_GLOBAL and STB_WEAK, of a name
 abbrev pub is_global_of : List (List ℕ) → List ℕ → Symbol → Bool
-is_global_of files name s = binding s == 1 && bytes_eq (name_of files s) name
+is_global_of files name s = binding s == 1 && bytes_eq (name_of_symbol files s) name
 
 abbrev pub is_weak_of : List (List ℕ) → List ℕ → Symbol → Bool
-is_weak_of files name s = binding s == 2 && bytes_eq (name_of files s) name
+is_weak_of files name s = binding s == 2 && bytes_eq (name_of_symbol files s) name
 
 abbrev pub defines : List (List ℕ) → List ℕ → Symbol → Bool
 defines files name s = is_defined s && is_global_of files name s
@@ -40,14 +40,14 @@ definition_of files symbols name =
     option_or (find (defines files name) symbols) (find (defines_weakly files name) symbols)
 
 -- the first symbol that defines a name which one before it defines, both globally
-abbrev pub repeats : List (List ℕ) → List Symbol → Symbol → Bool
-repeats files before s =
-    is_defined s && binding s == 1 && is_some (find (defines files (name_of files s)) before)
+abbrev pub defines_again : List (List ℕ) → List Symbol → Symbol → Bool
+defines_again files before s =
+    is_defined s && binding s == 1 && is_some (find (defines files (name_of_symbol files s)) before)
 
 abbrev pub first_repeated : List (List ℕ) → List Symbol → List Symbol → Option Symbol
 first_repeated files before [] = None
 first_repeated files before (s ∷ later) =
-    if repeats files before s then Some s else first_repeated files (before ++ s ∷ []) later
+    if defines_again files before s then Some s else first_repeated files (before ++ s ∷ []) later
 
 -- what a symbol is by itself: SHN_UNDEF, SHN_ABS, or a section
 abbrev pub own_meaning : Symbol → Meaning
@@ -68,4 +68,4 @@ named_meaning files symbols name =
 abbrev pub meaning_of : List (List ℕ) → List Symbol → Symbol → Meaning
 meaning_of files symbols s =
     if s.number == 0 then Number 0
-    else (if is_local s then own_meaning s else named_meaning files symbols (name_of files s))
+    else (if is_local s then own_meaning s else named_meaning files symbols (name_of_symbol files s))

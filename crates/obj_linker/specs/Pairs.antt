@@ -3,7 +3,7 @@
 use Rattle.std.specs.Prelude.{ℕ, Bool, ◌&&◌, ◌==◌, if◌then◌else◌, List, [], ◌∷◌, Option, Some, None, option_map, is_none}
 use Rattle.std.specs.List.{find}
 use Rattle.obj_reader.specs.declared.relocation.Relocation.{Relocation}
-use Rattle.obj_reader.specs.Relocations.{is_high, is_low, offset_of}
+use Rattle.obj_reader.specs.Relocations.{is_high, is_low, relocation_offset}
 
 -- the lower half of an address of a symbol in a section
 abbrev pub is_low_of : ℕ → ℕ → Relocation → Bool
@@ -12,7 +12,7 @@ is_low_of section symbol r = is_low r && (r.section == section && r.symbol == sy
 -- where the lower half that goes with a relocation is, among those behind it
 abbrev pub low_of : Relocation → List Relocation → Option ℕ
 low_of r later =
-    if is_high r then option_map offset_of (find (is_low_of r.section r.symbol) later) else None
+    if is_high r then option_map relocation_offset (find (is_low_of r.section r.symbol) later) else None
 
 -- the same of each relocation
 abbrev pub lows : List Relocation → List (Option ℕ)

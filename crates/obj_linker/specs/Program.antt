@@ -1,20 +1,20 @@
 -- The file of a program, whose image is the text and behind it the data.
 use Rattle.std.specs.Prelude.{◌≡◌, ℕ, ◌-◌, nat_lt, if◌then◌else◌, List, [], ◌∷◌, map, take, drop}
-use Rattle.elf_writer.specs.declared.part.Part.{Part}
-use Rattle.elf_writer.specs.declared.parts.Parts.{Parts}
-use Rattle.elf_writer.specs.declared.sec.Sec.{Sec}
-use Rattle.elf_writer.specs.File.{elf_file}
+use Rattle.elf_definition.specs.declared.part.Part.{Part}
+use Rattle.elf_definition.specs.declared.parts.Parts.{Parts}
+use Rattle.elf_definition.specs.declared.sec.Sec.{Sec}
+use Rattle.elf_definition.specs.File.{elf_file}
 use Rattle.obj_linker.specs.Layout.{data_start, text_start}
 
 -- a segment: its address, its flags, its length in memory, and its bytes
-pub record Segment : Type 0 where
+pub record LinkedSegment : Type 0 where
   pub address : ℕ
   pub flags : ℕ
   pub memory : ℕ
   pub contents : List ℕ
 
-abbrev pub segment_of : Part → Segment
-segment_of part = record {
+abbrev pub linked_segment : Part → LinkedSegment
+linked_segment part = record {
   address = part.vaddr;
   flags = part.flags;
   memory = part.mem;
@@ -22,7 +22,7 @@ segment_of part = record {
 }
 
 -- the text, up to its end: to be read and executed
-abbrev pub text_segment : List ℕ → ℕ → Segment
+abbrev pub text_segment : List ℕ → ℕ → LinkedSegment
 text_segment image text_end = record {
   address = text_start;
   flags = 5;
@@ -31,8 +31,8 @@ text_segment image text_end = record {
 }
 
 -- the data, and zeros behind it up to their end: to be read and written, where there is any memory
-abbrev pub data_segments : List ℕ → ℕ → ℕ → List Segment
-data_segments image text_end zeros_end =
+abbrev pub linked_data : List ℕ → ℕ → ℕ → List LinkedSegment
+linked_data image text_end zeros_end =
     if nat_lt data_start zeros_end then record {
       address = data_start;
       flags = 6;
@@ -48,14 +48,14 @@ code_section code_end =
 
 -- what the file is written of, where the program begins at an address, and the code, the text and the zeros have
 -- these ends
-pub record IsProgram (at : ℕ) (image : List ℕ) (code_end text_end zeros_end : ℕ) (parts : Parts)
+pub record IsLinkedParts (at : ℕ) (image : List ℕ) (code_end text_end zeros_end : ℕ) (parts : Parts)
     : Type 0 where
   pub entry : parts.entry ≡ at
   pub segments :
-      map segment_of parts.segments.items
-      ≡ text_segment image text_end ∷ data_segments image text_end zeros_end
+      map linked_segment parts.segments.items
+      ≡ text_segment image text_end ∷ linked_data image text_end zeros_end
   pub sections : parts.sections.items ≡ code_section code_end ∷ []
 
-abbrev pub IsFileOf : ℕ → List ℕ → ℕ → ℕ → ℕ → List ℕ → Type 0
-IsFileOf at image code_end text_end zeros_end file =
-    (parts : Parts) × IsProgram at image code_end text_end zeros_end parts × (file ≡ elf_file parts)
+abbrev pub IsLinkedFile : ℕ → List ℕ → ℕ → ℕ → ℕ → List ℕ → Type 0
+IsLinkedFile at image code_end text_end zeros_end file =
+    (parts : Parts) × IsLinkedParts at image code_end text_end zeros_end parts × (file ≡ elf_file parts)

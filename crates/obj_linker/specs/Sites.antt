@@ -2,11 +2,11 @@
 use Rattle.std.specs.Prelude.{ℕ, ◌+◌, ◌-◌, ◌*◌, ◌/◌, ◌%◌, ◌^◌, Bool, true, false, not, ◌&&◌, ◌||◌, ◌==◌, nat_lt, nat_le, if◌then◌else◌, List, [], ◌∷◌, length, map, Option, Some, None, option_map, slice_get, slice_index, unwrap_or}
 use Rattle.std.specs.List.{zip}
 use Rattle.std.specs.Option.{option_map_or}
-use Rattle.nv_words.specs.Words.{bytes_of_word, list_with, word_of_list}
-use Rattle.nv_words.specs.declared.order.Order.TheVariants.{Big}
+use Rattle.run_definition.specs.Words.{bytes_of_word, list_with, word_of_list}
+use Rattle.run_definition.specs.declared.order.Order.TheVariants.{Big}
 use Rattle.obj_linker.specs.declared.meaning.Meaning.{Meaning}
 use Rattle.obj_linker.specs.declared.meaning.Meaning.TheVariants.{InSection, Number, Nothing}
-use Rattle.nv_faults.specs.declared.obj_fault.ObjFault.{ObjFault}
+use Rattle.elf_definition.specs.declared.obj_fault.ObjFault.{ObjFault}
 use Rattle.obj_reader.specs.declared.relocation.Relocation.{Relocation}
 use Rattle.obj_reader.specs.declared.section.Section.{Section}
 use Rattle.obj_linker.specs.declared.site.Site.{Site}
@@ -35,10 +35,10 @@ is_undefined sections meanings r =
 
 -- ---- what they change
 -- the value of a symbol, where the sections have these places
-abbrev pub value_of : List ℕ → Meaning → ℕ
-value_of places (InSection section offset) = (slice_index places section + offset) % 2 ^ 32
-value_of places (Number value) = value
-value_of places Nothing = 0
+abbrev pub symbol_value : List ℕ → Meaning → ℕ
+symbol_value places (InSection section offset) = (slice_index places section + offset) % 2 ^ 32
+symbol_value places (Number value) = value
+symbol_value places Nothing = 0
 
 -- where the byte at an address stands: the text, of so many bytes, and behind it the data
 abbrev pub image_place : ℕ → ℕ → ℕ
@@ -57,7 +57,7 @@ site_of symbols meanings places text p = record {
   at = image_place text (slice_index places (p.0).section + (p.0).r_offset);
   low_at = image_place text (slice_index places (p.0).section + unwrap_or p.1 0);
   is_local = is_symbol_local symbols (p.0).symbol;
-  value = value_of places (meaning_at meanings (p.0).symbol);
+  value = symbol_value places (meaning_at meanings (p.0).symbol);
 }
 
 unfoldable pub sites_of :
@@ -66,16 +66,16 @@ sites_of symbols meanings places text relocations lows =
     map (site_of symbols meanings places text) (zip relocations lows)
 
 -- the big-endian word at a place of the image
-abbrev pub word_in : List ℕ → ℕ → ℕ
-word_in image at = if nat_le (at + 4) (length image) then word_of_list Big image at else 0
+abbrev pub site_word : List ℕ → ℕ → ℕ
+site_word image at = if nat_le (at + 4) (length image) then word_of_list Big image at else 0
 
 -- a half-word as a signed number, modulo 2^32
 abbrev pub signed_half : ℕ → ℕ
 signed_half half = if nat_lt half 0x8000 then half else half + 0xFFFF_0000
 
 -- R_MIPS_26: the target, with a field of 26 bits that counts words; signed unless the symbol is local
-abbrev pub jump_target : Bool → ℕ → ℕ → ℕ
-jump_target is_local value word =
+abbrev pub linked_jump : Bool → ℕ → ℕ → ℕ
+linked_jump is_local value word =
     let addend = word % 2 ^ 26 * 4 in
     let is_positive = is_local || nat_lt addend 0x0800_0000 in
     (value + (if is_positive then addend else addend + 0xF000_0000)) % 2 ^ 32
@@ -85,8 +85,8 @@ abbrev pub with_target : ℕ → ℕ → ℕ
 with_target word target = word - word % 2 ^ 26 + target / 4 % 2 ^ 26
 
 -- the word with another lower half
-abbrev pub with_half : ℕ → ℕ → ℕ
-with_half word half = word - word % 2 ^ 16 + half
+abbrev pub with_lower_half : ℕ → ℕ → ℕ
+with_lower_half word half = word - word % 2 ^ 16 + half
 
 -- R_MIPS_HI16: the upper half of AHL + S, where the halves of AHL stand in this word and in that of the lower half; rounded,
 -- so that the lower half of AHL + S, added as a signed number, gives it back
@@ -98,23 +98,23 @@ high_half value word low_word =
 abbrev pub new_word : Site → ℕ → ℕ → ℕ
 new_word s word low_word =
     if s.r_type == 2 then (word + s.value) % 2 ^ 32
-    else (if s.r_type == 4 then with_target word (jump_target s.is_local s.value word)
-    else (if s.r_type == 5 then with_half word (high_half s.value word low_word)
-    else (if s.r_type == 6 then with_half word ((word + s.value) % 2 ^ 16) else word)))
+    else (if s.r_type == 4 then with_target word (linked_jump s.is_local s.value word)
+    else (if s.r_type == 5 then with_lower_half word (high_half s.value word low_word)
+    else (if s.r_type == 6 then with_lower_half word ((word + s.value) % 2 ^ 16) else word)))
 
 -- R_MIPS_26: the target is no multiple of 4 below 10000000
 abbrev pub is_far : Site → ℕ → Bool
 is_far s word =
-    let target = jump_target s.is_local s.value word in
+    let target = linked_jump s.is_local s.value word in
     s.r_type == 4 && (not (target % 4 == 0) || nat_le 0x1000_0000 target)
 
 -- the image with the word of a site
-abbrev pub with_word : List ℕ → ℕ → ℕ → List ℕ
-with_word image at word =
+abbrev pub with_site_word : List ℕ → ℕ → ℕ → List ℕ
+with_site_word image at word =
     if nat_le (at + 4) (length image) then list_with image at (bytes_of_word word) else image
 
 abbrev pub changed : List ℕ → Site → List ℕ
-changed image s = with_word image s.at (new_word s (word_in image s.at) (word_in image s.low_at))
+changed image s = with_site_word image s.at (new_word s (site_word image s.at) (site_word image s.low_at))
 
 -- the image with the words of the sites, one site after the other
 abbrev pub relocated : List ℕ → List Site → List ℕ
@@ -125,7 +125,7 @@ relocated image (s ∷ sites) = relocated (changed image s) sites
 abbrev pub first_far : List ℕ → List Site → Option Site
 first_far image [] = None
 first_far image (s ∷ sites) =
-    if is_far s (word_in image s.at) then Some s else first_far (changed image s) sites
+    if is_far s (site_word image s.at) then Some s else first_far (changed image s) sites
 
 abbrev pub site_fault_of : ℕ → Option Site → Option ObjFault
 site_fault_of kind found =

@@ -1,6 +1,6 @@
 -- The checks that the objects are to pass together.
 use Rattle.std.specs.Prelude.{ℕ, Option, option_map}
-use Rattle.nv_faults.specs.declared.obj_fault.ObjFault.{ObjFault}
+use Rattle.elf_definition.specs.declared.obj_fault.ObjFault.{ObjFault}
 use Rattle.obj_reader.specs.declared.relocation.Relocation.{Relocation}
 use Rattle.obj_reader.specs.declared.symbol.Symbol.{Symbol}
 

@@ -2,7 +2,7 @@
 ghost use Rattle.std.specs.Prelude.{◌≡◌, List, ℕ, None, Some, not, ◌||◌, is_none};
 ghost use Rattle.std.specs.List.{list_any};
 ghost use Rattle.obj_linker.specs.Known.{known_in, name_definition};
-ghost use Rattle.obj_reader.specs.Sections.{is_code};
+ghost use Rattle.obj_reader.specs.Sections.{is_code_object_section};
 ghost use Rattle.obj_linker.specs.Link as spec;
 
 use crate::meaning::Meaning;
@@ -17,7 +17,7 @@ pub fn entry_of<'a>(
     places: &[u32],
     entry: &'a [u8],
 ) -> Option<u32>
-    ensures { result ≡ spec.address_of sections.now places.now
+    ensures { result ≡ spec.entry_address sections.now places.now
         (spec.defined_meaning (name_definition (known_in names.now entry.now))) }
 {
     let meaning = match names.get(entry).definition() {
@@ -29,7 +29,7 @@ pub fn entry_of<'a>(
 
 /// The address that a symbol means, in a section with a place.
 fn address_of(sections: &[Section], places: &[u32], meaning: Meaning) -> Option<u32>
-    ensures { result ≡ spec.address_of sections.now places.now meaning }
+    ensures { result ≡ spec.entry_address sections.now places.now meaning }
 {
     match meaning {
         Meaning::InSection(section, _) => {
@@ -45,7 +45,7 @@ fn address_of(sections: &[Section], places: &[u32], meaning: Meaning) -> Option<
 
 /// Whether some section that gets a place is code.
 pub fn has_code(sections: &[Section]) -> bool
-    ensures { result ≡ list_any is_code sections.now }
+    ensures { result ≡ list_any is_code_object_section sections.now }
 {
     sections.iter().any(|s| s.is_code())
 }

@@ -4,15 +4,15 @@ ghost use Rattle.obj_linker.specs.Cursor.{IsEnds};
 ghost use Rattle.obj_reader.specs.Files.{files_of};
 ghost use Rattle.obj_linker.specs.Image as spec;
 ghost use Rattle.obj_linker.specs.Layout.{group_end, next_end};
-ghost use Rattle.obj_linker.specs.Names.{bytes_of};
+ghost use Rattle.obj_linker.specs.Names.{object_bytes};
 
 use crate::group::Group;
 use crate::layout::{DATA_START, Ends, TEXT_START, section_start};
 use obj_reader::Section;
 use std::alloc::{AllocError, Global};
 
-/// The bytes of the text, and behind it those of the data.
-#[tactic(auto, unfolding(crate::specs::Image::image_of))]
+/// The bytes of the text, and after it those of the data.
+#[tactic(auto, unfolding(crate::specs::Image::linked_bytes))]
 pub fn image_of(
     alloc: Global,
     objects: &[Vec<u8>],
@@ -21,7 +21,7 @@ pub fn image_of(
 ) -> Result<Vec<u8>, AllocError>
     requires { IsEnds sections.now ends.now }
     ensures bytes { IfOk result (λ image.
-        image.items ≡ spec.image_of (files_of objects.now) sections.now) }
+        image.items ≡ spec.linked_bytes (files_of objects.now) sections.now) }
     ensures short { IfOk result (λ image. length image.items ≤ 33554432) }
 {
     let mut image = Vec::new(alloc);
@@ -31,7 +31,7 @@ pub fn image_of(
     Ok(image)
 }
 
-/// Appends the sections of a group, where the first is placed behind an address.
+/// Appends the sections of a group, where the first is placed after an address.
 #[tactic(auto, using(crate::proofs::LayoutLemmas::le_group_end))]
 fn append_group(
     image: &mut Vec<u8>,
@@ -53,7 +53,7 @@ fn append_group(
     Ok(())
 }
 
-/// Appends a section, where it is one of the group, and gives where the group ends then.
+/// Appends a section, if it is one of the group, and gives where the group ends then.
 #[tactic(auto, using(crate::proofs::LayoutLemmas::le_rounded))]
 fn append_section(
     image: &mut Vec<u8>,
@@ -91,7 +91,7 @@ fn append_contents(image: &mut Vec<u8>, objects: &[Vec<u8>], s: &Section) -> Res
 
 /// The bytes of an object.
 pub fn object_bytes(objects: &[Vec<u8>], object: u32) -> &[u8]
-    ensures { result.now ≡ bytes_of (files_of objects.now) object }
+    ensures { result.now ≡ object_bytes (files_of objects.now) object }
 {
     match objects.get(object as usize) {
         Some(file) => file.as_slice(),

@@ -16,19 +16,19 @@ pub const DATA_START: u32 = 0x1000_0000;
 const MAX_TEXT: u32 = 0x0140_0000;
 /// The greatest end of the data, which has at most 16,777,216 bytes.
 const MAX_DATA: u32 = 0x1100_0000;
-/// The greatest end of the zeros behind the data, which has at most 1,073,741,824 bytes with them.
+/// The greatest end of the zeros after the data, which has at most 1,073,741,824 bytes with them.
 const MAX_ZEROS: u32 = 0x5000_0000;
 
 /// Where the groups of sections end.
 #[derive(Clone, Copy)]
 pub struct Ends {
-    /// Behind the code.
+    /// After the code.
     pub code: u32,
-    /// Behind the constants, which stand behind the code.
+    /// After the constants, which are after the code.
     pub text: u32,
-    /// Behind the data.
+    /// After the data.
     pub data_end: u32,
-    /// Behind the zeros, which stand behind the data.
+    /// After the zeros, which are after the data.
     pub zeros: u32,
 }
 
@@ -50,7 +50,7 @@ pub fn ends_of(sections: &[Section]) -> Option<Ends>
     })
 }
 
-/// Where a group of sections ends that is placed behind an address, or `None` where that is above a limit.
+/// Where a group of sections ends that is placed after an address, or `None` where that is above a limit.
 #[tactic(auto, using(crate::proofs::LayoutLemmas::le_group_end))]
 fn group_end(group: Group, start: u32, limit: u32, sections: &[Section]) -> Option<u32>
     requires within { start ≤ limit }
@@ -83,7 +83,7 @@ fn next_end(group: Group, at: u32, limit: u32, s: &Section) -> Option<u32>
     Some(end as u32)
 }
 
-/// Where a section begins that is placed behind an address: at the next multiple of its alignment.
+/// Where a section begins that is placed after an address: at the next multiple of its alignment.
 #[tactic(auto, using(crate::proofs::LayoutLemmas::rounded_within))]
 pub fn section_start(at: u32, s: &Section) -> u64
     ensures value { result ≡ spec.section_start at s.now }

@@ -20,6 +20,6 @@ mod resolving;
 mod site;
 mod sites;
 
+pub use elf_definition::ObjFault;
 pub use linker::link_objects;
-pub use nv_faults::ObjFault;
 pub use obj_reader::{ObjError, first_too_large};

@@ -17,13 +17,13 @@ use std::alloc::Global;
 ///
 /// # Errors
 /// `Refused` with the first check that the objects fail; `NoMemory` where there is not enough memory.
-#[tactic(auto, unfolding(crate::specs::Link::link_fault))]
+#[tactic(auto, unfolding(crate::specs::Link::objects_fault))]
 pub fn link_objects(alloc: Global, objects: &[Vec<u8>], entry: &str) -> Result<Vec<u8>, ObjError>
     requires few { length objects.now ≤ 256 }
     requires short { All IsShort (files_of objects.now) }
-    ensures sound { OnOk result (spec.link_fault (files_of objects.now) entry.now ≡ None) }
+    ensures sound { OnOk result (spec.objects_fault (files_of objects.now) entry.now ≡ None) }
     ensures file { IfOk result (λ file. spec.IsLinked (files_of objects.now) entry.now file.items) }
-    ensures refused { IfErr result (IsAnswer (spec.link_fault (files_of objects.now) entry.now)) }
+    ensures refused { IfErr result (IsAnswer (spec.objects_fault (files_of objects.now) entry.now)) }
 {
     let tables = read_objects(alloc, objects)?;
     let resolved = resolve(alloc, objects, &tables)?;

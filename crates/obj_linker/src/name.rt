@@ -41,7 +41,7 @@ impl Name {
         }
     }
 
-    /// The definition of the name: the global one, else the first weak one.
+    /// The definition of the name: the global one, otherwise the first weak one.
     pub fn definition(&self) -> Option<Symbol>
         ensures { result ≡ name_definition self.now }
     {

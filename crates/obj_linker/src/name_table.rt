@@ -10,7 +10,7 @@ ghost use Rattle.obj_linker.specs.Names as spec;
 use crate::image::object_bytes;
 use crate::meaning::Meaning;
 use crate::names::Names;
-use nv_faults::ObjFault;
+use elf_definition::ObjFault;
 use obj_reader::{ObjError, Symbol, refusal};
 use std::alloc::{AllocError, Global};
 
@@ -39,9 +39,9 @@ pub fn read_names<'a>(
 }
 
 /// The name of a symbol, in the string table of its object.
-#[tactic(auto, unfolding(crate::specs::Names::name_of))]
+#[tactic(auto, unfolding(crate::specs::Names::name_of_symbol))]
 pub fn name_of<'a>(objects: &'a [Vec<u8>], s: &Symbol) -> &'a [u8]
-    ensures { result.now ≡ spec.name_of (files_of objects.now) s.now }
+    ensures { result.now ≡ spec.name_of_symbol (files_of objects.now) s.now }
 {
     text_at(
         object_bytes(objects, s.object),
@@ -51,7 +51,7 @@ pub fn name_of<'a>(objects: &'a [Vec<u8>], s: &Symbol) -> &'a [u8]
 
 /// The bytes at a place, up to a 00.
 fn text_at(file: &[u8], at: usize) -> &[u8]
-    ensures { result.now ≡ spec.text_at file.now at }
+    ensures { result.now ≡ spec.text_in_file file.now at }
 {
     match file.get(at..) {
         Some(rest) => before_zero(rest),
@@ -77,13 +77,13 @@ fn first_zero(bytes: &[u8]) -> Option<usize>
     bytes.iter().position(|b| *b == 0)
 }
 
-/// Adds a symbol, where it is not local.
+/// Adds a symbol, if it is not local.
 fn add_symbol<'a>(names: &mut Names<'a>, objects: &'a [Vec<u8>], s: &Symbol) -> Result<(), ObjError>
     ensures refused { IfErr result (IsAnswer (symbol_fault_of 10
-        (if again names.old (spec.name_of (files_of objects.now) s.now) s.now
+        (if again names.old (spec.name_of_symbol (files_of objects.now) s.now) s.now
         then Some s.now else None))) }
     ensures passed { OnOk result
-        (again names.old (spec.name_of (files_of objects.now) s.now) s.now ≡ false) }
+        (again names.old (spec.name_of_symbol (files_of objects.now) s.now) s.now ≡ false) }
     ensures known { OnOk result ((other : List ℕ) →
         known_in names.new other ≡ known_with (files_of objects.now) names.old s.now other) }
 {

@@ -6,11 +6,11 @@ ghost use Rattle.obj_linker.specs.Pairs as spec;
 ghost use Rattle.obj_linker.specs.Whole.{relocation_fault_of};
 
 use crate::lower_halves::LowerHalves;
-use nv_faults::ObjFault;
+use elf_definition::ObjFault;
 use obj_reader::{ObjError, Relocation, refusal};
 use std::alloc::{AllocError, Global};
 
-/// For each relocation, where it is an `R_MIPS_HI16`, the offset of the `R_MIPS_LO16` that it goes with: the next one of its
+/// For each relocation, if it is an `R_MIPS_HI16`, the offset of the `R_MIPS_LO16` that it goes with: the next one of its
 /// section and symbol.
 ///
 /// # Errors
@@ -35,7 +35,7 @@ struct Pairs {
     alone: Option<Relocation>,
 }
 
-/// Goes over the relocations from the last to the first, with the lower halves that are behind.
+/// Goes over the relocations from the last to the first, with the lower halves that are after.
 fn paired(alloc: Global, relocations: &[Relocation]) -> Result<Pairs, AllocError>
     ensures lows { IfOk result (λ p. p.lows.items ≡ spec.lows relocations.now) }
     ensures alone { IfOk result (λ p. p.alone ≡ spec.first_alone relocations.now) }
@@ -55,7 +55,7 @@ fn paired(alloc: Global, relocations: &[Relocation]) -> Result<Pairs, AllocError
     Ok(Pairs { lows, alone })
 }
 
-/// The offset of the lower half that goes with a relocation, among those behind it.
+/// The offset of the lower half that goes with a relocation, among those after it.
 fn low_of(behind: &LowerHalves, r: &Relocation) -> Option<u32>
     ensures { result
         ≡ (if is_high r.now then spec.low_in behind.now r.now.section r.now.symbol else None) }
@@ -67,7 +67,7 @@ fn low_of(behind: &LowerHalves, r: &Relocation) -> Option<u32>
     }
 }
 
-/// The relocation, where it is an upper half that goes with no lower half, else the first such one behind it.
+/// The relocation, if it is an upper half that goes with no lower half, otherwise the first such one after it.
 fn first_alone(r: &Relocation, low: Option<u32>, later: Option<Relocation>) -> Option<Relocation>
     ensures { result ≡ (if is_high r.now && is_none low then Some r.now else later) }
 {

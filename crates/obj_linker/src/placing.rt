@@ -1,8 +1,8 @@
 //! Where everything is placed, and the words that follow from it.
 ghost use Rattle.std.specs.Prelude.{◌≡◌, ◌≤◌, ℕ, List, IfErr, IfOk, OnOk, None, Some, false, not, ◌||◌, is_none, length};
-ghost use Rattle.obj_linker.specs.Image.{image_of};
+ghost use Rattle.obj_linker.specs.Image.{linked_bytes};
 ghost use Rattle.obj_linker.specs.Cursor.{IsEnds};
-ghost use Rattle.obj_reader.specs.Fault.{IsAnswer, fails};
+ghost use Rattle.obj_reader.specs.Fault.{IsAnswer, object_fails};
 ghost use Rattle.obj_reader.specs.Files.{files_of};
 ghost use Rattle.obj_linker.specs.Known.{known_in, known_of};
 ghost use Rattle.obj_linker.specs.Layout.{is_too_large, places_of};
@@ -16,7 +16,7 @@ use crate::layout::{Ends, TEXT_START, ends_of, places_of};
 use crate::relocated::relocate;
 use crate::resolving::Resolved;
 use crate::sites::{Plan, sites_of};
-use nv_faults::ObjFault;
+use elf_definition::ObjFault;
 use obj_reader::{ObjError, Section, Tables, refusal};
 use std::alloc::Global;
 
@@ -25,7 +25,7 @@ use std::alloc::Global;
 pub struct Placed {
     /// The address of the first instruction.
     pub entry: u32,
-    /// The text, and behind it the data.
+    /// The text, and after it the data.
     pub image: Vec<u8>,
     /// Where the groups of sections end.
     pub ends: Ends,
@@ -71,9 +71,9 @@ pub fn place<'a>(
     })
 }
 
-/// The entry's address, where it has one and some section is code.
+/// The entry's address, if it has one and some section is code.
 fn check_entry(has_code: bool, address: Option<u32>) -> Result<u32, ObjError>
-    ensures refused { IfErr result (IsAnswer (fails 0 14 0 (not has_code || is_none address))) }
+    ensures refused { IfErr result (IsAnswer (object_fails 0 14 0 (not has_code || is_none address))) }
     ensures passed { OnOk result ((not has_code || is_none address) ≡ false) }
     ensures entry { IfOk result (λ at. address ≡ Some at) }
 {
@@ -86,9 +86,9 @@ fn check_entry(has_code: bool, address: Option<u32>) -> Result<u32, ObjError>
     }
 }
 
-/// Where the groups of sections end, where no segment is too large.
+/// Where the groups of sections end, if no segment is too large.
 fn check_size(sections: &[Section]) -> Result<Ends, ObjError>
-    ensures refused { IfErr result (IsAnswer (fails 0 12 0 (is_too_large sections.now))) }
+    ensures refused { IfErr result (IsAnswer (object_fails 0 12 0 (is_too_large sections.now))) }
     ensures passed { OnOk result (is_too_large sections.now ≡ false) }
     ensures ends { IfOk result (IsEnds sections.now) }
 {
@@ -114,11 +114,11 @@ fn linked_image(
     requires places { places.now ≡ places_of tables.now.sections.items }
     requires ends { IsEnds tables.now.sections.items ends.now }
     ensures refused { IfErr result (IsAnswer (site_fault_of 13 (first_far
-        (image_of (files_of objects.now) tables.now.sections.items)
+        (linked_bytes (files_of objects.now) tables.now.sections.items)
         (spec.all_sites (files_of objects.now) tables.now.sections.items tables.now.symbols.items
         tables.now.relocations.items)))) }
     ensures passed { OnOk result (first_far
-        (image_of (files_of objects.now) tables.now.sections.items)
+        (linked_bytes (files_of objects.now) tables.now.sections.items)
         (spec.all_sites (files_of objects.now) tables.now.sections.items tables.now.symbols.items
         tables.now.relocations.items) ≡ None) }
     ensures image { IfOk result (λ image. image.items ≡ spec.linked_image (files_of objects.now)

@@ -6,7 +6,7 @@ ghost use Rattle.obj_linker.specs.Program as spec;
 
 use crate::image::{front_of, rest_of};
 use crate::layout::{DATA_START, Ends, TEXT_START};
-use elf_reader::abi::{PF_R, PF_W, PF_X, SHF_ALLOC, SHF_EXECINSTR, SHT_PROGBITS};
+use elf_definition::abi::{PF_R, PF_W, PF_X, SHF_ALLOC, SHF_EXECINSTR, SHT_PROGBITS};
 use elf_writer::{Part, Parts, Sec, write_elf};
 use std::alloc::{AllocError, Global};
 
@@ -17,7 +17,7 @@ const DATA_FLAGS: u32 = PF_R + PF_W;
 /// The code has memory, and is code (`sh_flags`).
 const CODE_FLAGS: u32 = SHF_ALLOC + SHF_EXECINSTR;
 
-/// The file of a program, whose image is the text and behind it the data.
+/// The file of a program, whose image is the text and after it the data.
 ///
 /// # Errors
 /// Where there is no memory for it.
@@ -30,7 +30,7 @@ pub fn write_program(
     requires short { length image.now ≤ 33554432 }
     requires code { text_start ≤ ends.now.code }
     requires text { text_start ≤ ends.now.text }
-    ensures { IfOk result (λ file. spec.IsFileOf entry image.now ends.now.code ends.now.text
+    ensures { IfOk result (λ file. spec.IsLinkedFile entry image.now ends.now.code ends.now.text
         ends.now.zeros file.items) }
 {
     let parts = program_parts(alloc, entry, image, ends)?;
@@ -42,7 +42,7 @@ fn program_parts(alloc: Global, entry: u32, image: &[u8], ends: &Ends) -> Result
     requires code { text_start ≤ ends.now.code }
     requires text { text_start ≤ ends.now.text }
     ensures parts { IfOk result
-        (spec.IsProgram entry image.now ends.now.code ends.now.text ends.now.zeros) }
+        (spec.IsLinkedParts entry image.now ends.now.code ends.now.text ends.now.zeros) }
     ensures writable { IfOk result IsWritable }
 {
     let mut segments = Vec::new(alloc);
@@ -66,7 +66,7 @@ fn program_parts(alloc: Global, entry: u32, image: &[u8], ends: &Ends) -> Result
 fn text_part(alloc: Global, image: &[u8], ends: &Ends) -> Result<Part, AllocError>
     requires { text_start ≤ ends.now.text }
     ensures { IfOk result (λ part.
-        spec.segment_of part ≡ spec.text_segment image.now ends.now.text) }
+        spec.linked_segment part ≡ spec.text_segment image.now ends.now.text) }
 {
     let size = ends.text - TEXT_START;
     Ok(Part {
@@ -77,7 +77,7 @@ fn text_part(alloc: Global, image: &[u8], ends: &Ends) -> Result<Part, AllocErro
     })
 }
 
-/// Appends the data, where there is any memory.
+/// Appends the data, if there is any memory.
 fn push_data(
     alloc: Global,
     segments: &mut Vec<Part>,
@@ -85,9 +85,9 @@ fn push_data(
     ends: &Ends,
 ) -> Result<(), AllocError>
     requires { text_start ≤ ends.now.text }
-    ensures { OnOk result (map spec.segment_of segments.new.items
-        ≡ map spec.segment_of segments.old.items
-        ++ spec.data_segments image.now ends.now.text ends.now.zeros) }
+    ensures { OnOk result (map spec.linked_segment segments.new.items
+        ≡ map spec.linked_segment segments.old.items
+        ++ spec.linked_data image.now ends.now.text ends.now.zeros) }
 {
     if ends.zeros <= DATA_START {
         return Ok(());

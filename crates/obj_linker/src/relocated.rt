@@ -4,7 +4,7 @@ ghost use Rattle.obj_reader.specs.Fault.{IsAnswer};
 ghost use Rattle.obj_linker.specs.Sites as spec;
 
 use crate::site::Site;
-use nv_faults::ObjFault;
+use elf_definition::ObjFault;
 use nv_words::{put_word, word_at};
 use obj_reader::{ObjError, R_MIPS_26, R_MIPS_32, R_MIPS_HI16, R_MIPS_LO16, refusal};
 
@@ -29,10 +29,10 @@ pub fn relocate(image: &mut [u8], sites: &[Site]) -> Result<(), ObjError>
 /// Writes the word of a site.
 fn change(image: &mut [u8], site: &Site) -> Result<(), ObjError>
     ensures refused { IfErr result (IsAnswer (spec.site_fault_of 13
-        (if spec.is_far site.now (spec.word_in image.old site.now.at)
+        (if spec.is_far site.now (spec.site_word image.old site.now.at)
         then Some site.now else None))) }
     ensures passed { OnOk result
-        (spec.is_far site.now (spec.word_in image.old site.now.at) ≡ false) }
+        (spec.is_far site.now (spec.site_word image.old site.now.at) ≡ false) }
     ensures bytes { OnOk result (image.new ≡ spec.changed image.old site.now) }
 {
     let word = word_in(image, site.at);
@@ -46,7 +46,7 @@ fn change(image: &mut [u8], site: &Site) -> Result<(), ObjError>
 
 /// The word at a place of the image.
 fn word_in(image: &[u8], at: usize) -> u32
-    ensures { result ≡ spec.word_in image.now at }
+    ensures { result ≡ spec.site_word image.now at }
 {
     word_at(image, at).unwrap_or(0)
 }
@@ -59,7 +59,7 @@ fn is_far(site: &Site, word: u32) -> bool
     site.r_type == R_MIPS_26 && (target % 4 != 0 || target >= 0x1000_0000)
 }
 
-/// The word that a site is to hold, where it holds a word, and the lower half that goes with it stands in another.
+/// The word that a site is to hold, if it holds a word, and the lower half that goes with it is in another.
 fn new_word(site: &Site, word: u32, low_word: u32) -> u32
     ensures { result ≡ spec.new_word site.now word low_word }
 {
@@ -74,7 +74,7 @@ fn new_word(site: &Site, word: u32, low_word: u32) -> u32
 
 /// The target of a jump: its field counts words, and is signed unless the symbol is local.
 fn jump_target(site: &Site, word: u32) -> u32
-    ensures { result ≡ spec.jump_target site.now.is_local site.now.value word }
+    ensures { result ≡ spec.linked_jump site.now.is_local site.now.value word }
 {
     let addend = word % 0x0400_0000 * 4;
     if site.is_local || addend < 0x0800_0000 {
@@ -94,7 +94,7 @@ fn with_target(word: u32, target: u32) -> u32
 /// The word with another lower half.
 fn with_half(word: u32, half: u32) -> u32
     requires { half < 2 ^ 16 }
-    ensures { result ≡ spec.with_half word half }
+    ensures { result ≡ spec.with_lower_half word half }
 {
     word - word % 0x1_0000 + half
 }

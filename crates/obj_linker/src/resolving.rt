@@ -14,7 +14,7 @@ use crate::name_table::{meanings_of, read_names};
 use crate::names::Names;
 use crate::pairs::lower_halves;
 use crate::sites::first_undefined;
-use nv_faults::ObjFault;
+use elf_definition::ObjFault;
 use obj_reader::{ObjError, Relocation, Section, Tables, refusal};
 use std::alloc::Global;
 

@@ -18,7 +18,7 @@ pub struct Plan<'a> {
     pub meanings: &'a [Meaning],
     /// The place of each section.
     pub places: &'a [u32],
-    /// The length of the text, behind which the data stands in the image.
+    /// The length of the text, after which the data is in the image.
     pub text: u32,
 }
 
@@ -110,7 +110,7 @@ pub fn place_at(places: &[u32], section: usize) -> u32
     }
 }
 
-/// Where a byte stands in the image that is at an offset behind a place.
+/// Where a byte is in the image that is at an offset after a place.
 fn image_place(text: u32, place: u32, offset: u32) -> usize
     ensures { result ≡ spec.image_place text (place + offset) }
 {
@@ -134,7 +134,7 @@ fn is_local(symbols: &[Symbol], symbol: usize) -> bool
 
 /// The value of a symbol.
 pub fn value_of(places: &[u32], meaning: Meaning) -> u32
-    ensures { result ≡ spec.value_of places.now meaning }
+    ensures { result ≡ spec.symbol_value places.now meaning }
 {
     match meaning {
         Meaning::InSection(section, offset) => place_at(places, section).wrapping_add(offset),

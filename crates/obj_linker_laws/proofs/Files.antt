@@ -5,27 +5,27 @@ use Rattle.std.specs.Option.{option_or}
 use Rattle.std.proofs.lemmas.Bool.{and_right, cases_lt, le-leb, le-ltb, lt-ltb, ne_eqb}
 use Rattle.std.proofs.lemmas.List.{get_or-drop}
 use Rattle.std.proofs.lemmas.List.Elements.{All-cons, All-nil}
-use Rattle.nv_words.specs.Words.{word_of_bytes, word_of_list}
-use Rattle.nv_words.specs.declared.order.Order.{Order}
-use Rattle.nv_words.specs.declared.order.Order.TheVariants.{Big}
+use Rattle.run_definition.specs.Words.{word_of_bytes, word_of_list}
+use Rattle.run_definition.specs.declared.order.Order.{Order}
+use Rattle.run_definition.specs.declared.order.Order.TheVariants.{Big}
 use Rattle.nv_words.proofs.LaneLemmas.{word_of_lanes}
-use Rattle.elf_reader.specs.declared.program_header.ProgramHeader.{ProgramHeader}
-use Rattle.elf_reader.specs.declared.range.Range.{Range}
-use Rattle.elf_reader.specs.declared.section_header.SectionHeader.{SectionHeader}
-use Rattle.elf_reader.specs.declared.segment.Segment.{Segment}
-use Rattle.elf_reader.specs.Area.{area_fault, code_ranges, is_shared_page, page_count, range_is_on_page, ranges_of, section_range}
-use Rattle.elf_reader.specs.Check.{fails, fails_at, first_fault, least_below}
-use Rattle.elf_reader.specs.Fault.{elf_fault}
-use Rattle.elf_reader.specs.Header.{header_of, identity_fault, order_of}
-use Rattle.elf_reader.specs.Sections.{has_sections, holds_section, is_code, is_code_outside, is_code_unaligned, is_section_table_outside, section_fault, section_header, section_headers, section_table_fault}
-use Rattle.elf_reader.specs.Segments.{live, overlap_from, program_header, program_headers, segment_fault}
-use Rattle.elf_writer.specs.File as writer
-use Rattle.elf_writer.specs.Places.{aligned}
+use Rattle.elf_definition.specs.declared.program_header.ProgramHeader.{ProgramHeader}
+use Rattle.elf_definition.specs.declared.range.Range.{Range}
+use Rattle.elf_definition.specs.declared.section_header.SectionHeader.{SectionHeader}
+use Rattle.elf_definition.specs.declared.segment.Segment.{Segment}
+use Rattle.elf_definition.specs.Area.{area_fault, code_ranges, is_shared_page, page_count, range_is_on_page, ranges_of, section_range}
+use Rattle.elf_definition.specs.Check.{fails, fails_at, first_fault, least_below}
+use Rattle.elf_definition.specs.Fault.{elf_fault}
+use Rattle.elf_definition.specs.Header.{header_of, identity_fault, order_of}
+use Rattle.elf_definition.specs.Sections.{has_sections, holds_section, is_code, is_code_outside, is_code_unaligned, is_section_table_outside, section_fault, section_header, section_headers, section_table_fault}
+use Rattle.elf_definition.specs.Segments.{live, overlap_from, program_header, program_headers, segment_fault}
+use Rattle.elf_definition.specs.File as writer
+use Rattle.elf_definition.specs.FilePlaces.{aligned}
 use Rattle.elf_writer.proofs.ReadBackLemmas.{count_is, table_place_is}
 use Rattle.mips_asm.specs.File.{Segment as Content}
-use Rattle.elf_laws.proofs.Areas.{area_passes, live_first, no_shared, pages_apart}
-use Rattle.elf_laws.proofs.Checks.{Passes, apart_in_order, entry_size, headers_pass, identity_passes, live_are, live_of, loaded, loaded_passes, none_passes, table_passes}
-use Rattle.elf_laws.proofs.Written.{header_bytes}
+use Rattle.mips_asm_laws.proofs.Areas.{area_passes, live_first, no_shared, pages_apart}
+use Rattle.mips_asm_laws.proofs.Checks.{Passes, apart_in_order, entry_size, headers_pass, identity_passes, live_are, live_of, loaded, loaded_passes, none_passes, table_passes}
+use Rattle.mips_asm_laws.proofs.Written.{header_bytes}
 
 -- ---- the program headers
 -- the text and the data, with their lengths in memory
@@ -136,11 +136,11 @@ first_header file rest table order place there =
     λ i. record { sh_type = at 4 i; sh_flags = at 8 i; sh_addr = at 12 i; sh_size = at 20 i }
 
 second_header : (file : List ℕ) (table offset size : ℕ) → order_of file ≡ Big → (header_of file).e_shoff ≡ table → size < 2 ^ 32
-    → drop table file ≡ replicate 40 0 ++ (writer.section_header offset (record { kind = 1; flags = 6; addr = 0x00400000; size = size }) ++ [])
+    → drop table file ≡ replicate 40 0 ++ (writer.section_header_bytes offset (record { kind = 1; flags = 6; addr = 0x00400000; size = size }) ++ [])
     → section_header file 1 ≡ code_header size
 unfolding section_header
 second_header file table offset size order place small there =
-    let rest = replicate 40 0 ++ (writer.section_header offset (record { kind = 1; flags = 6; addr = 0x00400000; size = size }) ++ []) in
+    let rest = replicate 40 0 ++ (writer.section_header_bytes offset (record { kind = 1; flags = 6; addr = 0x00400000; size = size }) ++ []) in
     let at = λ (k : ℕ). word_there file rest table 1 k order place there in
     let long = at 20 ∙ word_of_lanes size small in
     λ i. record { sh_type = at 4 i; sh_flags = at 8 i; sh_addr = at 12 i; sh_size = long i }
@@ -243,7 +243,7 @@ pub record IsShaped (file : List ℕ) (entry table n size : ℕ) (headers : List
   pub offset : ℕ
   pub there :
       drop table file
-      ≡ replicate 40 0 ++ (writer.section_header offset (record { kind = 1; flags = 6; addr = 0x00400000; size = size }) ++ [])
+      ≡ replicate 40 0 ++ (writer.section_header_bytes offset (record { kind = 1; flags = 6; addr = 0x00400000; size = size }) ++ [])
 
 sections_of : (file : List ℕ) (entry table n size : ℕ) (headers : List ProgramHeader) → IsShaped file entry table n size headers
     → (has_sections (header_of file) ≡ true) × (section_headers file ≡ no_section ∷ code_header size ∷ [])
@@ -252,7 +252,7 @@ sections_of file entry table n size headers s =
     let place = ap (λ f. (header_of f).e_shoff) s.front ∙ table_is entry table n s.rest s.table_low in
     let count = ap (λ f. (header_of f).e_shnum) s.front ∙ two_sections entry table n s.rest in
     sections_read file table size place count s.table_placed
-    (first_header file (writer.section_header s.offset (record { kind = 1; flags = 6; addr = 0x00400000; size = size }) ++ []) table order place s.there)
+    (first_header file (writer.section_header_bytes s.offset (record { kind = 1; flags = 6; addr = 0x00400000; size = size }) ++ []) table order place s.there)
     (second_header file table s.offset size order place s.size_low s.there)
 
 pub ranges_are : (file : List ℕ) (entry table n size : ℕ) (headers : List ProgramHeader) → IsShaped file entry table n size headers → code_ranges file ≡ ranges_in size

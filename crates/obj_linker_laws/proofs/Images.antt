@@ -7,13 +7,13 @@ use Rattle.std.proofs.lemmas.Bool.Decides.{nat_tests}
 use Rattle.std.proofs.lemmas.List.{get_or-append_right, get_or-drop, get_or-take, length-drop, length-replicate, length-take-le}
 use Rattle.std.proofs.lemmas.List.Elements.{All-head, All-tail}
 use Rattle.obj_reader.specs.declared.section.Section.{Section}
-use Rattle.obj_reader.specs.Sections.{has_bytes, has_zeros, is_code, is_placed, is_variable}
+use Rattle.obj_reader.specs.Sections.{has_bytes, has_zeros, is_code_object_section, is_placed, is_variable}
 use Rattle.obj_reader.specs.Symbols.{bytes_in}
 use Rattle.obj_linker.specs.declared.group.Group.{Group}
 use Rattle.obj_linker.specs.declared.group.Group.TheVariants.{Code, Constants, Data, Zeros}
-use Rattle.obj_linker.specs.Image.{contents_of, group_bytes, image_of, placed_bytes}
+use Rattle.obj_linker.specs.Image.{contents_of, group_bytes, linked_bytes, placed_bytes}
 use Rattle.obj_linker.specs.Layout.{code_end, data_end, data_start, group_end, is_in, is_too_large, max_text, next_end, places_of, section_start, text_end, text_start}
-use Rattle.obj_linker.specs.Names.{bytes_of}
+use Rattle.obj_linker.specs.Names.{object_bytes}
 use Rattle.obj_linker.specs.Sites.{image_place}
 use Rattle.obj_linker.proofs.LayoutLemmas.{le_group_end, le_rounded}
 use Rattle.obj_linker_laws.proofs.Facts.{Inside}
@@ -32,9 +32,9 @@ contents_size files s inside placed = by (cases_Bool (has_bytes s))
   where
     by : (has_bytes s ≡ true) ⊎ (has_bytes s ≡ false) → length (contents_of files s) ≡ s.sh_size
     by (inl on) =
-        ap (λ t. length (cond t (bytes_in (bytes_of files s.object) s) (replicate s.sh_size 0))) on
-        ∙ bytes_size (bytes_of files s.object) s (inside (ap (λ t. t && has_bytes s) placed ∙ on))
-    by (inr off) = ap (λ t. length (cond t (bytes_in (bytes_of files s.object) s) (replicate s.sh_size 0))) off ∙ length-replicate {A = ℕ} s.sh_size 0
+        ap (λ t. length (cond t (bytes_in (object_bytes files s.object) s) (replicate s.sh_size 0))) on
+        ∙ bytes_size (object_bytes files s.object) s (inside (ap (λ t. t && has_bytes s) placed ∙ on))
+    by (inr off) = ap (λ t. length (cond t (bytes_in (object_bytes files s.object) s) (replicate s.sh_size 0))) off ∙ length-replicate {A = ℕ} s.sh_size 0
 
 placed_size : (files : List (List ℕ)) (g : Group) (at : ℕ) (s : Section) → Inside files s → at + length (placed_bytes files g at s) ≡ next_end g at s
 placed_size files g at s inside = by (cases_Bool (is_in g s))
@@ -128,8 +128,8 @@ text_size files sections inside =
     )
 
 pub image_size : (files : List (List ℕ)) (sections : List Section) → All (Inside files) sections
-    → length (image_of files sections) ≡ text_end sections - text_start + (data_end sections - data_start)
-unfolding image_of
+    → length (linked_bytes files sections) ≡ text_end sections - text_start + (data_end sections - data_start)
+unfolding linked_bytes
 image_size files sections inside =
     let size = text_size files sections inside in
     omega (
@@ -141,17 +141,17 @@ image_size files sections inside =
 
 -- the bytes of a section that has some
 section_byte : (files : List (List ℕ)) (s : Section) (k : ℕ) → has_bytes s ≡ true → k < s.sh_size
-    → slice_index (contents_of files s) k ≡ slice_index (bytes_of files s.object) (s.sh_offset + k)
+    → slice_index (contents_of files s) k ≡ slice_index (object_bytes files s.object) (s.sh_offset + k)
 section_byte files s k bytes lt =
-    let file = bytes_of files s.object in
+    let file = object_bytes files s.object in
     ap (λ t. slice_index (cond t (bytes_in file s) (replicate s.sh_size 0)) k) bytes
     ∙ get_or-take (s.sh_offset + s.sh_size - s.sh_offset) (drop s.sh_offset file) k 0 (omega (arith, lt))
     ∙ get_or-drop s.sh_offset file k 0
 
 in_code : (files : List (List ℕ)) (sections : List Section) (i k : ℕ) (s : Section) → All (Inside files) sections → slice_get sections i ≡ Some s
     → is_in Code s ≡ true → k < length (contents_of files s)
-    → slice_index (image_of files sections) (start_in sections Code i s + k - text_start) ≡ slice_index (contents_of files s) k
-unfolding image_of
+    → slice_index (linked_bytes files sections) (start_in sections Code i s + k - text_start) ≡ slice_index (contents_of files s) k
+unfolding linked_bytes
 in_code files sections i k s inside at on lt =
     let code = group_bytes files Code text_start sections in
     let constants = group_bytes files Constants (code_end sections) sections in
@@ -169,8 +169,8 @@ in_code files sections i k s inside at on lt =
 
 in_constants : (files : List (List ℕ)) (sections : List Section) (i k : ℕ) (s : Section) → All (Inside files) sections → slice_get sections i ≡ Some s
     → is_in Constants s ≡ true → k < length (contents_of files s)
-    → slice_index (image_of files sections) (start_in sections Constants i s + k - text_start) ≡ slice_index (contents_of files s) k
-unfolding image_of
+    → slice_index (linked_bytes files sections) (start_in sections Constants i s + k - text_start) ≡ slice_index (contents_of files s) k
+unfolding linked_bytes
 in_constants files sections i k s inside at on lt =
     let code = group_bytes files Code text_start sections in
     let constants = group_bytes files Constants (code_end sections) sections in
@@ -188,8 +188,8 @@ in_constants files sections i k s inside at on lt =
 
 in_data : (files : List (List ℕ)) (sections : List Section) (i k : ℕ) (s : Section) → All (Inside files) sections → slice_get sections i ≡ Some s
     → is_in Data s ≡ true → k < length (contents_of files s)
-    → slice_index (image_of files sections) (start_in sections Data i s + k - data_start + (text_end sections - text_start)) ≡ slice_index (contents_of files s) k
-unfolding image_of
+    → slice_index (linked_bytes files sections) (start_in sections Data i s + k - data_start + (text_end sections - text_start)) ≡ slice_index (contents_of files s) k
+unfolding linked_bytes
 in_data files sections i k s inside at on lt =
     let code = group_bytes files Code text_start sections in
     let constants = group_bytes files Constants (code_end sections) sections in
@@ -227,12 +227,12 @@ three_groups s h =
     by Constants on bytes = inr (inl on)
     by Data on bytes = inr (inr on)
     by Zeros on bytes =
-        let zeros : has_zeros s ≡ true = (and_both (is_placed s && not (is_code s) && is_variable s) (has_zeros s) on).1 in
+        let zeros : has_zeros s ≡ true = (and_both (is_placed s && not (is_code_object_section s) && is_variable s) (has_zeros s) on).1 in
         absurd (both_types s bytes zeros)
 
 range_in_text : (files : List (List ℕ)) (all : List Section) (i p : ℕ) (s : Section) → All (Inside files) all → text_end all ≤ max_text
     → slice_index (places_of all) i ≡ p → text_start ≤ p → p + s.sh_size ≤ text_end all
-    → IsRange all i s.sh_size (length (image_of files all)) (p - text_start)
+    → IsRange all i s.sh_size (length (linked_bytes files all)) (p - text_start)
 range_in_text files all i p s inside short is begins ends = record {
   each = λ k le.
       ap (λ q. image_place (text_end all - text_start) (q + k)) is ∙ low_place (text_end all - text_start) (p + k) (omega (arith, le, ends, short))
@@ -243,7 +243,7 @@ range_in_text files all i p s inside short is begins ends = record {
 
 range_in_data : (files : List (List ℕ)) (all : List Section) (i p : ℕ) (s : Section) → All (Inside files) all
     → slice_index (places_of all) i ≡ p → data_start ≤ p → p + s.sh_size ≤ data_end all
-    → IsRange all i s.sh_size (length (image_of files all)) (p - data_start + (text_end all - text_start))
+    → IsRange all i s.sh_size (length (linked_bytes files all)) (p - data_start + (text_end all - text_start))
 range_in_data files all i p s inside is begins ends = record {
   each = λ k le.
       ap (λ q. image_place (text_end all - text_start) (q + k)) is ∙ high_place (text_end all - text_start) (p + k) (omega (arith, begins))
@@ -254,8 +254,8 @@ range_in_data files all i p s inside is begins ends = record {
 
 -- where the bytes of a section stand, and that they are those of its object
 pub record Stands (files : List (List ℕ)) (all : List Section) (i : ℕ) (s : Section) (start : ℕ) : Type 0 where
-  pub range : IsRange all i s.sh_size (length (image_of files all)) start
-  pub bytes : (k : ℕ) → k < s.sh_size → slice_index (image_of files all) (start + k) ≡ slice_index (bytes_of files s.object) (s.sh_offset + k)
+  pub range : IsRange all i s.sh_size (length (linked_bytes files all)) start
+  pub bytes : (k : ℕ) → k < s.sh_size → slice_index (linked_bytes files all) (start + k) ≡ slice_index (object_bytes files s.object) (s.sh_offset + k)
 
 pub stands : (files : List (List ℕ)) (all : List Section) (i : ℕ) (s : Section) → All (Inside files) all → is_too_large all ≡ false
     → slice_get all i ≡ Some s → (is_placed s && has_bytes s) ≡ true → (start : ℕ) × Stands files all i s start
@@ -264,7 +264,7 @@ stands files all i s inside small at bytes = by (three_groups s bytes)
     size : is_placed s ≡ true → length (contents_of files s) ≡ s.sh_size
     size placed = contents_size files s (at_place (Inside files) all i s inside at) placed
 
-    own : (k : ℕ) → k < s.sh_size → slice_index (contents_of files s) k ≡ slice_index (bytes_of files s.object) (s.sh_offset + k)
+    own : (k : ℕ) → k < s.sh_size → slice_index (contents_of files s) k ≡ slice_index (object_bytes files s.object) (s.sh_offset + k)
     own k lt = section_byte files s k (and_both (is_placed s) (has_bytes s) bytes).1 lt
 
     by : (is_in Code s ≡ true) ⊎ ((is_in Constants s ≡ true) ⊎ (is_in Data s ≡ true)) → (start : ℕ) × Stands files all i s start
@@ -276,7 +276,7 @@ stands files all i s inside small at bytes = by (three_groups s bytes)
           record {
             range = range_in_text files all i p s inside (within_limits all small).0 (place_is all Code i s at on) begins ends;
             bytes = λ k lt.
-                ap (slice_index (image_of files all)) (let e : p - text_start + k ≡ p + k - text_start = omega (arith, begins) in e)
+                ap (slice_index (linked_bytes files all)) (let e : p - text_start + k ≡ p + k - text_start = omega (arith, begins) in e)
                 ∙ in_code files all i k s inside at on (omega (arith, lt, size (in_is_placed Code s on))) ∙ own k lt;
           },
         )
@@ -288,7 +288,7 @@ stands files all i s inside small at bytes = by (three_groups s bytes)
           record {
             range = range_in_text files all i p s inside (within_limits all small).0 (place_is all Constants i s at on) begins ends;
             bytes = λ k lt.
-                ap (slice_index (image_of files all)) (let e : p - text_start + k ≡ p + k - text_start = omega (arith, begins) in e)
+                ap (slice_index (linked_bytes files all)) (let e : p - text_start + k ≡ p + k - text_start = omega (arith, begins) in e)
                 ∙ in_constants files all i k s inside at on (omega (arith, lt, size (in_is_placed Constants s on))) ∙ own k lt;
           },
         )
@@ -301,7 +301,7 @@ stands files all i s inside small at bytes = by (three_groups s bytes)
           record {
             range = range_in_data files all i p s inside (place_is all Data i s at on) begins ends;
             bytes = λ k lt.
-                ap (slice_index (image_of files all)) (let e : p - data_start + text + k ≡ p + k - data_start + text = omega (arith, begins) in e)
+                ap (slice_index (linked_bytes files all)) (let e : p - data_start + text + k ≡ p + k - data_start + text = omega (arith, begins) in e)
                 ∙ in_data files all i k s inside at on (omega (arith, lt, size (in_is_placed Data s on))) ∙ own k lt;
           },
         )
@@ -329,7 +329,7 @@ pub stand_apart : (files : List (List ℕ)) (all : List Section) (i j a b : ℕ)
 stand_apart files all i j a b s t small other at to placed too first second = by (cases_lt i j)
   where
     len : ℕ
-    len = length (image_of files all)
+    len = length (linked_bytes files all)
 
     one_way : (slice_index (places_of all) i + s.sh_size ≤ slice_index (places_of all) j) ⊎ (slice_index (places_of all) j + t.sh_size ≤ slice_index (places_of all) i)
         → (a + s.sh_size ≤ b) ⊎ (b + t.sh_size ≤ a)

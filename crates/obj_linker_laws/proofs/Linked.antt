@@ -5,13 +5,13 @@ use Rattle.std.proofs.lemmas.Bool.{cases_Bool, eqb-true}
 use Rattle.std.proofs.lemmas.List.Elements.{All-drop, All-head, All-tail}
 use Rattle.obj_reader.specs.declared.relocation.Relocation.{Relocation}
 use Rattle.obj_reader.specs.declared.section.Section.{Section}
-use Rattle.obj_reader.specs.Fault.{fails}
-use Rattle.obj_reader.specs.Objects.{fault_from, first_start}
-use Rattle.obj_reader.specs.Relocations.{is_high, is_low, offset_of}
+use Rattle.obj_reader.specs.Fault.{object_fails}
+use Rattle.obj_reader.specs.Objects.{objects_fault_from, first_start}
+use Rattle.obj_reader.specs.Relocations.{is_high, is_low, relocation_offset}
 use Rattle.obj_reader.proofs.FindLemmas.{found_passes}
 use Rattle.obj_linker.specs.declared.site.Site.{Site}
 use Rattle.obj_linker.specs.Layout.{is_too_large, places_of, text_end, text_start}
-use Rattle.obj_linker.specs.Link.{link_fault, meanings_of, names_fault, program_fault}
+use Rattle.obj_linker.specs.Link.{objects_fault, meanings_of, names_fault, program_fault}
 use Rattle.obj_linker.specs.Pairs.{first_alone, is_low_of, low_of}
 use Rattle.obj_linker.specs.Sites.{site_of}
 use Rattle.obj_linker.specs.Whole.{relocation_fault_of}
@@ -20,34 +20,34 @@ use Rattle.obj_linker_laws.proofs.Facts.{Inside, Sited, all_inside, all_sited}
 use Rattle.obj_linker_laws.proofs.Lists.{and_both, or_none}
 use Rattle.obj_linker_laws.proofs.Sites.{site_at}
 
-pub passed_objects : (files : List (List ℕ)) (entry : List ℕ) → link_fault files entry ≡ None → fault_from first_start files ≡ None
-unfolding link_fault
-passed_objects files entry none = (or_none (fault_from first_start files) _ none).0
+pub passed_objects : (files : List (List ℕ)) (entry : List ℕ) → objects_fault files entry ≡ None → objects_fault_from first_start files ≡ None
+unfolding objects_fault
+passed_objects files entry none = (or_none (objects_fault_from first_start files) _ none).0
 
-passed_program : (files : List (List ℕ)) (entry : List ℕ) → link_fault files entry ≡ None
+passed_program : (files : List (List ℕ)) (entry : List ℕ) → objects_fault files entry ≡ None
     → program_fault files (sections_in files) (symbols_in files) (relocations_in files) entry ≡ None
-unfolding link_fault
+unfolding objects_fault
 passed_program files entry none =
-    let rest = or_none (fault_from first_start files) _ none in
+    let rest = or_none (objects_fault_from first_start files) _ none in
     let last = or_none (names_fault files (sections_in files) (symbols_in files) (relocations_in files)) _ rest.1 in
     (or_none (program_fault files (sections_in files) (symbols_in files) (relocations_in files) entry) None last.1).0
 
-no_fail : (kind : ℕ) (t : Bool) → fails 0 kind 0 t ≡ None → t ≡ false
+no_fail : (kind : ℕ) (t : Bool) → object_fails 0 kind 0 t ≡ None → t ≡ false
 no_fail kind true h = absurd (cc)
 no_fail kind false h = refl
 
-pub not_large : (files : List (List ℕ)) (entry : List ℕ) → link_fault files entry ≡ None → is_too_large (sections_in files) ≡ false
+pub not_large : (files : List (List ℕ)) (entry : List ℕ) → objects_fault files entry ≡ None → is_too_large (sections_in files) ≡ false
 unfolding program_fault
 not_large files entry none = by (passed_program files entry none)
   where
     by : program_fault files (sections_in files) (symbols_in files) (relocations_in files) entry ≡ None → is_too_large (sections_in files) ≡ false
-    by h = no_fail 12 (is_too_large (sections_in files)) (or_none (fails 0 12 0 (is_too_large (sections_in files))) _ h).0
+    by h = no_fail 12 (is_too_large (sections_in files)) (or_none (object_fails 0 12 0 (is_too_large (sections_in files))) _ h).0
 
-pub inside_objects : (files : List (List ℕ)) (entry : List ℕ) → link_fault files entry ≡ None → All (Inside files) (sections_in files)
+pub inside_objects : (files : List (List ℕ)) (entry : List ℕ) → objects_fault files entry ≡ None → All (Inside files) (sections_in files)
 inside_objects files entry none =
     all_inside files files first_start (λ k. ap (slice_get files) (let e : k ≡ 0 + k = omega arith in e)) (passed_objects files entry none)
 
-pub sited : (files : List (List ℕ)) (entry : List ℕ) → link_fault files entry ≡ None → All (Sited (sections_in files)) (relocations_in files)
+pub sited : (files : List (List ℕ)) (entry : List ℕ) → objects_fault files entry ≡ None → All (Sited (sections_in files)) (relocations_in files)
 sited files entry none =
     all_sited (sections_in files) files first_start (λ k. ap (slice_get (sections_in files)) (let e : k ≡ 0 + k = omega arith in e)) (passed_objects files entry none)
 
@@ -72,10 +72,10 @@ pub low_is : (files : List (List ℕ)) (j : ℕ) (r : Relocation) (site : Site) 
 low_is files j r site at here = ap (λ (s : Site). s.low_at) (site_of_it files j r site at here)
 
 -- ---- upper halves go with lower ones
-passed_names : (files : List (List ℕ)) (entry : List ℕ) → link_fault files entry ≡ None → first_alone (relocations_in files) ≡ None
-unfolding link_fault names_fault
+passed_names : (files : List (List ℕ)) (entry : List ℕ) → objects_fault files entry ≡ None → first_alone (relocations_in files) ≡ None
+unfolding objects_fault names_fault
 passed_names files entry none =
-    let rest = or_none (fault_from first_start files) _ none in
+    let rest = or_none (objects_fault_from first_start files) _ none in
     let names = or_none (names_fault files (sections_in files) (symbols_in files) (relocations_in files)) _ rest.1 in
     no_fault (first_alone (relocations_in files)) (or_none (relocation_fault_of 9 (first_alone (relocations_in files))) _ names.0).0
   where
@@ -111,7 +111,7 @@ found_is P p (y ∷ xs) x all found =
     ]
 
 -- the lower half that goes with an upper one is an aligned word of the same section
-pub low_within : (files : List (List ℕ)) (entry : List ℕ) (j : ℕ) (r : Relocation) (s : Section) → link_fault files entry ≡ None
+pub low_within : (files : List (List ℕ)) (entry : List ℕ) (j : ℕ) (r : Relocation) (s : Section) → objects_fault files entry ≡ None
     → slice_get (relocations_in files) j ≡ Some r → slice_get (sections_in files) r.section ≡ Some s → is_high r ≡ true
     → (low_offset files j r % 4 ≡ 0) × (low_offset files j r + 4 ≤ s.sh_size)
 low_within files entry j r s none at in_s high =
@@ -124,8 +124,8 @@ low_within files entry j r s none at in_s high =
     the_section : (q : Relocation) → is_low_of r.section r.symbol q ≡ true → q.section ≡ r.section
     the_section q h = eqb-true q.section r.section (and_both (q.section == r.section) (q.symbol == r.symbol) (and_both (is_low q) _ h).1).0
 
-    low : (o : Option Relocation) → find (is_low_of r.section r.symbol) later ≡ o → low_of r later ≡ option_map offset_of o
-    low o e = ap (λ t. cond t (option_map offset_of (find (is_low_of r.section r.symbol) later)) None) high ∙ ap (option_map offset_of) e
+    low : (o : Option Relocation) → find (is_low_of r.section r.symbol) later ≡ o → low_of r later ≡ option_map relocation_offset o
+    low o e = ap (λ t. cond t (option_map relocation_offset (find (is_low_of r.section r.symbol) later)) None) high ∙ ap (option_map relocation_offset) e
 
     by : (o : Option Relocation) → find (is_low_of r.section r.symbol) later ≡ o → is_none (low_of r later) ≡ false
         → (low_offset files j r % 4 ≡ 0) × (low_offset files j r + 4 ≤ s.sh_size)

@@ -5,23 +5,23 @@ use Rattle.std.proofs.lemmas.Bool.Decides.{nat_tests}
 use Rattle.std.proofs.lemmas.List.{append-nil, take-take}
 use Rattle.std.proofs.lemmas.Option.{get_or_from_slice_get, slice_get_within}
 use Rattle.obj_reader.specs.declared.section.Section.{Section}
-use Rattle.obj_reader.specs.Sections.{has_bytes, has_zeros, is_code, is_placed, is_variable}
+use Rattle.obj_reader.specs.Sections.{has_bytes, has_zeros, is_code_object_section, is_placed, is_variable}
 use Rattle.obj_linker.specs.declared.group.Group.{Group}
 use Rattle.obj_linker.specs.declared.group.Group.TheVariants.{Code, Constants, Data, Zeros}
-use Rattle.obj_linker.specs.Layout.{code_end, data_end, data_start, group_end, is_in, is_too_large, max_data, max_text, max_zeros, next_end, place_of, places_from, places_of, section_start, text_end, text_start, zeros_end}
+use Rattle.obj_linker.specs.Layout.{code_end, data_end, data_start, group_end, is_in, is_too_large, max_data, max_text, max_zeros, next_end, section_place, places_from, places_of, section_start, text_end, text_start, zeros_end}
 use Rattle.obj_linker.proofs.LayoutLemmas.{end_more, end_within, le_group_end, le_rounded}
 use Rattle.obj_linker_laws.proofs.Lists.{and_both, or_neither}
 
 -- ---- the place of a section
 from_behind : (all before later : List Section) (i : ℕ) (s : Section) → slice_get later i ≡ Some s
-    → slice_index (places_from all before later) i ≡ place_of all (before ++ take i later) s
+    → slice_index (places_from all before later) i ≡ section_place all (before ++ take i later) s
 from_behind all before [] i s at = absurd (cc)
 from_behind all before (x ∷ later) zero s at =
-    let same : x ≡ s = cc in ap (place_of all before) same ∙ ap (λ l. place_of all l s) (sym (append-nil before))
+    let same : x ≡ s = cc in ap (section_place all before) same ∙ ap (λ l. section_place all l s) (sym (append-nil before))
 from_behind all before (x ∷ later) (suc i) s at =
-    from_behind all (before ++ x ∷ []) later i s at ∙ ap (λ l. place_of all l s) (append_assoc before (x ∷ []) (take i later))
+    from_behind all (before ++ x ∷ []) later i s at ∙ ap (λ l. section_place all l s) (append_assoc before (x ∷ []) (take i later))
 
-pub place_at : (all : List Section) (i : ℕ) (s : Section) → slice_get all i ≡ Some s → slice_index (places_of all) i ≡ place_of all (take i all) s
+pub place_at : (all : List Section) (i : ℕ) (s : Section) → slice_get all i ≡ Some s → slice_index (places_of all) i ≡ section_place all (take i all) s
 unfolding places_of
 place_at all i s at = from_behind all [] all i s at
 
@@ -63,13 +63,13 @@ not_true true h = absurd (cc)
 not_true false h = refl
 
 -- a section of one group is in no other
-no_code : (s : Section) (a b : Bool) → (is_placed s && not (is_code s) && a) ≡ true → is_in Code s ≡ false
-no_code s a b h = not_true (is_code s) (and_both (is_placed s) (not (is_code s)) (and_both (is_placed s && not (is_code s)) a h).0).1
+no_code : (s : Section) (a b : Bool) → (is_placed s && not (is_code_object_section s) && a) ≡ true → is_in Code s ≡ false
+no_code s a b h = not_true (is_code_object_section s) (and_both (is_placed s) (not (is_code_object_section s)) (and_both (is_placed s && not (is_code_object_section s)) a h).0).1
 
-no_constant : (s : Section) (b : Bool) → (is_placed s && not (is_code s) && is_variable s && b) ≡ true → is_in Constants s ≡ false
+no_constant : (s : Section) (b : Bool) → (is_placed s && not (is_code_object_section s) && is_variable s && b) ≡ true → is_in Constants s ≡ false
 no_constant s b h =
-    let variable = (and_both (is_placed s && not (is_code s)) (is_variable s) (and_both (is_placed s && not (is_code s) && is_variable s) b h).0).1 in
-    ap (λ t. is_placed s && not (is_code s) && not t) variable ∙ off (is_placed s && not (is_code s))
+    let variable = (and_both (is_placed s && not (is_code_object_section s)) (is_variable s) (and_both (is_placed s && not (is_code_object_section s) && is_variable s) b h).0).1 in
+    ap (λ t. is_placed s && not (is_code_object_section s) && not t) variable ∙ off (is_placed s && not (is_code_object_section s))
   where
     off : (t : Bool) → (t && false) ≡ false
     off true = refl
@@ -77,9 +77,9 @@ no_constant s b h =
 
 only_zeros : (s : Section) → is_in Zeros s ≡ true → is_in Data s ≡ false
 only_zeros s h =
-    let zeros = (and_both (is_placed s && not (is_code s) && is_variable s) (has_zeros s) h).1 in
+    let zeros = (and_both (is_placed s && not (is_code_object_section s) && is_variable s) (has_zeros s) h).1 in
     let bytes : has_bytes s ≡ false = grind (arith, nat_tests) in
-    ap (λ t. is_placed s && not (is_code s) && is_variable s && t) bytes ∙ off (is_placed s && not (is_code s) && is_variable s)
+    ap (λ t. is_placed s && not (is_code_object_section s) && is_variable s && t) bytes ∙ off (is_placed s && not (is_code_object_section s) && is_variable s)
   where
     off : (t : Bool) → (t && false) ≡ false
     off true = refl
@@ -89,17 +89,17 @@ regroup : (a b c d : Bool) → (a && b && c && d) ≡ true → (a && b && c) ≡
 regroup a b c d h = (and_both (a && b && c) d h).0
 
 pub place_in : (all before : List Section) (g : Group) (s : Section) → is_in g s ≡ true
-    → place_of all before s ≡ section_start (group_end g (group_start all g) before) s
+    → section_place all before s ≡ section_start (group_end g (group_start all g) before) s
 place_in all before Code s h =
     first_group (is_in Code s) (is_in Constants s) (is_in Data s) (is_in Zeros s) _ _ _ _ h
 place_in all before Constants s h =
     second_group (is_in Code s) (is_in Constants s) (is_in Data s) (is_in Zeros s) _ _ _ _ (no_code s (not (is_variable s)) true h) h
 place_in all before Data s h =
     third_group (is_in Code s) (is_in Constants s) (is_in Data s) (is_in Zeros s) _ _ _ _
-    (no_code s (is_variable s) true (regroup (is_placed s) (not (is_code s)) (is_variable s) (has_bytes s) h)) (no_constant s (has_bytes s) h) h
+    (no_code s (is_variable s) true (regroup (is_placed s) (not (is_code_object_section s)) (is_variable s) (has_bytes s) h)) (no_constant s (has_bytes s) h) h
 place_in all before Zeros s h =
     fourth_group (is_in Code s) (is_in Constants s) (is_in Data s) (is_in Zeros s) _ _ _ _
-    (no_code s (is_variable s) true (regroup (is_placed s) (not (is_code s)) (is_variable s) (has_zeros s) h)) (no_constant s (has_zeros s) h) (only_zeros s h) h
+    (no_code s (is_variable s) true (regroup (is_placed s) (not (is_code_object_section s)) (is_variable s) (has_zeros s) h)) (no_constant s (has_zeros s) h) (only_zeros s h) h
 
 -- ---- the range of a section
 -- the place of a section in a group
@@ -171,7 +171,7 @@ ends_are all = (refl, refl, refl, refl)
 
 -- ---- the group of a section
 pub group_of : (s : Section) → is_placed s ≡ true → (g : Group) × (is_in g s ≡ true)
-group_of s placed = by (cases_Bool (is_code s)) (cases_Bool (is_variable s)) (cases_Bool (has_bytes s))
+group_of s placed = by (cases_Bool (is_code_object_section s)) (cases_Bool (is_variable s)) (cases_Bool (has_bytes s))
   where
     zeros_else : (a b c : Bool) → (a && (b || c)) ≡ true → b ≡ false → c ≡ true
     zeros_else true true c h g = absurd (cc)
@@ -190,19 +190,19 @@ group_of s placed = by (cases_Bool (is_code s)) (cases_Bool (is_variable s)) (ca
     four true false false d x y z w = absurd (cc)
     four false b c d x y z w = absurd (cc)
 
-    by : (is_code s ≡ true) ⊎ (is_code s ≡ false) → (is_variable s ≡ true) ⊎ (is_variable s ≡ false) → (has_bytes s ≡ true) ⊎ (has_bytes s ≡ false)
+    by : (is_code_object_section s ≡ true) ⊎ (is_code_object_section s ≡ false) → (is_variable s ≡ true) ⊎ (is_variable s ≡ false) → (has_bytes s ≡ true) ⊎ (has_bytes s ≡ false)
         → (g : Group) × (is_in g s ≡ true)
     by (inl code) v b = (Code, code)
-    by (inr code) (inr variable) b = (Constants, three (is_placed s) (is_code s) (is_variable s) placed code variable)
-    by (inr code) (inl variable) (inl bytes) = (Data, four (is_placed s) (is_code s) (is_variable s) (has_bytes s) placed code variable bytes)
+    by (inr code) (inr variable) b = (Constants, three (is_placed s) (is_code_object_section s) (is_variable s) placed code variable)
+    by (inr code) (inl variable) (inl bytes) = (Data, four (is_placed s) (is_code_object_section s) (is_variable s) (has_bytes s) placed code variable bytes)
     by (inr code) (inl variable) (inr bytes) =
-        (Zeros, four (is_placed s) (is_code s) (is_variable s) (has_zeros s) placed code variable (zeros_else _ (has_bytes s) (has_zeros s) placed bytes))
+        (Zeros, four (is_placed s) (is_code_object_section s) (is_variable s) (has_zeros s) placed code variable (zeros_else _ (has_bytes s) (has_zeros s) placed bytes))
 
 pub in_is_placed : (g : Group) (s : Section) → is_in g s ≡ true → is_placed s ≡ true
 in_is_placed Code s h = (and_both (is_placed s) _ h).0
-in_is_placed Constants s h = (and_both (is_placed s) (not (is_code s)) (and_both (is_placed s && not (is_code s)) (not (is_variable s)) h).0).0
-in_is_placed Data s h = (and_both (is_placed s) (not (is_code s)) (and_both (is_placed s && not (is_code s)) (is_variable s) (regroup (is_placed s) (not (is_code s)) (is_variable s) (has_bytes s) h)).0).0
-in_is_placed Zeros s h = (and_both (is_placed s) (not (is_code s)) (and_both (is_placed s && not (is_code s)) (is_variable s) (regroup (is_placed s) (not (is_code s)) (is_variable s) (has_zeros s) h)).0).0
+in_is_placed Constants s h = (and_both (is_placed s) (not (is_code_object_section s)) (and_both (is_placed s && not (is_code_object_section s)) (not (is_variable s)) h).0).0
+in_is_placed Data s h = (and_both (is_placed s) (not (is_code_object_section s)) (and_both (is_placed s && not (is_code_object_section s)) (is_variable s) (regroup (is_placed s) (not (is_code_object_section s)) (is_variable s) (has_bytes s) h)).0).0
+in_is_placed Zeros s h = (and_both (is_placed s) (not (is_code_object_section s)) (and_both (is_placed s && not (is_code_object_section s)) (is_variable s) (regroup (is_placed s) (not (is_code_object_section s)) (is_variable s) (has_zeros s) h)).0).0
 
 -- ---- no two sections share an address
 

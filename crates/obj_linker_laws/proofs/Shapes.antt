@@ -4,24 +4,24 @@ use Rattle.std.specs.List.{All}
 use Rattle.std.proofs.lemmas.Bool.{cases_lt, le-ltb, lt-ltb}
 use Rattle.std.proofs.lemmas.List.{length-take-le}
 use Rattle.std.proofs.lemmas.List.Elements.{All-cons, All-nil}
-use Rattle.elf_reader.specs.Segments.{program_headers}
-use Rattle.elf_writer.specs.declared.part.Part.{Part}
-use Rattle.elf_writer.specs.declared.parts.Parts.{Parts}
-use Rattle.elf_writer.specs.declared.sec.Sec.{Sec}
-use Rattle.elf_writer.specs.File as writer
-use Rattle.elf_writer.specs.Places.{aligned, contents_place, file_offset, header_count, segments_end, table_place}
+use Rattle.elf_definition.specs.Segments.{program_headers}
+use Rattle.elf_definition.specs.declared.part.Part.{Part}
+use Rattle.elf_definition.specs.declared.parts.Parts.{Parts}
+use Rattle.elf_definition.specs.declared.sec.Sec.{Sec}
+use Rattle.elf_definition.specs.File as writer
+use Rattle.elf_definition.specs.FilePlaces.{aligned, contents_place, file_offset, header_count, segments_end, table_place}
 use Rattle.mips_asm.specs.File.{Segment as Content, segment_of}
-use Rattle.elf_laws.proofs.Programs.{IsSmall}
-use Rattle.elf_laws.proofs.Written.{begins, ends, header_bytes, place_of, segments_end_is, table_stands}
+use Rattle.mips_asm_laws.proofs.Programs.{IsSmall}
+use Rattle.mips_asm_laws.proofs.Written.{begins, ends, header_bytes, place_of, segments_end_is, table_stands}
 use Rattle.obj_reader.specs.declared.section.Section.{Section as SectionOf}
 use Rattle.obj_linker.specs.declared.meaning.Meaning.{Meaning}
 use Rattle.obj_linker.specs.declared.meaning.Meaning.TheVariants.{InSection, Nothing, Number}
-use Rattle.obj_linker.specs.Image.{image_of}
+use Rattle.obj_linker.specs.Image.{linked_bytes}
 use Rattle.obj_linker.specs.Names.{definition_of}
 use Rattle.obj_linker.specs.Sites.{is_section_placed}
 use Rattle.obj_linker.specs.Layout.{code_end, data_end, data_start, places_of, text_end, text_start, zeros_end}
-use Rattle.obj_linker.specs.Link.{IsLinked, address_of, defined_meaning, entry_of, link_fault, linked_image}
-use Rattle.obj_linker.specs.Program.{Segment, IsProgram, code_section, data_segments, text_segment}
+use Rattle.obj_linker.specs.Link.{IsLinked, entry_address, defined_meaning, entry_of, objects_fault, linked_image}
+use Rattle.obj_linker.specs.Program.{LinkedSegment, IsLinkedParts, code_section, linked_data, text_segment}
 use Rattle.obj_linker.specs.Program as linker
 use Rattle.obj_linker_laws.specs.Held.{image_in, sections_in, sites_in, symbols_in}
 use Rattle.obj_linker_laws.specs.Reading.{content_of, contents_of, placed_contents}
@@ -47,7 +47,7 @@ front_is file parts cs size is are these =
 
 there_is : (file : List ℕ) (parts : Parts) (size : ℕ) → file ≡ writer.elf_file parts → parts.sections.items ≡ code_of size ∷ []
     → drop (aligned (segments_end parts)) file
-    ≡ replicate 40 0 ++ (writer.section_header (file_offset (contents_place parts.segments.items) parts.segments.items 0x00400000) (code_of size) ++ [])
+    ≡ replicate 40 0 ++ (writer.section_header_bytes (file_offset (contents_place parts.segments.items) parts.segments.items 0x00400000) (code_of size) ++ [])
 there_is file parts size is these = ap (λ f. drop (aligned (segments_end parts)) f) is ∙ table_stands parts (code_of size) [] these
 
 pub one_shape : (file : List ℕ) (parts : Parts) (text : List ℕ) (n size : ℕ) → file ≡ writer.elf_file parts
@@ -106,11 +106,11 @@ two_shape file parts text bytes n d m size is are these long long' short less sh
     }
 
 -- ---- the contents of a linked program
-same_contents : (parts : List Part) → map segment_of parts ≡ map content_of (map linker.segment_of parts)
+same_contents : (parts : List Part) → map segment_of parts ≡ map content_of (map linker.linked_segment parts)
 same_contents [] = refl
 same_contents (s ∷ parts) = ap (λ l. segment_of s ∷ l) (same_contents parts)
 
-pub contents_are : (at code text last : ℕ) (image : List ℕ) (parts : Parts) → IsProgram at image code text last parts
+pub contents_are : (at code text last : ℕ) (image : List ℕ) (parts : Parts) → IsLinkedParts at image code text last parts
     → map segment_of parts.segments.items ≡ contents_of image text last
 contents_are at code text last image parts is = same_contents parts.segments.items ∙ ap (λ l. map content_of l) is.segments
 
@@ -118,14 +118,14 @@ contents_are at code text last image parts is = same_contents parts.segments.ite
 pub without_data : (image : List ℕ) (text last : ℕ) → last ≤ data_start
     → contents_of image text last ≡ text_content (take (text - text_start) image) (text - text_start) ∷ []
 without_data image text last le =
-    let part : Segment = record { address = data_start; flags = 6; memory = last - data_start; contents = drop (text - text_start) image } in
+    let part : LinkedSegment = record { address = data_start; flags = 6; memory = last - data_start; contents = drop (text - text_start) image } in
     ap (λ t. map content_of (text_segment image text ∷ cond t (part ∷ []) [])) (le-ltb data_start last le)
 
 pub with_data : (image : List ℕ) (text last : ℕ) → data_start < last
     → contents_of image text last
     ≡ text_content (take (text - text_start) image) (text - text_start) ∷ data_content (drop (text - text_start) image) (last - data_start) ∷ []
 with_data image text last lt =
-    let part : Segment = record { address = data_start; flags = 6; memory = last - data_start; contents = drop (text - text_start) image } in
+    let part : LinkedSegment = record { address = data_start; flags = 6; memory = last - data_start; contents = drop (text - text_start) image } in
     ap (λ t. map content_of (text_segment image text ∷ cond t (part ∷ []) [])) (lt-ltb data_start last lt)
 
 -- the lengths of a linked program
@@ -138,14 +138,14 @@ pub record Lengths (files : List (List ℕ)) : Type 0 where
   pub zeros_behind : data_end (sections_in files) - data_start ≤ zeros_end (sections_in files) - data_start
   pub code : code_end (sections_in files) - text_start ≤ text_end (sections_in files) - text_start
 
-pub lengths : (files : List (List ℕ)) (entry : List ℕ) → link_fault files entry ≡ None → Lengths files
+pub lengths : (files : List (List ℕ)) (entry : List ℕ) → objects_fault files entry ≡ None → Lengths files
 unfolding linked_image
 lengths files entry none =
     let all = sections_in files in
     let image = image_in files in
     let n = text_end all - text_start in
     let size : length image ≡ n + (data_end all - data_start) =
-    relocated_size (image_of files all) (sites_in files) ∙ image_size files all (inside_objects files entry none) in
+    relocated_size (linked_bytes files all) (sites_in files) ∙ image_size files all (inside_objects files entry none) in
     let limits = within_limits all (not_large files entry none) in
     let order = in_order all in
     record {
@@ -173,7 +173,7 @@ TwoSegments files file parts =
     ∷ data_at (aligned (116 + (text_end (sections_in files) - text_start))) (data_end (sections_in files) - data_start) (zeros_end (sections_in files) - data_start)
     ∷ [])
 
-pub shaped : (files : List (List ℕ)) (entry file : List ℕ) → link_fault files entry ≡ None → IsLinked files entry file
+pub shaped : (files : List (List ℕ)) (entry file : List ℕ) → objects_fault files entry ≡ None → IsLinked files entry file
     → (parts : Parts) × (OneSegment files file parts ⊎ TwoSegments files file parts)
 shaped files entry file none is = (parts, by (cases_lt data_start (zeros_end all)))
   where
@@ -214,20 +214,20 @@ low_entry files entry at is = by (defined_meaning (definition_of files (symbols_
     placed true n h = the_number n h
     placed false n h = absurd (cc)
 
-    by : (m : Meaning) → address_of (sections_in files) (places_of (sections_in files)) m ≡ Some at → at < 2 ^ 32
+    by : (m : Meaning) → entry_address (sections_in files) (places_of (sections_in files)) m ≡ Some at → at < 2 ^ 32
     by (InSection section offset) h = placed (is_section_placed (sections_in files) section) (slice_index (places_of (sections_in files)) section + offset) h
     by (Number value) h = absurd (cc)
     by Nothing h = absurd (cc)
 
-pub short_image : (files : List (List ℕ)) (entry : List ℕ) → link_fault files entry ≡ None → length (image_in files) ≤ 33554432
+pub short_image : (files : List (List ℕ)) (entry : List ℕ) → objects_fault files entry ≡ None → length (image_in files) ≤ 33554432
 unfolding linked_image
 short_image files entry none =
     let all = sections_in files in
     let known = lengths files entry none in
-    let size = relocated_size (image_of files all) (sites_in files) ∙ image_size files all (inside_objects files entry none) in
+    let size = relocated_size (linked_bytes files all) (sites_in files) ∙ image_size files all (inside_objects files entry none) in
     omega (arith, size, known.short, known.short_bytes)
 
-pub small_contents : (files : List (List ℕ)) (entry : List ℕ) → link_fault files entry ≡ None → All IsSmall (placed_contents files)
+pub small_contents : (files : List (List ℕ)) (entry : List ℕ) → objects_fault files entry ≡ None → All IsSmall (placed_contents files)
 small_contents files entry none = by (cases_lt data_start (zeros_end (sections_in files)))
   where
     text : ℕ

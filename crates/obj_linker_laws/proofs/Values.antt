@@ -5,18 +5,18 @@ use Rattle.std.proofs.lemmas.Bool.{cases_lt, le-leb}
 use Rattle.std.proofs.lemmas.Bool.Decides.{nat_tests}
 use Rattle.std.proofs.lemmas.List.{ext_get_or, get_or-drop, get_or-take, length-take-le, take-append-drop}
 use Rattle.std.proofs.lemmas.List.Elements.{All-drop, All-take}
-use Rattle.nv_words.specs.Words.{bytes_of_word, word_of_bytes, word_of_list}
-use Rattle.nv_words.specs.declared.order.Order.TheVariants.{Big}
+use Rattle.run_definition.specs.Words.{bytes_of_word, word_of_bytes, word_of_list}
+use Rattle.run_definition.specs.declared.order.Order.TheVariants.{Big}
 use Rattle.obj_reader.specs.declared.relocation.Relocation.{Relocation}
 use Rattle.obj_reader.specs.declared.section.Section.{Section}
 use Rattle.obj_reader.specs.declared.symbol.Symbol.{Symbol}
 use Rattle.obj_reader.specs.Sections.{has_bytes, is_placed}
 use Rattle.obj_linker.specs.declared.site.Site.{Site}
-use Rattle.obj_linker.specs.Image.{image_of}
+use Rattle.obj_linker.specs.Image.{linked_bytes}
 use Rattle.obj_linker.specs.Layout.{is_too_large}
 use Rattle.obj_linker.specs.Link.{all_sites}
-use Rattle.obj_linker.specs.Names.{bytes_of}
-use Rattle.obj_linker.specs.Sites.{changed, new_word, relocated, word_in}
+use Rattle.obj_linker.specs.Names.{object_bytes}
+use Rattle.obj_linker.specs.Sites.{changed, new_word, relocated, site_word}
 use Rattle.obj_linker_laws.specs.Held.{IsUntouched, byte_place, is_at, own_word}
 use Rattle.obj_linker_laws.proofs.Facts.{Inside, Sited}
 use Rattle.obj_linker_laws.proofs.Images.{stands}
@@ -45,7 +45,7 @@ all_untouched all i k m rs even small free sited =
     all_both (λ r. is_at i k r ≡ false) (Sited all) (Outside i (k + m)) rs (λ r h s. untouched all i k m r even small h s) (none_any (is_at i k) rs free) sited
 
 -- ---- a word of the image
-word_at : (image : List ℕ) (at : ℕ) → at + 4 ≤ length image → word_in image at ≡ word_of_list Big image at
+word_at : (image : List ℕ) (at : ℕ) → at + 4 ≤ length image → site_word image at ≡ word_of_list Big image at
 word_at image at inside = ap (λ t. cond t (word_of_list Big image at) 0) (le-leb (at + 4) (length image) inside)
 
 same_word : (xs ys : List ℕ) (a b : ℕ) → ((m : ℕ) → m < 4 → slice_index xs (a + m) ≡ slice_index ys (b + m)) → word_of_list Big xs a ≡ word_of_list Big ys b
@@ -56,17 +56,17 @@ same_word xs ys a b each =
 
 -- what stands in an image before a relocation is applied
 abbrev pub Before : List (List ℕ) → List Section → List Symbol → List Relocation → ℕ → List ℕ
-Before files all symbols rs j = relocated (image_of files all) (take j (all_sites files all symbols rs))
+Before files all symbols rs j = relocated (linked_bytes files all) (take j (all_sites files all symbols rs))
 
 -- the word of a section that no relocation so far was for
 pub own_before : (files : List (List ℕ)) (all : List Section) (symbols : List Symbol) (rs : List Relocation) (j i k : ℕ) (s : Section)
     → All (Inside files) all → is_too_large all ≡ false → slice_get all i ≡ Some s → (is_placed s && has_bytes s) ≡ true
     → All (Sited all) rs → k % 4 ≡ 0 → k + 4 ≤ s.sh_size → IsUntouched i k (take j rs)
-    → word_in (Before files all symbols rs j) (byte_place all i k) ≡ own_word files s k
+    → site_word (Before files all symbols rs j) (byte_place all i k) ≡ own_word files s k
 own_before files all symbols rs j i k s inside small at bytes sited even within free =
     let there = stands files all i s inside small at bytes in
     let start = there.0 in
-    let image = image_of files all in
+    let image = linked_bytes files all in
     let sites = take j (all_sites files all symbols rs) in
     let before = relocated image sites in
     let place : byte_place all i k ≡ start + k = there.1.range.each k (omega (arith, within)) in
@@ -77,9 +77,9 @@ own_before files all symbols rs j i k s inside small at bytes sited even within 
     ap (slice_index before) (let e : byte_place all i k + m ≡ start + (k + m) = omega (arith, place) in e)
     ∙ away_from image (start + (k + m)) sites (first_away files all symbols (start + (k + m)) j rs far)
     ∙ there.1.bytes (k + m) (omega (arith, within, lt))
-    ∙ ap (slice_index (bytes_of files s.object)) (let e : s.sh_offset + (k + m) ≡ s.sh_offset + k + m = omega arith in e) in
+    ∙ ap (slice_index (object_bytes files s.object)) (let e : s.sh_offset + (k + m) ≡ s.sh_offset + k + m = omega arith in e) in
     word_at before (byte_place all i k) (omega (arith, place, size, there.1.range.short, within))
-    ∙ same_word before (bytes_of files s.object) (byte_place all i k) (s.sh_offset + k) each
+    ∙ same_word before (object_bytes files s.object) (byte_place all i k) (s.sh_offset + k) each
 
 -- ---- the word that a site makes
 get_drop : {X : Type 0} (xs : List X) (j : ℕ) (x : X) → slice_get xs j ≡ Some x → drop j xs ≡ x ∷ drop (j + 1) xs
@@ -111,15 +111,15 @@ pub last_word : (files : List (List ℕ)) (all : List Section) (symbols : List S
     → All (Inside files) all → is_too_large all ≡ false → slice_get all i ≡ Some s → (is_placed s && has_bytes s) ≡ true
     → All (Sited all) rs → k % 4 ≡ 0 → k + 4 ≤ s.sh_size → slice_get (all_sites files all symbols rs) j ≡ Some site → site.at ≡ byte_place all i k
     → IsUntouched i k (drop (j + 1) rs)
-    → slice_range (relocated (image_of files all) (all_sites files all symbols rs)) site.at (site.at + 4)
-    ≡ bytes_of_word (new_word site (word_in (Before files all symbols rs j) site.at) (word_in (Before files all symbols rs j) site.low_at))
+    → slice_range (relocated (linked_bytes files all) (all_sites files all symbols rs)) site.at (site.at + 4)
+    ≡ bytes_of_word (new_word site (site_word (Before files all symbols rs j) site.at) (site_word (Before files all symbols rs j) site.low_at))
 last_word files all symbols rs j i k s site inside small at bytes sited even within here place free =
     let there = stands files all i s inside small at bytes in
     let start = there.0 in
-    let image = image_of files all in
+    let image = linked_bytes files all in
     let sites = all_sites files all symbols rs in
     let before = relocated image (take j sites) in
-    let word = new_word site (word_in before site.at) (word_in before site.low_at) in
+    let word = new_word site (site_word before site.at) (site_word before site.low_at) in
     let after = changed before site in
     let later = drop (j + 1) sites in
     let is : site.at ≡ start + k = place ∙ there.1.range.each k (omega (arith, within)) in

@@ -6,9 +6,9 @@ use Rattle.std.proofs.lemmas.Bool.{cases_Bool, le-leb}
 use Rattle.std.proofs.lemmas.Bool.Decides.{nat_tests}
 use Rattle.std.proofs.lemmas.List.{drop_at, get_or-append_right, get_or-drop, get_or-take, length-take-le, take_at}
 use Rattle.std.proofs.lemmas.List.Elements.{All-head, All-tail}
-use Rattle.nv_words.specs.Words.{bytes_of_word, list_with}
+use Rattle.run_definition.specs.Words.{bytes_of_word, list_with}
 use Rattle.obj_linker.specs.declared.site.Site.{Site}
-use Rattle.obj_linker.specs.Sites.{changed, new_word, relocated, with_word, word_in}
+use Rattle.obj_linker.specs.Sites.{changed, new_word, relocated, with_site_word, site_word}
 
 -- ---- one word
 with_size : (image : List ℕ) (at word : ℕ) → at + 4 ≤ length image → length (list_with image at (bytes_of_word word)) ≡ length image
@@ -35,11 +35,11 @@ by_size image at = by (cases_Bool (nat_le (at + 4) (length image)))
     by (inl on) = inl (held (at + 4) (length image) on, on)
     by (inr off) = inr off
 
-pub word_size : (image : List ℕ) (at word : ℕ) → length (with_word image at word) ≡ length image
+pub word_size : (image : List ℕ) (at word : ℕ) → length (with_site_word image at word) ≡ length image
 word_size image at word = by (by_size image at)
   where
     by : ((at + 4 ≤ length image) × (nat_le (at + 4) (length image) ≡ true)) ⊎ (nat_le (at + 4) (length image) ≡ false)
-        → length (with_word image at word) ≡ length image
+        → length (with_site_word image at word) ≡ length image
     by (inl h) = ap (λ t. length (cond t (list_with image at (bytes_of_word word)) image)) h.1 ∙ with_size image at word h.0
     by (inr off) = ap (λ t. length (cond t (list_with image at (bytes_of_word word)) image)) off
 
@@ -61,17 +61,17 @@ behind_word image at word x inside le =
     ∙ get_or-drop (at + 4) image (x - (at + 4)) 0
     ∙ ap (slice_index image) (let e : at + 4 + (x - (at + 4)) ≡ x = omega (arith, le) in e)
 
-pub other_byte : (image : List ℕ) (at word x : ℕ) → (x < at) ⊎ (at + 4 ≤ x) → slice_index (with_word image at word) x ≡ slice_index image x
+pub other_byte : (image : List ℕ) (at word x : ℕ) → (x < at) ⊎ (at + 4 ≤ x) → slice_index (with_site_word image at word) x ≡ slice_index image x
 other_byte image at word x away = by (by_size image at) away
   where
     by : ((at + 4 ≤ length image) × (nat_le (at + 4) (length image) ≡ true)) ⊎ (nat_le (at + 4) (length image) ≡ false) → (x < at) ⊎ (at + 4 ≤ x)
-        → slice_index (with_word image at word) x ≡ slice_index image x
+        → slice_index (with_site_word image at word) x ≡ slice_index image x
     by (inl h) (inl lt) = ap (λ t. slice_index (cond t (list_with image at (bytes_of_word word)) image) x) h.1 ∙ before_word image at word x h.0 lt
     by (inl h) (inr le) = ap (λ t. slice_index (cond t (list_with image at (bytes_of_word word)) image) x) h.1 ∙ behind_word image at word x h.0 le
     by (inr off) w = ap (λ t. slice_index (cond t (list_with image at (bytes_of_word word)) image) x) off
 
 -- the word itself
-pub word_put : (image : List ℕ) (at word : ℕ) → at + 4 ≤ length image → slice_range (with_word image at word) at (at + 4) ≡ bytes_of_word word
+pub word_put : (image : List ℕ) (at word : ℕ) → at + 4 ≤ length image → slice_range (with_site_word image at word) at (at + 4) ≡ bytes_of_word word
 word_put image at word inside =
     let front = take at image in
     let bytes = bytes_of_word word in
@@ -91,7 +91,7 @@ relocated-append image (x ∷ xs) ys = relocated-append (changed image x) xs ys
 pub relocated_size : (image : List ℕ) (sites : List Site) → length (relocated image sites) ≡ length image
 relocated_size image [] = refl
 relocated_size image (s ∷ sites) =
-    relocated_size (changed image s) sites ∙ word_size image s.at (new_word s (word_in image s.at) (word_in image s.low_at))
+    relocated_size (changed image s) sites ∙ word_size image s.at (new_word s (site_word image s.at) (site_word image s.low_at))
 
 -- a byte that is in no site
 abbrev pub Away : ℕ → Site → Type 0
@@ -101,4 +101,4 @@ pub away_from : (image : List ℕ) (x : ℕ) (sites : List Site) → All (Away x
 away_from image x [] all = refl
 away_from image x (s ∷ sites) all =
     away_from (changed image s) x sites (All-tail (Away x) s sites all)
-    ∙ other_byte image s.at (new_word s (word_in image s.at) (word_in image s.low_at)) x (All-head (Away x) s sites all)
+    ∙ other_byte image s.at (new_word s (site_word image s.at) (site_word image s.low_at)) x (All-head (Away x) s sites all)

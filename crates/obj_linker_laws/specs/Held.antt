@@ -1,8 +1,8 @@
 -- What the image of linked objects holds: the text, and behind it the data.
 use Rattle.std.specs.Prelude.{◌≡◌, ℕ, ◌+◌, ◌-◌, ◌<◌, ◌≤◌, Bool, true, false, ◌&&◌, ◌==◌, nat_le, nat_lt, List, length, take, drop, Some, unwrap_or, slice_get, slice_index, slice_range, ◌⊎◌}
 use Rattle.std.specs.List.{list_any}
-use Rattle.nv_words.specs.Words.{bytes_of_word, word_of_list}
-use Rattle.nv_words.specs.declared.order.Order.TheVariants.{Big}
+use Rattle.run_definition.specs.Words.{bytes_of_word, word_of_list}
+use Rattle.run_definition.specs.declared.order.Order.TheVariants.{Big}
 use Rattle.obj_reader.specs.declared.relocation.Relocation.{Relocation}
 use Rattle.obj_reader.specs.declared.section.Section.{Section}
 use Rattle.obj_reader.specs.declared.symbol.Symbol.{Symbol}
@@ -10,12 +10,12 @@ use Rattle.obj_reader.specs.Objects.{first_start, relocations_from, sections_fro
 use Rattle.obj_reader.specs.Relocations.{is_high}
 use Rattle.obj_reader.specs.Sections.{has_bytes, is_placed}
 use Rattle.obj_linker.specs.declared.site.Site.{Site}
-use Rattle.obj_linker.specs.Image.{image_of}
+use Rattle.obj_linker.specs.Image.{linked_bytes}
 use Rattle.obj_linker.specs.Layout.{places_of, text_end, text_start}
 use Rattle.obj_linker.specs.Link.{all_sites, linked_image}
-use Rattle.obj_linker.specs.Names.{bytes_of}
+use Rattle.obj_linker.specs.Names.{object_bytes}
 use Rattle.obj_linker.specs.Pairs.{low_of}
-use Rattle.obj_linker.specs.Sites.{image_place, new_word, relocated, word_in}
+use Rattle.obj_linker.specs.Sites.{image_place, new_word, relocated, site_word}
 
 -- ---- of some objects: all sections, symbols and relocations, and the image
 abbrev pub sections_in : List (List ℕ) → List Section
@@ -64,7 +64,7 @@ abbrev pub HoldsSection : List (List ℕ) → ℕ → Section → Type 0
 HoldsSection files i s =
     (k : ℕ) → k < s.sh_size → list_any (covers i k) (relocations_in files) ≡ false
     → slice_index (image_in files) (byte_place (sections_in files) i k)
-    ≡ slice_index (bytes_of files s.object) (s.sh_offset + k)
+    ≡ slice_index (object_bytes files s.object) (s.sh_offset + k)
 
 -- ---- the sites
 -- the site of a relocation lies in its section, and its word in the image
@@ -75,7 +75,7 @@ pub record IsSiteWithin (files : List (List ℕ)) (r : Relocation) (site : Site)
 
 -- the image when relocation j is applied: those before it are
 abbrev pub image_before : List (List ℕ) → ℕ → List ℕ
-image_before files j = relocated (image_of files (sections_in files)) (take j (sites_in files))
+image_before files j = relocated (linked_bytes files (sections_in files)) (take j (sites_in files))
 
 -- no relocation of these is for the word at an offset of section i
 abbrev pub IsUntouched : ℕ → ℕ → List Relocation → Type 0
@@ -83,7 +83,7 @@ IsUntouched i k relocations = list_any (is_at i k) relocations ≡ false
 
 -- the word at an offset of a section, in its object
 abbrev pub own_word : List (List ℕ) → Section → ℕ → ℕ
-own_word files s k = word_of_list Big (bytes_of files s.object) (s.sh_offset + k)
+own_word files s k = word_of_list Big (object_bytes files s.object) (s.sh_offset + k)
 
 -- the offset of the lower half that goes with relocation j, 0 where none does
 abbrev pub low_offset : List (List ℕ) → ℕ → Relocation → ℕ
@@ -96,13 +96,13 @@ pub record HoldsSite (files : List (List ℕ)) (j : ℕ) (r : Relocation) (s : S
   pub last :
       IsUntouched r.section r.r_offset (drop (j + 1) (relocations_in files))
       → slice_range (image_in files) site.at (site.at + 4)
-      ≡ bytes_of_word (new_word site (word_in (image_before files j) site.at)
-      (word_in (image_before files j) site.low_at))
+      ≡ bytes_of_word (new_word site (site_word (image_before files j) site.at)
+      (site_word (image_before files j) site.low_at))
   -- where no relocation before it is, that word was the object's; so was the lower half
   pub own :
       IsUntouched r.section r.r_offset (take j (relocations_in files))
-      → word_in (image_before files j) site.at ≡ own_word files s r.r_offset
+      → site_word (image_before files j) site.at ≡ own_word files s r.r_offset
   pub own_low :
       is_high r ≡ true
       → IsUntouched r.section (low_offset files j r) (take j (relocations_in files))
-      → word_in (image_before files j) site.low_at ≡ own_word files s (low_offset files j r)
+      → site_word (image_before files j) site.low_at ≡ own_word files s (low_offset files j r)

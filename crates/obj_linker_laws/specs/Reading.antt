@@ -3,11 +3,11 @@ use Rattle.std.specs.Prelude.{ℕ, ◌-◌, ◌/◌, List, ◌∷◌, map}
 use Rattle.mips_asm.specs.File.{Segment as Content}
 use Rattle.obj_reader.specs.declared.section.Section.{Section}
 use Rattle.obj_linker.specs.Layout.{code_end, text_end, text_start, zeros_end}
-use Rattle.obj_linker.specs.Program.{Segment, data_segments, text_segment}
+use Rattle.obj_linker.specs.Program.{LinkedSegment, linked_data, text_segment}
 use Rattle.obj_linker_laws.specs.Held.{image_in, sections_in}
 
 -- a segment that was placed: its address, its flags, its length in memory, and its bytes
-abbrev pub content_of : Segment → Content
+abbrev pub content_of : LinkedSegment → Content
 content_of s = record {
   address = s.address;
   flags = s.flags;
@@ -18,7 +18,7 @@ content_of s = record {
 -- the text, and the data where there is any
 abbrev pub contents_of : List ℕ → ℕ → ℕ → List Content
 contents_of image text_end zeros_end =
-    map content_of (text_segment image text_end ∷ data_segments image text_end zeros_end)
+    map content_of (text_segment image text_end ∷ linked_data image text_end zeros_end)
 
 abbrev pub placed_contents : List (List ℕ) → List Content
 placed_contents files =

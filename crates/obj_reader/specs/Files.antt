@@ -8,8 +8,8 @@ files_of objects = map (λ o. o.items) objects
 abbrev pub IsShort : List ℕ → Type 0
 IsShort file = length file ≤ 67108864
 
-abbrev pub is_long : List ℕ → Bool
-is_long file = nat_lt 67108864 (length file)
+abbrev pub is_long_file : List ℕ → Bool
+is_long_file file = nat_lt 67108864 (length file)
 
 abbrev pub is_long_object : {Z : Type 0} → Vec ℕ Z → Bool
-is_long_object object = is_long object.items
+is_long_object object = is_long_file object.items

@@ -2,7 +2,7 @@
 use Rattle.std.specs.Prelude.{ℕ, ◌+◌, ◌*◌, ◌/◌, ◌%◌, Bool, not, ◌&&◌, ◌||◌, ◌==◌, nat_lt, nat_le, if◌then◌else◌, List, [], length, map, flat_map, Option, Some, None, option_map, slice_get, option_and_then}
 use Rattle.std.specs.List.{find, range_with_len}
 use Rattle.std.specs.Option.{option_map_or}
-use Rattle.elf_reader.specs.Header.{word}
+use Rattle.elf_definition.specs.Header.{word}
 use Rattle.obj_reader.specs.declared.relocation.Relocation.{Relocation}
 use Rattle.obj_reader.specs.declared.section.Section.{Section}
 use Rattle.obj_reader.specs.declared.start.Start.{Start}
@@ -40,15 +40,15 @@ is_wrong_relocation limit target r =
     nat_le limit r.symbol || not (has_bytes target) || not (r.r_offset % 4 == 0)
     || nat_lt target.sh_size (r.r_offset + 4)
 
-abbrev pub offset_of : Relocation → ℕ
-offset_of r = r.r_offset
+abbrev pub relocation_offset : Relocation → ℕ
+relocation_offset r = r.r_offset
 
 -- the fault of a section of relocations for a placed section: one with addends, one of a wrong
 -- size, or its first entry that is wrong
-abbrev pub entries_fault : Start → List ℕ → ℕ → Section → Section → Option ℕ
-entries_fault start file limit s target =
+abbrev pub relocation_entries_fault : Start → List ℕ → ℕ → Section → Section → Option ℕ
+relocation_entries_fault start file limit s target =
     if is_with_addends s || not (s.sh_size % 8 == 0) then Some s.number
-    else option_map offset_of (find (is_wrong_relocation limit target) (entries_of start file s))
+    else option_map relocation_offset (find (is_wrong_relocation limit target) (entries_of start file s))
 
 -- the section that relocations are for, where it is placed
 abbrev pub only_placed : Section → Option Section
@@ -57,10 +57,10 @@ only_placed s = if is_placed s then Some s else None
 abbrev pub placed_target : List Section → Section → Option Section
 placed_target sections s = option_and_then only_placed (slice_get sections s.sh_info)
 
-abbrev pub target_fault : Start → List ℕ → ℕ → List Section → Section → Option ℕ
-target_fault start file limit sections s =
+abbrev pub relocation_target_fault : Start → List ℕ → ℕ → List Section → Section → Option ℕ
+relocation_target_fault start file limit sections s =
     if is_with_addends s || is_relocations s
-    then option_map_or (entries_fault start file limit s) (placed_target sections s) None
+    then option_map_or (relocation_entries_fault start file limit s) (placed_target sections s) None
     else None
 
 -- the place of the first fault of the relocations
@@ -68,7 +68,7 @@ unfoldable pub relocations_fault : Start → List ℕ → Option ℕ
 relocations_fault start file =
     let sections = sections_of start file in
     let limit = start.symbol + length (symbols_of start file) in
-    first_place (target_fault start file limit sections) sections
+    first_place (relocation_target_fault start file limit sections) sections
 
 -- MIPS psABI, "Relocation Types": R_MIPS_NONE, R_MIPS_32, R_MIPS_26, R_MIPS_HI16 and R_MIPS_LO16
 abbrev pub is_known_type : ℕ → Bool

@@ -2,10 +2,10 @@
 use Rattle.std.specs.Prelude.{ℕ, ◌+◌, ◌*◌, ◌%◌, Bool, false, not, ◌&&◌, ◌||◌, ◌==◌, nat_lt, nat_le, if◌then◌else◌, List, [], length, map, Option, Some, None, slice_get, option_and_then}
 use Rattle.std.specs.List.{find, range_with_len}
 use Rattle.std.specs.Option.{option_map_or}
-use Rattle.elf_reader.specs.declared.elf_header.ElfHeader.{ElfHeader}
-use Rattle.elf_reader.specs.Check.{has_flag}
-use Rattle.elf_reader.specs.Header.{has_magic, header_of, word}
-use Rattle.elf_reader.specs.Sections.{has_sections, is_section_table_outside}
+use Rattle.elf_definition.specs.declared.elf_header.ElfHeader.{ElfHeader}
+use Rattle.elf_definition.specs.Check.{has_flag}
+use Rattle.elf_definition.specs.Header.{has_magic, header_of, word}
+use Rattle.elf_definition.specs.Sections.{has_sections, is_section_table_outside}
 use Rattle.obj_reader.specs.declared.section.Section.{Section}
 use Rattle.obj_reader.specs.declared.start.Start.{Start}
 
@@ -20,8 +20,8 @@ abbrev pub is_relocatable : ElfHeader → Bool
 is_relocatable header = header.e_type == 1 && header.e_machine == 8
 
 -- a big-endian 32-bit relocatable object for MIPS
-abbrev pub is_object : List ℕ → Bool
-is_object file =
+abbrev pub is_mips_object : List ℕ → Bool
+is_mips_object file =
     nat_le 52 (length file) && has_magic file
     && is_identified (header_of file) && is_relocatable (header_of file)
 
@@ -75,8 +75,8 @@ abbrev pub is_placed : Section → Bool
 is_placed s = has_flag s.sh_flags 2 && (has_bytes s || has_zeros s)
 
 -- SHF_EXECINSTR, of a section that is placed, and SHF_WRITE
-abbrev pub is_code : Section → Bool
-is_code s = is_placed s && has_flag s.sh_flags 4
+abbrev pub is_code_object_section : Section → Bool
+is_code_object_section s = is_placed s && has_flag s.sh_flags 4
 
 abbrev pub is_variable : Section → Bool
 is_variable s = has_flag s.sh_flags 1
@@ -114,8 +114,8 @@ is_read sections s =
     || is_relocations s && is_for_placed sections s
 
 -- a section that is read runs past the end of a file of this length
-abbrev pub is_outside : ℕ → List Section → Section → Bool
-is_outside len sections s = is_read sections s && nat_lt len (s.sh_offset + s.sh_size)
+abbrev pub is_section_outside : ℕ → List Section → Section → Bool
+is_section_outside len sections s = is_read sections s && nat_lt len (s.sh_offset + s.sh_size)
 
 -- an alignment is 0 or divides 4,096: it is a power of 2 up to that
 abbrev pub is_alignment : ℕ → Bool
@@ -124,5 +124,5 @@ is_alignment n = n == 0 || 4096 % n == 0
 abbrev pub is_misaligned : Section → Bool
 is_misaligned s = is_placed s && not (is_alignment s.sh_addralign)
 
-abbrev pub number_of : Section → ℕ
-number_of s = s.number
+abbrev pub section_number : Section → ℕ
+section_number s = s.number

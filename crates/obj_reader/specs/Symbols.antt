@@ -2,13 +2,13 @@
 use Rattle.std.specs.Prelude.{ℕ, ◌+◌, ◌*◌, ◌/◌, ◌%◌, Bool, not, ◌&&◌, ◌||◌, ◌==◌, nat_lt, nat_le, List, [], ◌∷◌, length, map, drop, Option, None, is_none, option_map, slice_index, slice_range}
 use Rattle.std.specs.List.{find, list_any, range_with_len}
 use Rattle.std.specs.Option.{option_map_or}
-use Rattle.elf_reader.specs.Header.{half, word}
-use Rattle.nv_faults.specs.declared.obj_fault.ObjFault.{ObjFault}
+use Rattle.elf_definition.specs.Header.{half, word}
+use Rattle.elf_definition.specs.declared.obj_fault.ObjFault.{ObjFault}
 use Rattle.obj_reader.specs.declared.section.Section.{Section}
 use Rattle.obj_reader.specs.declared.start.Start.{Start}
 use Rattle.obj_reader.specs.declared.symbol.Symbol.{Symbol}
-use Rattle.obj_reader.specs.Fault.{fails, fails_at, first_fault}
-use Rattle.obj_reader.specs.Sections.{sections_of, symbol_table, string_table, strings_of_table, is_symbol_table, number_of}
+use Rattle.obj_reader.specs.Fault.{object_fails, object_fails_at, first_object_fault}
+use Rattle.obj_reader.specs.Sections.{sections_of, symbol_table, string_table, strings_of_table, is_symbol_table, section_number}
 
 -- where the string table begins in the file
 abbrev pub strings_place : List Section → ℕ
@@ -78,16 +78,16 @@ strings_bytes file sections = option_map_or (bytes_in file) (string_table sectio
 -- a second symbol table
 abbrev pub second_table : List Section → Section → Option ℕ
 second_table sections table =
-    option_map number_of
+    option_map section_number
     (find (λ s. is_symbol_table s && not (table.number == s.number)) sections)
 
 -- the checks of the table's form: there is no other, its size, and its string table
 unfoldable pub form_fault : ℕ → List Section → Section → Option ObjFault
 form_fault object sections table =
-    first_fault
-    (fails_at object 5 (second_table sections table)
-    ∷ fails object 5 table.number (not (table.sh_size % 16 == 0))
-    ∷ fails object 5 table.number (is_none (strings_of_table sections table))
+    first_object_fault
+    (object_fails_at object 5 (second_table sections table)
+    ∷ object_fails object 5 table.number (not (table.sh_size % 16 == 0))
+    ∷ object_fails object 5 table.number (is_none (strings_of_table sections table))
     ∷ [])
 
 -- the first symbol that is wrong, and the first that is common
@@ -99,17 +99,17 @@ abbrev pub first_common : List Symbol → Option ℕ
 first_common symbols = option_map symbol_number (find is_common symbols)
 
 -- the checks of a table, and of its symbols one by one: Symbols and Common
-unfoldable pub entries_fault : Start → List ℕ → List Section → Section → Option ObjFault
-entries_fault start file sections table =
+unfoldable pub symbol_entries_fault : Start → List ℕ → List Section → Section → Option ObjFault
+symbol_entries_fault start file sections table =
     let symbols = symbols_in start file (strings_place sections) table in
-    first_fault
+    first_object_fault
     (form_fault start.object sections table
-    ∷ fails_at start.object 5 (first_wrong (strings_bytes file sections) (length sections) symbols)
-    ∷ fails_at start.object 6 (first_common symbols)
+    ∷ object_fails_at start.object 5 (first_wrong (strings_bytes file sections) (length sections) symbols)
+    ∷ object_fails_at start.object 6 (first_common symbols)
     ∷ [])
 
 -- the first check that the symbol table fails, if there is one
 unfoldable pub symbol_fault : Start → List ℕ → Option ObjFault
 symbol_fault start file =
     let sections = sections_of start file in
-    option_map_or (entries_fault start file sections) (symbol_table sections) None
+    option_map_or (symbol_entries_fault start file sections) (symbol_table sections) None

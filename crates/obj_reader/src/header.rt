@@ -1,18 +1,18 @@
 //! The header of an object (System V ABI, "ELF Header").
 ghost use Rattle.std.specs.Prelude.{◌≡◌, ◌+◌, ◌*◌, ◌≤◌, ◌&&◌, IfErr, IfOk, IsTrue, OnOk, None, length};
-ghost use Rattle.elf_reader.specs.Header.{header_of};
-ghost use Rattle.elf_reader.specs.Sections.{has_sections};
+ghost use Rattle.elf_definition.specs.Header.{header_of};
+ghost use Rattle.elf_definition.specs.Sections.{has_sections};
 ghost use Rattle.obj_reader.specs.Fault.{IsAnswer};
 ghost use Rattle.obj_reader.specs.Objects.{header_fault};
-ghost use Rattle.obj_reader.specs.Sections.{is_identified, is_object, is_relocatable, is_table_sound};
+ghost use Rattle.obj_reader.specs.Sections.{is_identified, is_mips_object, is_relocatable, is_table_sound};
 
 use crate::fault::refuse_when;
 use crate::obj_error::ObjError;
 use crate::section::Section;
 use crate::start::Start;
-use elf_reader::abi::{ELFCLASS32, ELFDATA2MSB, EM_MIPS, ET_REL, EV_CURRENT};
-use elf_reader::{ElfHeader, has_magic};
-use nv_faults::ObjFault;
+use elf_definition::ObjFault;
+use elf_definition::abi::{ELFCLASS32, ELFDATA2MSB, EM_MIPS, ET_REL, EV_CURRENT};
+use elf_reader::{ElfHeader, has_magic, header_at_start};
 
 /// Reads the header, with its checks.
 #[tactic(auto, unfolding(crate::specs::Objects::header_fault))]
@@ -24,7 +24,7 @@ pub fn read_header(start: Start, b: &[u8]) -> Result<ElfHeader, ObjError>
         → header.e_shoff + 40 * header.e_shnum ≤ length b.now) }
 {
     refuse_when(start.object, ObjFault::NOT_OBJECT, 0, !is_object(b))?;
-    let header = ElfHeader::read(b);
+    let header = header_at_start(b);
     let is_sound = is_table_sound(b, header);
     refuse_when(start.object, ObjFault::SECTION_TABLE, 0, !is_sound)?;
     Ok(header)
@@ -32,10 +32,10 @@ pub fn read_header(start: Start, b: &[u8]) -> Result<ElfHeader, ObjError>
 
 /// Whether it is a big-endian 32-bit relocatable object for MIPS.
 fn is_object(b: &[u8]) -> bool
-    ensures value { result ≡ is_object b.now }
+    ensures value { result ≡ is_mips_object b.now }
     ensures long { IsTrue result → 52 ≤ length b.now }
 {
-    b.len() >= ElfHeader::SIZE && has_magic(b) && is_mips_object(ElfHeader::read(b))
+    b.len() >= ElfHeader::SIZE && has_magic(b) && is_mips_object(header_at_start(b))
 }
 
 /// Whether the header is that of a big-endian 32-bit relocatable object for MIPS, of the current version.

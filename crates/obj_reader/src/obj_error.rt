@@ -1,7 +1,7 @@
 ghost use Rattle.std.specs.Prelude.{◌≡◌};
 ghost use Rattle.obj_reader.specs.declared.obj_error.ObjError.TheVariants.{NoMemory};
 
-use nv_faults::ObjFault;
+use elf_definition::ObjFault;
 use std::alloc::AllocError;
 use thiserror::Error;
 

@@ -1,10 +1,10 @@
 //! The relocations of an object and their checks (System V ABI, "Relocation").
 ghost use Rattle.std.specs.Prelude.{◌≡◌, ℕ, ◌+◌, ◌*◌, ◌^◌, ◌<◌, ◌≤◌, ◌++◌, ◌&&◌, ◌||◌, IfErr, IfOk, OnOk, IsTrue, None, Some, [], false, true, if◌then◌else◌, length, option_map, slice_get};
 ghost use Rattle.std.specs.List.{find};
-ghost use Rattle.obj_reader.specs.Fault.{IsAnswer, fails_at};
+ghost use Rattle.obj_reader.specs.Fault.{IsAnswer, object_fails_at};
 ghost use Rattle.obj_reader.specs.Objects.{first_other_type, relocation_fault};
 ghost use Rattle.obj_reader.specs.Relocations as spec;
-ghost use Rattle.obj_reader.specs.Sections.{sections_of, is_for_placed, is_outside, is_relocations, is_with_addends};
+ghost use Rattle.obj_reader.specs.Sections.{sections_of, is_for_placed, is_section_outside, is_relocations, is_with_addends};
 ghost use Rattle.obj_reader.specs.Symbols.{symbols_of};
 
 use crate::fault::{refuse_at, refuse_when};
@@ -13,7 +13,7 @@ use crate::relocation::Relocation;
 use crate::section::Section;
 use crate::sections::is_for_placed;
 use crate::start::Start;
-use nv_faults::ObjFault;
+use elf_definition::ObjFault;
 use std::alloc::{AllocError, Global};
 
 /// Reads the relocations of the placed sections, with their checks, in an object with so many symbols. The sections passed
@@ -31,7 +31,7 @@ pub fn read_relocations(
     requires read { sections.now ≡ sections_of start b.now }
     requires counted { symbols ≡ length (symbols_of start b.now) }
     requires few { symbols < 2 ^ 32 }
-    requires inside { find (is_outside (length b.now) sections.now) sections.now ≡ None }
+    requires inside { find (is_section_outside (length b.now) sections.now) sections.now ≡ None }
     ensures refused { IfErr result (IsAnswer (relocation_fault start b.now)) }
     ensures passed { OnOk result (relocation_fault start b.now ≡ None) }
     ensures relocations { IfOk result (λ relocations.
@@ -58,10 +58,10 @@ fn append_section(
 ) -> Result<(), ObjError>
     requires known_sections { start.section < 2 ^ 32 }
     requires known_symbols { start.symbol < 2 ^ 32 }
-    requires inside { is_outside (length b.now) sections.now s.now ≡ false }
+    requires inside { is_section_outside (length b.now) sections.now s.now ≡ false }
     ensures refused { IfErr result (IsAnswer
-        (fails_at start.object 7 (spec.target_fault start b.now limit sections.now s.now))) }
-    ensures passed { OnOk result (spec.target_fault start b.now limit sections.now s.now ≡ None) }
+        (object_fails_at start.object 7 (spec.relocation_target_fault start b.now limit sections.now s.now))) }
+    ensures passed { OnOk result (spec.relocation_target_fault start b.now limit sections.now s.now ≡ None) }
     ensures appended { OnOk result (relocations.new.items
         ≡ relocations.old.items ++ spec.placed_entries start b.now sections.now s.now) }
 {
@@ -88,8 +88,8 @@ fn append_checked(
     requires inside { is_with_addends s.now ≡ false
         → s.now.sh_offset + s.now.sh_size ≤ length b.now }
     ensures refused { IfErr result (IsAnswer
-        (fails_at start.object 7 (spec.entries_fault start b.now limit s.now target.now))) }
-    ensures passed { OnOk result (spec.entries_fault start b.now limit s.now target.now ≡ None) }
+        (object_fails_at start.object 7 (spec.relocation_entries_fault start b.now limit s.now target.now))) }
+    ensures passed { OnOk result (spec.relocation_entries_fault start b.now limit s.now target.now ≡ None) }
     ensures kind { OnOk result (is_with_addends s.now ≡ false) }
     ensures appended { OnOk result (relocations.new.items
         ≡ relocations.old.items ++ spec.entries_of start b.now s.now) }
@@ -131,7 +131,7 @@ fn append_entries(
 
 /// The offset of the first relocation that is wrong, beside the number of symbols and the section that is relocated.
 fn first_wrong(limit: usize, target: &Section, relocations: &[Relocation]) -> Option<u32>
-    ensures { result ≡ option_map spec.offset_of
+    ensures { result ≡ option_map spec.relocation_offset
         (find (spec.is_wrong_relocation limit target.now) relocations.now) }
 {
     relocations

@@ -1,5 +1,5 @@
 use crate::start::Start;
-use elf_reader::abi::{
+use elf_definition::abi::{
     SHF_ALLOC, SHF_EXECINSTR, SHF_WRITE, SHT_NOBITS, SHT_PROGBITS, SHT_REL, SHT_RELA, SHT_STRTAB,
     SHT_SYMTAB,
 };
@@ -30,7 +30,7 @@ pub struct Section {
 
 impl Section {
     ghost use Rattle.std.specs.Prelude.{◌≡◌, ◌+◌, ◌*◌, ◌≤◌, length};
-    ghost use Rattle.elf_reader.specs.Header.{header_of};
+    ghost use Rattle.elf_definition.specs.Header.{header_of};
     ghost use Rattle.obj_reader.specs.Sections as spec;
 
     /// The length of an entry of the section header table in bytes.
@@ -57,7 +57,7 @@ impl Section {
         }
     }
 
-    /// Whether its bytes stand in the file.
+    /// Whether its bytes are in the file.
     pub fn has_bytes(&self) -> bool
         ensures { result ≡ spec.has_bytes self.now }
     {
@@ -106,14 +106,14 @@ impl Section {
         self.is_placed() && self.sh_addralign != 0 && 4096 % self.sh_addralign != 0
     }
 
-    /// The offset behind its bytes in the file.
+    /// The offset after its bytes in the file.
     pub fn end(&self) -> u64
         ensures { result ≡ self.now.sh_offset + self.now.sh_size }
     {
         u64::from(self.sh_offset) + u64::from(self.sh_size)
     }
 
-    /// Whether it is zeros, which do not stand in the file.
+    /// Whether it is zeros, which are not in the file.
     pub fn has_zeros(&self) -> bool
         ensures { result ≡ spec.has_zeros self.now }
     {
@@ -122,7 +122,7 @@ impl Section {
 
     /// Whether it gets a place and is code.
     pub fn is_code(&self) -> bool
-        ensures { result ≡ spec.is_code self.now }
+        ensures { result ≡ spec.is_code_object_section self.now }
     {
         self.is_placed() && self.sh_flags & SHF_EXECINSTR != 0
     }

@@ -1,22 +1,22 @@
 //! The sections of an object and their checks (System V ABI, "Sections").
 ghost use Rattle.std.specs.Prelude.{◌≡◌, ℕ, ◌+◌, ◌*◌, ◌<◌, ◌≤◌, IfErr, IfOk, IsTrue, OnOk, None, length};
 ghost use Rattle.std.specs.List.{find};
-ghost use Rattle.elf_reader.specs.Header.{header_of};
-ghost use Rattle.elf_reader.specs.Sections.{has_sections};
+ghost use Rattle.elf_definition.specs.Header.{header_of};
+ghost use Rattle.elf_definition.specs.Sections.{has_sections};
 ghost use Rattle.obj_reader.specs.Fault.{IsAnswer};
-ghost use Rattle.obj_reader.specs.Objects.{first_misaligned, first_outside, section_fault};
+ghost use Rattle.obj_reader.specs.Objects.{first_misaligned, first_outside, object_section_fault};
 ghost use Rattle.obj_reader.specs.Sections as spec;
 
 use crate::fault::refuse_at;
 use crate::obj_error::ObjError;
 use crate::section::Section;
 use crate::start::Start;
+use elf_definition::ObjFault;
 use elf_reader::ElfHeader;
-use nv_faults::ObjFault;
 use std::alloc::{AllocError, Global};
 
 /// Reads the section header table, which lies in the file where there is one, with the checks of the sections.
-#[tactic(auto, unfolding(crate::specs::Objects::section_fault))]
+#[tactic(auto, unfolding(crate::specs::Objects::object_section_fault))]
 pub fn read_sections(
     alloc: Global,
     start: Start,
@@ -26,11 +26,11 @@ pub fn read_sections(
     requires read { header ≡ header_of b.now }
     requires there { IsTrue (has_sections header)
         → header.e_shoff + 40 * header.e_shnum ≤ length b.now }
-    ensures refused { IfErr result (IsAnswer (section_fault start b.now)) }
-    ensures passed { OnOk result (section_fault start b.now ≡ None) }
+    ensures refused { IfErr result (IsAnswer (object_section_fault start b.now)) }
+    ensures passed { OnOk result (object_section_fault start b.now ≡ None) }
     ensures sections { IfOk result (λ sections. sections.items ≡ spec.sections_of start b.now) }
     ensures inside { IfOk result (λ sections.
-        find (spec.is_outside (length b.now) sections.items) sections.items ≡ None) }
+        find (spec.is_section_outside (length b.now) sections.items) sections.items ≡ None) }
     ensures few { IfOk result (λ sections. length sections.items < 65536) }
 {
     let sections = section_headers(alloc, start, b, header)?;

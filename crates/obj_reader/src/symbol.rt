@@ -23,7 +23,7 @@ pub struct Symbol {
     pub number: u32,
     /// Where the names begin in the file.
     pub strings: u32,
-    /// Where its name begins behind that.
+    /// Where its name begins after that.
     pub st_name: u32,
     /// Its value: an offset in its section, or a number where it has none.
     pub st_value: u32,

@@ -2,7 +2,7 @@
 ghost use Rattle.std.specs.Prelude.{◌≡◌, ℕ, ◌+◌, ◌*◌, ◌^◌, ◌<◌, ◌≤◌, IfErr, IfOk, OnOk, None, Some, [], if◌then◌else◌, length, option_map};
 ghost use Rattle.std.specs.List.{find};
 ghost use Rattle.obj_reader.specs.Fault.{IsAnswer};
-ghost use Rattle.obj_reader.specs.Sections.{sections_of, is_outside, string_table, strings_of_table, symbol_table};
+ghost use Rattle.obj_reader.specs.Sections.{sections_of, is_section_outside, string_table, strings_of_table, symbol_table};
 ghost use Rattle.obj_reader.specs.Symbols as spec;
 
 use crate::fault::{refusal, refuse_at, refuse_when};
@@ -11,7 +11,7 @@ use crate::section::Section;
 use crate::sections::{strings_of_table, symbol_table};
 use crate::start::Start;
 use crate::symbol::{SHN_LORESERVE, STB_WEAK, Symbol};
-use nv_faults::ObjFault;
+use elf_definition::ObjFault;
 use std::alloc::{AllocError, Global};
 
 /// Reads the symbol table, with its checks. The sections passed their own.
@@ -24,7 +24,7 @@ pub fn read_symbols(
 ) -> Result<Vec<Symbol>, ObjError>
     requires known { start.section < 2 ^ 32 }
     requires read { sections.now ≡ sections_of start b.now }
-    requires inside { find (is_outside (length b.now) sections.now) sections.now ≡ None }
+    requires inside { find (is_section_outside (length b.now) sections.now) sections.now ≡ None }
     ensures refused { IfErr result (IsAnswer (spec.symbol_fault start b.now)) }
     ensures passed { OnOk result (spec.symbol_fault start b.now ≡ None) }
     ensures symbols { IfOk result (λ symbols. symbols.items ≡ spec.symbols_of start b.now) }
@@ -37,7 +37,7 @@ pub fn read_symbols(
 }
 
 /// Reads the entries of a symbol table, with the checks of the table.
-#[tactic(auto, unfolding(crate::specs::Symbols::entries_fault))]
+#[tactic(auto, unfolding(crate::specs::Symbols::symbol_entries_fault))]
 fn read_table(
     alloc: Global,
     start: Start,
@@ -47,10 +47,10 @@ fn read_table(
 ) -> Result<Vec<Symbol>, ObjError>
     requires known { start.section < 2 ^ 32 }
     requires there { symbol_table sections.now ≡ Some table.now }
-    requires inside { find (is_outside (length b.now) sections.now) sections.now ≡ None }
+    requires inside { find (is_section_outside (length b.now) sections.now) sections.now ≡ None }
     ensures refused { IfErr result (IsAnswer
-        (spec.entries_fault start b.now sections.now table.now)) }
-    ensures passed { OnOk result (spec.entries_fault start b.now sections.now table.now ≡ None) }
+        (spec.symbol_entries_fault start b.now sections.now table.now)) }
+    ensures passed { OnOk result (spec.symbol_entries_fault start b.now sections.now table.now ≡ None) }
     ensures symbols { IfOk result (λ symbols. symbols.items
         ≡ spec.symbols_in start b.now (spec.strings_place sections.now) table.now) }
     ensures few { IfOk result (λ symbols. 16 * length symbols.items ≤ length b.now) }

@@ -34,8 +34,8 @@ pub fn read_objects(alloc: Global, objects: &[Vec<u8>]) -> Result<Tables, ObjErr
     requires few { length objects.now ≤ 256 }
     requires short { All IsShort (files_of objects.now) }
     ensures refused { IfErr result (IsAnswer
-        (spec.fault_from spec.first_start (files_of objects.now))) }
-    ensures passed { OnOk result (spec.fault_from spec.first_start (files_of objects.now) ≡ None) }
+        (spec.objects_fault_from spec.first_start (files_of objects.now))) }
+    ensures passed { OnOk result (spec.objects_fault_from spec.first_start (files_of objects.now) ≡ None) }
     ensures sections { IfOk result (λ t. t.sections.items
         ≡ spec.sections_from spec.first_start (files_of objects.now)) }
     ensures symbols { IfOk result (λ t. t.symbols.items
@@ -62,7 +62,7 @@ pub fn read_objects(alloc: Global, objects: &[Vec<u8>]) -> Result<Tables, ObjErr
 }
 
 /// Reads an object, with its checks, and gives where the next one begins.
-#[tactic(auto, unfolding(crate::specs::Objects::object_fault, crate::specs::Objects::behind))]
+#[tactic(auto, unfolding(crate::specs::Objects::object_fault, crate::specs::Objects::next_start))]
 fn append_object(
     alloc: Global,
     tables: &mut Tables,
@@ -75,7 +75,7 @@ fn append_object(
     requires short { IsShort b.now }
     ensures refused { IfErr result (IsAnswer (spec.object_fault start b.now)) }
     ensures passed { OnOk result (spec.object_fault start b.now ≡ None) }
-    ensures next { IfOk result (λ next. next ≡ spec.behind start b.now) }
+    ensures next { IfOk result (λ next. next ≡ spec.next_start start b.now) }
     ensures few_sections { IfOk result (λ next. next.section ≤ start.section + 65536) }
     ensures few_symbols { IfOk result (λ next. next.symbol ≤ start.symbol + 4194304) }
     ensures sections { OnOk result (tables.new.sections.items

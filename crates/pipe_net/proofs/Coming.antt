@@ -7,18 +7,18 @@ use Rattle.std.proofs.lemmas.Option.{slice_get-map}
 use Rattle.nv_outside.specs.Seen.{Seen, Takes}
 use Rattle.nv_outside.proofs.SeenLemmas.{takes-both}
 use Rattle.nv_outside.proofs.WriteLemmas.{Appends-both, Appends-nothing}
-use Rattle.nv_events.specs.Run.{Run}
-use Rattle.nv_events.specs.declared.outcome.Outcome.{Outcome}
-use Rattle.unix_system.specs.System.{System}
+use Rattle.run_definition.specs.Run.{Run}
+use Rattle.run_definition.specs.declared.outcome.Outcome.{Outcome}
+use Rattle.unix_definition.specs.System.{System}
 use Rattle.unix_calls.specs.Drawing.{known}
 use Rattle.unix_calls.specs.Stages.{LosesRead}
 use Rattle.unix_calls.proofs.DrawLemmas.{consumes-both, consumes-nothing}
-use Rattle.jvm_program.specs.Step.{Loaded}
-use Rattle.pipe_laws.specs.Stages.{output_of}
-use Rattle.pipe_laws.specs.Pipelines.{Pipeline, PipeNet}
-use Rattle.pipe_laws.specs.Turns.{PipeTurn, AllOver, BringNothing, gained, net_at_start, run_turns}
-use Rattle.pipe_laws.specs.Alone.{EndsAsAlone, IsFreshPipeline, WritesFront, run_alone_of}
-use Rattle.pipe_laws.proofs.Following.{all-there, comes-in-pieces, front-of-all, front-over-pieces}
+use Rattle.jvm_definition.specs.Step.{Loaded}
+use Rattle.unix_pipe_laws.specs.Stages.{output_of}
+use Rattle.unix_pipe_laws.specs.Pipelines.{Pipeline, PipeNet}
+use Rattle.unix_pipe_laws.specs.Turns.{PipeTurn, AllOver, BringNothing, gained, net_at_start, run_turns}
+use Rattle.unix_pipe_laws.specs.Alone.{EndsAsAlone, IsFreshPipeline, WritesFront, run_alone_of}
+use Rattle.unix_pipe_laws.proofs.Following.{all-there, comes-in-pieces, front-of-all, front-over-pieces}
 use Rattle.pipe_net.specs.declared.net.Net.{Net}
 use Rattle.pipe_net.specs.declared.net_fault.NetFault.{NetFault}
 use Rattle.pipe_net.specs.declared.stage.Stage.{Stage}

@@ -1,14 +1,14 @@
 -- Instructions of a stage, one after the other, as its machine executes them over its server.
 use Rattle.std.proofs.Common.{◌≡◌, ◌≢◌, ◌<◌, ◌+◌, inl, inr, ℕ, suc, Option, Some, None, Result, Ok, Err, refl, ap, sym, ◌∙◌, subst, arith}
 use Rattle.nv_events.specs.Serving.{Causes, Turns}
-use Rattle.nv_events.specs.Turn.{Turn, moves, ends, leaves, asks}
-use Rattle.nv_events.specs.declared.io_fault.IoFault.{IoFault}
-use Rattle.nv_events.specs.declared.io_fault.IoFault.TheVariants.{ReadFault, WriteFault}
-use Rattle.nv_events.specs.declared.outcome.Outcome.{Outcome}
-use Rattle.nv_events.specs.declared.outcome.Outcome.TheVariants.{Waiting}
+use Rattle.run_definition.specs.Turn.{Turn, moves, ends, leaves, asks}
+use Rattle.run_definition.specs.declared.io_fault.IoFault.{IoFault}
+use Rattle.run_definition.specs.declared.io_fault.IoFault.TheVariants.{ReadFault, WriteFault}
+use Rattle.run_definition.specs.declared.outcome.Outcome.{Outcome}
+use Rattle.run_definition.specs.declared.outcome.Outcome.TheVariants.{Waiting}
 use Rattle.nv_events.proofs.Progress.{end_not_waiting}
 use Rattle.unix_calls.specs.Failing.{failed_calls}
-use Rattle.jvm_program.specs.Step.{Loaded, loaded_turn}
+use Rattle.jvm_definition.specs.Step.{Loaded, loaded_turn}
 use Rattle.pipe_net.specs.declared.executed.Stop.TheVariants.{NotReady, Ended}
 use Rattle.pipe_net.specs.Ports.{FallsThrough, GoesThrough, Ports, Waits}
 use Rattle.pipe_net.specs.Executing.{Fails, Falls, Scene, StandsBefore, Stops, TurnsTo, Walks}

@@ -6,24 +6,24 @@ use Rattle.std.proofs.lemmas.Option.{same_Some}
 use Rattle.nv_outside.specs.Faults.{Rises}
 use Rattle.nv_outside.specs.Seen.{FailsIn, Seen}
 use Rattle.nv_outside.proofs.WriteLemmas.{Appends-both}
-use Rattle.nv_events.specs.Answer.{Answer}
-use Rattle.nv_events.specs.Question.{Question}
-use Rattle.nv_events.specs.Turn.{asks}
-use Rattle.nv_events.specs.declared.io_fault.IoFault.{IoFault}
-use Rattle.nv_events.specs.declared.io_fault.IoFault.TheVariants.{ReadFault, WriteFault}
-use Rattle.nv_events.specs.declared.outcome.Outcome.TheVariants.{Going}
-use Rattle.unix_system.specs.System.{Console, System, with_console}
-use Rattle.unix_system.specs.Unix.{reply, unix}
+use Rattle.run_definition.specs.Answer.{Answer}
+use Rattle.run_definition.specs.Question.{Question}
+use Rattle.run_definition.specs.Turn.{asks}
+use Rattle.run_definition.specs.declared.io_fault.IoFault.{IoFault}
+use Rattle.run_definition.specs.declared.io_fault.IoFault.TheVariants.{ReadFault, WriteFault}
+use Rattle.run_definition.specs.declared.outcome.Outcome.TheVariants.{Going}
+use Rattle.unix_definition.specs.System.{Console, System, with_console}
+use Rattle.unix_definition.specs.Unix.{reply, unix}
 use Rattle.unix_calls.specs.Held.{system_of}
 use Rattle.unix_calls.specs.Drawing.{known}
 use Rattle.unix_calls.specs.Serving.{Fell, OneFails, parts, written_by}
 use Rattle.unix_calls.proofs.BreakLemmas.{reply-written, some-written}
-use Rattle.jvm_program.specs.Step.{Loaded, loaded_turn}
-use Rattle.pipe_laws.specs.Stages.{PipeStage, after_turn, answered_by, comes_to, output_of}
-use Rattle.pipe_laws.specs.Pipelines.{Pipeline, PipeNet, can_turn, next_turn, is_ready}
-use Rattle.pipe_laws.specs.Turns.{PipeTurn, AllHappen, gained, run_turns, turned_stage}
-use Rattle.pipe_laws.proofs.Runs.{turn-adds}
-use Rattle.pipe_laws.proofs.Turning.{own-stage}
+use Rattle.jvm_definition.specs.Step.{Loaded, loaded_turn}
+use Rattle.unix_pipe_laws.specs.Stages.{PipeStage, after_turn, answered_by, comes_to, output_of}
+use Rattle.unix_pipe_laws.specs.Pipelines.{Pipeline, PipeNet, can_turn, next_turn, is_ready}
+use Rattle.unix_pipe_laws.specs.Turns.{PipeTurn, AllHappen, gained, run_turns, turned_stage}
+use Rattle.unix_pipe_laws.proofs.Runs.{turn-adds}
+use Rattle.unix_pipe_laws.proofs.Turning.{own-stage}
 use Rattle.pipe_net.specs.declared.inlet.Inlet.{Inlet}
 use Rattle.pipe_net.specs.declared.inlet.Inlet.TheVariants as inlet
 use Rattle.pipe_net.specs.declared.net_fault.NetFault.{NetFault}

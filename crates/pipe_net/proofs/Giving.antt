@@ -2,14 +2,14 @@
 use Rattle.std.proofs.Common.{◌≡◌, ◌+◌, ℕ, true, false, List, Result, Ok, Err, ap, sym, ◌∙◌, subst}
 use Rattle.std.specs.Prelude.{IfOk, OnOk}
 use Rattle.std.proofs.lemmas.Bool.{true≢false}
-use Rattle.nv_events.specs.Run.{is_going}
-use Rattle.nv_events.specs.declared.io_fault.IoFault.{IoFault}
-use Rattle.nv_events.specs.declared.outcome.Outcome.TheVariants.{Going}
+use Rattle.nv_events.specs.Parts.{is_going}
+use Rattle.run_definition.specs.declared.io_fault.IoFault.{IoFault}
+use Rattle.run_definition.specs.declared.outcome.Outcome.TheVariants.{Going}
 use Rattle.unix_calls.specs.Drawing.{known}
 use Rattle.jvm_machine.specs.Machine.{has_ended}
 use Rattle.jvm_machine.specs.Counting.{count_of}
-use Rattle.jvm_program.specs.Step.{Loaded, loaded_turn}
-use Rattle.pipe_laws.specs.Pipelines.{Pipeline, PipeNet}
+use Rattle.jvm_definition.specs.Step.{Loaded, loaded_turn}
+use Rattle.unix_pipe_laws.specs.Pipelines.{Pipeline, PipeNet}
 use Rattle.pipe_net.specs.declared.executed.Executed.{Executed}
 use Rattle.pipe_net.specs.declared.executed.Stop.{Stop}
 use Rattle.pipe_net.specs.declared.executed.Stop.TheVariants.{Most, NotReady, Ended}

@@ -1,10 +1,10 @@
 -- Of lists of turns, and of a turn that runs.
 use Rattle.std.proofs.Common.{◌<◌, List, [], ◌∷◌, length, ap, ◌∙◌, arith}
 use Rattle.unix_calls.specs.Drawing.{known}
-use Rattle.jvm_program.specs.Step.{Loaded}
-use Rattle.pipe_laws.specs.Pipelines.{Pipeline, can_turn}
-use Rattle.pipe_laws.proofs.Progress.{some-turns}
-use Rattle.pipe_laws.proofs.Turning.{can}
+use Rattle.jvm_definition.specs.Step.{Loaded}
+use Rattle.unix_pipe_laws.specs.Pipelines.{Pipeline, can_turn}
+use Rattle.unix_pipe_laws.proofs.Progress.{some-turns}
+use Rattle.unix_pipe_laws.proofs.Turning.{can}
 use Rattle.pipe_net.specs.Showing.{IsSound}
 use Rattle.pipe_net.specs.Histories.{HasCome, SomeGoesOn, model_of}
 use Rattle.pipe_net.specs.Laws.{AreTurnsFrom, MadeTurn, Moment, SomeStageRuns, TurnsEndInOrder, moment_behind}

@@ -4,11 +4,11 @@ use Rattle.std.specs.Prelude.{slice_get, IfOk}
 use Rattle.std.proofs.lemmas.Bool.{ne_eqb, leb-false, true≢false}
 use Rattle.std.proofs.lemmas.Option.{same_Some}
 use Rattle.nv_outside.specs.Seen.{Seen}
-use Rattle.nv_events.specs.Run.{is_going}
-use Rattle.nv_events.specs.declared.outcome.Outcome.{Outcome}
-use Rattle.nv_events.specs.declared.outcome.Outcome.TheVariants.{Exited, Faulted, Trapped, Waiting, Going}
+use Rattle.nv_events.specs.Parts.{is_going}
+use Rattle.run_definition.specs.declared.outcome.Outcome.{Outcome}
+use Rattle.run_definition.specs.declared.outcome.Outcome.TheVariants.{Exited, Faulted, Trapped, Waiting, Going}
 use Rattle.jvm_machine.specs.Machine.{has_ended}
-use Rattle.nv_events.specs.declared.io_fault.IoFault.{IoFault}
+use Rattle.run_definition.specs.declared.io_fault.IoFault.{IoFault}
 use Rattle.jvm_machine.specs.Counting.{count_of}
 use Rattle.pipe_net.specs.declared.executed.Executed.{Executed}
 use Rattle.pipe_net.specs.declared.executed.Stop.{Stop}

@@ -6,18 +6,18 @@ use Rattle.std.proofs.Math.Seq.{drop-append_seam}
 use Rattle.std.proofs.lemmas.Bool.{cases_eq, ne_eqb, le-leb}
 use Rattle.std.proofs.lemmas.Option.{slice_get_within}
 use Rattle.nv_outside.specs.Seen.{Seen}
-use Rattle.nv_events.specs.Run.{is_going}
+use Rattle.nv_events.specs.Parts.{is_going}
 use Rattle.nv_events.specs.Serving.{Turns}
-use Rattle.nv_events.specs.Turn.{Turn, moves, ends, leaves, asks}
-use Rattle.nv_events.specs.declared.outcome.Outcome.{Outcome}
-use Rattle.nv_events.specs.declared.outcome.Outcome.TheVariants.{Going, Waiting}
+use Rattle.run_definition.specs.Turn.{Turn, moves, ends, leaves, asks}
+use Rattle.run_definition.specs.declared.outcome.Outcome.{Outcome}
+use Rattle.run_definition.specs.declared.outcome.Outcome.TheVariants.{Going, Waiting}
 use Rattle.unix_calls.specs.Drawing.{known}
 use Rattle.unix_calls.specs.Held.{system_of}
 use Rattle.jvm_machine.specs.Counting.{count_of}
-use Rattle.jvm_program.specs.Step.{Loaded, loaded_turn}
-use Rattle.pipe_laws.specs.Stages.{PipeStage, input_left, output_of, with_rest}
-use Rattle.pipe_laws.specs.Pipelines.{Pipeline, PipeNet, is_over_at, is_ready, next_turn, stands_ready}
-use Rattle.pipe_laws.specs.Turns.{gained, run_turns}
+use Rattle.jvm_definition.specs.Step.{Loaded, loaded_turn}
+use Rattle.unix_pipe_laws.specs.Stages.{PipeStage, input_left, output_of, with_rest}
+use Rattle.unix_pipe_laws.specs.Pipelines.{Pipeline, PipeNet, is_over_at, is_ready, next_turn, stands_ready}
+use Rattle.unix_pipe_laws.specs.Turns.{gained, run_turns}
 use Rattle.pipe_net.specs.declared.executed.Stop.{Stop}
 use Rattle.pipe_net.specs.declared.executed.Stop.TheVariants.{Most, NotReady, Ended}
 use Rattle.pipe_net.specs.declared.pipe.Pipe.{Pipe}

@@ -3,16 +3,16 @@ use Rattle.std.proofs.Common.{◌≡◌, ◌⊎◌, ◌+◌, ℕ, zero, suc, inl
 use Rattle.std.specs.Prelude.{slice_get}
 use Rattle.std.proofs.lemmas.Bool.{cases_lt}
 use Rattle.std.proofs.lemmas.Option.{same_Some, slice_get_within}
-use Rattle.unix_system.specs.System.{System}
+use Rattle.unix_definition.specs.System.{System}
 use Rattle.unix_calls.specs.Held.{Held, limited, system_of}
 use Rattle.unix_calls.specs.Starting.{IsFresh}
-use Rattle.jvm_program.specs.Step.{Loaded}
+use Rattle.jvm_definition.specs.Step.{Loaded}
 use Rattle.jvm_machine.specs.declared.jvm.Jvm.{Jvm}
 use Rattle.jvm_machine.specs.Machine.{has_ended, state_of}
 use Rattle.jvm_machine.specs.Counting.{count_of}
-use Rattle.pipe_laws.specs.Stages.{begins, with_rest}
-use Rattle.pipe_laws.specs.Pipelines.{Pipeline}
-use Rattle.pipe_laws.specs.Turns.{first_rest, net_at_start}
+use Rattle.unix_pipe_laws.specs.Stages.{begins, with_rest}
+use Rattle.unix_pipe_laws.specs.Pipelines.{Pipeline}
+use Rattle.unix_pipe_laws.specs.Turns.{first_rest, net_at_start}
 use Rattle.pipe_net.specs.declared.net.Net.{Net}
 use Rattle.pipe_net.specs.declared.pipe.Pipe.{Pipe}
 use Rattle.pipe_net.specs.declared.stage.Stage.{Stage}

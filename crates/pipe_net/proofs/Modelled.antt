@@ -1,15 +1,15 @@
 -- What the model that a net shows says of a stage before its turn.
 use Rattle.std.proofs.Common.{◌≡◌, ◌<◌, ◌≤◌, ◌+◌, inl, inr, ℕ, zero, suc, false, List, length, refl, ap, sym, ◌∙◌, subst, arith}
 use Rattle.nv_outside.specs.Seen.{Seen}
-use Rattle.nv_events.specs.declared.outcome.Outcome.TheVariants.{Going}
-use Rattle.unix_system.specs.System.{System}
+use Rattle.run_definition.specs.declared.outcome.Outcome.TheVariants.{Going}
+use Rattle.unix_definition.specs.System.{System}
 use Rattle.unix_calls.specs.Drawing.{known}
 use Rattle.unix_calls.specs.Held.{system_of}
 use Rattle.jvm_machine.specs.Counting.{count_of}
-use Rattle.jvm_program.specs.Step.{Loaded}
-use Rattle.pipe_laws.specs.Stages.{output_of}
-use Rattle.pipe_laws.specs.Pipelines.{Pipeline, PipeNet, is_over_at}
-use Rattle.pipe_laws.proofs.Runs.{going-of}
+use Rattle.jvm_definition.specs.Step.{Loaded}
+use Rattle.unix_pipe_laws.specs.Stages.{output_of}
+use Rattle.unix_pipe_laws.specs.Pipelines.{Pipeline, PipeNet, is_over_at}
+use Rattle.unix_pipe_laws.proofs.Runs.{going-of}
 use Rattle.pipe_net.specs.declared.inlet.Inlet.{Inlet}
 use Rattle.pipe_net.specs.declared.outlet.Outlet.{Outlet}
 use Rattle.pipe_net.specs.declared.outlet.Outlet.TheVariants as outlet

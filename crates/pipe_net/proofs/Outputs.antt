@@ -2,12 +2,12 @@
 use Rattle.std.proofs.Common.{◌≡◌, ◌≢◌, ℕ, Bool, true, false, inl, inr, if◌then◌else◌, List, [], ◌∷◌, ◌++◌, length, drop, refl, ap, sym, ◌∙◌, append_assoc, append-nil}
 use Rattle.std.proofs.Math.Seq.{drop-append_seam}
 use Rattle.std.proofs.lemmas.Bool.{cases_eq}
-use Rattle.jvm_program.specs.Step.{Loaded}
-use Rattle.pipe_laws.specs.Stages.{PipeStage, output_of}
-use Rattle.pipe_laws.specs.Pipelines.{Pipeline, PipeNet, can_turn, next_turn}
-use Rattle.pipe_laws.specs.Turns.{PipeTurn, gained, happens, run_turns, turned_net}
-use Rattle.pipe_laws.proofs.Runs.{turn-adds}
-use Rattle.pipe_laws.proofs.Turning.{own-stage, same-output}
+use Rattle.jvm_definition.specs.Step.{Loaded}
+use Rattle.unix_pipe_laws.specs.Stages.{PipeStage, output_of}
+use Rattle.unix_pipe_laws.specs.Pipelines.{Pipeline, PipeNet, can_turn, next_turn}
+use Rattle.unix_pipe_laws.specs.Turns.{PipeTurn, gained, happens, run_turns, turned_net}
+use Rattle.unix_pipe_laws.proofs.Runs.{turn-adds}
+use Rattle.unix_pipe_laws.proofs.Turning.{own-stage, same-output}
 use Rattle.pipe_net.specs.Turning.{AreOf}
 
 -- an output and what is further written behind it

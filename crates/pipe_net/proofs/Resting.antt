@@ -6,10 +6,10 @@ use Rattle.nv_outside.specs.Seen.{Seen}
 use Rattle.nv_outside.proofs.WriteLemmas.{Appends-nothing}
 use Rattle.unix_calls.specs.Drawing.{known}
 use Rattle.unix_calls.proofs.DrawLemmas.{consumes-nothing}
-use Rattle.jvm_program.specs.Step.{Loaded}
-use Rattle.pipe_laws.specs.Stages.{PipeStage, output_of}
-use Rattle.pipe_laws.specs.Pipelines.{Pipeline, PipeNet}
-use Rattle.pipe_laws.specs.Turns.{gained}
+use Rattle.jvm_definition.specs.Step.{Loaded}
+use Rattle.unix_pipe_laws.specs.Stages.{PipeStage, output_of}
+use Rattle.unix_pipe_laws.specs.Pipelines.{Pipeline, PipeNet}
+use Rattle.unix_pipe_laws.specs.Turns.{gained}
 use Rattle.pipe_net.specs.declared.net.Net.{Net}
 use Rattle.pipe_net.specs.declared.turn.Turn.TheVariants.{Over}
 use Rattle.pipe_net.specs.Moving.{over_in}

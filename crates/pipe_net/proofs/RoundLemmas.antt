@@ -5,14 +5,14 @@ use Rattle.std.proofs.lemmas.Bool.{true≢false, cases_Bool, cases_eq, cases_lt}
 use Rattle.nv_outside.specs.Seen.{Seen}
 use Rattle.unix_calls.specs.Drawing.{known}
 use Rattle.unix_calls.specs.Held.{system_of}
-use Rattle.jvm_program.specs.Step.{Loaded, loaded_turn}
+use Rattle.jvm_definition.specs.Step.{Loaded, loaded_turn}
 use Rattle.jvm_machine.specs.Machine.{state_of}
 use Rattle.jvm_machine.specs.Counting.{count_of}
-use Rattle.pipe_laws.specs.Stages.{PipeStage}
-use Rattle.pipe_laws.specs.Pipelines.{Pipeline, PipeNet, can_turn, is_over_at, stands_ready}
-use Rattle.pipe_laws.specs.Turns.{PipeTurn, run_turns}
-use Rattle.pipe_laws.proofs.Progress.{some-turns}
-use Rattle.pipe_laws.proofs.Turning.{can}
+use Rattle.unix_pipe_laws.specs.Stages.{PipeStage}
+use Rattle.unix_pipe_laws.specs.Pipelines.{Pipeline, PipeNet, can_turn, is_over_at, stands_ready}
+use Rattle.unix_pipe_laws.specs.Turns.{PipeTurn, run_turns}
+use Rattle.unix_pipe_laws.proofs.Progress.{some-turns}
+use Rattle.unix_pipe_laws.proofs.Turning.{can}
 use Rattle.pipe_net.specs.declared.net.Net.{Net}
 use Rattle.pipe_net.specs.declared.stage.Stage.{Stage}
 use Rattle.pipe_net.specs.declared.turn.Turn as turn

@@ -1,11 +1,11 @@
 -- What the server of a stage gives.
 use Rattle.std.proofs.Common.{◌≡◌, ℕ, ℤ, true, false, if◌then◌else◌, Option, Some, None, Result, Ok, Err, refl, ap, ◌∙◌}
-use Rattle.nv_events.specs.Question.{Question}
+use Rattle.run_definition.specs.Question.{Question}
 use Rattle.nv_events.specs.Serving as events
-use Rattle.nv_events.specs.declared.io_fault.IoFault.{IoFault}
-use Rattle.unix_system.specs.Unix.{unix}
+use Rattle.run_definition.specs.declared.io_fault.IoFault.{IoFault}
+use Rattle.unix_definition.specs.Unix.{unix}
 use Rattle.unix_calls.specs.Serving.{Serves}
-use Rattle.pipe_laws.specs.Stages.{reads_input, writes_output}
+use Rattle.unix_pipe_laws.specs.Stages.{reads_input, writes_output}
 use Rattle.pipe_net.specs.Ports.{FallsThrough, GoesThrough, KeepsOthers, Ports, Waits, may_read_at, may_write_at, parts_of, ready_for}
 
 module _ {V C : Type 0} (port : V → Ports) (failed : V → Option IoFault) (put_at : C → ℕ → ℕ → C) where

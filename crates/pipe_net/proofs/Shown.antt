@@ -1,9 +1,9 @@
 -- What a net tells of the model that it shows.
 use Rattle.std.proofs.Common.{◌≡◌, ◌<◌, ℕ, not, ◌||◌, nat_le, true, List, length, Option, Some, None, ap, sym, ◌∙◌, arith}
-use Rattle.nv_events.specs.Run.{is_going}
-use Rattle.jvm_program.specs.Step.{Loaded}
+use Rattle.nv_events.specs.Parts.{is_going}
+use Rattle.jvm_definition.specs.Step.{Loaded}
 use Rattle.jvm_machine.specs.Counting.{count_of}
-use Rattle.pipe_laws.specs.Pipelines.{Pipeline, PipeNet, is_over_at}
+use Rattle.unix_pipe_laws.specs.Pipelines.{Pipeline, PipeNet, is_over_at}
 use Rattle.pipe_net.specs.declared.net.Net.{Net}
 use Rattle.pipe_net.specs.declared.stage.Stage.{Stage}
 use Rattle.pipe_net.specs.Settling.{over_by}

@@ -2,9 +2,9 @@
 use Rattle.std.proofs.Common.{◌≡◌, ℕ, List, Some, ap, sym, arith}
 use Rattle.std.specs.Prelude.{slice_get}
 use Rattle.std.proofs.lemmas.Option.{slice_get_within}
-use Rattle.unix_system.specs.System.{System}
-use Rattle.jvm_program.specs.Step.{Loaded}
-use Rattle.pipe_laws.specs.Pipelines.{Pipeline, PipeNet}
+use Rattle.unix_definition.specs.System.{System}
+use Rattle.jvm_definition.specs.Step.{Loaded}
+use Rattle.unix_pipe_laws.specs.Pipelines.{Pipeline, PipeNet}
 use Rattle.pipe_net.specs.declared.net.Net.{Net}
 use Rattle.pipe_net.specs.declared.stage.Stage.{Stage}
 use Rattle.pipe_net.specs.Showing.{IsSound, Shows}

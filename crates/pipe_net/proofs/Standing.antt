@@ -2,18 +2,18 @@
 use Rattle.std.proofs.Common.{◌≡◌, ◌≢◌, ◌<◌, ℕ, suc, nat_lt, min, true, false, not, ◌||◌, ◌&&◌, if◌then◌else◌, List, ◌++◌, length, drop, refl, ap, sym, ◌∙◌, subst, arith, length-append, append_assoc}
 use Rattle.std.proofs.lemmas.Bool.{eq-eqb, ne_eqb, and_from, not_from_false, lt-ltb}
 use Rattle.std.proofs.Math.Seq.{drop-append_seam}
-use Rattle.nv_events.specs.Answer.{Answer}
-use Rattle.nv_events.specs.Question.{Question}
-use Rattle.nv_events.specs.Turn.{asks}
-use Rattle.nv_events.specs.declared.outcome.Outcome.{Outcome}
-use Rattle.unix_system.specs.System.{System}
+use Rattle.run_definition.specs.Answer.{Answer}
+use Rattle.run_definition.specs.Question.{Question}
+use Rattle.run_definition.specs.Turn.{asks}
+use Rattle.run_definition.specs.declared.outcome.Outcome.{Outcome}
+use Rattle.unix_definition.specs.System.{System}
 use Rattle.unix_calls.specs.Held.{system_of}
 use Rattle.unix_calls.specs.Drawing.{known}
-use Rattle.jvm_program.specs.Step.{Loaded}
-use Rattle.pipe_laws.specs.Stages.{PipeStage, is_over, input_left, output_of, reads_input, writes_output}
-use Rattle.pipe_laws.specs.Pipelines.{Pipeline, PipeNet, can_turn, has_enough, in_pipe, is_fed, is_over_at, is_ready, may_read, may_write, stands_ready}
-use Rattle.pipe_laws.specs.Turns.{PipeTurn, gained, poured, turned_net, turned_stage}
-use Rattle.pipe_laws.proofs.Turning.{own-stage, next-stage, other-stage}
+use Rattle.jvm_definition.specs.Step.{Loaded}
+use Rattle.unix_pipe_laws.specs.Stages.{PipeStage, is_over, input_left, output_of, reads_input, writes_output}
+use Rattle.unix_pipe_laws.specs.Pipelines.{Pipeline, PipeNet, can_turn, has_enough, in_pipe, is_fed, is_over_at, is_ready, may_read, may_write, stands_ready}
+use Rattle.unix_pipe_laws.specs.Turns.{PipeTurn, gained, poured, turned_net, turned_stage}
+use Rattle.unix_pipe_laws.proofs.Turning.{own-stage, next-stage, other-stage}
 use Rattle.pipe_net.specs.declared.inlet.Inlet.{Inlet}
 use Rattle.pipe_net.specs.declared.inlet.Inlet.TheVariants as inlet
 use Rattle.pipe_net.specs.declared.outlet.Outlet.{Outlet}

@@ -3,23 +3,23 @@ use Rattle.std.proofs.Common.{◌≡◌, ◌≢◌, ◌+◌, ℕ, zero, suc, tru
 use Rattle.std.specs.Io.KnownBytes.{Consumes}
 use Rattle.nv_outside.specs.Seen.{Seen, Takes}
 use Rattle.nv_outside.proofs.SeenLemmas.{takes-both, takes-nothing}
-use Rattle.nv_events.specs.Answer.{Answer, fits}
-use Rattle.nv_events.specs.Question.{Question}
+use Rattle.run_definition.specs.Answer.{Answer, answer_fits}
+use Rattle.run_definition.specs.Question.{Question}
 use Rattle.nv_events.specs.Serving.{Turns}
-use Rattle.nv_events.specs.Turn.{Turn, moves, ends, leaves, asks}
-use Rattle.nv_events.specs.declared.outcome.Outcome.{Outcome}
-use Rattle.nv_events.specs.declared.outcome.Outcome.TheVariants.{Going, Waiting}
-use Rattle.unix_system.specs.System.{System}
-use Rattle.unix_system.specs.Unix.{fitting, reply, unix}
+use Rattle.run_definition.specs.Turn.{Turn, moves, ends, leaves, asks}
+use Rattle.run_definition.specs.declared.outcome.Outcome.{Outcome}
+use Rattle.run_definition.specs.declared.outcome.Outcome.TheVariants.{Going, Waiting}
+use Rattle.unix_definition.specs.System.{System}
+use Rattle.unix_definition.specs.Unix.{fitting_answer, reply, unix}
 use Rattle.unix_calls.specs.Arriving.{arrived}
 use Rattle.unix_calls.specs.Held.{Held, system_of, with_ahead}
 use Rattle.unix_calls.specs.Drawing.{known}
 use Rattle.unix_calls.specs.Serving.{Goes, parts}
 use Rattle.unix_calls.proofs.DrawLemmas.{consumes-both, consumes-nothing}
-use Rattle.jvm_program.specs.Step.{Loaded, loaded_turn}
-use Rattle.pipe_laws.specs.Stages.{PipeStage, after_turn, answered_by, comes_to, output_of}
-use Rattle.pipe_laws.specs.Pipelines.{Pipeline, PipeNet, is_ready, next_turn, stands_ready}
-use Rattle.pipe_laws.specs.Turns.{PipeTurn, turned_net, turned_stage}
+use Rattle.jvm_definition.specs.Step.{Loaded, loaded_turn}
+use Rattle.unix_pipe_laws.specs.Stages.{PipeStage, after_turn, answered_by, comes_to, output_of}
+use Rattle.unix_pipe_laws.specs.Pipelines.{Pipeline, PipeNet, is_ready, next_turn, stands_ready}
+use Rattle.unix_pipe_laws.specs.Turns.{PipeTurn, turned_net, turned_stage}
 use Rattle.pipe_net.specs.declared.inlet.Inlet.{Inlet}
 use Rattle.pipe_net.specs.declared.inlet.Inlet.TheVariants as inlet
 use Rattle.pipe_net.specs.declared.outlet.Outlet.{Outlet}
@@ -252,7 +252,7 @@ module _ (p : Pipeline Loaded) (i : ℕ) where
           subst (λ (z : Scene). Stepped net x z outcome) same (stepped-alone is)
 
     -- a call that was answered
-    module _ (y : Scene) (q : Question) (next : Answer → Loaded) (e : loaded_turn x.state ≡ asks q next) (a : Answer) (fit : IsTrue (fits a q)) (g : GoesThrough x.ports q a y.ports) (state_is : y.state ≡ next a) where
+    module _ (y : Scene) (q : Question) (next : Answer → Loaded) (e : loaded_turn x.state ≡ asks q next) (a : Answer) (fit : IsTrue (answer_fits a q)) (g : GoesThrough x.ports q a y.ports) (state_is : y.state ≡ next a) where
       abbrev u : Ports
       u = x.ports
 
@@ -278,7 +278,7 @@ module _ (p : Pipeline Loaded) (i : ℕ) where
       own-answered =
           ap (after_turn (comes_to i piece) before) (next-is (asks q next) e)
           ∙ (ap (λ k. answered_by before next (reply k q)) (ap (comes_to i piece) s.own.system ∙ comes-so u.inlet net u v (output_of before) u.errors.bytes goes.got s.from goes.consumed)
-          ∙ (ap (λ z. answered_by before next (fitting q z)) (goes.is (output_of before) u.errors.bytes)
+          ∙ (ap (λ z. answered_by before next (fitting_answer q z)) (goes.is (output_of before) u.errors.bytes)
           ∙ ap (λ f. answered_by before next (if f then Some (a, last) else None)) fit))
 
       stepped-answered : Stepped net x y Going

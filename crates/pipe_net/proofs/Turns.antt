@@ -1,11 +1,11 @@
 -- Lists of turns, one more at their end.
 use Rattle.std.proofs.Common.{◌≡◌, ℕ, ◌+◌, Bool, true, false, if◌then◌else◌, List, [], ◌∷◌, ◌++◌, length, refl, ap, ◌∙◌, length-append, append-nil, append_assoc}
-use Rattle.nv_events.specs.Run.{is_going}
-use Rattle.nv_events.specs.Turn.{End, exit, «fault», trap, outcome_of}
-use Rattle.jvm_program.specs.Step.{Loaded}
-use Rattle.pipe_laws.specs.Stages.{PipeStage, is_over, with_rest, input_left}
-use Rattle.pipe_laws.specs.Pipelines.{Pipeline, PipeNet, can_turn}
-use Rattle.pipe_laws.specs.Turns.{PipeTurn, AllHappen, BringNothing, happens, poured, run_turns, turned_net}
+use Rattle.nv_events.specs.Parts.{is_going}
+use Rattle.run_definition.specs.Turn.{End, exit, «fault», trap, outcome_of}
+use Rattle.jvm_definition.specs.Step.{Loaded}
+use Rattle.unix_pipe_laws.specs.Stages.{PipeStage, is_over, with_rest, input_left}
+use Rattle.unix_pipe_laws.specs.Pipelines.{Pipeline, PipeNet, can_turn}
+use Rattle.unix_pipe_laws.specs.Turns.{PipeTurn, AllHappen, BringNothing, happens, poured, run_turns, turned_net}
 use Rattle.pipe_net.specs.Turning.{AreOf}
 
 module _ (p : Pipeline Loaded) where

@@ -1,15 +1,15 @@
 -- Instructions of a stage, one after the other, are turns of the model.
 use Rattle.std.proofs.Common.{◌≡◌, ◌≢◌, ◌<◌, ◌≤◌, ◌+◌, ℕ, zero, suc, true, false, not, ◌||◌, if◌then◌else◌, List, [], ◌∷◌, ◌++◌, length, Some, refl, ap, sym, ◌∙◌, subst, arith, append-nil, append_assoc}
 use Rattle.std.proofs.lemmas.Bool.{lt-leb, ne_eqb}
-use Rattle.nv_events.specs.Run.{is_going}
-use Rattle.nv_events.specs.declared.outcome.Outcome.{Outcome}
-use Rattle.nv_events.specs.declared.outcome.Outcome.TheVariants.{Going}
-use Rattle.jvm_program.specs.Step.{Loaded, loaded_turn}
-use Rattle.pipe_laws.specs.Stages.{PipeStage, comes_to, is_over, output_of}
-use Rattle.pipe_laws.specs.Pipelines.{Pipeline, PipeNet, can_turn, next_turn}
-use Rattle.pipe_laws.specs.Turns.{PipeTurn, AllHappen, BringNothing, poured, run_turns, turned_net}
-use Rattle.pipe_laws.proofs.Runs.{made-one}
-use Rattle.pipe_laws.proofs.Turning.{own-stage, other-stage}
+use Rattle.nv_events.specs.Parts.{is_going}
+use Rattle.run_definition.specs.declared.outcome.Outcome.{Outcome}
+use Rattle.run_definition.specs.declared.outcome.Outcome.TheVariants.{Going}
+use Rattle.jvm_definition.specs.Step.{Loaded, loaded_turn}
+use Rattle.unix_pipe_laws.specs.Stages.{PipeStage, comes_to, is_over, output_of}
+use Rattle.unix_pipe_laws.specs.Pipelines.{Pipeline, PipeNet, can_turn, next_turn}
+use Rattle.unix_pipe_laws.specs.Turns.{PipeTurn, AllHappen, BringNothing, poured, run_turns, turned_net}
+use Rattle.unix_pipe_laws.proofs.Runs.{made-one}
+use Rattle.unix_pipe_laws.proofs.Turning.{own-stage, other-stage}
 use Rattle.pipe_net.specs.Executing.{Scene, Walks, EndsSo}
 use Rattle.pipe_net.specs.Turning.{AreOf}
 use Rattle.pipe_net.proofs.Turns.{run-one, happen-more, of-more, nothing-more, one-more, poured-nothing, poured-both}

@@ -1,6 +1,6 @@
 -- How a net is made, stage by stage.
 use Rattle.std.specs.Prelude.{◌≡◌, ◌++◌, ◌∷◌, ℕ, suc, List, [], length, Some, slice_get}
-use Rattle.nv_events.specs.declared.outcome.Outcome.TheVariants.{Going}
+use Rattle.run_definition.specs.declared.outcome.Outcome.TheVariants.{Going}
 use Rattle.unix_calls.specs.Held.{Held, limited}
 use Rattle.jvm_machine.specs.declared.jvm.Jvm.{Jvm}
 use Rattle.pipe_net.specs.declared.net.Net.{Net}

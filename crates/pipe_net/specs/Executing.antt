@@ -1,13 +1,13 @@
 -- What the machine of a stage does in a turn of the stage, over its ports.
 use Rattle.std.specs.Prelude.{◌≡◌, ◌≢◌, ◌≤◌, ◌<◌, ℕ, zero, suc, Bool, false, Option, Some, None, Result, Ok, Err}
-use Rattle.nv_events.specs.Answer.{Answer}
-use Rattle.nv_events.specs.Question.{Question}
+use Rattle.run_definition.specs.Answer.{Answer}
+use Rattle.run_definition.specs.Question.{Question}
 use Rattle.nv_events.specs.Serving.{Turns}
-use Rattle.nv_events.specs.Turn.{asks}
-use Rattle.nv_events.specs.declared.io_fault.IoFault.{IoFault}
-use Rattle.nv_events.specs.declared.outcome.Outcome.{Outcome}
-use Rattle.nv_events.specs.declared.outcome.Outcome.TheVariants.{Waiting}
-use Rattle.jvm_program.specs.Step.{Loaded, loaded_turn}
+use Rattle.run_definition.specs.Turn.{asks}
+use Rattle.run_definition.specs.declared.io_fault.IoFault.{IoFault}
+use Rattle.run_definition.specs.declared.outcome.Outcome.{Outcome}
+use Rattle.run_definition.specs.declared.outcome.Outcome.TheVariants.{Waiting}
+use Rattle.jvm_definition.specs.Step.{Loaded, loaded_turn}
 use Rattle.pipe_net.specs.Ports.{FallsThrough, GoesThrough, Ports, Waits, ready_for}
 use Rattle.pipe_net.specs.declared.executed.Executed.{Executed}
 use Rattle.pipe_net.specs.declared.executed.Stop.{Stop}

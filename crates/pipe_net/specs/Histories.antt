@@ -2,15 +2,15 @@
 use Rattle.std.specs.Prelude.{◌≡◌, ◌<◌, ℕ, suc, true, false, List, Option, Some, None, Result, Err, MatchResult, slice_get}
 use Rattle.std.specs.Io.KnownBytes.{Appends, Consumes}
 use Rattle.nv_outside.specs.Seen.{Seen, Takes}
-use Rattle.nv_events.specs.Run.{Run}
-use Rattle.unix_system.specs.System.{System}
+use Rattle.run_definition.specs.Run.{Run}
+use Rattle.unix_definition.specs.System.{System}
 use Rattle.unix_calls.specs.Drawing.{known}
 use Rattle.unix_calls.specs.Stages.{LosesRead}
-use Rattle.jvm_program.specs.Step.{Loaded}
-use Rattle.pipe_laws.specs.Stages.{output_of}
-use Rattle.pipe_laws.specs.Pipelines.{Pipeline, PipeNet}
-use Rattle.pipe_laws.specs.Turns.{PipeTurn, BringNothing, net_at_start, run_turns}
-use Rattle.pipe_laws.specs.Alone.{first_run, first_run_arriving, run_alone_of}
+use Rattle.jvm_definition.specs.Step.{Loaded}
+use Rattle.unix_pipe_laws.specs.Stages.{output_of}
+use Rattle.unix_pipe_laws.specs.Pipelines.{Pipeline, PipeNet}
+use Rattle.unix_pipe_laws.specs.Turns.{PipeTurn, BringNothing, net_at_start, run_turns}
+use Rattle.unix_pipe_laws.specs.Alone.{first_run, first_run_arriving, run_alone_of}
 use Rattle.pipe_net.specs.declared.net.Net.{Net}
 use Rattle.pipe_net.specs.declared.net_fault.NetFault.{NetFault}
 use Rattle.pipe_net.specs.Moving.{over_in}

@@ -2,10 +2,10 @@
 use Rattle.std.specs.Prelude.{◌≡◌, ◌≤◌, ◌<◌, ℕ, List, [], ◌∷◌}
 use Rattle.nv_outside.specs.Seen.{Seen}
 use Rattle.unix_calls.specs.Drawing.{known}
-use Rattle.jvm_program.specs.Step.{Loaded}
-use Rattle.pipe_laws.specs.Pipelines.{Pipeline, PipeNet}
-use Rattle.pipe_laws.specs.Turns.{net_at_start}
-use Rattle.pipe_laws.specs.Alone.{IsFreshPipeline}
+use Rattle.jvm_definition.specs.Step.{Loaded}
+use Rattle.unix_pipe_laws.specs.Pipelines.{Pipeline, PipeNet}
+use Rattle.unix_pipe_laws.specs.Turns.{net_at_start}
+use Rattle.unix_pipe_laws.specs.Alone.{IsFreshPipeline}
 use Rattle.pipe_net.specs.declared.net.Net.{Net}
 use Rattle.pipe_net.specs.declared.turn.Turn.{Turn}
 use Rattle.pipe_net.specs.declared.turn.Turn.TheVariants.{Ran}

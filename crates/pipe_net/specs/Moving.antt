@@ -1,7 +1,7 @@
 -- What the turn of a stage on its terms does to the stages and pipes of a net.
 use Rattle.std.specs.Prelude.{◌≡◌, ◌≤◌, ◌+◌, ℕ, zero, suc, ◌-◌, ◌==◌, min, Bool, true, if◌then◌else◌, List, length, Some, None, Result, IfOk, slice_get, slice_set}
 use Rattle.nv_outside.specs.Seen.{Seen}
-use Rattle.nv_events.specs.declared.io_fault.IoFault.{IoFault}
+use Rattle.run_definition.specs.declared.io_fault.IoFault.{IoFault}
 use Rattle.jvm_machine.specs.Machine.{has_ended}
 use Rattle.jvm_machine.specs.Counting.{count_of}
 use Rattle.pipe_net.specs.declared.executed.Executed.{Executed}

@@ -1,14 +1,14 @@
 -- What the system of a stage stands between, as plain data: where its input comes from, and where its output and error output go.
 use Rattle.std.specs.Prelude.{◌≡◌, ℕ, min, nat_lt, Bool, true, false, ◌||◌, ◌++◌, List, length, Some, None, if◌then◌else◌}
 use Rattle.nv_outside.specs.Seen.{Seen}
-use Rattle.nv_events.specs.Answer.{Answer}
-use Rattle.nv_events.specs.Question.{Question}
-use Rattle.nv_events.specs.declared.io_fault.IoFault.{IoFault}
-use Rattle.unix_system.specs.Unix.{unix}
+use Rattle.run_definition.specs.Answer.{Answer}
+use Rattle.run_definition.specs.Question.{Question}
+use Rattle.run_definition.specs.declared.io_fault.IoFault.{IoFault}
+use Rattle.unix_definition.specs.Unix.{unix}
 use Rattle.unix_calls.specs.Held.{Held}
 use Rattle.unix_calls.specs.Serving.{Fell, Goes, Parts, parts}
-use Rattle.pipe_laws.specs.Stages.{reads_input, writes_output}
-use Rattle.pipe_laws.specs.Pipelines.{has_enough}
+use Rattle.unix_pipe_laws.specs.Stages.{reads_input, writes_output}
+use Rattle.unix_pipe_laws.specs.Pipelines.{has_enough}
 use Rattle.pipe_net.specs.declared.inlet.Inlet.{Inlet}
 use Rattle.pipe_net.specs.declared.inlet.Inlet.TheVariants as inlet
 use Rattle.pipe_net.specs.declared.outlet.Outlet.{Outlet}

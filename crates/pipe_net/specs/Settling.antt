@@ -1,9 +1,9 @@
 -- What a turn of a stage comes to, by the instructions that were executed.
 use Rattle.std.specs.Prelude.{◌≡◌, ℕ, ◌==◌, nat_le, Bool, not, ◌||◌, if◌then◌else◌, Result, Ok, Err}
-use Rattle.nv_events.specs.Run.{is_going}
-use Rattle.nv_events.specs.declared.io_fault.IoFault.{IoFault}
-use Rattle.nv_events.specs.declared.io_fault.IoFault.TheVariants.{ReadFault, WriteFault}
-use Rattle.nv_events.specs.declared.outcome.Outcome.{Outcome}
+use Rattle.nv_events.specs.Parts.{is_going}
+use Rattle.run_definition.specs.declared.io_fault.IoFault.{IoFault}
+use Rattle.run_definition.specs.declared.io_fault.IoFault.TheVariants.{ReadFault, WriteFault}
+use Rattle.run_definition.specs.declared.outcome.Outcome.{Outcome}
 use Rattle.pipe_net.specs.declared.executed.Executed.{Executed}
 use Rattle.pipe_net.specs.declared.executed.Stop.{Stop}
 use Rattle.pipe_net.specs.declared.executed.Stop.TheVariants.{Most, NotReady, Ended}

@@ -1,15 +1,15 @@
 -- When a net stands as the model of it does.
 use Rattle.std.specs.Prelude.{◌≡◌, ◌≤◌, ℕ, zero, suc, List, [], length, Some, slice_get, false}
-use Rattle.nv_events.specs.declared.outcome.Outcome.TheVariants.{Going}
+use Rattle.run_definition.specs.declared.outcome.Outcome.TheVariants.{Going}
 use Rattle.unix_calls.specs.Held.{Held, limited, system_of}
 use Rattle.unix_calls.specs.Starting.{IsFresh}
-use Rattle.jvm_program.specs.Step.{Loaded, loaded, loaded_turn}
-use Rattle.jvm_link.specs.Linking.{program_of}
+use Rattle.jvm_definition.specs.Step.{Loaded, loaded_program, loaded_turn}
+use Rattle.class_definition.specs.Linking.{program_of}
 use Rattle.jvm_machine.specs.Machine.{classes_of, has_ended, state_of, words_of}
 use Rattle.jvm_machine.specs.Counting.{count_of}
 use Rattle.jvm_machine.specs.declared.jvm.Jvm.{Jvm}
-use Rattle.pipe_laws.specs.Stages.{PipeStage, output_of}
-use Rattle.pipe_laws.specs.Pipelines.{Pipeline, PipeNet}
+use Rattle.unix_pipe_laws.specs.Stages.{PipeStage, output_of}
+use Rattle.unix_pipe_laws.specs.Pipelines.{Pipeline, PipeNet}
 use Rattle.pipe_net.specs.declared.net.Net.{Net}
 use Rattle.pipe_net.specs.declared.pipe.Pipe.{Pipe}
 use Rattle.pipe_net.specs.declared.stage.Stage.{Stage}
@@ -21,7 +21,7 @@ stage_count net = length net.stages.items
 
 -- a machine as it was loaded, on a system that has served no call
 pub record IsFreshStage (jvm : Jvm) (unix : Held) : Type 0 where
-  pub state : state_of jvm ≡ loaded (program_of (classes_of jvm)) (words_of jvm)
+  pub state : state_of jvm ≡ loaded_program (program_of (classes_of jvm)) (words_of jvm)
   pub going : has_ended jvm ≡ false
   pub none : count_of jvm ≡ 0
   pub fresh : IsFresh unix

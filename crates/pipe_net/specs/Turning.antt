@@ -3,12 +3,12 @@ use Rattle.std.specs.Prelude.{◌≡◌, ◌≢◌, ◌⊎◌, ◌≤◌, ◌<�
 use Rattle.std.specs.Io.KnownBytes.{Appends, Consumes}
 use Rattle.nv_outside.specs.Faults.{Rises}
 use Rattle.nv_outside.specs.Seen.{Seen}
-use Rattle.nv_events.specs.declared.io_fault.IoFault.TheVariants.{ReadFault, WriteFault}
-use Rattle.nv_events.specs.declared.outcome.Outcome.{Outcome}
+use Rattle.run_definition.specs.declared.io_fault.IoFault.TheVariants.{ReadFault, WriteFault}
+use Rattle.run_definition.specs.declared.outcome.Outcome.{Outcome}
 use Rattle.unix_calls.specs.Drawing.{known}
-use Rattle.jvm_program.specs.Step.{Loaded}
-use Rattle.pipe_laws.specs.Pipelines.{Pipeline, PipeNet, is_over_at, stands_ready}
-use Rattle.pipe_laws.specs.Turns.{PipeTurn, AllHappen, BringNothing, gained, run_turns}
+use Rattle.jvm_definition.specs.Step.{Loaded}
+use Rattle.unix_pipe_laws.specs.Pipelines.{Pipeline, PipeNet, is_over_at, stands_ready}
+use Rattle.unix_pipe_laws.specs.Turns.{PipeTurn, AllHappen, BringNothing, gained, run_turns}
 use Rattle.jvm_machine.specs.Counting.{count_of}
 use Rattle.pipe_net.specs.declared.net.Net.{Net}
 use Rattle.pipe_net.specs.declared.net_fault.NetFault.{NetFault}

@@ -1,8 +1,8 @@
 //! What holds of every net. Each call here does nothing: its contract is the law.
 
 ghost use Rattle.std.specs.Prelude.{List};
-ghost use Rattle.jvm_program.specs.Step.{Loaded};
-ghost use Rattle.pipe_laws.specs.Pipelines.{Pipeline};
+ghost use Rattle.jvm_definition.specs.Step.{Loaded};
+ghost use Rattle.unix_pipe_laws.specs.Pipelines.{Pipeline};
 ghost use Rattle.pipe_net.specs.Showing.{IsSound};
 ghost use Rattle.pipe_net.specs.Histories.{SomeGoesOn};
 ghost use Rattle.pipe_net.specs.Laws.{MadeTurn, Moment, SomeStageRuns, TurnsEndInOrder};

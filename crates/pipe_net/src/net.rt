@@ -1,9 +1,9 @@
 ghost use Rattle.std.specs.Prelude.{◌≡◌, ◌≤◌, ◌<◌, ◌+◌, ◌^◌, ℕ, suc, List, Some, IfOk, OnOk, false, length, slice_get};
 ghost use Rattle.nv_outside.specs.Seen.{input_seen, output_seen};
 ghost use Rattle.unix_calls.specs.Drawing.{known};
-ghost use Rattle.jvm_program.specs.Step.{Loaded};
-ghost use Rattle.pipe_laws.specs.Pipelines.{Pipeline, PipeNet};
-ghost use Rattle.pipe_laws.specs.Turns.{net_at_start};
+ghost use Rattle.jvm_definition.specs.Step.{Loaded};
+ghost use Rattle.unix_pipe_laws.specs.Pipelines.{Pipeline, PipeNet};
+ghost use Rattle.unix_pipe_laws.specs.Turns.{net_at_start};
 ghost use Rattle.jvm_machine.specs.Machine.{has_ended};
 ghost use Rattle.jvm_machine.specs.Counting.{count_of};
 ghost use Rattle.unix_calls.specs.Starting.{IsFresh};
@@ -34,7 +34,7 @@ use unix_calls::Unix;
 #[derive(Drop)]
 pub struct Net {
     pub(crate) stages: Vec<Stage>,
-    /// The pipe before each stage, and one behind the last. The first stage does not read its pipe, and the last one writes none.
+    /// The pipe before each stage, and one after the last. The first stage does not read its pipe, and the last one writes none.
     pipes: Vec<Pipe>,
     c: u32,
     bound: u64,
@@ -136,7 +136,7 @@ impl Net {
         self.stages[i].errors.bytes.as_slice()
     }
 
-    /// One more stage, with the pipe behind it.
+    /// One more stage, with the pipe after it.
     fn add(&mut self, alloc: Global, jvm: Jvm, unix: Unix) -> Result<(), NoMemory>
         requires some { 1 ≤ self.old.c }
         requires fresh { IsFresh unix }

@@ -3,8 +3,8 @@
 pub(crate) enum Outlet {
     /// To the sink.
     Sink,
-    /// Into the pipe behind it.
+    /// Into the pipe after it.
     Pipe,
-    /// Nowhere: the stage behind it has ended.
+    /// Nowhere: the stage after it has ended.
     Nowhere,
 }

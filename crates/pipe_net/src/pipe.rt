@@ -1,6 +1,6 @@
 ghost use Rattle.std.specs.Prelude.{◌≡◌, ◌+◌, ◌≤◌, ◌<◌, ◌^◌, [], ◌++◌, Some, IfOk, OnOk, length};
 ghost use Rattle.std.specs.List.{list_any};
-ghost use Rattle.pipe_laws.specs.Pipelines.{has_enough, is_newline};
+ghost use Rattle.unix_pipe_laws.specs.Pipelines.{has_enough, is_newline};
 
 use circular_buffer::HeapCircularBuffer;
 use nv_outside::{Failed, Sink, Source};
@@ -35,7 +35,7 @@ impl Pipe {
         self.bytes.len()
     }
 
-    /// Whether so many bytes, or a line's end, stand in these bytes and behind them in the pipe.
+    /// Whether so many bytes, or a line's end, are in these bytes and after them in the pipe.
     pub(crate) fn has_enough(&self, ahead: &[u8], most: u32) -> bool
         ensures { result ≡ has_enough most (ahead.now ++ self.now.bytes.items) }
     {
@@ -70,7 +70,7 @@ fn has_newline(bytes: &[u8]) -> bool
     bytes.iter().any(|b| *b == NEWLINE)
 }
 
-/// The stage behind reads it. A read does not fail.
+/// The stage after reads it. A read does not fail.
 impl Source for Pipe {
     ghost rest = { λ pipe. Some pipe.bytes.items };
 

@@ -1,9 +1,9 @@
 ghost use Rattle.std.specs.Prelude.{◌≡◌, ◌≤◌, false, None, Some, length};
-ghost use Rattle.nv_events.specs.Memory.{Memory};
-ghost use Rattle.nv_events.specs.Question.{asked};
-ghost use Rattle.nv_events.specs.declared.io_fault.IoFault.{IoFault};
-ghost use Rattle.unix_system.specs.System.{System};
-ghost use Rattle.unix_system.specs.Unix.{reply, unix};
+ghost use Rattle.run_definition.specs.Memory.{Memory};
+ghost use Rattle.run_definition.specs.Question.{asked};
+ghost use Rattle.run_definition.specs.declared.io_fault.IoFault.{IoFault};
+ghost use Rattle.unix_definition.specs.System.{System};
+ghost use Rattle.unix_definition.specs.Unix.{reply, unix};
 ghost use Rattle.unix_calls.specs.Serving.{Serves};
 ghost use Rattle.unix_calls.specs.Failing.{failed_calls};
 ghost use Rattle.pipe_net.specs.Ports.{FallsThrough, GoesThrough, KeepsOthers, Waits, may_read_at, may_write_at, parts_of, ready_for};

@@ -1,9 +1,9 @@
 //! Which calls wait for a pipe.
 
 ghost use Rattle.std.specs.Prelude.{◌≡◌};
-ghost use Rattle.nv_events.specs.Memory.{Memory};
-ghost use Rattle.nv_events.specs.Question.{asked};
-ghost use Rattle.pipe_laws.specs.Stages.{reads_input, writes_output};
+ghost use Rattle.run_definition.specs.Memory.{Memory};
+ghost use Rattle.run_definition.specs.Question.{asked};
+ghost use Rattle.unix_pipe_laws.specs.Stages.{reads_input, writes_output};
 
 use nv_events::Call;
 use unix_calls::Unix;

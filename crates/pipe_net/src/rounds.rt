@@ -2,9 +2,9 @@
 
 ghost use Rattle.std.specs.Prelude.{◌≡◌, ◌≤◌, ◌<◌, true, false, List, ℕ, OnOk};
 ghost use Rattle.nv_outside.specs.Seen.{Seen, input_seen, output_seen};
-ghost use Rattle.jvm_program.specs.Step.{Loaded};
-ghost use Rattle.pipe_laws.specs.Pipelines.{Pipeline};
-ghost use Rattle.pipe_laws.specs.Alone.{IsFreshPipeline};
+ghost use Rattle.jvm_definition.specs.Step.{Loaded};
+ghost use Rattle.unix_pipe_laws.specs.Pipelines.{Pipeline};
+ghost use Rattle.unix_pipe_laws.specs.Alone.{IsFreshPipeline};
 ghost use Rattle.pipe_net.specs.Showing.{IsSound, stage_count};
 ghost use Rattle.pipe_net.specs.Turning.{turns_left};
 ghost use Rattle.pipe_net.specs.Histories.{AllAreOver, ComesOn, EndsSo, HasCome, SomeGoesOn};

@@ -1,7 +1,7 @@
 ghost use Rattle.std.specs.Prelude.{◌≡◌, ◌≤◌, length};
-ghost use Rattle.nv_events.specs.Question.{asked};
+ghost use Rattle.run_definition.specs.Question.{asked};
 ghost use Rattle.nv_outside.specs.Seen.{input_seen, output_seen};
-ghost use Rattle.unix_system.specs.Unix.{unix};
+ghost use Rattle.unix_definition.specs.Unix.{unix};
 ghost use Rattle.unix_calls.specs.Serving.{parts, Serves};
 ghost use Rattle.pipe_net.specs.Ports.{OtherOutput, kept_seen, output_at};
 ghost use Rattle.pipe_net.specs.Views.{errors_kept, pipe_kept};

@@ -1,6 +1,6 @@
 ghost use Rattle.std.specs.Prelude.{◌≡◌, ◌+◌, ◌<◌, ◌≤◌, ◌^◌, [], false, length, IfOk};
 ghost use Rattle.nv_outside.specs.Seen.{input_seen, output_seen};
-ghost use Rattle.nv_events.specs.declared.outcome.Outcome.TheVariants as outcomes;
+ghost use Rattle.run_definition.specs.declared.outcome.Outcome.TheVariants as outcomes;
 ghost use Rattle.jvm_machine.specs.Machine.{has_ended};
 ghost use Rattle.jvm_machine.specs.Counting.{count_of};
 ghost use Rattle.pipe_net.specs.Executing.{Executes, GoesOnBehind};
@@ -56,7 +56,7 @@ impl Stage {
         !matches!(self.outcome, Outcome::Going) || self.jvm.count() >= bound
     }
 
-    /// Executes instructions on these terms, between a source and a sink, and the pipes before it and behind it.
+    /// Executes instructions on these terms, between a source and a sink, and the pipes before it and after it.
     ///
     /// # Errors
     ///

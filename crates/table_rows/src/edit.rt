@@ -39,7 +39,7 @@ fn put(bytes: &mut [u8], place: usize, byte: u8, bits: u8) -> Result<()> {
     Ok(())
 }
 
-/// A program's file with its numbers turned: the half-words of the header, and all words behind its first 16 bytes.
+/// A program's file with its numbers turned: the half-words of the header, and all words after its first 16 bytes.
 fn turned(alloc: Global, file: &[u8]) -> Result<Vec<u8>> {
     let mut turned = Vec::new(alloc);
     for place in 0..file.len() {
@@ -53,7 +53,7 @@ fn byte_at(file: &[u8], place: usize) -> u8 {
     file.get(place).copied().unwrap_or(0)
 }
 
-/// Which byte of the file stands at a place.
+/// Which byte of the file is at a place.
 fn turned_place(place: usize) -> usize {
     if place < 16 {
         place

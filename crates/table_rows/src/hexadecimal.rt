@@ -43,7 +43,7 @@ pub fn words_of(alloc: Global, pieces: &str) -> Result<Vec<u32>> {
 /// Bytes as digits.
 ///
 /// # Errors
-/// Want of memory.
+/// Out of memory.
 pub fn hex_of(alloc: Global, bytes: &[u8]) -> Result<String> {
     Ok(hex::encode_upper(alloc, bytes)?)
 }
@@ -51,7 +51,7 @@ pub fn hex_of(alloc: Global, bytes: &[u8]) -> Result<String> {
 /// A text, or so many, as `4078*x`.
 ///
 /// # Errors
-/// Want of memory.
+/// Out of memory.
 pub fn repeated(alloc: Global, text: &str) -> Result<String> {
     let (count, once) = text.split_once('*').unwrap_or(("1", text));
     Ok(once.repeat(alloc, count.parse()?)?)

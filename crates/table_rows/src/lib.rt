@@ -7,18 +7,25 @@
 mod class_file;
 mod edit;
 mod files;
+mod folder;
 mod hexadecimal;
 mod outcomes;
+mod outside;
 mod replies;
 mod row;
 mod segments;
+mod shelf;
 mod table;
+mod words;
 
 pub use class_file::class_file_of;
 pub use files::Files;
+pub use folder::{contents, folder_row};
 pub use hexadecimal::{bytes_of, hex_of, repeated, words_of};
 pub use outcomes::outcome_text;
+pub use outside::{Outside, command_line};
 pub use replies::replies_of;
 pub use row::{address, count, long_count, rest, slot, word};
 pub use segments::{parts_of, program_of};
 pub use table::{Answers, print_answers};
+pub use words::words_row;

@@ -6,7 +6,7 @@ use std::alloc::Global;
 /// An end as text, as `exited 7` or `fault 9 pc 00400000 value FC000000`.
 ///
 /// # Errors
-/// Want of memory.
+/// Out of memory.
 pub fn outcome_text(alloc: Global, outcome: Outcome) -> Result<String> {
     Ok(match outcome {
         Outcome::Exited(status) => format!(in alloc; "exited {status}")?,

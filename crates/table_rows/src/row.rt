@@ -1,11 +1,11 @@
 //! Words of a row.
 
-/// The word of this number, from 0, where one blank stands between two; empty where there is none.
+/// The word of this number, from 0, where one blank is between two; empty where there is none.
 pub fn word(row: &str, number: usize) -> &str {
     row.split(' ').nth(number).unwrap_or("")
 }
 
-/// What stands behind so many words.
+/// What is after so many words.
 pub fn rest(row: &str, words: usize) -> &str {
     row.splitn(words.saturating_add(1), ' ')
         .nth(words)

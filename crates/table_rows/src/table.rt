@@ -8,14 +8,14 @@ use std::io;
 
 /// What gives the answers to the rows of a table.
 pub trait Answers {
-    /// The answer to a row, beside the files that stand above it.
+    /// The answer to a row, beside the files that are above it.
     ///
     /// # Errors
     /// Their text is the answer, as that of what refuses a file.
     fn answer(&mut self, alloc: Global, files: &Files, row: &str) -> Result<String>;
 }
 
-/// Reads a table from input, and prints each line of it, with the answer behind each row. A row is a line that is not empty and begins
+/// Reads a table from input, and prints each line of it, with the answer after each row. A row is a line that is not empty and begins
 /// neither with `#` nor with a kind of files. A row `FIRST..LAST ROW` or `FIRST..LAST/STEP ROW` stands for a row for each number, in place
 /// of `@`.
 ///
@@ -57,7 +57,7 @@ fn shown<T: Answers>(
     Ok(String::from_str(alloc, head)?)
 }
 
-/// Adds the file that a line begins. Its lines may begin behind its name, or below it.
+/// Adds the file that a line begins. Its lines may begin after its name, or below it.
 fn add_file(alloc: Global, files: &mut Files, line: &str) -> Result<()> {
     let lines = rest(line, 2);
     let lines = lines.strip_prefix('\t').unwrap_or(lines);

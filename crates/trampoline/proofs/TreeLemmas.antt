@@ -1,9 +1,9 @@
 -- Trees: enough levels make the same tree, and how many steps it has.
 use Rattle.std.proofs.Common.{◌≡◌, ℕ, zero, suc, ◌+◌, ◌-◌, ◌*◌, ◌/◌, ◌<◌, ◌≤◌, List, [], ◌∷◌, length, take, drop, ◌++◌, refl, sym, ◌∙◌, append_assoc, arith}
 use Rattle.std.proofs.lemmas.List.{length-take-le, length-drop, length-append}
-use Rattle.jvm_names.specs.declared.branch_name.BranchName.TheVariants.{Goto}
-use Rattle.code_steps.specs.declared.step.Step.{Step}
-use Rattle.code_steps.specs.declared.step.Step.TheVariants.{Skips}
+use Rattle.jvm_definition.specs.declared.branch_name.BranchName.TheVariants.{Goto}
+use Rattle.emit_steps.specs.declared.step.Step.{Step}
+use Rattle.emit_steps.specs.declared.step.Step.TheVariants.{Skips}
 use Rattle.trampoline.specs.declared.start.Start.{Start}
 use Rattle.trampoline.specs.Trees.{reached_code, halves_code, first_of, tree_of, tree}
 

@@ -1,18 +1,18 @@
 -- The methods that choose by the address at which the guest stands, which is in field pc. Each is the code of a whole method of no
 -- arguments. Addresses are compared as signed ints, so code stands below address 80000000 (hexadecimal).
 use Rattle.std.specs.Prelude.{ℕ, Bool, true, false, List, [], ◌∷◌, ◌++◌}
-use Rattle.mips_decode.specs.Effect.{fetch_fault, pc_align_fault}
+use Rattle.mips_definition.specs.Effect.{fetch_fault, pc_align_fault}
 use Rattle.delay_slots.specs.Places.{Address}
-use Rattle.jvm_names.specs.declared.branch_name.BranchName.TheVariants.{Ifne, IfIcmplt, IfIcmpge, Goto}
-use Rattle.jvm_names.specs.declared.int_arithmetic.IntArithmetic.TheVariants.{Iand}
-use Rattle.jvm_program.specs.declared.local_kind.LocalKind.TheVariants as local_kinds
-use Rattle.jvm_program.specs.declared.instruction.Instruction.TheVariants as instructions
-use Rattle.jvm_program.specs.declared.instruction.Instruction.TheVariants.{Load, Store, Call, FaultHost}
-use Rattle.code_steps.specs.Returning.{returns}
-use Rattle.code_steps.specs.declared.step.Step.{Step}
-use Rattle.code_steps.specs.declared.step.Step.TheVariants.{Does, Skips, Leaves}
-use Rattle.guest_layout.specs.FieldNumbers.{pc_field}
-use Rattle.guest_code.specs.Access.{push_word, get_field, arithmetic}
+use Rattle.jvm_definition.specs.declared.branch_name.BranchName.TheVariants.{Ifne, IfIcmplt, IfIcmpge, Goto}
+use Rattle.jvm_definition.specs.declared.int_arithmetic.IntArithmetic.TheVariants.{Iand}
+use Rattle.jvm_definition.specs.declared.local_kind.LocalKind.TheVariants as local_kinds
+use Rattle.jvm_definition.specs.declared.instruction.Instruction.TheVariants as instructions
+use Rattle.jvm_definition.specs.declared.instruction.Instruction.TheVariants.{Load, Store, Call, FaultHost}
+use Rattle.emit_steps.specs.Returning.{returns}
+use Rattle.emit_steps.specs.declared.step.Step.{Step}
+use Rattle.emit_steps.specs.declared.step.Step.TheVariants.{Does, Skips, Leaves}
+use Rattle.emit_layout.specs.FieldNumbers.{pc_field}
+use Rattle.emit_instructions.specs.Access.{push_word, get_field, arithmetic}
 use Rattle.meter.specs.Guards.{left_field, spent_kind}
 use Rattle.trampoline.specs.declared.start.Start.{Start}
 use Rattle.trampoline.specs.Trees.{reached_code, first_of, tree}

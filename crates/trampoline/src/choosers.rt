@@ -1,15 +1,14 @@
-//! The methods that choose by the address at which the guest stands.
+//! The methods that choose by the address at which the guest is.
 ghost use Rattle.std.specs.Prelude.{◌≡◌, ◌++◌, ◌≤◌, OnOk, length};
-ghost use Rattle.code_steps.specs.Returning.{returns};
+ghost use Rattle.emit_steps.specs.Returning.{returns};
 ghost use Rattle.trampoline.specs.Choosers as emitted;
 ghost use Rattle.trampoline.specs.Trees.{tree, first_of};
 
 use crate::start::Start;
 use crate::trees::{NoMemory, append_reached, append_tree, first_of};
-use code_steps::Step;
-use guest_code::{append_steps, arithmetic, fields, get_field, push_word};
-use jvm_names::{BranchName, IntArithmetic, ReturnName};
-use jvm_program::{Instruction, LocalKind};
+use emit_instructions::{append_steps, arithmetic, fields, get_field, push_word};
+use emit_steps::Step;
+use jvm_definition::{BranchName, Instruction, IntArithmetic, LocalKind, ReturnName};
 use meter::{LEFT, SPENT};
 use mips_decode::fault_kinds::{FETCH, PC_ALIGN};
 
@@ -21,7 +20,7 @@ use mips_decode::fault_kinds::{FETCH, PC_ALIGN};
 /// method, from offset 0 on.
 ///
 /// # Errors
-/// Want of memory for the code.
+/// Out of memory for the code.
 pub fn append_class_chooser(
     starts: &[Start],
     first: u32,
@@ -38,15 +37,15 @@ pub fn append_class_chooser(
     append_chosen(starts, code)
 }
 
-/// Appends the code of the method by which the main class chooses for ever, which takes no arguments. Where field pc is no multiple of 4
-/// or is below all starts, the method `missing` is called, and else the method of the last start that is not above it. Field pc is read
+/// Appends the code of the method by which the main class chooses for ever, which takes no arguments. If field pc is no multiple of 4
+/// or is below all starts, the method `missing` is called, and otherwise the method of the last start that is not above it. Field pc is read
 /// anew after each call.
 ///
-/// There are 1 to 2,048 starts, which rise. Behind the end of each range of code a start names the method `missing`. The code is to be that
+/// There are 1 to 2,048 starts, which rise. After the end of each range of code a start names the method `missing`. The code is to be that
 /// of a whole method, from offset 0 on.
 ///
 /// # Errors
-/// Want of memory for the code.
+/// Out of memory for the code.
 pub fn append_main_chooser(
     starts: &[Start],
     missing: u32,
@@ -62,12 +61,12 @@ pub fn append_main_chooser(
     append_chosen(starts, code)
 }
 
-/// Appends the code of the method for a guest that stands outside all code, which takes no arguments. The run ends in the fault of an
-/// unaligned pc (2) where field pc is no multiple of 4, and else in that of a fetch (1), with pc as the fault's pc and value. Where the program
+/// Appends the code of the method for a guest that is outside all code, which takes no arguments. The run ends in the fault of an
+/// unaligned pc (2) where field pc is no multiple of 4, and otherwise in that of a fetch (1), with pc as the fault's pc and value. If the program
 /// has a meter on which no turn is left, it ends in the fault of a spent meter instead, with pc as the fault's pc.
 ///
 /// # Errors
-/// Want of memory for the code.
+/// Out of memory for the code.
 pub fn append_missing(metered: bool, code: &mut Vec<Step>) -> Result<(), NoMemory>
     ensures { OnOk result (code.new.items ≡ code.old.items ++ emitted.missing_method metered) }
 {

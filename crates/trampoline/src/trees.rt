@@ -3,13 +3,12 @@ ghost use Rattle.std.specs.Prelude.{◌≡◌, ◌++◌, ◌<◌, ◌≤◌, ◌
 ghost use Rattle.trampoline.specs.Trees as emitted;
 
 use crate::start::Start;
-use code_steps::Step;
-use guest_code::{append_steps, push_word};
-use jvm_names::BranchName;
-use jvm_program::{Instruction, LocalKind};
+use emit_instructions::{append_steps, push_word};
+use emit_steps::Step;
+use jvm_definition::{BranchName, Instruction, LocalKind};
 use std::alloc::AllocError;
 
-/// Want of memory, the one error of this crate.
+/// Out of memory, the one error of this crate.
 pub type NoMemory = AllocError;
 
 /// The address in local variable 0 is not below a start: that many of the following steps are passed over.

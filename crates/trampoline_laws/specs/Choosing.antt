@@ -1,10 +1,10 @@
 -- The method that belongs to an address, among methods by the addresses at which their parts of the code begin.
 use Rattle.std.specs.Prelude.{◌≡◌, ℕ, suc, ◌%◌, ◌^◌, ◌<◌, ◌≤◌, int_lt, Bool, if◌then◌else◌, List, [], ◌∷◌, length, Some}
 use Rattle.std.specs.List.{All}
-use Rattle.nv_words.specs.Words.{signed_of}
+use Rattle.run_definition.specs.Words.{signed_of}
 use Rattle.delay_slots.specs.Places.{Address}
-use Rattle.jvm_program.specs.declared.linked_method.LinkedMethod.{LinkedMethod}
-use Rattle.jvm_program.specs.Program.{Program}
+use Rattle.jvm_definition.specs.declared.linked_method.LinkedMethod.{LinkedMethod}
+use Rattle.jvm_definition.specs.Program.{Program}
 use Rattle.trampoline.specs.declared.start.Start.{Start}
 use Rattle.trampoline.specs.Trees.{first_of}
 

@@ -1,18 +1,18 @@
 -- Classes of code in a program: which words each has, and where the methods of its spans stand.
 use Rattle.std.specs.Prelude.{◌≡◌, ℕ, ◌+◌, ◌*◌, ◌%◌, ◌^◌, ◌<◌, ◌≤◌, ◌==◌, ◌&&◌, nat_le, nat_lt, Bool, true, false, if◌then◌else◌, List, [], ◌∷◌, length, map, flat_map, slice_index_or, ⊤}
 use Rattle.std.specs.List.{All, list_any, range_with_len}
-use Rattle.nv_words.specs.Words.{IsWord}
+use Rattle.run_definition.specs.Words.{IsWord}
 use Rattle.delay_slots.specs.Places.{Address, WordIndex}
 use Rattle.delay_slots.specs.Units.{HasNoFloat, units_of}
-use Rattle.jvm_program.specs.Program.{Program}
-use Rattle.code_steps.specs.Placing.{LiesAt}
+use Rattle.jvm_definition.specs.Program.{Program}
+use Rattle.emit_steps.specs.Placing.{LiesAt}
 use Rattle.method_splitter.specs.declared.span.Span.{Span}
-use Rattle.span_code.specs.declared.span_words.SpanWords.{SpanWords}
-use Rattle.span_code.specs.Pieces.{span_of}
-use Rattle.span_code.specs.Laying.{span_code}
+use Rattle.emit_spans.specs.declared.span_words.SpanWords.{SpanWords}
+use Rattle.emit_spans.specs.Pieces.{span_of}
+use Rattle.emit_spans.specs.Laying.{span_code}
 use Rattle.trampoline.specs.declared.start.Start.{Start}
 use Rattle.trampoline.specs.Choosers.{class_chooser}
-use Rattle.code_paths.specs.Guest as counted
+use Rattle.emit_paths_laws.specs.Guest as counted
 use Rattle.trampoline_laws.specs.Choosing.{IsMethod, IsWithin, Rise}
 
 -- ---- a class

@@ -1,34 +1,34 @@
 -- What the code of choosers comes to.
 use Rattle.std.specs.Prelude.{◌≡◌, ℕ, suc, ◌+◌, ◌*◌, ◌%◌, ◌^◌, ◌==◌, ◌<◌, ◌≤◌, ◌⊎◌, if◌then◌else◌, List, [], ◌∷◌, length, slice_get, Some, None}
-use Rattle.nv_words.specs.Words.{IsWord}
+use Rattle.run_definition.specs.Words.{IsWord}
 use Rattle.delay_slots.specs.Places.{Address}
-use Rattle.nv_events.specs.declared.fault.Fault.{Fault}
-use Rattle.jvm_program.specs.declared.value.Value.TheVariants.{Int as int}
-use Rattle.jvm_program.specs.declared.instruction.Instruction.{Instruction}
-use Rattle.jvm_program.specs.declared.instruction.Instruction.TheVariants.{Call}
-use Rattle.jvm_program.specs.Program.{Program}
-use Rattle.jvm_program.specs.Effect.{Workspace, Effect, enters, gives, faults, with_operands, with_local}
-use Rattle.jvm_program.specs.Step.{State, Frame, placed}
-use Rattle.mips_decode.specs.Effect.{fetch_fault, pc_align_fault}
-use Rattle.code_steps.specs.declared.step.Step.{Step}
-use Rattle.code_steps.specs.Offsets.{CodeOffset}
-use Rattle.code_steps.specs.declared.step.Step.TheVariants.{Does}
-use Rattle.code_steps.specs.Widths.{bytes_before}
-use Rattle.code_steps.specs.Outcomes.{Outcome, ended, outcome, outcome_from, left, stopped}
-use Rattle.code_steps.specs.Placing.{LiesAt}
-use Rattle.guest_layout.specs.FieldNumbers.{pc_field}
+use Rattle.run_definition.specs.declared.fault.Fault.{Fault}
+use Rattle.jvm_definition.specs.declared.value.Value.TheVariants.{Int as int}
+use Rattle.jvm_definition.specs.declared.instruction.Instruction.{Instruction}
+use Rattle.jvm_definition.specs.declared.instruction.Instruction.TheVariants.{Call}
+use Rattle.jvm_definition.specs.Program.{Program}
+use Rattle.jvm_definition.specs.Effect.{Workspace, InstructionEffect, enters, gives, faults, with_operands, with_local}
+use Rattle.jvm_definition.specs.Step.{JvmState, Frame, frame_placed}
+use Rattle.mips_definition.specs.Effect.{fetch_fault, pc_align_fault}
+use Rattle.emit_steps.specs.declared.step.Step.{Step}
+use Rattle.emit_steps.specs.Offsets.{CodeOffset}
+use Rattle.emit_steps.specs.declared.step.Step.TheVariants.{Does}
+use Rattle.emit_steps.specs.Widths.{bytes_before}
+use Rattle.emit_steps.specs.Outcomes.{Outcome, ended, outcome, outcome_from, left, stopped}
+use Rattle.emit_steps.specs.Placing.{LiesAt}
+use Rattle.emit_layout.specs.FieldNumbers.{pc_field}
 use Rattle.meter.specs.Guards.{spent_kind}
 use Rattle.trampoline.specs.declared.start.Start.{Start}
 use Rattle.trampoline.specs.Trees.{tree}
 use Rattle.trampoline.specs.Choosers.{class_chooser, main_chooser, missing_code, metered_missing_code}
-use Rattle.code_paths.specs.Paths.{Path}
+use Rattle.emit_paths_laws.specs.Paths.{Path}
 use Rattle.meter_laws.specs.Meters.{HasLeft, spent_fault}
 use Rattle.trampoline_laws.specs.Choosing.{AreStarts, IsMethod, IsReached, IsWithin, Rise, chosen}
 use Rattle.trampoline_laws.specs.Weights.{beside_calls, turns_of}
 
 -- It stops within so many instructions, with a workspace and an effect.
 pub record Stops (program : Program) (words most : ℕ) (code : List Step) (w v : Workspace)
-    (e : Effect) : Type 0 where
+    (e : InstructionEffect) : Type 0 where
   pub turns : ℕ
   pub step : ℕ
   pub comes : outcome program words code w ≡ stopped turns step v e
@@ -196,9 +196,9 @@ abbrev pub PathsMakeNoCalls : Type 0
 PathsMakeNoCalls =
     (program : Program) (words own m : ℕ) (low high at : CodeOffset) (k n : ℕ)
     (total : (Instruction → ℕ) → ℕ) (code : List Step) (w : Workspace) (others : List Frame)
-    (y : State)
+    (y : JvmState)
     → LiesAt program own at code
     → turns_of (outcome_from program words code k w) ≡ n
-    → Path program words m low high n total (placed own (at + bytes_before code k) w others) y
+    → Path program words m low high n total (frame_placed own (at + bytes_before code k) w others) y
     → Path program words m low high n (λ weight. total (beside_calls weight))
-    (placed own (at + bytes_before code k) w others) y
+    (frame_placed own (at + bytes_before code k) w others) y

@@ -1,14 +1,14 @@
 -- A program that is the translation of a guest's code.
 use Rattle.std.specs.Prelude.{◌≡◌, ℕ, ◌+◌, ◌<◌, ◌≤◌, Bool, true, false, List, length, slice_get, Option, Some, None}
 use Rattle.std.specs.List.{All}
-use Rattle.nv_words.specs.declared.order.Order.{Order}
+use Rattle.run_definition.specs.declared.order.Order.{Order}
 use Rattle.delay_slots.specs.Places.{Address}
 use Rattle.delay_slots.specs.Turns.{HasRange}
-use Rattle.jvm_program.specs.Program.{Program}
-use Rattle.code_steps.specs.Placing.{LiesAt}
+use Rattle.jvm_definition.specs.Program.{Program}
+use Rattle.emit_steps.specs.Placing.{LiesAt}
 use Rattle.trampoline.specs.Choosers.{main_chooser, missing_method}
-use Rattle.code_paths.specs.Guest.{holds, in_one_span}
-use Rattle.guest_follows.specs.Helpers.{HasHelpers, helper_count}
+use Rattle.emit_paths_laws.specs.Guest.{holds, in_one_span}
+use Rattle.emit_simulation_laws.specs.Helpers.{HasHelpers, helper_count}
 use Rattle.trampoline_laws.specs.Choosing.{AreMethods, IsMethod, IsReached, Rise, chosen}
 use Rattle.trampoline_laws.specs.Classes.{CodeClass, HasClass, AreNumbered, AreOrdered, address, counted_span, counted_spans, is_span, run_of, span_starts, starts_of}
 

@@ -2,14 +2,14 @@
 use Rattle.std.specs.Prelude.{◌≡◌, ℕ, ◌+◌, Bool, true, false, List}
 use Rattle.delay_slots.specs.Places.{Address}
 use Rattle.std.specs.List.{sum_by}
-use Rattle.jvm_program.specs.declared.instruction.Instruction.{Instruction}
-use Rattle.jvm_program.specs.declared.instruction.Instruction.TheVariants.{Push, Load, Store, Array, IntArithmetic, Branch, Get, Put, Call, FaultHost, Return, NewArray}
-use Rattle.code_steps.specs.Outcomes.{Outcome, ended, left, stopped}
+use Rattle.jvm_definition.specs.declared.instruction.Instruction.{Instruction}
+use Rattle.jvm_definition.specs.declared.instruction.Instruction.TheVariants.{Push, Load, Store, Array, IntArithmetic, Branch, Get, Put, Call, FaultHost, Return, NewArray}
+use Rattle.emit_steps.specs.Outcomes.{Outcome, ended, left, stopped}
 use Rattle.trampoline.specs.declared.start.Start.{Start}
 use Rattle.trampoline.specs.Trees.{tree}
 use Rattle.trampoline.specs.Choosers.{class_chooser, main_chooser, missing_method}
-use Rattle.code_paths.specs.Classes.{reads, chars, switches, entries, puts}
-use Rattle.code_paths.specs.Paths.{weigh}
+use Rattle.emit_paths_laws.specs.Classes.{reads, chars, switches, entries, puts}
+use Rattle.emit_paths_laws.specs.Paths.{weigh}
 
 -- instructions that move ints and fields among the operands and local variables, compare them, and go on, return or end the run
 abbrev pub only_compares : Instruction → Bool

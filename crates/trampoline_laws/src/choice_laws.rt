@@ -1,17 +1,17 @@
-//! What the code does that chooses a method by the address at which the guest stands. Each call here does nothing: its contract is the
+//! What the code does that chooses a method by the address at which the guest is. Each call here does nothing: its contract is the
 //! law.
 
 ghost use Rattle.trampoline_laws.specs.Coming.{ChoosersChooseOnce, ClassChoosersCall, ClassChoosersReturn, MainChoosersCall, MainChoosersStray, MeteredStraysFault, PathsMakeNoCalls, SpentStraysEnd, StraysFault, TreesChoose};
 ghost use Rattle.trampoline_laws.specs.Weights.{CallsAreSpared, ChoosersWeighTheirCalls, CountsSpareChoosing};
 
 /// The tree of comparisons calls the method of the last start that is not above the address in local variable 0, or the first one's where
-/// all are, with three instructions a level; behind the call it ends, with one a level. It changes nothing.
+/// all are, with three instructions a level; after the call it ends, with one a level. It changes nothing.
 pub fn trees_choose()
     ensures { TreesChoose }
 {}
 
-/// The chooser of a class calls the method that belongs to the address in field pc, where it is one of the class's words, and is then begun
-/// anew; else it returns. It puts the address into local variable 0 and changes nothing else.
+/// The chooser of a class calls the method that belongs to the address in field pc, if it is one of the class's words, and is then begun
+/// anew; otherwise it returns. It puts the address into local variable 0 and changes nothing else.
 pub fn class_choosers_choose()
     ensures calls { ClassChoosersCall }
     ensures returns { ClassChoosersReturn }

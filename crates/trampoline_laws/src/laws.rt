@@ -40,7 +40,7 @@ pub fn words_are_chosen()
     ensures { WordsAreChosen }
 {}
 
-/// For an address at which no code stands, and for which a method is chosen among classes, that is the method for addresses outside all code.
+/// For an address at which no code is, and for which a method is chosen among classes, that is the method for addresses outside all code.
 pub fn strays_are_missing()
     ensures { StraysAreMissing }
 {}
@@ -51,7 +51,7 @@ pub fn spans_are_numbered()
     ensures { SpansAreNumbered }
 {}
 
-/// Each class stands in the program, and its range is one of the code's.
+/// Each class is in the program, and its range is one of the code's.
 pub fn classes_stand()
     ensures { ClassesStand }
 {}

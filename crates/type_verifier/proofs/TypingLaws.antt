@@ -4,18 +4,18 @@ use Rattle.std.specs.Prelude.{slice_get, reverse, if◌then◌else◌}
 use Rattle.std.proofs.lemmas.Bool.{eq-eqb, ne_eqb}
 use Rattle.std.proofs.lemmas.List.{append_assoc, length-append, reverse-append}
 use Rattle.std.proofs.lemmas.Option.{none-some, same_Some}
-use Rattle.jvm_code.specs.declared.class.Class.{Class}
-use Rattle.jvm_program.specs.declared.linked_method.LinkedMethod.{LinkedMethod}
-use Rattle.jvm_program.specs.Typing.{Frames}
-use Rattle.type_inference.specs.declared.frame.Frame.{Frame}
-use Rattle.type_inference.specs.Frames.{type_frame, frame_at, IsFormed}
+use Rattle.class_definition.specs.declared.class.Class.{Class}
+use Rattle.jvm_definition.specs.declared.linked_method.LinkedMethod.{LinkedMethod}
+use Rattle.jvm_definition.specs.Typing.{Frames}
+use Rattle.jvm_type_inference.specs.declared.frame.Frame.{Frame}
+use Rattle.jvm_type_inference.specs.Frames.{type_frame, frame_at, IsFormed}
 use Rattle.type_verifier.specs.Refusal.{methods_before}
-use Rattle.type_inference.specs.Inferred.{AreInferred}
-use Rattle.type_inference.specs.Actions.{program_over}
-use Rattle.type_inference.specs.Verdict.{FailsAt, AreLeast, LeastTyping}
-use Rattle.type_inference.proofs.LeastLaws.{typed-exactly}
-use Rattle.jvm_program.specs.Program.{Program}
-use Rattle.jvm_link.specs.Linking.{program_of, linked_methods}
+use Rattle.jvm_type_inference.specs.Inferred.{AreInferred}
+use Rattle.jvm_type_inference.specs.Actions.{program_over}
+use Rattle.jvm_type_inference.specs.Verdict.{FailsAt, AreLeast, LeastTyping}
+use Rattle.jvm_type_inference.proofs.LeastLaws.{typed-exactly}
+use Rattle.jvm_definition.specs.Program.{Program}
+use Rattle.class_definition.specs.Linking.{program_of, linked_methods}
 use Rattle.type_verifier.specs.Typings.{HasMethod, listed_frames, RisesFrom, AllFormed, AreListed, IsListed}
 use Rattle.type_verifier.proofs.VerifyLaws.{methods_count, count-is, same-methods, typing-same}
 

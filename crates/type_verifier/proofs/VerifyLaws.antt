@@ -3,18 +3,18 @@ use Rattle.std.proofs.Common.{◌≡◌, ℕ, zero, suc, ◌+◌, ◌-◌, ◌<�
 use Rattle.std.specs.Prelude.{slice_get, map}
 use Rattle.std.proofs.lemmas.List.{append_assoc, length-append, length-map}
 use Rattle.std.proofs.lemmas.Option.{slice_get_within}
-use Rattle.jvm_code.specs.declared.class.Class.{Class}
-use Rattle.jvm_program.specs.declared.linked_line.LinkedLine.{LinkedLine}
-use Rattle.jvm_program.specs.declared.linked_method.LinkedMethod.{LinkedMethod}
-use Rattle.jvm_program.specs.declared.instruction.Instruction.{Instruction}
-use Rattle.jvm_program.specs.declared.instruction.Instruction.TheVariants.{Call}
-use Rattle.jvm_program.specs.Program.{Program}
-use Rattle.jvm_program.specs.Typing.{TypeFrame, Frames, TypeEffect, type_effect, call_type, applied, local_within, Follows, IsTypingTo, Typed}
-use Rattle.jvm_link.specs.Linking.{program_of, linked_methods, methods_from, linked_method}
+use Rattle.class_definition.specs.declared.class.Class.{Class}
+use Rattle.jvm_definition.specs.declared.linked_line.LinkedLine.{LinkedLine}
+use Rattle.jvm_definition.specs.declared.linked_method.LinkedMethod.{LinkedMethod}
+use Rattle.jvm_definition.specs.declared.instruction.Instruction.{Instruction}
+use Rattle.jvm_definition.specs.declared.instruction.Instruction.TheVariants.{Call}
+use Rattle.jvm_definition.specs.Program.{Program}
+use Rattle.jvm_definition.specs.Typing.{TypeFrame, Frames, TypeEffect, type_effect, call_type, applied, local_within, Follows, IsTypingTo, Typed}
+use Rattle.class_definition.specs.Linking.{program_of, linked_methods, methods_from, linked_method}
 use Rattle.type_verifier.specs.declared.verify_error.VerifyError.{VerifyError}
 use Rattle.type_verifier.specs.declared.verify_error.VerifyError.TheVariants.{Refused, NoMemory}
-use Rattle.type_inference.specs.Actions.{program_over}
-use Rattle.type_inference.specs.Verdict.{FailsAt, LeastTyping, AllLeastTyped}
+use Rattle.jvm_type_inference.specs.Actions.{program_over}
+use Rattle.jvm_type_inference.specs.Verdict.{FailsAt, LeastTyping, AllLeastTyped}
 use Rattle.type_verifier.specs.Refusal.{methods_before, IsRefusal, IsFirstFault, IsFault, IsPlace}
 
 -- ---- programs with the same methods

@@ -1,12 +1,12 @@
 -- Which method of linked classes is not typed, and where.
 use Rattle.std.specs.Prelude.{◌≡◌, ℕ, zero, suc, ◌+◌, ◌<◌, List, [], ◌∷◌, length, slice_get, Option, Some, None}
-use Rattle.jvm_code.specs.declared.class.Class.{Class}
-use Rattle.jvm_program.specs.declared.linked_method.LinkedMethod.{LinkedMethod}
-use Rattle.jvm_program.specs.Program.{Program}
-use Rattle.jvm_program.specs.Typing.{Typed}
-use Rattle.type_inference.specs.Verdict.{FailsAt, LeastTyping}
-use Rattle.jvm_link.specs.Linking.{program_of}
-use Rattle.nv_faults.specs.declared.verify_fault.VerifyFault.{VerifyFault}
+use Rattle.class_definition.specs.declared.class.Class.{Class}
+use Rattle.jvm_definition.specs.declared.linked_method.LinkedMethod.{LinkedMethod}
+use Rattle.jvm_definition.specs.Program.{Program}
+use Rattle.jvm_definition.specs.Typing.{Typed}
+use Rattle.jvm_type_inference.specs.Verdict.{FailsAt, LeastTyping}
+use Rattle.class_definition.specs.Linking.{program_of}
+use Rattle.class_definition.specs.declared.verify_fault.VerifyFault.{VerifyFault}
 use Rattle.type_verifier.specs.declared.verify_error.VerifyError.{VerifyError}
 use Rattle.type_verifier.specs.declared.verify_error.VerifyError.TheVariants.{Refused, NoMemory}
 

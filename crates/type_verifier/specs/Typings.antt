@@ -1,15 +1,15 @@
 -- The least typing of a method of linked classes, as the frames at the offsets that are reached.
 use Rattle.std.specs.Prelude.{◌≡◌, ℕ, suc, ◌+◌, ◌==◌, ◌<◌, ◌≤◌, if◌then◌else◌, List, [], ◌∷◌, length, slice_get, Option, Some, None, IsSome, ◌↔◌}
-use Rattle.jvm_code.specs.declared.class.Class.{Class}
-use Rattle.jvm_program.specs.declared.linked_method.LinkedMethod.{LinkedMethod}
-use Rattle.jvm_program.specs.Program.{Program}
-use Rattle.jvm_program.specs.Typing.{Frames}
-use Rattle.jvm_link.specs.Linking.{program_of}
-use Rattle.type_inference.specs.declared.frame.Frame.{Frame}
-use Rattle.type_inference.specs.Flow.{AreFormed}
-use Rattle.type_inference.specs.Frames.{type_frame, frame_at, IsFormed}
-use Rattle.type_inference.specs.Reached.{Reached}
-use Rattle.type_inference.specs.Verdict.{AreLeast, FailsAt}
+use Rattle.class_definition.specs.declared.class.Class.{Class}
+use Rattle.jvm_definition.specs.declared.linked_method.LinkedMethod.{LinkedMethod}
+use Rattle.jvm_definition.specs.Program.{Program}
+use Rattle.jvm_definition.specs.Typing.{Frames}
+use Rattle.class_definition.specs.Linking.{program_of}
+use Rattle.jvm_type_inference.specs.declared.frame.Frame.{Frame}
+use Rattle.jvm_type_inference.specs.Flow.{AreFormed}
+use Rattle.jvm_type_inference.specs.Frames.{type_frame, frame_at, IsFormed}
+use Rattle.jvm_type_inference.specs.Reached.{Reached}
+use Rattle.jvm_type_inference.specs.Verdict.{AreLeast, FailsAt}
 use Rattle.type_verifier.specs.declared.method_typing.MethodTyping.{MethodTyping}
 use Rattle.type_verifier.specs.declared.method_typing.MethodTyping.TheVariants.{Listed, Fails}
 use Rattle.type_verifier.specs.Refusal.{methods_before}

@@ -7,11 +7,11 @@ mod verification;
 mod verified;
 mod verify_error;
 
+pub use class_definition::VerifyFault;
+pub use jvm_definition::Kind;
 pub use jvm_link::NoMemory;
-pub use jvm_program::Kind;
+pub use jvm_type_inference::Frame;
 pub use method_typing::MethodTyping;
-pub use nv_faults::VerifyFault;
-pub use type_inference::Frame;
 pub use typing::typing_of;
 pub use verification::verify;
 pub use verified::Verified;

@@ -1,4 +1,4 @@
-use type_inference::Frame;
+use jvm_type_inference::Frame;
 
 /// What is inferred of a method of linked classes (JVM Specification, 4.10.2.2).
 #[derive(Drop)]

@@ -7,8 +7,8 @@ use crate::method_typing::MethodTyping;
 use crate::verified::Verified;
 use jvm_code::Class;
 use jvm_link::{Linked, NoMemory};
+use jvm_type_inference::{Frame, Inferred, infer};
 use std::alloc::Global;
-use type_inference::{Frame, Inferred, infer};
 
 impl Verified {
     /// The frames of a method's least typing, below those of each other one, with their offsets, which rise: exactly those that

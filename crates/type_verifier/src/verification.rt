@@ -1,18 +1,18 @@
 //! Whether all methods of linked classes are typed (JVM Specification, 4.10).
 ghost use Rattle.std.specs.Prelude.{◌≡◌, ◌<◌, IfOk, IfErr, length};
-ghost use Rattle.jvm_link.specs.Linking.{linked_methods, program_of};
-ghost use Rattle.type_inference.specs.Actions.{program_over};
+ghost use Rattle.class_definition.specs.Linking.{linked_methods, program_of};
+ghost use Rattle.jvm_type_inference.specs.Actions.{program_over};
 ghost use Rattle.type_verifier.specs.Soundness.{NeverStuck};
 ghost use Rattle.type_verifier.specs.Refusal.{IsRefusal, IsFirstFault, IsFault, IsPlace};
 
 use crate::verified::Verified;
 use crate::verify_error::VerifyError;
+use class_definition::VerifyFault;
 use jvm_code::Class;
+use jvm_definition::LinkedMethod;
 use jvm_link::Linked;
-use jvm_program::LinkedMethod;
-use nv_faults::VerifyFault;
+use jvm_type_inference::check_method;
 use std::alloc::{AllocError, Global};
-use type_inference::check_method;
 
 /// Linked classes, verified; or the first method that has no typing, with the least offset up to which it has none.
 /// No run of classes that are verified comes to a step that no rule gives.

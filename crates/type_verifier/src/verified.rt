@@ -1,6 +1,6 @@
-ghost use Rattle.jvm_link.specs.Linking.{program_of};
-ghost use Rattle.type_inference.specs.Verdict.{AllLeastTyped};
-ghost use Rattle.type_inference.specs.Unique.{AllLeastTyped-prop};
+ghost use Rattle.class_definition.specs.Linking.{program_of};
+ghost use Rattle.jvm_type_inference.specs.Verdict.{AllLeastTyped};
+ghost use Rattle.jvm_type_inference.proofs.Unique.{AllLeastTyped-prop};
 
 use jvm_link::Linked;
 

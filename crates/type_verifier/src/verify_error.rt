@@ -1,4 +1,4 @@
-use nv_faults::VerifyFault;
+use class_definition::VerifyFault;
 
 /// Why classes were not verified.
 #[derive(Drop)]

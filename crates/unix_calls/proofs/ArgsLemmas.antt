@@ -1,10 +1,10 @@
 -- The argument block, text by text.
 use Rattle.std.proofs.Common.{◌≡◌, ℕ, suc, ◌+◌, ◌<◌, ◌≤◌, List, [], ◌∷◌, ◌++◌, length, drop, get_or, refl, ap, sym, ◌∙◌, arith, append_assoc, append-nil, length-append, drop-cons}
-use Rattle.nv_words.specs.declared.order.Order.{Order}
-use Rattle.nv_words.specs.declared.order.Order.TheVariants.{Big, Little}
+use Rattle.run_definition.specs.declared.order.Order.{Order}
+use Rattle.run_definition.specs.declared.order.Order.TheVariants.{Big, Little}
 use Rattle.std.proofs.lemmas.List.{drop_all}
-use Rattle.unix_system.specs.Asked.{word_in_order, words_in_order, addresses, texts_with_zeros}
-use Rattle.unix_system.specs.Calls.{block_length}
+use Rattle.unix_definition.specs.Asked.{word_in_order, words_in_order, addresses, texts_with_zeros}
+use Rattle.unix_definition.specs.Calls.{block_length}
 
 texts-more : (args : List (List ℕ)) (text : List ℕ) → length (texts_with_zeros (args ++ text ∷ [])) ≡ length (texts_with_zeros args) + length text + 1
 texts-more [] text = omega (arith, length-append text (0 ∷ []))

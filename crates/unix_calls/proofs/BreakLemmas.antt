@@ -2,18 +2,18 @@
 use Rattle.std.proofs.Common.{◌≡◌, ◌⊎◌, inl, inr, ◌≤◌, ◌<◌, ℕ, zero, suc, ◌==◌, Bool, true, false, List, [], ◌∷◌, ◌++◌, length, Option, Some, None, option_map, refl, ap, sym, ◌∙◌, subst, append_assoc, append-nil, if◌then◌else◌, arith, slice_get}
 use Rattle.std.specs.Io.KnownBytes.{Consumes}
 use Rattle.nv_outside.specs.Seen.{FailsIn, Seen, Takes}
-use Rattle.nv_events.specs.Question.{Question}
-use Rattle.nv_events.specs.Answer.{Answer, fits, next_answer}
-use Rattle.nv_events.specs.Turn.{Turn, moves, ends, leaves, asks}
-use Rattle.nv_events.specs.Run.{Run, run_of}
+use Rattle.run_definition.specs.Question.{Question}
+use Rattle.run_definition.specs.Answer.{Answer, answer_fits, next_answer}
+use Rattle.run_definition.specs.Turn.{Turn, moves, ends, leaves, asks}
+use Rattle.run_definition.specs.Run.{Run, run_of}
 use Rattle.nv_events.specs.Serving.{StopsAt}
-use Rattle.nv_events.specs.declared.io_fault.IoFault.{IoFault}
-use Rattle.nv_events.specs.declared.io_fault.IoFault.TheVariants.{ReadFault, WriteFault}
-use Rattle.nv_events.specs.declared.outcome.Outcome.TheVariants.{Waiting}
+use Rattle.run_definition.specs.declared.io_fault.IoFault.{IoFault}
+use Rattle.run_definition.specs.declared.io_fault.IoFault.TheVariants.{ReadFault, WriteFault}
+use Rattle.run_definition.specs.declared.outcome.Outcome.TheVariants.{Waiting}
 use Rattle.nv_events.proofs.RunLaws.{given, turned, run_of-suc}
 use Rattle.nv_events.proofs.Progress.{end_not_waiting}
-use Rattle.unix_system.specs.System.{System, with_console}
-use Rattle.unix_system.specs.Unix.{fitting, reply, unix}
+use Rattle.unix_definition.specs.System.{System, with_console}
+use Rattle.unix_definition.specs.Unix.{fitting_answer, reply, unix}
 use Rattle.unix_calls.specs.Arriving.{Arriving, arrived, arriving, reply_arriving, without_pieces}
 use Rattle.unix_calls.specs.Drawing.{AreBytes, known}
 use Rattle.unix_calls.specs.Held.{system_of}
@@ -233,7 +233,7 @@ module _ {S : Type 0} (turn : S → Turn S) (n : ℕ) (fault : IoFault) (r : Par
       let same : stop.0 ≡ q = cc in
       let one = subst (λ (z : Question). FailsBy fault stop.1 z r) same stop.4 in
       broken-here turn n s q next fault p r b e is (subst (λ (m : Parts). FailsBy fault m q r) stop.3 one)
-  broken-turn h (asks q next) s (a ∷ left) p b e is waits used stop = broken-fits h (fits a q) s q next a left p b e is waits used stop
+  broken-turn h (asks q next) s (a ∷ left) p b e is waits used stop = broken-fits h (answer_fits a q) s q next a left p b e is waits used stop
 
 broken : {S : Type 0} (turn : S → Turn S) (n : ℕ) (s : S) (answers : List Answer) (fault : IoFault) (p r : Parts) (b e : List ℕ)
     → (run_of turn next_answer n s answers).outcome ≡ Waiting
@@ -299,12 +299,12 @@ no-false : (f : Bool) → f ≡ true → f ≡ false → ⊥
 no-false f t n = cc
 
 -- a call that writes something is answered
-fits-written : (f : Bool) (k : System) (q : Question) (y : Answer × System) → fits y.0 q ≡ f → (y.0.patch ≡ []) ⊎ Same (bare k) y.1
+fits-written : (f : Bool) (k : System) (q : Question) (y : Answer × System) → answer_fits y.0 q ≡ f → (y.0.patch ≡ []) ⊎ Same (bare k) y.1
     → ((y.1.console.output ≡ []) → (y.1.console.error_output ≡ []) → ⊥) → f ≡ true
 fits-written true k q y is quiet some = refl
 fits-written false k q y is (inl none) some =
-    let so : fits y.0 q ≡ true = ap (λ (l : List ℕ). fits (record { value = y.0.value; patch = l }) q) none in
-    absurd (no-false (fits y.0 q) so is)
+    let so : answer_fits y.0 q ≡ true = ap (λ (l : List ℕ). answer_fits (record { value = y.0.value; patch = l }) q) none in
+    absurd (no-false (answer_fits y.0 q) so is)
 fits-written false k q y is (inr same) some = absurd (some same.0 same.1)
 
 -- its answer, and the state after it, behind what was written before
@@ -313,8 +313,8 @@ pub reply-written : (k : System) (q : Question) → (((unix (bare k) q).1.consol
 reply-written k q some =
     let y : Answer × System = unix (bare k) q in
     let z : System = behind k.console.output k.console.error_output y.1 in
-    let fit : fits y.0 q ≡ true = fits-written (fits y.0 q) k q y refl (unix-framed k.console.output k.console.error_output (bare k) q).writes some in
-    ap (fitting q) (unix-bare k q) ∙ ap (λ f. if f then Some (y.0, z) else None) fit
+    let fit : answer_fits y.0 q ≡ true = fits-written (answer_fits y.0 q) k q y refl (unix-framed k.console.output k.console.error_output (bare k) q).writes some in
+    ap (fitting_answer q) (unix-bare k q) ∙ ap (λ f. if f then Some (y.0, z) else None) fit
 
 -- The state after the call is the definition's, behind what was written before.
 after-written : (k : System) (q : Question) → (((unix (bare k) q).1.console.output ≡ []) → ((unix (bare k) q).1.console.error_output ≡ []) → ⊥)

@@ -1,15 +1,15 @@
 -- Which call of the definition a number means.
 use Rattle.std.proofs.Common.{◌≡◌, ℕ, ◌<◌, ℤ, Some, refl, ap, ◌∙◌, to_z, of_z, w32, rules}
 use Rattle.std.specs.Int.Signed.{mag}
-use Rattle.nv_events.specs.Answer.{Answer}
-use Rattle.nv_events.specs.Memory.{Memory}
-use Rattle.nv_events.specs.Question.{Question, asked, text_at, room_at, places_of}
-use Rattle.nv_events.specs.declared.call.Call.{Call}
-use Rattle.nv_events.specs.declared.text_place.TextPlace.TheVariants.{Zero, Counted}
-use Rattle.unix_system.specs.System.{System}
-use Rattle.unix_system.specs.Asked.{value_only}
-use Rattle.unix_system.specs.Calls.{begin, open_file, read, write, lseek, sbrk, fstat, unlink, ftruncate, rename}
-use Rattle.unix_system.specs.Unix.{unix}
+use Rattle.run_definition.specs.Answer.{Answer}
+use Rattle.run_definition.specs.Memory.{Memory}
+use Rattle.run_definition.specs.Question.{Question, asked, asked_text_at, room_at, places_asked}
+use Rattle.run_definition.specs.declared.call.Call.{Call}
+use Rattle.run_definition.specs.declared.text_place.TextPlace.TheVariants.{Zero, Counted}
+use Rattle.unix_definition.specs.System.{System}
+use Rattle.unix_definition.specs.Asked.{value_only}
+use Rattle.unix_definition.specs.Calls.{begin, open_file, read, write, lseek, sbrk, fstat, unlink, ftruncate, rename}
+use Rattle.unix_definition.specs.Unix.{unix}
 use Rattle.unix_calls.specs.Access.{read_of, write_of}
 
 module _ (s : System) (q : Question) where
@@ -35,19 +35,19 @@ module _ (s : System) (q : Question) where
   is-rename e = rw e refl
 
 module _ (m : Memory) (call : Call) where
-  pub path-of-2 : call.number ≡ 2 → (asked call m).text ≡ text_at m (Zero call.a0)
+  pub path-of-2 : call.number ≡ 2 → (asked call m).text ≡ asked_text_at m (Zero call.a0)
   path-of-2 e = rw e refl
 
-  pub path-of-9 : call.number ≡ 9 → (asked call m).text ≡ text_at m (Zero call.a0)
+  pub path-of-9 : call.number ≡ 9 → (asked call m).text ≡ asked_text_at m (Zero call.a0)
   path-of-9 e = rw e refl
 
-  pub path-of-14 : call.number ≡ 14 → (asked call m).text ≡ text_at m (Zero call.a0)
+  pub path-of-14 : call.number ≡ 14 → (asked call m).text ≡ asked_text_at m (Zero call.a0)
   path-of-14 e = rw e refl
 
-  pub second-of-14 : call.number ≡ 14 → (asked call m).second ≡ text_at m (Zero call.a1)
+  pub second-of-14 : call.number ≡ 14 → (asked call m).second ≡ asked_text_at m (Zero call.a1)
   second-of-14 e = rw e refl
 
-  pub bytes-of-5 : call.number ≡ 5 → (asked call m).text ≡ text_at m (Counted call.a1 call.a2)
+  pub bytes-of-5 : call.number ≡ 5 → (asked call m).text ≡ asked_text_at m (Counted call.a1 call.a2)
   bytes-of-5 e = rw e refl
 
   pub room-of-4 : call.number ≡ 4 → (asked call m).room ≡ room_at m (Some (call.a1, call.a2))
@@ -74,7 +74,7 @@ pub answered-back : (r : ℤ) (given : Answer × System) (last : System) → mag
 answered-back r given last small is = is ∙ ap (λ z. (value_only z, last)) (signed-back r small)
 
 -- the room for the argument block, of a size that is a number only where that is needed
-block-place : (call : Call) (size : ℕ) → call.number ≡ 0 → size ≡ 4096 → (places_of call).room ≡ Some (call.a0, size)
+block-place : (call : Call) (size : ℕ) → call.number ≡ 0 → size ≡ 4096 → (places_asked call).room ≡ Some (call.a0, size)
 block-place call size e s = rw (e, s) refl
 
 pub room-of-0 : (m : Memory) (call : Call) (size : ℕ) → call.number ≡ 0 → size ≡ 4096 → (asked call m).room ≡ room_at m (Some (call.a0, size))

@@ -5,8 +5,8 @@ use Rattle.std.proofs.lemmas.Bool.{and_from, lt-ltb}
 use Rattle.std.proofs.lemmas.List.{take_all}
 use Rattle.std.proofs.Math.Seq.{take-append-add, take-append_seam}
 use Rattle.std.proofs.lemmas.List.Folds.{list_all-append}
-use Rattle.nv_events.specs.Memory.{patched}
-use Rattle.unix_system.specs.Calls.{first_line}
+use Rattle.run_definition.specs.Memory.{patched}
+use Rattle.unix_definition.specs.Calls.{first_line}
 use Rattle.unix_system.proofs.ReadLemmas.{patched-more}
 use Rattle.unix_calls.specs.Drawing.{Draws, IsPlain, Copies, ReadsLine, ReadsSome, known}
 

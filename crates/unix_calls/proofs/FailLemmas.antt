@@ -1,8 +1,8 @@
 -- What the counts of a server that fails at most one call say of its fault.
 use Rattle.std.proofs.Common.{◌≡◌, ◌⊎◌, inl, inr, Some, Err, refl, arith}
-use Rattle.nv_events.specs.declared.io_fault.IoFault.{IoFault}
-use Rattle.nv_events.specs.declared.io_fault.IoFault.TheVariants.{ReadFault, WriteFault}
-use Rattle.nv_events.specs.declared.outcome.Outcome.{Outcome}
+use Rattle.run_definition.specs.declared.io_fault.IoFault.{IoFault}
+use Rattle.run_definition.specs.declared.io_fault.IoFault.TheVariants.{ReadFault, WriteFault}
+use Rattle.run_definition.specs.declared.outcome.Outcome.{Outcome}
 use Rattle.nv_events.specs.Serving.{Causes, Rose, none_counted}
 use Rattle.unix_calls.specs.Failing.{failed_calls}
 

@@ -1,20 +1,20 @@
 -- A call knows the console by three lists: the rest of input, of which only a read takes something, and what was written before, at whose
 -- end only a write puts something. So it does the same where these are others.
 use Rattle.std.proofs.Common.{zero, suc, sym, ap, ◌∙◌, ◌≡◌, ◌⊎◌, inl, inr, ℕ, ◌+◌, ◌==◌, min, nat_lt, nat_le, ℤ, pos, negsuc, ◌+ℤ◌, Bool, true, false, not, ◌&&◌, ◌||◌, List, [], ◌++◌, length, take, drop, Option, Some, None, refl, append_assoc, append-nil, if◌then◌else◌}
-use Rattle.nv_words.specs.Words.{signed_of}
-use Rattle.nv_events.specs.Question.{Question, Text, no_text, unreadable, too_long, bytes, Room}
-use Rattle.unix_files.specs.Files.{node_named, free_node, bytes_at, has_blocks, written}
-use Rattle.unix_system.specs.declared.description.Description.{Description}
-use Rattle.unix_system.specs.declared.target.Target.{Target}
-use Rattle.unix_system.specs.declared.target.Target.TheVariants.{File, Input, Output, ErrorOutput}
-use Rattle.unix_system.specs.System.{System, with_console}
-use Rattle.unix_system.specs.Opened.{number_at, numbered_at, free_descriptor, free_places, node_of}
-use Rattle.unix_system.specs.Asked.{value_only, refused, path_error, bytes_of_text, has_room, access, creates, is_exclusive, with_bytes_of}
-use Rattle.unix_system.specs.Calls.{first_line, begin, open_file, create_file, open_present, close, read, read_target, write, write_target, write_place, file_written, lseek, seek_to, seek_base, place_of, break_at, fstat, unlink, dup, ftruncate, rename, isatty}
-use Rattle.unix_system.specs.Unix.{unix, reply, fitting}
-use Rattle.nv_events.specs.Answer.{Answer, fits}
-use Rattle.nv_events.specs.Turn.{Turn, moves, ends, leaves, asks}
-use Rattle.nv_events.specs.Run.{Run, asking, run_of}
+use Rattle.run_definition.specs.Words.{signed_of}
+use Rattle.run_definition.specs.Question.{Question, AskedText, no_text, unreadable, too_long, bytes, Room}
+use Rattle.unix_definition.specs.Files.{node_named, free_node, bytes_at, has_blocks, written}
+use Rattle.unix_definition.specs.declared.description.Description.{Description}
+use Rattle.unix_definition.specs.declared.target.Target.{Target}
+use Rattle.unix_definition.specs.declared.target.Target.TheVariants.{File, Input, Output, ErrorOutput}
+use Rattle.unix_definition.specs.System.{System, with_console}
+use Rattle.unix_definition.specs.Opened.{number_at, numbered_at, free_descriptor, free_places, node_of}
+use Rattle.unix_definition.specs.Asked.{value_only, call_refused, path_error, bytes_of_text, has_room, access, creates, is_exclusive, with_bytes_of}
+use Rattle.unix_definition.specs.Calls.{first_line, begin, open_file, create_file, open_present, close, read, read_target, write, write_target, write_place, file_written, lseek, seek_to, seek_base, file_place, break_at, fstat, unlink, dup, ftruncate, rename, isatty}
+use Rattle.unix_definition.specs.Unix.{unix, reply, fitting_answer}
+use Rattle.run_definition.specs.Answer.{Answer, answer_fits}
+use Rattle.run_definition.specs.Turn.{Turn, moves, ends, leaves, asks}
+use Rattle.run_definition.specs.Run.{Run, asking, run_of}
 use Rattle.nv_events.proofs.RunLaws.{given, turned, run_of-suc}
 use Rattle.unix_calls.specs.Playing.{behind, run_behind}
 
@@ -55,7 +55,7 @@ module _ (f : Change) (keeps : KeepsEnds f) (s : System) where
   quiet : (a : Answer) (t : System) → Same s t → t.most ≡ s.most → Framed f s (a, changed f t) (a, t)
   quiet a t same most = record { frame = refl; writes = inr same; wrote = []; grows = same.0 ∙ sym (append-nil s.console.output); same_most = most }
 
-  refuses : (z : ℤ) → Framed f s (refused other z) (refused s z)
+  refuses : (z : ℤ) → Framed f s (call_refused other z) (call_refused s z)
   refuses z = record { frame = refl; writes = inr (refl, refl); wrote = []; grows = sym (append-nil s.console.output); same_most = refl }
 
   framed-test : (c : Bool) {x1 x2 y1 y2 : Answer × System} → (c ≡ true → Framed f s x1 y1) → (c ≡ false → Framed f s x2 y2) → Framed f s (if c then x1 else x2) (if c then y1 else y2)
@@ -72,7 +72,7 @@ module _ (f : Change) (keeps : KeepsEnds f) (s : System) where
   framed-option : {A : Type 0} (o : Option A) {x y : Answer × System} {g h : A → Answer × System} → Framed f s x y → ((a : A) → Framed f s (g a) (h a)) → Framed f s (elim o [ None ↦ x | Some a ↦ g a ]) (elim o [ None ↦ y | Some a ↦ h a ])
   framed-option o p q = framed-found o p (λ a is. q a)
 
-  framed-path : (o : Option ℤ) {x y : Answer × System} → Framed f s x y → Framed f s (elim o [ Some z ↦ refused other z | None ↦ x ]) (elim o [ Some z ↦ refused s z | None ↦ y ])
+  framed-path : (o : Option ℤ) {x y : Answer × System} → Framed f s x y → Framed f s (elim o [ Some z ↦ call_refused other z | None ↦ x ]) (elim o [ Some z ↦ call_refused s z | None ↦ y ])
   framed-path None p = p
   framed-path (Some z) p = refuses z
 
@@ -88,7 +88,7 @@ module _ (f : Change) (keeps : KeepsEnds f) (s : System) where
   present-framed n flags =
       framed-if (creates flags && is_exclusive flags) (refuses _) (framed-option (free_places s.opened) (refuses _) (λ free. quiet _ _ (refl, refl) refl))
 
-  open-framed : (path : Text) (flags : ℕ) → Framed f s (open_file other path flags) (open_file s path flags)
+  open-framed : (path : AskedText) (flags : ℕ) → Framed f s (open_file other path flags) (open_file s path flags)
   open-framed path flags =
       framed-path (path_error path) (framed-if (access flags == 3) (refuses _) (framed-option (node_named s.files (bytes_of_text path)) (create-framed (bytes_of_text path) flags) (λ n. present-framed n flags)))
 
@@ -142,13 +142,13 @@ module _ (f : Change) (keeps : KeepsEnds f) (s : System) where
     same_most = refl;
   }
 
-  write-bytes : (d : ℕ) (description : Description) (text : Text) → Framed f s (with_bytes_of other text (λ bs. write_target other d description bs description.target)) (with_bytes_of s text (λ bs. write_target s d description bs description.target))
+  write-bytes : (d : ℕ) (description : Description) (text : AskedText) → Framed f s (with_bytes_of other text (λ bs. write_target other d description bs description.target)) (with_bytes_of s text (λ bs. write_target s d description bs description.target))
   write-bytes d description no_text = refuses _
   write-bytes d description unreadable = refuses _
   write-bytes d description too_long = refuses _
   write-bytes d description (bytes bs) = write-target d description bs description.target
 
-  write-framed : (fd n : ℕ) (text : Text) → Framed f s (write other fd n text) (write s fd n text)
+  write-framed : (fd n : ℕ) (text : AskedText) → Framed f s (write other fd n text) (write s fd n text)
   write-framed fd n text =
       framed-option (numbered_at s.opened fd) (refuses _) (λ found. framed-if (not found.1.may_write) (refuses _) (framed-if (nat_le 0x80000000 n) (refuses _) (framed-if (n == 0) (quiet _ _ (refl, refl) refl) (write-bytes found.0 found.1 text))))
 
@@ -158,7 +158,7 @@ module _ (f : Change) (keeps : KeepsEnds f) (s : System) where
 
   lseek-framed : (fd offset whence : ℕ) → Framed f s (lseek other fd offset whence) (lseek s fd offset whence)
   lseek-framed fd offset whence =
-      framed-option (numbered_at s.opened fd) (refuses _) (λ found. framed-option (node_of found.1.target) (refuses _) (λ k. framed-if (nat_lt 2 whence) (refuses _) (seek-framed found.0 found.1 (place_of (pos (seek_base s.files k found.1 whence) +ℤ signed_of offset)))))
+      framed-option (numbered_at s.opened fd) (refuses _) (λ found. framed-option (node_of found.1.target) (refuses _) (λ k. framed-if (nat_lt 2 whence) (refuses _) (seek-framed found.0 found.1 (file_place (pos (seek_base s.files k found.1 whence) +ℤ signed_of offset)))))
 
   break-framed : (z : ℤ) → Framed f s (break_at other z) (break_at s z)
   break-framed (pos place) = framed-if (nat_lt place s.heap.start || nat_lt s.heap.end place) (refuses _) (quiet _ _ (refl, refl) refl)
@@ -167,7 +167,7 @@ module _ (f : Change) (keeps : KeepsEnds f) (s : System) where
   fstat-framed : (fd : ℕ) (room : Room) → Framed f s (fstat other fd room) (fstat s fd room)
   fstat-framed fd room = framed-option (numbered_at s.opened fd) (refuses _) (λ found. framed-if (not (has_room room 16)) (refuses _) (quiet _ _ (refl, refl) refl))
 
-  unlink-framed : (path : Text) → Framed f s (unlink other path) (unlink s path)
+  unlink-framed : (path : AskedText) → Framed f s (unlink other path) (unlink s path)
   unlink-framed path = framed-path (path_error path) (framed-option (node_named s.files (bytes_of_text path)) (refuses _) (λ n. quiet _ _ (refl, refl) refl))
 
   dup-framed : (fd : ℕ) → Framed f s (dup other fd) (dup s fd)
@@ -177,7 +177,7 @@ module _ (f : Change) (keeps : KeepsEnds f) (s : System) where
   ftruncate-framed fd size =
       framed-option (numbered_at s.opened fd) (refuses _) (λ found. framed-if (not found.1.may_write) (refuses _) (framed-option (node_of found.1.target) (refuses _) (λ k. framed-if (nat_le 0x80000000 size) (refuses _) (framed-if (not (has_blocks s.files k size)) (refuses _) (quiet _ _ (refl, refl) refl)))))
 
-  rename-framed : (old new : Text) → Framed f s (rename other old new) (rename s old new)
+  rename-framed : (old new : AskedText) → Framed f s (rename other old new) (rename s old new)
   rename-framed old new =
       framed-path (path_error old) (framed-path (path_error new) (framed-option (node_named s.files (bytes_of_text old)) (refuses _) (λ n. quiet _ _ (refl, refl) refl)))
 
@@ -220,8 +220,8 @@ module _ {S : Type 0} (b e : List ℕ) (go : S → System → Run S System) (h :
   turned-behind (ends end) s k = refl
   turned-behind (leaves q end) s k = refl
   turned-behind (asks q next) s k =
-      ap (λ z. given (fitting q z) q next s (behind b e k) go) (unix-framed b e k q).frame
-      ∙ given-behind (fits (unix k q).0 q) (unix k q) q next s k
+      ap (λ z. given (fitting_answer q z) q next s (behind b e k) go) (unix-framed b e k q).frame
+      ∙ given-behind (answer_fits (unix k q).0 q) (unix k q) q next s k
 
 -- a run behind what was written before it
 pub run-behind : {S : Type 0} (turn : S → Turn S) (n : ℕ) (s : S) (k : System) (b e : List ℕ) → run_of turn reply n s (behind b e k) ≡ run_behind b e (run_of turn reply n s k)

@@ -4,21 +4,21 @@ use Rattle.std.specs.Prelude.{Result, Ok, Err, is_err}
 use Rattle.nv_outside.specs.declared.failed.Failed.{Failed}
 use Rattle.nv_outside.specs.Faults.{CountsFailure, Rises}
 use Rattle.nv_outside.specs.Seen.{FailsIn, Seen}
-use Rattle.nv_events.specs.declared.io_fault.IoFault.TheVariants.{ReadFault, WriteFault}
-use Rattle.nv_events.specs.Memory.{patched}
-use Rattle.nv_events.specs.Question.{Room}
-use Rattle.nv_events.specs.Answer.{Answer, fits_room, room_place}
-use Rattle.nv_events.specs.declared.io_fault.IoFault.{IoFault}
-use Rattle.unix_files.specs.Files.{Files}
-use Rattle.unix_system.specs.declared.opened.Opened.{Opened}
-use Rattle.unix_system.specs.declared.heap.Heap.{Heap}
-use Rattle.unix_system.specs.declared.description.Description.{Description}
-use Rattle.nv_words.specs.declared.order.Order.{Order}
-use Rattle.unix_system.specs.System.{Console, System, with_heap, with_order}
-use Rattle.unix_system.specs.Asked.{value_only, refused, order_of_number, words_in_order, has_room}
-use Rattle.unix_system.specs.Opened.{numbered_at, node_of}
-use Rattle.unix_system.specs.Errors.{bad_descriptor, bad_address, invalid}
-use Rattle.unix_system.specs.Calls.{begin, fstat, file_words, argument_block}
+use Rattle.run_definition.specs.declared.io_fault.IoFault.TheVariants.{ReadFault, WriteFault}
+use Rattle.run_definition.specs.Memory.{patched}
+use Rattle.run_definition.specs.Question.{Room}
+use Rattle.run_definition.specs.Answer.{Answer, fits_room, room_place}
+use Rattle.run_definition.specs.declared.io_fault.IoFault.{IoFault}
+use Rattle.unix_definition.specs.Files.{GuestFiles}
+use Rattle.unix_definition.specs.declared.opened.Opened.{Opened}
+use Rattle.unix_definition.specs.declared.heap.Heap.{Heap}
+use Rattle.unix_definition.specs.declared.description.Description.{Description}
+use Rattle.run_definition.specs.declared.order.Order.{Order}
+use Rattle.unix_definition.specs.System.{Console, System, system_with_heap, with_order}
+use Rattle.unix_definition.specs.Asked.{value_only, call_refused, order_of_number, words_in_order, has_room}
+use Rattle.unix_definition.specs.Opened.{numbered_at, node_of}
+use Rattle.unix_definition.specs.Errors.{bad_descriptor, bad_address, invalid}
+use Rattle.unix_definition.specs.Calls.{begin, fstat, file_words, argument_block}
 use Rattle.unix_system.specs.Serving.{Gives}
 use Rattle.unix_calls.specs.Held.{Held, system_of, with_parts, with_tables_held, with_input_held}
 use Rattle.unix_calls.specs.Drawing.{known}
@@ -47,7 +47,7 @@ module _ {C : Type 0} (put_at : C → ℕ → ℕ → C) (does : System → Answ
     after,
   )
 
-  pub serves-quiet : (c : C) (files : Files) (opened : Opened) (heap : Heap) (value : ℤ) → ((s : System) → does (with_parts s v.files v.opened v.heap v.moment) ≡ (value_only value, with_parts s files opened heap v.moment)) → Serves put_at does number room (parts u input out err) (parts (with_tables_held v files opened heap) input out err) c c (Ok value)
+  pub serves-quiet : (c : C) (files : GuestFiles) (opened : Opened) (heap : Heap) (value : ℤ) → ((s : System) → does (with_parts s v.files v.opened v.heap v.moment) ≡ (value_only value, with_parts s files opened heap v.moment)) → Serves put_at does number room (parts u input out err) (parts (with_tables_held v files opened heap) input out err) c c (Ok value)
   serves-quiet c files opened heap value h =
       subst (λ (x : Held). Serves put_at does number room (parts x input out err) (parts (with_tables_held v files opened heap) input out err) c c (Ok value)) same
       (puts-at c c (with_tables_held v files opened heap) value [] refl refl (λ r before error_before. h (system_of v r before error_before)))
@@ -162,7 +162,7 @@ module _ {C : Type 0} (put_at : C → ℕ → ℕ → C) (does : System → Answ
       subst (λ (x : Result ℤ IoFault). Serves put_at does number room (parts u input out err) (write-parts new) c c x) (sym is) (fails-write c new call given)
 
 -- the patch of a call does not depend on the console
-begin-choice : (a b o c : Bool) (x : Answer) (s t s_new t_new : System) → (if a then refused s invalid else if b then refused s invalid else if o then refused s invalid else if not c then refused s bad_address else (x, s_new)).0.patch ≡ (if a then refused t invalid else if b then refused t invalid else if o then refused t invalid else if not c then refused t bad_address else (x, t_new)).0.patch
+begin-choice : (a b o c : Bool) (x : Answer) (s t s_new t_new : System) → (if a then call_refused s invalid else if b then call_refused s invalid else if o then call_refused s invalid else if not c then call_refused s bad_address else (x, s_new)).0.patch ≡ (if a then call_refused t invalid else if b then call_refused t invalid else if o then call_refused t invalid else if not c then call_refused t bad_address else (x, t_new)).0.patch
 begin-choice true b o c x s t s_new t_new = refl
 begin-choice false true o c x s t s_new t_new = refl
 begin-choice false false true c x s t s_new t_new = refl
@@ -174,15 +174,15 @@ begin-patch v r before error_before a0 a1 a2 a3 room =
     let s = with_order (system_of v r before error_before) (order_of_number a3) in
     let t = with_order (system_of v [] [] []) (order_of_number a3) in
     let heap : Heap = record { begun = true; start = a1; end = a1 + a2; program_break = a1 } in
-    begin-choice v.heap.begun (nat_lt 0x7FFFFFFF (a1 + a2)) (nat_lt 1 a3) (has_room room 4096) (record { value = pos (length v.args); patch = argument_block s a0 }) (system_of v r before error_before) (system_of v [] [] []) (with_heap s heap) (with_heap t heap)
+    begin-choice v.heap.begun (nat_lt 0x7FFFFFFF (a1 + a2)) (nat_lt 1 a3) (has_room room 4096) (record { value = pos (length v.args); patch = argument_block s a0 }) (system_of v r before error_before) (system_of v [] [] []) (system_with_heap s heap) (system_with_heap t heap)
 
-abbrev fstat_of : Option (ℕ × Description) → Bool → Order → Files → System → Answer × System
+abbrev fstat_of : Option (ℕ × Description) → Bool → Order → GuestFiles → System → Answer × System
 fstat_of o w order files s = elim o [
-  | None ↦ refused s bad_descriptor
-  | Some found ↦ if not w then refused s bad_address else (record { value = pos 0; patch = words_in_order order (file_words files (node_of found.1.target)) }, s)
+  | None ↦ call_refused s bad_descriptor
+  | Some found ↦ if not w then call_refused s bad_address else (record { value = pos 0; patch = words_in_order order (file_words files (node_of found.1.target)) }, s)
 ]
 
-fstat-choice : (o : Option (ℕ × Description)) (w : Bool) (order : Order) (files : Files) (s t : System) → (fstat_of o w order files s).0.patch ≡ (fstat_of o w order files t).0.patch
+fstat-choice : (o : Option (ℕ × Description)) (w : Bool) (order : Order) (files : GuestFiles) (s t : System) → (fstat_of o w order files s).0.patch ≡ (fstat_of o w order files t).0.patch
 fstat-choice None w order files s t = refl
 fstat-choice (Some found) true order files s t = refl
 fstat-choice (Some found) false order files s t = refl

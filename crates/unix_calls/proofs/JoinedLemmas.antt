@@ -1,15 +1,15 @@
 -- What a server of joined parts gives.
 use Rattle.std.proofs.Common.{◌≡◌, ◌≢◌, ℕ, ℤ, Option, Some, None, Result, Ok, Err, refl, sym, subst, inl, arith}
 use Rattle.std.specs.Prelude.{OnOk}
-use Rattle.nv_events.specs.Question.{Question}
-use Rattle.nv_events.specs.declared.io_fault.IoFault.{IoFault}
-use Rattle.nv_events.specs.declared.io_fault.IoFault.TheVariants.{ReadFault, WriteFault}
+use Rattle.run_definition.specs.Question.{Question}
+use Rattle.run_definition.specs.declared.io_fault.IoFault.{IoFault}
+use Rattle.run_definition.specs.declared.io_fault.IoFault.TheVariants.{ReadFault, WriteFault}
 use Rattle.nv_events.specs.Serving.{Causes, NoneFalls, Rose, none_counted}
 use Rattle.nv_events.specs.Serving as events
 use Rattle.unix_calls.specs.Serving.{Parts, Serves, AsSome}
 use Rattle.unix_calls.specs.Failing.{failed_calls, fault_of}
 use Rattle.unix_calls.proofs.LeadsLemmas.{Answers, FailsBy}
-use Rattle.unix_system.specs.Unix.{unix}
+use Rattle.unix_definition.specs.Unix.{unix}
 
 module _ {V C : Type 0} (part : V → Parts) (failed : V → Option IoFault) (put_at : C → ℕ → ℕ → C) where
   abbrev JoinedServes : Question → V → V → C → C → Result (Option ℤ) IoFault → Type 0

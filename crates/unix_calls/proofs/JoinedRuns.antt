@@ -2,11 +2,11 @@
 use Rattle.std.proofs.Common.{◌≡◌, ◌≢◌, ◌≤◌, ℕ, Option, None, Result, Ok, Err, ap, length, subst}
 use Rattle.std.specs.Prelude.{IfErr, IfOk}
 use Rattle.nv_events.specs.Serving.{Causes, RunsBy}
-use Rattle.nv_events.specs.Question.{Question}
-use Rattle.nv_events.specs.Turn.{Turn}
-use Rattle.nv_events.specs.declared.io_fault.IoFault.{IoFault}
-use Rattle.nv_events.specs.declared.outcome.Outcome.{Outcome}
-use Rattle.nv_events.specs.declared.outcome.Outcome.TheVariants.{Waiting}
+use Rattle.run_definition.specs.Question.{Question}
+use Rattle.run_definition.specs.Turn.{Turn}
+use Rattle.run_definition.specs.declared.io_fault.IoFault.{IoFault}
+use Rattle.run_definition.specs.declared.outcome.Outcome.{Outcome}
+use Rattle.run_definition.specs.declared.outcome.Outcome.TheVariants.{Waiting}
 use Rattle.unix_calls.specs.Failing.{failed_calls}
 use Rattle.unix_calls.specs.Playing.{Breaks, Plays}
 use Rattle.unix_calls.specs.Serving.{Parts}

@@ -1,11 +1,11 @@
 -- A run over servers, of which each has parts and at most one fault, is a run over the parts.
 use Rattle.std.proofs.Common.{◌≡◌, List, [], ◌∷◌, Option, Some, Err, ap, subst}
-use Rattle.nv_events.specs.Question.{Question}
-use Rattle.nv_events.specs.Answer.{Answer}
+use Rattle.run_definition.specs.Question.{Question}
+use Rattle.run_definition.specs.Answer.{Answer}
 use Rattle.nv_events.specs.Serving.{Causes, Leads, StopsAt, none_counted}
-use Rattle.nv_events.specs.declared.io_fault.IoFault.{IoFault}
-use Rattle.nv_events.specs.declared.outcome.Outcome.{Outcome}
-use Rattle.unix_system.specs.Unix.{unix}
+use Rattle.run_definition.specs.declared.io_fault.IoFault.{IoFault}
+use Rattle.run_definition.specs.declared.outcome.Outcome.{Outcome}
+use Rattle.unix_definition.specs.Unix.{unix}
 use Rattle.unix_calls.specs.Serving.{Fell, Goes, Parts}
 use Rattle.unix_calls.specs.Failing.{failed_calls}
 use Rattle.unix_calls.proofs.FailLemmas.{fault-is}

@@ -2,16 +2,16 @@
 use Rattle.std.proofs.Common.{◌≡◌, ◌≢◌, ◌≤◌, ℕ, zero, suc, Bool, true, false, IsTrue, List, [], ◌∷◌, ◌++◌, length, Option, Some, None, option_map, refl, ap, sym, ◌∙◌, subst, append_assoc, append-nil, if◌then◌else◌}
 use Rattle.std.specs.Io.KnownBytes.{Consumes}
 use Rattle.nv_outside.specs.Seen.{Takes}
-use Rattle.nv_events.specs.Question.{Question}
-use Rattle.nv_events.specs.Answer.{Answer, fits, next_answer}
-use Rattle.nv_events.specs.Turn.{Turn, moves, ends, leaves, asks, outcome_of}
-use Rattle.nv_events.specs.Run.{Run, stops, asking, run_of}
+use Rattle.run_definition.specs.Question.{Question}
+use Rattle.run_definition.specs.Answer.{Answer, answer_fits, next_answer}
+use Rattle.run_definition.specs.Turn.{Turn, moves, ends, leaves, asks, outcome_of}
+use Rattle.run_definition.specs.Run.{Run, stops, asking, run_of}
 use Rattle.nv_events.specs.Serving.{Leads}
-use Rattle.nv_events.specs.declared.outcome.Outcome.{Outcome}
-use Rattle.nv_events.specs.declared.outcome.Outcome.TheVariants.{Waiting, Going}
+use Rattle.run_definition.specs.declared.outcome.Outcome.{Outcome}
+use Rattle.run_definition.specs.declared.outcome.Outcome.TheVariants.{Waiting, Going}
 use Rattle.nv_events.proofs.RunLaws.{given, turned, run_of-suc}
-use Rattle.unix_system.specs.System.{System, with_console}
-use Rattle.unix_system.specs.Unix.{unix, reply, fitting}
+use Rattle.unix_definition.specs.System.{System, with_console}
+use Rattle.unix_definition.specs.Unix.{unix, reply, fitting_answer}
 use Rattle.unix_calls.specs.Arriving.{Arriving, arrived, arriving, reply_arriving, without_pieces}
 use Rattle.unix_calls.specs.Held.{Held, system_of}
 use Rattle.unix_calls.specs.Drawing.{known}
@@ -65,8 +65,8 @@ run-is turn n s u (Some rest) pieces has =
 
 -- ---- a call
 
-replied : (k next : System) (q : Question) (a : Answer) → unix k q ≡ (a, next) → IsTrue (fits a q) → reply k q ≡ Some (a, next)
-replied k next q a is fit = ap (fitting q) is ∙ ap (λ t. if t then Some (a, next) else None) fit
+replied : (k next : System) (q : Question) (a : Answer) → unix k q ≡ (a, next) → IsTrue (answer_fits a q) → reply k q ≡ Some (a, next)
+replied k next q a is fit = ap (fitting_answer q) is ∙ ap (λ t. if t then Some (a, next) else None) fit
 
 -- an answer of the parts is the definition's, when these pieces come
 record Arrives (p r : Parts) (q : Question) (a : Answer) (b e c d : List ℕ) (more : List (List ℕ)) : Type 0 where
@@ -210,7 +210,7 @@ module _ {S : Type 0} (r : Parts) (go : S → Arriving → Run S Arriving) (over
   follows-turn h (ends end) s answers p b e runs used led = stays [] [] (outcome_of end) s answers p r b e (led-nowhere p r [] answers used led)
   follows-turn h (leaves q end) s answers p b e runs used led = stays (q ∷ []) (q ∷ []) (outcome_of end) s answers p r b e (led-nowhere p r (q ∷ []) answers used led)
   follows-turn h (asks q next) s [] p b e runs used led = absurd (runs refl)
-  follows-turn h (asks q next) s (a ∷ left) p b e runs used led = follows-fits h (fits a q) q next s a left p b e runs used led
+  follows-turn h (asks q next) s (a ∷ left) p b e runs used led = follows-fits h (answer_fits a q) q next s a left p b e runs used led
 
 follows : {S : Type 0} (turn : S → Turn S) (n : ℕ) (s : S) (answers : List Answer) (p r : Parts) (b e : List ℕ)
     → (run_of turn next_answer n s answers).outcome ≢ Waiting

@@ -6,19 +6,19 @@ use Rattle.std.proofs.lemmas.List.Folds.{list_all-append}
 use Rattle.std.proofs.Math.Seq.{drop-append_seam}
 use Rattle.std.specs.Prelude.{Result, Ok, Err, IfOk, OnErr}
 use Rattle.nv_outside.specs.declared.failed.Failed.{Failed}
-use Rattle.unix_system.specs.Errors.{bad_descriptor}
-use Rattle.unix_system.specs.declared.description.Description.{Description}
-use Rattle.unix_system.specs.declared.target.Target.{Target}
-use Rattle.unix_system.specs.declared.target.Target.TheVariants.{File, Input, Output, ErrorOutput}
-use Rattle.nv_words.specs.declared.order.Order.TheVariants.{Big}
-use Rattle.nv_events.specs.Question.{Room, there}
-use Rattle.nv_events.specs.Memory.{patched}
-use Rattle.nv_events.specs.Answer.{Answer, fits_room, room_place}
-use Rattle.unix_files.specs.Files.{Files}
-use Rattle.unix_system.specs.declared.opened.Opened.{Opened}
-use Rattle.unix_system.specs.System.{System, with_tables}
-use Rattle.unix_system.specs.Asked.{value_only}
-use Rattle.unix_system.specs.Calls.{first_line, input_read, read_target}
+use Rattle.unix_definition.specs.Errors.{bad_descriptor}
+use Rattle.unix_definition.specs.declared.description.Description.{Description}
+use Rattle.unix_definition.specs.declared.target.Target.{Target}
+use Rattle.unix_definition.specs.declared.target.Target.TheVariants.{File, Input, Output, ErrorOutput}
+use Rattle.run_definition.specs.declared.order.Order.TheVariants.{Big}
+use Rattle.run_definition.specs.Question.{Room, there}
+use Rattle.run_definition.specs.Memory.{patched}
+use Rattle.run_definition.specs.Answer.{Answer, fits_room, room_place}
+use Rattle.unix_definition.specs.Files.{GuestFiles}
+use Rattle.unix_definition.specs.declared.opened.Opened.{Opened}
+use Rattle.unix_definition.specs.System.{System, system_with_tables}
+use Rattle.unix_definition.specs.Asked.{value_only}
+use Rattle.unix_definition.specs.Calls.{first_line, input_read, read_target}
 use Rattle.unix_system.specs.Serving.{Gives}
 use Rattle.unix_system.proofs.RoomLemmas.{fits-there}
 use Rattle.unix_calls.specs.Drawing.{AreBytes, ReadsLine, ReadsSome, known}
@@ -29,7 +29,7 @@ use Rattle.unix_calls.proofs.DrawLemmas.{consumes-nothing}
 pub given-is : (given : Answer × System) (value : ℤ) (patch : List ℕ) (last : System) → given.0.value ≡ value → given.0.patch ≡ patch → given.1 ≡ last → given ≡ (record { value = value; patch = patch }, last)
 given-is given value patch last p q r = λ i. (record { value = p i; patch = q i }, r i)
 
-pub some_system : ℕ → Files → Opened → System
+pub some_system : ℕ → GuestFiles → Opened → System
 some_system limit files opened = record {
   files = files;
   opened = opened;
@@ -41,8 +41,8 @@ some_system limit files opened = record {
   most = limit;
 }
 
-module _ {C : Type 0} (put_at : C → ℕ → ℕ → C) (does : System → Answer × System) (limit : ℕ) (files : Files) (opened : Opened) (ahead : List ℕ) where
-  pub reads-quiet : (room : Room) (c : C) (rest : Option (List ℕ)) (files_new : Files) (opened_new : Opened) (value : ℤ) → ((s : System) (r : List ℕ) → does (with_input s limit files opened r) ≡ (value_only value, with_input s limit files_new opened_new r)) → Reads put_at does room c c (inputs limit files opened ahead rest) (inputs limit files_new opened_new ahead rest) value
+module _ {C : Type 0} (put_at : C → ℕ → ℕ → C) (does : System → Answer × System) (limit : ℕ) (files : GuestFiles) (opened : Opened) (ahead : List ℕ) where
+  pub reads-quiet : (room : Room) (c : C) (rest : Option (List ℕ)) (files_new : GuestFiles) (opened_new : Opened) (value : ℤ) → ((s : System) (r : List ℕ) → does (with_input s limit files opened r) ≡ (value_only value, with_input s limit files_new opened_new r)) → Reads put_at does room c c (inputs limit files opened ahead rest) (inputs limit files_new opened_new ahead rest) value
   reads-quiet room c rest files_new opened_new value h = record {
     got = [];
     patch = [];
@@ -52,7 +52,7 @@ module _ {C : Type 0} (put_at : C → ℕ → ℕ → C) (does : System → Answ
     is = λ s. h s (ahead ++ known rest);
   }
 
-  pub reads-file : (room : Room) (c d : C) (rest : Option (List ℕ)) (files_new : Files) (opened_new : Opened) (value : ℤ) (bs : List ℕ) (given : System → Answer × System) → ((s : System) → does s ≡ given s) → ((s : System) → (given (with_tables s files opened)).0.patch ≡ bs) → ((s : System) → Gives put_at c d room value (with_tables s files_new opened_new) (given (with_tables s files opened))) → Reads put_at does room c d (inputs limit files opened ahead rest) (inputs limit files_new opened_new ahead rest) value
+  pub reads-file : (room : Room) (c d : C) (rest : Option (List ℕ)) (files_new : GuestFiles) (opened_new : Opened) (value : ℤ) (bs : List ℕ) (given : System → Answer × System) → ((s : System) → does s ≡ given s) → ((s : System) → (given (system_with_tables s files opened)).0.patch ≡ bs) → ((s : System) → Gives put_at c d room value (system_with_tables s files_new opened_new) (given (system_with_tables s files opened))) → Reads put_at does room c d (inputs limit files opened ahead rest) (inputs limit files_new opened_new ahead rest) value
   reads-file room c d rest files_new opened_new value bs given is same gives =
       let some = some_system limit files opened in
       record {
@@ -109,7 +109,7 @@ small-taken (x ∷ xs) (suc most) small =
 small-line : (xs : List ℕ) (most : ℕ) → AreBytes xs → AreBytes (take most (first_line xs))
 small-line xs most small = small-taken (first_line xs) most (small-first xs small)
 
-pub reads-some : {C : Type 0} (put_at : C → ℕ → ℕ → C) (does : System → Answer × System) (limit : ℕ) (files : Files) (opened : Opened) (ahead : List ℕ) (place size most : ℕ) (c d : C) (new : List ℕ) (rest left : Option (List ℕ))
+pub reads-some : {C : Type 0} (put_at : C → ℕ → ℕ → C) (does : System → Answer × System) (limit : ℕ) (files : GuestFiles) (opened : Opened) (ahead : List ℕ) (place size most : ℕ) (c d : C) (new : List ℕ) (rest left : Option (List ℕ))
     → most ≤ size → ((s : System) → s.most ≡ limit → does s ≡ input_read s (take most (first_line s.console.rest))) → ReadsSome put_at c d place most ahead new rest left
     → ReadsPart put_at does (there place size) c d (inputs limit files opened ahead rest) (inputs limit files opened new left)
 reads-some put_at does limit files opened ahead place size most c d new rest left within is some = record {
@@ -151,12 +151,12 @@ not-readable s d description n Input f i = absurd (i refl)
 not-readable s d description n Output f i = refl
 not-readable s d description n ErrorOutput f i = refl
 
-pub console-given : {C : Type 0} (put_at : C → ℕ → ℕ → C) (does : System → Answer × System) (limit : ℕ) (files : Files) (opened : Opened) (ahead : List ℕ) (place size most : ℕ) (c d : C) (new : List ℕ) (rest left : Option (List ℕ)) (r : Result ℤ Failed) → most ≤ size → ((s : System) → s.most ≡ limit → does s ≡ input_read s (take most (first_line s.console.rest))) → IfOk r (λ v. (n : ℕ) × ReadsLine put_at c d place most ahead new rest left n × (v ≡ pos n)) → OnErr r (ReadsSome put_at c d place most ahead new rest left) → ReadGives put_at does (there place size) c d (inputs limit files opened ahead rest) (inputs limit files opened new left) r
+pub console-given : {C : Type 0} (put_at : C → ℕ → ℕ → C) (does : System → Answer × System) (limit : ℕ) (files : GuestFiles) (opened : Opened) (ahead : List ℕ) (place size most : ℕ) (c d : C) (new : List ℕ) (rest left : Option (List ℕ)) (r : Result ℤ Failed) → most ≤ size → ((s : System) → s.most ≡ limit → does s ≡ input_read s (take most (first_line s.console.rest))) → IfOk r (λ v. (n : ℕ) × ReadsLine put_at c d place most ahead new rest left n × (v ≡ pos n)) → OnErr r (ReadsSome put_at c d place most ahead new rest left) → ReadGives put_at does (there place size) c d (inputs limit files opened ahead rest) (inputs limit files opened new left) r
 console-given put_at does limit files opened ahead place size most c d new rest left (Ok v) within is ok err = reads-line put_at does limit files opened ahead place size most c d new rest left ok.0 v within is ok.1 ok.2
 console-given put_at does limit files opened ahead place size most c d new rest left (Err e) within is ok err = reads-some put_at does limit files opened ahead place size most c d new rest left within is err
 
 -- one call for another, where they are the same over these files and descriptors
-pub reads-by : {C : Type 0} (put_at : C → ℕ → ℕ → C) (does other : System → Answer × System) (room : Room) (c d : C) (limit : ℕ) (files : Files) (opened : Opened) (ahead : List ℕ) (rest : Option (List ℕ)) (new : Inputs) (r : Result ℤ Failed) → ((s : System) (f : Files) → does (with_tables s f opened) ≡ other (with_tables s f opened)) → ReadGives put_at other room c d (inputs limit files opened ahead rest) new r → ReadGives put_at does room c d (inputs limit files opened ahead rest) new r
+pub reads-by : {C : Type 0} (put_at : C → ℕ → ℕ → C) (does other : System → Answer × System) (room : Room) (c d : C) (limit : ℕ) (files : GuestFiles) (opened : Opened) (ahead : List ℕ) (rest : Option (List ℕ)) (new : Inputs) (r : Result ℤ Failed) → ((s : System) (f : GuestFiles) → does (system_with_tables s f opened) ≡ other (system_with_tables s f opened)) → ReadGives put_at other room c d (inputs limit files opened ahead rest) new r → ReadGives put_at does room c d (inputs limit files opened ahead rest) new r
 reads-by put_at does other room c d limit files opened ahead rest new (Ok v) same given = record {
   got = given.got;
   patch = given.patch;

@@ -5,8 +5,8 @@ use Rattle.std.specs.List.{position, prefix_len, sum, fold}
 use Rattle.std.proofs.lemmas.Bool.{lt-ltb, le-ltb}
 use Rattle.std.proofs.lemmas.List.{map-append, length-map, length-replicate}
 use Rattle.std.proofs.Math.Seq.{drop-nil}
-use Rattle.unix_files.specs.Files.{Node, Files, blocks_for, node_at, bytes_of, bytes_at, free_node, with_node, with_name, with_bytes, written}
-use Rattle.unix_system.specs.Unix.{table, file_named, blocks_needed}
+use Rattle.unix_definition.specs.Files.{Node, GuestFiles, blocks_for, node_at, node_bytes, bytes_at, free_node, with_node, with_name, with_bytes, written}
+use Rattle.unix_definition.specs.Unix.{used_table, found_file, blocks_needed}
 use Rattle.std.proofs.lemmas.Option.{none-some}
 
 -- a table of which the first places are used
@@ -65,12 +65,12 @@ written-new : (bytes : List ℕ) → written [] 0 bytes ≡ bytes
 written-new bytes = ap (λ l. bytes ++ l) (drop-nil (0 + length bytes)) ∙ append-nil bytes
 
 -- what a node that is there gets
-with-there : (g : Files) (n : ℕ) (node : Node) (b : List ℕ) → node_at g n ≡ Some node → with_bytes g n b ≡ with_node g n (Some (record { name = node.name; bytes = b }))
+with-there : (g : GuestFiles) (n : ℕ) (node : Node) (b : List ℕ) → node_at g n ≡ Some node → with_bytes g n b ≡ with_node g n (Some (record { name = node.name; bytes = b }))
 with-there g n node b is = ap (λ o. elim o [ None ↦ g | Some x ↦ with_node g n (Some (record { name = x.name; bytes = b })) ]) is
 
 -- one file more, under the lowest number that no file has
 module _ (xs : List Node) (k free : ℕ) (name bytes : List ℕ) where
-  abbrev f : Files
+  abbrev f : GuestFiles
   f = record { nodes = used xs (suc k); free = free }
 
   abbrev first : Node
@@ -79,12 +79,12 @@ module _ (xs : List Node) (k free : ℕ) (name bytes : List ℕ) where
   abbrev last : Node
   last = record { name = Some name; bytes = bytes }
 
-  abbrev g : Files
+  abbrev g : GuestFiles
   g = record { nodes = used (xs ++ first ∷ []) k; free = free }
 
   named : with_name f (length xs) (Some name) ≡ g
   named =
-      let none : bytes_at f (length xs) ≡ [] = ap bytes_of (get-next xs k) in
+      let none : bytes_at f (length xs) ≡ [] = ap node_bytes (get-next xs k) in
       let same : free + blocks_for (length (bytes_at f (length xs))) - blocks_for (length (bytes_at f (length xs))) ≡ free = omega arith in
       (λ i. record { nodes = set (used xs (suc k)) (length xs) (Some (record { name = Some name; bytes = none i })); free = same i })
       ∙ ap (λ l. record { nodes = l; free = free }) (set-next xs k first)
@@ -92,7 +92,7 @@ module _ (xs : List Node) (k free : ℕ) (name bytes : List ℕ) where
   filled : with_bytes g (length xs) (written (bytes_at g (length xs)) 0 bytes) ≡ record { nodes = used (xs ++ last ∷ []) k; free = free - blocks_for (length bytes) }
   filled =
       let there : node_at g (length xs) ≡ Some first = get-last xs k first in
-      let none : bytes_at g (length xs) ≡ [] = ap bytes_of there in
+      let none : bytes_at g (length xs) ≡ [] = ap node_bytes there in
       let new : written (bytes_at g (length xs)) 0 bytes ≡ bytes = ap (λ l. written l 0 bytes) none ∙ written-new bytes in
       let left : free + blocks_for (length (bytes_at g (length xs))) - blocks_for (length bytes) ≡ free - blocks_for (length bytes) = (let z : blocks_for (length (bytes_at g (length xs))) ≡ 0 = ap (λ l. blocks_for (length l)) none in omega (arith, z)) in
       ap (with_bytes g (length xs)) new
@@ -100,15 +100,15 @@ module _ (xs : List Node) (k free : ℕ) (name bytes : List ℕ) where
       ∙ (λ i. record { nodes = set-last xs k first last i; free = left i }))
 
 -- the files of a system as a run begins
-abbrev pub start_files : ℕ → List (List ℕ × List ℕ) → Files
-start_files blocks files = record { nodes = table 256 (map file_named files); free = blocks - blocks_needed files }
+abbrev pub start_files : ℕ → List (List ℕ × List ℕ) → GuestFiles
+start_files blocks files = record { nodes = used_table 256 (map found_file files); free = blocks - blocks_needed files }
 
-pub start-free : (blocks : ℕ) (files : List (List ℕ × List ℕ)) (n : ℕ) → free_node (start_files blocks files) ≡ Some n → (n ≡ length (map file_named files)) × (0 < 256 - length (map file_named files))
-start-free blocks files n h = free-is (map file_named files) (256 - length (map file_named files)) n h
+pub start-free : (blocks : ℕ) (files : List (List ℕ × List ℕ)) (n : ℕ) → free_node (start_files blocks files) ≡ Some n → (n ≡ length (map found_file files)) × (0 < 256 - length (map found_file files))
+start-free blocks files n h = free-is (map found_file files) (256 - length (map found_file files)) n h
 
-pub start-more : (blocks : ℕ) (files : List (List ℕ × List ℕ)) (name bytes : List ℕ) (n : ℕ) (named filled_files : Files) → free_node (start_files blocks files) ≡ Some n → named ≡ with_name (start_files blocks files) n (Some name) → filled_files ≡ with_bytes named n (written (bytes_at named n) 0 bytes) → filled_files ≡ start_files blocks (files ++ (name, bytes) ∷ [])
+pub start-more : (blocks : ℕ) (files : List (List ℕ × List ℕ)) (name bytes : List ℕ) (n : ℕ) (named filled_files : GuestFiles) → free_node (start_files blocks files) ≡ Some n → named ≡ with_name (start_files blocks files) n (Some name) → filled_files ≡ with_bytes named n (written (bytes_at named n) 0 bytes) → filled_files ≡ start_files blocks (files ++ (name, bytes) ∷ [])
 start-more blocks files name bytes n named_files filled_files h first-is last-is =
-    let xs : List Node = map file_named files in
+    let xs : List Node = map found_file files in
     let p = start-free blocks files n h in
     let k : ℕ = 256 - length xs - 1 in
     let free : ℕ = blocks - blocks_needed files in
@@ -116,14 +116,14 @@ start-more blocks files name bytes n named_files filled_files h first-is last-is
     let start : start_files blocks files ≡ record { nodes = used xs (suc k); free = free } = ap (λ m. record { nodes = used xs m; free = free }) next in
     let one : named_files ≡ record { nodes = used (xs ++ (record { name = Some name; bytes = [] }) ∷ []) k; free = free } =
     first-is ∙ (ap (λ m. with_name (start_files blocks files) m (Some name)) p.0 ∙ (ap (λ f. with_name f (length xs) (Some name)) start ∙ named xs k free name bytes)) in
-    let two : filled_files ≡ record { nodes = used (xs ++ file_named (name, bytes) ∷ []) k; free = free - blocks_for (length bytes) } =
+    let two : filled_files ≡ record { nodes = used (xs ++ found_file (name, bytes) ∷ []) k; free = free - blocks_for (length bytes) } =
     last-is ∙ (ap (λ f. with_bytes f n (written (bytes_at f n) 0 bytes)) one ∙ (ap (λ m. with_bytes (record { nodes = used (xs ++ (record { name = Some name; bytes = [] }) ∷ []) k; free = free }) m (written (bytes_at (record { nodes = used (xs ++ (record { name = Some name; bytes = [] }) ∷ []) k; free = free }) m) 0 bytes)) p.0 ∙ filled xs k free name bytes)) in
-    let all : xs ++ file_named (name, bytes) ∷ [] ≡ map file_named (files ++ (name, bytes) ∷ []) = sym (map-append file_named files ((name, bytes) ∷ [])) in
-    let count : k ≡ 256 - length (map file_named (files ++ (name, bytes) ∷ [])) = omega (arith, p.1, ap length all, length-append xs (file_named (name, bytes) ∷ [])) in
+    let all : xs ++ found_file (name, bytes) ∷ [] ≡ map found_file (files ++ (name, bytes) ∷ []) = sym (map-append found_file files ((name, bytes) ∷ [])) in
+    let count : k ≡ 256 - length (map found_file (files ++ (name, bytes) ∷ [])) = omega (arith, p.1, ap length all, length-append xs (found_file (name, bytes) ∷ [])) in
     let left : free - blocks_for (length bytes) ≡ blocks - blocks_needed (files ++ (name, bytes) ∷ []) = omega (arith, needed-more files name bytes) in
     two ∙ (λ i. record { nodes = used (all i) (count i); free = left i })
 
-pub start-some : (blocks : ℕ) (files : List (List ℕ × List ℕ)) → length files < 256 → free_node (start_files blocks files) ≡ Some (length (map file_named files))
+pub start-some : (blocks : ℕ) (files : List (List ℕ × List ℕ)) → length files < 256 → free_node (start_files blocks files) ≡ Some (length (map found_file files))
 start-some blocks files few =
-    let xs : List Node = map file_named files in
-    position-used xs (256 - length xs) ∙ ap (λ t. cond t (Some (length xs)) None) (lt-ltb (length xs) (length xs + (256 - length xs)) (omega (arith, few, length-map files file_named)))
+    let xs : List Node = map found_file files in
+    position-used xs (256 - length xs) ∙ ap (λ t. cond t (Some (length xs)) None) (lt-ltb (length xs) (length xs + (256 - length xs)) (omega (arith, few, length-map files found_file)))

@@ -1,11 +1,11 @@
 -- The run of a machine over a system whose input comes piece by piece.
 use Rattle.std.specs.Prelude.{ℕ, List, [], ◌∷◌, ◌++◌, Option, option_map}
-use Rattle.nv_events.specs.Answer.{Answer}
-use Rattle.nv_events.specs.Question.{Question}
-use Rattle.nv_events.specs.Run.{Run, run_of}
-use Rattle.nv_events.specs.Turn.{Turn}
-use Rattle.unix_system.specs.System.{System, with_console}
-use Rattle.unix_system.specs.Unix.{reply}
+use Rattle.run_definition.specs.Answer.{Answer}
+use Rattle.run_definition.specs.Question.{Question}
+use Rattle.run_definition.specs.Run.{Run, run_of}
+use Rattle.run_definition.specs.Turn.{Turn}
+use Rattle.unix_definition.specs.System.{System, with_console}
+use Rattle.unix_definition.specs.Unix.{reply}
 
 -- a system, and the pieces of input that come before its next calls, one before each
 pub record Arriving : Type 0 where

@@ -1,11 +1,11 @@
 -- The call by which a program begins.
 use Rattle.std.specs.Prelude.{◌≡◌, ℕ, ◌+◌, ◌*◌, ◌≤◌, nat_lt, List, [], ◌∷◌, ◌++◌, length, IsTrue}
 use Rattle.std.specs.List.{list_all}
-use Rattle.nv_words.specs.declared.order.Order.{Order}
-use Rattle.nv_events.specs.Memory.{patched}
-use Rattle.unix_system.specs.declared.heap.Heap.{Heap}
-use Rattle.unix_system.specs.System.{System}
-use Rattle.unix_system.specs.Asked.{words_in_order, addresses, texts_with_zeros}
+use Rattle.run_definition.specs.declared.order.Order.{Order}
+use Rattle.run_definition.specs.Memory.{patched}
+use Rattle.unix_definition.specs.declared.heap.Heap.{Heap}
+use Rattle.unix_definition.specs.System.{System}
+use Rattle.unix_definition.specs.Asked.{words_in_order, addresses, texts_with_zeros}
 
 -- a system with these arguments and this heap
 abbrev pub with_args : System → Order → List (List ℕ) → Heap → System

@@ -2,8 +2,8 @@
 use Rattle.std.specs.Prelude.{◌≡◌, ℕ, ◌≤◌, nat_lt, IsTrue, List, [], ◌∷◌, ◌++◌, length, take, Option, Some, None, Result, Ok, Err, unwrap_or}
 use Rattle.std.specs.List.{list_all}
 use Rattle.std.specs.Io.KnownBytes.{Consumes, IsAtEnd}
-use Rattle.nv_events.specs.Memory.{patched}
-use Rattle.unix_system.specs.Calls.{first_line}
+use Rattle.run_definition.specs.Memory.{patched}
+use Rattle.unix_definition.specs.Calls.{first_line}
 
 -- numbers that are bytes
 abbrev pub AreBytes : List ℕ → Type 0

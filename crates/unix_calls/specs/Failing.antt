@@ -1,8 +1,8 @@
 -- The fault of a server of joined parts, which fails at most one call.
 use Rattle.std.specs.Prelude.{Option, Some, None, Result, Ok, Err}
 use Rattle.nv_events.specs.Serving.{Counts, none_counted}
-use Rattle.nv_events.specs.declared.io_fault.IoFault.{IoFault}
-use Rattle.nv_events.specs.declared.io_fault.IoFault.TheVariants.{ReadFault, WriteFault}
+use Rattle.run_definition.specs.declared.io_fault.IoFault.{IoFault}
+use Rattle.run_definition.specs.declared.io_fault.IoFault.TheVariants.{ReadFault, WriteFault}
 
 -- the fault of a call that failed
 abbrev pub fault_of : {A : Type 0} → Result A IoFault → Option IoFault

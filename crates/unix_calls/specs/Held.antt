@@ -1,14 +1,14 @@
 -- What the code holds of the system between calls: all but the console, and the input that was read
 -- ahead.
 use Rattle.std.specs.Prelude.{ℕ, List, ◌++◌}
-use Rattle.nv_words.specs.declared.order.Order.{Order}
-use Rattle.unix_files.specs.Files.{Files}
-use Rattle.unix_system.specs.declared.opened.Opened.{Opened}
-use Rattle.unix_system.specs.declared.heap.Heap.{Heap}
-use Rattle.unix_system.specs.System.{System}
+use Rattle.run_definition.specs.declared.order.Order.{Order}
+use Rattle.unix_definition.specs.Files.{GuestFiles}
+use Rattle.unix_definition.specs.declared.opened.Opened.{Opened}
+use Rattle.unix_definition.specs.declared.heap.Heap.{Heap}
+use Rattle.unix_definition.specs.System.{System}
 
 pub record Held : Type 0 where
-  pub files : Files
+  pub files : GuestFiles
   pub blocks : ℕ
   pub opened : Opened
   pub heap : Heap
@@ -37,7 +37,7 @@ abbrev pub with_ahead : Held → List ℕ → Held
 with_ahead held ahead = record held { ahead = ahead }
 
 -- a system with these files, descriptors and heap, at this moment
-abbrev pub with_parts : System → Files → Opened → Heap → ℕ → System
+abbrev pub with_parts : System → GuestFiles → Opened → Heap → ℕ → System
 with_parts s files opened heap moment = record s {
   files = files;
   opened = opened;
@@ -49,7 +49,7 @@ with_parts s files opened heap moment = record s {
 abbrev pub limited : Held → ℕ → Held
 limited held most = record held { most = most }
 
-abbrev pub with_tables_held : Held → Files → Opened → Heap → Held
+abbrev pub with_tables_held : Held → GuestFiles → Opened → Heap → Held
 with_tables_held held files opened heap = record held {
   files = files;
   opened = opened;
@@ -64,7 +64,7 @@ with_args_held held args = record held { args = args }
 abbrev pub with_begun_held : Held → Order → Heap → Held
 with_begun_held held order heap = record held { heap = heap; order = order }
 
-abbrev pub with_input_held : Held → Files → Opened → List ℕ → Held
+abbrev pub with_input_held : Held → GuestFiles → Opened → List ℕ → Held
 with_input_held held files opened ahead = record held {
   files = files;
   opened = opened;

@@ -1,11 +1,11 @@
 -- What a run over the system, a source and two sinks did.
 use Rattle.std.specs.Prelude.{◌≡◌, ℕ, List, [], ◌++◌, Option, Some, None}
-use Rattle.nv_events.specs.Run.{Run, run_of}
-use Rattle.nv_events.specs.Turn.{Turn}
-use Rattle.nv_events.specs.declared.io_fault.IoFault.{IoFault}
-use Rattle.nv_events.specs.declared.outcome.Outcome.{Outcome}
-use Rattle.unix_system.specs.System.{System, with_console}
-use Rattle.unix_system.specs.Unix.{reply}
+use Rattle.run_definition.specs.Run.{Run, run_of}
+use Rattle.run_definition.specs.Turn.{Turn}
+use Rattle.run_definition.specs.declared.io_fault.IoFault.{IoFault}
+use Rattle.run_definition.specs.declared.outcome.Outcome.{Outcome}
+use Rattle.unix_definition.specs.System.{System, with_console}
+use Rattle.unix_definition.specs.Unix.{reply}
 use Rattle.unix_calls.specs.Held.{Held, system_of}
 use Rattle.unix_calls.specs.Drawing.{known}
 use Rattle.unix_calls.specs.Arriving.{run_arriving}

@@ -2,18 +2,18 @@
 use Rattle.std.specs.Prelude.{◌≡◌, ◌⊎◌, ℕ, ℤ, List, [], ◌++◌, Option, Result, Ok, Err, IsTrue}
 use Rattle.std.specs.Io.KnownBytes.{Consumes}
 use Rattle.nv_outside.specs.Seen.{FailsIn, Seen, Takes}
-use Rattle.nv_events.specs.Memory.{patched}
-use Rattle.nv_events.specs.Question.{Room}
-use Rattle.nv_events.specs.Answer.{Answer, fits_room, room_place}
-use Rattle.unix_files.specs.Files.{Files}
-use Rattle.unix_system.specs.declared.opened.Opened.{Opened}
-use Rattle.unix_system.specs.System.{System, with_tables}
-use Rattle.unix_system.specs.Asked.{value_only}
+use Rattle.run_definition.specs.Memory.{patched}
+use Rattle.run_definition.specs.Question.{Room}
+use Rattle.run_definition.specs.Answer.{Answer, fits_room, room_place}
+use Rattle.unix_definition.specs.Files.{GuestFiles}
+use Rattle.unix_definition.specs.declared.opened.Opened.{Opened}
+use Rattle.unix_definition.specs.System.{System, system_with_tables}
+use Rattle.unix_definition.specs.Asked.{value_only}
 use Rattle.unix_calls.specs.Drawing.{AreBytes, known}
 use Rattle.unix_calls.specs.Stages.{IsRear}
 
 -- a system with these files, descriptors and rest of input, of which a read gives at most so many bytes
-abbrev pub with_input : System → ℕ → Files → Opened → List ℕ → System
+abbrev pub with_input : System → ℕ → GuestFiles → Opened → List ℕ → System
 with_input s most files opened rest = record s {
   most = most;
   files = files;
@@ -24,12 +24,12 @@ with_input s most files opened rest = record s {
 -- how many bytes a read of input gives at most, files, descriptors, what was read ahead, and what the source tells
 pub record Inputs : Type 0 where
   pub most : ℕ
-  pub files : Files
+  pub files : GuestFiles
   pub opened : Opened
   pub ahead : List ℕ
   pub rest : Option (List ℕ)
 
-abbrev pub inputs : ℕ → Files → Opened → List ℕ → Option (List ℕ) → Inputs
+abbrev pub inputs : ℕ → GuestFiles → Opened → List ℕ → Option (List ℕ) → Inputs
 inputs most files opened ahead rest = record {
   most = most;
   files = files;
@@ -89,12 +89,12 @@ with_written s output error_output = record s {
 
 -- files, descriptors, and what is seen of the sinks
 pub record Outputs : Type 0 where
-  pub files : Files
+  pub files : GuestFiles
   pub opened : Opened
   pub out : Seen (List ℕ)
   pub err : Seen (List ℕ)
 
-abbrev pub outputs : Files → Opened → Seen (List ℕ) → Seen (List ℕ) → Outputs
+abbrev pub outputs : GuestFiles → Opened → Seen (List ℕ) → Seen (List ℕ) → Outputs
 outputs files opened out err = record { files = files; opened = opened; out = out; err = err }
 
 pub record Writes (does : System → Answer × System) (old new : Outputs) (value : ℤ) : Type 0 where
@@ -102,8 +102,8 @@ pub record Writes (does : System → Answer × System) (old new : Outputs) (valu
   pub error_output : List ℕ
   pub wrote : Takes old.out new.out output
   pub wrote_error : Takes old.err new.err error_output
-  pub is : (s : System) → does (with_tables s old.files old.opened)
-      ≡ (value_only value, with_written (with_tables s new.files new.opened) output error_output)
+  pub is : (s : System) → does (system_with_tables s old.files old.opened)
+      ≡ (value_only value, with_written (system_with_tables s new.files new.opened) output error_output)
 
 -- one sink failed before it had taken all that was to be written to it, and the other was not
 -- written to
@@ -114,7 +114,7 @@ pub record WritesPart (does : System → Answer × System) (old new : Outputs) :
       ⊎ ((new.out ≡ old.out) × FailsIn old.err new.err error_output)
   pub files : new.files ≡ old.files
   pub opened : new.opened ≡ old.opened
-  pub is : (s : System) → (does (with_tables s old.files old.opened)).1.console
+  pub is : (s : System) → (does (system_with_tables s old.files old.opened)).1.console
       ≡ (with_written s output error_output).console
 
 abbrev pub WriteGives : {E : Type 0} → (System → Answer × System) → Outputs → Outputs → Result ℤ E

@@ -5,13 +5,13 @@ use Rattle.std.specs.Io.KnownBytes.{Consumes}
 use Rattle.nv_outside.specs.declared.failed.Failed.{Failed}
 use Rattle.nv_outside.specs.Faults.{Rises}
 use Rattle.nv_outside.specs.Seen.{FailsIn, Seen, Takes}
-use Rattle.nv_events.specs.declared.io_fault.IoFault.{IoFault}
-use Rattle.nv_events.specs.declared.io_fault.IoFault.TheVariants.{ReadFault, WriteFault}
-use Rattle.nv_events.specs.Memory.{patched}
-use Rattle.nv_events.specs.Question.{Room}
-use Rattle.nv_events.specs.Answer.{Answer, fits_room, room_place}
-use Rattle.unix_system.specs.System.{System, Console}
-use Rattle.unix_system.specs.Asked.{value_only}
+use Rattle.run_definition.specs.declared.io_fault.IoFault.{IoFault}
+use Rattle.run_definition.specs.declared.io_fault.IoFault.TheVariants.{ReadFault, WriteFault}
+use Rattle.run_definition.specs.Memory.{patched}
+use Rattle.run_definition.specs.Question.{Room}
+use Rattle.run_definition.specs.Answer.{Answer, fits_room, room_place}
+use Rattle.unix_definition.specs.System.{System, Console}
+use Rattle.unix_definition.specs.Asked.{value_only}
 use Rattle.unix_calls.specs.Held.{Held, system_of, with_ahead}
 use Rattle.unix_calls.specs.Drawing.{AreBytes, known}
 use Rattle.unix_calls.specs.Reading.{ReadsUpTo}

@@ -1,9 +1,9 @@
 -- The sides of the console, by number.
 use Rattle.std.specs.Prelude.{ℕ, None, Some}
-use Rattle.unix_system.specs.Opened.{numbered_at}
-use Rattle.unix_system.specs.declared.opened.Opened.{Opened}
-use Rattle.unix_system.specs.declared.target.Target.{Target}
-use Rattle.unix_system.specs.declared.target.Target.TheVariants.{File, Input, Output, ErrorOutput}
+use Rattle.unix_definition.specs.Opened.{numbered_at}
+use Rattle.unix_definition.specs.declared.opened.Opened.{Opened}
+use Rattle.unix_definition.specs.declared.target.Target.{Target}
+use Rattle.unix_definition.specs.declared.target.Target.TheVariants.{File, Input, Output, ErrorOutput}
 
 -- 1 is input, 2 output, 3 error output, and 0 none of them
 abbrev pub side_of : Target → ℕ

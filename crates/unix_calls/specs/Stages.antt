@@ -3,11 +3,11 @@ use Rattle.std.specs.Prelude.{◌≡◌, ◌⊎◌, ℕ, suc, ◌==◌, ◌<◌,
 use Rattle.std.specs.Io.KnownBytes.{Appends, Consumes}
 use Rattle.nv_outside.specs.Faults.{Rises}
 use Rattle.nv_outside.specs.Seen.{Seen, Takes}
-use Rattle.nv_events.specs.Run.{Run}
-use Rattle.nv_events.specs.Turn.{Turn, moves, ends, leaves, asks}
-use Rattle.nv_events.specs.declared.io_fault.IoFault.{IoFault}
-use Rattle.nv_events.specs.declared.io_fault.IoFault.TheVariants.{ReadFault, WriteFault}
-use Rattle.unix_system.specs.System.{System}
+use Rattle.run_definition.specs.Run.{Run}
+use Rattle.run_definition.specs.Turn.{Turn, moves, ends, leaves, asks}
+use Rattle.run_definition.specs.declared.io_fault.IoFault.{IoFault}
+use Rattle.run_definition.specs.declared.io_fault.IoFault.TheVariants.{ReadFault, WriteFault}
+use Rattle.unix_definition.specs.System.{System}
 use Rattle.unix_calls.specs.Drawing.{AreBytes}
 
 -- what the next turn of a run does: it makes a call that reads, or one that writes, or something else

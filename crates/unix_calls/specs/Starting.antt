@@ -1,12 +1,12 @@
 -- The system before its first call.
 use Rattle.std.specs.Prelude.{◌≡◌, ℕ, ◌≤◌, ◌<◌, ◌-◌, ◌^◌, List, [], length}
-use Rattle.unix_system.specs.Unix.{start, blocks_needed}
+use Rattle.unix_definition.specs.Unix.{system_start, blocks_needed}
 use Rattle.unix_calls.specs.Held.{Held, limited}
 
 -- so many blocks, the moment, files by name and arguments, as `start` of the definition has them
 abbrev pub held_at_start : ℕ → ℕ → List (List ℕ × List ℕ) → List (List ℕ) → Held
 held_at_start blocks moment files args =
-    let s = start blocks moment files args [] in
+    let s = system_start blocks moment files args [] in
     record {
       files = s.files;
       blocks = blocks;

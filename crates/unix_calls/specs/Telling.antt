@@ -1,10 +1,10 @@
 -- Where the parts tell what they have, a call that was answered is the definition's.
 use Rattle.std.proofs.Common.{◌≡◌, ℕ, List, ◌++◌, Option, Some, None, refl, ap, sym, ◌∙◌, if◌then◌else◌}
-use Rattle.nv_events.specs.Question.{Question}
-use Rattle.nv_events.specs.Answer.{Answer}
+use Rattle.run_definition.specs.Question.{Question}
+use Rattle.run_definition.specs.Answer.{Answer}
 use Rattle.nv_outside.specs.Seen.{Seen}
-use Rattle.unix_system.specs.System.{System}
-use Rattle.unix_system.specs.Unix.{unix, reply, fitting}
+use Rattle.unix_definition.specs.System.{System}
+use Rattle.unix_definition.specs.Unix.{unix, reply, fitting_answer}
 use Rattle.unix_calls.specs.Held.{Held, system_of}
 use Rattle.unix_calls.specs.Serving.{Parts, parts, told_by, Goes}
 
@@ -32,7 +32,7 @@ all-told q u w a k r0 r1 o0 o1 e0 e1 i o e j f h is g =
     ∙ (ap (λ r. unix (system_of u r o0 e0) q) g.consumed
     ∙ (g.is o0 e0 ∙ (ap (λ x. (a, system_of w r1 x (e0 ++ g.error_output))) (sym g.wrote.0) ∙ ap
     (λ x. (a, system_of w r1 o1 x)) (sym g.wrote_error.0)))) in
-    (l, ap (fitting q) given ∙ ap (λ t. if t then Some (a, l) else None) g.fits, refl)
+    (l, ap (fitting_answer q) given ∙ ap (λ t. if t then Some (a, l) else None) g.fits, refl)
 
 pub goes_as_told : (q : Question) (u w : Held) (a : Answer) (k : System)
     (r0 o0 e0 r1 o1 e1 : Option (List ℕ)) (i o e j f h : ℕ) → told_by u r0 o0 e0 ≡ Some k

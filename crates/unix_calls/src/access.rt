@@ -1,8 +1,8 @@
-//! What stands before a read or a write.
+//! What is before a read or a write.
 
 ghost use Rattle.std.specs.Prelude.{◌≡◌, Some};
-ghost use Rattle.nv_events.specs.Question.{room_at, text_at};
-ghost use Rattle.nv_events.specs.declared.text_place.TextPlace.TheVariants.{Counted};
+ghost use Rattle.run_definition.specs.Question.{room_at, asked_text_at};
+ghost use Rattle.run_definition.specs.declared.text_place.TextPlace.TheVariants.{Counted};
 ghost use Rattle.unix_calls.specs.Access.{MayRead, MayWrite};
 
 use nv_events::{Call, View};

@@ -1,6 +1,6 @@
 ghost use Rattle.std.specs.Prelude.{◌≡◌, ◌≤◌, ◌<◌, ◌+◌, ◌*◌, ◌^◌, ◌++◌, ◌∷◌, [], ℕ, List, length, Ok, Err, OnErr, IfOk, ◌≢◌};
-ghost use Rattle.unix_system.specs.Asked.{words_in_order, addresses, texts_with_zeros};
-ghost use Rattle.unix_system.specs.Calls.{block_length};
+ghost use Rattle.unix_definition.specs.Asked.{words_in_order, addresses, texts_with_zeros};
+ghost use Rattle.unix_definition.specs.Calls.{block_length};
 
 use crate::NoMemory;
 use crate::text::Text;
@@ -26,7 +26,7 @@ impl Model for Args {
 
     ghost Value = { List (List ℕ) };
 
-    ghost use Rattle.unix_system.specs.Calls.{block_length};
+    ghost use Rattle.unix_definition.specs.Calls.{block_length};
 
     ghost view = { λ a. a.texts.items };
 
@@ -105,7 +105,7 @@ fn push_addresses(block: &mut Piece, order: Order, place: u32, texts: &Vec<Text>
     block.push_word(order, 0);
 }
 
-/// Puts the texts, each with a byte 0 behind it.
+/// Puts the texts, each with a byte 0 after it.
 fn push_texts(block: &mut Piece, texts: &Vec<Text>)
     requires { length block.old + length (texts_with_zeros texts.now.items) ≤ 4096 }
     ensures { block.new ≡ block.old ++ texts_with_zeros texts.now.items }

@@ -1,11 +1,11 @@
 //! The call by which a program begins.
 
 ghost use Rattle.std.specs.Prelude.{◌≡◌, ◌≤◌, Some, IsTrue, true};
-ghost use Rattle.nv_events.specs.Memory.{can_write};
-ghost use Rattle.nv_events.specs.Question.{room_at};
-ghost use Rattle.unix_system.specs.System.{System};
-ghost use Rattle.unix_system.specs.Asked.{order_of_number};
-ghost use Rattle.unix_system.specs.Calls.{begin};
+ghost use Rattle.run_definition.specs.Memory.{can_write};
+ghost use Rattle.run_definition.specs.Question.{room_at};
+ghost use Rattle.unix_definition.specs.System.{System};
+ghost use Rattle.unix_definition.specs.Asked.{order_of_number};
+ghost use Rattle.unix_definition.specs.Calls.{begin};
 ghost use Rattle.unix_system.specs.Serving.{Gives};
 ghost use Rattle.unix_calls.specs.Beginning.{with_args, PutsBlock, block_of};
 

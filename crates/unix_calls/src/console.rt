@@ -2,11 +2,11 @@
 
 ghost use Rattle.std.specs.Prelude.{◌≡◌, ◌<◌, IfOk, OnOk, OnErr, IsSome, pos, length};
 ghost use Rattle.nv_outside.specs.Seen.{FailsIn, Takes, output_seen};
-ghost use Rattle.nv_events.specs.Memory.{bytes_from};
-ghost use Rattle.nv_events.specs.Question.{text_at};
-ghost use Rattle.nv_events.specs.declared.text_place.TextPlace.TheVariants.{Counted};
-ghost use Rattle.unix_system.specs.Asked.{bytes_of_text};
-ghost use Rattle.unix_system.specs.Calls.{write_target};
+ghost use Rattle.run_definition.specs.Memory.{bytes_from};
+ghost use Rattle.run_definition.specs.Question.{asked_text_at};
+ghost use Rattle.run_definition.specs.declared.text_place.TextPlace.TheVariants.{Counted};
+ghost use Rattle.unix_definition.specs.Asked.{bytes_of_text};
+ghost use Rattle.unix_definition.specs.Calls.{write_target};
 ghost use Rattle.unix_calls.specs.Access.{write_of};
 ghost use Rattle.unix_calls.specs.Reading.{outputs, WriteGives};
 
@@ -32,9 +32,9 @@ pub fn write_out<M: View, K: Sink>(
 ) -> Result<(), Failed>
     requires { IsSome (bytes_from (M.memory (M.content view.now)) at count) }
     ensures ok { OnOk result (Takes (output_seen K.Sink sink.old) (output_seen K.Sink sink.new)
-        (bytes_of_text (text_at (M.memory (M.content view.now)) (Counted at count)))) }
+        (bytes_of_text (asked_text_at (M.memory (M.content view.now)) (Counted at count)))) }
     ensures err { OnErr result (FailsIn (output_seen K.Sink sink.old) (output_seen K.Sink sink.new)
-        (bytes_of_text (text_at (M.memory (M.content view.now)) (Counted at count)))) }
+        (bytes_of_text (asked_text_at (M.memory (M.content view.now)) (Counted at count)))) }
 {
     let mut done = 0;
     while done < count {
@@ -46,27 +46,27 @@ pub fn write_out<M: View, K: Sink>(
     Ok(())
 }
 
-/// Writes the bytes of a call to a sink, where they can be read.
+/// Writes the bytes of a call to a sink, if they can be read.
 fn write_console<M: View, K: Sink>(sink: &mut K, call: &Call, view: &M) -> Result<i32, Failed>
     requires few { call.now.a2 < 0x80000000 }
     requires readable { IsSome
         (bytes_from (M.memory (M.content view.now)) call.now.a1 call.now.a2) }
     ensures value { IfOk result (λ v. v
         ≡ pos (length
-        (bytes_of_text (text_at (M.memory (M.content view.now))
+        (bytes_of_text (asked_text_at (M.memory (M.content view.now))
         (Counted call.now.a1 call.now.a2))))) }
     ensures ok { OnOk result (Takes (output_seen K.Sink sink.old) (output_seen K.Sink sink.new)
-        (bytes_of_text (text_at (M.memory (M.content view.now))
+        (bytes_of_text (asked_text_at (M.memory (M.content view.now))
         (Counted call.now.a1 call.now.a2)))) }
     ensures err { OnErr result (FailsIn (output_seen K.Sink sink.old) (output_seen K.Sink sink.new)
-        (bytes_of_text (text_at (M.memory (M.content view.now))
+        (bytes_of_text (asked_text_at (M.memory (M.content view.now))
         (Counted call.now.a1 call.now.a2)))) }
 {
     write_out(sink, call.a1, call.a2, view)?;
     Ok(call.a2 as i32)
 }
 
-/// Writes the bytes of a call to what a description stands for, where they can be read.
+/// Writes the bytes of a call to what a description stands for, if they can be read.
 fn write_to<M: View, O: Sink, E: Sink>(
     disk: &mut Disk,
     opened: &mut Opened,
@@ -81,7 +81,7 @@ fn write_to<M: View, O: Sink, E: Sink>(
     requires readable { IsSome
         (bytes_from (M.memory (M.content view.now)) call.now.a1 call.now.a2) }
     ensures served { WriteGives (λ s. write_target s found.0 found.1
-        (bytes_of_text (text_at (M.memory (M.content view.now))
+        (bytes_of_text (asked_text_at (M.memory (M.content view.now))
         (Counted call.now.a1 call.now.a2))) found.1.target)
         (outputs disk.old opened.old (output_seen O.Sink out.old) (output_seen E.Sink err.old))
         (outputs disk.new opened.new (output_seen O.Sink out.new) (output_seen E.Sink err.new))

@@ -2,10 +2,10 @@
 
 ghost use Rattle.std.specs.Prelude.{◌≡◌, ◌<◌, ℕ, Some, IfOk, OnErr, IsTrue, is_err, min, pos};
 ghost use Rattle.nv_outside.specs.Faults.{CountsFailure};
-ghost use Rattle.nv_events.specs.Memory.{can_write};
-ghost use Rattle.nv_events.specs.Question.{room_at, there};
-ghost use Rattle.unix_system.specs.System.{System};
-ghost use Rattle.unix_system.specs.Calls.{read_target};
+ghost use Rattle.run_definition.specs.Memory.{can_write};
+ghost use Rattle.run_definition.specs.Question.{room_at, there};
+ghost use Rattle.unix_definition.specs.System.{System};
+ghost use Rattle.unix_definition.specs.Calls.{read_target};
 ghost use Rattle.unix_calls.specs.Access.{read_of};
 ghost use Rattle.unix_calls.specs.Drawing.{ReadsLine, ReadsSome};
 ghost use Rattle.unix_calls.specs.Reading.{inputs, ReadGives};

@@ -1,8 +1,8 @@
 ghost use Rattle.std.specs.Prelude.{◌≡◌, ◌≤◌, true, None, Some, length};
 ghost use Rattle.nv_outside.specs.Seen.{input_seen, output_seen};
-ghost use Rattle.nv_events.specs.declared.io_fault.IoFault.{IoFault};
-ghost use Rattle.unix_system.specs.System.{System};
-ghost use Rattle.unix_system.specs.Unix.{unix, reply};
+ghost use Rattle.run_definition.specs.declared.io_fault.IoFault.{IoFault};
+ghost use Rattle.unix_definition.specs.System.{System};
+ghost use Rattle.unix_definition.specs.Unix.{unix, reply};
 ghost use Rattle.unix_calls.specs.Serving.{parts, told_by, Goes, Fell, AsSome};
 ghost use Rattle.unix_calls.specs.Failing.{failed_calls, fault_of};
 

@@ -1,10 +1,10 @@
 //! The calls that read no input, write to no sink, and put nothing into the program's memory.
 
 ghost use Rattle.std.specs.Prelude.{◌≡◌, ◌≢◌, ◌≤◌, ◌%◌, ◌^◌, pos};
-ghost use Rattle.nv_events.specs.Question.{asked};
-ghost use Rattle.unix_system.specs.System.{System, with_tables};
-ghost use Rattle.unix_system.specs.Asked.{value_only};
-ghost use Rattle.unix_system.specs.Unix.{unix};
+ghost use Rattle.run_definition.specs.Question.{asked};
+ghost use Rattle.unix_definition.specs.System.{System, system_with_tables};
+ghost use Rattle.unix_definition.specs.Asked.{value_only};
+ghost use Rattle.unix_definition.specs.Unix.{unix};
 ghost use Rattle.unix_calls.specs.Held.{with_parts};
 
 use crate::numbers::{
@@ -15,13 +15,14 @@ use unix_files::Disk;
 use unix_system::descriptor_calls::{close, dup, isatty, lseek};
 use unix_system::errors::NO_CALL;
 use unix_system::file_calls::ftruncate;
+use unix_system::heap_calls::sbrk;
 use unix_system::{Heap, Opened, name_calls, read_path};
 
 fn open<M: View>(disk: &mut Disk, opened: &mut Opened, call: &Call, view: &M) -> i32
     requires { call.now.number ≡ 2 }
     ensures { (s : System)
-        → unix (with_tables s disk.old opened.old) (asked call.now (M.memory (M.content view.now)))
-        ≡ (value_only result, with_tables s disk.new opened.new) }
+        → unix (system_with_tables s disk.old opened.old) (asked call.now (M.memory (M.content view.now)))
+        ≡ (value_only result, system_with_tables s disk.new opened.new) }
 {
     let path = read_path(view, call.a0);
     name_calls::open(disk, opened, &path, call.a1)
@@ -30,8 +31,8 @@ fn open<M: View>(disk: &mut Disk, opened: &mut Opened, call: &Call, view: &M) ->
 fn unlink<M: View>(disk: &mut Disk, opened: &Opened, call: &Call, view: &M) -> i32
     requires { call.now.number ≡ 9 }
     ensures { (s : System)
-        → unix (with_tables s disk.old opened.now) (asked call.now (M.memory (M.content view.now)))
-        ≡ (value_only result, with_tables s disk.new opened.now) }
+        → unix (system_with_tables s disk.old opened.now) (asked call.now (M.memory (M.content view.now)))
+        ≡ (value_only result, system_with_tables s disk.new opened.now) }
 {
     let path = read_path(view, call.a0);
     name_calls::unlink(disk, opened, &path)
@@ -40,8 +41,8 @@ fn unlink<M: View>(disk: &mut Disk, opened: &Opened, call: &Call, view: &M) -> i
 fn rename<M: View>(disk: &mut Disk, opened: &Opened, call: &Call, view: &M) -> i32
     requires { call.now.number ≡ 14 }
     ensures { (s : System)
-        → unix (with_tables s disk.old opened.now) (asked call.now (M.memory (M.content view.now)))
-        ≡ (value_only result, with_tables s disk.new opened.now) }
+        → unix (system_with_tables s disk.old opened.now) (asked call.now (M.memory (M.content view.now)))
+        ≡ (value_only result, system_with_tables s disk.new opened.now) }
 {
     let old = read_path(view, call.a0);
     let new = read_path(view, call.a1);
@@ -77,7 +78,7 @@ pub fn answer<M: View>(
         OPEN => open(disk, opened, call, view),
         CLOSE => close(disk, opened, call.a0),
         LSEEK => lseek(disk, opened, call.a0, call.a1, call.a2),
-        SBRK => heap.sbrk(call.a0),
+        SBRK => sbrk(heap, call.a0),
         UNLINK => unlink(disk, opened, call, view),
         DUP => dup(disk, opened, call.a0),
         FTRUNCATE => ftruncate(disk, opened, call.a0, call.a1),

@@ -2,8 +2,8 @@
 
 ghost use Rattle.std.specs.Prelude.{◌≡◌, ◌≢◌, ◌≤◌, ℕ, List, length};
 ghost use Rattle.nv_outside.specs.Seen.{Seen, input_seen, output_seen};
-ghost use Rattle.nv_events.specs.Question.{asked};
-ghost use Rattle.unix_system.specs.Unix.{unix};
+ghost use Rattle.run_definition.specs.Question.{asked};
+ghost use Rattle.unix_definition.specs.Unix.{unix};
 ghost use Rattle.unix_calls.specs.Serving.{parts, Serves, AsFault};
 
 use crate::begin::begin;

@@ -1,7 +1,7 @@
 ghost use Rattle.std.specs.Prelude.{◌-◌, ◌≡◌, ◌≤◌, ◌<◌, ◌++◌, ◌∷◌, [], ℕ, List, Option, Some, IfOk, OnOk, OnErr, IsSome, Ok, Err, length, ◌≢◌, false, option_map};
-ghost use Rattle.unix_files.specs.Files.{blocks_for, bytes_at, node_named};
-ghost use Rattle.unix_system.specs.Calls.{block_length};
-ghost use Rattle.unix_system.specs.Unix.{blocks_needed};
+ghost use Rattle.unix_definition.specs.Files.{blocks_for, bytes_at, node_named};
+ghost use Rattle.unix_definition.specs.Calls.{block_length};
+ghost use Rattle.unix_definition.specs.Unix.{blocks_needed};
 ghost use Rattle.unix_calls.specs.Held.{Held, limited, with_args_held};
 ghost use Rattle.unix_calls.specs.Sides.{console_of};
 ghost use Rattle.unix_calls.specs.Starting.{held_at_start, Begins, BeginsLimited, IsFresh, IsOpenToFiles};
@@ -135,7 +135,7 @@ impl Unix {
         self.ahead.bytes()
     }
 
-    /// The bytes of the file of this name, in memory of their own. `None` exactly where there is no such file, and then
+    /// The bytes of the file of this name, in memory of their own. `None` exactly if there is no such file, and then
     /// no memory is taken.
     pub fn file(&self, alloc: Global, name: &[u8]) -> Result<Option<Vec<u8>>, NoMemory>
         ensures found { IfOk result (λ found. option_map (λ bytes. bytes.items) found

@@ -5,7 +5,7 @@ use Rattle.std.proofs.lemmas.Bool.{cases_eq, cases_lt, false≢true, and_parts, 
 use Rattle.std.proofs.lemmas.List.{get_or-set_same, get_or-set_other, length-replicate}
 use Rattle.block_pool.specs.Bytes.{zeros}
 use Rattle.block_pool.specs.Blocks.{Pool, IsSound, IsUsed, is_free, next_of, block_at, bytes_of, bytes_in, free_count, new_block, with_bytes, with_next}
-use Rattle.unix_files.specs.Files.{blocks_for}
+use Rattle.unix_definition.specs.Files.{blocks_for}
 use Rattle.unix_files.specs.Stored.{block_after, IsChain, Changes, blocks_in, block_in, byte_of, file_bytes, begun}
 use Rattle.unix_files.specs.declared.chain.Chain.{Chain}
 use Rattle.unix_files.proofs.ChainLemmas.{block_after-start, block_after-suc}

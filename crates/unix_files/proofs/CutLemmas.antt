@@ -2,7 +2,7 @@
 use Rattle.std.proofs.Common.{◌≡◌, ◌≢◌, ℕ, ◌+◌, ◌-◌, ◌<◌, ◌≤◌, take, refl, ap, sym, ◌∙◌, subst, inl, arith}
 use Rattle.std.proofs.lemmas.List.FromFn.{take-map-range_with_len}
 use Rattle.block_pool.specs.Blocks.{Pool, IsSound, IsUsed, block_at, free_count}
-use Rattle.unix_files.specs.Files.{blocks_for}
+use Rattle.unix_definition.specs.Files.{blocks_for}
 use Rattle.unix_files.specs.Stored.{block_after, IsChain, Changes, blocks_in, block_in, byte_of, file_bytes}
 use Rattle.unix_files.specs.declared.chain.Chain.{Chain}
 use Rattle.unix_files.proofs.ChainLemmas.{block_after-start, block_after-add}

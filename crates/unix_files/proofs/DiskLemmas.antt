@@ -4,7 +4,7 @@ use Rattle.std.specs.Option.{IsSome, is_none}
 use Rattle.std.specs.List.{position, prefix_len}
 use Rattle.std.proofs.lemmas.Bool.{cases_lt, cases_eq, false≢true}
 use Rattle.std.proofs.lemmas.List.{get_or_past, set_past, set-get_or, length-set, get_or-set_other, drop_all, take_all}
-use Rattle.unix_files.specs.Files.{Node, Files, blocks_for, node_at, bytes_of, bytes_at, name_of, has_name, with_node, with_bytes, resized, written}
+use Rattle.unix_definition.specs.Files.{Node, GuestFiles, blocks_for, node_at, node_bytes, bytes_at, node_name, node_has_name, with_node, with_bytes, resized, written}
 use Rattle.unix_files.specs.Stored.{Contents, file_at, with_file, overwritten}
 use Rattle.unix_files.specs.Kept.{node_of, nodes_of, files_of, entry_at, entry_name, entry_has_name, IsKeptDisk}
 use Rattle.unix_files.specs.declared.disk.Entry.{Entry}
@@ -38,7 +38,7 @@ position-nodes_of p q same es fs =
     let first : prefix_len (λ x. not (p x)) (nodes_of es fs) ≡ prefix_len (λ x. not (q x)) es = prefix_len-nodes_of (λ x. not (p x)) (λ x. not (q x)) (λ e b. ap not (same e b)) es fs in
     ap (λ k. cond (ltb k (length (nodes_of es fs))) (Some k) None) first ∙ ap (λ m. cond (ltb (prefix_len (λ x. not (q x)) es) m) (Some (prefix_len (λ x. not (q x)) es)) None) (length-nodes_of es fs)
 
-pub has_name-node_of : (name : List ℕ) (e : Option Entry) (b : List ℕ) → has_name name (node_of e b) ≡ entry_has_name name e
+pub has_name-node_of : (name : List ℕ) (e : Option Entry) (b : List ℕ) → node_has_name name (node_of e b) ≡ entry_has_name name e
 has_name-node_of name None b = refl
 has_name-node_of name (Some e) b = refl
 
@@ -46,7 +46,7 @@ pub is_none-node_of : (e : Option Entry) (b : List ℕ) → is_none (node_of e b
 is_none-node_of None b = refl
 is_none-node_of (Some e) b = refl
 
-name_of-node_of : (e : Option Entry) (b : List ℕ) → name_of (node_of e b) ≡ entry_name e
+name_of-node_of : (e : Option Entry) (b : List ℕ) → node_name (node_of e b) ≡ entry_name e
 name_of-node_of None b = refl
 name_of-node_of (Some e) b = refl
 
@@ -54,7 +54,7 @@ is_some-node_of : (e : Option Entry) (b : List ℕ) → is_some (node_of e b) �
 is_some-node_of None b = refl
 is_some-node_of (Some e) b = refl
 
-bytes_of-node_of : (e : Option Entry) (b : List ℕ) → (e ≡ None → b ≡ []) → bytes_of (node_of e b) ≡ b
+bytes_of-node_of : (e : Option Entry) (b : List ℕ) → (e ≡ None → b ≡ []) → node_bytes (node_of e b) ≡ b
 bytes_of-node_of None b h = sym (h refl)
 bytes_of-node_of (Some e) b h = refl
 
@@ -71,19 +71,19 @@ node_of-some : (e : Option Entry) (b : List ℕ) → IsSome e → node_of e b �
 node_of-some None b h = absurd (false≢true h)
 node_of-some (Some e) b h = refl
 
-with_bytes-some : (f : Files) (n : ℕ) (b : List ℕ) (o : Option Node) → IsSome o → with_node f n (Some (record { name = name_of o; bytes = b })) ≡ (elim o [ None ↦ f | Some node ↦ with_node f n (Some (record { name = node.name; bytes = b })) ])
+with_bytes-some : (f : GuestFiles) (n : ℕ) (b : List ℕ) (o : Option Node) → IsSome o → with_node f n (Some (record { name = node_name o; bytes = b })) ≡ (elim o [ None ↦ f | Some node ↦ with_node f n (Some (record { name = node.name; bytes = b })) ])
 with_bytes-some f n b None h = absurd (false≢true h)
 with_bytes-some f n b (Some node) h = refl
 
-module _ (es : List (Option Entry)) (store : Contents) (v : Files) (is : files_of es store ≡ v) where
+module _ (es : List (Option Entry)) (store : Contents) (v : GuestFiles) (is : files_of es store ≡ v) where
   node-is : (n : ℕ) → node_at v n ≡ node_of (entry_at es n) (file_at store n)
   node-is n = ap (λ f. node_at f n) (sym is) ∙ get_or-nodes_of es store.files n
 
-  pub name-is : (n : ℕ) → name_of (node_at v n) ≡ entry_name (entry_at es n)
-  name-is n = ap name_of (node-is n) ∙ name_of-node_of (entry_at es n) (file_at store n)
+  pub name-is : (n : ℕ) → node_name (node_at v n) ≡ entry_name (entry_at es n)
+  name-is n = ap node_name (node-is n) ∙ name_of-node_of (entry_at es n) (file_at store n)
 
   pub bytes-is : IsKeptDisk es store → (n : ℕ) → bytes_at v n ≡ file_at store n
-  bytes-is h n = ap bytes_of (node-is n) ∙ bytes_of-node_of (entry_at es n) (file_at store n) (h.unused n)
+  bytes-is h n = ap node_bytes (node-is n) ∙ bytes_of-node_of (entry_at es n) (file_at store n) (h.unused n)
 
   pub entry-there : (n : ℕ) → IsSome (node_at v n) → IsSome (entry_at es n)
   entry-there n h = node-some (entry_at es n) (file_at store n) (subst (λ o. IsSome o) (node-is n) h)
@@ -107,7 +107,7 @@ module _ (es : List (Option Entry)) (store : Contents) (v : Files) (is : files_o
       let node : Option Node = None in
       let nodes : set v.nodes n node ≡ v.nodes = set_past v.nodes n node (omega arith) in
       let none = none-past h n past in
-      let free : v.free + blocks_for (length (bytes_at v n)) - blocks_for (length (bytes_of None)) ≡ v.free = rw none (omega arith) in
+      let free : v.free + blocks_for (length (bytes_at v n)) - blocks_for (length (node_bytes None)) ≡ v.free = rw none (omega arith) in
       sym (rw (nodes, free) refl)
 
   pub free-is : store.free ≡ v.free
@@ -138,22 +138,22 @@ module _ (es : List (Option Entry)) (store : Contents) (v : Files) (is : files_o
       let inside : n < length store.files = let all = h.files_all in omega arith in
       let nodes : nodes_of (set es n None) (set store.files n []) ≡ set v.nodes n None = nodes_of-set es store.files n None [] inside ∙ ap (λ l. set l n None) (ap (λ f. f.nodes) is) in
       let bytes = bytes-is h n in
-      let free : (with_file store n []).free ≡ v.free + blocks_for (length (bytes_at v n)) - blocks_for (length (bytes_of None)) = ap (λ b. store.free + blocks_for (length b) - blocks_for 0) (sym bytes) ∙ ap (λ k. k + blocks_for (length (bytes_at v n)) - blocks_for 0) free-is in
+      let free : (with_file store n []).free ≡ v.free + blocks_for (length (bytes_at v n)) - blocks_for (length (node_bytes None)) = ap (λ b. store.free + blocks_for (length b) - blocks_for 0) (sym bytes) ∙ ap (λ k. k + blocks_for (length (bytes_at v n)) - blocks_for 0) free-is in
       rw (nodes, free) refl
 
   -- the bytes of a file are set
   pub bytes-set : IsKeptDisk es store → (n : ℕ) (b : List ℕ) → IsSome (node_at v n) → files_of es (with_file store n b) ≡ with_bytes v n b
   bytes-set h n b some =
       let inside : n < length store.files = let all = h.files_all in let w = within h n some in omega arith in
-      let node : node_of (entry_at es n) b ≡ Some (record { name = name_of (node_at v n); bytes = b }) =
+      let node : node_of (entry_at es n) b ≡ Some (record { name = node_name (node_at v n); bytes = b }) =
       node_of-some (entry_at es n) b (entry-there n some) ∙ ap (λ m. Some (record { name = m; bytes = b })) (sym (name-is n)) in
       let none : Option Entry = None in
-      let nodes : nodes_of es (set store.files n b) ≡ set v.nodes n (Some (record { name = name_of (node_at v n); bytes = b })) =
+      let nodes : nodes_of es (set store.files n b) ≡ set v.nodes n (Some (record { name = node_name (node_at v n); bytes = b })) =
       ap (λ l. nodes_of l (set store.files n b)) (sym (set-get_or es n none))
       ∙ (nodes_of-set es store.files n (entry_at es n) b inside ∙ (ap (λ l. set l n (node_of (entry_at es n) b)) (ap (λ f. f.nodes) is) ∙ ap (set v.nodes n) node)) in
       let bytes = bytes-is h n in
       let free : (with_file store n b).free ≡ v.free + blocks_for (length (bytes_at v n)) - blocks_for (length b) = ap (λ l. store.free + blocks_for (length l) - blocks_for (length b)) (sym bytes) ∙ ap (λ k. k + blocks_for (length (bytes_at v n)) - blocks_for (length b)) free-is in
-      let all : files_of es (with_file store n b) ≡ with_node v n (Some (record { name = name_of (node_at v n); bytes = b })) = rw (nodes, free) refl in
+      let all : files_of es (with_file store n b) ≡ with_node v n (Some (record { name = node_name (node_at v n); bytes = b })) = rw (nodes, free) refl in
       all ∙ with_bytes-some v n b (node_at v n) some
 
   pub IsKept-bytes : IsKeptDisk es store → (n : ℕ) (b : List ℕ) → IsSome (node_at v n) → IsKeptDisk es (with_file store n b)

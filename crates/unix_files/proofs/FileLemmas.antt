@@ -2,7 +2,7 @@
 use Rattle.std.proofs.Common.{◌≡◌, ℕ, ◌+◌, ◌-◌, ◌<◌, ◌≤◌, List, [], ◌∷◌, ◌++◌, length, take, drop, replicate, set, refl, ap, sym, ◌∙◌, arith, append_assoc}
 use Rattle.std.proofs.lemmas.List.{get_or-set_same, length_push, length-take-le, set-set, drop-drop, replicate-append-replicate, length-append, length-replicate}
 use Rattle.std.proofs.Math.Seq.{take-append_seam, drop-append-add}
-use Rattle.unix_files.specs.Files.{blocks_for}
+use Rattle.unix_definition.specs.Files.{blocks_for}
 use Rattle.unix_files.specs.Stored.{Contents, file_at, with_file, overwritten}
 
 pub file_at-with_file : (c : Contents) (n : ℕ) (a : List ℕ) → n < length c.files → file_at (with_file c n a) n ≡ a

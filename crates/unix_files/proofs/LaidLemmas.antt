@@ -10,7 +10,7 @@ use Rattle.std.proofs.lemmas.Bool.{cases_eq}
 use Rattle.std.proofs.lemmas.List.{get_or-set_same, get_or-set_other, length-map}
 use Rattle.std.proofs.lemmas.List.FromFn.{length-map-range_with_len, get_or-map-range_with_len}
 use Rattle.block_pool.specs.Blocks.{Pool, IsSound, IsUsed, next_of, block_at, bytes_in, free_count, untouched}
-use Rattle.unix_files.specs.Files.{blocks_for}
+use Rattle.unix_definition.specs.Files.{blocks_for}
 use Rattle.unix_files.specs.Stored.{Contents, file_at, with_file, IsChain, IsLaid, Changes, blocks_in, block_in, byte_of, file_bytes, chain_at, contents_of, empty_chain, looked_up}
 use Rattle.unix_files.specs.declared.chain.Chain.{Chain}
 use Rattle.unix_files.proofs.ChainLemmas.{block_after-start, block_after-suc}

@@ -6,7 +6,7 @@ use Rattle.std.proofs.lemmas.Bool.{cases_eq}
 use Rattle.std.proofs.lemmas.List.{get_or-set_same, get_or-set_other, length-set}
 use Rattle.std.proofs.lemmas.List.FromFn.{map-range_with_len_more, fill_by_all}
 use Rattle.block_pool.specs.Blocks.{Pool, IsSound, IsUsed, next_of, block_at, bytes_of, bytes_in, free_count, with_block, with_bytes}
-use Rattle.unix_files.specs.Files.{blocks_for}
+use Rattle.unix_definition.specs.Files.{blocks_for}
 use Rattle.unix_files.specs.Stored.{block_after, IsChain, Changes, blocks_in, block_in, byte_of, file_bytes}
 use Rattle.unix_files.specs.declared.chain.Chain.{Chain}
 use Rattle.unix_files.proofs.ChainLemmas.{block_after-start, block_after-suc}

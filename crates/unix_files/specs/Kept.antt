@@ -1,6 +1,6 @@
 -- How files are kept: the entries of a table, and the bytes of each by the same number.
 use Rattle.std.specs.Prelude.{◌≡◌, ℕ, Bool, false, List, [], ◌∷◌, length, Option, None, Some, option_map, unwrap_or, bytes_eq, slice_index_or}
-use Rattle.unix_files.specs.Files.{Node, Files}
+use Rattle.unix_definition.specs.Files.{Node, GuestFiles}
 use Rattle.unix_files.specs.Stored.{Contents, file_at}
 use Rattle.unix_files.specs.declared.disk.Entry.{Entry}
 
@@ -13,7 +13,7 @@ nodes_of [] files = []
 nodes_of (entry ∷ entries) [] = node_of entry [] ∷ nodes_of entries []
 nodes_of (entry ∷ entries) (file ∷ files) = node_of entry file ∷ nodes_of entries files
 
-abbrev pub files_of : List (Option Entry) → Contents → Files
+abbrev pub files_of : List (Option Entry) → Contents → GuestFiles
 files_of entries store = record { nodes = nodes_of entries store.files; free = store.free }
 
 abbrev pub entry_at : List (Option Entry) → ℕ → Option Entry

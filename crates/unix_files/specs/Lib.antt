@@ -1,3 +1,2 @@
-pub mod Files
 pub mod Stored
 pub mod Kept

@@ -1,7 +1,7 @@
 //! The blocks of one file: each names the one that follows it.
 
 ghost use Rattle.std.specs.Prelude.{◌≡◌, ◌≢◌, ℕ, ◌+◌, ◌<◌, ◌≤◌, ◌%◌, ◌*◌, ◌++◌, ◌∷◌, [], take, IfOk};
-ghost use Rattle.unix_files.specs.Files.{blocks_for};
+ghost use Rattle.unix_definition.specs.Files.{blocks_for};
 ghost use Rattle.block_pool.specs.Blocks.{IsUsed, IsSound, block_at, free_count};
 ghost use Rattle.unix_files.specs.Stored.{empty_chain, blocks_in, block_after, looked_up, file_bytes, IsChain, Changes, begun};
 
@@ -11,7 +11,7 @@ use std::alloc::{AllocError, Global};
 /// The bytes in a block.
 pub const BLOCK: u32 = 4096;
 
-/// Where the bytes of a file stand. Of an empty file only the length is looked at.
+/// Where the bytes of a file are. Of an empty file only the length is looked at.
 #[derive(Clone, Copy, Debug, PartialEq, Eq)]
 pub struct Chain {
     /// The block of the first bytes.
@@ -81,7 +81,7 @@ impl Chain {
     }
 }
 
-/// How many of so many bytes stand in the block with this number, from 0.
+/// How many of so many bytes are in the block with this number, from 0.
 fn bytes_in(size: u32, index: u32) -> usize
     requires { index < blocks_for size }
     ensures within { result ≤ 4096 }

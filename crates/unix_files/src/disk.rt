@@ -1,5 +1,5 @@
 ghost use Rattle.std.specs.Prelude.{◌≡◌, ◌<◌, ◌≤◌, ◌+◌, [], length, replicate, IfOk, None, Some, IsSome, IfSome, is_some, is_none, position, vec_len, IsTrue, slice_index};
-ghost use Rattle.unix_files.specs.Files.{node_named, node_at, bytes_at, name_of, free_node, with_node, with_name, with_bytes, has_blocks, resized, written, blocks_for};
+ghost use Rattle.unix_definition.specs.Files.{node_named, node_at, bytes_at, node_name, free_node, with_node, with_name, with_bytes, has_blocks, resized, written, blocks_for};
 ghost use Rattle.unix_files.specs.Kept.{entry_at, entry_name, entry_has_name};
 
 use crate::chain;
@@ -22,9 +22,9 @@ pub struct Disk {
 }
 
 impl Model for Disk {
-    ghost use Rattle.unix_files.specs.Files.{Files};
+    ghost use Rattle.unix_definition.specs.Files.{GuestFiles};
 
-    ghost Value = { Files };
+    ghost Value = { GuestFiles };
 
     ghost use Rattle.unix_files.specs.Kept.{files_of, IsKeptDisk};
 
@@ -65,7 +65,7 @@ impl Disk {
 
     /// Whether a file has a name.
     pub fn is_named(&self, n: usize) -> bool
-        ensures { result ≡ is_some (name_of (node_at self.now n)) }
+        ensures { result ≡ is_some (node_name (node_at self.now n)) }
     {
         if n < NODES {
             has_any_name(entry_of(&self.entries, n))
@@ -177,7 +177,7 @@ impl Disk {
         self.store.write(n, place, bytes);
     }
 
-    /// Cuts a file to its first `size` bytes, or puts zeros behind them.
+    /// Cuts a file to its first `size` bytes, or puts zeros after them.
     pub fn resize(&mut self, n: usize, size: u32)
         requires small { size ≤ 0x7FFFFFFF }
         requires room { IsTrue (has_blocks self.old n size) }

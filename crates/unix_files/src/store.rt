@@ -1,5 +1,5 @@
 ghost use Rattle.std.specs.Prelude.{◌≡◌, ◌<◌, ◌≤◌, ◌+◌, ◌-◌, ◌++◌, ◌∷◌, [], length, take, replicate, IfOk, vec_len, slice_index, slice_set};
-ghost use Rattle.unix_files.specs.Files.{blocks_for};
+ghost use Rattle.unix_definition.specs.Files.{blocks_for};
 ghost use Rattle.unix_files.specs.Stored.{file_at, with_file, chain_at, overwritten};
 
 use crate::chain::{BLOCK, Chain, appended, shortened};
@@ -88,7 +88,7 @@ impl Store {
         self.pool.write(chain.near, at % BLOCK, v);
     }
 
-    /// Puts a byte behind the others of a file, for which there is room.
+    /// Puts a byte after the others of a file, for which there is room.
     pub fn push(&mut self, n: usize, v: u8)
         requires file { n < length self.old.files }
         requires small { length (file_at self.old n) < 0x7FFFFFFF }
@@ -110,7 +110,7 @@ impl Store {
         self.chains[n] = shortened(&mut self.pool, chain, size);
     }
 
-    /// Puts zeros behind the bytes of a file until it has `size`.
+    /// Puts zeros after the bytes of a file until it has `size`.
     pub fn extend(&mut self, n: usize, size: u32)
         requires file { n < length self.old.files }
         requires small { size ≤ 0x7FFFFFFF }
@@ -123,7 +123,7 @@ impl Store {
         }
     }
 
-    /// Writes a byte over the one at a place, or behind the last one.
+    /// Writes a byte over the one at a place, or after the last one.
     fn write_byte(&mut self, n: usize, at: u32, v: u8)
         requires file { n < length self.old.files }
         requires within { at ≤ length (file_at self.old n) }
@@ -139,7 +139,7 @@ impl Store {
         }
     }
 
-    /// Writes bytes over those of a file from a place on, and behind the last one where they go past it.
+    /// Writes bytes over those of a file from a place on, and after the last one where they go past it.
     pub fn write(&mut self, n: usize, place: u32, bytes: &[u8])
         requires file { n < length self.old.files }
         requires within { place ≤ length (file_at self.old n) }

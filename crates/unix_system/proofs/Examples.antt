@@ -1,14 +1,14 @@
 -- The definition's answers to some runs of calls.
 use Rattle.std.proofs.Common.{◌≡◌, ℕ, ℤ, pos, negsuc, List, [], ◌∷◌, map, length, refl}
-use Rattle.nv_events.specs.Question.{Question, Text, no_text, unreadable, too_long, bytes, no_room, there}
-use Rattle.unix_system.specs.System.{System}
-use Rattle.unix_files.specs.Files.{bytes_at}
-use Rattle.unix_system.specs.Unix.{unix, start}
+use Rattle.run_definition.specs.Question.{Question, AskedText, no_text, unreadable, too_long, bytes, no_room, there}
+use Rattle.unix_definition.specs.System.{System}
+use Rattle.unix_definition.specs.Files.{bytes_at}
+use Rattle.unix_definition.specs.Unix.{unix, system_start}
 
 abbrev ask : ℕ → ℕ → ℕ → ℕ → Question
 ask number a0 a1 a2 = record { number = number; a0 = a0; a1 = a1; a2 = a2; a3 = 0; text = no_text; second = no_text; room = no_room }
 
-abbrev with_text : Question → Text → Question
+abbrev with_text : Question → AskedText → Question
 with_text q text = record { number = q.number; a0 = q.a0; a1 = q.a1; a2 = q.a2; a3 = 0; text = text; second = no_text; room = no_room }
 
 abbrev with_room : Question → ℕ → ℕ → Question
@@ -60,7 +60,7 @@ patches s (q ∷ qs) = (unix s q).0.patch ∷ patches (unix s q).1 qs
 
 -- a system of four blocks with one file, `a` of the bytes 1 to 5, two arguments and two lines of input
 abbrev small : System
-small = start 4 7 ((a, 1 ∷ 2 ∷ 3 ∷ 4 ∷ 5 ∷ []) ∷ []) ((112 ∷ []) ∷ (120 ∷ 121 ∷ []) ∷ []) (104 ∷ 105 ∷ 10 ∷ 33 ∷ [])
+small = system_start 4 7 ((a, 1 ∷ 2 ∷ 3 ∷ 4 ∷ 5 ∷ []) ∷ []) ((112 ∷ []) ∷ (120 ∷ 121 ∷ []) ∷ []) (104 ∷ 105 ∷ 10 ∷ 33 ∷ [])
 
 pub one_block_is_in_use : small.files.free ≡ 3
 one_block_is_in_use = refl

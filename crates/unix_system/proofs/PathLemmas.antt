@@ -1,14 +1,14 @@
 -- A path read byte by byte.
 use Rattle.std.proofs.Common.{◌≡◌, ℕ, zero, suc, ◌+◌, ◌-◌, ◌<◌, ◌≤◌, ◌==◌, false, List, [], ◌∷◌, ◌++◌, Some, None, refl, ap, sym, ◌∙◌, arith, if◌then◌else◌}
-use Rattle.nv_events.specs.Memory.{Memory}
-use Rattle.nv_events.specs.Question.{Text, unreadable, too_long, bytes, after_byte, text_to_zero}
+use Rattle.run_definition.specs.Memory.{Memory}
+use Rattle.run_definition.specs.Question.{AskedText, unreadable, too_long, bytes, after_byte, text_to_zero}
 
 -- some bytes before a text
-abbrev pub before : List ℕ → Text → Text
+abbrev pub before : List ℕ → AskedText → AskedText
 before [] t = t
 before (x ∷ xs) t = after_byte x (before xs t)
 
-pub before-more : (xs : List ℕ) (b : ℕ) (t : Text) → before (xs ++ b ∷ []) t ≡ before xs (after_byte b t)
+pub before-more : (xs : List ℕ) (b : ℕ) (t : AskedText) → before (xs ++ b ∷ []) t ≡ before xs (after_byte b t)
 before-more [] b t = refl
 before-more (x ∷ xs) b t = ap (after_byte x) (before-more xs b t)
 

@@ -2,9 +2,9 @@
 use Rattle.std.proofs.Common.{◌≡◌, ℕ, zero, suc, ◌+◌, ◌-◌, ◌<◌, ◌≤◌, List, [], ◌∷◌, ◌++◌, length, take, drop, Option, Some, None, option_map, refl, ap, sym, ◌∙◌, arith, append-nil}
 use Rattle.std.specs.Option.{IsSome}
 use Rattle.std.proofs.lemmas.Bool.{false≢true}
-use Rattle.nv_events.specs.Memory.{Memory, bytes_from, patched}
-use Rattle.nv_events.specs.Question.{unreadable, bytes}
-use Rattle.unix_system.specs.Asked.{bytes_of_text}
+use Rattle.run_definition.specs.Memory.{Memory, bytes_from, patched}
+use Rattle.run_definition.specs.Question.{unreadable, bytes}
+use Rattle.unix_definition.specs.Asked.{bytes_of_text}
 
 -- some bytes before others that may be missing
 abbrev pub behind : List ℕ → Option (List ℕ) → Option (List ℕ)

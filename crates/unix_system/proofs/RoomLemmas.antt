@@ -3,9 +3,9 @@ use Rattle.std.proofs.Common.{◌≡◌, ℕ, ◌+◌, ◌<◌, ◌≤◌, true,
 use Rattle.std.specs.List.{list_all}
 use Rattle.std.proofs.lemmas.Bool.{and_from, lt-ltb, le-leb}
 use Rattle.std.proofs.lemmas.List.Folds.{list_all_more}
-use Rattle.nv_events.specs.Memory.{Memory, can_write}
-use Rattle.nv_events.specs.Question.{there, room_at}
-use Rattle.nv_events.specs.Answer.{fits_room}
+use Rattle.run_definition.specs.Memory.{Memory, can_write}
+use Rattle.run_definition.specs.Question.{there, room_at}
+use Rattle.run_definition.specs.Answer.{fits_room}
 
 pub more-small : (bs : List ℕ) (i : ℕ) → i < length bs → get_or bs i 0 < 256 → list_all (λ x. nat_lt x 256) (take i bs) ≡ true → list_all (λ x. nat_lt x 256) (take (i + 1) bs) ≡ true
 more-small bs i h b all = list_all_more (λ x. nat_lt x 256) bs i 0 h ∙ and_from _ _ all (lt-ltb (get_or bs i 0) 256 b)

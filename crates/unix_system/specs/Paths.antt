@@ -1,10 +1,10 @@
 -- Paths of the code, seen as texts.
 use Rattle.std.specs.Prelude.{◌≤◌, ⊤, length}
-use Rattle.nv_events.specs.Question.{Text, unreadable, too_long, bytes}
+use Rattle.run_definition.specs.Question.{AskedText, unreadable, too_long, bytes}
 use Rattle.unix_system.specs.declared.path.Path.{Path}
 use Rattle.unix_system.specs.declared.path.Path.TheVariants.{Unreadable, TooLong, Is}
 
-abbrev pub text_of : Path → Text
+abbrev pub text_of : Path → AskedText
 text_of Unreadable = unreadable
 text_of TooLong = too_long
 text_of (Is bs) = bytes bs

@@ -1,24 +1,22 @@
 //! The calls on descriptors that touch neither the bytes of files nor the console.
 
 ghost use Rattle.std.specs.Prelude.{◌≡◌, ◌≤◌, ◌<◌, ◌+ℤ◌, pos, IfSome};
-ghost use Rattle.unix_system.specs.System.{System, with_tables};
-ghost use Rattle.unix_system.specs.Asked.{value_only};
-ghost use Rattle.unix_system.specs.Calls.{close, dup, isatty, lseek, file_sought, seek_base, place_of, files_without};
-ghost use Rattle.nv_words.specs.Words.{signed_of};
-ghost use Rattle.unix_system.specs.Opened.{without_unused};
-ghost use Rattle.unix_system.specs.declared.opened.Opened.{Opened};
+ghost use Rattle.unix_definition.specs.System.{System, system_with_tables};
+ghost use Rattle.unix_definition.specs.Asked.{value_only};
+ghost use Rattle.unix_definition.specs.Calls.{close, dup, isatty, lseek, file_sought, seek_base, file_place, files_without};
+ghost use Rattle.run_definition.specs.Words.{signed_of};
+ghost use Rattle.unix_definition.specs.Opened.{without_unused};
+ghost use Rattle.unix_definition.specs.declared.opened.Opened.{Opened};
 
-use crate::description::Description;
 use crate::errors::{BAD_DESCRIPTOR, INVALID, NO_SEEK, TOO_MANY_OPEN};
-use crate::opened::Opened;
-use crate::target::Target;
 use nv_words::signed;
+use unix_definition::{Description, Opened, Target};
 use unix_files::Disk;
 
 /// A further descriptor for what a descriptor stands for.
 pub fn dup(disk: &Disk, opened: &mut Opened, fd: u32) -> i32
-    ensures { (s : System) → dup (with_tables s disk.now opened.old) fd
-        ≡ (value_only result, with_tables s disk.now opened.new) }
+    ensures { (s : System) → dup (system_with_tables s disk.now opened.old) fd
+        ≡ (value_only result, system_with_tables s disk.now opened.new) }
 {
     let Some(d) = opened.number(fd) else {
         return BAD_DESCRIPTOR;
@@ -32,8 +30,8 @@ pub fn dup(disk: &Disk, opened: &mut Opened, fd: u32) -> i32
 
 /// Whether a descriptor stands for the console.
 pub fn isatty(disk: &Disk, opened: &Opened, fd: u32) -> i32
-    ensures { (s : System) → isatty (with_tables s disk.now opened.now) fd
-        ≡ (value_only result, with_tables s disk.now opened.now) }
+    ensures { (s : System) → isatty (system_with_tables s disk.now opened.now) fd
+        ≡ (value_only result, system_with_tables s disk.now opened.now) }
 {
     let Some((_, description)) = opened.at(fd) else {
         return BAD_DESCRIPTOR;
@@ -46,8 +44,8 @@ pub fn isatty(disk: &Disk, opened: &Opened, fd: u32) -> i32
 
 /// Takes a descriptor away, and what is used no longer.
 pub fn close(disk: &mut Disk, opened: &mut Opened, fd: u32) -> i32
-    ensures { (s : System) → close (with_tables s disk.old opened.old) fd
-        ≡ (value_only result, with_tables s disk.new opened.new) }
+    ensures { (s : System) → close (system_with_tables s disk.old opened.old) fd
+        ≡ (value_only result, system_with_tables s disk.new opened.new) }
 {
     let Some(d) = opened.number(fd) else {
         return BAD_DESCRIPTOR;
@@ -59,7 +57,7 @@ pub fn close(disk: &mut Disk, opened: &mut Opened, fd: u32) -> i32
     0
 }
 
-/// Drops the file of a description that may be gone, where it has no name and is not open.
+/// Drops the file of a description that may be gone, if it has no name and is not open.
 fn drop_file_of(disk: &mut Disk, opened: &Opened, description: Option<Description>)
     ensures { disk.new ≡ files_without disk.old opened.now description }
 {
@@ -81,8 +79,8 @@ pub fn drop_unused(disk: &mut Disk, opened: &Opened, n: usize)
 
 /// Moves the place of an open file, and answers it.
 pub fn lseek(disk: &Disk, opened: &mut Opened, fd: u32, offset: u32, whence: u32) -> i32
-    ensures { (s : System) → lseek (with_tables s disk.now opened.old) fd offset whence
-        ≡ (value_only result, with_tables s disk.now opened.new) }
+    ensures { (s : System) → lseek (system_with_tables s disk.now opened.old) fd offset whence
+        ≡ (value_only result, system_with_tables s disk.now opened.new) }
 {
     let Some((d, description)) = opened.at(fd) else {
         return BAD_DESCRIPTOR;
@@ -103,8 +101,8 @@ fn seek_file(
 ) -> i32
     requires { found.0 < 64 }
     ensures { (s : System)
-        → file_sought (with_tables s disk.now opened.old) found.0 found.1 n offset whence
-        ≡ (value_only result, with_tables s disk.now opened.new) }
+        → file_sought (system_with_tables s disk.now opened.old) found.0 found.1 n offset whence
+        ≡ (value_only result, system_with_tables s disk.now opened.new) }
 {
     if whence > 2 {
         return INVALID;
@@ -121,7 +119,7 @@ fn seek_file(
 
 /// The place that lies a signed number of bytes from another one, where a file may have it.
 fn place_from(base: u32, offset: u32) -> Option<u32>
-    ensures value { result ≡ place_of (pos base +ℤ signed_of offset) }
+    ensures value { result ≡ file_place (pos base +ℤ signed_of offset) }
     ensures small { IfSome result (λ place. place ≤ 0x7FFFFFFF) }
 {
     let place = i64::from(base) + i64::from(signed(offset));

@@ -2,27 +2,25 @@
 
 ghost use Rattle.std.specs.Prelude.{◌≡◌, ◌≤◌, ◌<◌, ◌+◌, ◌-◌, ◌^◌, IsTrue, IsSome, length, take, drop, nat_lt};
 ghost use Rattle.std.specs.List.{list_all};
-ghost use Rattle.nv_events.specs.Memory.{can_write, patched, bytes_from};
-ghost use Rattle.nv_events.specs.Question.{text_at, there};
-ghost use Rattle.nv_events.specs.declared.text_place.TextPlace.TheVariants.{Counted};
-ghost use Rattle.unix_files.specs.Files.{blocks_for, node_at, bytes_at, with_bytes, written, resized};
-ghost use Rattle.unix_system.specs.System.{System, with_tables};
-ghost use Rattle.unix_system.specs.Asked.{value_only, bytes_of_text};
-ghost use Rattle.unix_system.specs.Calls.{ftruncate, file_resized, file_read, file_written, write_place};
+ghost use Rattle.run_definition.specs.Memory.{can_write, patched, bytes_from};
+ghost use Rattle.run_definition.specs.Question.{asked_text_at, there};
+ghost use Rattle.run_definition.specs.declared.text_place.TextPlace.TheVariants.{Counted};
+ghost use Rattle.unix_definition.specs.Files.{blocks_for, node_at, bytes_at, with_bytes, written, resized};
+ghost use Rattle.unix_definition.specs.System.{System, system_with_tables};
+ghost use Rattle.unix_definition.specs.Asked.{value_only, bytes_of_text};
+ghost use Rattle.unix_definition.specs.Calls.{ftruncate, file_resized, file_read, file_written, write_place};
 ghost use Rattle.unix_system.specs.Serving.{Gives};
 
-use crate::description::Description;
 use crate::errors::{BAD_DESCRIPTOR, INVALID, NO_SPACE, TOO_LARGE};
 use crate::guest::read_piece;
-use crate::opened::Opened;
-use crate::target::Target;
 use nv_events::View;
+use unix_definition::{Description, Opened, Target};
 use unix_files::Disk;
 
-/// Cuts an open file, or puts zeros behind its bytes.
+/// Cuts an open file, or puts zeros after its bytes.
 pub fn ftruncate(disk: &mut Disk, opened: &Opened, fd: u32, size: u32) -> i32
-    ensures { (s : System) → ftruncate (with_tables s disk.old opened.now) fd size
-        ≡ (value_only result, with_tables s disk.new opened.now) }
+    ensures { (s : System) → ftruncate (system_with_tables s disk.old opened.now) fd size
+        ≡ (value_only result, system_with_tables s disk.new opened.now) }
 {
     let Some((_, description)) = opened.at(fd) else {
         return BAD_DESCRIPTOR;
@@ -37,8 +35,8 @@ pub fn ftruncate(disk: &mut Disk, opened: &Opened, fd: u32, size: u32) -> i32
 }
 
 fn resize_file(disk: &mut Disk, opened: &Opened, n: usize, size: u32) -> i32
-    ensures { (s : System) → file_resized (with_tables s disk.old opened.now) n size
-        ≡ (value_only result, with_tables s disk.new opened.now) }
+    ensures { (s : System) → file_resized (system_with_tables s disk.old opened.now) n size
+        ≡ (value_only result, system_with_tables s disk.new opened.now) }
 {
     if size >= 0x8000_0000 {
         return INVALID;
@@ -65,8 +63,8 @@ pub fn read_file<M: View>(
     requires room { IsTrue (can_write (M.memory (M.content view.old)) place count) }
     ensures call { (s : System)
         → Gives M.put_at (M.content view.old) (M.content view.new) (there place count) result
-        (with_tables s disk.new opened.new)
-        (file_read (with_tables s disk.old opened.old) found.0 found.1
+        (system_with_tables s disk.new opened.new)
+        (file_read (system_with_tables s disk.old opened.old) found.0 found.1
         (take count (drop found.1.place (bytes_at disk.old n)))) }
 {
     let (d, description) = found;
@@ -91,10 +89,10 @@ pub fn write_file<M: View>(
     requires small { count < 0x80000000 }
     requires readable { IsSome (bytes_from (M.memory (M.content view.now)) at count) }
     ensures { (s : System)
-        → file_written (with_tables s disk.old opened.old) found.0 found.1 n
-        (bytes_of_text (text_at (M.memory (M.content view.now)) (Counted at count)))
+        → file_written (system_with_tables s disk.old opened.old) found.0 found.1 n
+        (bytes_of_text (asked_text_at (M.memory (M.content view.now)) (Counted at count)))
         (write_place disk.old n found.1)
-        ≡ (value_only result, with_tables s disk.new opened.new) }
+        ≡ (value_only result, system_with_tables s disk.new opened.new) }
 {
     let (d, description) = found;
     let start = write_place(disk, n, &description);
@@ -160,7 +158,7 @@ pub fn copy_in<M: View>(disk: &mut Disk, n: usize, place: u32, at: u32, count: u
         + disk.old.free }
     ensures { disk.new
         ≡ with_bytes disk.old n (written (bytes_at disk.old n) place
-        (bytes_of_text (text_at (M.memory (M.content view.now)) (Counted at count)))) }
+        (bytes_of_text (asked_text_at (M.memory (M.content view.now)) (Counted at count)))) }
 {
     disk.write(n, place, &[]);
     let mut done = 0;

@@ -2,13 +2,13 @@
 
 ghost use Rattle.std.specs.Prelude.{◌≡◌, ◌≤◌, ◌<◌, ◌+◌, ◌^◌, IsTrue, IsSome, Some, is_some, length, nat_lt};
 ghost use Rattle.std.specs.List.{list_all};
-ghost use Rattle.nv_events.specs.Memory.{can_write, patched, bytes_from};
+ghost use Rattle.run_definition.specs.Memory.{can_write, patched, bytes_from};
 
 use crate::path::byte_at;
 use crate::piece::Piece;
 use nv_events::View;
 
-/// Whether each of the addresses from `place` on may be written; none stands past FFFFFFFF.
+/// Whether each of the addresses from `place` on may be written; none is past FFFFFFFF.
 pub fn has_room<M: View>(view: &M, place: u32, size: u32) -> bool
     ensures { result ≡ can_write (M.memory (M.content view.now)) place size }
 {
@@ -32,7 +32,7 @@ pub fn put_bytes<M: View>(view: &mut M, place: u32, bytes: &[u8])
     }
 }
 
-/// Whether each of the addresses from `at` on can be read; none stands past FFFFFFFF.
+/// Whether each of the addresses from `at` on can be read; none is past FFFFFFFF.
 pub fn is_readable<M: View>(view: &M, at: u32, size: u32) -> bool
     ensures { result ≡ is_some (bytes_from (M.memory (M.content view.now)) at size) }
 {

@@ -1,26 +1,24 @@
 //! The calls on names of files.
 
 ghost use Rattle.std.specs.Prelude.{◌≡◌, ◌≤◌, ◌<◌, Some, pos, length};
-ghost use Rattle.unix_system.specs.Opened.{with_descriptor, with_description};
-ghost use Rattle.unix_system.specs.System.{System, with_tables};
-ghost use Rattle.unix_system.specs.Asked.{value_only, reads, writes, appends, has_flag};
-ghost use Rattle.unix_system.specs.Calls.{unlink, unlink_named, rename, rename_named, renamed, without_name, open_file, open_named, create_file, open_present, opened_as, description_for};
+ghost use Rattle.unix_definition.specs.Opened.{with_descriptor, with_description};
+ghost use Rattle.unix_definition.specs.System.{System, system_with_tables};
+ghost use Rattle.unix_definition.specs.Asked.{value_only, reads, writes, appends, has_open_flag};
+ghost use Rattle.unix_definition.specs.Calls.{unlink, unlink_named, rename, rename_named, renamed, without_name, open_file, open_named, create_file, open_present, opened_as, description_for};
 ghost use Rattle.unix_system.specs.Paths.{text_of, IsShort};
-ghost use Rattle.unix_system.specs.declared.opened.Opened.{Opened};
+ghost use Rattle.unix_definition.specs.declared.opened.Opened.{Opened};
 
-use crate::description::Description;
 use crate::descriptor_calls::drop_unused;
 use crate::errors::{INVALID, NO_ENTRY, NO_SPACE, PRESENT, TOO_MANY_OPEN};
-use crate::opened::Opened;
 use crate::path::Path;
-use crate::target::Target;
+use unix_definition::{Description, Opened, Target};
 use unix_files::Disk;
 
 /// Takes the name of a file away. The file stays while it is open.
 pub fn unlink(disk: &mut Disk, opened: &Opened, path: &Path) -> i32
     requires { IsShort path.now }
-    ensures { (s : System) → unlink (with_tables s disk.old opened.now) (text_of path.now)
-        ≡ (value_only result, with_tables s disk.new opened.now) }
+    ensures { (s : System) → unlink (system_with_tables s disk.old opened.now) (text_of path.now)
+        ≡ (value_only result, system_with_tables s disk.new opened.now) }
 {
     match path.refusal() {
         Some(refusal) => refusal,
@@ -29,8 +27,8 @@ pub fn unlink(disk: &mut Disk, opened: &Opened, path: &Path) -> i32
 }
 
 fn unlink_named(disk: &mut Disk, opened: &Opened, name: &[u8]) -> i32
-    ensures { (s : System) → unlink_named (with_tables s disk.old opened.now) name.now
-        ≡ (value_only result, with_tables s disk.new opened.now) }
+    ensures { (s : System) → unlink_named (system_with_tables s disk.old opened.now) name.now
+        ≡ (value_only result, system_with_tables s disk.new opened.now) }
 {
     match disk.named(name) {
         None => NO_ENTRY,
@@ -54,8 +52,8 @@ pub fn rename(disk: &mut Disk, opened: &Opened, old: &Path, new: &Path) -> i32
     requires old_short { IsShort old.now }
     requires new_short { IsShort new.now }
     ensures { (s : System)
-        → rename (with_tables s disk.old opened.now) (text_of old.now) (text_of new.now)
-        ≡ (value_only result, with_tables s disk.new opened.now) }
+        → rename (system_with_tables s disk.old opened.now) (text_of old.now) (text_of new.now)
+        ≡ (value_only result, system_with_tables s disk.new opened.now) }
 {
     if let Some(refusal) = old.refusal() {
         return refusal;
@@ -68,8 +66,8 @@ pub fn rename(disk: &mut Disk, opened: &Opened, old: &Path, new: &Path) -> i32
 
 fn rename_named(disk: &mut Disk, opened: &Opened, from: &[u8], to: &[u8]) -> i32
     requires { length to.now ≤ 255 }
-    ensures { (s : System) → rename_named (with_tables s disk.old opened.now) from.now to.now
-        ≡ (value_only result, with_tables s disk.new opened.now) }
+    ensures { (s : System) → rename_named (system_with_tables s disk.old opened.now) from.now to.now
+        ≡ (value_only result, system_with_tables s disk.new opened.now) }
 {
     match disk.named(from) {
         None => NO_ENTRY,
@@ -97,8 +95,8 @@ fn rename_file(disk: &mut Disk, opened: &Opened, n: usize, from: &[u8], to: &[u8
 /// Opens a file, which is made where it is not there and that is wanted.
 pub fn open(disk: &mut Disk, opened: &mut Opened, path: &Path, flags: u32) -> i32
     requires { IsShort path.now }
-    ensures { (s : System) → open_file (with_tables s disk.old opened.old) (text_of path.now) flags
-        ≡ (value_only result, with_tables s disk.new opened.new) }
+    ensures { (s : System) → open_file (system_with_tables s disk.old opened.old) (text_of path.now) flags
+        ≡ (value_only result, system_with_tables s disk.new opened.new) }
 {
     match path.refusal() {
         Some(refusal) => refusal,
@@ -108,8 +106,8 @@ pub fn open(disk: &mut Disk, opened: &mut Opened, path: &Path, flags: u32) -> i3
 
 fn open_named(disk: &mut Disk, opened: &mut Opened, name: &[u8], flags: u32) -> i32
     requires { length name.now ≤ 255 }
-    ensures { (s : System) → open_named (with_tables s disk.old opened.old) name.now flags
-        ≡ (value_only result, with_tables s disk.new opened.new) }
+    ensures { (s : System) → open_named (system_with_tables s disk.old opened.old) name.now flags
+        ≡ (value_only result, system_with_tables s disk.new opened.new) }
 {
     if flags % 4 == 3 {
         return INVALID;
@@ -122,8 +120,8 @@ fn open_named(disk: &mut Disk, opened: &mut Opened, name: &[u8], flags: u32) -> 
 
 fn create(disk: &mut Disk, opened: &mut Opened, name: &[u8], flags: u32) -> i32
     requires { length name.now ≤ 255 }
-    ensures { (s : System) → create_file (with_tables s disk.old opened.old) name.now flags
-        ≡ (value_only result, with_tables s disk.new opened.new) }
+    ensures { (s : System) → create_file (system_with_tables s disk.old opened.old) name.now flags
+        ≡ (value_only result, system_with_tables s disk.new opened.new) }
 {
     if !has_flag(flags, CREATE) {
         return NO_ENTRY;
@@ -141,8 +139,8 @@ fn create(disk: &mut Disk, opened: &mut Opened, name: &[u8], flags: u32) -> i32
 }
 
 fn open_present(disk: &mut Disk, opened: &mut Opened, n: usize, flags: u32) -> i32
-    ensures { (s : System) → open_present (with_tables s disk.old opened.old) n flags
-        ≡ (value_only result, with_tables s disk.new opened.new) }
+    ensures { (s : System) → open_present (system_with_tables s disk.old opened.old) n flags
+        ≡ (value_only result, system_with_tables s disk.new opened.new) }
 {
     if has_flag(flags, CREATE) && has_flag(flags, EXCLUSIVE) {
         return PRESENT;
@@ -180,7 +178,7 @@ const EXCLUSIVE: u32 = 0x800;
 
 fn has_flag(flags: u32, flag: u32) -> bool
     requires { 0 < flag }
-    ensures { result ≡ has_flag flags flag }
+    ensures { result ≡ has_open_flag flags flag }
 {
     flags / flag % 2 == 1
 }

@@ -1,7 +1,7 @@
 ghost use Rattle.std.specs.Prelude.{◌≡◌, ◌+◌, ◌≤◌, ⊤, length};
-ghost use Rattle.nv_events.specs.Question.{text_at, bytes};
-ghost use Rattle.unix_system.specs.Asked.{path_error, bytes_of_text};
-ghost use Rattle.nv_events.specs.declared.text_place.TextPlace.TheVariants.{Zero};
+ghost use Rattle.run_definition.specs.Question.{asked_text_at, bytes};
+ghost use Rattle.unix_definition.specs.Asked.{path_error, bytes_of_text};
+ghost use Rattle.run_definition.specs.declared.text_place.TextPlace.TheVariants.{Zero};
 ghost use Rattle.unix_system.specs.Paths.{text_of, IsShort};
 
 use crate::errors::{BAD_ADDRESS, INVALID, NO_ENTRY};
@@ -56,7 +56,7 @@ const LONGEST: u32 = 256;
 
 /// The path at an address.
 pub fn read_path<M: View>(view: &M, at: u32) -> Path
-    ensures text { text_of result ≡ text_at (M.memory (M.content view.now)) (Zero at) }
+    ensures text { text_of result ≡ asked_text_at (M.memory (M.content view.now)) (Zero at) }
     ensures short { IsShort result }
 {
     let mut bytes = Piece::new();

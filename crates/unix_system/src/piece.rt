@@ -1,5 +1,5 @@
 ghost use Rattle.std.specs.Prelude.{◌≡◌, ◌≤◌, ◌<◌, ◌+◌, ◌++◌, ◌∷◌, [], length};
-ghost use Rattle.unix_system.specs.Asked.{word_in_order};
+ghost use Rattle.unix_definition.specs.Asked.{word_in_order};
 
 use nv_words::{Order, lane_of};
 use std::marker::Model;

@@ -1,20 +1,19 @@
 //! The call that tells what a descriptor stands for.
 
 ghost use Rattle.std.specs.Prelude.{◌≡◌, ◌∷◌, [], Some, length};
-ghost use Rattle.nv_events.specs.Question.{room_at};
-ghost use Rattle.unix_system.specs.System.{System, with_tables, with_order};
-ghost use Rattle.unix_system.specs.Calls.{fstat, file_words};
-ghost use Rattle.unix_system.specs.Opened.{node_of};
-ghost use Rattle.unix_system.specs.Asked.{words_in_order};
+ghost use Rattle.run_definition.specs.Question.{room_at};
+ghost use Rattle.unix_definition.specs.System.{System, system_with_tables, with_order};
+ghost use Rattle.unix_definition.specs.Calls.{fstat, file_words};
+ghost use Rattle.unix_definition.specs.Opened.{node_of};
+ghost use Rattle.unix_definition.specs.Asked.{words_in_order};
 ghost use Rattle.unix_system.specs.Serving.{Gives};
 
 use crate::errors::{BAD_ADDRESS, BAD_DESCRIPTOR};
 use crate::guest::{has_room, put_bytes};
-use crate::opened::Opened;
 use crate::piece::Piece;
-use crate::target::Target;
 use nv_events::View;
 use nv_words::Order;
+use unix_definition::{Opened, Target};
 use unix_files::{BLOCK, Disk, blocks_for};
 
 /// Puts four words on what a descriptor stands for into the program's memory.
@@ -29,8 +28,8 @@ pub fn fstat<M: View>(
     ensures { (s : System)
         → Gives M.put_at (M.content view.old) (M.content view.new)
         (room_at (M.memory (M.content view.old)) (Some (place, 16))) result
-        (with_order (with_tables s disk.now opened.now) order)
-        (fstat (with_order (with_tables s disk.now opened.now) order) fd
+        (with_order (system_with_tables s disk.now opened.now) order)
+        (fstat (with_order (system_with_tables s disk.now opened.now) order) fd
         (room_at (M.memory (M.content view.old)) (Some (place, 16)))) }
 {
     let Some((_, description)) = opened.at(fd) else {

@@ -1,7 +1,7 @@
 -- Code for each of the registers, one after the other.
 use Rattle.std.proofs.Common.{◌≡◌, ℕ, suc, ◌+◌, ◌-◌, ◌<◌, List, ◌++◌, ap, sym, ◌∙◌, append_assoc, arith}
 use Rattle.std.specs.List.{flat_map, range_with_len}
-use Rattle.code_steps.specs.declared.step.Step.{Step}
+use Rattle.emit_steps.specs.declared.step.Step.{Step}
 
 -- the code of what is left is that of the next register, and of those behind it
 next-register : (code : ℕ → List Step) (r : ℕ) → r < 32 → flat_map code (range_with_len r (32 - r)) ≡ code r ++ flat_map code (range_with_len (r + 1) (32 - (r + 1)))

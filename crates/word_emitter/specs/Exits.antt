@@ -1,24 +1,24 @@
 -- Where code goes behind a unit, inside the method of a span. A step that leaves names the address of a word of the span, whose code is
 -- found once all code is laid down.
 use Rattle.std.specs.Prelude.{◌%◌, Bool, ◌&&◌, ◌||◌, false, ◌==◌, nat_le, nat_lt, if◌then◌else◌, List, [], ◌∷◌, ◌++◌, length, Option, Some, None}
-use Rattle.mips_decode.specs.Branches.{equal_likely, zero_likely, sign_likely}
-use Rattle.mips_decode.specs.declared.inst.Inst.{Inst}
-use Rattle.mips_decode.specs.declared.inst.Inst.TheVariants as inst
-use Rattle.mips_decode.specs.Targets.{branch_target, jump_target}
+use Rattle.mips_definition.specs.Branches.{equal_likely, zero_likely, sign_likely}
+use Rattle.mips_definition.specs.declared.inst.Inst.{Inst}
+use Rattle.mips_definition.specs.declared.inst.Inst.TheVariants as inst
+use Rattle.mips_definition.specs.Targets.{branch_target, jump_target}
 use Rattle.delay_slots.specs.declared.unit.Unit.{Unit}
 use Rattle.delay_slots.specs.declared.unit.Unit.TheVariants.{Plain, Branch, SlotMissing, SlotIsBranch, Call, Trap}
 use Rattle.delay_slots.specs.Places.{Address}
-use Rattle.jvm_names.specs.declared.branch_name.BranchName.{BranchName}
-use Rattle.jvm_names.specs.declared.branch_name.BranchName.TheVariants.{Iflt, Ifge, Ifgt, Ifle, IfIcmpeq, IfIcmpne}
-use Rattle.jvm_program.specs.declared.local_kind.LocalKind.TheVariants as local_kinds
-use Rattle.jvm_program.specs.declared.instruction.Instruction.TheVariants as instructions
-use Rattle.code_steps.specs.Returning.{returns}
-use Rattle.code_steps.specs.declared.step.Step.{Step}
-use Rattle.code_steps.specs.declared.step.Step.TheVariants.{Does, Skips, Leaves}
-use Rattle.guest_layout.specs.FieldNumbers.{pc_field}
-use Rattle.guest_code.specs.Access.{push_word, put_field}
-use Rattle.guest_code.specs.Branching.{behind_slot, equal_test, zero_test, sign_test}
-use Rattle.guest_code.specs.Units.{next_address}
+use Rattle.jvm_definition.specs.declared.branch_name.BranchName.{BranchName}
+use Rattle.jvm_definition.specs.declared.branch_name.BranchName.TheVariants.{Iflt, Ifge, Ifgt, Ifle, IfIcmpeq, IfIcmpne}
+use Rattle.jvm_definition.specs.declared.local_kind.LocalKind.TheVariants as local_kinds
+use Rattle.jvm_definition.specs.declared.instruction.Instruction.TheVariants as instructions
+use Rattle.emit_steps.specs.Returning.{returns}
+use Rattle.emit_steps.specs.declared.step.Step.{Step}
+use Rattle.emit_steps.specs.declared.step.Step.TheVariants.{Does, Skips, Leaves}
+use Rattle.emit_layout.specs.FieldNumbers.{pc_field}
+use Rattle.emit_instructions.specs.Access.{push_word, put_field}
+use Rattle.emit_instructions.specs.Branching.{behind_slot, equal_test, zero_test, sign_test}
+use Rattle.emit_instructions.specs.Units.{next_address}
 use Rattle.word_emitter.specs.declared.extent.Extent.{Extent}
 use Rattle.word_emitter.specs.Pieces.{is_likely}
 

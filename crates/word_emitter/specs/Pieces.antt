@@ -2,9 +2,9 @@
 use Rattle.std.specs.Prelude.{ℕ, ◌+◌, ◌-◌, Bool, false, not, ◌&&◌, ◌||◌, ◌==◌, nat_le, if◌then◌else◌, List, [], ◌∷◌, ◌++◌, take, drop, bit_or}
 use Rattle.std.specs.Int.{bit_at}
 use Rattle.std.specs.List.{list_any, flat_map, range_with_len}
-use Rattle.mips_decode.specs.Branches.{equal_likely, zero_likely, sign_likely}
-use Rattle.mips_decode.specs.declared.inst.Inst.{Inst}
-use Rattle.mips_decode.specs.declared.inst.Inst.TheVariants.{BranchSign, BranchEqual, BranchZero}
+use Rattle.mips_definition.specs.Branches.{equal_likely, zero_likely, sign_likely}
+use Rattle.mips_definition.specs.declared.inst.Inst.{Inst}
+use Rattle.mips_definition.specs.declared.inst.Inst.TheVariants.{BranchSign, BranchEqual, BranchZero}
 use Rattle.delay_slots.specs.declared.unit.Unit.{Unit}
 use Rattle.delay_slots.specs.declared.unit.Unit.TheVariants.{Branch}
 use Rattle.delay_slots.specs.Places.{Address}
@@ -12,13 +12,13 @@ use Rattle.block_builder.specs.declared.block.Block.{Block}
 use Rattle.block_builder.specs.Registers.{Register, register_set, read_by, written_by, unit_reads, unit_writes}
 use Rattle.block_builder.specs.Leaders.{words_of}
 use Rattle.block_builder.specs.Blocks.{unit_at}
-use Rattle.jvm_program.specs.declared.local_kind.LocalKind.TheVariants as local_kinds
-use Rattle.jvm_program.specs.declared.instruction.Instruction.TheVariants.{Load, Store}
-use Rattle.code_steps.specs.declared.step.Step.{Step}
-use Rattle.code_steps.specs.declared.step.Step.TheVariants.{Does}
-use Rattle.guest_layout.specs.FieldNumbers.{register_field}
-use Rattle.guest_code.specs.Access.{get_field, put_field}
-use Rattle.guest_code.specs.Units.{unit_code}
+use Rattle.jvm_definition.specs.declared.local_kind.LocalKind.TheVariants as local_kinds
+use Rattle.jvm_definition.specs.declared.instruction.Instruction.TheVariants.{Load, Store}
+use Rattle.emit_steps.specs.declared.step.Step.{Step}
+use Rattle.emit_steps.specs.declared.step.Step.TheVariants.{Does}
+use Rattle.emit_layout.specs.FieldNumbers.{register_field}
+use Rattle.emit_instructions.specs.Access.{get_field, put_field}
+use Rattle.emit_instructions.specs.Units.{unit_code}
 
 -- ---- registers
 

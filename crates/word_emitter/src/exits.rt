@@ -1,26 +1,25 @@
-//! Where code goes behind a unit.
+//! Where code goes after a unit.
 ghost use Rattle.std.specs.Prelude.{◌≡◌, ◌++◌, OnOk, length};
-ghost use Rattle.guest_code.specs.Branching.{behind_slot};
-ghost use Rattle.code_steps.specs.Returning.{returns};
+ghost use Rattle.emit_instructions.specs.Branching.{behind_slot};
+ghost use Rattle.emit_steps.specs.Returning.{returns};
 ghost use Rattle.word_emitter.specs.Exits as emitted;
 
 use crate::NoMemory;
 use crate::extent::Extent;
 use crate::registers::is_likely;
-use code_steps::Step;
 use delay_slots::Unit;
-use guest_code::{
+use emit_instructions::{
     Transfer, append_steps, equal_branch, fields, push_word, put_field, sign_branch, zero_branch,
 };
-use jvm_names::{BranchName, ReturnName};
-use jvm_program::{Instruction, LocalKind};
+use emit_steps::Step;
+use jvm_definition::{BranchName, Instruction, LocalKind, ReturnName};
 use mips_decode::{Inst, jump_target};
 
-/// Appends the code behind that of a unit at an address, in the method of a span. `behind` is the address whose code is directly behind,
+/// Appends the code after that of a unit at an address, in the method of a span. `behind` is the address whose code is directly after,
 /// where there is one. A step that leaves names the address of a word of the span.
 ///
 /// # Errors
-/// Want of memory for the code.
+/// Out of memory for the code.
 pub fn append_exit(
     span: Extent,
     behind: Option<u32>,

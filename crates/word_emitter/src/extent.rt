@@ -1,7 +1,7 @@
 ghost use Rattle.std.specs.Prelude.{◌≡◌};
 ghost use Rattle.word_emitter.specs.Exits as emitted;
 
-/// The addresses of the words of a span, from the first one to the one behind the last.
+/// The addresses of the words of a span, from the first one to the one after the last.
 #[derive(Clone, Copy)]
 pub struct Extent {
     pub first: u32,
@@ -9,7 +9,7 @@ pub struct Extent {
 }
 
 impl Extent {
-    /// Whether a word of the span stands at an address.
+    /// Whether a word of the span is at an address.
     pub fn has(self, address: u32) -> bool
         ensures { result ≡ emitted.has self address }
     {

@@ -1,4 +1,4 @@
-//! The code of the words of a span: warm code of whole pieces over local variables, and where code goes on behind a unit.
+//! The code of the words of a span: warm code of whole pieces over local variables, and where code goes on after a unit.
 #![tactic(auto)]
 
 mod exits;
@@ -11,5 +11,5 @@ pub use exits::append_exit;
 pub use extent::Extent;
 pub use pieces::append_warm;
 
-/// Want of memory, the one error of what appends code.
+/// Out of memory, the one error of what appends code.
 pub type NoMemory = std::alloc::AllocError;

@@ -5,17 +5,17 @@ ghost use Rattle.word_emitter.specs.Pieces as emitted;
 use crate::NoMemory;
 use crate::registers::{has, needed, written};
 use block_builder::unit_reads;
-use code_steps::Step;
 use delay_slots::Unit;
-use guest_code::{Bank, append_steps, append_unit, fields, get_field, put_field};
-use jvm_program::{Instruction, LocalKind};
+use emit_instructions::{Bank, append_steps, append_unit, fields, get_field, put_field};
+use emit_steps::Step;
+use jvm_definition::{Instruction, LocalKind};
 use std::alloc::Global;
 
 /// Appends the warm code of units that are done one after the other, the first at an address: the registers whose words they need are put
 /// into local variables, the units are done over these, and the registers that were written are put back.
 ///
 /// # Errors
-/// Want of memory for the code.
+/// Out of memory for the code.
 pub fn append_warm(
     alloc: Global,
     units: &[Unit],

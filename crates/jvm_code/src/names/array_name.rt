@@ -1,7 +1,7 @@
 ghost use Rattle.std.specs.Prelude.{◌≡◌};
-ghost use Rattle.jvm_code.specs.Opcodes.{array_name_opcode};
+ghost use Rattle.class_definition.specs.Opcodes.{array_name_opcode};
 
-use jvm_names::ArrayName;
+use jvm_definition::ArrayName;
 
 /// The opcode (JVM Specification, 6.5).
 pub fn opcode_of_array_name(name: ArrayName) -> u8

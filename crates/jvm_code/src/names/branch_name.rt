@@ -1,7 +1,7 @@
 ghost use Rattle.std.specs.Prelude.{◌≡◌};
-ghost use Rattle.jvm_code.specs.Opcodes.{branch_name_opcode};
+ghost use Rattle.class_definition.specs.Opcodes.{branch_name_opcode};
 
-use jvm_names::BranchName;
+use jvm_definition::BranchName;
 
 /// The opcode (JVM Specification, 6.5).
 pub fn opcode_of_branch_name(name: BranchName) -> u8

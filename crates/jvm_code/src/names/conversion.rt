@@ -1,7 +1,7 @@
 ghost use Rattle.std.specs.Prelude.{◌≡◌};
-ghost use Rattle.jvm_code.specs.Opcodes.{conversion_opcode};
+ghost use Rattle.class_definition.specs.Opcodes.{conversion_opcode};
 
-use jvm_names::Conversion;
+use jvm_definition::Conversion;
 
 /// The opcode (JVM Specification, 6.5).
 pub fn opcode_of_conversion(name: Conversion) -> u8

@@ -1,17 +1,7 @@
 ghost use Rattle.std.specs.Prelude.{◌≡◌};
-ghost use Rattle.jvm_code.specs.Opcodes.{iconst_opcode};
+ghost use Rattle.class_definition.specs.Opcodes.{iconst_opcode};
 
-/// The constants of `iconst_<n>`.
-#[derive(Clone, Copy)]
-pub enum Iconst {
-    M1,
-    Zero,
-    One,
-    Two,
-    Three,
-    Four,
-    Five,
-}
+use class_definition::Iconst;
 
 /// The opcode (JVM Specification, 6.5).
 pub fn opcode_of_iconst(name: Iconst) -> u8

@@ -1,7 +1,7 @@
 ghost use Rattle.std.specs.Prelude.{◌≡◌};
-ghost use Rattle.jvm_code.specs.Opcodes.{int_arithmetic_opcode};
+ghost use Rattle.class_definition.specs.Opcodes.{int_arithmetic_opcode};
 
-use jvm_names::IntArithmetic;
+use jvm_definition::IntArithmetic;
 
 /// The opcode (JVM Specification, 6.5).
 pub fn opcode_of_int_arithmetic(name: IntArithmetic) -> u8

@@ -1,7 +1,7 @@
 ghost use Rattle.std.specs.Prelude.{◌≡◌};
-ghost use Rattle.jvm_code.specs.Opcodes.{int_division_opcode};
+ghost use Rattle.class_definition.specs.Opcodes.{int_division_opcode};
 
-use jvm_names::IntDivision;
+use jvm_definition::IntDivision;
 
 /// The opcode (JVM Specification, 6.5).
 pub fn opcode_of_int_division(name: IntDivision) -> u8

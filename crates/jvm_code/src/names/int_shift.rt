@@ -1,7 +1,7 @@
 ghost use Rattle.std.specs.Prelude.{◌≡◌};
-ghost use Rattle.jvm_code.specs.Opcodes.{int_shift_opcode};
+ghost use Rattle.class_definition.specs.Opcodes.{int_shift_opcode};
 
-use jvm_names::IntShift;
+use jvm_definition::IntShift;
 
 /// The opcode (JVM Specification, 6.5).
 pub fn opcode_of_int_shift(name: IntShift) -> u8

@@ -1,14 +1,7 @@
 ghost use Rattle.std.specs.Prelude.{◌≡◌};
-ghost use Rattle.jvm_code.specs.Opcodes.{local_name_opcode};
+ghost use Rattle.class_definition.specs.Opcodes.{local_name_opcode};
 
-/// Loads of a local variable and stores to one.
-#[derive(Clone, Copy)]
-pub enum LocalName {
-    Iload,
-    Aload,
-    Istore,
-    Astore,
-}
+use class_definition::LocalName;
 
 /// The opcode (JVM Specification, 6.5).
 pub fn opcode_of_local_name(name: LocalName) -> u8

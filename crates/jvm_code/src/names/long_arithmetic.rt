@@ -1,7 +1,7 @@
 ghost use Rattle.std.specs.Prelude.{◌≡◌};
-ghost use Rattle.jvm_code.specs.Opcodes.{long_arithmetic_opcode};
+ghost use Rattle.class_definition.specs.Opcodes.{long_arithmetic_opcode};
 
-use jvm_names::LongArithmetic;
+use jvm_definition::LongArithmetic;
 
 /// The opcode (JVM Specification, 6.5).
 pub fn opcode_of_long_arithmetic(name: LongArithmetic) -> u8

@@ -1,7 +1,7 @@
 ghost use Rattle.std.specs.Prelude.{◌≡◌};
-ghost use Rattle.jvm_code.specs.Opcodes.{long_division_opcode};
+ghost use Rattle.class_definition.specs.Opcodes.{long_division_opcode};
 
-use jvm_names::LongDivision;
+use jvm_definition::LongDivision;
 
 /// The opcode (JVM Specification, 6.5).
 pub fn opcode_of_long_division(name: LongDivision) -> u8

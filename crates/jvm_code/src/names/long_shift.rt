@@ -1,7 +1,7 @@
 ghost use Rattle.std.specs.Prelude.{◌≡◌};
-ghost use Rattle.jvm_code.specs.Opcodes.{long_shift_opcode};
+ghost use Rattle.class_definition.specs.Opcodes.{long_shift_opcode};
 
-use jvm_names::LongShift;
+use jvm_definition::LongShift;
 
 /// The opcode (JVM Specification, 6.5).
 pub fn opcode_of_long_shift(name: LongShift) -> u8

@@ -1,17 +1,7 @@
 ghost use Rattle.std.specs.Prelude.{◌≡◌};
-ghost use Rattle.jvm_code.specs.Opcodes.{pool_name_opcode};
+ghost use Rattle.class_definition.specs.Opcodes.{pool_name_opcode};
 
-/// Instructions with a slot of the constant pool, of two bytes.
-#[derive(Clone, Copy)]
-pub enum PoolName {
-    LdcW,
-    Ldc2W,
-    Getstatic,
-    Putstatic,
-    Invokevirtual,
-    Invokestatic,
-    Anewarray,
-}
+use class_definition::PoolName;
 
 /// The opcode (JVM Specification, 6.5).
 pub fn opcode_of_pool_name(name: PoolName) -> u8

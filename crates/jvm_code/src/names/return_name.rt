@@ -1,7 +1,7 @@
 ghost use Rattle.std.specs.Prelude.{◌≡◌};
-ghost use Rattle.jvm_code.specs.Opcodes.{return_name_opcode};
+ghost use Rattle.class_definition.specs.Opcodes.{return_name_opcode};
 
-use jvm_names::ReturnName;
+use jvm_definition::ReturnName;
 
 /// The opcode (JVM Specification, 6.5).
 pub fn opcode_of_return_name(name: ReturnName) -> u8

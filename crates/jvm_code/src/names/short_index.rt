@@ -1,16 +1,7 @@
 ghost use Rattle.std.specs.Prelude.{◌≡◌};
-ghost use Rattle.jvm_code.specs.Opcodes.{short_opcode, first_opcode};
+ghost use Rattle.class_definition.specs.Opcodes.{short_opcode, first_opcode};
 
-use crate::names::local_name::LocalName;
-
-/// The local variables that an opcode can name by itself.
-#[derive(Clone, Copy)]
-pub enum ShortIndex {
-    Zero,
-    One,
-    Two,
-    Three,
-}
+use class_definition::{LocalName, ShortIndex};
 
 /// The opcode of a load or store that names its local variable by itself.
 pub fn opcode_of_short(name: LocalName, index: ShortIndex) -> u8

@@ -1,7 +1,7 @@
 ghost use Rattle.std.specs.Prelude.{◌≡◌};
-ghost use Rattle.jvm_code.specs.Opcodes.{stack_name_opcode};
+ghost use Rattle.class_definition.specs.Opcodes.{stack_name_opcode};
 
-use jvm_names::StackName;
+use jvm_definition::StackName;
 
 /// The opcode (JVM Specification, 6.5).
 pub fn opcode_of_stack_name(name: StackName) -> u8

@@ -1,26 +1,26 @@
 -- An access by a method that loads: by its tests it calls the method that ends the run, or goes on with the word at the address.
 use Rattle.std.proofs.Common.{◌≡◌, ℕ, ◌+◌, ◌/◌, ◌%◌, ◌^◌, ◌<◌, ◌≤◌, ◌==◌, Bool, true, false, ◌⊎◌, inl, inr, List, [], ◌∷◌, ◌++◌, length, Option, Some, None, is_none, refl, ap, sym, ◌∙◌, arith, lit≤, append_assoc, length-append}
 use Rattle.std.proofs.lemmas.Bool.{eqb-true, eqb-false, cases_lt}
-use Rattle.nv_words.specs.Words.{IsWord, lane_of_word}
-use Rattle.nv_words.specs.declared.order.Order.{Order}
-use Rattle.nv_events.specs.Memory.{Memory}
-use Rattle.mips_decode.specs.Effect.{read_unmapped_fault, read_align_fault}
-use Rattle.jvm_names.specs.declared.stack_name.StackName.TheVariants.{Pop}
-use Rattle.jvm_program.specs.declared.value.Value.{Value}
-use Rattle.jvm_program.specs.declared.value.Value.TheVariants.{Int as int, Null as null, Array as array}
-use Rattle.jvm_program.specs.Program.{Program}
-use Rattle.jvm_program.specs.Values.{Heap}
-use Rattle.jvm_program.specs.Effect.{Workspace, Effect, gives, enters}
-use Rattle.jvm_program.specs.Stretch.{body_workspace}
-use Rattle.code_steps.specs.declared.step.Step.{Step}
-use Rattle.code_steps.specs.Outcomes.{Outcome, outcome, outcome_from}
-use Rattle.guest_layout.specs.FieldNumbers.{page_count, readable_field}
+use Rattle.run_definition.specs.Words.{IsWord, lane_of_word}
+use Rattle.run_definition.specs.declared.order.Order.{Order}
+use Rattle.run_definition.specs.Memory.{Memory}
+use Rattle.mips_definition.specs.Effect.{read_unmapped_fault, read_align_fault}
+use Rattle.jvm_definition.specs.declared.stack_name.StackName.TheVariants.{Pop}
+use Rattle.jvm_definition.specs.declared.value.Value.{Value}
+use Rattle.jvm_definition.specs.declared.value.Value.TheVariants.{Int as int, Null as null, Array as array}
+use Rattle.jvm_definition.specs.Program.{Program}
+use Rattle.jvm_definition.specs.Values.{Heap}
+use Rattle.jvm_definition.specs.Effect.{Workspace, InstructionEffect, gives, enters}
+use Rattle.jvm_definition_laws.specs.Stretch.{body_workspace}
+use Rattle.emit_steps.specs.declared.step.Step.{Step}
+use Rattle.emit_steps.specs.Outcomes.{Outcome, outcome, outcome_from}
+use Rattle.emit_layout.specs.FieldNumbers.{page_count, readable_field}
 use Rattle.mem_helpers.specs.Parts.{page_code, stack, unfit_code}
 use Rattle.mem_helpers.specs.Loads as loads
 use Rattle.mem_helpers.specs.Loads.{word_code, read_fault_code, read_fault_number, loading}
-use Rattle.guest_follows.specs.Match.{HoldsMemory}
-use Rattle.guest_follows.proofs.ReadLemmas.{lane-read, unread, high-unread}
-use Rattle.guest_follows.specs.Helpers.{IsHelper}
+use Rattle.emit_simulation_laws.specs.Match.{HoldsMemory}
+use Rattle.emit_simulation_laws.proofs.ReadLemmas.{lane-read, unread, high-unread}
+use Rattle.emit_simulation_laws.specs.Helpers.{IsHelper}
 use Rattle.mem_helpers_laws.specs.Loading.{FaultsAt, LoadsAs}
 use Rattle.mem_helpers_laws.proofs.LoadLaws.Coming.{Comes, laters, Comes-after, Comes-behind}
 use Rattle.mem_helpers_laws.proofs.LoadLaws.Widths.{over_all, IsWidth}
@@ -82,7 +82,7 @@ module _ (program : Program) (words bytes bits turns : ℕ) (order : Order) (wid
   abbrev begins : Workspace
   begins = body_workspace given caller
 
-  abbrev calling : Effect
+  abbrev calling : InstructionEffect
   calling = enters read_fault_number (int a ∷ int pc ∷ int bits ∷ []) begins
 
   -- ---- the two ways to the method that ends the run

@@ -2,25 +2,25 @@
 use Rattle.std.proofs.Common.{◌≡◌, ℕ, ◌+◌, ◌/◌, ◌%◌, ◌^◌, ◌≤◌, ◌==◌, true, List, [], ◌∷◌, ◌++◌, is_none, refl, ap, sym, ◌∙◌, arith, lit≤, append_assoc}
 use Rattle.std.proofs.lemmas.Bool.{eq-eqb}
 use Rattle.std.proofs.lemmas.Nat.{and_mask}
-use Rattle.nv_words.specs.declared.order.Order.{Order}
-use Rattle.nv_words.specs.declared.order.Order.TheVariants.{Big, Little}
-use Rattle.nv_events.specs.Memory.{Memory}
-use Rattle.mips_decode.specs.Memory.{byte_at, half_at}
-use Rattle.mips_decode.specs.Arithmetic.{sign_extended}
-use Rattle.mips_decode.specs.declared.names.load_name.LoadName.TheVariants.{Lb, Lbu, Lh, Lhu}
-use Rattle.jvm_names.specs.declared.conversion.Conversion.{Conversion}
-use Rattle.jvm_names.specs.declared.conversion.Conversion.TheVariants.{I2b, I2c, I2s}
-use Rattle.jvm_names.specs.declared.int_arithmetic.IntArithmetic.TheVariants.{Iand}
-use Rattle.jvm_names.specs.declared.int_shift.IntShift.TheVariants.{Iushr}
-use Rattle.jvm_program.specs.declared.value.Value.{Value}
-use Rattle.jvm_program.specs.declared.value.Value.TheVariants.{Int as int}
-use Rattle.jvm_program.specs.Program.{Program}
-use Rattle.jvm_program.specs.Values.{Heap}
-use Rattle.jvm_program.specs.Effect.{Workspace}
-use Rattle.jvm_program.specs.Stretch.{body_workspace}
-use Rattle.code_steps.specs.declared.step.Step.{Step}
-use Rattle.code_steps.specs.Outcomes.{Outcome, outcome}
-use Rattle.guest_code.specs.Access.{push_word, arithmetic}
+use Rattle.run_definition.specs.declared.order.Order.{Order}
+use Rattle.run_definition.specs.declared.order.Order.TheVariants.{Big, Little}
+use Rattle.run_definition.specs.Memory.{Memory}
+use Rattle.mips_definition.specs.Memory.{byte_at, half_at}
+use Rattle.mips_definition.specs.Arithmetic.{sign_extended}
+use Rattle.mips_definition.specs.declared.names.load_name.LoadName.TheVariants.{Lb, Lbu, Lh, Lhu}
+use Rattle.jvm_definition.specs.declared.conversion.Conversion.{Conversion}
+use Rattle.jvm_definition.specs.declared.conversion.Conversion.TheVariants.{I2b, I2c, I2s}
+use Rattle.jvm_definition.specs.declared.int_arithmetic.IntArithmetic.TheVariants.{Iand}
+use Rattle.jvm_definition.specs.declared.int_shift.IntShift.TheVariants.{Iushr}
+use Rattle.jvm_definition.specs.declared.value.Value.{Value}
+use Rattle.jvm_definition.specs.declared.value.Value.TheVariants.{Int as int}
+use Rattle.jvm_definition.specs.Program.{Program}
+use Rattle.jvm_definition.specs.Values.{Heap}
+use Rattle.jvm_definition.specs.Effect.{Workspace}
+use Rattle.jvm_definition_laws.specs.Stretch.{body_workspace}
+use Rattle.emit_steps.specs.declared.step.Step.{Step}
+use Rattle.emit_steps.specs.Outcomes.{Outcome, outcome}
+use Rattle.emit_instructions.specs.Access.{push_word, arithmetic}
 use Rattle.mem_helpers.specs.Parts.{shift, backward_code}
 use Rattle.mem_helpers.specs.Loads.{gives, loading, byte_code, half_code, turned_half_code, converted}
 use Rattle.mem_helpers_laws.specs.Loading.{LoadsAs, LoadsByName}

@@ -1,10 +1,10 @@
 -- What the methods that load count, by computation.
 use Rattle.std.proofs.Common.{refl}
-use Rattle.nv_words.specs.declared.order.Order.{Order}
-use Rattle.nv_words.specs.declared.order.Order.TheVariants.{Big, Little}
-use Rattle.mips_decode.specs.declared.names.load_name.LoadName.{LoadName}
-use Rattle.mips_decode.specs.declared.names.load_name.LoadName.TheVariants.{Lb, Lh, Lwl, Lw, Lbu, Lhu, Lwr}
-use Rattle.guest_code.specs.Helpers.{load_helper, load_linked_helper}
+use Rattle.run_definition.specs.declared.order.Order.{Order}
+use Rattle.run_definition.specs.declared.order.Order.TheVariants.{Big, Little}
+use Rattle.mips_definition.specs.declared.names.load_name.LoadName.{LoadName}
+use Rattle.mips_definition.specs.declared.names.load_name.LoadName.TheVariants.{Lb, Lh, Lwl, Lw, Lbu, Lhu, Lwr}
+use Rattle.emit_instructions.specs.Helpers.{load_helper, load_linked_helper}
 use Rattle.mem_helpers.specs.Methods.{helper_code}
 use Rattle.mem_helpers_laws.specs.Counting.{CountsReads}
 

@@ -1,16 +1,16 @@
 -- How the code behind a word that was read comes to its return.
 use Rattle.std.proofs.Common.{◌≡◌, ℕ, ◌+◌, ◌≤◌, List, [], ◌∷◌, ◌++◌, Some, refl, ap, ◌∙◌, arith}
-use Rattle.nv_words.specs.Words.{IsWord}
-use Rattle.nv_words.specs.declared.order.Order.{Order}
-use Rattle.nv_words.specs.declared.order.Order.TheVariants.{Big, Little}
-use Rattle.mips_decode.specs.Memory.{word_of_lanes}
-use Rattle.jvm_program.specs.declared.value.Value.{Value}
-use Rattle.jvm_program.specs.declared.value.Value.TheVariants.{Int as int}
-use Rattle.jvm_program.specs.Program.{Program}
-use Rattle.jvm_program.specs.Values.{Heap}
-use Rattle.jvm_program.specs.Effect as effects
-use Rattle.code_steps.specs.declared.step.Step.{Step}
-use Rattle.code_steps.specs.Outcomes.{Outcome, stopped, outcome}
+use Rattle.run_definition.specs.Words.{IsWord}
+use Rattle.run_definition.specs.declared.order.Order.{Order}
+use Rattle.run_definition.specs.declared.order.Order.TheVariants.{Big, Little}
+use Rattle.mips_definition.specs.Memory.{word_of_lanes}
+use Rattle.jvm_definition.specs.declared.value.Value.{Value}
+use Rattle.jvm_definition.specs.declared.value.Value.TheVariants.{Int as int}
+use Rattle.jvm_definition.specs.Program.{Program}
+use Rattle.jvm_definition.specs.Values.{Heap}
+use Rattle.jvm_definition.specs.Effect as effects
+use Rattle.emit_steps.specs.declared.step.Step.{Step}
+use Rattle.emit_steps.specs.Outcomes.{Outcome, stopped, outcome}
 use Rattle.mem_helpers.specs.Parts.{ordered_code}
 use Rattle.mem_helpers.specs.Loads.{gives}
 use Rattle.mem_helpers_laws.proofs.LoadLaws.Coming.{laters, Comes-after}

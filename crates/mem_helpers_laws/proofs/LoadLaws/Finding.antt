@@ -2,25 +2,25 @@
 use Rattle.std.proofs.Common.{◌≡◌, ℕ, ◌+◌, ◌/◌, ◌%◌, ◌<◌, bit_and, pos, true, false, List, [], ◌∷◌, ◌++◌, Option, Some, None, refl, arith, lit≤}
 use Rattle.std.proofs.lemmas.Bool.{lt-ltb}
 use Rattle.std.proofs.lemmas.Nat.{and_mask}
-use Rattle.nv_words.specs.Words.{signed_of}
-use Rattle.nv_words.specs.declared.order.Order.{Order}
-use Rattle.mips_decode.specs.Effect.{read_unmapped_fault, read_align_fault}
-use Rattle.jvm_names.specs.declared.stack_name.StackName.TheVariants.{Pop}
-use Rattle.jvm_program.specs.declared.value.Value.{Value}
-use Rattle.jvm_program.specs.declared.value.Value.TheVariants.{Int as int, Null as null, Array as array}
-use Rattle.jvm_program.specs.Program.{Program}
-use Rattle.jvm_program.specs.Values.{Heap, pages}
-use Rattle.jvm_program.specs.Effect.{Workspace, same, enters}
-use Rattle.jvm_program.specs.Stretch.{body_workspace}
-use Rattle.code_steps.specs.declared.step.Step.{Step}
-use Rattle.code_steps.specs.Outcomes.{outcome, outcome_from}
-use Rattle.guest_layout.specs.FieldNumbers.{page_count}
+use Rattle.run_definition.specs.Words.{signed_of}
+use Rattle.run_definition.specs.declared.order.Order.{Order}
+use Rattle.mips_definition.specs.Effect.{read_unmapped_fault, read_align_fault}
+use Rattle.jvm_definition.specs.declared.stack_name.StackName.TheVariants.{Pop}
+use Rattle.jvm_definition.specs.declared.value.Value.{Value}
+use Rattle.jvm_definition.specs.declared.value.Value.TheVariants.{Int as int, Null as null, Array as array}
+use Rattle.jvm_definition.specs.Program.{Program}
+use Rattle.jvm_definition.specs.Values.{Heap, pages}
+use Rattle.jvm_definition.specs.Effect.{Workspace, same_integer, enters}
+use Rattle.jvm_definition_laws.specs.Stretch.{body_workspace}
+use Rattle.emit_steps.specs.declared.step.Step.{Step}
+use Rattle.emit_steps.specs.Outcomes.{outcome, outcome_from}
+use Rattle.emit_layout.specs.FieldNumbers.{page_count}
 use Rattle.mem_helpers.specs.Parts.{page_code, stack}
 use Rattle.mem_helpers.specs.Loads.{word_code, read_fault_code, read_fault_number}
 use Rattle.mem_helpers.specs.Methods.{read_fault_method}
-use Rattle.guest_follows.specs.Match.{IsPage}
-use Rattle.guest_follows.specs.Outcomes.{Faults}
-use Rattle.guest_follows.specs.Helpers.{IsHelper}
+use Rattle.emit_simulation_laws.specs.Match.{IsPage}
+use Rattle.emit_simulation_laws.specs.Outcomes.{Faults}
+use Rattle.emit_simulation_laws.specs.Helpers.{IsHelper}
 use Rattle.mem_helpers_laws.proofs.LoadLaws.Coming.{Comes, laters}
 use Rattle.mem_helpers_laws.proofs.LoadLaws.Widths.{over_all}
 
@@ -67,7 +67,7 @@ module _ (program : Program) (words a pc bits : ℕ) (caller : Workspace) where
   ends_in kind =
       Faults program words 60 read_fault_method (int a ∷ int pc ∷ int bits ∷ []) caller (record { kind = kind; pc = pc; value = a })
 
-  pub ends-unaligned : same (signed_of (bit_and a bits)) (pos 0) ≡ false → ends_in read_align_fault
+  pub ends-unaligned : same_integer (signed_of (bit_and a bits)) (pos 0) ≡ false → ends_in read_align_fault
   ends-unaligned test = record {
     turns = 7;
     step = 9;
@@ -76,7 +76,7 @@ module _ (program : Program) (words a pc bits : ℕ) (caller : Workspace) where
     in_time = lit≤ tt;
   }
 
-  pub ends-unmapped : same (signed_of (bit_and a bits)) (pos 0) ≡ true → ends_in read_unmapped_fault
+  pub ends-unmapped : same_integer (signed_of (bit_and a bits)) (pos 0) ≡ true → ends_in read_unmapped_fault
   ends-unmapped test = record {
     turns = 8;
     step = 9;

@@ -2,7 +2,7 @@
 use Rattle.std.proofs.Common.{◌≡◌, ℕ, ◌+◌, ◌-◌, ◌*◌, ◌/◌, ◌%◌, ◌^◌, ◌<◌, bit_and, bit_or, bit_xor, ◌⊎◌, inl, inr, refl, ap, subst, ◌∙◌, arith}
 use Rattle.std.proofs.lemmas.Nat.{and_mask, or_shifted, xor_mod}
 use Rattle.std.proofs.lemmas.Bool.{cases_eq}
-use Rattle.nv_words.specs.Words.{IsWord, lane_of_word, half_of_bytes}
+use Rattle.run_definition.specs.Words.{IsWord, lane_of_word, half_of_bytes}
 use Rattle.nv_words.proofs.LaneLemmas.{below_four}
 
 -- eight times the address whose low bits are turned, as a count of a shift

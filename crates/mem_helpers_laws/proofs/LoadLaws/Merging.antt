@@ -3,13 +3,13 @@ use Rattle.std.proofs.Common.{◌≡◌, ℕ, ◌+◌, ◌-◌, ◌*◌, ◌/◌
 use Rattle.std.proofs.lemmas.Bool.{lt-ltb, le-ltb, le-leb, lt-leb, ltb-true, leb-true, cases_lt}
 use Rattle.std.proofs.lemmas.Nat.{and_mask, or_comm, or_shifted, mod_below, pow_pos}
 use Rattle.std.proofs.lemmas.Nat.Bits.{and_high}
-use Rattle.nv_words.specs.Words.{IsWord, lane_of_word, lane_in_order, word_of_bytes}
-use Rattle.nv_words.specs.declared.order.Order.{Order}
-use Rattle.nv_words.specs.declared.order.Order.TheVariants.{Big, Little}
+use Rattle.run_definition.specs.Words.{IsWord, lane_of_word, lane_in_order, word_of_bytes}
+use Rattle.run_definition.specs.declared.order.Order.{Order}
+use Rattle.run_definition.specs.declared.order.Order.TheVariants.{Big, Little}
 use Rattle.nv_words.proofs.LaneLemmas.{below_four, lane_of_word-lt, lane_of_word-of_bytes}
-use Rattle.nv_events.specs.Memory.{Memory}
-use Rattle.mips_decode.specs.Memory as guest
-use Rattle.mips_decode.specs.Memory.{byte_at, merged, merged_lane, left_part, right_part}
+use Rattle.run_definition.specs.Memory.{Memory}
+use Rattle.mips_definition.specs.Memory as guest
+use Rattle.mips_definition.specs.Memory.{byte_at, merged, merged_lane, left_part, right_part}
 use Rattle.mem_helpers_laws.proofs.LoadLaws.Accessing.{IsWordAt}
 use Rattle.mem_helpers_laws.proofs.LoadLaws.Whole.{byte-is}
 

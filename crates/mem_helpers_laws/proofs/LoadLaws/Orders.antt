@@ -3,22 +3,22 @@ use Rattle.std.proofs.Common.{◌≡◌, ℕ, ◌+◌, ◌*◌, ◌/◌, ◌%◌
 use Rattle.std.proofs.lemmas.Bool.{eq-eqb}
 use Rattle.std.proofs.lemmas.Nat.{or_comm, or_shifted}
 use Rattle.std.proofs.lemmas.Nat.Bits.{and_high}
-use Rattle.nv_words.specs.Words.{IsWord, lane_of_word, word_of_bytes}
-use Rattle.nv_words.specs.declared.order.Order.{Order}
-use Rattle.nv_words.specs.declared.order.Order.TheVariants.{Big, Little}
-use Rattle.mips_decode.specs.Memory.{word_of_lanes}
-use Rattle.jvm_names.specs.declared.int_arithmetic.IntArithmetic.TheVariants.{Iand, Ior}
-use Rattle.jvm_names.specs.declared.int_shift.IntShift.TheVariants.{Ishl, Iushr}
-use Rattle.jvm_program.specs.declared.value.Value.{Value}
-use Rattle.jvm_program.specs.declared.value.Value.TheVariants.{Int as int}
-use Rattle.jvm_program.specs.Program.{Program}
-use Rattle.jvm_program.specs.Values.{Heap}
-use Rattle.jvm_program.specs.declared.local_kind.LocalKind.TheVariants as local_kinds
-use Rattle.jvm_program.specs.declared.instruction.Instruction.TheVariants as instructions
-use Rattle.code_steps.specs.declared.step.Step.{Step}
-use Rattle.code_steps.specs.Outcomes.{Outcome, outcome, later}
-use Rattle.code_steps.specs.declared.step.Step.TheVariants.{Does}
-use Rattle.guest_code.specs.Access.{push_word, arithmetic}
+use Rattle.run_definition.specs.Words.{IsWord, lane_of_word, word_of_bytes}
+use Rattle.run_definition.specs.declared.order.Order.{Order}
+use Rattle.run_definition.specs.declared.order.Order.TheVariants.{Big, Little}
+use Rattle.mips_definition.specs.Memory.{word_of_lanes}
+use Rattle.jvm_definition.specs.declared.int_arithmetic.IntArithmetic.TheVariants.{Iand, Ior}
+use Rattle.jvm_definition.specs.declared.int_shift.IntShift.TheVariants.{Ishl, Iushr}
+use Rattle.jvm_definition.specs.declared.value.Value.{Value}
+use Rattle.jvm_definition.specs.declared.value.Value.TheVariants.{Int as int}
+use Rattle.jvm_definition.specs.Program.{Program}
+use Rattle.jvm_definition.specs.Values.{Heap}
+use Rattle.jvm_definition.specs.declared.local_kind.LocalKind.TheVariants as local_kinds
+use Rattle.jvm_definition.specs.declared.instruction.Instruction.TheVariants as instructions
+use Rattle.emit_steps.specs.declared.step.Step.{Step}
+use Rattle.emit_steps.specs.Outcomes.{Outcome, outcome, later}
+use Rattle.emit_steps.specs.declared.step.Step.TheVariants.{Does}
+use Rattle.emit_instructions.specs.Access.{push_word, arithmetic}
 use Rattle.mem_helpers.specs.Parts.{load, shift, reversed_code, ordered_code}
 use Rattle.mem_helpers_laws.proofs.LoadLaws.Coming.{laters}
 use Rattle.mem_helpers_laws.proofs.LoadLaws.Widths.{over_all}

@@ -1,26 +1,26 @@
 -- LWL and LWR by their methods.
 use Rattle.std.proofs.Common.{◌≡◌, ℕ, ◌*◌, ◌%◌, ◌^◌, ◌<◌, ◌≤◌, bit_and, bit_or, bit_xor, true, List, [], ◌∷◌, ◌++◌, is_none, refl, ap, sym, ◌∙◌, arith, lit≤, append_assoc}
 use Rattle.std.proofs.lemmas.Bool.{eq-eqb}
-use Rattle.nv_words.specs.Words.{IsWord}
-use Rattle.nv_words.specs.declared.order.Order.{Order}
-use Rattle.nv_words.specs.declared.order.Order.TheVariants.{Big, Little}
-use Rattle.nv_events.specs.Memory.{Memory}
-use Rattle.mips_decode.specs.Memory as guest
-use Rattle.mips_decode.specs.Memory.{merged, left_part, right_part}
-use Rattle.mips_decode.specs.declared.names.load_name.LoadName.TheVariants.{Lwl, Lwr}
-use Rattle.jvm_names.specs.declared.int_arithmetic.IntArithmetic.TheVariants.{Iand, Ior, Ixor}
-use Rattle.jvm_names.specs.declared.int_shift.IntShift.{IntShift}
-use Rattle.jvm_names.specs.declared.int_shift.IntShift.TheVariants.{Ishl, Iushr}
-use Rattle.jvm_program.specs.declared.value.Value.{Value}
-use Rattle.jvm_program.specs.declared.value.Value.TheVariants.{Int as int}
-use Rattle.jvm_program.specs.Program.{Program}
-use Rattle.jvm_program.specs.Values.{Heap}
-use Rattle.jvm_program.specs.Words.{int_shifted}
-use Rattle.jvm_program.specs.Effect.{Workspace}
-use Rattle.jvm_program.specs.Stretch.{body_workspace}
-use Rattle.code_steps.specs.declared.step.Step.{Step}
-use Rattle.code_steps.specs.Outcomes.{Outcome, outcome}
-use Rattle.guest_code.specs.Access.{push_word, arithmetic}
+use Rattle.run_definition.specs.Words.{IsWord}
+use Rattle.run_definition.specs.declared.order.Order.{Order}
+use Rattle.run_definition.specs.declared.order.Order.TheVariants.{Big, Little}
+use Rattle.run_definition.specs.Memory.{Memory}
+use Rattle.mips_definition.specs.Memory as guest
+use Rattle.mips_definition.specs.Memory.{merged, left_part, right_part}
+use Rattle.mips_definition.specs.declared.names.load_name.LoadName.TheVariants.{Lwl, Lwr}
+use Rattle.jvm_definition.specs.declared.int_arithmetic.IntArithmetic.TheVariants.{Iand, Ior, Ixor}
+use Rattle.jvm_definition.specs.declared.int_shift.IntShift.{IntShift}
+use Rattle.jvm_definition.specs.declared.int_shift.IntShift.TheVariants.{Ishl, Iushr}
+use Rattle.jvm_definition.specs.declared.value.Value.{Value}
+use Rattle.jvm_definition.specs.declared.value.Value.TheVariants.{Int as int}
+use Rattle.jvm_definition.specs.Program.{Program}
+use Rattle.jvm_definition.specs.Values.{Heap}
+use Rattle.jvm_definition.specs.Words.{int_shifted}
+use Rattle.jvm_definition.specs.Effect.{Workspace}
+use Rattle.jvm_definition_laws.specs.Stretch.{body_workspace}
+use Rattle.emit_steps.specs.declared.step.Step.{Step}
+use Rattle.emit_steps.specs.Outcomes.{Outcome, outcome}
+use Rattle.emit_instructions.specs.Access.{push_word, arithmetic}
 use Rattle.mem_helpers.specs.declared.amount.Amount.{Amount}
 use Rattle.mem_helpers.specs.declared.amount.Amount.TheVariants.{Forward, Backward}
 use Rattle.mem_helpers.specs.Parts.{load, shift, amount_code, left_amount, right_amount, ordered_code}

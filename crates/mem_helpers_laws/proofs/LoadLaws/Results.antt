@@ -1,19 +1,19 @@
 -- What is loaded is a word.
 use Rattle.std.proofs.Common.{◌≡◌, ℕ, ◌+◌, ◌/◌, ◌%◌, ◌^◌, ◌-◌, ◌<◌, ◌≤◌, nat_lt, ◌⊎◌, inl, inr, Option, Some, None, unwrap_or, if◌then◌else◌, Bool, true, false, refl, ap, arith}
 use Rattle.std.proofs.lemmas.Bool.{cases_lt}
-use Rattle.nv_words.specs.Words.{IsWord, lane_of_word}
-use Rattle.nv_words.specs.declared.order.Order.{Order}
-use Rattle.nv_words.specs.declared.order.Order.TheVariants.{Big, Little}
+use Rattle.run_definition.specs.Words.{IsWord, lane_of_word}
+use Rattle.run_definition.specs.declared.order.Order.{Order}
+use Rattle.run_definition.specs.declared.order.Order.TheVariants.{Big, Little}
 use Rattle.nv_words.proofs.LaneLemmas.{lane_of_word-lt}
-use Rattle.nv_events.specs.Memory.{Memory}
-use Rattle.mips_decode.specs.Loads.{loaded}
-use Rattle.mips_decode.specs.Memory.{byte_at, half_at, merged, left_part, right_part}
-use Rattle.mips_decode.specs.declared.names.load_name.LoadName.{LoadName}
-use Rattle.mips_decode.specs.declared.names.load_name.LoadName.TheVariants.{Lb, Lh, Lwl, Lw, Lbu, Lhu, Lwr}
-use Rattle.jvm_program.specs.Values.{Heap}
-use Rattle.guest_layout.specs.FieldNumbers.{page_count}
-use Rattle.guest_follows.specs.Match.{HoldsMemory}
-use Rattle.guest_follows.proofs.ReadLemmas.{lane-read, unread, high-unread}
+use Rattle.run_definition.specs.Memory.{Memory}
+use Rattle.mips_definition.specs.Loads.{loaded_word}
+use Rattle.mips_definition.specs.Memory.{byte_at, half_at, merged, left_part, right_part}
+use Rattle.mips_definition.specs.declared.names.load_name.LoadName.{LoadName}
+use Rattle.mips_definition.specs.declared.names.load_name.LoadName.TheVariants.{Lb, Lh, Lwl, Lw, Lbu, Lhu, Lwr}
+use Rattle.jvm_definition.specs.Values.{Heap}
+use Rattle.emit_layout.specs.FieldNumbers.{page_count}
+use Rattle.emit_simulation_laws.specs.Match.{HoldsMemory}
+use Rattle.emit_simulation_laws.proofs.ReadLemmas.{lane-read, unread, high-unread}
 
 -- by the sign
 extended-byte : (n : ℕ) → n < 2 ^ 8 → (b : Bool) → IsWord (if b then n else n + (2 ^ 32 - 2 ^ 8))
@@ -58,7 +58,7 @@ module _ (heap : Heap) (readable writable : ℕ) (memory : Memory) (h : HoldsMem
     half-small Big = let first = IsByte a in let second = IsByte (a + 1) in omega arith
     half-small Little = let first = IsByte a in let second = IsByte (a + 1) in omega arith
 
-    pub IsWord-loaded : (order : Order) (name : LoadName) → IsWord (loaded name order memory a old)
+    pub IsWord-loaded : (order : Order) (name : LoadName) → IsWord (loaded_word name order memory a old)
     IsWord-loaded order Lb = let small = IsByte a in extended-byte (byte_at memory a) small (nat_lt (byte_at memory a) (2 ^ 7))
     IsWord-loaded order Lbu = let small = IsByte a in omega arith
     IsWord-loaded order Lh = extended-half (half_at order memory a) (half-small order) (nat_lt (half_at order memory a) (2 ^ 15))

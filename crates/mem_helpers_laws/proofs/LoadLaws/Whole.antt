@@ -1,24 +1,24 @@
 -- LW and LL by their methods.
 use Rattle.std.proofs.Common.{◌≡◌, ℕ, ◌+◌, ◌/◌, ◌%◌, List, [], ◌∷◌, ◌++◌, is_none, unwrap_or, refl, ap, sym, ◌∙◌, arith, lit≤, append_assoc}
-use Rattle.nv_words.specs.Words.{lane_of_word}
-use Rattle.nv_words.specs.declared.order.Order.{Order}
-use Rattle.nv_words.specs.declared.order.Order.TheVariants.{Big, Little}
+use Rattle.run_definition.specs.Words.{lane_of_word}
+use Rattle.run_definition.specs.declared.order.Order.{Order}
+use Rattle.run_definition.specs.declared.order.Order.TheVariants.{Big, Little}
 use Rattle.nv_words.proofs.LaneLemmas.{word_of_lanes}
-use Rattle.nv_events.specs.Memory.{Memory}
-use Rattle.mips_decode.specs.Loads.{load_aligned}
-use Rattle.mips_decode.specs.Memory as guest
-use Rattle.mips_decode.specs.Memory.{byte_at, word_at}
-use Rattle.mips_decode.specs.declared.names.load_name.LoadName.TheVariants.{Lw}
-use Rattle.jvm_program.specs.declared.value.Value.{Value}
-use Rattle.jvm_program.specs.declared.value.Value.TheVariants.{Int as int}
-use Rattle.jvm_program.specs.Program.{Program}
-use Rattle.jvm_program.specs.Values.{Heap}
-use Rattle.jvm_program.specs.Effect.{Workspace}
-use Rattle.jvm_program.specs.Stretch.{body_workspace}
-use Rattle.code_steps.specs.declared.step.Step.{Step}
-use Rattle.code_steps.specs.Outcomes.{outcome}
-use Rattle.guest_code.specs.Access.{push_word, put_field}
-use Rattle.guest_code.specs.Fields.{link_field, linked_field}
+use Rattle.run_definition.specs.Memory.{Memory}
+use Rattle.mips_definition.specs.Loads.{load_aligned}
+use Rattle.mips_definition.specs.Memory as guest
+use Rattle.mips_definition.specs.Memory.{byte_at, word_at}
+use Rattle.mips_definition.specs.declared.names.load_name.LoadName.TheVariants.{Lw}
+use Rattle.jvm_definition.specs.declared.value.Value.{Value}
+use Rattle.jvm_definition.specs.declared.value.Value.TheVariants.{Int as int}
+use Rattle.jvm_definition.specs.Program.{Program}
+use Rattle.jvm_definition.specs.Values.{Heap}
+use Rattle.jvm_definition.specs.Effect.{Workspace}
+use Rattle.jvm_definition_laws.specs.Stretch.{body_workspace}
+use Rattle.emit_steps.specs.declared.step.Step.{Step}
+use Rattle.emit_steps.specs.Outcomes.{outcome}
+use Rattle.emit_instructions.specs.Access.{push_word, put_field}
+use Rattle.emit_instructions.specs.Fields.{link_field, linked_field}
 use Rattle.mem_helpers.specs.Parts.{load, ordered_code}
 use Rattle.mem_helpers.specs.Loads.{gives, loading}
 use Rattle.mem_helpers_laws.specs.Loading.{LoadsAs, LoadsByName, LoadsLinked, linked_fields}

@@ -2,16 +2,16 @@
 use Rattle.std.proofs.Common.{◌≡◌, ℕ, ◌+◌, ◌*◌, ◌/◌, ◌%◌, ◌^◌, ◌<◌, ◌≤◌, ◌==◌, bit_and, int_lt, pos, not, true, false, ◌⊎◌, inl, inr, List, [], ◌++◌, refl, ap, sym, ◌∙◌, arith, lit<}
 use Rattle.std.proofs.lemmas.Bool.{lt-ltb, le-ltb, eq-eqb, ne_eqb, cases_lt}
 use Rattle.std.proofs.lemmas.Nat.{and_mask, and_block}
-use Rattle.nv_words.specs.Words.{IsWord, signed_of}
-use Rattle.jvm_program.specs.declared.value.Value.{Value}
-use Rattle.jvm_program.specs.declared.value.Value.TheVariants.{Int as int}
-use Rattle.jvm_program.specs.Program.{Program}
-use Rattle.jvm_program.specs.Values.{Heap}
-use Rattle.jvm_program.specs.Effect.{Workspace, same}
-use Rattle.code_steps.specs.declared.step.Step.{Step}
-use Rattle.code_steps.specs.Outcomes.{outcome, outcome_from}
+use Rattle.run_definition.specs.Words.{IsWord, signed_of}
+use Rattle.jvm_definition.specs.declared.value.Value.{Value}
+use Rattle.jvm_definition.specs.declared.value.Value.TheVariants.{Int as int}
+use Rattle.jvm_definition.specs.Program.{Program}
+use Rattle.jvm_definition.specs.Values.{Heap}
+use Rattle.jvm_definition.specs.Effect.{Workspace, same_integer}
+use Rattle.emit_steps.specs.declared.step.Step.{Step}
+use Rattle.emit_steps.specs.Outcomes.{outcome, outcome_from}
 use Rattle.mem_helpers.specs.Parts.{unfit_code}
-use Rattle.guest_follows.proofs.Signs.{same-signed, below-zero}
+use Rattle.emit_simulation_laws.proofs.Signs.{same-signed, below-zero}
 use Rattle.mem_helpers_laws.proofs.LoadLaws.Coming.{laters}
 
 -- what code stands over
@@ -22,12 +22,12 @@ over_all locals operands fields heap = record { locals = locals; operands = oper
 pub record IsWidth (bytes bits turns : ℕ) : Type 0 where
   pub fits : (program : Program) (words i a over : ℕ) (rest : List Step) (locals : ℕ → Value) (fields : ℕ → Value) (heap : Heap) → locals i ≡ int a → a % bytes ≡ 0 → a < 2 ^ 31 → outcome program words (unfit_code i bytes over ++ rest) (over_all locals [] fields heap) ≡ laters turns (outcome program words rest (over_all locals [] fields heap))
   pub unfit : (program : Program) (words i a over : ℕ) (rest : List Step) (locals : ℕ → Value) (fields : ℕ → Value) (heap : Heap) → IsWord a → locals i ≡ int a → (a % bytes ≡ 0 → a < 2 ^ 31 → ⊥) → outcome program words (unfit_code i bytes over ++ rest) (over_all locals [] fields heap) ≡ laters turns (outcome_from program words rest over (over_all locals [] fields heap))
-  pub kind : (a : ℕ) → same (signed_of (bit_and a bits)) (pos 0) ≡ (a % bytes == 0)
+  pub kind : (a : ℕ) → same_integer (signed_of (bit_and a bits)) (pos 0) ≡ (a % bytes == 0)
 
-zero-is-same : (x : ℕ) → x ≡ 0 → same (signed_of x) (pos 0) ≡ true
-zero-is-same x e = ap (λ n. same (signed_of n) (pos 0)) e
+zero-is-same : (x : ℕ) → x ≡ 0 → same_integer (signed_of x) (pos 0) ≡ true
+zero-is-same x e = ap (λ n. same_integer (signed_of n) (pos 0)) e
 
-other-is-apart : (x : ℕ) → IsWord x → (x ≡ 0 → ⊥) → same (signed_of x) (pos 0) ≡ false
+other-is-apart : (x : ℕ) → IsWord x → (x ≡ 0 → ⊥) → same_integer (signed_of x) (pos 0) ≡ false
 other-is-apart x word ne = same-signed x 0 word (lit< tt) ∙ ne_eqb x 0 ne
 
 -- ---- the top bit and low bits
@@ -73,27 +73,27 @@ one_byte = record {
 pub two_bytes : IsWidth 2 1 4
 two_bytes = record {
   fits = λ program words i a over rest locals fields heap is aligned low.
-      let test : same (signed_of (bit_and a 0x8000_0001)) (pos 0) ≡ true = zero-is-same (bit_and a 0x8000_0001) (top-and-one a (omega arith) ∙ omega arith) in
+      let test : same_integer (signed_of (bit_and a 0x8000_0001)) (pos 0) ≡ true = zero-is-same (bit_and a 0x8000_0001) (top-and-one a (omega arith) ∙ omega arith) in
       simp (is, test) refl;
   unfit = λ program words i a over rest locals fields heap word is misfit.
       let bits = top-and-one a word in
-      let test : same (signed_of (bit_and a 0x8000_0001)) (pos 0) ≡ false = other-is-apart (bit_and a 0x8000_0001) (omega arith) (λ e. misfit (omega arith) (omega arith)) in
+      let test : same_integer (signed_of (bit_and a 0x8000_0001)) (pos 0) ≡ false = other-is-apart (bit_and a 0x8000_0001) (omega arith) (λ e. misfit (omega arith) (omega arith)) in
       simp (is, test) refl;
   kind = λ a.
       let low : a % 2 < 2 ^ 32 = omega arith in
-      ap (λ n. same (signed_of n) (pos 0)) (and_mask a 1) ∙ same-signed (a % 2) 0 low (lit< tt);
+      ap (λ n. same_integer (signed_of n) (pos 0)) (and_mask a 1) ∙ same-signed (a % 2) 0 low (lit< tt);
 }
 
 pub four_bytes : IsWidth 4 3 4
 four_bytes = record {
   fits = λ program words i a over rest locals fields heap is aligned low.
-      let test : same (signed_of (bit_and a 0x8000_0003)) (pos 0) ≡ true = zero-is-same (bit_and a 0x8000_0003) (top-and-two a (omega arith) ∙ omega arith) in
+      let test : same_integer (signed_of (bit_and a 0x8000_0003)) (pos 0) ≡ true = zero-is-same (bit_and a 0x8000_0003) (top-and-two a (omega arith) ∙ omega arith) in
       simp (is, test) refl;
   unfit = λ program words i a over rest locals fields heap word is misfit.
       let bits = top-and-two a word in
-      let test : same (signed_of (bit_and a 0x8000_0003)) (pos 0) ≡ false = other-is-apart (bit_and a 0x8000_0003) (omega arith) (λ e. misfit (omega arith) (omega arith)) in
+      let test : same_integer (signed_of (bit_and a 0x8000_0003)) (pos 0) ≡ false = other-is-apart (bit_and a 0x8000_0003) (omega arith) (λ e. misfit (omega arith) (omega arith)) in
       simp (is, test) refl;
   kind = λ a.
       let low : a % 4 < 2 ^ 32 = omega arith in
-      ap (λ n. same (signed_of n) (pos 0)) (and_mask a 2) ∙ same-signed (a % 4) 0 low (lit< tt);
+      ap (λ n. same_integer (signed_of n) (pos 0)) (and_mask a 2) ∙ same-signed (a % 4) 0 low (lit< tt);
 }

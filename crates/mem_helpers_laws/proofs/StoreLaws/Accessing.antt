@@ -1,22 +1,22 @@
 -- The address of a store is tested and its page is found.
 use Rattle.std.proofs.Common.{◌≡◌, ℕ, ◌+◌, ◌/◌, ◌^◌, ◌<◌, ◌≤◌, ◌==◌, false, bit_and, List, [], ◌∷◌, ◌++◌, length, Some, None, refl, arith, lit≤, lit<}
 use Rattle.std.proofs.lemmas.Bool.{lt-ltb}
-use Rattle.nv_words.specs.declared.order.Order.{Order}
-use Rattle.nv_events.specs.Memory.{Memory}
-use Rattle.jvm_names.specs.declared.stack_name.StackName.TheVariants.{Pop}
-use Rattle.jvm_program.specs.declared.value.Value.{Value}
-use Rattle.jvm_program.specs.declared.value.Value.TheVariants.{Int as int, Null as null, Array as array}
-use Rattle.jvm_program.specs.Program.{Program}
-use Rattle.jvm_program.specs.Effect.{Workspace, Effect, with_operands, enters}
-use Rattle.jvm_program.specs.Stretch.{body_workspace}
-use Rattle.jvm_program.specs.declared.instruction.Instruction.TheVariants as instructions
-use Rattle.code_steps.specs.declared.step.Step.{Step}
-use Rattle.code_steps.specs.declared.step.Step.TheVariants.{Does}
-use Rattle.code_steps.specs.Outcomes.{outcome, outcome_from}
-use Rattle.guest_layout.specs.FieldNumbers.{page_count, writable_field}
+use Rattle.run_definition.specs.declared.order.Order.{Order}
+use Rattle.run_definition.specs.Memory.{Memory}
+use Rattle.jvm_definition.specs.declared.stack_name.StackName.TheVariants.{Pop}
+use Rattle.jvm_definition.specs.declared.value.Value.{Value}
+use Rattle.jvm_definition.specs.declared.value.Value.TheVariants.{Int as int, Null as null, Array as array}
+use Rattle.jvm_definition.specs.Program.{Program}
+use Rattle.jvm_definition.specs.Effect.{Workspace, InstructionEffect, with_operands, enters}
+use Rattle.jvm_definition_laws.specs.Stretch.{body_workspace}
+use Rattle.jvm_definition.specs.declared.instruction.Instruction.TheVariants as instructions
+use Rattle.emit_steps.specs.declared.step.Step.{Step}
+use Rattle.emit_steps.specs.declared.step.Step.TheVariants.{Does}
+use Rattle.emit_steps.specs.Outcomes.{outcome, outcome_from}
+use Rattle.emit_layout.specs.FieldNumbers.{page_count, writable_field}
 use Rattle.mem_helpers.specs.Parts.{stack, unfit_code, page_code, accessed}
 use Rattle.mem_helpers.specs.Stores.{write_fault_code, write_fault_number}
-use Rattle.guest_follows.specs.Helpers.{HasHelpers, IsHelper}
+use Rattle.emit_simulation_laws.specs.Helpers.{HasHelpers, IsHelper}
 use Rattle.mem_helpers_laws.specs.Storing.{HoldsTables, given_to_store}
 use Rattle.mem_helpers_laws.proofs.StoreLaws.Stopping.{Stops, laters, stops-after, stops-beyond, stops-past, stops-within}
 use Rattle.mem_helpers_laws.proofs.StoreLaws.Tests.{zero-is, zero-is_not, negative-is, negative-is_not}
@@ -34,11 +34,11 @@ module _ (program : Program) (words value a pc : ℕ) (w : Workspace) where
   -- by the test, it goes on or passes some steps over
   abbrev pub Falls : ℕ → Type 0
   Falls bytes =
-      (page found rest : List Step) (over most : ℕ) (e : Effect) → Stops most (outcome program words (page ++ found ++ rest) begins) e → Stops (4 + most) (outcome program words (unfit_code 1 bytes over ++ page ++ found ++ rest) begins) e
+      (page found rest : List Step) (over most : ℕ) (e : InstructionEffect) → Stops most (outcome program words (page ++ found ++ rest) begins) e → Stops (4 + most) (outcome program words (unfit_code 1 bytes over ++ page ++ found ++ rest) begins) e
 
   abbrev pub Passes : ℕ → Type 0
   Passes bytes =
-      (page found rest : List Step) (over most : ℕ) (e : Effect) → Stops most (outcome_from program words (page ++ found ++ rest) over begins) e → Stops (4 + most) (outcome program words (unfit_code 1 bytes over ++ page ++ found ++ rest) begins) e
+      (page found rest : List Step) (over most : ℕ) (e : InstructionEffect) → Stops most (outcome_from program words (page ++ found ++ rest) over begins) e → Stops (4 + most) (outcome program words (unfit_code 1 bytes over ++ page ++ found ++ rest) begins) e
 
   pub byte-falls : a < 2 ^ 31 → Falls 1
   byte-falls low page found rest over most e s =
@@ -69,13 +69,13 @@ module _ (program : Program) (words value a pc : ℕ) (w : Workspace) where
         simp (tables.writable_is, tables.held.writable_there, lt-ltb (a / 4096) page_count within, none) refl
 
     -- the page is there
-    pub access-done : (bytes most p : ℕ) (found fault : List Step) (e : Effect) → Falls bytes → a / 4096 < page_count → tables.held.writable_pages (a / 4096) ≡ Some p → Stops most (outcome program words (found ++ stack Pop ∷ fault) (holding (array p ∷ []))) e → Stops (4 + (7 + most)) (outcome program words (accessed writable_field 1 bytes found fault) begins) e
+    pub access-done : (bytes most p : ℕ) (found fault : List Step) (e : InstructionEffect) → Falls bytes → a / 4096 < page_count → tables.held.writable_pages (a / 4096) ≡ Some p → Stops most (outcome program words (found ++ stack Pop ∷ fault) (holding (array p ∷ []))) e → Stops (4 + (7 + most)) (outcome program words (accessed writable_field 1 bytes found fault) begins) e
     access-done bytes most p found fault e falls within here s =
         falls (page_code writable_field 1 (length found)) found (stack Pop ∷ fault) (7 + length found + 1) (7 + most) e
         (stops-after 7 (page-found within p here (found ++ stack Pop ∷ fault) (length found)) s)
 
     -- it is not
-    pub access-refused : (bytes most : ℕ) (found fault : List Step) (e : Effect) → Falls bytes → a / 4096 < page_count → tables.held.writable_pages (a / 4096) ≡ None → Stops most (outcome program words fault begins) e → Stops (4 + (7 + (1 + most))) (outcome program words (accessed writable_field 1 bytes found fault) begins) e
+    pub access-refused : (bytes most : ℕ) (found fault : List Step) (e : InstructionEffect) → Falls bytes → a / 4096 < page_count → tables.held.writable_pages (a / 4096) ≡ None → Stops most (outcome program words fault begins) e → Stops (4 + (7 + (1 + most))) (outcome program words (accessed writable_field 1 bytes found fault) begins) e
     access-refused bytes most found fault e falls within none s =
         falls (page_code writable_field 1 (length found)) found (stack Pop ∷ fault) (7 + length found + 1) (7 + (1 + most)) e
         (stops-after 7 (page-missing within none (found ++ stack Pop ∷ fault) (length found))
@@ -83,7 +83,7 @@ module _ (program : Program) (words value a pc : ℕ) (w : Workspace) where
         (stops-after 1 {o = outcome program words (stack Pop ∷ fault) (holding (null ∷ []))} {p = outcome program words fault begins} refl s)))
 
   -- the address is unfit
-  pub access-unfit : (bytes most : ℕ) (found fault : List Step) (e : Effect) → Passes bytes → Stops most (outcome program words fault begins) e → Stops (4 + most) (outcome program words (accessed writable_field 1 bytes found fault) begins) e
+  pub access-unfit : (bytes most : ℕ) (found fault : List Step) (e : InstructionEffect) → Passes bytes → Stops most (outcome program words fault begins) e → Stops (4 + most) (outcome program words (accessed writable_field 1 bytes found fault) begins) e
   access-unfit bytes most found fault e passes s =
       passes (page_code writable_field 1 (length found)) found (stack Pop ∷ fault) (7 + length found + 1) most e
       (stops-past program words most (page_code writable_field 1 (length found)) (found ++ stack Pop ∷ fault) (length found + 1) (7 + length found + 1) begins e (omega arith)

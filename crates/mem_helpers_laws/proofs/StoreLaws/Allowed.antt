@@ -1,13 +1,13 @@
 -- A store is allowed where its first byte may be written, since the bytes of a word may be written or not as one.
 use Rattle.std.proofs.Common.{◌≡◌, ℕ, ◌+◌, ◌-◌, ◌/◌, ◌%◌, ◌<◌, nat_lt, nat_le, ◌&&◌, Bool, true, false, if◌then◌else◌, Some, None, refl, ap, ◌∙◌, arith, lit<}
 use Rattle.std.proofs.lemmas.Bool.{lt-ltb, le-leb, ltb-true, leb-true, eqb-true}
-use Rattle.nv_words.specs.declared.order.Order.{Order}
-use Rattle.nv_words.specs.declared.order.Order.TheVariants.{Big, Little}
-use Rattle.nv_events.specs.Memory.{Memory, can_write}
-use Rattle.mips_decode.specs.Memory.{left_part, right_part, lane_writable, lanes_writable}
-use Rattle.mips_decode.specs.Loads.{store_aligned, store_allowed}
-use Rattle.mips_decode.specs.declared.names.store_name.StoreName.{StoreName}
-use Rattle.mips_decode.specs.declared.names.store_name.StoreName.TheVariants.{Sb, Sh, Swl, Sw, Swr}
+use Rattle.run_definition.specs.declared.order.Order.{Order}
+use Rattle.run_definition.specs.declared.order.Order.TheVariants.{Big, Little}
+use Rattle.run_definition.specs.Memory.{Memory, can_write}
+use Rattle.mips_definition.specs.Memory.{left_part, right_part, lane_writable, lanes_writable}
+use Rattle.mips_definition.specs.Loads.{store_aligned, store_allowed}
+use Rattle.mips_definition.specs.declared.names.store_name.StoreName.{StoreName}
+use Rattle.mips_definition.specs.declared.names.store_name.StoreName.TheVariants.{Sb, Sh, Swl, Sw, Swr}
 
 two-same : (b : Bool) → (b && (b && true)) ≡ b
 two-same true = refl

@@ -1,9 +1,9 @@
 -- Words as their four bytes, and the parts of them that are replaced.
 use Rattle.std.proofs.Common.{◌≡◌, ℕ, ◌+◌, ◌-◌, ◌*◌, ◌/◌, ◌%◌, ◌^◌, ◌==◌, ◌<◌, nat_lt, ◌&&◌, bit_and, bit_or, bit_xor, Bool, true, false, if◌then◌else◌, ap, ◌∙◌, arith, lit<}
-use Rattle.nv_words.specs.Words.{IsWord, lane_of_word, word_of_bytes, word_with_lane}
-use Rattle.nv_words.specs.declared.order.Order.TheVariants.{Little}
+use Rattle.run_definition.specs.Words.{IsWord, lane_of_word, word_of_bytes, word_with_lane}
+use Rattle.run_definition.specs.declared.order.Order.TheVariants.{Little}
 use Rattle.nv_words.proofs.LaneLemmas.{below_four, lane_of_word-of_bytes}
-use Rattle.mips_decode.specs.Memory.{word_of_lanes}
+use Rattle.mips_definition.specs.Memory.{word_of_lanes}
 use Rattle.mem_helpers_laws.proofs.StoreLaws.Bits.{replaced, replaced-is, replaced-as}
 
 -- the word of four bytes, by their lanes

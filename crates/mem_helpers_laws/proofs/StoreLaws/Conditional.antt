@@ -1,28 +1,28 @@
 -- The method of SC.
 use Rattle.std.proofs.Common.{◌≡◌, ℕ, ◌/◌, ◌%◌, ◌==◌, true, false, ◌∷◌, ◌++◌, Option, Some, refl, ◌∙◌, sym, lit≤}
 use Rattle.std.proofs.lemmas.Bool.{eqb-true}
-use Rattle.nv_words.specs.Words.{IsWord}
-use Rattle.nv_words.specs.declared.order.Order.{Order}
-use Rattle.nv_events.specs.Memory.{Memory}
-use Rattle.mips_decode.specs.Effect.{write_refused_fault, write_align_fault}
-use Rattle.mips_decode.specs.Loads.{store_aligned, store_allowed, stored}
-use Rattle.mips_decode.specs.Memory.{word_of_lanes}
-use Rattle.mips_decode.specs.declared.names.store_name.StoreName.TheVariants.{Sw}
-use Rattle.jvm_names.specs.declared.stack_name.StackName.TheVariants.{Pop}
-use Rattle.jvm_program.specs.declared.value.Value.{Value}
-use Rattle.jvm_program.specs.declared.value.Value.TheVariants.{Int as int}
-use Rattle.jvm_program.specs.Program.{Program}
-use Rattle.jvm_program.specs.Values.{Heap, with_int}
-use Rattle.jvm_program.specs.Effect.{Workspace}
-use Rattle.guest_code.specs.Access.{push_word}
-use Rattle.guest_code.specs.Fields.{link_field, linked_field}
-use Rattle.guest_code.specs.Helpers.{store_conditional_helper}
+use Rattle.run_definition.specs.Words.{IsWord}
+use Rattle.run_definition.specs.declared.order.Order.{Order}
+use Rattle.run_definition.specs.Memory.{Memory}
+use Rattle.mips_definition.specs.Effect.{write_refused_fault, write_align_fault}
+use Rattle.mips_definition.specs.Loads.{store_aligned, store_allowed, memory_stored}
+use Rattle.mips_definition.specs.Memory.{word_of_lanes}
+use Rattle.mips_definition.specs.declared.names.store_name.StoreName.TheVariants.{Sw}
+use Rattle.jvm_definition.specs.declared.stack_name.StackName.TheVariants.{Pop}
+use Rattle.jvm_definition.specs.declared.value.Value.{Value}
+use Rattle.jvm_definition.specs.declared.value.Value.TheVariants.{Int as int}
+use Rattle.jvm_definition.specs.Program.{Program}
+use Rattle.jvm_definition.specs.Values.{Heap, with_int}
+use Rattle.jvm_definition.specs.Effect.{Workspace}
+use Rattle.emit_instructions.specs.Access.{push_word}
+use Rattle.emit_instructions.specs.Fields.{link_field, linked_field}
+use Rattle.emit_instructions.specs.Helpers.{store_conditional_helper}
 use Rattle.mem_helpers.specs.Loads.{gives}
 use Rattle.mem_helpers.specs.Parts.{stack}
 use Rattle.mem_helpers.specs.Stores.{write_fault_code}
 use Rattle.mem_helpers.specs.Methods.{helper_code}
-use Rattle.guest_follows.specs.Outcomes.{Gives}
-use Rattle.guest_follows.specs.Helpers.{HasHelpers}
+use Rattle.emit_simulation_laws.specs.Outcomes.{Gives}
+use Rattle.emit_simulation_laws.specs.Helpers.{HasHelpers}
 use Rattle.mem_helpers_laws.specs.Storing.{HoldsTables, EndsStore, given_to_store, store_turns}
 use Rattle.mem_helpers_laws.specs.Linking.{LeavesStored, LeavesUnlinked}
 use Rattle.mem_helpers_laws.proofs.StoreLaws.Stopping.{stops-within}
@@ -71,8 +71,8 @@ module _ (program : Program) (words pc value a : ℕ) (order : Order) (w : Works
             (stops-within (lit≤ tt) (with-other-link program words value a pc p w at linked link at_word a_word ne order (stack Pop ∷ write_fault_code 3 ++ push_word 0 ∷ gives)))
             (refl, refl)
 
-        pub this-link : IsWord value → at ≡ a → Comes (Some (int 1)) (LeavesStored w readable writable (stored Sw order memory a value))
+        pub this-link : IsWord value → at ≡ a → Comes (Some (int 1)) (LeavesStored w readable writable (memory_stored Sw order memory a value))
         this-link value_word e =
-            page-done program words pc value a readable writable memory w tables may 4 3 (conditional_code order) (write_fault_code 3 ++ push_word 0 ∷ gives) (Some (int 1)) (concluded_at program words value a pc p w 1 (with_int w.heap p (a / 4 % 1024) (computed_word order value))) (LeavesStored w readable writable (stored Sw order memory a value)) fit
+            page-done program words pc value a readable writable memory w tables may 4 3 (conditional_code order) (write_fault_code 3 ++ push_word 0 ∷ gives) (Some (int 1)) (concluded_at program words value a pc p w 1 (with_int w.heap p (a / 4 % 1024) (computed_word order value))) (LeavesStored w readable writable (memory_stored Sw order memory a value)) fit
             (stops-within (lit≤ tt) (with-link program words value a pc p w at linked link at_word a_word (page program words pc value a readable writable memory w tables may) e order (stack Pop ∷ write_fault_code 3 ++ push_word 0 ∷ gives)))
-            (refl, word-kept_there program words pc value a readable writable memory w tables may (computed_word order value) (word_of_lanes order value) (stored Sw order memory a value) (computed_word-is order value value_word) (IsWord-of_lanes order value value_word) (whole-word order memory a value (eqb-true (a % 4) 0 aligned)))
+            (refl, word-kept_there program words pc value a readable writable memory w tables may (computed_word order value) (word_of_lanes order value) (memory_stored Sw order memory a value) (computed_word-is order value value_word) (IsWord-of_lanes order value value_word) (whole-word order memory a value (eqb-true (a % 4) 0 aligned)))

@@ -1,21 +1,21 @@
 -- A store that can be done: its page is found, a word of it is replaced, and the method returns.
 use Rattle.std.proofs.Common.{◌≡◌, ℕ, ◌/◌, ◌%◌, ◌<◌, true, List, [], ◌∷◌, ◌++◌, Option, Some, None, refl, arith}
-use Rattle.nv_words.specs.Words.{IsWord}
-use Rattle.nv_events.specs.Memory.{Memory}
-use Rattle.jvm_names.specs.declared.stack_name.StackName.TheVariants.{Pop}
-use Rattle.jvm_program.specs.declared.value.Value.{Value}
-use Rattle.jvm_program.specs.declared.value.Value.TheVariants.{Array as array}
-use Rattle.jvm_program.specs.Program.{Program}
-use Rattle.jvm_program.specs.Values.{Heap, with_int}
-use Rattle.jvm_program.specs.Effect.{Workspace, gives}
-use Rattle.code_steps.specs.declared.step.Step.{Step}
-use Rattle.code_steps.specs.Outcomes.{outcome}
-use Rattle.guest_layout.specs.FieldNumbers.{page_count, writable_field}
+use Rattle.run_definition.specs.Words.{IsWord}
+use Rattle.run_definition.specs.Memory.{Memory}
+use Rattle.jvm_definition.specs.declared.stack_name.StackName.TheVariants.{Pop}
+use Rattle.jvm_definition.specs.declared.value.Value.{Value}
+use Rattle.jvm_definition.specs.declared.value.Value.TheVariants.{Array as array}
+use Rattle.jvm_definition.specs.Program.{Program}
+use Rattle.jvm_definition.specs.Values.{Heap, with_int}
+use Rattle.jvm_definition.specs.Effect.{Workspace, gives}
+use Rattle.emit_steps.specs.declared.step.Step.{Step}
+use Rattle.emit_steps.specs.Outcomes.{outcome}
+use Rattle.emit_layout.specs.FieldNumbers.{page_count, writable_field}
 use Rattle.mem_helpers.specs.Parts.{stack, accessed}
-use Rattle.guest_follows.specs.Match.{HoldsMemory, IsPage}
-use Rattle.guest_follows.specs.Memory.{with_word_at}
-use Rattle.guest_follows.proofs.ReadLemmas.{lane-read}
-use Rattle.guest_follows.specs.Outcomes.{Gives}
+use Rattle.emit_simulation_laws.specs.Match.{HoldsMemory, IsPage}
+use Rattle.emit_simulation_laws.specs.Memory.{with_word_at}
+use Rattle.emit_simulation_laws.proofs.ReadLemmas.{lane-read}
+use Rattle.emit_simulation_laws.specs.Outcomes.{Gives}
 use Rattle.mem_helpers_laws.specs.Storing.{HoldsTables, LeavesMemory, given_to_store, store_turns}
 use Rattle.mem_helpers_laws.proofs.StoreLaws.Stopping.{Stops}
 use Rattle.mem_helpers_laws.proofs.StoreLaws.Accessing.{holding, access-done}

@@ -2,21 +2,21 @@
 use Rattle.std.proofs.Common.{◌≡◌, ℕ, ◌+◌, ◌*◌, ◌/◌, ◌%◌, ◌^◌, ◌==◌, ◌<◌, ◌≤◌, bit_and, Bool, true, false, inl, inr, List, [], ◌∷◌, ◌++◌, refl, ◌∙◌, subst, sym, arith, lit≤, lit<}
 use Rattle.std.proofs.lemmas.Bool.{eqb-true, eqb-false}
 use Rattle.std.proofs.lemmas.Nat.{and_mask, and_le_l}
-use Rattle.nv_words.specs.declared.order.Order.{Order}
-use Rattle.nv_events.specs.Memory.{Memory}
-use Rattle.nv_events.specs.declared.fault.Fault.{Fault}
-use Rattle.mips_decode.specs.Effect.{write_refused_fault, write_align_fault}
-use Rattle.jvm_program.specs.Program.{Program}
-use Rattle.jvm_program.specs.Effect.{Workspace, Effect, enters}
-use Rattle.jvm_program.specs.declared.value.Value.TheVariants.{Int as int}
-use Rattle.code_steps.specs.declared.step.Step.{Step}
-use Rattle.code_steps.specs.Outcomes.{outcome}
-use Rattle.guest_layout.specs.FieldNumbers.{writable_field}
+use Rattle.run_definition.specs.declared.order.Order.{Order}
+use Rattle.run_definition.specs.Memory.{Memory}
+use Rattle.run_definition.specs.declared.fault.Fault.{Fault}
+use Rattle.mips_definition.specs.Effect.{write_refused_fault, write_align_fault}
+use Rattle.jvm_definition.specs.Program.{Program}
+use Rattle.jvm_definition.specs.Effect.{Workspace, InstructionEffect, enters}
+use Rattle.jvm_definition.specs.declared.value.Value.TheVariants.{Int as int}
+use Rattle.emit_steps.specs.declared.step.Step.{Step}
+use Rattle.emit_steps.specs.Outcomes.{outcome}
+use Rattle.emit_layout.specs.FieldNumbers.{writable_field}
 use Rattle.mem_helpers.specs.Parts.{accessed}
 use Rattle.mem_helpers.specs.Stores.{write_fault_code, write_fault_number}
 use Rattle.mem_helpers.specs.Methods.{helper_code}
-use Rattle.guest_follows.specs.Outcomes.{Faults, CallsFault}
-use Rattle.guest_follows.specs.Helpers.{HasHelpers}
+use Rattle.emit_simulation_laws.specs.Outcomes.{Faults, CallsFault}
+use Rattle.emit_simulation_laws.specs.Helpers.{HasHelpers}
 use Rattle.mem_helpers_laws.specs.Storing.{HoldsTables, given_to_store, store_fault_turns}
 use Rattle.mem_helpers_laws.proofs.StoreLaws.Stopping.{Stops, stops-within}
 use Rattle.mem_helpers_laws.proofs.StoreLaws.Tests.{top-and-low}
@@ -78,7 +78,7 @@ module _ (program : Program) (words value a pc : ℕ) (w : Workspace) where
     abbrev code : List Step
     code = accessed writable_field 1 bytes found (write_fault_code bits ++ rest)
 
-    abbrev calling : Effect
+    abbrev calling : InstructionEffect
     calling = enters write_fault_number (int a ∷ int pc ∷ int bits ∷ []) (begins program words value a pc w)
 
     ends-so : (fault : Fault) (most : ℕ) → most ≤ store_fault_turns → Stops most (outcome program words code (begins program words value a pc w)) calling → Faults program words store_fault_turns (helper_code order 19) (int a ∷ int pc ∷ int bits ∷ []) (begins program words value a pc w) fault → CallsFault program words store_fault_turns (helper_code order) code (given_to_store value a pc) w write_fault_number fault

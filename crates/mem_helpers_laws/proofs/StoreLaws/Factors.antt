@@ -6,7 +6,7 @@ use Rattle.std.proofs.Math.Nat.{div-le_self, mod-le}
 use Rattle.std.proofs.lemmas.Bool.{cases_lt}
 use Rattle.std.proofs.lemmas.Int.{ints, to_z-of_z, of_z-to_z, to_z_pos, wrapping_mul-bits, int_wrap_fits, fits_signed_mul, fits_signed_from_abs}
 use Rattle.std.proofs.lemmas.Nat.{and_mask, mul-lt}
-use Rattle.nv_words.specs.Words.{IsWord, signed_of, unsigned_of}
+use Rattle.run_definition.specs.Words.{IsWord, signed_of, unsigned_of}
 
 signed-positive : (w : ℕ) → w < 2 ^ 31 → signed_of w ≡ pos w
 signed-positive w h = grind (arith, ints)

@@ -1,14 +1,14 @@
 -- The method that ends the run where a store cannot be done.
 use Rattle.std.proofs.Common.{◌≡◌, ℕ, ◌^◌, ◌<◌, bit_and, List, [], ◌∷◌, refl, lit≤}
-use Rattle.nv_words.specs.declared.order.Order.{Order}
-use Rattle.mips_decode.specs.Effect.{write_refused_fault, write_align_fault}
-use Rattle.jvm_program.specs.declared.value.Value.{Value}
-use Rattle.jvm_program.specs.declared.value.Value.TheVariants.{Int as int}
-use Rattle.jvm_program.specs.Program.{Program}
-use Rattle.jvm_program.specs.Effect.{Workspace, with_operands}
-use Rattle.jvm_program.specs.Stretch.{body_workspace}
+use Rattle.run_definition.specs.declared.order.Order.{Order}
+use Rattle.mips_definition.specs.Effect.{write_refused_fault, write_align_fault}
+use Rattle.jvm_definition.specs.declared.value.Value.{Value}
+use Rattle.jvm_definition.specs.declared.value.Value.TheVariants.{Int as int}
+use Rattle.jvm_definition.specs.Program.{Program}
+use Rattle.jvm_definition.specs.Effect.{Workspace, with_operands}
+use Rattle.jvm_definition_laws.specs.Stretch.{body_workspace}
 use Rattle.mem_helpers.specs.Methods.{helper_code}
-use Rattle.guest_follows.specs.Outcomes.{Faults}
+use Rattle.emit_simulation_laws.specs.Outcomes.{Faults}
 use Rattle.mem_helpers_laws.specs.Storing.{store_fault_turns}
 use Rattle.mem_helpers_laws.proofs.StoreLaws.Tests.{zero-is, zero-is_not}
 

@@ -1,11 +1,11 @@
 -- Bytes that the guest stores, as lanes of the word of memory there.
 use Rattle.std.proofs.Common.{◌≡◌, ℕ, ◌/◌, ◌%◌, ◌^◌, ◌==◌, ◌<◌, if◌then◌else◌, ◌⊎◌, inl, inr, Some, ap, sym, ◌∙◌, arith}
 use Rattle.std.proofs.lemmas.Bool.{eq-eqb, ne_eqb, cases_eq}
-use Rattle.nv_words.specs.Words.{IsWord, lane_of_word, word_with_lane}
+use Rattle.run_definition.specs.Words.{IsWord, lane_of_word, word_with_lane}
 use Rattle.nv_words.proofs.LaneLemmas.{lane_of_word-with_lane}
-use Rattle.nv_events.specs.Memory.{Memory}
-use Rattle.mips_decode.specs.Memory.{with_byte}
-use Rattle.guest_follows.specs.Memory.{with_word_at}
+use Rattle.run_definition.specs.Memory.{Memory}
+use Rattle.mips_definition.specs.Memory.{with_byte}
+use Rattle.emit_simulation_laws.specs.Memory.{with_word_at}
 
 -- the word of memory with this number
 abbrev pub HoldsWord : Memory → ℕ → ℕ → Type 0

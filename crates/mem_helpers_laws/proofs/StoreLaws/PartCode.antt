@@ -1,18 +1,18 @@
 -- The code that stores a part of a word.
 use Rattle.std.proofs.Common.{◌≡◌, ℕ, ◌/◌, ◌%◌, bit_and, bit_or, bit_xor, List, [], ◌∷◌, ◌++◌, None, refl}
-use Rattle.nv_words.specs.declared.order.Order.TheVariants.{Big, Little}
-use Rattle.jvm_names.specs.declared.int_shift.IntShift.{IntShift}
-use Rattle.jvm_program.specs.declared.value.Value.{Value}
-use Rattle.jvm_program.specs.declared.value.Value.TheVariants.{Int as int, Array as array}
-use Rattle.jvm_program.specs.Program.{Program}
-use Rattle.jvm_program.specs.Words.{int_shifted}
-use Rattle.jvm_program.specs.Effect.{Workspace, gives}
-use Rattle.code_steps.specs.declared.step.Step.{Step}
-use Rattle.code_steps.specs.Outcomes.{outcome}
+use Rattle.run_definition.specs.declared.order.Order.TheVariants.{Big, Little}
+use Rattle.jvm_definition.specs.declared.int_shift.IntShift.{IntShift}
+use Rattle.jvm_definition.specs.declared.value.Value.{Value}
+use Rattle.jvm_definition.specs.declared.value.Value.TheVariants.{Int as int, Array as array}
+use Rattle.jvm_definition.specs.Program.{Program}
+use Rattle.jvm_definition.specs.Words.{int_shifted}
+use Rattle.jvm_definition.specs.Effect.{Workspace, gives}
+use Rattle.emit_steps.specs.declared.step.Step.{Step}
+use Rattle.emit_steps.specs.Outcomes.{outcome}
 use Rattle.mem_helpers.specs.declared.amount.Amount.TheVariants.{Forward, Backward}
 use Rattle.mem_helpers.specs.Parts.{load, forward_code, backward_code, ordered_code}
 use Rattle.mem_helpers.specs.Stores.{cleared_code, set_code, part_code, put_word, returns_nothing}
-use Rattle.guest_follows.specs.Match.{IsPage}
+use Rattle.emit_simulation_laws.specs.Match.{IsPage}
 use Rattle.mem_helpers_laws.proofs.StoreLaws.Stopping.{Stops, laters, stops-after}
 use Rattle.mem_helpers_laws.proofs.StoreLaws.Accessing.{begins, holding}
 use Rattle.mem_helpers_laws.proofs.StoreLaws.Reversing.{turned_round}

@@ -1,29 +1,29 @@
 -- The methods of SWL and SWR.
 use Rattle.std.proofs.Common.{◌≡◌, ℕ, ◌+◌, ◌-◌, ◌*◌, ◌/◌, ◌%◌, ◌^◌, ◌<◌, nat_lt, Bool, true, false, if◌then◌else◌, [], ◌∷◌, ◌++◌, None, ap, ◌∙◌, sym, arith, lit≤}
-use Rattle.nv_words.specs.Words.{IsWord, lane_of_word}
-use Rattle.nv_words.specs.declared.order.Order.{Order}
-use Rattle.nv_words.specs.declared.order.Order.TheVariants.{Big, Little}
+use Rattle.run_definition.specs.Words.{IsWord, lane_of_word}
+use Rattle.run_definition.specs.declared.order.Order.{Order}
+use Rattle.run_definition.specs.declared.order.Order.TheVariants.{Big, Little}
 use Rattle.nv_words.proofs.LaneLemmas.{lane_of_word-lt, word_of_lanes}
-use Rattle.nv_events.specs.Memory.{Memory}
-use Rattle.mips_decode.specs.Loads.{stored}
-use Rattle.mips_decode.specs.Memory.{with_lanes, left_part, right_part}
-use Rattle.mips_decode.specs.declared.names.store_name.StoreName.{StoreName}
-use Rattle.mips_decode.specs.declared.names.store_name.StoreName.TheVariants.{Swl, Swr}
-use Rattle.jvm_names.specs.declared.int_shift.IntShift.TheVariants.{Ishl, Iushr}
-use Rattle.jvm_names.specs.declared.stack_name.StackName.TheVariants.{Pop}
-use Rattle.jvm_program.specs.declared.value.Value.{Value}
-use Rattle.jvm_program.specs.declared.value.Value.TheVariants.{Array as array}
-use Rattle.jvm_program.specs.Program.{Program}
-use Rattle.jvm_program.specs.Effect.{Workspace, gives}
-use Rattle.code_steps.specs.Outcomes.{outcome}
-use Rattle.guest_layout.specs.FieldNumbers.{writable_field}
-use Rattle.guest_code.specs.Helpers.{store_helper}
+use Rattle.run_definition.specs.Memory.{Memory}
+use Rattle.mips_definition.specs.Loads.{memory_stored}
+use Rattle.mips_definition.specs.Memory.{with_lanes, left_part, right_part}
+use Rattle.mips_definition.specs.declared.names.store_name.StoreName.{StoreName}
+use Rattle.mips_definition.specs.declared.names.store_name.StoreName.TheVariants.{Swl, Swr}
+use Rattle.jvm_definition.specs.declared.int_shift.IntShift.TheVariants.{Ishl, Iushr}
+use Rattle.jvm_definition.specs.declared.stack_name.StackName.TheVariants.{Pop}
+use Rattle.jvm_definition.specs.declared.value.Value.{Value}
+use Rattle.jvm_definition.specs.declared.value.Value.TheVariants.{Array as array}
+use Rattle.jvm_definition.specs.Program.{Program}
+use Rattle.jvm_definition.specs.Effect.{Workspace, gives}
+use Rattle.emit_steps.specs.Outcomes.{outcome}
+use Rattle.emit_layout.specs.FieldNumbers.{writable_field}
+use Rattle.emit_instructions.specs.Helpers.{store_helper}
 use Rattle.mem_helpers.specs.Parts.{stack, accessed}
 use Rattle.mem_helpers.specs.Stores.{write_fault_code, returns_nothing}
 use Rattle.mem_helpers.specs.Methods.{helper_code}
-use Rattle.guest_follows.specs.Match.{IsPage}
-use Rattle.guest_follows.specs.Memory.{with_word_at}
-use Rattle.guest_follows.specs.Outcomes.{Gives}
+use Rattle.emit_simulation_laws.specs.Match.{IsPage}
+use Rattle.emit_simulation_laws.specs.Memory.{with_word_at}
+use Rattle.emit_simulation_laws.specs.Outcomes.{Gives}
 use Rattle.mem_helpers_laws.specs.Storing.{HoldsTables, LeavesMemory, given_to_store, store_turns}
 use Rattle.mem_helpers_laws.proofs.StoreLaws.Stopping.{Stops, stops-within}
 use Rattle.mem_helpers_laws.proofs.StoreLaws.Accessing.{holding}
@@ -135,11 +135,11 @@ module _ (program : Program) (words pc value a readable writable : ℕ) (memory 
       ap (with_word_at memory (a / 4)) (word_of_lanes old old-is)
       ∙ word-kept memory (a / 4) old (old_word-there program words pc value a readable writable memory w tables may)
 
-  left-after : (order : Order) → with_word_at memory (a / 4) (left_word old value a old-is value_word order) ≡ stored Swl order memory a value
+  left-after : (order : Order) → with_word_at memory (a / 4) (left_word old value a old-is value_word order) ≡ memory_stored Swl order memory a value
   left-after order =
       sym (left-stored memory a value (lane_of_word old) (lane_of_word-lt old) order) ∙ ap (λ m. with_lanes m (left_part order a) value) by-lanes
 
-  right-after : (order : Order) → with_word_at memory (a / 4) (right_word old value a old-is value_word order) ≡ stored Swr order memory a value
+  right-after : (order : Order) → with_word_at memory (a / 4) (right_word old value a old-is value_word order) ≡ memory_stored Swr order memory a value
   right-after order =
       sym (right-stored memory a value (lane_of_word old) (lane_of_word-lt old) order) ∙ ap (λ m. with_lanes m (right_part order a) value) by-lanes
 
@@ -152,22 +152,22 @@ module _ (program : Program) (words pc value a readable writable : ℕ) (memory 
       store-done program words pc value a readable writable memory w tables may 1 0 (found_code order name ++ returns_nothing) (write_fault_code 0 ++ returns_nothing) locals u v after
       (byte-tested program words value a pc w a_word) ends same word is
 
-  pub swl-done : (order : Order) → Gives program words store_turns (helper_code order (store_helper Swl)) (given_to_store value a pc) w None (LeavesMemory w readable writable (stored Swl order memory a value))
+  pub swl-done : (order : Order) → Gives program words store_turns (helper_code order (store_helper Swl)) (given_to_store value a pc) w None (LeavesMemory w readable writable (memory_stored Swl order memory a value))
   swl-done Big =
-      part-done Swl Big (begun program words value a pc p w its_page Iushr) (part_set Iushr (forward_amount a) old value) (left_word old value a old-is value_word Big) (stored Swl Big memory a value)
+      part-done Swl Big (begun program words value a pc p w its_page Iushr) (part_set Iushr (forward_amount a) old value) (left_word old value a old-is value_word Big) (memory_stored Swl Big memory a value)
       (stops-within (lit≤ tt) (big-forward program words value a pc p w its_page Iushr (stack Pop ∷ write_fault_code 0 ++ returns_nothing)))
       (left-big old value a old-is value_word) (left_word-lt old value a old-is value_word Big) (left-after Big)
   swl-done Little =
-      part-done Swl Little (kept_again program words value a pc p w its_page Iushr (backward_amount 3 a)) (turned_round (part_set Iushr (backward_amount 3 a) (turned_round old) value)) (left_word old value a old-is value_word Little) (stored Swl Little memory a value)
+      part-done Swl Little (kept_again program words value a pc p w its_page Iushr (backward_amount 3 a)) (turned_round (part_set Iushr (backward_amount 3 a) (turned_round old) value)) (left_word old value a old-is value_word Little) (memory_stored Swl Little memory a value)
       (stops-within (lit≤ tt) (little-backward program words value a pc p w its_page Iushr (stack Pop ∷ write_fault_code 0 ++ returns_nothing)))
       (left-little old value a old-is value_word) (left_word-lt old value a old-is value_word Little) (left-after Little)
 
-  pub swr-done : (order : Order) → Gives program words store_turns (helper_code order (store_helper Swr)) (given_to_store value a pc) w None (LeavesMemory w readable writable (stored Swr order memory a value))
+  pub swr-done : (order : Order) → Gives program words store_turns (helper_code order (store_helper Swr)) (given_to_store value a pc) w None (LeavesMemory w readable writable (memory_stored Swr order memory a value))
   swr-done Big =
-      part-done Swr Big (begun program words value a pc p w its_page Ishl) (part_set Ishl (backward_amount 3 a) old value) (right_word old value a old-is value_word Big) (stored Swr Big memory a value)
+      part-done Swr Big (begun program words value a pc p w its_page Ishl) (part_set Ishl (backward_amount 3 a) old value) (right_word old value a old-is value_word Big) (memory_stored Swr Big memory a value)
       (stops-within (lit≤ tt) (big-backward program words value a pc p w its_page Ishl (stack Pop ∷ write_fault_code 0 ++ returns_nothing)))
       (right-big old value a old-is value_word) (right_word-lt old value a old-is value_word Big) (right-after Big)
   swr-done Little =
-      part-done Swr Little (kept_again program words value a pc p w its_page Ishl (forward_amount a)) (turned_round (part_set Ishl (forward_amount a) (turned_round old) value)) (right_word old value a old-is value_word Little) (stored Swr Little memory a value)
+      part-done Swr Little (kept_again program words value a pc p w its_page Ishl (forward_amount a)) (turned_round (part_set Ishl (forward_amount a) (turned_round old) value)) (right_word old value a old-is value_word Little) (memory_stored Swr Little memory a value)
       (stops-within (lit≤ tt) (little-forward program words value a pc p w its_page Ishl (stack Pop ∷ write_fault_code 0 ++ returns_nothing)))
       (right-little old value a old-is value_word) (right_word-lt old value a old-is value_word Little) (right-after Little)

@@ -1,13 +1,13 @@
 -- Memory after a store of a part of a word.
 use Rattle.std.proofs.Common.{◌≡◌, ℕ, ◌+◌, ◌-◌, ◌/◌, ◌%◌, ◌^◌, ◌<◌, nat_lt, nat_le, Bool, true, false, if◌then◌else◌, Option, Some, None, refl, ap, ◌∙◌, arith, lit<}
 use Rattle.std.proofs.lemmas.Bool.{ltb-true, leb-true}
-use Rattle.nv_words.specs.Words.{lane_of_word, word_with_lane}
-use Rattle.nv_words.specs.declared.order.Order.{Order}
-use Rattle.nv_words.specs.declared.order.Order.TheVariants.{Big, Little}
+use Rattle.run_definition.specs.Words.{lane_of_word, word_with_lane}
+use Rattle.run_definition.specs.declared.order.Order.{Order}
+use Rattle.run_definition.specs.declared.order.Order.TheVariants.{Big, Little}
 use Rattle.nv_words.proofs.LaneLemmas.{below_four, lane_of_word-lt}
-use Rattle.nv_events.specs.Memory.{Memory}
-use Rattle.mips_decode.specs.Memory.{with_byte, with_lanes, left_part, right_part}
-use Rattle.guest_follows.specs.Memory.{with_word_at}
+use Rattle.run_definition.specs.Memory.{Memory}
+use Rattle.mips_definition.specs.Memory.{with_byte, with_lanes, left_part, right_part}
+use Rattle.emit_simulation_laws.specs.Memory.{with_word_at}
 use Rattle.mem_helpers_laws.proofs.StoreLaws.Lanes.{lane-put}
 use Rattle.mem_helpers_laws.proofs.StoreLaws.Bytes.{word_of, word_of-lt, AreBytes, with_one, with_one-lt, word_with_lane-of, left_bytes, right_bytes}
 

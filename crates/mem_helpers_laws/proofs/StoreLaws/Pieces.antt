@@ -2,23 +2,23 @@
 use Rattle.std.proofs.Common.{◌≡◌, ℕ, ◌/◌, ◌%◌, ◌==◌, ◌<◌, bit_and, bit_or, bit_xor, if◌then◌else◌, List, [], ◌∷◌, ◌++◌, None, refl, ap, ◌∙◌, arith, lit≤}
 use Rattle.std.proofs.lemmas.Bool.{lt-ltb}
 use Rattle.std.proofs.lemmas.Nat.{and_mask}
-use Rattle.nv_words.specs.declared.order.Order.TheVariants.{Little}
-use Rattle.jvm_names.specs.declared.int_shift.IntShift.{IntShift}
-use Rattle.jvm_names.specs.declared.array_name.ArrayName.TheVariants.{Iaload}
-use Rattle.jvm_names.specs.declared.stack_name.StackName.TheVariants.{Dup2}
-use Rattle.jvm_program.specs.declared.value.Value.{Value}
-use Rattle.jvm_program.specs.declared.value.Value.TheVariants.{Int as int, Array as array}
-use Rattle.jvm_program.specs.Program.{Program}
-use Rattle.jvm_program.specs.Words.{int_shifted}
-use Rattle.jvm_program.specs.Values.{with_int}
-use Rattle.jvm_program.specs.Effect.{Workspace, gives}
-use Rattle.jvm_program.specs.declared.instruction.Instruction.TheVariants as instructions
-use Rattle.code_steps.specs.declared.step.Step.{Step}
-use Rattle.code_steps.specs.declared.step.Step.TheVariants.{Does}
-use Rattle.code_steps.specs.Outcomes.{outcome}
+use Rattle.run_definition.specs.declared.order.Order.TheVariants.{Little}
+use Rattle.jvm_definition.specs.declared.int_shift.IntShift.{IntShift}
+use Rattle.jvm_definition.specs.declared.array_name.ArrayName.TheVariants.{Iaload}
+use Rattle.jvm_definition.specs.declared.stack_name.StackName.TheVariants.{Dup2}
+use Rattle.jvm_definition.specs.declared.value.Value.{Value}
+use Rattle.jvm_definition.specs.declared.value.Value.TheVariants.{Int as int, Array as array}
+use Rattle.jvm_definition.specs.Program.{Program}
+use Rattle.jvm_definition.specs.Words.{int_shifted}
+use Rattle.jvm_definition.specs.Values.{with_int}
+use Rattle.jvm_definition.specs.Effect.{Workspace, gives}
+use Rattle.jvm_definition.specs.declared.instruction.Instruction.TheVariants as instructions
+use Rattle.emit_steps.specs.declared.step.Step.{Step}
+use Rattle.emit_steps.specs.declared.step.Step.TheVariants.{Does}
+use Rattle.emit_steps.specs.Outcomes.{outcome}
 use Rattle.mem_helpers.specs.Parts.{stack, index_code, forward_code, backward_code, ordered_code}
 use Rattle.mem_helpers.specs.Stores.{read_code, cleared_code, set_code, put_word, returns_nothing}
-use Rattle.guest_follows.specs.Match.{IsPage}
+use Rattle.emit_simulation_laws.specs.Match.{IsPage}
 use Rattle.mem_helpers_laws.proofs.StoreLaws.Stopping.{Stops, laters}
 use Rattle.mem_helpers_laws.proofs.StoreLaws.Reversing.{turned_round}
 use Rattle.mem_helpers_laws.proofs.StoreLaws.Amounts.{forward_amount, backward_amount}

@@ -1,11 +1,11 @@
 -- Which bytes may be written, by the table of writable pages.
 use Rattle.std.proofs.Common.{◌≡◌, ℕ, ◌/◌, ◌^◌, ◌<◌, ◌≤◌, nat_lt, Bool, true, false, if◌then◌else◌, ◌⊎◌, inl, inr, Option, Some, None, is_some, refl, ap, sym, ◌∙◌, arith}
 use Rattle.std.proofs.lemmas.Bool.{lt-ltb, le-ltb, cases_lt}
-use Rattle.nv_events.specs.Memory.{Memory}
-use Rattle.jvm_program.specs.Values.{Heap}
-use Rattle.guest_layout.specs.FieldNumbers.{page_count}
-use Rattle.guest_follows.specs.Match.{HoldsMemory}
-use Rattle.guest_follows.proofs.MatchedPages.{page_at, byte_in, byte_word, byte-by-table, word-read}
+use Rattle.run_definition.specs.Memory.{Memory}
+use Rattle.jvm_definition.specs.Values.{Heap}
+use Rattle.emit_layout.specs.FieldNumbers.{page_count}
+use Rattle.emit_simulation_laws.specs.Match.{HoldsMemory}
+use Rattle.emit_simulation_laws.proofs.MatchedPages.{page_at, byte_in, byte_word, byte-by-table, word-read}
 
 -- where no page is, no byte is
 nothing : (t : Bool) → is_some {T = ℕ} (if t then None else None) ≡ false

@@ -4,29 +4,29 @@ use Rattle.std.specs.Int.{w64, cast_unsigned}
 use Rattle.std.specs.Int.RustNames.{int_div, int_rem}
 use Rattle.std.proofs.Math.Nat.{div-le_self, mod-le}
 use Rattle.std.proofs.lemmas.Bool.{ne_eqb, eqb-false, eqb-true}
-use Rattle.nv_words.specs.Words.{IsWord, signed_of, unsigned_of}
-use Rattle.nv_words.specs.declared.order.Order.{Order}
-use Rattle.mips_decode.specs.Arithmetic.{product_hi, product_lo}
-use Rattle.mips_decode.specs.declared.names.product_name.ProductName.{ProductName}
-use Rattle.mips_decode.specs.declared.names.product_name.ProductName.TheVariants.{Mult, Multu, Div, Divu}
-use Rattle.jvm_names.specs.declared.int_division.IntDivision.{IntDivision}
-use Rattle.jvm_names.specs.declared.int_division.IntDivision.TheVariants.{Idiv, Irem}
-use Rattle.jvm_names.specs.declared.long_division.LongDivision.{LongDivision}
-use Rattle.jvm_names.specs.declared.long_division.LongDivision.TheVariants.{Ldiv, Lrem}
-use Rattle.jvm_program.specs.declared.value.Value.{Value}
-use Rattle.jvm_program.specs.declared.value.Value.TheVariants.{Int as int, Long as long}
-use Rattle.jvm_program.specs.Program.{Program}
-use Rattle.jvm_program.specs.Effect.{Workspace, gives}
-use Rattle.jvm_program.specs.Stretch.{body_workspace}
-use Rattle.jvm_program.specs.Words.{int_quotient, long_quotient}
-use Rattle.code_steps.specs.Outcomes.{outcome, stopped}
-use Rattle.code_steps.specs.declared.step.Step.{Step}
-use Rattle.guest_layout.specs.FieldNumbers.{hi_field, lo_field}
-use Rattle.guest_code.specs.Helpers.{product_helper}
+use Rattle.run_definition.specs.Words.{IsWord, signed_of, unsigned_of}
+use Rattle.run_definition.specs.declared.order.Order.{Order}
+use Rattle.mips_definition.specs.Arithmetic.{product_hi, product_lo}
+use Rattle.mips_definition.specs.declared.names.product_name.ProductName.{ProductName}
+use Rattle.mips_definition.specs.declared.names.product_name.ProductName.TheVariants.{Mult, Multu, Div, Divu}
+use Rattle.jvm_definition.specs.declared.int_division.IntDivision.{IntDivision}
+use Rattle.jvm_definition.specs.declared.int_division.IntDivision.TheVariants.{Idiv, Irem}
+use Rattle.jvm_definition.specs.declared.long_division.LongDivision.{LongDivision}
+use Rattle.jvm_definition.specs.declared.long_division.LongDivision.TheVariants.{Ldiv, Lrem}
+use Rattle.jvm_definition.specs.declared.value.Value.{Value}
+use Rattle.jvm_definition.specs.declared.value.Value.TheVariants.{Int as int, Long as long}
+use Rattle.jvm_definition.specs.Program.{Program}
+use Rattle.jvm_definition.specs.Effect.{Workspace, gives}
+use Rattle.jvm_definition_laws.specs.Stretch.{body_workspace}
+use Rattle.jvm_definition.specs.Words.{int_quotient, long_quotient}
+use Rattle.emit_steps.specs.Outcomes.{outcome, stopped}
+use Rattle.emit_steps.specs.declared.step.Step.{Step}
+use Rattle.emit_layout.specs.FieldNumbers.{hi_field, lo_field}
+use Rattle.emit_instructions.specs.Helpers.{product_helper}
 use Rattle.mem_helpers.specs.Products.{by_zero_code, int_divided, plain_longs, multiplied_code, long_divided, long_quotient as long_quotient_code}
 use Rattle.mem_helpers.specs.Stores.{returns_nothing}
 use Rattle.mem_helpers.specs.Methods.{helper_code}
-use Rattle.guest_follows.specs.Outcomes.{Gives}
+use Rattle.emit_simulation_laws.specs.Outcomes.{Gives}
 use Rattle.mem_helpers_laws.proofs.StoreLaws.Stopping.{laters, beyonds}
 use Rattle.mem_helpers_laws.specs.Multiplying.{LeavesProduct, given_to_product, product_turns}
 use Rattle.mem_helpers_laws.proofs.StoreLaws.Tests.{zero-is, zero-is_not}

@@ -1,23 +1,23 @@
 -- The faults of the methods that store.
 use Rattle.std.proofs.Common.{◌≡◌, ℕ, ◌^◌, ◌<◌, true, false, List, ◌++◌, refl, ◌∙◌, subst, sym}
-use Rattle.nv_words.specs.declared.order.Order.{Order}
-use Rattle.nv_events.specs.Memory.{Memory}
-use Rattle.nv_events.specs.declared.fault.Fault.{Fault}
-use Rattle.mips_decode.specs.Effect.{write_refused_fault, write_align_fault}
-use Rattle.mips_decode.specs.Loads.{store_aligned, store_allowed}
-use Rattle.mips_decode.specs.declared.names.store_name.StoreName.{StoreName}
-use Rattle.mips_decode.specs.declared.names.store_name.StoreName.TheVariants.{Sb, Sh, Swl, Sw, Swr}
-use Rattle.jvm_names.specs.declared.int_shift.IntShift.TheVariants.{Ishl, Iushr}
-use Rattle.jvm_program.specs.Program.{Program}
-use Rattle.jvm_program.specs.Effect.{Workspace}
-use Rattle.code_steps.specs.declared.step.Step.{Step}
-use Rattle.guest_layout.specs.FieldNumbers.{writable_field}
-use Rattle.guest_code.specs.Helpers.{store_helper}
+use Rattle.run_definition.specs.declared.order.Order.{Order}
+use Rattle.run_definition.specs.Memory.{Memory}
+use Rattle.run_definition.specs.declared.fault.Fault.{Fault}
+use Rattle.mips_definition.specs.Effect.{write_refused_fault, write_align_fault}
+use Rattle.mips_definition.specs.Loads.{store_aligned, store_allowed}
+use Rattle.mips_definition.specs.declared.names.store_name.StoreName.{StoreName}
+use Rattle.mips_definition.specs.declared.names.store_name.StoreName.TheVariants.{Sb, Sh, Swl, Sw, Swr}
+use Rattle.jvm_definition.specs.declared.int_shift.IntShift.TheVariants.{Ishl, Iushr}
+use Rattle.jvm_definition.specs.Program.{Program}
+use Rattle.jvm_definition.specs.Effect.{Workspace}
+use Rattle.emit_steps.specs.declared.step.Step.{Step}
+use Rattle.emit_layout.specs.FieldNumbers.{writable_field}
+use Rattle.emit_instructions.specs.Helpers.{store_helper}
 use Rattle.mem_helpers.specs.Parts.{accessed, index_code, backward_code, left_amount, right_amount}
 use Rattle.mem_helpers.specs.Stores.{read_code, cleared_code, byte_value_code, set_code, put_word, value_code, half_cleared, half_stored, part_code, returns_nothing, write_fault_code, write_fault_number}
 use Rattle.mem_helpers.specs.Methods.{helper_code}
-use Rattle.guest_follows.specs.Outcomes.{CallsFault}
-use Rattle.guest_follows.specs.Helpers.{HasHelpers}
+use Rattle.emit_simulation_laws.specs.Outcomes.{CallsFault}
+use Rattle.emit_simulation_laws.specs.Helpers.{HasHelpers}
 use Rattle.mem_helpers_laws.specs.Storing.{HoldsTables, given_to_store, store_fault_turns, EndsStore}
 use Rattle.mem_helpers_laws.proofs.StoreLaws.Ending.{Tested, byte-tested, half-tested, word-tested, ends-unaligned, ends-refused}
 use Rattle.mem_helpers_laws.proofs.StoreLaws.Places.{same-word}

@@ -2,9 +2,9 @@
 use Rattle.std.proofs.Common.{◌≡◌, ℕ, ◌+◌, ◌*◌, ◌/◌, ◌%◌, ◌^◌, ◌<◌, bit_and, bit_or, ap, ◌∙◌, arith}
 use Rattle.std.proofs.lemmas.Nat.{or_comm, or_shifted}
 use Rattle.std.proofs.lemmas.Nat.Bits.{and_high}
-use Rattle.nv_words.specs.Words.{IsWord}
-use Rattle.nv_words.specs.declared.order.Order.TheVariants.{Little}
-use Rattle.mips_decode.specs.Memory.{word_of_lanes}
+use Rattle.run_definition.specs.Words.{IsWord}
+use Rattle.run_definition.specs.declared.order.Order.TheVariants.{Little}
+use Rattle.mips_definition.specs.Memory.{word_of_lanes}
 
 -- as code computes it
 abbrev pub turned_round : ℕ → ℕ

@@ -1,27 +1,27 @@
 -- SB: a byte of a word is replaced.
 use Rattle.std.proofs.Common.{◌≡◌, ℕ, ◌-◌, ◌*◌, ◌/◌, ◌%◌, ◌^◌, ◌<◌, bit_and, bit_or, bit_xor, true, List, [], ◌∷◌, ◌++◌, None, refl, ap, ◌∙◌, sym, arith, lit≤, lit<}
 use Rattle.std.proofs.lemmas.Nat.{and_mask}
-use Rattle.nv_words.specs.Words.{IsWord, lane_of_word, word_with_lane}
-use Rattle.nv_words.specs.declared.order.Order.{Order}
+use Rattle.run_definition.specs.Words.{IsWord, lane_of_word, word_with_lane}
+use Rattle.run_definition.specs.declared.order.Order.{Order}
 use Rattle.nv_words.proofs.LaneLemmas.{below_four, lane_of_word-lt, IsWord-with_lane}
-use Rattle.nv_events.specs.Memory.{Memory}
-use Rattle.mips_decode.specs.Memory.{with_byte}
-use Rattle.mips_decode.specs.Loads.{stored}
-use Rattle.mips_decode.specs.declared.names.store_name.StoreName.TheVariants.{Sb}
-use Rattle.jvm_names.specs.declared.int_shift.IntShift.TheVariants.{Ishl}
-use Rattle.jvm_names.specs.declared.stack_name.StackName.TheVariants.{Pop}
-use Rattle.jvm_program.specs.declared.value.Value.{Value}
-use Rattle.jvm_program.specs.declared.value.Value.TheVariants.{Int as int, Array as array}
-use Rattle.jvm_program.specs.Program.{Program}
-use Rattle.jvm_program.specs.Effect.{Workspace, gives}
-use Rattle.code_steps.specs.declared.step.Step.{Step}
-use Rattle.code_steps.specs.Outcomes.{outcome}
-use Rattle.guest_code.specs.Helpers.{store_helper}
+use Rattle.run_definition.specs.Memory.{Memory}
+use Rattle.mips_definition.specs.Memory.{with_byte}
+use Rattle.mips_definition.specs.Loads.{memory_stored}
+use Rattle.mips_definition.specs.declared.names.store_name.StoreName.TheVariants.{Sb}
+use Rattle.jvm_definition.specs.declared.int_shift.IntShift.TheVariants.{Ishl}
+use Rattle.jvm_definition.specs.declared.stack_name.StackName.TheVariants.{Pop}
+use Rattle.jvm_definition.specs.declared.value.Value.{Value}
+use Rattle.jvm_definition.specs.declared.value.Value.TheVariants.{Int as int, Array as array}
+use Rattle.jvm_definition.specs.Program.{Program}
+use Rattle.jvm_definition.specs.Effect.{Workspace, gives}
+use Rattle.emit_steps.specs.declared.step.Step.{Step}
+use Rattle.emit_steps.specs.Outcomes.{outcome}
+use Rattle.emit_instructions.specs.Helpers.{store_helper}
 use Rattle.mem_helpers.specs.Parts.{stack, backward_code}
 use Rattle.mem_helpers.specs.Stores.{cleared_code, byte_value_code, set_code, put_word, write_fault_code, returns_nothing}
 use Rattle.mem_helpers.specs.Methods.{helper_code}
-use Rattle.guest_follows.specs.Match.{IsPage}
-use Rattle.guest_follows.specs.Outcomes.{Gives}
+use Rattle.emit_simulation_laws.specs.Match.{IsPage}
+use Rattle.emit_simulation_laws.specs.Outcomes.{Gives}
 use Rattle.mem_helpers_laws.specs.Storing.{HoldsTables, LeavesMemory, given_to_store, store_turns}
 use Rattle.mem_helpers_laws.proofs.StoreLaws.Stopping.{Stops, laters, stops-after, stops-within}
 use Rattle.mem_helpers_laws.proofs.StoreLaws.Done.{place, page, old_word, old_word-is, old_word-there, store-done}
@@ -81,14 +81,14 @@ module _ (program : Program) (words value a pc p : ℕ) (w : Workspace) (page : 
       low-byte : value % 2 ^ 8 ≡ lane_of_word value 3
       low-byte = omega arith
 
-pub sb-done : (program : Program) (words pc value a readable writable : ℕ) (order : Order) (memory : Memory) (w : Workspace) → IsWord a → (tables : HoldsTables w readable writable memory) → memory.writable a ≡ true → Gives program words store_turns (helper_code order (store_helper Sb)) (given_to_store value a pc) w None (LeavesMemory w readable writable (stored Sb order memory a value))
+pub sb-done : (program : Program) (words pc value a readable writable : ℕ) (order : Order) (memory : Memory) (w : Workspace) → IsWord a → (tables : HoldsTables w readable writable memory) → memory.writable a ≡ true → Gives program words store_turns (helper_code order (store_helper Sb)) (given_to_store value a pc) w None (LeavesMemory w readable writable (memory_stored Sb order memory a value))
 sb-done program words pc value a readable writable order memory w a_word tables may =
     let p = place program words pc value a readable writable memory w tables may in
     let its_page = page program words pc value a readable writable memory w tables may in
     let old = old_word program words pc value a readable writable memory w tables may in
     let word = old_word-is program words pc value a readable writable memory w tables may in
     let b = lane_of_word value 3 in
-    store-done program words pc value a readable writable memory w tables may 1 0 (found_code order Sb ++ returns_nothing) (write_fault_code 0 ++ returns_nothing) (locals program words value a pc p w its_page) (new_word program words value a pc p w its_page) (word_with_lane old (a % 4) b) (stored Sb order memory a value)
+    store-done program words pc value a readable writable memory w tables may 1 0 (found_code order Sb ++ returns_nothing) (write_fault_code 0 ++ returns_nothing) (locals program words value a pc p w its_page) (new_word program words value a pc p w its_page) (word_with_lane old (a % 4) b) (memory_stored Sb order memory a value)
     (byte-tested program words value a pc w a_word)
     (stops-within (lit≤ tt) (byte-stored program words value a pc p w its_page order (stack Pop ∷ write_fault_code 0 ++ returns_nothing)))
     (new_word-is program words value a pc p w its_page word)

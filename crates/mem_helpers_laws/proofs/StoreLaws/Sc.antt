@@ -1,24 +1,24 @@
 -- SC stores where the address is linked.
 use Rattle.std.proofs.Common.{◌≡◌, ℕ, ◌/◌, ◌%◌, List, [], ◌∷◌, ◌++◌, length, Some, refl, arith, lit≤}
 use Rattle.std.proofs.lemmas.Bool.{eq-eqb, ne_eqb}
-use Rattle.nv_words.specs.Words.{IsWord}
-use Rattle.nv_words.specs.declared.order.Order.{Order}
-use Rattle.nv_words.specs.declared.order.Order.TheVariants.{Big, Little}
-use Rattle.jvm_names.specs.declared.branch_name.BranchName.TheVariants.{Ifeq, IfIcmpne}
-use Rattle.jvm_names.specs.declared.stack_name.StackName.TheVariants.{Pop}
-use Rattle.jvm_program.specs.declared.value.Value.TheVariants.{Int as int, Array as array}
-use Rattle.jvm_program.specs.Program.{Program}
-use Rattle.jvm_program.specs.Values.{Heap, with_int}
-use Rattle.jvm_program.specs.Effect.{Workspace, gives}
-use Rattle.code_steps.specs.declared.step.Step.{Step}
-use Rattle.code_steps.specs.declared.step.Step.TheVariants.{Skips}
-use Rattle.code_steps.specs.Outcomes.{outcome, outcome_from}
-use Rattle.guest_code.specs.Access.{get_field}
-use Rattle.guest_code.specs.Fields.{link_field, linked_field}
+use Rattle.run_definition.specs.Words.{IsWord}
+use Rattle.run_definition.specs.declared.order.Order.{Order}
+use Rattle.run_definition.specs.declared.order.Order.TheVariants.{Big, Little}
+use Rattle.jvm_definition.specs.declared.branch_name.BranchName.TheVariants.{Ifeq, IfIcmpne}
+use Rattle.jvm_definition.specs.declared.stack_name.StackName.TheVariants.{Pop}
+use Rattle.jvm_definition.specs.declared.value.Value.TheVariants.{Int as int, Array as array}
+use Rattle.jvm_definition.specs.Program.{Program}
+use Rattle.jvm_definition.specs.Values.{Heap, with_int}
+use Rattle.jvm_definition.specs.Effect.{Workspace, gives}
+use Rattle.emit_steps.specs.declared.step.Step.{Step}
+use Rattle.emit_steps.specs.declared.step.Step.TheVariants.{Skips}
+use Rattle.emit_steps.specs.Outcomes.{outcome, outcome_from}
+use Rattle.emit_instructions.specs.Access.{get_field}
+use Rattle.emit_instructions.specs.Fields.{link_field, linked_field}
 use Rattle.mem_helpers.specs.Parts.{load, stack, index_code, reversed_code}
 use Rattle.mem_helpers.specs.Stores.{value_code, put_word, concluded_code}
-use Rattle.guest_follows.specs.Match.{IsPage}
-use Rattle.guest_follows.proofs.Signs.{same-signed}
+use Rattle.emit_simulation_laws.specs.Match.{IsPage}
+use Rattle.emit_simulation_laws.proofs.Signs.{same-signed}
 use Rattle.mem_helpers_laws.specs.Linking.{unlinked}
 use Rattle.mem_helpers_laws.proofs.StoreLaws.Stopping.{Stops, stops-after, stops-within, stops-past}
 use Rattle.mem_helpers_laws.proofs.StoreLaws.Accessing.{begins, holding}

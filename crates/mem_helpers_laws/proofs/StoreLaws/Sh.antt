@@ -2,29 +2,29 @@
 use Rattle.std.proofs.Common.{◌≡◌, ℕ, ◌+◌, ◌-◌, ◌*◌, ◌/◌, ◌%◌, ◌^◌, ◌==◌, ◌<◌, ◌≤◌, bit_and, bit_or, bit_xor, true, ◌⊎◌, inl, inr, List, [], ◌∷◌, ◌++◌, None, refl, ap, ◌∙◌, sym, arith, lit≤, lit<}
 use Rattle.std.proofs.lemmas.Bool.{cases_lt, eqb-true}
 use Rattle.std.proofs.lemmas.Nat.{and_mask, or_shifted}
-use Rattle.nv_words.specs.Words.{IsWord, lane_of_word, word_with_lane}
-use Rattle.nv_words.specs.declared.order.Order.{Order}
-use Rattle.nv_words.specs.declared.order.Order.TheVariants.{Big, Little}
+use Rattle.run_definition.specs.Words.{IsWord, lane_of_word, word_with_lane}
+use Rattle.run_definition.specs.declared.order.Order.{Order}
+use Rattle.run_definition.specs.declared.order.Order.TheVariants.{Big, Little}
 use Rattle.nv_words.proofs.LaneLemmas.{lane_of_word-lt, IsWord-with_lane}
-use Rattle.nv_events.specs.Memory.{Memory}
-use Rattle.mips_decode.specs.Memory.{with_byte}
-use Rattle.mips_decode.specs.Loads.{stored}
-use Rattle.mips_decode.specs.declared.names.store_name.StoreName.TheVariants.{Sh}
-use Rattle.jvm_names.specs.declared.int_shift.IntShift.TheVariants.{Ishl}
-use Rattle.jvm_names.specs.declared.stack_name.StackName.TheVariants.{Pop}
-use Rattle.jvm_program.specs.declared.value.Value.{Value}
-use Rattle.jvm_program.specs.declared.value.Value.TheVariants.{Int as int, Array as array}
-use Rattle.jvm_program.specs.Program.{Program}
-use Rattle.jvm_program.specs.Effect.{Workspace, Effect, gives}
-use Rattle.code_steps.specs.declared.step.Step.{Step}
-use Rattle.code_steps.specs.Outcomes.{outcome}
-use Rattle.guest_code.specs.Helpers.{store_helper}
+use Rattle.run_definition.specs.Memory.{Memory}
+use Rattle.mips_definition.specs.Memory.{with_byte}
+use Rattle.mips_definition.specs.Loads.{memory_stored}
+use Rattle.mips_definition.specs.declared.names.store_name.StoreName.TheVariants.{Sh}
+use Rattle.jvm_definition.specs.declared.int_shift.IntShift.TheVariants.{Ishl}
+use Rattle.jvm_definition.specs.declared.stack_name.StackName.TheVariants.{Pop}
+use Rattle.jvm_definition.specs.declared.value.Value.{Value}
+use Rattle.jvm_definition.specs.declared.value.Value.TheVariants.{Int as int, Array as array}
+use Rattle.jvm_definition.specs.Program.{Program}
+use Rattle.jvm_definition.specs.Effect.{Workspace, InstructionEffect, gives}
+use Rattle.emit_steps.specs.declared.step.Step.{Step}
+use Rattle.emit_steps.specs.Outcomes.{outcome}
+use Rattle.emit_instructions.specs.Helpers.{store_helper}
 use Rattle.mem_helpers.specs.Parts.{stack, backward_code}
 use Rattle.mem_helpers.specs.Stores.{cleared_code, half_value_code, set_code, put_word, write_fault_code, returns_nothing}
 use Rattle.mem_helpers.specs.Methods.{helper_code}
-use Rattle.guest_follows.specs.Match.{IsPage}
-use Rattle.guest_follows.specs.Memory.{with_word_at}
-use Rattle.guest_follows.specs.Outcomes.{Gives}
+use Rattle.emit_simulation_laws.specs.Match.{IsPage}
+use Rattle.emit_simulation_laws.specs.Memory.{with_word_at}
+use Rattle.emit_simulation_laws.specs.Outcomes.{Gives}
 use Rattle.mem_helpers_laws.specs.Storing.{HoldsTables, LeavesMemory, given_to_store, store_turns}
 use Rattle.mem_helpers_laws.proofs.StoreLaws.Stopping.{Stops, stops-after, stops-within}
 use Rattle.mem_helpers_laws.proofs.StoreLaws.Accessing.{begins, holding}
@@ -118,7 +118,7 @@ module _ (program : Program) (words value a pc p : ℕ) (w : Workspace) (page : 
       (stops-after 1 (word-put program words value a p w page locals new_word (returns_nothing ++ rest)) (returned program words value a p w page locals new_word rest))
 
 module _ (program : Program) (words value a pc p : ℕ) (w : Workspace) (page : IsPage w.heap p) where
-  half-pushed : (order : Order) (operands : List Value) (rest : List Step) (most : ℕ) (e : Effect) → Stops most (outcome program words rest (holding program words value a pc w (int (computed_half order value) ∷ operands))) e → Stops (11 + most) (outcome program words (half_value_code order ++ rest) (holding program words value a pc w operands)) e
+  half-pushed : (order : Order) (operands : List Value) (rest : List Step) (most : ℕ) (e : InstructionEffect) → Stops most (outcome program words rest (holding program words value a pc w (int (computed_half order value) ∷ operands))) e → Stops (11 + most) (outcome program words (half_value_code order ++ rest) (holding program words value a pc w operands)) e
   half-pushed Big operands rest most e s =
       stops-within (omega arith) (stops-after 3 {p = outcome program words rest (holding program words value a pc w (int (computed_half Big value) ∷ operands))} refl s)
   half-pushed Little operands rest most e s =
@@ -142,11 +142,11 @@ module _ (program : Program) (words value a pc p : ℕ) (w : Workspace) (page : 
       ∙ half-replaced-is u (first_byte order value) (second_byte order value) word (first_byte-lt order value) (second_byte-lt order value) (a % 4) (even-place a even)
 
 -- the memory with two bytes
-two-bytes : (order : Order) (m : Memory) (a value : ℕ) → with_byte (with_byte m a (first_byte order value)) (a + 1) (second_byte order value) ≡ stored Sh order m a value
+two-bytes : (order : Order) (m : Memory) (a value : ℕ) → with_byte (with_byte m a (first_byte order value)) (a + 1) (second_byte order value) ≡ memory_stored Sh order m a value
 two-bytes Big m a value = refl
 two-bytes Little m a value = refl
 
-pub sh-done : (program : Program) (words pc value a readable writable : ℕ) (order : Order) (memory : Memory) (w : Workspace) → IsWord a → (tables : HoldsTables w readable writable memory) → (a % 2 == 0) ≡ true → memory.writable a ≡ true → Gives program words store_turns (helper_code order (store_helper Sh)) (given_to_store value a pc) w None (LeavesMemory w readable writable (stored Sh order memory a value))
+pub sh-done : (program : Program) (words pc value a readable writable : ℕ) (order : Order) (memory : Memory) (w : Workspace) → IsWord a → (tables : HoldsTables w readable writable memory) → (a % 2 == 0) ≡ true → memory.writable a ≡ true → Gives program words store_turns (helper_code order (store_helper Sh)) (given_to_store value a pc) w None (LeavesMemory w readable writable (memory_stored Sh order memory a value))
 sh-done program words pc value a readable writable order memory w a_word tables aligned may =
     let p = place program words pc value a readable writable memory w tables may in
     let its_page = page program words pc value a readable writable memory w tables may in
@@ -157,7 +157,7 @@ sh-done program words pc value a readable writable order memory w a_word tables 
     let even : a % 2 ≡ 0 = eqb-true (a % 2) 0 aligned in
     let first_is = IsWord-with_lane old (a % 4) c word (omega arith) (first_byte-lt order value) in
     let next : (a + 1) % 4 ≡ a % 4 + 1 = omega arith in
-    store-done program words pc value a readable writable memory w tables may 2 1 (found_code order Sh ++ returns_nothing) (write_fault_code 1 ++ returns_nothing) (locals program words value a pc p w its_page order) (new_word program words value a pc p w its_page order) (with_two old (a % 4) c d) (stored Sh order memory a value)
+    store-done program words pc value a readable writable memory w tables may 2 1 (found_code order Sh ++ returns_nothing) (write_fault_code 1 ++ returns_nothing) (locals program words value a pc p w its_page order) (new_word program words value a pc p w its_page order) (with_two old (a % 4) c d) (memory_stored Sh order memory a value)
     (tested-as program words value a pc w 2 1 (a % 2 == 0) aligned (half-tested program words value a pc w a_word))
     (stops-within (lit≤ tt) (half-stored program words value a pc p w its_page order (stack Pop ∷ write_fault_code 1 ++ returns_nothing)))
     (new_word-is program words value a pc p w its_page order even word)

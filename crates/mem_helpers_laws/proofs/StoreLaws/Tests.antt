@@ -2,18 +2,18 @@
 use Rattle.std.proofs.Common.{◌≡◌, ℕ, ◌+◌, ◌-◌, ◌*◌, ◌/◌, ◌%◌, ◌^◌, ◌==◌, ◌<◌, ◌≤◌, bit_and, pos, int_lt, not, true, false, ap, ◌∙◌, arith, lit<}
 use Rattle.std.proofs.lemmas.Bool.{lt-ltb, le-ltb, ne_eqb}
 use Rattle.std.proofs.lemmas.Nat.{and_mask, and_block}
-use Rattle.nv_words.specs.Words.{signed_of}
-use Rattle.jvm_program.specs.Effect.{same}
-use Rattle.guest_follows.proofs.Signs.{same-signed, below-zero}
+use Rattle.run_definition.specs.Words.{signed_of}
+use Rattle.jvm_definition.specs.Effect.{same_integer}
+use Rattle.emit_simulation_laws.proofs.Signs.{same-signed, below-zero}
 
 -- a word is compared with 0
-pub zero-test : (n : ℕ) → n < 2 ^ 32 → same (signed_of n) (pos 0) ≡ (n == 0)
+pub zero-test : (n : ℕ) → n < 2 ^ 32 → same_integer (signed_of n) (pos 0) ≡ (n == 0)
 zero-test n word = same-signed n 0 word (lit< tt)
 
-pub zero-is : (n : ℕ) → n ≡ 0 → same (signed_of n) (pos 0) ≡ true
-zero-is n is = ap (λ k. same (signed_of k) (pos 0)) is
+pub zero-is : (n : ℕ) → n ≡ 0 → same_integer (signed_of n) (pos 0) ≡ true
+zero-is n is = ap (λ k. same_integer (signed_of k) (pos 0)) is
 
-pub zero-is_not : (n : ℕ) → n < 2 ^ 32 → (n ≡ 0 → ⊥) → same (signed_of n) (pos 0) ≡ false
+pub zero-is_not : (n : ℕ) → n < 2 ^ 32 → (n ≡ 0 → ⊥) → same_integer (signed_of n) (pos 0) ≡ false
 zero-is_not n word ne = zero-test n word ∙ ne_eqb n 0 ne
 
 pub negative-is : (a : ℕ) → a < 2 ^ 32 → 2 ^ 31 ≤ a → int_lt (signed_of a) (pos 0) ≡ true

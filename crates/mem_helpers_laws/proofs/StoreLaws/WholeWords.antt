@@ -1,18 +1,18 @@
 -- SW stores a whole word.
 use Rattle.std.proofs.Common.{◌≡◌, ℕ, ◌/◌, ◌%◌, List, [], ◌∷◌, ◌++◌, None, refl, lit≤}
-use Rattle.nv_words.specs.Words.{IsWord}
-use Rattle.nv_words.specs.declared.order.Order.{Order}
-use Rattle.nv_words.specs.declared.order.Order.TheVariants.{Big, Little}
-use Rattle.mips_decode.specs.Memory.{word_of_lanes}
-use Rattle.jvm_program.specs.declared.value.Value.{Value}
-use Rattle.jvm_program.specs.declared.value.Value.TheVariants.{Int as int, Array as array}
-use Rattle.jvm_program.specs.Program.{Program}
-use Rattle.jvm_program.specs.Effect.{Workspace, gives}
-use Rattle.code_steps.specs.declared.step.Step.{Step}
-use Rattle.code_steps.specs.Outcomes.{outcome}
+use Rattle.run_definition.specs.Words.{IsWord}
+use Rattle.run_definition.specs.declared.order.Order.{Order}
+use Rattle.run_definition.specs.declared.order.Order.TheVariants.{Big, Little}
+use Rattle.mips_definition.specs.Memory.{word_of_lanes}
+use Rattle.jvm_definition.specs.declared.value.Value.{Value}
+use Rattle.jvm_definition.specs.declared.value.Value.TheVariants.{Int as int, Array as array}
+use Rattle.jvm_definition.specs.Program.{Program}
+use Rattle.jvm_definition.specs.Effect.{Workspace, gives}
+use Rattle.emit_steps.specs.declared.step.Step.{Step}
+use Rattle.emit_steps.specs.Outcomes.{outcome}
 use Rattle.mem_helpers.specs.Parts.{load, index_code, reversed_code}
 use Rattle.mem_helpers.specs.Stores.{value_code, put_word, returns_nothing}
-use Rattle.guest_follows.specs.Match.{IsPage}
+use Rattle.emit_simulation_laws.specs.Match.{IsPage}
 use Rattle.mem_helpers_laws.proofs.StoreLaws.Stopping.{Stops, laters, stops-after, stops-within}
 use Rattle.mem_helpers_laws.proofs.StoreLaws.Accessing.{begins, holding}
 use Rattle.mem_helpers_laws.proofs.StoreLaws.Pieces.{stored_at, returned, word-put, index-pushed}

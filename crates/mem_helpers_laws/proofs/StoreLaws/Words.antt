@@ -1,16 +1,16 @@
 -- A whole word that the guest stores is the word of memory there.
 use Rattle.std.proofs.Common.{◌≡◌, ℕ, ◌+◌, ◌/◌, ◌%◌, ◌<◌, Some, ap, subst, sym, ◌∙◌, arith}
-use Rattle.nv_words.specs.Words.{IsWord, lane_of_word}
-use Rattle.nv_words.specs.declared.order.Order.{Order}
-use Rattle.nv_words.specs.declared.order.Order.TheVariants.{Big, Little}
+use Rattle.run_definition.specs.Words.{IsWord, lane_of_word}
+use Rattle.run_definition.specs.declared.order.Order.{Order}
+use Rattle.run_definition.specs.declared.order.Order.TheVariants.{Big, Little}
 use Rattle.nv_words.proofs.LaneLemmas.{lane_of_word-lt, lane_of_word-of_bytes}
-use Rattle.nv_events.specs.Memory.{Memory}
-use Rattle.mips_decode.specs.Memory.{with_byte, with_word, word_of_lanes}
-use Rattle.jvm_program.specs.Values.{Heap, with_int}
-use Rattle.guest_layout.specs.FieldNumbers.{page_count}
-use Rattle.guest_follows.specs.Match.{HoldsMemory}
-use Rattle.guest_follows.specs.Memory.{with_word_at}
-use Rattle.guest_follows.proofs.Stores.{HoldsMemory-word, with_word-at}
+use Rattle.run_definition.specs.Memory.{Memory}
+use Rattle.mips_definition.specs.Memory.{with_byte, with_word, word_of_lanes}
+use Rattle.jvm_definition.specs.Values.{Heap, with_int}
+use Rattle.emit_layout.specs.FieldNumbers.{page_count}
+use Rattle.emit_simulation_laws.specs.Match.{HoldsMemory}
+use Rattle.emit_simulation_laws.specs.Memory.{with_word_at}
+use Rattle.emit_simulation_laws.proofs.Stores.{HoldsMemory-word, with_word-at}
 
 -- four bytes from an address on
 abbrev four_bytes : Memory → ℕ → ℕ → ℕ → ℕ → ℕ → Memory

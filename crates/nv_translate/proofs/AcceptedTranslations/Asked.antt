@@ -4,40 +4,40 @@ use Rattle.std.specs.Prelude.{codes, not, nat_lt, unwrap_or, decimal}
 use Rattle.std.specs.List.{AllZip, IsDistinct, list_all, range_with_len}
 use Rattle.std.proofs.lemmas.Bool.{and_parts, or_from, true≢false}
 use Rattle.std.proofs.lemmas.Option.{slice_get_within}
-use Rattle.command_values.specs.Names.{Text, is_letter, is_letter_or_digit, IsClassName}
-use Rattle.elf_image.specs.Start.{Source}
-use Rattle.constant_pool.specs.Names.{same_text, is_array_name}
-use Rattle.jvm_code.specs.declared.class.Class.{Class}
-use Rattle.class_file.specs.ClassFile.{Spells}
-use Rattle.name_resolution.specs.Names.{own_name, is_known, object_name, string_name, host_name, length_signature, char_at_signature, host_call_signature, host_fault_signature}
-use Rattle.name_resolution.specs.Faults.{twice_fault}
-use Rattle.class_set.specs.ClassSets.{is_among, names_asked}
-use Rattle.class_set.specs.Waiting.{fresh}
-use Rattle.guest_layout.specs.ClassNames.{code_class_name, data_class_name, span_name}
-use Rattle.guest_layout.specs.Helpers.{helper_name, helper_descriptor}
-use Rattle.guest_layout.specs.Numbers.{main_methods}
-use Rattle.class_builder.specs.Sound.{IsPool}
-use Rattle.class_builder.specs.Mentioned.{OfClass, method_mention, classes_among}
-use Rattle.class_builder.proofs.Classes.{class-parts}
-use Rattle.whole_methods.specs.Naming.{fields_of}
-use Rattle.program_classes.specs.Making.{nothing}
-use Rattle.program_classes.specs.Mentioned.{called}
-use Rattle.program_classes.specs.declared.content.MainClass.{MainClass}
-use Rattle.program_classes.specs.declared.other_class.OtherClass.TheVariants.{Code, Data}
-use Rattle.program_classes.specs.Called.{class_name}
-use Rattle.program_classes.specs.Content.{has_meter, main_fields}
-use Rattle.program_classes.specs.MainMentioned.{main_mentions}
-use Rattle.program_classes.proofs.MainClasses.ClassLemmas.{main-classes}
-use Rattle.program_classes.specs.CodeNaming.{code_mentions}
-use Rattle.program_classes.specs.DataNaming.{data_mentions}
-use Rattle.program_classes_laws.proofs.LinkedNumbers.Names.{names-distinct, names-unknown}
-use Rattle.program_classes_laws.proofs.LinkedNumbers.Numbers.{text-other, own-unknown}
-use Rattle.program_classes_laws.proofs.LinkedNumbers.Programs.{get-front, get-behind}
-use Rattle.program_translation.specs.declared.named_file.NamedFile.{NamedFile}
-use Rattle.program_translation.specs.Classes.{Placed, IsCodeFile}
-use Rattle.program_translation.specs.declared.built.Built.{Built}
-use Rattle.program_translation.specs.Translation.{IsTranslationBy}
-use Rattle.program_translation.proofs.Counts.PageLemmas.{data-few}
+use Rattle.nv_values.specs.Names.{Text, is_letter, is_letter_or_digit, IsClassName}
+use Rattle.elf_definition.specs.Start.{Source}
+use Rattle.class_definition.specs.NameGrammar.{same_text, is_array_name}
+use Rattle.class_definition.specs.declared.class.Class.{Class}
+use Rattle.class_definition.specs.ClassFile.{Spells}
+use Rattle.class_definition.specs.MemberNames.{own_name, is_known, object_name, string_name, host_name, length_signature, char_at_signature, host_call_signature, host_fault_signature}
+use Rattle.class_definition.specs.LinkFault.{twice_fault}
+use Rattle.class_sets.specs.ClassSets.{is_among, names_asked}
+use Rattle.class_sets.specs.Waiting.{fresh}
+use Rattle.emit_layout.specs.ClassNames.{code_class_name, data_class_name, span_name}
+use Rattle.emit_layout.specs.Helpers.{helper_name, helper_descriptor}
+use Rattle.emit_layout.specs.Numbers.{main_methods}
+use Rattle.emit_classes.specs.Sound.{IsPool}
+use Rattle.emit_classes.specs.Mentioned.{OfClass, method_mention, classes_among}
+use Rattle.emit_classes.proofs.Classes.{class-parts}
+use Rattle.emit_methods_laws.specs.Naming.{fields_of}
+use Rattle.translate_classes.specs.Making.{nothing}
+use Rattle.translate_classes.specs.Mentioned.{called}
+use Rattle.translate_classes.specs.declared.content.MainClass.{MainClass}
+use Rattle.translate_classes.specs.declared.other_class.OtherClass.TheVariants.{Code, Data}
+use Rattle.translate_classes.specs.Called.{class_name}
+use Rattle.translate_classes.specs.Content.{has_meter, main_fields}
+use Rattle.translate_classes.specs.MainMentioned.{main_mentions}
+use Rattle.translate_classes.proofs.MainClasses.ClassLemmas.{main-classes}
+use Rattle.translate_classes.specs.CodeNaming.{code_mentions}
+use Rattle.translate_classes.specs.DataNaming.{data_mentions}
+use Rattle.translate_classes_laws.proofs.LinkedNumbers.Names.{names-distinct, names-unknown}
+use Rattle.translate_classes_laws.proofs.LinkedNumbers.Numbers.{text-other, own-unknown}
+use Rattle.translate_classes_laws.proofs.LinkedNumbers.Programs.{get-front, get-behind}
+use Rattle.translate_program.specs.declared.named_file.NamedFile.{NamedFile}
+use Rattle.translate_program.specs.Classes.{Placed, IsCodeFile}
+use Rattle.translate_program.specs.declared.built.Built.{Built}
+use Rattle.translate_program.specs.Translation.{IsTranslationBy}
+use Rattle.translate_program.proofs.Counts.PageLemmas.{data-few}
 use Rattle.nv_translate.specs.AcceptedCode.{HasAcceptedCode}
 use Rattle.nv_translate.proofs.LinkedTranslations.Lists.{mapped-get, mapped-length}
 use Rattle.nv_translate.proofs.AcceptedTranslations.Passing.{pass-joined, pass-range}

@@ -8,19 +8,19 @@ use Rattle.std.proofs.lemmas.List.Elements.{filter-append}
 use Rattle.std.proofs.lemmas.List.Folds.{list_any-append}
 use Rattle.std.proofs.lemmas.Map.Keys.{IsDistinct-head, IsDistinct-tail}
 use Rattle.std.proofs.lemmas.Slice.Eq.{bytes_eq-Decides}
-use Rattle.constant_pool.specs.declared.entry.Entry.{Entry}
-use Rattle.constant_pool.specs.Names.{same_text, is_array_name}
-use Rattle.constant_pool.specs.Entries.{class_of}
-use Rattle.constant_pool.specs.Checks.{text_at}
-use Rattle.jvm_code.specs.declared.class.Class.{Class}
-use Rattle.name_resolution.specs.Names.{is_known}
-use Rattle.name_resolution.proofs.NumberLemmas.{same_text-refl}
-use Rattle.class_builder.specs.Sound.{IsPool}
-use Rattle.class_builder.specs.Mentioned as mentioned
-use Rattle.class_builder.specs.Mentioned.{Mention, OfClass, OfMember, Mentions, classes_among, once}
-use Rattle.class_builder.proofs.MentionedClasses.{classes-asked, mentions-classes}
-use Rattle.class_set.specs.ClassSets.{has_file, names_asked, is_among}
-use Rattle.class_set.specs.Waiting.{fresh}
+use Rattle.class_definition.specs.declared.entry.Entry.{Entry}
+use Rattle.class_definition.specs.NameGrammar.{same_text, is_array_name}
+use Rattle.class_definition.specs.PoolEntries.{class_entry_name}
+use Rattle.class_definition.specs.PoolChecks.{text_at}
+use Rattle.class_definition.specs.declared.class.Class.{Class}
+use Rattle.class_definition.specs.MemberNames.{is_known}
+use Rattle.class_names.proofs.NumberLemmas.{same_text-refl}
+use Rattle.emit_classes.specs.Sound.{IsPool}
+use Rattle.emit_classes.specs.Mentioned as mentioned
+use Rattle.emit_classes.specs.Mentioned.{Mention, OfClass, OfMember, Mentions, classes_among, once}
+use Rattle.emit_classes.proofs.MentionedClasses.{classes-asked, mentions-classes}
+use Rattle.class_sets.specs.ClassSets.{has_file, names_asked, is_among}
+use Rattle.class_sets.specs.Waiting.{fresh}
 
 abbrev Names : Type 0
 Names = List (List ℕ)
@@ -136,7 +136,7 @@ filter-joined f (e ∷ es) =
 pub names-asked : (c : Class) (ms : List Mention) → IsPool c.pool → Mentions c.pool ms → (known : Names)
     → fresh known (names_asked c) ≡ asked_of known (classes_among ms)
 names-asked c ms sound are known =
-    ap (fresh known) (filter-joined (λ e. option_to_list (option_and_then (text_at c.pool) (class_of e))) c.pool)
+    ap (fresh known) (filter-joined (λ e. option_to_list (option_and_then (text_at c.pool) (class_entry_name e))) c.pool)
     ∙ ap (asked_of known) (classes-asked c.pool sound)
     ∙ same-asked known (classes_among (mentioned.mentioned c.pool)) (classes_among ms) (mentions-classes c.pool ms are)
 

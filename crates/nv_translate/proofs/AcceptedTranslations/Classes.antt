@@ -3,17 +3,17 @@ use Rattle.std.proofs.Common.{◌≡◌, ℕ, zero, suc, ◌+◌, ◌<◌, List,
 use Rattle.std.specs.List.{AllZip, range_with_len}
 use Rattle.std.proofs.lemmas.List.FromFn.{length-range_with_len}
 use Rattle.std.proofs.lemmas.Slice.Zip.{AllZip-long}
-use Rattle.command_values.specs.Names.{Text}
-use Rattle.elf_image.specs.Start.{Source}
-use Rattle.jvm_code.specs.declared.class.Class.{Class}
-use Rattle.class_file.specs.ClassFile.{Spells}
-use Rattle.class_file.proofs.ClassLaws.{same_class}
-use Rattle.program_classes_laws.proofs.LinkedNumbers.Programs.{get-front, get-behind}
-use Rattle.program_translation.specs.declared.named_file.NamedFile.{NamedFile}
-use Rattle.program_translation.specs.Classes.{Placed, IsCodeFile}
-use Rattle.program_translation.specs.DataFiles.{IsDataFile, class_count, filled_pages}
-use Rattle.program_translation.specs.declared.built.Built.{Built}
-use Rattle.program_translation.specs.Translation.{IsTranslationBy, code_methods}
+use Rattle.nv_values.specs.Names.{Text}
+use Rattle.elf_definition.specs.Start.{Source}
+use Rattle.class_definition.specs.declared.class.Class.{Class}
+use Rattle.class_definition.specs.ClassFile.{Spells}
+use Rattle.class_definition_laws.proofs.ClassLaws.{same_class}
+use Rattle.translate_classes_laws.proofs.LinkedNumbers.Programs.{get-front, get-behind}
+use Rattle.translate_program.specs.declared.named_file.NamedFile.{NamedFile}
+use Rattle.translate_program.specs.Classes.{Placed, IsCodeFile}
+use Rattle.translate_program.specs.DataFiles.{IsDataFile, class_count, filled_pages}
+use Rattle.translate_program.specs.declared.built.Built.{Built}
+use Rattle.translate_program.specs.Translation.{IsTranslationBy, code_methods}
 use Rattle.nv_translate.proofs.LinkedTranslations.Lists.{zip-first, zip-second, range-first, range-below, get-either}
 
 abbrev pub IsSpelled : NamedFile → Class → Type 0

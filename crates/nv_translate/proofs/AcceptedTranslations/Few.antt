@@ -1,10 +1,10 @@
 -- A translation of a program that was accepted has few classes of code.
 use Rattle.std.proofs.Common.{ℕ, ◌≤◌, Bool, List, length, arith}
 use Rattle.std.proofs.lemmas.Slice.Zip.{AllZip-long}
-use Rattle.elf_image.specs.Start.{Source, image_of}
-use Rattle.program_translation.specs.Classes.{Placed, IsPlaced, AreCodeClasses}
-use Rattle.program_translation.specs.Places.{places_of}
-use Rattle.program_translation.proofs.Counts.PlaceLemmas.{places-most}
+use Rattle.elf_definition.specs.Start.{Source, image_of}
+use Rattle.translate_program.specs.Classes.{Placed, IsPlaced, AreCodeClasses}
+use Rattle.translate_program.specs.Places.{places_of}
+use Rattle.translate_program.proofs.Counts.PlaceLemmas.{places-most}
 use Rattle.nv_translate.specs.AcceptedCode.{HasAcceptedCode}
 
 pub code-few : {metered : Bool} (source : Source) (method_bytes : ℕ) (code : List Placed) → HasAcceptedCode source

@@ -2,11 +2,11 @@
 use Rattle.std.proofs.Common.{◌≡◌, ℕ, zero, suc, ◌≤◌, false, List, [], ◌∷◌, ◌++◌, length, Some, Ok, refl, sym, ap, ◌∙◌, append_assoc, append-nil, slice_get, arith}
 use Rattle.std.specs.List.{AllZip}
 use Rattle.nv_outside.specs.Files.{Files}
-use Rattle.jvm_code.specs.declared.class.Class.{Class}
-use Rattle.class_set.specs.declared.loaded.Loaded.TheVariants.{Classes}
-use Rattle.class_set.specs.ClassSets.{file_of, is_among, names_asked, class_in, set_of, grown, class_set}
-use Rattle.class_set.specs.Waiting.{fresh}
-use Rattle.class_set.proofs.WaitingLemmas.{fresh-head, next-first, next-none, grown-zero, grown-none, grown-class, grown-once}
+use Rattle.class_definition.specs.declared.class.Class.{Class}
+use Rattle.class_sets.specs.declared.loaded.Loaded.TheVariants.{Classes}
+use Rattle.class_sets.specs.ClassSets.{file_of, is_among, names_asked, class_in_bytes, set_of_classes, grown, class_set}
+use Rattle.class_sets.specs.Waiting.{fresh}
+use Rattle.class_sets.proofs.WaitingLemmas.{fresh-head, next-first, next-none, grown-zero, grown-none, grown-class, grown-once}
 
 abbrev Names : Type 0
 Names = List (List ℕ)
@@ -15,7 +15,7 @@ Names = List (List ℕ)
 pub record GivesClass (files : Files) (name : List ℕ) (c : Class) : Type 0 where
   pub bytes : List ℕ
   pub file_is : files (file_of name) ≡ Some bytes
-  pub class_is : class_in bytes ≡ Ok c
+  pub class_is : class_in_bytes bytes ≡ Ok c
 
 -- one turn: the first of the names that wait
 one-grown : (files : Files) (n : ℕ) (done : List Class) (asked : Names) (name : List ℕ) (waiting : Names) (c : Class)
@@ -25,7 +25,7 @@ one-grown files n done asked name waiting c new gives =
     grown-class files n done asked (name ∷ waiting) (record { bytes = gives.bytes; asked = asked ++ name ∷ []; waiting = waiting }) c
     (next-first files asked name waiting (Some gives.bytes) new gives.file_is) gives.class_is
 
-ended : (files : Files) (n : ℕ) (done : List Class) (asked : Names) → grown files n done asked [] ≡ set_of done
+ended : (files : Files) (n : ℕ) (done : List Class) (asked : Names) → grown files n done asked [] ≡ set_of_classes done
 ended files zero done asked = grown-zero files done asked []
 ended files (suc n) done asked = grown-none files n done asked [] (next-none files asked)
 
@@ -33,8 +33,8 @@ ended files (suc n) done asked = grown-none files n done asked [] (next-none fil
 all-grown : (files : Files) (all : Names) (n : ℕ) (done : List Class) (asked waiting : Names) (classes : List Class)
     → AllZip (GivesClass files) waiting classes → length waiting ≤ n → asked ++ waiting ≡ all → fresh asked waiting ≡ waiting
     → ((k : ℕ) (c : Class) → slice_get classes k ≡ Some c → fresh all (names_asked c) ≡ [])
-    → grown files n done asked waiting ≡ set_of (done ++ classes)
-all-grown files all n done asked [] [] gives few split once nothing = ended files n done asked ∙ ap set_of (sym (append-nil done))
+    → grown files n done asked waiting ≡ set_of_classes (done ++ classes)
+all-grown files all n done asked [] [] gives few split once nothing = ended files n done asked ∙ ap set_of_classes (sym (append-nil done))
 all-grown files all n done asked [] (c ∷ classes) gives few split once nothing = absurd gives
 all-grown files all n done asked (name ∷ waiting) [] gives few split once nothing = absurd gives
 all-grown files all zero done asked (name ∷ waiting) (c ∷ classes) gives few split once nothing = absurd (omega (arith, few))
@@ -49,7 +49,7 @@ all-grown files all (suc n) done asked (name ∷ waiting) (c ∷ classes) gives 
     ∙ ap (λ ns. grown files n later more (waiting ++ ns)) none
     ∙ ap (grown files n later more) (append-nil waiting)
     ∙ all-grown files all n later more waiting classes gives.1 (omega (arith, few)) joined first.1 (λ k d at. nothing (suc k) d at)
-    ∙ ap set_of (append_assoc done (c ∷ []) classes)
+    ∙ ap set_of_classes (append_assoc done (c ∷ []) classes)
 
 -- The set of a name whose class asks for some others, which ask for nothing new.
 pub set-grown : (files : Files) (name : List ℕ) (others : Names) (main : Class) (classes : List Class) → GivesClass files name main

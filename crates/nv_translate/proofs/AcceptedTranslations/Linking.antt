@@ -4,30 +4,30 @@ use Rattle.std.specs.Prelude.{codes}
 use Rattle.std.specs.List.{AllZip}
 use Rattle.std.proofs.lemmas.List.{length-map}
 use Rattle.std.proofs.lemmas.Slice.Zip.{AllZip-long}
-use Rattle.command_values.specs.Names.{Text}
-use Rattle.elf_image.specs.Start.{Source}
-use Rattle.constant_pool.specs.declared.entry.Entry.{Entry}
-use Rattle.jvm_code.specs.declared.class.Class.{Class}
-use Rattle.name_resolution.specs.Names.{methods_of}
-use Rattle.name_resolution.specs.Faults.{entry_fault, run_signature, twice_fault, link_fault}
-use Rattle.guest_layout.specs.ClassNames.{code_class_name, data_class_name}
-use Rattle.guest_layout.specs.Numbers.{main_methods}
-use Rattle.class_builder.specs.Mentioned.{OfClass, method_mention}
-use Rattle.whole_methods.specs.Naming.{fields_of}
-use Rattle.program_classes.specs.Making.{nothing}
-use Rattle.program_classes.specs.declared.content.MainClass.{MainClass}
-use Rattle.program_classes.specs.declared.other_class.OtherClass.TheVariants.{Code, Data}
-use Rattle.program_classes.specs.Content.{has_meter, main_fields}
-use Rattle.program_classes.specs.MainMentioned.{main_mentions}
-use Rattle.program_classes.specs.CodeNaming.{code_mentions}
-use Rattle.program_classes.specs.DataNaming.{data_mentions}
-use Rattle.program_classes_laws.proofs.LinkedNumbers.Found.{links}
-use Rattle.program_translation.specs.Classes.{Placed, IsCodeFile, run_of}
-use Rattle.program_translation.specs.DataFiles.{class_number, filled_pages, first_method, pages_of_class, fill_of}
-use Rattle.program_translation.specs.declared.named_file.NamedFile.{NamedFile}
-use Rattle.program_translation.specs.declared.built.Built.{Built}
-use Rattle.program_translation.specs.Translation.{IsTranslationBy, code_methods}
-use Rattle.program_translation.proofs.Counts.PageLemmas.{data-few}
+use Rattle.nv_values.specs.Names.{Text}
+use Rattle.elf_definition.specs.Start.{Source}
+use Rattle.class_definition.specs.declared.entry.Entry.{Entry}
+use Rattle.class_definition.specs.declared.class.Class.{Class}
+use Rattle.class_definition.specs.MemberNames.{methods_of}
+use Rattle.class_definition.specs.LinkFault.{named_entry_fault, run_signature, twice_fault, link_fault}
+use Rattle.emit_layout.specs.ClassNames.{code_class_name, data_class_name}
+use Rattle.emit_layout.specs.Numbers.{main_methods}
+use Rattle.emit_classes.specs.Mentioned.{OfClass, method_mention}
+use Rattle.emit_methods_laws.specs.Naming.{fields_of}
+use Rattle.translate_classes.specs.Making.{nothing}
+use Rattle.translate_classes.specs.declared.content.MainClass.{MainClass}
+use Rattle.translate_classes.specs.declared.other_class.OtherClass.TheVariants.{Code, Data}
+use Rattle.translate_classes.specs.Content.{has_meter, main_fields}
+use Rattle.translate_classes.specs.MainMentioned.{main_mentions}
+use Rattle.translate_classes.specs.CodeNaming.{code_mentions}
+use Rattle.translate_classes.specs.DataNaming.{data_mentions}
+use Rattle.translate_classes_laws.proofs.LinkedNumbers.Found.{links}
+use Rattle.translate_program.specs.Classes.{Placed, IsCodeFile, run_of}
+use Rattle.translate_program.specs.DataFiles.{class_number, filled_pages, first_method, pages_of_class, fill_of}
+use Rattle.translate_program.specs.declared.named_file.NamedFile.{NamedFile}
+use Rattle.translate_program.specs.declared.built.Built.{Built}
+use Rattle.translate_program.specs.Translation.{IsTranslationBy, code_methods}
+use Rattle.translate_program.proofs.Counts.PageLemmas.{data-few}
 use Rattle.nv_translate.specs.AcceptedCode.{HasAcceptedCode}
 use Rattle.nv_translate.proofs.LinkedTranslations.Lists.{mapped-length}
 use Rattle.nv_translate.proofs.LinkedTranslations.Metered.{class-fields, fields-least}
@@ -49,7 +49,7 @@ placed-at (c ∷ code) (suc i) below = placed-at code i (omega (arith, below))
 -- ---- a first class, and others
 
 links-from : (classes : List Class) (c : Class) (k : ℕ) → slice_get classes 0 ≡ Some c → length classes ≤ 1024 → twice_fault [] 0 classes ≡ None
-    → ((n slot : ℕ) (d : Class) (e : Entry) → slice_get classes n ≡ Some d → slice_get d.pool slot ≡ Some e → entry_fault classes d e ≡ None)
+    → ((n slot : ℕ) (d : Class) (e : Entry) → slice_get classes n ≡ Some d → slice_get d.pool slot ≡ Some e → named_entry_fault classes d e ≡ None)
     → slice_get (methods_of c) k ≡ Some run_signature → link_fault classes ≡ None
 links-from [] c k first few once each run = absurd cc
 links-from (d ∷ others) c k first few once each run =
@@ -124,13 +124,13 @@ module _ {meter : Option ℕ} (source : Source) (name : Text) (method_bytes : �
           method = data-fill name k (number_of k) (first_of k) pages bytes stands.is.class_is classes once place stands.there;
         }
 
-    main-entries : (slot : ℕ) (e : Entry) → slice_get t.main_is.class_is.class.pool slot ≡ Some e → entry_fault classes t.main_is.class_is.class e ≡ None
+    main-entries : (slot : ℕ) (e : Entry) → slice_get t.main_is.class_is.class.pool slot ≡ Some e → named_entry_fault classes t.main_is.class_is.class e ≡ None
     main-entries =
         entries-meant classes t.main_is.class_is.class (main_mentions name main) t.main_is.class_is.mentions
         (main-pass (is_meant classes) name main names (own-meant name main t.main_file.bytes.items t.main_is.class_is classes once there) code-other data-other)
 
     code-entries : (i : ℕ) (c : Placed) (file : NamedFile) (is : IsCodeFile name c file) → slice_get t.code i ≡ Some c
-        → slice_get classes (suc i) ≡ Some is.class.class → (slot : ℕ) (e : Entry) → slice_get is.class.class.pool slot ≡ Some e → entry_fault classes is.class.class e ≡ None
+        → slice_get classes (suc i) ≡ Some is.class.class → (slot : ℕ) (e : Entry) → slice_get is.class.class.pool slot ≡ Some e → named_entry_fault classes is.class.class e ≡ None
     code-entries i c file is at stands =
         entries-meant classes is.class.class (code_mentions (fields_of c.part.metered) (code_class_name name c.number) name (length c.spans)) is.class.mentions
         (code-meant name c file.bytes.items is.class classes once (suc i) stands (main_fields main) names
@@ -138,15 +138,15 @@ module _ {meter : Option ℕ} (source : Source) (name : Text) (method_bytes : �
 
     data-entries : (k : ℕ) (file : NamedFile) (is : IsData source name method_bytes built t classes spelled k file)
         → k < count source name method_bytes built t classes spelled → slice_get classes (suc (length t.code_files + k)) ≡ Some is.class_is.class
-        → (slot : ℕ) (e : Entry) → slice_get is.class_is.class.pool slot ≡ Some e → entry_fault classes is.class_is.class e ≡ None
+        → (slot : ℕ) (e : Entry) → slice_get is.class_is.class.pool slot ≡ Some e → named_entry_fault classes is.class_is.class e ≡ None
     data-entries k file is below stands =
         entries-meant classes is.class_is.class (data_mentions (data_class_name name k) name) is.class_is.mentions
         (data-meant name k (number_of k) (first_of k) (pages_of_class (filled_pages source) k) file.bytes.items is.class_is classes once
         (suc (length t.code_files + k)) stands (main_fields main) names (fields-least (has_meter main)))
 
-    entries : (n slot : ℕ) (d : Class) (e : Entry) → slice_get classes n ≡ Some d → slice_get d.pool slot ≡ Some e → entry_fault classes d e ≡ None
+    entries : (n slot : ℕ) (d : Class) (e : Entry) → slice_get classes n ≡ Some d → slice_get d.pool slot ≡ Some e → named_entry_fault classes d e ≡ None
     entries n slot d e at here =
-        each-class source name method_bytes built t classes spelled (λ d. (slot : ℕ) (e : Entry) → slice_get d.pool slot ≡ Some e → entry_fault classes d e ≡ None)
+        each-class source name method_bytes built t classes spelled (λ d. (slot : ℕ) (e : Entry) → slice_get d.pool slot ≡ Some e → named_entry_fault classes d e ≡ None)
         main-entries code-entries data-entries n d at slot e here
 
     pub classes-link : HasAcceptedCode source → link_fault classes ≡ None

@@ -3,23 +3,23 @@ use Rattle.std.proofs.Common.{◌≡◌, ℕ, ◌+◌, ◌<◌, true, List, [], 
 use Rattle.std.specs.Prelude.{option_map}
 use Rattle.std.specs.List.{list_all, range_with_len}
 use Rattle.std.proofs.lemmas.Option.{slice_get-map}
-use Rattle.jvm_code.specs.declared.class.Class.{Class}
-use Rattle.name_resolution.specs.Names.{Signature, signature, string_name, host_name, length_signature, char_at_signature, host_call_signature, host_fault_signature, methods_of}
-use Rattle.name_resolution.specs.Faults.{run_signature, twice_fault}
-use Rattle.guest_layout.specs.Fields.{field_name, field_descriptor}
-use Rattle.guest_layout.specs.Helpers.{helper_name, helper_descriptor}
-use Rattle.code_assembly.specs.declared.references.References.{References}
-use Rattle.class_builder.specs.Mentioned.{OfClass, method_mention, field_mention}
-use Rattle.program_classes.specs.Making.{Plan}
-use Rattle.program_classes.specs.Mentioned.{called, helper_mentions}
-use Rattle.program_classes.specs.Tables.{references_of}
-use Rattle.program_classes.specs.declared.content.MainClass.{MainClass}
-use Rattle.program_classes.specs.Content.{has_meter, main_fields}
-use Rattle.program_classes.specs.MainMentioned.{own_mentions}
-use Rattle.program_classes.specs.Main.{IsMainClass, helper_plan, helper_plans, run_plan, choose_plan, pages_plan, missing_plan, other_plans, main_plans}
-use Rattle.program_classes_laws.specs.Planned.{planned, numbered}
-use Rattle.program_classes_laws.proofs.LinkedNumbers.Made.{methods-made, fields-made}
-use Rattle.program_classes_laws.proofs.LinkedNumbers.Programs.{get-front, get-behind}
+use Rattle.class_definition.specs.declared.class.Class.{Class}
+use Rattle.class_definition.specs.MemberNames.{Signature, signature, string_name, host_name, length_signature, char_at_signature, host_call_signature, host_fault_signature, methods_of}
+use Rattle.class_definition.specs.LinkFault.{run_signature, twice_fault}
+use Rattle.emit_layout.specs.Fields.{field_name, field_descriptor}
+use Rattle.emit_layout.specs.Helpers.{helper_name, helper_descriptor}
+use Rattle.emit_assembly.specs.declared.references.References.{References}
+use Rattle.emit_classes.specs.Mentioned.{OfClass, method_mention, field_mention}
+use Rattle.translate_classes.specs.Making.{Plan}
+use Rattle.translate_classes.specs.Mentioned.{called, helper_mentions}
+use Rattle.translate_classes.specs.Tables.{references_of}
+use Rattle.translate_classes.specs.declared.content.MainClass.{MainClass}
+use Rattle.translate_classes.specs.Content.{has_meter, main_fields}
+use Rattle.translate_classes.specs.MainMentioned.{own_mentions}
+use Rattle.translate_classes.specs.Main.{IsMainClass, helper_plan, helper_plans, run_plan, choose_plan, pages_plan, missing_plan, other_plans, main_plans}
+use Rattle.translate_classes_laws.specs.Planned.{planned, numbered}
+use Rattle.translate_classes_laws.proofs.LinkedNumbers.Made.{methods-made, fields-made}
+use Rattle.translate_classes_laws.proofs.LinkedNumbers.Programs.{get-front, get-behind}
 use Rattle.nv_translate.proofs.LinkedTranslations.Lists.{mapped-get, mapped-length}
 use Rattle.nv_translate.proofs.AcceptedTranslations.Passing.{pass-range}
 use Rattle.nv_translate.proofs.AcceptedTranslations.Meant.{is_meant}

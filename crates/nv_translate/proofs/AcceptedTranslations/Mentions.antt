@@ -2,19 +2,19 @@
 use Rattle.std.proofs.Common.{◌≡◌, ℕ, ◌+◌, ◌<◌, ◌≤◌, true, List, [], ◌∷◌, ◌++◌, length, refl, arith}
 use Rattle.std.specs.Prelude.{codes, Bool}
 use Rattle.std.specs.List.{list_all}
-use Rattle.name_resolution.specs.Names.{object_name}
-use Rattle.guest_layout.specs.Fields.{field_name, field_descriptor}
-use Rattle.class_builder.specs.Mentioned.{Mention, OfClass, field_mention, method_mention}
-use Rattle.program_classes.specs.Making.{nothing}
-use Rattle.program_classes.specs.Mentioned.{field_mentions, helper_mentions, host_mentions, string_mentions, names_mentions}
-use Rattle.program_classes.specs.declared.content.MainClass.{MainClass}
-use Rattle.program_classes.specs.declared.other_class.OtherClass.{OtherClass}
-use Rattle.program_classes.specs.declared.other_class.OtherClass.TheVariants.{Code, Data}
-use Rattle.program_classes.specs.Called.{pages_descriptor, class_name, method_name}
-use Rattle.program_classes.specs.Content.{main_fields}
-use Rattle.program_classes.specs.MainMentioned.{own_mentions, other_mention, other_mentions, called_mentions, main_mentions}
-use Rattle.program_classes.specs.CodeNaming.{span_mentions, code_mentions}
-use Rattle.program_classes.specs.DataNaming.{words_descriptor, data_mentions}
+use Rattle.class_definition.specs.MemberNames.{object_name}
+use Rattle.emit_layout.specs.Fields.{field_name, field_descriptor}
+use Rattle.emit_classes.specs.Mentioned.{Mention, OfClass, field_mention, method_mention}
+use Rattle.translate_classes.specs.Making.{nothing}
+use Rattle.translate_classes.specs.Mentioned.{field_mentions, helper_mentions, host_mentions, string_mentions, names_mentions}
+use Rattle.translate_classes.specs.declared.content.MainClass.{MainClass}
+use Rattle.translate_classes.specs.declared.other_class.OtherClass.{OtherClass}
+use Rattle.translate_classes.specs.declared.other_class.OtherClass.TheVariants.{Code, Data}
+use Rattle.translate_classes.specs.Called.{pages_descriptor, class_name, method_name}
+use Rattle.translate_classes.specs.Content.{main_fields}
+use Rattle.translate_classes.specs.MainMentioned.{own_mentions, other_mention, other_mentions, called_mentions, main_mentions}
+use Rattle.translate_classes.specs.CodeNaming.{span_mentions, code_mentions}
+use Rattle.translate_classes.specs.DataNaming.{words_descriptor, data_mentions}
 use Rattle.nv_translate.proofs.AcceptedTranslations.Passing.{pass-more, pass-joined, pass-range, pass-ranges}
 
 module _ (test : Mention → Bool) (main : List ℕ) where

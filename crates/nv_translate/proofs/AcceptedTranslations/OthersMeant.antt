@@ -2,22 +2,22 @@
 use Rattle.std.proofs.Common.{◌≡◌, ℕ, ◌+◌, ◌<◌, ◌≤◌, true, List, [], ◌∷◌, ◌++◌, length, Some, None, refl, slice_get, arith}
 use Rattle.std.specs.Prelude.{codes}
 use Rattle.std.specs.List.{list_all}
-use Rattle.command_values.specs.Names.{Text}
-use Rattle.image_parts.specs.Pages.{Page}
-use Rattle.jvm_code.specs.declared.class.Class.{Class}
-use Rattle.name_resolution.specs.Faults.{twice_fault}
-use Rattle.guest_layout.specs.ClassNames.{code_class_name, data_class_name, span_name}
-use Rattle.code_assembly.specs.declared.references.References.{References}
-use Rattle.class_builder.specs.Mentioned.{OfClass, method_mention}
-use Rattle.whole_methods.specs.Naming.{fields_of}
-use Rattle.program_classes.specs.Making.{Plan, nothing}
-use Rattle.program_classes.specs.Tables.{references_of}
-use Rattle.program_classes.specs.Code.{IsCodeClass, span_plan, span_plans, run_plan}
-use Rattle.program_classes.specs.CodeNaming.{code_mentions}
-use Rattle.program_classes.specs.Data.{IsDataClass, words_plan, fill_plan}
-use Rattle.program_classes.specs.DataNaming.{data_mentions}
-use Rattle.program_classes_laws.proofs.LinkedNumbers.Programs.{get-front, get-behind}
-use Rattle.program_translation.specs.Classes.{Placed}
+use Rattle.nv_values.specs.Names.{Text}
+use Rattle.elf_image_parts.specs.Pages.{Page}
+use Rattle.class_definition.specs.declared.class.Class.{Class}
+use Rattle.class_definition.specs.LinkFault.{twice_fault}
+use Rattle.emit_layout.specs.ClassNames.{code_class_name, data_class_name, span_name}
+use Rattle.emit_assembly.specs.declared.references.References.{References}
+use Rattle.emit_classes.specs.Mentioned.{OfClass, method_mention}
+use Rattle.emit_methods_laws.specs.Naming.{fields_of}
+use Rattle.translate_classes.specs.Making.{Plan, nothing}
+use Rattle.translate_classes.specs.Tables.{references_of}
+use Rattle.translate_classes.specs.Code.{IsCodeClass, span_plan, span_plans, run_plan}
+use Rattle.translate_classes.specs.CodeNaming.{code_mentions}
+use Rattle.translate_classes.specs.Data.{IsDataClass, words_plan, fill_plan}
+use Rattle.translate_classes.specs.DataNaming.{data_mentions}
+use Rattle.translate_classes_laws.proofs.LinkedNumbers.Programs.{get-front, get-behind}
+use Rattle.translate_program.specs.Classes.{Placed}
 use Rattle.nv_translate.proofs.LinkedTranslations.Lists.{mapped-get}
 use Rattle.nv_translate.proofs.AcceptedTranslations.Passing.{pass-range}
 use Rattle.nv_translate.proofs.AcceptedTranslations.Meant.{is_meant}

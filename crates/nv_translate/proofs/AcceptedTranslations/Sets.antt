@@ -2,30 +2,30 @@
 use Rattle.std.proofs.Common.{◌≡◌, ℕ, suc, ◌+◌, ◌≤◌, List, [], ◌∷◌, ◌++◌, map, length, Option, Some, None, refl, sym, ap, subst, ◌∙◌, slice_get}
 use Rattle.std.specs.List.{AllZip, range_with_len}
 use Rattle.nv_outside.specs.Files.{Files}
-use Rattle.command_values.specs.Names.{Text, IsClassName}
-use Rattle.elf_image.specs.Start.{Source}
-use Rattle.jvm_code.specs.declared.class.Class.{Class}
-use Rattle.class_file.proofs.ClassLaws.{spelled_read}
-use Rattle.name_resolution.specs.Faults.{twice_fault}
-use Rattle.class_set.specs.declared.loaded.Loaded.TheVariants.{Classes}
-use Rattle.class_set.specs.ClassSets.{class_or_fault, names_asked, class_set}
-use Rattle.class_set.specs.Waiting.{fresh}
-use Rattle.guest_layout.specs.ClassNames.{file_name, code_class_name, data_class_name}
-use Rattle.guest_layout.specs.Numbers.{main_methods}
-use Rattle.program_classes.proofs.ClassMaking.ZipLemmas.{zip-joined}
-use Rattle.program_translation.specs.declared.named_file.NamedFile.{NamedFile}
-use Rattle.program_translation.specs.Files.{name_of}
-use Rattle.program_translation.specs.Classes.{Placed, Follow, IsCodeFile, run_of}
-use Rattle.program_translation.specs.declared.built.Built.{Built}
-use Rattle.program_translation.specs.Translation.{IsTranslationBy}
+use Rattle.nv_values.specs.Names.{Text, IsClassName}
+use Rattle.elf_definition.specs.Start.{Source}
+use Rattle.class_definition.specs.declared.class.Class.{Class}
+use Rattle.class_definition_laws.proofs.ClassLaws.{spelled_read}
+use Rattle.class_definition.specs.LinkFault.{twice_fault}
+use Rattle.class_sets.specs.declared.loaded.Loaded.TheVariants.{Classes}
+use Rattle.class_sets.specs.ClassSets.{class_or_fault, names_asked, class_set}
+use Rattle.class_sets.specs.Waiting.{fresh}
+use Rattle.emit_layout.specs.ClassNames.{file_name, code_class_name, data_class_name}
+use Rattle.emit_layout.specs.Numbers.{main_methods}
+use Rattle.translate_classes.proofs.ClassMaking.ZipLemmas.{zip-joined}
+use Rattle.translate_program.specs.declared.named_file.NamedFile.{NamedFile}
+use Rattle.translate_program.specs.Files.{named_file_name}
+use Rattle.translate_program.specs.Classes.{Placed, Follow, IsCodeFile, run_of}
+use Rattle.translate_program.specs.declared.built.Built.{Built}
+use Rattle.translate_program.specs.Translation.{IsTranslationBy}
 use Rattle.nv_translate.specs.AcceptedCode.{HasAcceptedCode}
-use Rattle.nv_translate.specs.Stored.{AreStored}
+use Rattle.nv_translate.specs.Translated.{AreStored}
 use Rattle.nv_translate.proofs.AcceptedTranslations.Growing.{GivesClass, set-grown}
 use Rattle.nv_translate.proofs.AcceptedTranslations.Classes.{IsSpelled, count, IsData, all-spelled, main-there}
 use Rattle.nv_translate.proofs.AcceptedTranslations.Asked.{other_names, nothing-new, others-once, main-asks, others-few}
 
 abbrev IsNamed : NamedFile → List ℕ → Type 0
-IsNamed f class = name_of f ≡ file_name class
+IsNamed f class = named_file_name f ≡ file_name class
 
 code-named : (name : Text) (number first : ℕ) (code : List Placed) (files : List NamedFile) → AllZip (IsCodeFile name) code files → Follow number first code
     → AllZip IsNamed files (map (code_class_name name) (range_with_len number (length code)))
@@ -33,9 +33,9 @@ code-named name number first [] [] all follow = tt
 code-named name number first [] (f ∷ files) all follow = absurd all
 code-named name number first (c ∷ code) [] all follow = absurd all
 code-named name number first (c ∷ code) (f ∷ files) all follow =
-    (subst (λ n. name_of f ≡ file_name (code_class_name name n)) follow.0 all.0.named, code-named name (number + 1) (run_of c + 1) code files all.1 follow.2)
+    (subst (λ n. named_file_name f ≡ file_name (code_class_name name n)) follow.0 all.0.named, code-named name (number + 1) (run_of c + 1) code files all.1 follow.2)
 
-data-named : (name : Text) (IsFile : ℕ → NamedFile → Type 0) → ((k : ℕ) (f : NamedFile) → IsFile k f → name_of f ≡ file_name (data_class_name name k))
+data-named : (name : Text) (IsFile : ℕ → NamedFile → Type 0) → ((k : ℕ) (f : NamedFile) → IsFile k f → named_file_name f ≡ file_name (data_class_name name k))
     → (numbers : List ℕ) (files : List NamedFile) → AllZip IsFile numbers files → AllZip IsNamed files (map (data_class_name name) numbers)
 data-named name IsFile each [] [] all = tt
 data-named name IsFile each [] (f ∷ files) all = absurd all
@@ -44,7 +44,7 @@ data-named name IsFile each (k ∷ numbers) (f ∷ files) all = (each k f all.0,
 
 -- ---- stored files give their classes
 
-gives-class : (files : Files) (f : NamedFile) (name : List ℕ) (c : Class) → files (name_of f) ≡ Some f.bytes.items → IsNamed f name → IsSpelled f c
+gives-class : (files : Files) (f : NamedFile) (name : List ℕ) (c : Class) → files (named_file_name f) ≡ Some f.bytes.items → IsNamed f name → IsSpelled f c
     → GivesClass files name c
 gives-class files f name c stored named spells = record {
   bytes = f.bytes.items;

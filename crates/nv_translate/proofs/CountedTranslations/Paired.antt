@@ -1,24 +1,24 @@
 -- A linked translation beside its guest, and what is counted of both in terms of the layout.
 use Rattle.std.proofs.Common.{◌≡◌, ℕ, ◌+◌, ◌≤◌, Bool, false, List, None, refl, ap, subst}
 use Rattle.std.specs.List.{sum_by}
-use Rattle.nv_events.specs.Answer.{Answer, next_answer}
-use Rattle.nv_events.specs.Memory.{Memory}
-use Rattle.command_values.specs.Names.{Text}
-use Rattle.run_laws.specs.Trail.{trail_of, after_call}
-use Rattle.mips_decode.specs.State as guest
-use Rattle.mips_decode.specs.Step as guest_step
-use Rattle.elf_image.specs.Start.{Source, image_of, readable, writable}
-use Rattle.image_parts.specs.Pages.{page_words}
-use Rattle.jvm_program.specs.declared.instruction.Instruction.{Instruction}
-use Rattle.jvm_program.specs.Program.{Program}
-use Rattle.jvm_link.specs.Linking.{program_of}
-use Rattle.code_paths.specs.Classes.{reads, switches, entries, executed}
-use Rattle.code_paths.specs.Guest.{crossings, partial}
-use Rattle.running_laws.specs.LoadingCodeLaws.Loaded.{paged}
-use Rattle.running_laws.specs.TrampolineLaws.Classes.{is_span, counted_spans}
-use Rattle.running_laws.specs.Translated as runs
-use Rattle.running_laws.specs.Translated.{TranslatedProgram, IsTranslatedProgram}
-use Rattle.program_translation.specs.declared.built.Built.{Built}
+use Rattle.run_definition.specs.Answer.{Answer, next_answer}
+use Rattle.run_definition.specs.Memory.{Memory}
+use Rattle.nv_values.specs.Names.{Text}
+use Rattle.run_simulation_laws.specs.Trail.{trail_of, after_call}
+use Rattle.mips_definition.specs.State as guest
+use Rattle.mips_definition.specs.Step as guest_step
+use Rattle.elf_definition.specs.Start.{Source, image_of, readable, writable}
+use Rattle.elf_image_parts.specs.Pages.{page_words}
+use Rattle.jvm_definition.specs.declared.instruction.Instruction.{Instruction}
+use Rattle.jvm_definition.specs.Program.{Program}
+use Rattle.class_definition.specs.Linking.{program_of}
+use Rattle.emit_paths_laws.specs.Classes.{reads, switches, entries, executed}
+use Rattle.emit_paths_laws.specs.Guest.{crossings, partial}
+use Rattle.emit_program_laws.specs.LoadingCodeLaws.Loaded.{paged}
+use Rattle.emit_program_laws.specs.TrampolineLaws.Classes.{is_span, counted_spans}
+use Rattle.emit_program_laws.specs.Translated as runs
+use Rattle.emit_program_laws.specs.Translated.{TranslatedProgram, IsTranslatedProgram}
+use Rattle.translate_program.specs.declared.built.Built.{Built}
 use Rattle.nv_translate.specs.Linked.{IsLinked}
 use Rattle.nv_translate.specs.Images.{IsImage}
 use Rattle.nv_translate.specs.Loading.{LoadsSource}

@@ -5,13 +5,13 @@ use Rattle.std.proofs.lemmas.Bool.{and_parts, false≢true, leb-true, ltb-true}
 use Rattle.std.proofs.lemmas.Bool.Decides.{nat_tests}
 use Rattle.std.proofs.lemmas.List.{map-append}
 use Rattle.std.proofs.lemmas.Simd.{map-map}
-use Rattle.guest_layout.specs.Numbers.{main_methods}
+use Rattle.emit_layout.specs.Numbers.{main_methods}
 use Rattle.method_splitter.specs.declared.span.Span.{Span}
-use Rattle.running_laws.specs.TrampolineLaws.Classes.{CodeClass, is_span_of, is_span, counted_span, counted_spans}
-use Rattle.program_classes.specs.declared.part.Part.{Part}
-use Rattle.program_translation.specs.declared.layout.Layout.{Layout}
-use Rattle.program_translation.specs.declared.span_info.SpanInfo.{SpanInfo}
-use Rattle.program_translation.specs.Classes.{Placed, Follow, methods_behind, run_of, span_info, spans_of_class, spans_of}
+use Rattle.emit_program_laws.specs.TrampolineLaws.Classes.{CodeClass, is_span_of, is_span, counted_span, counted_spans}
+use Rattle.translate_classes.specs.declared.part.Part.{Part}
+use Rattle.translate_program.specs.declared.layout.Layout.{Layout}
+use Rattle.translate_program.specs.declared.span_info.SpanInfo.{SpanInfo}
+use Rattle.translate_program.specs.Classes.{Placed, Follow, methods_behind, run_of, span_info, spans_of_class, spans_of}
 use Rattle.nv_translate.specs.Standing.{IsClassOf}
 use Rattle.nv_translate.proofs.TranslatedLoading.Others.{no-fewer}
 use Rattle.nv_translate.specs.Counts.{counted, layout_spans, span_numbers, is_span_method}

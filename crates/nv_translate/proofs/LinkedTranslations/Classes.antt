@@ -1,10 +1,10 @@
 -- The classes that files spell, one after the other.
 use Rattle.std.proofs.Common.{◌≡◌, ℕ, zero, suc, List, [], ◌∷◌, map, length, Some, refl, ap, subst, slice_get}
 use Rattle.std.specs.List.{AllZip}
-use Rattle.jvm_code.specs.declared.class.Class.{Class}
-use Rattle.class_file.specs.ClassFile.{Spells}
-use Rattle.name_resolution.specs.Names.{own_name}
-use Rattle.program_translation.specs.declared.named_file.NamedFile.{NamedFile}
+use Rattle.class_definition.specs.declared.class.Class.{Class}
+use Rattle.class_definition.specs.ClassFile.{Spells}
+use Rattle.class_definition.specs.MemberNames.{own_name}
+use Rattle.translate_program.specs.declared.named_file.NamedFile.{NamedFile}
 
 abbrev pub IsSpelled : NamedFile → Class → Type 0
 IsSpelled f c = Spells f.bytes.items c

@@ -6,34 +6,34 @@ use Rattle.std.specs.Cmp.Derive.{both_true}
 use Rattle.std.proofs.lemmas.Bool.{le-leb, lt-ltb}
 use Rattle.std.proofs.lemmas.List.{map-append}
 use Rattle.std.proofs.lemmas.Simd.{map-map}
-use Rattle.jvm_code.specs.declared.class.Class.{Class}
-use Rattle.name_resolution.specs.Names.{Signature, signature, reference, methods_of, method_number}
-use Rattle.name_resolution.specs.Faults.{twice_fault}
-use Rattle.jvm_link.specs.Linking.{program_of}
-use Rattle.guest_layout.specs.Helpers.{helper_name, helper_descriptor}
-use Rattle.guest_layout.specs.ClassNames.{code_class_name, span_name}
-use Rattle.span_code.specs.Pieces.{flagged, span_of}
-use Rattle.code_assembly.specs.declared.references.References.{References}
-use Rattle.code_assembly.specs.Assembling.{has_method}
-use Rattle.code_assembly.proofs.Pools.{extends-itself}
-use Rattle.running_laws.specs.SpanCodeLaws.Lawful.{IsLawful}
-use Rattle.whole_methods.specs.Naming.{fields_of}
-use Rattle.whole_methods.proofs.NamedCode.Steps.{plain-more}
-use Rattle.whole_methods.proofs.NamedCode.Spans.{span-well}
-use Rattle.whole_methods.proofs.NamedCode.Choosing.{IsCalled, class-well}
-use Rattle.program_classes.specs.Tables.{references_of}
-use Rattle.program_classes.specs.Making.{Plan, nothing}
-use Rattle.program_classes.specs.Code.{IsCodeClass, span_at, code_of_span, span_plan, span_plans, start_at, starts_of, address, run_plan}
-use Rattle.program_classes_laws.specs.Before.{methods_before}
-use Rattle.program_classes_laws.specs.Planned.{planned, numbered}
-use Rattle.program_classes_laws.specs.Translated.{methods_of_code}
-use Rattle.program_classes_laws.proofs.LinkedNumbers.Made.{methods-made}
-use Rattle.program_classes_laws.proofs.LinkedNumbers.Programs.{get-front, get-behind}
-use Rattle.program_classes_laws.specs.Naming.{is_helper}
-use Rattle.program_classes_laws.specs.Meaning.{AreCalled, AreMeant, NamesAreMeant}
-use Rattle.program_classes_laws.proofs.NamedCode.Meant.{members-called, helpers-called}
-use Rattle.program_classes_laws.proofs.NamedCode.Known.{code-known}
-use Rattle.program_translation.specs.Classes.{Placed, run_of}
+use Rattle.class_definition.specs.declared.class.Class.{Class}
+use Rattle.class_definition.specs.MemberNames.{Signature, signature, reference_to, methods_of, method_number}
+use Rattle.class_definition.specs.LinkFault.{twice_fault}
+use Rattle.class_definition.specs.Linking.{program_of}
+use Rattle.emit_layout.specs.Helpers.{helper_name, helper_descriptor}
+use Rattle.emit_layout.specs.ClassNames.{code_class_name, span_name}
+use Rattle.emit_spans.specs.Pieces.{flagged, span_of}
+use Rattle.emit_assembly.specs.declared.references.References.{References}
+use Rattle.emit_assembly.specs.Assembling.{has_method}
+use Rattle.emit_assembly.proofs.Pools.{extends-itself}
+use Rattle.emit_program_laws.specs.SpanCodeLaws.Lawful.{IsLawful}
+use Rattle.emit_methods_laws.specs.Naming.{fields_of}
+use Rattle.emit_methods_laws.proofs.NamedCode.Steps.{plain-more}
+use Rattle.emit_methods_laws.proofs.NamedCode.Spans.{span-well}
+use Rattle.emit_methods_laws.proofs.NamedCode.Choosing.{IsCalled, class-well}
+use Rattle.translate_classes.specs.Tables.{references_of}
+use Rattle.translate_classes.specs.Making.{Plan, nothing}
+use Rattle.translate_classes.specs.Code.{IsCodeClass, span_at, code_of_span, span_plan, span_plans, start_at, starts_of, address, run_plan}
+use Rattle.translate_classes_laws.specs.Before.{methods_before}
+use Rattle.translate_classes_laws.specs.Planned.{planned, numbered}
+use Rattle.translate_classes_laws.specs.Translated.{methods_of_code}
+use Rattle.translate_classes_laws.proofs.LinkedNumbers.Made.{methods-made}
+use Rattle.translate_classes_laws.proofs.LinkedNumbers.Programs.{get-front, get-behind}
+use Rattle.translate_classes_laws.specs.Naming.{is_helper}
+use Rattle.translate_classes_laws.specs.Meaning.{AreCalled, AreMeant, NamesAreMeant}
+use Rattle.translate_classes_laws.proofs.NamedCode.Meant.{members-called, helpers-called}
+use Rattle.translate_classes_laws.proofs.NamedCode.Known.{code-known}
+use Rattle.translate_program.specs.Classes.{Placed, run_of}
 use Rattle.nv_translate.specs.Linked.{HasCodeClass}
 use Rattle.nv_translate.proofs.LinkedTranslations.Lists.{mapped-get, mapped-length, mapped-from, range-member, get-either, get-one, all-got}
 use Rattle.nv_translate.proofs.LinkedTranslations.Knowing.{HasMain, fewer-fields, slot-law, owner-no-host, methods-numbered, method-at}
@@ -104,7 +104,7 @@ module _ (name : List ℕ) (c : Placed) (bytes : List ℕ) (is : IsCodeClass nam
         (methods-numbered classes once n is.class there own is.named span_name (λ k. nothing) c.first_method (length c.spans) before span-method)
 
     -- the number of the method that is called of the class
-    pub run-number : method_number classes (reference own (signature (codes "run") nothing)) ≡ Some (run_of c)
+    pub run-number : method_number classes (reference_to own (signature (codes "run") nothing)) ≡ Some (run_of c)
     run-number =
         method-at classes once n is.class there own is.named (length c.spans) (signature (codes "run") nothing) run-method
         ∙ ap (λ b. Some (b + length c.spans)) before

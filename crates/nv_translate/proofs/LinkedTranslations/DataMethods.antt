@@ -3,36 +3,36 @@ use Rattle.std.proofs.Common.{◌≡◌, ℕ, zero, suc, ◌+◌, ◌-◌, ◌<�
 use Rattle.std.specs.Prelude.{codes, slice_index_or}
 use Rattle.std.specs.Cmp.Derive.{both_true}
 use Rattle.std.proofs.lemmas.Bool.{le-leb, lt-ltb}
-use Rattle.image_parts.specs.Pages.{Page}
-use Rattle.constant_pool.specs.declared.entry.Entry.TheVariants.{MethodRef}
-use Rattle.jvm_code.specs.declared.class.Class.{Class}
-use Rattle.name_resolution.specs.Names.{Signature, signature, reference, methods_of, method_number}
-use Rattle.name_resolution.specs.Faults.{twice_fault}
-use Rattle.jvm_link.specs.Linking.{class_characters, program_of}
-use Rattle.guest_layout.specs.ClassNames.{data_class_name}
-use Rattle.loading_code.specs.declared.page_slot.PageSlot.{PageSlot}
-use Rattle.loading_code.specs.Words.{words_code}
-use Rattle.loading_code.specs.Filling.{fill_code}
+use Rattle.elf_image_parts.specs.Pages.{Page}
+use Rattle.class_definition.specs.declared.entry.Entry.TheVariants.{MethodRef}
+use Rattle.class_definition.specs.declared.class.Class.{Class}
+use Rattle.class_definition.specs.MemberNames.{Signature, signature, reference_to, methods_of, method_number}
+use Rattle.class_definition.specs.LinkFault.{twice_fault}
+use Rattle.class_definition.specs.Linking.{class_characters, program_of}
+use Rattle.emit_layout.specs.ClassNames.{data_class_name}
+use Rattle.emit_loading.specs.declared.page_slot.PageSlot.{PageSlot}
+use Rattle.emit_loading.specs.Words.{words_code}
+use Rattle.emit_loading.specs.Filling.{fill_code}
 use Rattle.data_strings.specs.Texts.{page_text}
-use Rattle.code_assembly.specs.declared.references.References.{References}
-use Rattle.code_assembly.specs.Assembling.{has_method}
-use Rattle.code_assembly.proofs.Pools.{extends-itself}
-use Rattle.class_builder.specs.Named.{IsMethodAt}
-use Rattle.whole_methods.proofs.NamedCode.Loading.{words-well, fill-well}
-use Rattle.program_classes.specs.Named.{AreMembers}
-use Rattle.program_classes.specs.Tables.{references_of}
-use Rattle.program_classes.specs.Making.{Plan, nothing}
-use Rattle.program_classes.proofs.ClassMaking.ZipLemmas.{zip-through}
-use Rattle.program_classes.specs.Pages.{IsPageSlot}
-use Rattle.program_classes.specs.DataNaming.{words_descriptor}
-use Rattle.program_classes.specs.Data.{IsDataClass, words_plan, fill_plan}
-use Rattle.program_classes_laws.specs.Before.{methods_before}
-use Rattle.program_classes_laws.specs.Translated.{methods_of_data}
-use Rattle.program_classes_laws.proofs.LinkedNumbers.Made.{methods-made}
-use Rattle.program_classes_laws.specs.Meaning.{AreCalled, AreMeant, NamesAreMeant}
-use Rattle.program_classes_laws.proofs.NamedCode.Meant.{members-called}
-use Rattle.program_classes_laws.proofs.NamedCode.Known.{code-known}
-use Rattle.program_translation.specs.DataFiles.{class_number, first_method, fill_of, pages_of_class}
+use Rattle.emit_assembly.specs.declared.references.References.{References}
+use Rattle.emit_assembly.specs.Assembling.{has_method}
+use Rattle.emit_assembly.proofs.Pools.{extends-itself}
+use Rattle.emit_classes.specs.Named.{IsMethodAt}
+use Rattle.emit_methods_laws.proofs.NamedCode.Loading.{words-well, fill-well}
+use Rattle.translate_classes.specs.Named.{AreMembers}
+use Rattle.translate_classes.specs.Tables.{references_of}
+use Rattle.translate_classes.specs.Making.{Plan, nothing}
+use Rattle.translate_classes.proofs.ClassMaking.ZipLemmas.{zip-through}
+use Rattle.translate_classes.specs.Pages.{IsPageSlot}
+use Rattle.translate_classes.specs.DataNaming.{words_descriptor}
+use Rattle.translate_classes.specs.Data.{IsDataClass, words_plan, fill_plan}
+use Rattle.translate_classes_laws.specs.Before.{methods_before}
+use Rattle.translate_classes_laws.specs.Translated.{methods_of_data}
+use Rattle.translate_classes_laws.proofs.LinkedNumbers.Made.{methods-made}
+use Rattle.translate_classes_laws.specs.Meaning.{AreCalled, AreMeant, NamesAreMeant}
+use Rattle.translate_classes_laws.proofs.NamedCode.Meant.{members-called}
+use Rattle.translate_classes_laws.proofs.NamedCode.Known.{code-known}
+use Rattle.translate_program.specs.DataFiles.{class_number, first_method, fill_of, pages_of_class}
 use Rattle.nv_translate.specs.Linked.{SpellsPage, HasDataClass}
 use Rattle.nv_translate.proofs.LinkedTranslations.Knowing.{HasMain, fewer-fields, slot-law, owner-no-host, methods-numbered, method-at}
 use Rattle.nv_translate.proofs.LinkedTranslations.Planned.{Knows, are-planned, text-is}
@@ -86,7 +86,7 @@ module _ (name : List ℕ) (code_classes methods : ℕ) (pages : List Page) (i :
         (λ k. words_descriptor) is.names_are.own_is (owner-no-host classes once n is.class there own is.named) own-members
         (methods-numbered classes once n is.class there own is.named (λ k. codes "words") (λ k. words_descriptor) first 1 before words-method)
 
-    pub fill-number : method_number classes (reference own (signature (codes "fill") nothing)) ≡ Some (fill_of methods i)
+    pub fill-number : method_number classes (reference_to own (signature (codes "fill") nothing)) ≡ Some (fill_of methods i)
     fill-number =
         method-at classes once n is.class there own is.named 1 (signature (codes "fill") nothing) fill-method ∙ ap (λ b. Some (b + 1)) before
 

@@ -3,17 +3,17 @@ use Rattle.std.proofs.Common.{◌≡◌, ℕ, ◌+◌, ◌≤◌, ◌^◌, Bool,
 use Rattle.std.specs.List.{range_with_len}
 use Rattle.std.proofs.lemmas.List.Sums.{sum_by-cons}
 use Rattle.std.proofs.lemmas.Slice.Zip.{AllZip-long}
-use Rattle.elf_reader.specs.declared.range.Range.{Range}
-use Rattle.elf_image.specs.Refusals.{code_words}
-use Rattle.elf_image.specs.Start.{Source, image_of}
+use Rattle.elf_definition.specs.declared.range.Range.{Range}
+use Rattle.elf_definition.specs.ImageFault.{code_words}
+use Rattle.elf_definition.specs.Start.{Source, image_of}
 use Rattle.method_splitter.specs.Shares.{share_count}
 use Rattle.method_splitter.specs.Cuts.{Cuts}
 use Rattle.method_splitter.specs.declared.span.Span.{Span}
-use Rattle.program_translation.specs.Classes.{Placed, IsPlaced, AreCodeClasses}
-use Rattle.program_translation.specs.Places.{Place, class_words, place_at, places_in, places_of}
-use Rattle.program_translation.specs.Spans.{weight_at, weights_of}
-use Rattle.program_translation.specs.DataFiles.{class_count, filled_pages}
-use Rattle.program_translation.proofs.Counts.PageLemmas.{data-few as classes-of-data}
+use Rattle.translate_program.specs.Classes.{Placed, IsPlaced, AreCodeClasses}
+use Rattle.translate_program.specs.Places.{Place, class_words, place_at, places_in, places_of}
+use Rattle.translate_program.specs.Spans.{weight_at, weights_of}
+use Rattle.translate_program.specs.DataFiles.{class_count, filled_pages}
+use Rattle.translate_program.proofs.Counts.PageLemmas.{data-few as classes-of-data}
 use Rattle.nv_translate.specs.WholeCode.{HasWholeCode}
 use Rattle.nv_translate.proofs.LinkedTranslations.Lists.{mapped-length, mapped-from, get-either, zip-second}
 

@@ -2,17 +2,17 @@
 use Rattle.std.proofs.Common.{◌≡◌, ℕ, ◌+◌, ◌<◌, ◌≤◌, ◌||◌, false, List, [], Some, None, ap, subst, ◌∙◌, slice_get, arith}
 use Rattle.std.specs.Prelude.{unwrap_or}
 use Rattle.std.proofs.lemmas.Bool.{or_parts}
-use Rattle.constant_pool.specs.Names.{same_text}
-use Rattle.jvm_code.specs.declared.class.Class.{Class}
-use Rattle.name_resolution.specs.Names.{Signature, signature, reference, own_name, is_known, object_name, string_name, host_name, methods_of, method_number}
-use Rattle.name_resolution.specs.Faults.{twice_fault}
-use Rattle.guest_layout.specs.Helpers.{helper_name, helper_descriptor}
-use Rattle.class_builder.specs.Named.{IsClassAt}
-use Rattle.class_builder.proofs.Meant.{call-meant}
-use Rattle.program_classes_laws.specs.Before.{methods_before}
-use Rattle.program_classes_laws.proofs.LinkedNumbers.Numbers.{method-number, own-unknown}
-use Rattle.program_classes_laws.specs.Meaning.{HaveFieldNumbers, HaveMethodNumbers}
-use Rattle.class_builder.specs.Laws.{MethodsAreMeant}
+use Rattle.class_definition.specs.NameGrammar.{same_text}
+use Rattle.class_definition.specs.declared.class.Class.{Class}
+use Rattle.class_definition.specs.MemberNames.{Signature, signature, reference_to, own_name, is_known, object_name, string_name, host_name, methods_of, method_number}
+use Rattle.class_definition.specs.LinkFault.{twice_fault}
+use Rattle.emit_layout.specs.Helpers.{helper_name, helper_descriptor}
+use Rattle.emit_classes.specs.Named.{IsClassAt}
+use Rattle.emit_classes.proofs.Meant.{call-meant}
+use Rattle.translate_classes_laws.specs.Before.{methods_before}
+use Rattle.translate_classes_laws.proofs.LinkedNumbers.Numbers.{method-number, own-unknown}
+use Rattle.translate_classes_laws.specs.Meaning.{HaveFieldNumbers, HaveMethodNumbers}
+use Rattle.emit_classes.specs.Laws.{MethodsAreMeant}
 
 pub slot-law : MethodsAreMeant
 slot-law classes number c pool slot class n owner name descriptor goes_on of is other numbered =
@@ -44,9 +44,9 @@ module _ (classes : List Class) (once : twice_fault [] 0 classes ≡ None) (n : 
       unknown-is-no-host owner (subst (λ x. is_known x ≡ false) (own-is c owner named) (own-unknown [] 0 classes n c once there))
 
   pub method-at : (k : ℕ) (s : Signature) → slice_get (methods_of c) k ≡ Some s
-      → method_number classes (reference owner s) ≡ Some (methods_before classes n + k)
+      → method_number classes (reference_to owner s) ≡ Some (methods_before classes n + k)
   method-at k s is =
-      subst (λ x. method_number classes (reference x s) ≡ Some (methods_before classes n + k)) (own-is c owner named)
+      subst (λ x. method_number classes (reference_to x s) ≡ Some (methods_before classes n + k)) (own-is c owner named)
       (method-number classes n k c s once there is)
 
   pub methods-numbered : (name descriptor : ℕ → List ℕ) (first count : ℕ) → methods_before classes n ≡ first

@@ -4,19 +4,19 @@ use Rattle.std.specs.Prelude.{not}
 use Rattle.std.specs.List.{All, list_all, range_with_len}
 use Rattle.std.specs.Cmp.Derive.{both_true}
 use Rattle.std.proofs.lemmas.Option.{slice_get_within, get_or_from_slice_get}
-use Rattle.nv_words.specs.Words.{IsWord}
-use Rattle.mips_decode.specs.Table.{is_float}
+use Rattle.run_definition.specs.Words.{IsWord}
+use Rattle.mips_definition.specs.Table.{is_float}
 use Rattle.delay_slots.specs.Units.{HasNoFloat}
 use Rattle.delay_slots.specs.declared.unit.Unit.{Unit}
-use Rattle.elf_reader.specs.declared.range.Range.{Range}
-use Rattle.elf_image.specs.Start.{Source, image_of}
+use Rattle.elf_definition.specs.declared.range.Range.{Range}
+use Rattle.elf_definition.specs.Start.{Source, image_of}
 use Rattle.elf_image.specs.Whole.{IsPlainWord, IsWholeRange}
-use Rattle.image_parts.specs.Ranges.{IsRangeCode}
+use Rattle.elf_image_parts.specs.Ranges.{IsRangeCode}
 use Rattle.method_splitter.specs.Shares.{share_count}
-use Rattle.running_laws.specs.SpanCodeLaws.Lawful.{IsLawful}
-use Rattle.running_laws.specs.SpanCodeLaws.LawfulUnits.{UnitsAreLawful}
-use Rattle.program_translation.specs.Classes.{Placed, IsPlaced, AreCodeClasses}
-use Rattle.program_translation.specs.Places.{Place, class_words, place_at, places_in, places_of}
+use Rattle.emit_program_laws.specs.SpanCodeLaws.Lawful.{IsLawful}
+use Rattle.emit_program_laws.specs.SpanCodeLaws.LawfulUnits.{UnitsAreLawful}
+use Rattle.translate_program.specs.Classes.{Placed, IsPlaced, AreCodeClasses}
+use Rattle.translate_program.specs.Places.{Place, class_words, place_at, places_in, places_of}
 use Rattle.nv_translate.specs.WholeCode.{HasWholeCode}
 use Rattle.nv_translate.proofs.LinkedTranslations.Lists.{mapped-from, get-either, zip-second, all-got}
 

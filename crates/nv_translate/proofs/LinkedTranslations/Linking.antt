@@ -4,26 +4,26 @@ use Rattle.std.specs.Prelude.{codes, is_some, option_map}
 use Rattle.std.proofs.lemmas.Bool.{or_left, or_right, eq-eqb}
 use Rattle.std.proofs.lemmas.List.{length-map}
 use Rattle.std.proofs.lemmas.Option.{slice_get-map, get_or_from_slice_get}
-use Rattle.command_values.specs.Names.{Text, IsClassName}
-use Rattle.elf_image.specs.Start.{Source}
-use Rattle.jvm_code.specs.declared.class.Class.{Class}
-use Rattle.name_resolution.specs.Faults.{twice_fault}
-use Rattle.jvm_link.specs.Linking.{kind_of, program_of}
-use Rattle.running_laws.specs.SpanCodeLaws.LawfulUnits.{UnitsAreLawful}
-use Rattle.guest_layout.specs.ClassNames.{code_class_name, data_class_name}
-use Rattle.guest_layout.specs.Fields.{field_descriptor}
-use Rattle.guest_layout.specs.Numbers.{main_methods, missing_number}
+use Rattle.nv_values.specs.Names.{Text, IsClassName}
+use Rattle.elf_definition.specs.Start.{Source}
+use Rattle.class_definition.specs.declared.class.Class.{Class}
+use Rattle.class_definition.specs.LinkFault.{twice_fault}
+use Rattle.class_definition.specs.Linking.{descriptor_kind, program_of}
+use Rattle.emit_program_laws.specs.SpanCodeLaws.LawfulUnits.{UnitsAreLawful}
+use Rattle.emit_layout.specs.ClassNames.{code_class_name, data_class_name}
+use Rattle.emit_layout.specs.Fields.{field_descriptor}
+use Rattle.emit_layout.specs.Numbers.{main_methods, missing_number}
 use Rattle.trampoline.specs.declared.start.Start.{Start}
-use Rattle.whole_methods.specs.Naming.{fields_of}
-use Rattle.program_classes.specs.Tables.{references_of}
-use Rattle.program_classes.specs.declared.content.MainClass.{MainClass}
-use Rattle.program_classes.specs.Content.{has_meter, main_fields}
-use Rattle.program_classes.specs.Code.{address}
-use Rattle.program_translation.specs.Classes.{Placed, run_of, is_last, starts_of_class, starts_of}
-use Rattle.program_translation.specs.DataFiles.{class_count, class_number, filled_pages, fill_of}
-use Rattle.program_translation.specs.declared.built.Built.{Built}
-use Rattle.program_translation.specs.Translation.{IsTranslationBy, code_methods}
-use Rattle.program_classes_laws.specs.Meaning.{NamesAreMeant}
+use Rattle.emit_methods_laws.specs.Naming.{fields_of}
+use Rattle.translate_classes.specs.Tables.{references_of}
+use Rattle.translate_classes.specs.declared.content.MainClass.{MainClass}
+use Rattle.translate_classes.specs.Content.{has_meter, main_fields}
+use Rattle.translate_classes.specs.Code.{address}
+use Rattle.translate_program.specs.Classes.{Placed, run_of, is_last, starts_of_class, starts_of}
+use Rattle.translate_program.specs.DataFiles.{class_count, class_number, filled_pages, fill_of}
+use Rattle.translate_program.specs.declared.built.Built.{Built}
+use Rattle.translate_program.specs.Translation.{IsTranslationBy, code_methods}
+use Rattle.translate_classes_laws.specs.Meaning.{NamesAreMeant}
 use Rattle.nv_translate.specs.WholeCode.{HasWholeCode}
 use Rattle.nv_translate.specs.Linked.{IsLinkedBy, HasCodeClass, HasDataClass}
 use Rattle.nv_translate.proofs.LinkedTranslations.Lists.{mapped-get, mapped-length, get-either, get-one}
@@ -155,7 +155,7 @@ module _ {meter : Option ℕ} (names-law : NamesAreMeant) (lawful-law : UnitsAre
 
   -- the program has so many fields
   abbrev HasFields : ℕ → Type 0
-  HasFields count = (f : ℕ) → f < count → (program_of classes).field f ≡ Some (kind_of (field_descriptor f))
+  HasFields count = (f : ℕ) → f < count → (program_of classes).field f ≡ Some (descriptor_kind (field_descriptor f))
 
   abbrev HasNoMore : ℕ → Type 0
   HasNoMore count = (f : ℕ) → count ≤ f → (program_of classes).field f ≡ None

@@ -4,43 +4,43 @@ use Rattle.std.specs.Prelude.{codes, slice_index, unwrap_or}
 use Rattle.std.specs.List.{All, AllZip, list_any, range_with_len}
 use Rattle.std.proofs.lemmas.Bool.{or_cases, or_left, or_right, eq-eqb, eqb-true, lt-ltb, ltb-true}
 use Rattle.std.proofs.lemmas.Option.{slice_get_past}
-use Rattle.jvm_program.specs.declared.kind.Kind.{Kind}
-use Rattle.constant_pool.specs.Names.{same_text}
-use Rattle.jvm_code.specs.declared.class.Class.{Class}
-use Rattle.jvm_code.specs.declared.member.Member.{Member}
-use Rattle.name_resolution.specs.Names.{Signature, signature, reference, host_name, fields_of, methods_of, field_number, method_number}
-use Rattle.name_resolution.specs.Faults.{run_signature, twice_fault}
-use Rattle.jvm_link.specs.Linking.{gives_int, kind_of, field_kind, program_of}
-use Rattle.guest_layout.specs.ClassNames.{code_class_name, data_class_name}
-use Rattle.guest_layout.specs.Fields.{field_name, field_descriptor}
-use Rattle.guest_layout.specs.Helpers.{helper_name, helper_descriptor}
-use Rattle.guest_layout.specs.Numbers.{run_number, choose_number, pages_number, missing_number}
+use Rattle.jvm_definition.specs.declared.kind.Kind.{Kind}
+use Rattle.class_definition.specs.NameGrammar.{same_text}
+use Rattle.class_definition.specs.declared.class.Class.{Class}
+use Rattle.class_definition.specs.declared.member.Member.{Member}
+use Rattle.class_definition.specs.MemberNames.{Signature, signature, reference_to, host_name, fields_of, methods_of, field_number, method_number}
+use Rattle.class_definition.specs.LinkFault.{run_signature, twice_fault}
+use Rattle.class_definition.specs.Linking.{gives_int, descriptor_kind, field_kind, program_of}
+use Rattle.emit_layout.specs.ClassNames.{code_class_name, data_class_name}
+use Rattle.emit_layout.specs.Fields.{field_name, field_descriptor}
+use Rattle.emit_layout.specs.Helpers.{helper_name, helper_descriptor}
+use Rattle.emit_layout.specs.Numbers.{run_number, choose_number, pages_number, missing_number}
 use Rattle.mem_helpers.specs.Methods.{helper_code}
 use Rattle.trampoline.specs.declared.start.Start.{Start}
-use Rattle.code_assembly.specs.declared.references.References.{References}
-use Rattle.code_assembly.proofs.Pools.{extends-itself}
-use Rattle.class_builder.specs.Named.{IsMethodAt, IsTextAt}
-use Rattle.whole_methods.proofs.NamedCode.Steps.{code-more, plain-more}
-use Rattle.whole_methods.proofs.NamedCode.Helpers.{helper-well}
-use Rattle.whole_methods.proofs.NamedCode.Loading.{pages-well, run-well}
-use Rattle.whole_methods.proofs.NamedCode.Choosing.{IsCalled, main-well, missing-well}
-use Rattle.program_classes.specs.Tables.{references_of}
-use Rattle.program_classes.specs.Making.{Plan, nothing}
-use Rattle.program_classes.proofs.ClassMaking.ZipLemmas.{zip-through}
-use Rattle.program_classes.specs.declared.content.MainClass.{MainClass}
-use Rattle.program_classes.specs.Called.{slot_of, pages_descriptor, AreOwnMethods}
-use Rattle.program_classes.specs.Content.{has_meter, main_fields, share_texts}
-use Rattle.program_classes.specs.Fields.{IsField}
-use Rattle.program_classes.specs.Main.{IsMainClass, helper_plan, helper_plans, run_plan, choose_plan, pages_plan, missing_plan, other_plans, main_plans}
-use Rattle.program_classes_laws.specs.Planned.{numbered}
-use Rattle.program_classes_laws.specs.Translated.{fields_of_main, methods_of_main}
-use Rattle.program_classes_laws.proofs.LinkedNumbers.Made.{methods-made, fields-made}
-use Rattle.program_classes_laws.proofs.LinkedNumbers.Numbers.{field-number, method-number}
-use Rattle.program_classes_laws.proofs.LinkedNumbers.Programs.{get-front, first-kinds}
-use Rattle.program_classes_laws.specs.Naming.{is_fault, is_helper}
-use Rattle.program_classes_laws.specs.Meaning.{AreCalled, AreMeant, HaveFieldNumbers, HaveMethodNumbers, IsMethodNumber, NamesAreMeant}
-use Rattle.program_classes_laws.proofs.NamedCode.Meant.{numbered-called}
-use Rattle.program_classes_laws.proofs.NamedCode.Known.{code-known}
+use Rattle.emit_assembly.specs.declared.references.References.{References}
+use Rattle.emit_assembly.proofs.Pools.{extends-itself}
+use Rattle.emit_classes.specs.Named.{IsMethodAt, IsTextAt}
+use Rattle.emit_methods_laws.proofs.NamedCode.Steps.{code-more, plain-more}
+use Rattle.emit_methods_laws.proofs.NamedCode.Helpers.{helper-well}
+use Rattle.emit_methods_laws.proofs.NamedCode.Loading.{pages-well, run-well}
+use Rattle.emit_methods_laws.proofs.NamedCode.Choosing.{IsCalled, main-well, missing-well}
+use Rattle.translate_classes.specs.Tables.{references_of}
+use Rattle.translate_classes.specs.Making.{Plan, nothing}
+use Rattle.translate_classes.proofs.ClassMaking.ZipLemmas.{zip-through}
+use Rattle.translate_classes.specs.declared.content.MainClass.{MainClass}
+use Rattle.translate_classes.specs.Called.{slot_of, pages_descriptor, AreOwnMethods}
+use Rattle.translate_classes.specs.Content.{has_meter, main_fields, share_texts}
+use Rattle.translate_classes.specs.Fields.{IsField}
+use Rattle.translate_classes.specs.Main.{IsMainClass, helper_plan, helper_plans, run_plan, choose_plan, pages_plan, missing_plan, other_plans, main_plans}
+use Rattle.translate_classes_laws.specs.Planned.{numbered}
+use Rattle.translate_classes_laws.specs.Translated.{fields_of_main, methods_of_main}
+use Rattle.translate_classes_laws.proofs.LinkedNumbers.Made.{methods-made, fields-made}
+use Rattle.translate_classes_laws.proofs.LinkedNumbers.Numbers.{field-number, method-number}
+use Rattle.translate_classes_laws.proofs.LinkedNumbers.Programs.{get-front, first-kinds}
+use Rattle.translate_classes_laws.specs.Naming.{is_fault, is_helper}
+use Rattle.translate_classes_laws.specs.Meaning.{AreCalled, AreMeant, HaveFieldNumbers, HaveMethodNumbers, IsMethodNumber, NamesAreMeant}
+use Rattle.translate_classes_laws.proofs.NamedCode.Meant.{numbered-called}
+use Rattle.translate_classes_laws.proofs.NamedCode.Known.{code-known}
 use Rattle.nv_translate.specs.Linked.{ArePlanned}
 use Rattle.nv_translate.proofs.LinkedTranslations.Lists.{mapped-get, mapped-length, mapped-from, range-member, get-either, all-got, zip-mapped}
 use Rattle.nv_translate.proofs.LinkedTranslations.Knowing.{HasMain, slot-law, own-is, owner-no-host, methods-numbered, method-at}
@@ -94,7 +94,7 @@ fault-calls main m is = or_left (is_helper m) (own_called m || others_called mai
 -- a method of another class has a number
 pub record HasNumber (classes : List Class) (owner method : List ℕ) (number : ℕ) : Type 0 where
   pub no_host : same_text owner host_name ≡ false
-  pub number_is : method_number classes (reference owner (signature method nothing)) ≡ Some number
+  pub number_is : method_number classes (reference_to owner (signature method nothing)) ≡ Some number
 
 -- so it is with all that the main class calls
 pub record HasOthers (classes : List Class) (name : List ℕ) (main : MainClass) : Type 0 where
@@ -138,7 +138,7 @@ module _ (name : List ℕ) (main : MainClass) (bytes : List ℕ) (is : IsMainCla
         let s = numbered field_name field_descriptor f in
         let at = ap (λ (fs : List Signature). slice_get fs f) main-fields-are ∙ mapped-get (numbered field_name field_descriptor) (main_fields main) f below in
         let none : 0 + f ≡ f = omega arith in
-        subst (λ x. field_number classes (reference x s) ≡ Some f) (own-is is.class name is.named)
+        subst (λ x. field_number classes (reference_to x s) ≡ Some f) (own-is is.class name is.named)
         (field-number classes 0 f is.class s once refl at ∙ ap (λ n. Some n) none)
 
     helpers-numbered : HaveMethodNumbers classes name helper_name helper_descriptor 0 20
@@ -154,13 +154,13 @@ module _ (name : List ℕ) (main : MainClass) (bytes : List ℕ) (is : IsMainCla
     -- ---- fields
 
     abbrev kind_at : ℕ → Kind
-    kind_at k = kind_of (field_descriptor k)
+    kind_at k = descriptor_kind (field_descriptor k)
 
     kinds-are : map (field_kind is.class) is.class.fields ≡ map kind_at (range_with_len 0 (main_fields main))
     kinds-are =
         zip-mapped (field_kind is.class) kind_at is.class.fields (range_with_len 0 (main_fields main))
         (zip-through (IsField is.class.pool) (λ f k. field_kind is.class f ≡ kind_at k)
-        (λ (f : Member) k named. ap kind_of (text-is is.class f.desc (field_descriptor k) named.descriptor_is)) is.class.fields (range_with_len 0 (main_fields main))
+        (λ (f : Member) k named. ap descriptor_kind (text-is is.class f.desc (field_descriptor k) named.descriptor_is)) is.class.fields (range_with_len 0 (main_fields main))
         is.fields_are)
 
     pub fields-are : All (λ (d : Class). d.fields ≡ []) others → (f : ℕ) → f < main_fields main → (program_of classes).field f ≡ Some (kind_at f)

@@ -1,12 +1,12 @@
 -- A translation with a meter has it in its main class and in all its classes of code.
 use Rattle.std.proofs.Common.{◌≡◌, ℕ, ◌≤◌, Bool, true, false, List, Some, ap, sym, ◌∙◌, slice_get, arith}
 use Rattle.std.specs.Prelude.{Option, is_some}
-use Rattle.elf_image.specs.Start.{Source, image_of}
-use Rattle.whole_methods.specs.Naming.{fields_of}
-use Rattle.program_classes.specs.declared.content.MainClass.{MainClass}
-use Rattle.program_classes.specs.Content.{main_fields}
-use Rattle.program_translation.specs.Classes.{Placed, IsPlaced, AreCodeClasses}
-use Rattle.program_translation.specs.Places.{places_of}
+use Rattle.elf_definition.specs.Start.{Source, image_of}
+use Rattle.emit_methods_laws.specs.Naming.{fields_of}
+use Rattle.translate_classes.specs.declared.content.MainClass.{MainClass}
+use Rattle.translate_classes.specs.Content.{main_fields}
+use Rattle.translate_program.specs.Classes.{Placed, IsPlaced, AreCodeClasses}
+use Rattle.translate_program.specs.Places.{places_of}
 use Rattle.nv_translate.proofs.LinkedTranslations.Lists.{zip-second}
 
 pub class-metered : {metered : Bool} (source : Source) (method_bytes : ℕ) (code : List Placed) → AreCodeClasses metered source method_bytes code

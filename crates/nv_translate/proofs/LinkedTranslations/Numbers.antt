@@ -3,19 +3,19 @@ use Rattle.std.proofs.Common.{◌≡◌, ℕ, zero, suc, ◌+◌, ◌*◌, ◌�
 use Rattle.std.specs.List.{AllZip}
 use Rattle.std.proofs.lemmas.List.{length-map}
 use Rattle.std.proofs.lemmas.Slice.Zip.{AllZip-long}
-use Rattle.command_values.specs.Names.{Text}
-use Rattle.image_parts.specs.Pages.{Page}
-use Rattle.jvm_code.specs.declared.class.Class.{Class}
-use Rattle.jvm_link.specs.Linking.{linked_method, methods_from, linked_methods}
-use Rattle.code_assembly.specs.declared.references.References.{References}
-use Rattle.program_classes.specs.Tables.{references_of}
-use Rattle.program_classes.specs.Making.{Plan, IsMade}
-use Rattle.program_classes.specs.Code.{span_plan, span_plans, run_plan}
-use Rattle.program_classes.specs.Data.{words_plan, fill_plan}
-use Rattle.program_classes_laws.specs.Before.{methods_before}
-use Rattle.program_translation.specs.declared.named_file.NamedFile.{NamedFile}
-use Rattle.program_translation.specs.Classes.{Placed, Follow, IsCodeFile, methods_behind, run_of}
-use Rattle.program_translation.specs.DataFiles.{IsDataFile, class_number, first_method}
+use Rattle.nv_values.specs.Names.{Text}
+use Rattle.elf_image_parts.specs.Pages.{Page}
+use Rattle.class_definition.specs.declared.class.Class.{Class}
+use Rattle.class_definition.specs.Linking.{linked_method, methods_from, linked_methods}
+use Rattle.emit_assembly.specs.declared.references.References.{References}
+use Rattle.translate_classes.specs.Tables.{references_of}
+use Rattle.translate_classes.specs.Making.{Plan, IsMade}
+use Rattle.translate_classes.specs.Code.{span_plan, span_plans, run_plan}
+use Rattle.translate_classes.specs.Data.{words_plan, fill_plan}
+use Rattle.translate_classes_laws.specs.Before.{methods_before}
+use Rattle.translate_program.specs.declared.named_file.NamedFile.{NamedFile}
+use Rattle.translate_program.specs.Classes.{Placed, Follow, IsCodeFile, methods_behind, run_of}
+use Rattle.translate_program.specs.DataFiles.{IsDataFile, class_number, first_method}
 use Rattle.nv_translate.proofs.LinkedTranslations.Lists.{mapped-length}
 use Rattle.nv_translate.proofs.LinkedTranslations.Classes.{classes_of}
 

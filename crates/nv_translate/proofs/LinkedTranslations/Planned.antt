@@ -2,20 +2,20 @@
 use Rattle.std.proofs.Common.{◌≡◌, ℕ, ◌+◌, List, [], Some, sym, ap, subst, ◌∙◌, slice_get}
 use Rattle.std.specs.Prelude.{unwrap_or}
 use Rattle.std.specs.List.{AllZip}
-use Rattle.jvm_code.specs.declared.class.Class.{Class}
-use Rattle.jvm_code.specs.declared.method.Method.{Method}
-use Rattle.name_resolution.specs.Names.{text_of}
-use Rattle.jvm_link.specs.Linking.{gives_int, parameters_of, linked_method, linked_methods, program_of}
-use Rattle.code_assembly.specs.Assembling.{AreKnown}
-use Rattle.code_assembly.proofs.Pools.{extends-itself}
-use Rattle.class_builder.specs.Named.{IsTextAt}
-use Rattle.program_classes.specs.Making.{Plan, IsMade}
-use Rattle.program_classes_laws.specs.Before.{methods_before}
-use Rattle.program_classes_laws.proofs.LinkedNumbers.Programs.{method-linked}
+use Rattle.class_definition.specs.declared.class.Class.{Class}
+use Rattle.class_definition.specs.declared.method.Method.{Method}
+use Rattle.class_definition.specs.MemberNames.{slot_text}
+use Rattle.class_definition.specs.Linking.{gives_int, parameters_of, linked_method, linked_methods, program_of}
+use Rattle.emit_assembly.specs.Assembling.{AreKnown}
+use Rattle.emit_assembly.proofs.Pools.{extends-itself}
+use Rattle.emit_classes.specs.Named.{IsTextAt}
+use Rattle.translate_classes.specs.Making.{Plan, IsMade}
+use Rattle.translate_classes_laws.specs.Before.{methods_before}
+use Rattle.translate_classes_laws.proofs.LinkedNumbers.Programs.{method-linked}
 use Rattle.nv_translate.specs.Linked.{IsPlanned, ArePlanned}
 use Rattle.nv_translate.proofs.LinkedTranslations.Lists.{zip-second}
 
-pub text-is : (c : Class) (slot : ℕ) (text : List ℕ) → IsTextAt c.pool slot text → text_of c slot ≡ text
+pub text-is : (c : Class) (slot : ℕ) (text : List ℕ) → IsTextAt c.pool slot text → slot_text c slot ≡ text
 text-is c slot text is = ap (λ o. unwrap_or o []) is
 
 module _ (classes : List Class) (n : ℕ) (c : Class) (there : slice_get classes n ≡ Some c) where
@@ -27,12 +27,12 @@ module _ (classes : List Class) (n : ℕ) (c : Class) (there : slice_get classes
       → Knows p → IsPlanned (program_of classes) number p
   unfolding linked_method
   is-planned m p number made at known =
-      let is : text_of c m.desc ≡ p.descriptor = text-is c m.desc p.descriptor made.descriptor_is in
+      let is : slot_text c m.desc ≡ p.descriptor = text-is c m.desc p.descriptor made.descriptor_is in
       record {
         method = linked_method classes n c m;
         there = at;
         lines_are =
-            made.lines classes n c (gives_int (text_of c m.desc)) (extends-itself c.pool)
+            made.lines classes n c (gives_int (slot_text c m.desc)) (extends-itself c.pool)
             (subst (λ d. AreKnown p.references classes n c (gives_int d) p.code) (sym is) known);
         parameters_are = ap parameters_of is;
         gives_is = ap gives_int is;

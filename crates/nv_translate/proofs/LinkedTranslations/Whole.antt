@@ -5,34 +5,34 @@ use Rattle.std.proofs.lemmas.Bool.{or_from, true≢false}
 use Rattle.std.proofs.lemmas.List.{map-append}
 use Rattle.std.proofs.lemmas.List.FromFn.{length-range_with_len}
 use Rattle.std.proofs.lemmas.Option.{slice_get_past}
-use Rattle.command_values.specs.Names.{Text, is_class_name, IsClassName}
-use Rattle.elf_image.specs.Start.{Source}
-use Rattle.image_parts.specs.Pages.{Page}
-use Rattle.constant_pool.specs.Names.{same_text}
-use Rattle.jvm_code.specs.declared.class.Class.{Class}
-use Rattle.name_resolution.specs.Names.{own_name, is_known, object_name, string_name, host_name, fields_of, field_signature}
-use Rattle.name_resolution.specs.Faults.{has_equal, twice_fault}
-use Rattle.jvm_link.specs.Linking.{linked_methods}
-use Rattle.guest_layout.specs.ClassNames.{code_class_name, data_class_name}
-use Rattle.guest_layout.specs.Numbers.{main_methods}
-use Rattle.program_classes.proofs.ClassMaking.ZipLemmas.{zip-joined}
-use Rattle.program_classes.specs.Tables.{references_of}
-use Rattle.program_classes.specs.Content.{has_meter}
-use Rattle.program_classes.specs.Main.{main_plans}
-use Rattle.program_classes_laws.specs.Before.{methods_before}
-use Rattle.program_classes_laws.specs.Distinct.{HasDistinctMembers}
-use Rattle.program_classes_laws.specs.Translated.{class_names, methods_of_code}
-use Rattle.program_classes_laws.proofs.LinkedNumbers.Fields.{fields-differ}
-use Rattle.program_classes_laws.proofs.LinkedNumbers.Names.{all-index, names-distinct, names-unknown, code-methods}
-use Rattle.program_classes_laws.proofs.LinkedNumbers.Numbers.{text-other}
-use Rattle.program_classes_laws.proofs.LinkedNumbers.Once.{nothing-twice}
-use Rattle.program_classes_laws.proofs.LinkedNumbers.Programs.{get-front, get-behind}
-use Rattle.program_classes_laws.proofs.LinkedNumbers.Signatures.{none-equal}
-use Rattle.program_translation.specs.declared.named_file.NamedFile.{NamedFile}
-use Rattle.program_translation.specs.Classes.{Placed, Follow, IsCodeFile}
-use Rattle.program_translation.specs.DataFiles.{IsDataFile, class_count, class_number, filled_pages, first_method}
-use Rattle.program_translation.specs.declared.built.Built.{Built}
-use Rattle.program_translation.specs.Translation.{IsTranslationBy, code_methods}
+use Rattle.nv_values.specs.Names.{Text, is_class_name, IsClassName}
+use Rattle.elf_definition.specs.Start.{Source}
+use Rattle.elf_image_parts.specs.Pages.{Page}
+use Rattle.class_definition.specs.NameGrammar.{same_text}
+use Rattle.class_definition.specs.declared.class.Class.{Class}
+use Rattle.class_definition.specs.MemberNames.{own_name, is_known, object_name, string_name, host_name, fields_of, field_signature}
+use Rattle.class_definition.specs.LinkFault.{has_equal, twice_fault}
+use Rattle.class_definition.specs.Linking.{linked_methods}
+use Rattle.emit_layout.specs.ClassNames.{code_class_name, data_class_name}
+use Rattle.emit_layout.specs.Numbers.{main_methods}
+use Rattle.translate_classes.proofs.ClassMaking.ZipLemmas.{zip-joined}
+use Rattle.translate_classes.specs.Tables.{references_of}
+use Rattle.translate_classes.specs.Content.{has_meter}
+use Rattle.translate_classes.specs.Main.{main_plans}
+use Rattle.translate_classes_laws.specs.Before.{methods_before}
+use Rattle.translate_classes_laws.specs.Distinct.{HasDistinctMembers}
+use Rattle.translate_classes_laws.specs.Translated.{class_names, methods_of_code}
+use Rattle.translate_classes_laws.proofs.LinkedNumbers.Fields.{fields-differ}
+use Rattle.translate_classes_laws.proofs.LinkedNumbers.Names.{all-index, names-distinct, names-unknown, code-methods}
+use Rattle.translate_classes_laws.proofs.LinkedNumbers.Numbers.{text-other}
+use Rattle.translate_classes_laws.proofs.LinkedNumbers.Once.{nothing-twice}
+use Rattle.translate_classes_laws.proofs.LinkedNumbers.Programs.{get-front, get-behind}
+use Rattle.translate_classes_laws.proofs.LinkedNumbers.Signatures.{none-equal}
+use Rattle.translate_program.specs.declared.named_file.NamedFile.{NamedFile}
+use Rattle.translate_program.specs.Classes.{Placed, Follow, IsCodeFile}
+use Rattle.translate_program.specs.DataFiles.{IsDataFile, class_count, class_number, filled_pages, first_method}
+use Rattle.translate_program.specs.declared.built.Built.{Built}
+use Rattle.translate_program.specs.Translation.{IsTranslationBy, code_methods}
 use Rattle.nv_translate.specs.WholeCode.{HasWholeCode}
 use Rattle.nv_translate.proofs.LinkedTranslations.Lists.{get-either, all-got, range-first}
 use Rattle.nv_translate.proofs.LinkedTranslations.Few.{code-few, spans-few, data-few}

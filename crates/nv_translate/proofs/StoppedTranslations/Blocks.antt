@@ -2,11 +2,11 @@
 use Rattle.std.proofs.Common.{◌≡◌, ℕ, suc, ◌+◌, ◌==◌, ◌&&◌, ◌||◌, not, Bool, true, false, cond, List, [], ◌∷◌, ◌++◌, map, filter, flat_map, length, Some, refl, ap, ◌∙◌, slice_get}
 use Rattle.std.specs.List.{range_with_len}
 use Rattle.method_splitter.specs.declared.span.Span.{Span}
-use Rattle.span_code.specs.Pieces.{flagged, all_words}
-use Rattle.program_classes.specs.declared.part.Part.{Part}
-use Rattle.program_classes.specs.Blocks.{has_block, is_slot, piece_of, pieces_of_class, pieces_of_span, span_words}
-use Rattle.program_translation.specs.Blocks.{block_of, blocks_of}
-use Rattle.program_translation.specs.Classes.{Placed}
+use Rattle.emit_spans.specs.Pieces.{flagged, all_words}
+use Rattle.translate_classes.specs.declared.part.Part.{Part}
+use Rattle.translate_classes.specs.Blocks.{has_block, is_slot, piece_of, pieces_of_class, pieces_of_span, span_words}
+use Rattle.translate_program.specs.Blocks.{block_of, blocks_of}
+use Rattle.translate_program.specs.Classes.{Placed}
 
 none-pass : {A : Type 0} (test : A → Bool) → ((x : A) → test x ≡ false) → (xs : List A) → filter test xs ≡ []
 none-pass test none [] = refl

@@ -1,27 +1,27 @@
 -- A linked translation with a meter stops by it.
 use Rattle.std.proofs.Common.{◌≡◌, ℕ, ◌+◌, ◌*◌, ◌^◌, ◌<◌, ◌≤◌, true, IsTrue, Option, Some, refl, subst, ◌∙◌, arith}
-use Rattle.nv_events.specs.Answer.{Answer, fits}
-use Rattle.nv_events.specs.Memory.{Memory}
-use Rattle.nv_events.specs.Question.{Question}
-use Rattle.nv_events.specs.Run.{run_of}
-use Rattle.command_values.specs.Names.{Text}
-use Rattle.run_laws.specs.Meter.{IsMetered}
-use Rattle.metered_runs.proofs.Paying.{metered-start}
-use Rattle.mips_decode.specs.State as guest_state
-use Rattle.mips_decode.specs.Step as guest
-use Rattle.elf_image.specs.Start.{Source, image_of, readable, writable}
-use Rattle.image_parts.specs.Pages.{page_words}
-use Rattle.mips_machine.specs.Loading.{start_of}
-use Rattle.jvm_program.specs.Program.{Program}
-use Rattle.jvm_program.specs.Step.{loaded, loaded_turn, start, turn}
-use Rattle.jvm_link.specs.Linking.{program_of}
-use Rattle.code_paths.proofs.Loaded.{loaded_run}
-use Rattle.running_laws.specs.LoadingCodeLaws.Loaded.{paged}
-use Rattle.metered_programs.specs.Metering.{spent}
-use Rattle.metered_programs.specs.Programs.{IsMeteredProgram, LoadsByMeterWithin, MeteredProgram}
-use Rattle.metered_programs.specs.Running.{MeteredProgramsFollow, from_start}
-use Rattle.program_translation.specs.declared.built.Built.{Built}
-use Rattle.program_translation.specs.Bounds.{meter_allow}
+use Rattle.run_definition.specs.Answer.{Answer, answer_fits}
+use Rattle.run_definition.specs.Memory.{Memory}
+use Rattle.run_definition.specs.Question.{Question}
+use Rattle.run_definition.specs.Run.{run_of}
+use Rattle.nv_values.specs.Names.{Text}
+use Rattle.run_simulation_laws.specs.Meter.{IsMetered}
+use Rattle.run_simulation_laws.proofs.Paying.{metered-start}
+use Rattle.mips_definition.specs.State as guest_state
+use Rattle.mips_definition.specs.Step as guest
+use Rattle.elf_definition.specs.Start.{Source, image_of, readable, writable}
+use Rattle.elf_image_parts.specs.Pages.{page_words}
+use Rattle.elf_definition.specs.Loading.{start_of}
+use Rattle.jvm_definition.specs.Program.{Program}
+use Rattle.jvm_definition.specs.Step.{loaded_program, loaded_turn, jvm_start, jvm_turn}
+use Rattle.class_definition.specs.Linking.{program_of}
+use Rattle.emit_paths_laws.proofs.Loaded.{loaded_run}
+use Rattle.emit_program_laws.specs.LoadingCodeLaws.Loaded.{paged}
+use Rattle.emit_metered_laws.specs.Metering.{spent}
+use Rattle.emit_metered_laws.specs.Programs.{IsMeteredProgram, LoadsByMeterWithin, MeteredProgram}
+use Rattle.emit_metered_laws.specs.Running.{MeteredProgramsFollow, from_start}
+use Rattle.translate_program.specs.declared.built.Built.{Built}
+use Rattle.translate_program.specs.Bounds.{meter_allow}
 use Rattle.nv_translate.specs.Images.{IsImage}
 use Rattle.nv_translate.specs.Linked.{IsLinkedBy}
 use Rattle.nv_translate.specs.Loading.{LoadsSource}
@@ -58,24 +58,24 @@ module _ (law : MeteredProgramsFollow) (source : Source) (name : Text) (method_b
 
   -- ---- over a kind of system, whose answers fit
 
-  module _ {K : Type 0} (reply : K → Question → Option (Answer × K)) (fitting : (k l : K) (q : Question) (a : Answer) → reply k q ≡ Some (a, l) → IsTrue (fits a q))
+  module _ {K : Type 0} (reply : K → Question → Option (Answer × K)) (fitting : (k l : K) (q : Question) (a : Answer) → reply k q ≡ Some (a, l) → IsTrue (answer_fits a q))
       (m : ℕ) (system : K) (room : meter_allow mapped turns ≤ m) where
     abbrev starts : Memory → guest_state.State
     starts memory =
         guest_state.start (image_of source).order (image_of source).entry memory (image_of source).code (image_of source).heap_start
         (image_of source).heap_bytes
 
-    pub stopped : IsMetered spent (run_of guest.turn reply turns (start_of (image_of source)) system) (run_of (turn program words) reply m (start program) system)
+    pub stopped : IsMetered spent (run_of guest.turn reply turns (start_of (image_of source)) system) (run_of (jvm_turn program words) reply m (jvm_start program) system)
     stopped =
-        subst (λ (memory : Memory). IsMetered spent (run_of guest.turn reply turns (starts memory) system) (run_of (turn program words) reply m (start program) system))
+        subst (λ (memory : Memory). IsMetered spent (run_of guest.turn reply turns (starts memory) system) (run_of (jvm_turn program words) reply m (jvm_start program) system))
         same
         (metered-start (from_start metered (131072 * (mapped + 4)) (law metered (131072 * (mapped + 4)) are-metered loads-within)) reply fitting m system room)
 
     -- so do the classes as they are loaded
-    pub ended : IsMetered spent (run_of guest.turn reply turns (start_of (image_of source)) system) (run_of loaded_turn reply m (loaded program words) system)
+    pub ended : IsMetered spent (run_of guest.turn reply turns (start_of (image_of source)) system) (run_of loaded_turn reply m (loaded_program program words) system)
     ended =
         let of_state = stopped in
-        let of_loaded = loaded_run program words reply m (start program) system in
+        let of_loaded = loaded_run program words reply m (jvm_start program) system in
         record {
           questions = of_loaded.questions ∙ of_state.questions;
           system = of_loaded.system ∙ of_state.system;

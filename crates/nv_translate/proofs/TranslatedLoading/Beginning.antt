@@ -1,22 +1,22 @@
 -- How the program of a linked translation begins.
 use Rattle.std.proofs.Common.{◌≡◌, ◌≢◌, ℕ, ◌+◌, ◌<◌, ◌==◌, ◌||◌, Bool, false, if◌then◌else◌, List, [], ◌∷◌, slice_get, codes, Option, Some, refl, ap, subst, ◌∙◌, arith, ne_eqb}
-use Rattle.jvm_program.specs.declared.kind.Kind.TheVariants as kinds
-use Rattle.jvm_program.specs.Program.{Program}
-use Rattle.jvm_link.specs.Linking.{kind_of}
-use Rattle.code_steps.specs.Placing.{LiesAt}
-use Rattle.guest_layout.specs.Fields.{field_descriptor}
-use Rattle.guest_layout.specs.Numbers.{run_number, choose_number, pages_number}
-use Rattle.guest_code.specs.Fields.{linked_field}
-use Rattle.loading_code.specs.declared.beginning.Beginning.{Beginning}
-use Rattle.loading_code.specs.Starting.{run_code}
-use Rattle.loading_code.specs.Pages.{pages_code}
-use Rattle.code_assembly.specs.declared.references.References.{References}
-use Rattle.running_laws.specs.LoadingCodeLaws.Leading.{IsMethod}
-use Rattle.running_laws.specs.LoadingCodeLaws.Loaded.{Filler, numbers_of}
-use Rattle.running_laws.specs.LoadingCodeLaws.Made.{IsProgram}
-use Rattle.program_classes.specs.Making.{Plan}
-use Rattle.program_classes.specs.declared.content.MainClass.{MainClass}
-use Rattle.program_classes.specs.Main.{helper_plan, helper_plans, run_plan, choose_plan, pages_plan, other_plans, main_plans}
+use Rattle.jvm_definition.specs.declared.kind.Kind.TheVariants as kinds
+use Rattle.jvm_definition.specs.Program.{Program}
+use Rattle.class_definition.specs.Linking.{descriptor_kind}
+use Rattle.emit_steps.specs.Placing.{LiesAt}
+use Rattle.emit_layout.specs.Fields.{field_descriptor}
+use Rattle.emit_layout.specs.Numbers.{run_number, choose_number, pages_number}
+use Rattle.emit_instructions.specs.Fields.{linked_field}
+use Rattle.emit_loading.specs.declared.beginning.Beginning.{Beginning}
+use Rattle.emit_loading.specs.Starting.{run_code}
+use Rattle.emit_loading.specs.Pages.{pages_code}
+use Rattle.emit_assembly.specs.declared.references.References.{References}
+use Rattle.emit_program_laws.specs.LoadingCodeLaws.Leading.{IsMethod}
+use Rattle.emit_program_laws.specs.LoadingCodeLaws.Loaded.{Filler, numbers_of}
+use Rattle.emit_program_laws.specs.LoadingCodeLaws.Made.{IsProgram}
+use Rattle.translate_classes.specs.Making.{Plan}
+use Rattle.translate_classes.specs.declared.content.MainClass.{MainClass}
+use Rattle.translate_classes.specs.Main.{helper_plan, helper_plans, run_plan, choose_plan, pages_plan, other_plans, main_plans}
 use Rattle.nv_translate.specs.Linked.{IsPlanned, ArePlanned}
 use Rattle.nv_translate.proofs.TranslatedLoading.Planned.{no-parameters, a-text, planned-method, planned-lies, planned-behind, counted-length}
 
@@ -25,9 +25,9 @@ use Rattle.nv_translate.proofs.TranslatedLoading.Planned.{no-parameters, a-text,
 other-field : (f a b : ℕ) → f < a → f < b → ((f == a) || (f == b)) ≡ false
 other-field f a b below before = ap (λ t. t || (f == b)) (ne_eqb f a (λ e. omega (arith, e, below))) ∙ ne_eqb f b (λ e. omega (arith, e, before))
 
-int-field : (f : ℕ) → f < 34 → kind_of (field_descriptor f) ≡ kinds.Int
+int-field : (f : ℕ) → f < 34 → descriptor_kind (field_descriptor f) ≡ kinds.Int
 int-field f low =
-    ap (λ (tables : Bool). kind_of (if tables then codes "[[I" else codes "I")) (other-field f 34 35 low (omega arith))
+    ap (λ (tables : Bool). descriptor_kind (if tables then codes "[[I" else codes "I")) (other-field f 34 35 low (omega arith))
 
 -- ---- methods
 
@@ -50,7 +50,7 @@ module _ (program : Program) (main : MainClass) (texts : List ℕ) (by : Referen
   run-lies = planned-lies program run_number (run_plan main texts by) (other-planned 0 (run_plan main texts by) refl)
 
   pub main-begins : (m : ℕ) (meter : Option ℕ) (b : Beginning) (fillers : List Filler) → main.meter ≡ meter → main.beginning ≡ b → main.data.now ≡ numbers_of fillers
-      → program.first ≡ run_number → run_number ≢ m → ((f : ℕ) → f < 38 → program.field f ≡ Some (kind_of (field_descriptor f)))
+      → program.first ≡ run_number → run_number ≢ m → ((f : ℕ) → f < 38 → program.field f ≡ Some (descriptor_kind (field_descriptor f)))
       → IsProgram program run_number m choose_number pages_number meter b texts fillers
   main-begins m meter b fillers counts begins fills first apart fields = record {
     first = first;

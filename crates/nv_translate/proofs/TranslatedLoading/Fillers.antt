@@ -3,16 +3,16 @@ use Rattle.std.proofs.Common.{◌≡◌, ◌≢◌, ℕ, zero, suc, ◌+◌, ◌
 use Rattle.std.specs.List.{All, range_with_len}
 use Rattle.std.proofs.lemmas.List.{map-append, length-map}
 use Rattle.std.proofs.lemmas.List.Elements.{All-nil, All-cons}
-use Rattle.elf_image.specs.Start.{Source}
-use Rattle.image_parts.specs.Pages.{Page, page_words}
-use Rattle.jvm_program.specs.declared.kind.Kind.TheVariants as kinds
-use Rattle.jvm_program.specs.Program.{Program}
+use Rattle.elf_definition.specs.Start.{Source}
+use Rattle.elf_image_parts.specs.Pages.{Page, page_words}
+use Rattle.jvm_definition.specs.declared.kind.Kind.TheVariants as kinds
+use Rattle.jvm_definition.specs.Program.{Program}
 use Rattle.method_splitter.specs.Shares.{share_at, share_count, shared}
 use Rattle.method_splitter.specs.Laws.{SharesAreAll}
-use Rattle.running_laws.specs.LoadingCodeLaws.Loaded.{Filler, FillsApart, IsFiller, HasSlots, numbers_of, slots_of}
-use Rattle.program_classes.specs.Making.{Plan}
-use Rattle.program_classes.specs.Data.{words_plan, fill_plan}
-use Rattle.program_translation.specs.DataFiles.{class_pages, class_count, class_number, filled_pages, pages_of_class, first_method, fill_of, fills_of}
+use Rattle.emit_program_laws.specs.LoadingCodeLaws.Loaded.{Filler, FillsApart, IsFiller, HasSlots, numbers_of, slots_of}
+use Rattle.translate_classes.specs.Making.{Plan}
+use Rattle.translate_classes.specs.Data.{words_plan, fill_plan}
+use Rattle.translate_program.specs.DataFiles.{class_pages, class_count, class_number, filled_pages, pages_of_class, first_method, fill_of, fills_of}
 use Rattle.nv_translate.specs.Linked.{IsPlanned, HasDataClass}
 use Rattle.nv_translate.proofs.TranslatedLoading.Planned.{no-parameters, ints-and-text, planned-method, planned-lies, first-planned}
 use Rattle.nv_translate.proofs.TranslatedLoading.Pages.{numbers_of_pages, pages_of_slots, class-pages-are, pages-spelled, pages-named, numbers-shared, class-has-pages}

@@ -1,10 +1,10 @@
 -- Methods that take no part in loading.
 use Rattle.std.proofs.Common.{ℕ, ◌+◌, ◌<◌, ◌≤◌, Bool, List, [], ◌∷◌, arith}
-use Rattle.elf_image.specs.Start.{Source}
-use Rattle.guest_layout.specs.Numbers.{main_methods}
-use Rattle.program_translation.specs.Classes.{Placed, AreCodeClasses, Follow, methods_behind, run_of}
-use Rattle.program_translation.specs.DataFiles.{class_count, filled_pages, first_method}
-use Rattle.program_translation.specs.Translation.{code_methods}
+use Rattle.elf_definition.specs.Start.{Source}
+use Rattle.emit_layout.specs.Numbers.{main_methods}
+use Rattle.translate_program.specs.Classes.{Placed, AreCodeClasses, Follow, methods_behind, run_of}
+use Rattle.translate_program.specs.DataFiles.{class_count, filled_pages, first_method}
+use Rattle.translate_program.specs.Translation.{code_methods}
 use Rattle.nv_translate.specs.Loading.{TakesNoPart}
 
 pub code-takes-no-part : (source : Source) (code : List Placed) (m : ℕ) → main_methods ≤ m → m < code_methods code → TakesNoPart source code m

@@ -5,19 +5,19 @@ use Rattle.std.specs.List.{All, AllZip}
 use Rattle.std.proofs.lemmas.Grind.{div_ceil_times}
 use Rattle.std.proofs.lemmas.List.{take-map, drop-map, length-map, length-take, length-drop, length-append}
 use Rattle.std.proofs.lemmas.List.Elements.{All-nil, All-cons, All-head, All-tail, All-append, All-take, All-drop}
-use Rattle.elf_reader.specs.Segments.{live}
-use Rattle.elf_image.specs.Start.{Source}
-use Rattle.elf_image.specs.Content.{is_filled_page}
-use Rattle.elf_image.specs.Pages.{count_below}
-use Rattle.image_parts.specs.Runs.{pages_of}
-use Rattle.image_parts.specs.Pages.{Page, page_words, page_at, filled_below}
-use Rattle.jvm_program.specs.Program.{Program}
-use Rattle.guest_layout.specs.FieldNumbers.{page_count}
+use Rattle.elf_definition.specs.Segments.{live}
+use Rattle.elf_definition.specs.Start.{Source}
+use Rattle.elf_definition.specs.Content.{is_filled_page}
+use Rattle.elf_definition.specs.Pages.{count_below}
+use Rattle.elf_image_parts.specs.Runs.{pages_of}
+use Rattle.elf_image_parts.specs.Pages.{Page, page_words, page_at, filled_below}
+use Rattle.jvm_definition.specs.Program.{Program}
+use Rattle.emit_layout.specs.FieldNumbers.{page_count}
 use Rattle.method_splitter.specs.Shares.{share_at, shared}
-use Rattle.loading_code.specs.declared.page_slot.PageSlot.{PageSlot}
+use Rattle.emit_loading.specs.declared.page_slot.PageSlot.{PageSlot}
 use Rattle.data_strings.specs.Texts.{page_text}
-use Rattle.running_laws.specs.LoadingCodeLaws.Loaded.{HasPage}
-use Rattle.program_translation.specs.DataFiles.{class_pages, class_count, filled_pages, pages_of_class}
+use Rattle.emit_program_laws.specs.LoadingCodeLaws.Loaded.{HasPage}
+use Rattle.translate_program.specs.DataFiles.{class_pages, class_count, filled_pages, pages_of_class}
 use Rattle.nv_translate.specs.Linked.{SpellsPage}
 
 abbrev pub numbers_of_pages : List Page → List ℕ

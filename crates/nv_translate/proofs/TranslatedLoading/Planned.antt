@@ -1,16 +1,16 @@
 -- Methods that are made by plans.
 use Rattle.std.proofs.Common.{◌≡◌, ℕ, zero, suc, ◌+◌, List, [], ◌∷◌, ◌++◌, map, length, slice_get, Some, refl, ap, sym, subst, ◌∙◌, arith}
 use Rattle.std.specs.List.{range_with_len}
-use Rattle.jvm_program.specs.declared.kind.Kind.{Kind}
-use Rattle.jvm_program.specs.declared.kind.Kind.TheVariants as kinds
-use Rattle.jvm_program.specs.Program.{Program}
-use Rattle.constant_pool.specs.Names.{after_field}
-use Rattle.jvm_link.specs.Linking.{parameters_of, parameters_from}
-use Rattle.code_steps.specs.Placing.{LiesAt}
-use Rattle.running_laws.specs.LoadingCodeLaws.Leading.{IsMethod}
-use Rattle.program_classes.specs.Making.{Plan, nothing}
-use Rattle.program_classes.specs.Called.{pages_descriptor}
-use Rattle.program_classes.specs.DataNaming.{words_descriptor}
+use Rattle.jvm_definition.specs.declared.kind.Kind.{Kind}
+use Rattle.jvm_definition.specs.declared.kind.Kind.TheVariants as kinds
+use Rattle.jvm_definition.specs.Program.{Program}
+use Rattle.class_definition.specs.NameGrammar.{after_field}
+use Rattle.class_definition.specs.Linking.{parameters_of, parameters_from}
+use Rattle.emit_steps.specs.Placing.{LiesAt}
+use Rattle.emit_program_laws.specs.LoadingCodeLaws.Leading.{IsMethod}
+use Rattle.translate_classes.specs.Making.{Plan, nothing}
+use Rattle.translate_classes.specs.Called.{pages_descriptor}
+use Rattle.translate_classes.specs.DataNaming.{words_descriptor}
 use Rattle.nv_translate.specs.Linked.{IsPlanned, ArePlanned}
 use Rattle.nv_translate.proofs.TranslatedMethods.Lines.{lies}
 

@@ -1,7 +1,7 @@
 -- Where a program has code.
 use Rattle.std.proofs.Common.{◌≡◌, ℕ, ◌%◌, ◌==◌, ◌&&◌, Bool, true, false, if◌then◌else◌, Some, None, refl, eqb-true}
-use Rattle.elf_reader.specs.Area.{area}
-use Rattle.elf_image.specs.Start.{Source, image_of, code_at}
+use Rattle.elf_definition.specs.Area.{area}
+use Rattle.elf_definition.specs.Start.{Source, image_of, code_at}
 
 both : (even on : Bool) (x w : ℕ) → (if even && on then Some x else None) ≡ Some w → (even ≡ true) × (on ≡ true)
 both true true x w is = (refl, refl)

@@ -4,19 +4,19 @@ use Rattle.std.specs.List.{list_all}
 use Rattle.std.proofs.lemmas.List.Elements.{All-from_get_or}
 use Rattle.std.proofs.lemmas.List.FromFn.{length-map-range_with_len}
 use Rattle.std.proofs.lemmas.Option.{slice_get-get_or}
-use Rattle.nv_words.specs.Words.{IsWord}
-use Rattle.mips_decode.specs.Table.{is_float}
+use Rattle.run_definition.specs.Words.{IsWord}
+use Rattle.mips_definition.specs.Table.{is_float}
 use Rattle.delay_slots.specs.Units.{units_of}
 use Rattle.delay_slots.specs.Turns.{HasRange}
 use Rattle.elf_image.specs.Whole.{IsPlainWord}
-use Rattle.jvm_program.specs.Program.{Program}
-use Rattle.code_steps.specs.Placing.{LiesAt}
-use Rattle.span_code.specs.Pieces.{flagged}
-use Rattle.span_code.specs.Laying.{span_code}
-use Rattle.running_laws.specs.TrampolineLaws.Classes.{CodeClass, IsClass, HasClass, run_of, span_words}
-use Rattle.program_classes.specs.Code as codes
-use Rattle.program_translation.specs.Places.{Place}
-use Rattle.program_translation.specs.Classes.{Placed, IsPlaced}
+use Rattle.jvm_definition.specs.Program.{Program}
+use Rattle.emit_steps.specs.Placing.{LiesAt}
+use Rattle.emit_spans.specs.Pieces.{flagged}
+use Rattle.emit_spans.specs.Laying.{span_code}
+use Rattle.emit_program_laws.specs.TrampolineLaws.Classes.{CodeClass, IsClass, HasClass, run_of, span_words}
+use Rattle.translate_classes.specs.Code as codes
+use Rattle.translate_program.specs.Places.{Place}
+use Rattle.translate_program.specs.Classes.{Placed, IsPlaced}
 use Rattle.nv_translate.specs.Linked.{HasCodeClass, IsPlanned}
 use Rattle.nv_translate.specs.Standing.{class_of}
 use Rattle.nv_translate.proofs.TranslatedMethods.Planned.{planned-method, planned-lies, left-of, right-of, counted-first}

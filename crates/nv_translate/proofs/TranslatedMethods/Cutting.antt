@@ -4,10 +4,10 @@ use Rattle.std.proofs.lemmas.List.FromFn.{length-map-range_with_len}
 use Rattle.block_builder.specs.Blocks.{unit_at}
 use Rattle.method_splitter.specs.Cuts.{Cuts, Fills}
 use Rattle.method_splitter.specs.declared.span.Span.{Span}
-use Rattle.running_laws.specs.TrampolineLaws.Classes.{AreJoined}
-use Rattle.program_classes.specs.declared.part.Part.{Part}
-use Rattle.program_translation.specs.Spans.{weight_at, weights_of}
-use Rattle.program_translation.proofs.Counts.SpanLemmas.{cut-few}
+use Rattle.emit_program_laws.specs.TrampolineLaws.Classes.{AreJoined}
+use Rattle.translate_classes.specs.declared.part.Part.{Part}
+use Rattle.translate_program.specs.Spans.{weight_at, weights_of}
+use Rattle.translate_program.proofs.Counts.SpanLemmas.{cut-few}
 use Rattle.nv_translate.proofs.TranslatedMethods.Weights.{weight-small}
 use Rattle.nv_translate.proofs.TranslatedMethods.Elements.{all-counted}
 

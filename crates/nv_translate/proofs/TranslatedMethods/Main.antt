@@ -2,21 +2,21 @@
 use Rattle.std.proofs.Common.{◌≡◌, ℕ, ◌+◌, ◌<◌, List, map, slice_get, Some, refl, ap, sym, ◌∙◌, arith, subst}
 use Rattle.std.specs.List.{range_with_len}
 use Rattle.std.proofs.lemmas.Option.{same_Some}
-use Rattle.jvm_program.specs.Program.{Program}
-use Rattle.constant_pool.specs.Names.{after_field}
-use Rattle.jvm_link.specs.Linking.{parameters_of, parameters_from}
-use Rattle.code_steps.specs.Placing.{LiesAt}
-use Rattle.guest_layout.specs.Helpers.{helper_descriptor}
-use Rattle.guest_layout.specs.Numbers.{choose_number, missing_number}
+use Rattle.jvm_definition.specs.Program.{Program}
+use Rattle.class_definition.specs.NameGrammar.{after_field}
+use Rattle.class_definition.specs.Linking.{parameters_of, parameters_from}
+use Rattle.emit_steps.specs.Placing.{LiesAt}
+use Rattle.emit_layout.specs.Helpers.{helper_descriptor}
+use Rattle.emit_layout.specs.Numbers.{choose_number, missing_number}
 use Rattle.mem_helpers.specs.Methods.{helper_code}
 use Rattle.trampoline.specs.Choosers.{main_chooser, missing_method}
-use Rattle.code_assembly.specs.declared.references.References.{References}
-use Rattle.running_laws.specs.TrampolineLaws.Choosing.{IsMethod}
-use Rattle.running_laws.specs.SpanCodeLaws.Helpers.{HasHelpers, IsHelper, helper_parameters, helper_count}
-use Rattle.program_classes.specs.Making.{Plan}
-use Rattle.program_classes.specs.declared.content.MainClass.{MainClass}
-use Rattle.program_classes.specs.Content.{has_meter}
-use Rattle.program_classes.specs.Main.{helper_plan, helper_plans, choose_plan, missing_plan, other_plans, main_plans}
+use Rattle.emit_assembly.specs.declared.references.References.{References}
+use Rattle.emit_program_laws.specs.TrampolineLaws.Choosing.{IsMethod}
+use Rattle.emit_program_laws.specs.SpanCodeLaws.Helpers.{HasHelpers, IsHelper, helper_parameters, helper_count}
+use Rattle.translate_classes.specs.Making.{Plan}
+use Rattle.translate_classes.specs.declared.content.MainClass.{MainClass}
+use Rattle.translate_classes.specs.Content.{has_meter}
+use Rattle.translate_classes.specs.Main.{helper_plan, helper_plans, choose_plan, missing_plan, other_plans, main_plans}
 use Rattle.nv_translate.specs.Linked.{IsPlanned, ArePlanned}
 use Rattle.nv_translate.proofs.TranslatedMethods.Lines.{lies}
 use Rattle.nv_translate.proofs.TranslatedMethods.Planned.{planned-method, planned-lies, left-of, counted-first}

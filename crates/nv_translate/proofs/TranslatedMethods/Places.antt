@@ -5,12 +5,12 @@ use Rattle.std.specs.List.{range_with_len, AllByRecursion, AllAdjacentBelow}
 use Rattle.std.proofs.lemmas.List.{length-append}
 use Rattle.std.proofs.lemmas.List.FromFn.{length-map-range_with_len}
 use Rattle.std.proofs.lemmas.List.Sums.{sum_by-cons}
-use Rattle.elf_reader.specs.declared.range.Range.{Range}
-use Rattle.elf_reader.specs.Area.{range_end}
-use Rattle.elf_image.specs.Refusals.{code_words}
+use Rattle.elf_definition.specs.declared.range.Range.{Range}
+use Rattle.elf_definition.specs.Area.{range_end}
+use Rattle.elf_definition.specs.ImageFault.{code_words}
 use Rattle.elf_image.specs.Whole.{IsWholeRange}
 use Rattle.method_splitter.specs.Shares.{share_count}
-use Rattle.program_translation.specs.Places.{Place, place_at, places_in, places_of}
+use Rattle.translate_program.specs.Places.{Place, place_at, places_in, places_of}
 use Rattle.nv_translate.proofs.TranslatedMethods.Elements.{each-counted, each-joined}
 use Rattle.nv_translate.proofs.TranslatedMethods.Shares.{share-begins, share-ends, share-more, some-shares, few-shares}
 

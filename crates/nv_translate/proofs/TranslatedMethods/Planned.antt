@@ -1,12 +1,12 @@
 -- Methods that are made by plans.
 use Rattle.std.proofs.Common.{◌≡◌, ℕ, zero, suc, ◌+◌, ◌<◌, List, [], ◌∷◌, ◌++◌, map, length, slice_get, Some, refl, ap, ◌∙◌, arith}
 use Rattle.std.specs.List.{range_with_len}
-use Rattle.jvm_program.specs.Program.{Program}
-use Rattle.constant_pool.specs.Names.{after_field}
-use Rattle.jvm_link.specs.Linking.{parameters_of, parameters_from}
-use Rattle.code_steps.specs.Placing.{LiesAt}
-use Rattle.running_laws.specs.TrampolineLaws.Choosing.{IsMethod}
-use Rattle.program_classes.specs.Making.{Plan, nothing}
+use Rattle.jvm_definition.specs.Program.{Program}
+use Rattle.class_definition.specs.NameGrammar.{after_field}
+use Rattle.class_definition.specs.Linking.{parameters_of, parameters_from}
+use Rattle.emit_steps.specs.Placing.{LiesAt}
+use Rattle.emit_program_laws.specs.TrampolineLaws.Choosing.{IsMethod}
+use Rattle.translate_classes.specs.Making.{Plan, nothing}
 use Rattle.nv_translate.specs.Linked.{IsPlanned}
 use Rattle.nv_translate.proofs.TranslatedMethods.Lines.{lies}
 

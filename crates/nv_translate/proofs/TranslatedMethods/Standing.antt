@@ -4,21 +4,21 @@ use Rattle.std.specs.Prelude.{is_some}
 use Rattle.std.specs.List.{AllByRecursion}
 use Rattle.std.proofs.lemmas.List.Elements.{recursion_from_All}
 use Rattle.std.proofs.lemmas.Slice.Zip.{AllZip-long}
-use Rattle.command_values.specs.Names.{Text}
-use Rattle.elf_reader.specs.declared.range.Range.{Range}
-use Rattle.elf_image.specs.Start.{Source, image_of}
+use Rattle.nv_values.specs.Names.{Text}
+use Rattle.elf_definition.specs.declared.range.Range.{Range}
+use Rattle.elf_definition.specs.Start.{Source, image_of}
 use Rattle.elf_image.specs.Whole.{IsWholeRange}
-use Rattle.jvm_program.specs.Program.{Program}
-use Rattle.jvm_link.specs.Linking.{program_of}
-use Rattle.code_steps.specs.Placing.{LiesAt}
-use Rattle.guest_layout.specs.Numbers.{main_methods, choose_number, missing_number}
+use Rattle.jvm_definition.specs.Program.{Program}
+use Rattle.class_definition.specs.Linking.{program_of}
+use Rattle.emit_steps.specs.Placing.{LiesAt}
+use Rattle.emit_layout.specs.Numbers.{main_methods, choose_number, missing_number}
 use Rattle.trampoline.specs.Choosers.{main_chooser, missing_method}
-use Rattle.running_laws.specs.SpanCodeLaws.Helpers.{HasHelpers}
-use Rattle.running_laws.specs.TrampolineLaws.Classes.{CodeClass, starts_of}
-use Rattle.running_laws.specs.TrampolineLaws.Programs.{IsInClass, IsTranslated}
-use Rattle.program_translation.specs.Places.{Place, places_of}
-use Rattle.program_translation.specs.Classes.{IsPlaced}
-use Rattle.program_translation.specs.declared.built.Built.{Built}
+use Rattle.emit_program_laws.specs.SpanCodeLaws.Helpers.{HasHelpers}
+use Rattle.emit_program_laws.specs.TrampolineLaws.Classes.{CodeClass, starts_of}
+use Rattle.emit_program_laws.specs.TrampolineLaws.Programs.{IsInClass, IsTranslated}
+use Rattle.translate_program.specs.Places.{Place, places_of}
+use Rattle.translate_program.specs.Classes.{IsPlaced}
+use Rattle.translate_program.specs.declared.built.Built.{Built}
 use Rattle.nv_translate.specs.Linked.{IsLinkedBy}
 use Rattle.nv_translate.specs.AcceptedCode.{HasAcceptedCode}
 use Rattle.nv_translate.specs.Standing.{Stands}

@@ -5,15 +5,15 @@ use Rattle.std.proofs.lemmas.List.{length-append}
 use Rattle.std.proofs.lemmas.List.Elements.{All-nil, All-cons}
 use Rattle.delay_slots.specs.Units.{units_of}
 use Rattle.delay_slots.specs.Turns.{HasRange}
-use Rattle.jvm_program.specs.Program.{Program}
-use Rattle.guest_layout.specs.Numbers.{missing_number}
+use Rattle.jvm_definition.specs.Program.{Program}
+use Rattle.emit_layout.specs.Numbers.{missing_number}
 use Rattle.trampoline.specs.declared.start.Start.{Start}
-use Rattle.running_laws.specs.TrampolineLaws.Classes.{CodeClass, HasClass, AreNumbered, AreOrdered, GoesOn, address, end_of, is_last, run_of, class_starts, starts_of}
-use Rattle.running_laws.specs.TrampolineLaws.Programs.{IsInClass}
-use Rattle.program_classes.specs.Code as codes
-use Rattle.program_translation.specs.Places.{Place}
-use Rattle.program_translation.specs.Classes as files
-use Rattle.program_translation.specs.Classes.{Placed, IsPlaced, Follow}
+use Rattle.emit_program_laws.specs.TrampolineLaws.Classes.{CodeClass, HasClass, AreNumbered, AreOrdered, GoesOn, address, end_of, is_last, run_of, class_starts, starts_of}
+use Rattle.emit_program_laws.specs.TrampolineLaws.Programs.{IsInClass}
+use Rattle.translate_classes.specs.Code as codes
+use Rattle.translate_program.specs.Places.{Place}
+use Rattle.translate_program.specs.Classes as files
+use Rattle.translate_program.specs.Classes.{Placed, IsPlaced, Follow}
 use Rattle.nv_translate.specs.Linked.{HasCodeClass}
 use Rattle.nv_translate.specs.Standing.{class_of, IsClassOf}
 use Rattle.nv_translate.proofs.TranslatedMethods.Places.{IsGood, Ends, GoesOnIn, BeginsBehind, AreRising}

@@ -1,18 +1,18 @@
 -- No word weighs much.
 use Rattle.std.proofs.Common.{ℕ, ◌≤◌, Bool, true, false, length, arith}
-use Rattle.mips_decode.specs.declared.names.load_name.LoadName.{LoadName}
-use Rattle.mips_decode.specs.declared.names.load_name.LoadName.TheVariants.{Lb, Lh, Lwl, Lw, Lbu, Lhu, Lwr}
-use Rattle.mips_decode.specs.declared.names.branch_sign_name.BranchSignName.{BranchSignName}
-use Rattle.mips_decode.specs.declared.names.branch_sign_name.BranchSignName.TheVariants.{Bltz, Bgez, Bltzal, Bgezal, Bltzl, Bgezl, Bltzall, Bgezall}
-use Rattle.mips_decode.specs.declared.names.jump_name.JumpName.{JumpName}
-use Rattle.mips_decode.specs.declared.names.jump_name.JumpName.TheVariants.{J, Jal}
-use Rattle.mips_decode.specs.declared.inst.Inst.{Inst}
-use Rattle.mips_decode.specs.declared.inst.Inst.TheVariants as inst
+use Rattle.mips_definition.specs.declared.names.load_name.LoadName.{LoadName}
+use Rattle.mips_definition.specs.declared.names.load_name.LoadName.TheVariants.{Lb, Lh, Lwl, Lw, Lbu, Lhu, Lwr}
+use Rattle.mips_definition.specs.declared.names.branch_sign_name.BranchSignName.{BranchSignName}
+use Rattle.mips_definition.specs.declared.names.branch_sign_name.BranchSignName.TheVariants.{Bltz, Bgez, Bltzal, Bgezal, Bltzl, Bgezl, Bltzall, Bgezall}
+use Rattle.mips_definition.specs.declared.names.jump_name.JumpName.{JumpName}
+use Rattle.mips_definition.specs.declared.names.jump_name.JumpName.TheVariants.{J, Jal}
+use Rattle.mips_definition.specs.declared.inst.Inst.{Inst}
+use Rattle.mips_definition.specs.declared.inst.Inst.TheVariants as inst
 use Rattle.delay_slots.specs.declared.unit.Unit.{Unit}
 use Rattle.delay_slots.specs.declared.unit.Unit.TheVariants.{Plain, Branch, SlotMissing, SlotIsBranch, Call, Trap}
 use Rattle.block_builder.specs.Registers.{read_by, read_by_load, written_by, written_by_branch_sign, written_by_jump}
-use Rattle.code_limits.specs.Weights.{branch_exit_bytes, weight, weight_of}
-use Rattle.code_limits.proofs.SmallInstructions.{instruction-small}
+use Rattle.emit_limits.specs.Weights.{branch_exit_bytes, weight, weight_of}
+use Rattle.emit_limits.proofs.SmallInstructions.{instruction-small}
 
 -- ---- bytes
 

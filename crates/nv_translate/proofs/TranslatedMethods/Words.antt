@@ -2,10 +2,10 @@
 use Rattle.std.proofs.Common.{◌≡◌, ℕ, ◌+◌, ◌-◌, ◌*◌, ◌/◌, ◌%◌, ◌<◌, ◌≤◌, Bool, true, false, ◌||◌, List, [], ◌∷◌, ◌++◌, length, slice_get, Some, refl, ◌∙◌, arith, ltb-true, leb-true}
 use Rattle.std.specs.List.{list_any, AllByRecursion}
 use Rattle.std.proofs.lemmas.Bool.{and_parts}
-use Rattle.elf_reader.specs.declared.range.Range.{Range}
-use Rattle.elf_reader.specs.Area.{range_end, has_address}
+use Rattle.elf_definition.specs.declared.range.Range.{Range}
+use Rattle.elf_definition.specs.Area.{range_end, has_address}
 use Rattle.method_splitter.specs.Shares.{share_count}
-use Rattle.program_translation.specs.Places.{Place, place_at, places_in, places_of}
+use Rattle.translate_program.specs.Places.{Place, place_at, places_in, places_of}
 use Rattle.nv_translate.proofs.TranslatedMethods.Planned.{left-of, right-of, counted-first}
 use Rattle.nv_translate.proofs.TranslatedMethods.Shares.{share-has, share-within}
 

@@ -1,18 +1,18 @@
 -- The methods of a class of code are typed.
 use Rattle.std.proofs.Common.{◌≡◌, ℕ, ◌+◌, ◌<◌, ◌≤◌, false, List, [], ◌∷◌, length, All, refl, sym, subst, arith, below_more}
 use Rattle.std.proofs.lemmas.List.FromFn.{length-map-range_with_len}
-use Rattle.nv_words.specs.Words.{IsWord}
+use Rattle.run_definition.specs.Words.{IsWord}
 use Rattle.delay_slots.specs.Units.{HasNoFloat, units_of}
-use Rattle.jvm_program.specs.Program.{Program}
+use Rattle.jvm_definition.specs.Program.{Program}
 use Rattle.method_splitter.specs.declared.span.Span.{Span}
-use Rattle.span_code.specs.declared.span_words.SpanWords.{SpanWords}
-use Rattle.span_code.specs.Pieces.{flagged, span_of}
-use Rattle.code_types.specs.Judging.{TakesGives}
-use Rattle.code_types.specs.Knowing.{HelperTypes}
-use Rattle.code_types.specs.Methods.{IsStart, owes_beginning}
-use Rattle.code_types.specs.Spans.{SpanTyped, goals_of, owes_unknown}
-use Rattle.program_classes.specs.Code.{span_at, span_plan, span_plans, run_plan, start_at, starts_of, address}
-use Rattle.program_translation.specs.Classes.{Placed, run_of}
+use Rattle.emit_spans.specs.declared.span_words.SpanWords.{SpanWords}
+use Rattle.emit_spans.specs.Pieces.{flagged, span_of}
+use Rattle.emit_types_laws.specs.Judging.{TakesGives}
+use Rattle.emit_types_laws.specs.Knowing.{HelperTypes}
+use Rattle.emit_types_laws.specs.Methods.{IsStart, owes_beginning}
+use Rattle.emit_types_laws.specs.Spans.{SpanTyped, goals_of, owes_unknown}
+use Rattle.translate_classes.specs.Code.{span_at, span_plan, span_plans, run_plan, start_at, starts_of, address}
+use Rattle.translate_program.specs.Classes.{Placed, run_of}
 use Rattle.nv_translate.specs.Linked.{IsPlanned, HasCodeClass}
 use Rattle.nv_translate.proofs.TranslatedTypes.Lists.{left-of, last-of, counted-first, all-counted}
 use Rattle.nv_translate.proofs.TranslatedTypes.Planned.{HasType, plan-quiet, quiet-typed}

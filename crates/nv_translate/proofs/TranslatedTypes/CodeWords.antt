@@ -3,16 +3,16 @@ use Rattle.std.proofs.Common.{◌≡◌, ℕ, ◌+◌, ◌-◌, ◌*◌, ◌<◌
 use Rattle.std.proofs.lemmas.Grind.{div_ceil_times}
 use Rattle.std.proofs.lemmas.List.Elements.{All-weaker}
 use Rattle.std.proofs.lemmas.List.FromFn.{length-map-range_with_len}
-use Rattle.elf_reader.specs.declared.range.Range.{Range}
+use Rattle.elf_definition.specs.declared.range.Range.{Range}
 use Rattle.elf_image.specs.Whole.{IsWholeRange}
 use Rattle.method_splitter.specs.Shares.{share_count}
 use Rattle.method_splitter.specs.declared.span.Span.{Span}
-use Rattle.program_classes.specs.Parts.{IsSpan}
-use Rattle.program_translation.specs.Places.{Place, place_at, places_in, places_of, class_words}
-use Rattle.program_translation.specs.Spans.{weight_at, weights_of}
-use Rattle.program_translation.specs.Classes.{Placed, IsPlaced}
-use Rattle.program_translation.proofs.CodeFiles.SpanLemmas.{cut-within}
-use Rattle.program_translation.proofs.CodeFiles.UnitLemmas.{range-words, range-float}
+use Rattle.translate_classes.specs.Parts.{IsSpan}
+use Rattle.translate_program.specs.Places.{Place, place_at, places_in, places_of, class_words}
+use Rattle.translate_program.specs.Spans.{weight_at, weights_of}
+use Rattle.translate_program.specs.Classes.{Placed, IsPlaced}
+use Rattle.translate_program.proofs.CodeFiles.SpanLemmas.{cut-within}
+use Rattle.translate_program.proofs.CodeFiles.UnitLemmas.{range-words, range-float}
 use Rattle.nv_translate.proofs.TranslatedTypes.Lists.{all-counted, all-joined, all-at}
 use Rattle.nv_translate.proofs.TranslatedTypes.CodeMethods.{HasWords}
 

@@ -1,16 +1,16 @@
 -- The methods of a class of data are typed.
 use Rattle.std.proofs.Common.{◌≡◌, ℕ, ◌+◌, false, List, [], ◌∷◌, refl, subst, arith}
-use Rattle.image_parts.specs.Pages.{Page}
-use Rattle.jvm_program.specs.declared.kind.Kind.TheVariants.{Ints, Text}
-use Rattle.jvm_program.specs.Program.{Program}
-use Rattle.constant_pool.specs.Names.{after_field}
-use Rattle.jvm_link.specs.Linking.{parameters_of, parameters_from}
-use Rattle.code_types.specs.Judging.{TakesGives}
-use Rattle.code_types.specs.Methods.{owes_nothing, owes_words}
-use Rattle.program_classes.specs.Making.{Plan}
-use Rattle.program_classes.specs.DataNaming.{words_descriptor}
-use Rattle.program_classes.specs.Data.{words_plan, fill_plan}
-use Rattle.program_translation.specs.DataFiles.{class_number, first_method, fill_of}
+use Rattle.elf_image_parts.specs.Pages.{Page}
+use Rattle.jvm_definition.specs.declared.kind.Kind.TheVariants.{Ints, Text}
+use Rattle.jvm_definition.specs.Program.{Program}
+use Rattle.class_definition.specs.NameGrammar.{after_field}
+use Rattle.class_definition.specs.Linking.{parameters_of, parameters_from}
+use Rattle.emit_types_laws.specs.Judging.{TakesGives}
+use Rattle.emit_types_laws.specs.Methods.{owes_nothing, owes_words}
+use Rattle.translate_classes.specs.Making.{Plan}
+use Rattle.translate_classes.specs.DataNaming.{words_descriptor}
+use Rattle.translate_classes.specs.Data.{words_plan, fill_plan}
+use Rattle.translate_program.specs.DataFiles.{class_number, first_method, fill_of}
 use Rattle.nv_translate.specs.Linked.{IsPlanned, HasDataClass}
 use Rattle.nv_translate.proofs.TranslatedTypes.Planned.{HasType, plan-takes, plan-typed, plan-quiet, quiet-typed}
 use Rattle.nv_translate.proofs.TranslatedTypes.Lower.{TypingLaws}

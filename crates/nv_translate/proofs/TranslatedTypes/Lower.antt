@@ -1,7 +1,7 @@
 -- What the laws of lower crates say of the bodies of methods.
-use Rattle.code_types.specs.Laws.{ClassChoosersAreTyped, FillsAreTyped, HelpersAreTyped, MainChoosersAreTyped, MakingIsTyped, MissingIsTyped, PuttingIsTyped, RunsAreTyped}
-use Rattle.code_types.specs.Methods.{BodiesHaveTypings}
-use Rattle.code_types.specs.Spans.{SpansAreTyped}
+use Rattle.emit_types_laws.specs.Laws.{ClassChoosersAreTyped, FillsAreTyped, HelpersAreTyped, MainChoosersAreTyped, MakingIsTyped, MissingIsTyped, PuttingIsTyped, RunsAreTyped}
+use Rattle.emit_types_laws.specs.Methods.{BodiesHaveTypings}
+use Rattle.emit_types_laws.specs.Spans.{SpansAreTyped}
 
 pub record TypingLaws : Type 0 where
   pub helpers : HelpersAreTyped

@@ -1,21 +1,21 @@
 -- The methods of the main class are typed.
 use Rattle.std.proofs.Common.{◌≡◌, ℕ, ◌+◌, ◌<◌, ◌≤◌, ◌||◌, ◌&&◌, nat_lt, nat_le, if◌then◌else◌, Bool, true, false, List, [], ◌∷◌, length, slice_get, Some, All, refl, subst, arith, below_none, below_more}
-use Rattle.jvm_program.specs.declared.kind.Kind.TheVariants.{Int, Text}
-use Rattle.jvm_program.specs.Program.{Program}
-use Rattle.constant_pool.specs.Names.{after_field}
-use Rattle.jvm_link.specs.Linking.{parameters_of, parameters_from, gives_int}
-use Rattle.guest_layout.specs.Helpers.{helper_descriptor}
-use Rattle.guest_layout.specs.Numbers.{run_number, choose_number, pages_number, missing_number}
-use Rattle.code_assembly.specs.declared.references.References.{References}
-use Rattle.running_laws.specs.SpanCodeLaws.Helpers.{helper_parameters}
-use Rattle.code_types.specs.Judging.{TakesGives}
-use Rattle.code_types.specs.Knowing.{HelperTypes, helper_gives}
-use Rattle.code_types.specs.Methods.{IsStart, owes_nothing, owes_beginning, owes_pages}
-use Rattle.program_classes.specs.Making.{Plan}
-use Rattle.program_classes.specs.declared.content.MainClass.{MainClass}
-use Rattle.program_classes.specs.Called.{pages_descriptor}
-use Rattle.program_classes.specs.Content.{has_meter}
-use Rattle.program_classes.specs.Main.{helper_plan, helper_plans, run_plan, choose_plan, pages_plan, missing_plan, other_plans, main_plans}
+use Rattle.jvm_definition.specs.declared.kind.Kind.TheVariants.{Int, Text}
+use Rattle.jvm_definition.specs.Program.{Program}
+use Rattle.class_definition.specs.NameGrammar.{after_field}
+use Rattle.class_definition.specs.Linking.{parameters_of, parameters_from, gives_int}
+use Rattle.emit_layout.specs.Helpers.{helper_descriptor}
+use Rattle.emit_layout.specs.Numbers.{run_number, choose_number, pages_number, missing_number}
+use Rattle.emit_assembly.specs.declared.references.References.{References}
+use Rattle.emit_program_laws.specs.SpanCodeLaws.Helpers.{helper_parameters}
+use Rattle.emit_types_laws.specs.Judging.{TakesGives}
+use Rattle.emit_types_laws.specs.Knowing.{HelperTypes, helper_gives}
+use Rattle.emit_types_laws.specs.Methods.{IsStart, owes_nothing, owes_beginning, owes_pages}
+use Rattle.translate_classes.specs.Making.{Plan}
+use Rattle.translate_classes.specs.declared.content.MainClass.{MainClass}
+use Rattle.translate_classes.specs.Called.{pages_descriptor}
+use Rattle.translate_classes.specs.Content.{has_meter}
+use Rattle.translate_classes.specs.Main.{helper_plan, helper_plans, run_plan, choose_plan, pages_plan, missing_plan, other_plans, main_plans}
 use Rattle.nv_translate.specs.Linked.{IsPlanned, ArePlanned}
 use Rattle.nv_translate.proofs.TranslatedTypes.Lists.{left-of, counted-first}
 use Rattle.nv_translate.proofs.TranslatedTypes.Planned.{HasType, plan-takes, plan-typed, plan-quiet, quiet-typed}

@@ -1,7 +1,7 @@
 -- Numbers of methods: each between two is that of a method of a class.
 use Rattle.std.proofs.Common.{◌≡◌, ℕ, zero, suc, ◌+◌, ◌-◌, ◌*◌, ◌<◌, ◌≤◌, inl, inr, List, [], ◌∷◌, length, slice_get, Some, refl, subst, arith}
 use Rattle.std.proofs.lemmas.Bool.{cases_lt}
-use Rattle.program_translation.specs.Classes.{Placed, Follow, run_of, methods_behind}
+use Rattle.translate_program.specs.Classes.{Placed, Follow, run_of, methods_behind}
 
 pub in-code : (P : ℕ → Type 0) (number first : ℕ) (code : List Placed) → Follow number first code
     → ((i : ℕ) (c : Placed) → slice_get code i ≡ Some c → (k : ℕ) → k < length c.spans + 1 → P (c.first_method + k))

@@ -1,15 +1,15 @@
 -- Methods that are made by plans: what they take and give, and when they are typed.
 use Rattle.std.proofs.Common.{◌≡◌, ℕ, ◌≤◌, Bool, false, List, [], length, Option, Some, refl, ap, sym, ◌∙◌, subst, arith}
 use Rattle.std.proofs.lemmas.Option.{same_Some}
-use Rattle.jvm_program.specs.declared.kind.Kind.{Kind}
-use Rattle.jvm_program.specs.declared.linked_method.LinkedMethod.{LinkedMethod}
-use Rattle.jvm_program.specs.Program.{Program}
-use Rattle.jvm_program.specs.Typing.{TypeFrame, Typed}
-use Rattle.constant_pool.specs.Names.{after_field}
-use Rattle.jvm_link.specs.Linking.{parameters_of, parameters_from, gives_int}
-use Rattle.code_types.specs.Judging.{TakesGives}
-use Rattle.code_types.specs.Methods.{BodiesHaveTypings, IsBody}
-use Rattle.program_classes.specs.Making.{Plan, nothing}
+use Rattle.jvm_definition.specs.declared.kind.Kind.{Kind}
+use Rattle.jvm_definition.specs.declared.linked_method.LinkedMethod.{LinkedMethod}
+use Rattle.jvm_definition.specs.Program.{Program}
+use Rattle.jvm_definition.specs.Typing.{TypeFrame, Typed}
+use Rattle.class_definition.specs.NameGrammar.{after_field}
+use Rattle.class_definition.specs.Linking.{parameters_of, parameters_from, gives_int}
+use Rattle.emit_types_laws.specs.Judging.{TakesGives}
+use Rattle.emit_types_laws.specs.Methods.{BodiesHaveTypings, IsBody}
+use Rattle.translate_classes.specs.Making.{Plan, nothing}
 use Rattle.nv_translate.specs.Linked.{IsPlanned}
 
 -- the method of a number is typed

@@ -4,22 +4,22 @@ use Rattle.std.specs.Prelude.{is_some}
 use Rattle.std.proofs.lemmas.Bool.{cases_lt}
 use Rattle.std.proofs.lemmas.Option.{none-some}
 use Rattle.std.proofs.lemmas.List.Elements.{All-nil, All-cons}
-use Rattle.command_values.specs.Names.{Text}
-use Rattle.elf_image.specs.Start.{Source, image_of}
-use Rattle.jvm_program.specs.Program.{Program}
-use Rattle.jvm_program.specs.Typing.{AllTyped}
-use Rattle.jvm_link.specs.Linking.{program_of}
-use Rattle.guest_layout.specs.Numbers.{main_methods, missing_number}
+use Rattle.nv_values.specs.Names.{Text}
+use Rattle.elf_definition.specs.Start.{Source, image_of}
+use Rattle.jvm_definition.specs.Program.{Program}
+use Rattle.jvm_definition.specs.Typing.{AllTyped}
+use Rattle.class_definition.specs.Linking.{program_of}
+use Rattle.emit_layout.specs.Numbers.{main_methods, missing_number}
 use Rattle.trampoline.specs.declared.start.Start.{Start}
-use Rattle.code_types.specs.Judging.{TakesGives}
-use Rattle.code_types.specs.Knowing.{HelperTypes}
-use Rattle.code_types.specs.Methods.{IsStart}
-use Rattle.program_classes.specs.Code.{address}
-use Rattle.program_translation.specs.Places.{places_of}
-use Rattle.program_translation.specs.Classes.{Placed, IsPlaced, run_of, is_last, starts_of_class}
-use Rattle.program_translation.specs.DataFiles.{class_count, filled_pages, first_method, fill_of}
-use Rattle.program_translation.specs.declared.built.Built.{Built}
-use Rattle.program_translation.specs.Translation.{code_methods}
+use Rattle.emit_types_laws.specs.Judging.{TakesGives}
+use Rattle.emit_types_laws.specs.Knowing.{HelperTypes}
+use Rattle.emit_types_laws.specs.Methods.{IsStart}
+use Rattle.translate_classes.specs.Code.{address}
+use Rattle.translate_program.specs.Places.{places_of}
+use Rattle.translate_program.specs.Classes.{Placed, IsPlaced, run_of, is_last, starts_of_class}
+use Rattle.translate_program.specs.DataFiles.{class_count, filled_pages, first_method, fill_of}
+use Rattle.translate_program.specs.declared.built.Built.{Built}
+use Rattle.translate_program.specs.Translation.{code_methods}
 use Rattle.nv_translate.specs.WholeCode.{HasWholeCode}
 use Rattle.nv_translate.specs.Linked.{IsLinkedBy}
 use Rattle.nv_translate.proofs.TranslatedTypes.Lists.{all-counted, all-joined, against}

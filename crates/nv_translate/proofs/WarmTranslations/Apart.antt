@@ -2,11 +2,11 @@
 use Rattle.std.proofs.Common.{◌≡◌, ℕ, ◌+◌, ◌<◌, ◌≤◌, Bool, true, List, arith}
 use Rattle.std.specs.Prelude.{filter}
 use Rattle.delay_slots.specs.declared.unit.Unit.{Unit}
-use Rattle.span_code.specs.declared.span_words.SpanWords.{SpanWords}
-use Rattle.span_code.specs.Pieces.{begins, words_before}
-use Rattle.span_code.specs.Parts.{warm_part}
-use Rattle.span_code.specs.Laying.{stretch_at}
-use Rattle.span_code.proofs.BodyLemmas.{kept-more, size-more, size-rises}
+use Rattle.emit_spans.specs.declared.span_words.SpanWords.{SpanWords}
+use Rattle.emit_spans.specs.Pieces.{begins, words_before}
+use Rattle.emit_spans.specs.Parts.{warm_part}
+use Rattle.emit_spans.specs.Laying.{stretch_at}
+use Rattle.emit_spans.proofs.BodyLemmas.{kept-more, size-more, size-rises}
 
 pub stretches-apart : (units : List Unit) (leads : ℕ → Bool) (span : SpanWords) (k l : ℕ) → span.first ≤ k → k < l → begins leads span k ≡ true
     → (stretch_at units leads span k).to ≤ (stretch_at units leads span l).from

@@ -4,12 +4,12 @@ use Rattle.std.specs.Prelude.{filter, option_map}
 use Rattle.std.specs.List.{flat_map, range_with_len}
 use Rattle.std.proofs.lemmas.List.FromFn.{length-map-range_with_len}
 use Rattle.std.proofs.lemmas.Option.{slice_get-map}
-use Rattle.span_code.specs.Pieces.{flagged, all_words}
-use Rattle.program_classes.specs.declared.piece.Piece.{Piece}
-use Rattle.program_classes.specs.Blocks.{has_block, span_words, piece_of, pieces_of_span, pieces_of_class}
-use Rattle.program_translation.specs.declared.block_info.BlockInfo.{BlockInfo}
-use Rattle.program_translation.specs.Classes.{Placed, Follow, span_info, spans_of_class, spans_of}
-use Rattle.program_translation.specs.Blocks.{block_of, blocks_of_class, blocks_of}
+use Rattle.emit_spans.specs.Pieces.{flagged, all_words}
+use Rattle.translate_classes.specs.declared.piece.Piece.{Piece}
+use Rattle.translate_classes.specs.Blocks.{has_block, span_words, piece_of, pieces_of_span, pieces_of_class}
+use Rattle.translate_program.specs.declared.block_info.BlockInfo.{BlockInfo}
+use Rattle.translate_program.specs.Classes.{Placed, Follow, span_info, spans_of_class, spans_of}
+use Rattle.translate_program.specs.Blocks.{block_of, blocks_of_class, blocks_of}
 use Rattle.nv_translate.proofs.LinkedTranslations.Lists.{mapped-from, range-get, get-either, mapped-get}
 use Rattle.nv_translate.proofs.WarmTranslations.Lists.{get-left, get-right, kept, was-kept, joined}
 

@@ -2,24 +2,24 @@
 use Rattle.std.proofs.Common.{◌≡◌, ℕ, ◌<◌, ◌==◌, ◌||◌, Bool, true, false, if◌then◌else◌, List, [], ◌∷◌, map, refl, sym, ap, ◌∙◌, inl, inr, arith}
 use Rattle.std.proofs.lemmas.Bool.{and_from, and_parts, cases_Bool, eqb-true, ltb-true}
 use Rattle.std.proofs.lemmas.Bool.Decides.{nat_tests}
-use Rattle.nv_words.specs.declared.order.Order.{Order}
+use Rattle.run_definition.specs.declared.order.Order.{Order}
 use Rattle.delay_slots.specs.declared.unit.Unit.{Unit}
-use Rattle.jvm_program.specs.declared.instruction.Instruction.TheVariants.{Call}
-use Rattle.jvm_link.specs.Linking.{gives_int}
-use Rattle.code_steps.specs.declared.step.Step.{Step}
-use Rattle.code_steps.specs.declared.step.Step.TheVariants.{Does, Skips, Leaves, Selects}
-use Rattle.guest_layout.specs.Helpers.{helper_descriptor}
+use Rattle.jvm_definition.specs.declared.instruction.Instruction.TheVariants.{Call}
+use Rattle.class_definition.specs.Linking.{gives_int}
+use Rattle.emit_steps.specs.declared.step.Step.{Step}
+use Rattle.emit_steps.specs.declared.step.Step.TheVariants.{Does, Skips, Leaves, Selects}
+use Rattle.emit_layout.specs.Helpers.{helper_descriptor}
 use Rattle.mem_helpers.specs.Methods.{helper_code}
 use Rattle.word_emitter.specs.declared.extent.Extent.{Extent}
-use Rattle.span_code.specs.declared.span_words.SpanWords.{SpanWords}
-use Rattle.span_code.specs.Pieces.{begins}
-use Rattle.span_code.specs.Parts.{extent, warm_part, cold_part}
-use Rattle.span_code.specs.Laying.{laid_step, targets_of, return_offset}
-use Rattle.span_code.specs.Standing.{laid_part}
-use Rattle.code_paths.specs.Classes.{entries}
-use Rattle.code_paths.specs.Paths.{step_weight, weigh}
-use Rattle.running_laws.specs.SpanCodeLaws.Sites.{called_weight, whole_weight}
-use Rattle.program_classes_laws.specs.Naming.{all_well, step_names_well, is_fault, is_helper}
+use Rattle.emit_spans.specs.declared.span_words.SpanWords.{SpanWords}
+use Rattle.emit_spans.specs.Pieces.{begins}
+use Rattle.emit_spans.specs.Parts.{extent, warm_part, cold_part}
+use Rattle.emit_spans.specs.Laying.{laid_step, targets_of, return_offset}
+use Rattle.emit_spans.specs.Standing.{laid_part}
+use Rattle.emit_paths_laws.specs.Classes.{entries}
+use Rattle.emit_paths_laws.specs.Paths.{step_weight, weigh}
+use Rattle.emit_program_laws.specs.SpanCodeLaws.Sites.{called_weight, whole_weight}
+use Rattle.translate_classes_laws.specs.Naming.{all_well, step_names_well, is_fault, is_helper}
 use Rattle.nv_translate.proofs.WarmTranslations.Staying.{is_other}
 
 helper-none : (m : ℕ) → is_helper m ≡ true → entries is_other (Call m) ≡ 0

@@ -2,18 +2,18 @@
 use Rattle.std.proofs.Common.{◌≡◌, ℕ, ◌+◌, ◌-◌, ◌&&◌, ◌==◌, Bool, true, List, length, Option, Some, None, All, refl, sym, ap, ◌∙◌, arith}
 use Rattle.std.specs.Option.{is_none}
 use Rattle.std.proofs.lemmas.Bool.{and_from, and_parts, true≢false, eqb-true, eq-eqb}
-use Rattle.nv_words.specs.declared.order.Order.{Order}
-use Rattle.mips_decode.specs.State as guest
+use Rattle.run_definition.specs.declared.order.Order.{Order}
+use Rattle.mips_definition.specs.State as guest
 use Rattle.delay_slots.specs.Units.{units_of}
-use Rattle.jvm_program.specs.Program.{Program}
-use Rattle.jvm_program.specs.Step.{State, Frame, placed}
-use Rattle.span_code.specs.Pieces.{begins}
-use Rattle.span_code.specs.Laying.{entry_at}
-use Rattle.running_laws.specs.TrampolineLaws.Classes.{CodeClass, IsClass, AreOrdered, span_words}
-use Rattle.running_laws.specs.TrampolineLaws.Programs.{IsInClass}
-use Rattle.running_laws.specs.Marks.{AtPiece, MarksPieces}
-use Rattle.program_translation.specs.declared.block_info.BlockInfo.{BlockInfo}
-use Rattle.program_translation.specs.declared.layout.Layout.{Layout}
+use Rattle.jvm_definition.specs.Program.{Program}
+use Rattle.jvm_definition.specs.Step.{JvmState, Frame, frame_placed}
+use Rattle.emit_spans.specs.Pieces.{begins}
+use Rattle.emit_spans.specs.Laying.{entry_at}
+use Rattle.emit_program_laws.specs.TrampolineLaws.Classes.{CodeClass, IsClass, AreOrdered, span_words}
+use Rattle.emit_program_laws.specs.TrampolineLaws.Programs.{IsInClass}
+use Rattle.emit_program_laws.specs.Marks.{AtPiece, MarksPieces}
+use Rattle.translate_program.specs.declared.block_info.BlockInfo.{BlockInfo}
+use Rattle.translate_program.specs.declared.layout.Layout.{Layout}
 use Rattle.nv_translate.specs.Warm.{IsPieceOf, AtBlock}
 use Rattle.nv_translate.proofs.WarmTranslations.Spans.{IsWordOf, words-same, word-from, word-to}
 
@@ -60,7 +60,7 @@ module _ (classes : List CodeClass) (are : All IsClass classes) (ordered : AreOr
   -- the piece at which the classes stand is the block's
   module _ (from : b.from ≡ entry_at (units_of p.class.words) p.class.leads (span_words p.class p.span) p.word) (program : Program) (words : ℕ)
       (order : Order)
-      (choose : ℕ) (code : ℕ → Option ℕ) (t : guest.State) (y : State) where
+      (choose : ℕ) (code : ℕ → Option ℕ) (t : guest.State) (y : JvmState) where
     pub at-block : AtPiece program words order classes choose code t y → t.pc ≡ b.first
         → (others : List Frame) × AtBlock program order code words p others t y
     at-block at pc =
@@ -81,10 +81,10 @@ module _ (classes : List CodeClass) (are : All IsClass classes) (ordered : AreOr
             };
             is_there =
                 s.is_there
-                ∙ (λ i. placed ((same.classes_are i).first_method + same.spans i)
+                ∙ (λ i. frame_placed ((same.classes_are i).first_method + same.spans i)
                 (entry_at (units_of (same.classes_are i).words) (same.classes_are i).leads (span_words (same.classes_are i) (same.spans i))
                 (same.words_are i))
                 s.workspace s.others)
-                ∙ ap (λ at_offset. placed (p.class.first_method + p.span) at_offset s.workspace s.others) (sym from);
+                ∙ ap (λ at_offset. frame_placed (p.class.first_method + p.span) at_offset s.workspace s.others) (sym from);
           },
         )

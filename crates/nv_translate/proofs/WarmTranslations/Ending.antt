@@ -1,15 +1,15 @@
 -- The last turn of units ends the guest's run, where it ends it, in a fault.
 use Rattle.std.proofs.Common.{ℕ, ◌==◌, Bool, true, false, if◌then◌else◌, List, [], ◌∷◌, Option, Some, None}
-use Rattle.nv_events.specs.Turn.{Turn, moves, ends, leaves, asks}
-use Rattle.mips_decode.specs.State.{State, register}
-use Rattle.mips_decode.specs.Effect.{Effect, goes_on, branches, skips_slot, faults, calls, fetch_fault, branch_in_slot_fault}
+use Rattle.run_definition.specs.Turn.{Turn, moves, ends, leaves, asks}
+use Rattle.mips_definition.specs.State.{State, register}
+use Rattle.mips_definition.specs.Effect.{Effect, goes_on, branches, skips_slot, faults, calls, fetch_fault, branch_in_slot_fault}
 use Rattle.mips_decode.specs.Encoding.{word_of}
-use Rattle.mips_decode.specs.Step.{effect, faulted, called}
-use Rattle.mips_decode.specs.declared.inst.Inst.{Inst}
+use Rattle.mips_definition.specs.Step.{effect, faulted, called}
+use Rattle.mips_definition.specs.declared.inst.Inst.{Inst}
 use Rattle.delay_slots.specs.declared.unit.Unit.{Unit}
 use Rattle.delay_slots.specs.declared.unit.Unit.TheVariants.{Plain, Branch, SlotMissing, SlotIsBranch, Call, Trap}
 use Rattle.delay_slots.specs.Turns.{one_turn, two_turns, done, done_by, last_turn, then_slot, turn_count, unit_turns}
-use Rattle.running_laws.specs.SpanCodeLaws.Pieces.{piece_turns, then_turns}
+use Rattle.emit_program_laws.specs.SpanCodeLaws.Pieces.{piece_turns, then_turns}
 use Rattle.nv_translate.proofs.WarmTranslations.Alone.{EndsPlainly}
 
 either : (b : Bool) (x y : Turn State) → EndsPlainly x → EndsPlainly y → EndsPlainly (if b then x else y)

@@ -3,10 +3,10 @@ use Rattle.std.proofs.Common.{◌≡◌, ℕ, suc, ◌<◌, Bool, List, [], ◌�
 use Rattle.std.specs.List.{AllZip}
 use Rattle.delay_slots.specs.Units.{units_of}
 use Rattle.block_builder.specs.Leaders.{is_leader}
-use Rattle.elf_image.specs.Start.{Source, image_of}
-use Rattle.running_laws.specs.TrampolineLaws.Classes.{CodeClass}
-use Rattle.program_translation.specs.Places.{places_of}
-use Rattle.program_translation.specs.Classes.{Placed, AreCodeClasses, IsPlaced}
+use Rattle.elf_definition.specs.Start.{Source, image_of}
+use Rattle.emit_program_laws.specs.TrampolineLaws.Classes.{CodeClass}
+use Rattle.translate_program.specs.Places.{places_of}
+use Rattle.translate_program.specs.Classes.{Placed, AreCodeClasses, IsPlaced}
 use Rattle.nv_translate.specs.Standing.{IsClassOf}
 use Rattle.nv_translate.proofs.LinkedTranslations.Lists.{zip-second}
 

@@ -1,18 +1,18 @@
 -- The lines of the methods of spans follow each other.
 use Rattle.std.proofs.Common.{◌≡◌, ℕ, ◌+◌, ◌<◌, List, [], ◌∷◌, length, slice_get, Some, refl, sym, ap, subst, ◌∙◌, arith}
 use Rattle.std.specs.List.{AllZip}
-use Rattle.jvm_program.specs.declared.linked_method.LinkedMethod.{LinkedMethod}
-use Rattle.jvm_program.specs.Program.{Program, LaidFrom}
-use Rattle.code_steps.specs.declared.step.Step.{Step}
-use Rattle.code_steps.specs.Widths.{width}
-use Rattle.code_steps.specs.Placing.{laid}
-use Rattle.code_steps.proofs.WidthLemmas.{width-some}
-use Rattle.running_laws.specs.TrampolineLaws.Classes.{CodeClass}
-use Rattle.program_classes.specs.Making.{Plan}
-use Rattle.program_classes.specs.Code.{span_plan, span_plans, run_plan}
-use Rattle.program_translation.specs.declared.block_info.BlockInfo.{BlockInfo}
-use Rattle.program_translation.specs.declared.layout.Layout.{Layout}
-use Rattle.program_translation.specs.Classes.{Placed}
+use Rattle.jvm_definition.specs.declared.linked_method.LinkedMethod.{LinkedMethod}
+use Rattle.jvm_definition.specs.Program.{Program, LaidFrom}
+use Rattle.emit_steps.specs.declared.step.Step.{Step}
+use Rattle.emit_steps.specs.Widths.{width}
+use Rattle.emit_steps.specs.Placing.{laid}
+use Rattle.emit_steps.proofs.WidthLemmas.{width-some}
+use Rattle.emit_program_laws.specs.TrampolineLaws.Classes.{CodeClass}
+use Rattle.translate_classes.specs.Making.{Plan}
+use Rattle.translate_classes.specs.Code.{span_plan, span_plans, run_plan}
+use Rattle.translate_program.specs.declared.block_info.BlockInfo.{BlockInfo}
+use Rattle.translate_program.specs.declared.layout.Layout.{Layout}
+use Rattle.translate_program.specs.Classes.{Placed}
 use Rattle.nv_translate.specs.Linked.{HasCodeClass, IsPlanned}
 use Rattle.nv_translate.specs.Standing.{IsClassOf}
 use Rattle.nv_translate.specs.Warm.{IsPieceOf, method_of}

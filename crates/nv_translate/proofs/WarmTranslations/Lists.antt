@@ -3,8 +3,8 @@ use Rattle.std.proofs.Common.{◌≡◌, ℕ, zero, suc, ◌+◌, ◌*◌, ◌<�
 use Rattle.std.specs.Prelude.{filter}
 use Rattle.std.specs.List.{flat_map, range_with_len}
 use Rattle.std.proofs.lemmas.Bool.{cases_Bool}
-use Rattle.run_laws.specs.Places.{Rises}
-use Rattle.run_laws.proofs.Places.{rises_from, rises_join}
+use Rattle.run_simulation_laws.specs.Places.{Rises}
+use Rattle.run_simulation_laws.proofs.Places.{rises_from, rises_join}
 
 -- ---- elements
 

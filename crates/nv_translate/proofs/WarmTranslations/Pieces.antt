@@ -3,16 +3,16 @@ use Rattle.std.proofs.Common.{◌≡◌, ℕ, ◌+◌, ◌<◌, ◌≤◌, ◌&&
 use Rattle.std.specs.List.{AllZip}
 use Rattle.std.proofs.lemmas.Bool.{and_parts, true≢false}
 use Rattle.delay_slots.specs.Units.{units_of}
-use Rattle.guest_layout.specs.Numbers.{main_methods}
-use Rattle.span_code.specs.Pieces.{begins, flagged, piece_words}
-use Rattle.span_code.specs.Laying.{stretch_at}
-use Rattle.running_laws.specs.TrampolineLaws.Classes.{CodeClass, span_words}
-use Rattle.program_classes.specs.Blocks.{is_slot, piece_of}
-use Rattle.program_translation.specs.declared.block_info.BlockInfo.{BlockInfo}
-use Rattle.program_translation.specs.declared.layout.Layout.{Layout}
-use Rattle.program_translation.specs.declared.span_info.SpanInfo.{SpanInfo}
-use Rattle.program_translation.specs.Classes.{Placed, Follow, spans_of}
-use Rattle.program_translation.specs.Blocks.{block_of, blocks_of}
+use Rattle.emit_layout.specs.Numbers.{main_methods}
+use Rattle.emit_spans.specs.Pieces.{begins, flagged, piece_words}
+use Rattle.emit_spans.specs.Laying.{stretch_at}
+use Rattle.emit_program_laws.specs.TrampolineLaws.Classes.{CodeClass, span_words}
+use Rattle.translate_classes.specs.Blocks.{is_slot, piece_of}
+use Rattle.translate_program.specs.declared.block_info.BlockInfo.{BlockInfo}
+use Rattle.translate_program.specs.declared.layout.Layout.{Layout}
+use Rattle.translate_program.specs.declared.span_info.SpanInfo.{SpanInfo}
+use Rattle.translate_program.specs.Classes.{Placed, Follow, spans_of}
+use Rattle.translate_program.specs.Blocks.{block_of, blocks_of}
 use Rattle.nv_translate.specs.Standing.{class_of, IsClassOf}
 use Rattle.nv_translate.specs.Warm.{told_span, IsPieceOf, HasBlock}
 use Rattle.nv_translate.proofs.LinkedTranslations.Lists.{zip-first, zip-second}

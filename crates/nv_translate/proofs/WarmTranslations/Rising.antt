@@ -6,18 +6,18 @@ use Rattle.std.proofs.lemmas.List.{map-append}
 use Rattle.std.proofs.lemmas.List.Elements.{All-head, All-tail}
 use Rattle.std.proofs.lemmas.Option.{slice_get-map}
 use Rattle.std.proofs.lemmas.Simd.{map-map}
-use Rattle.run_laws.specs.Places.{Rises}
-use Rattle.run_laws.proofs.Places.{rises_from, rises_join}
-use Rattle.span_code.specs.Pieces.{all_words}
-use Rattle.running_laws.specs.TrampolineLaws.Classes.{CodeClass, IsClass, AreOrdered, address, end_of, span_at}
-use Rattle.running_laws.proofs.TrampolineLaws.Spans.{joined-at, joined-apart}
-use Rattle.running_laws.proofs.TrampolineLaws.Words.{end-low}
-use Rattle.running_laws.proofs.TrampolineLaws.Order.{behind, ordered-rest}
-use Rattle.program_classes.specs.declared.piece.Piece.{Piece}
-use Rattle.program_classes.specs.Blocks.{span_words, piece_of, pieces_of_span}
-use Rattle.program_translation.specs.declared.block_info.BlockInfo.{BlockInfo}
-use Rattle.program_translation.specs.Classes.{Placed}
-use Rattle.program_translation.specs.Blocks.{block_of, blocks_of_class, blocks_of}
+use Rattle.run_simulation_laws.specs.Places.{Rises}
+use Rattle.run_simulation_laws.proofs.Places.{rises_from, rises_join}
+use Rattle.emit_spans.specs.Pieces.{all_words}
+use Rattle.emit_program_laws.specs.TrampolineLaws.Classes.{CodeClass, IsClass, AreOrdered, address, end_of, span_at}
+use Rattle.emit_program_laws.proofs.TrampolineLaws.Spans.{joined-at, joined-apart}
+use Rattle.emit_program_laws.proofs.TrampolineLaws.Words.{end-low}
+use Rattle.emit_program_laws.proofs.TrampolineLaws.Order.{behind, ordered-rest}
+use Rattle.translate_classes.specs.declared.piece.Piece.{Piece}
+use Rattle.translate_classes.specs.Blocks.{span_words, piece_of, pieces_of_span}
+use Rattle.translate_program.specs.declared.block_info.BlockInfo.{BlockInfo}
+use Rattle.translate_program.specs.Classes.{Placed}
+use Rattle.translate_program.specs.Blocks.{block_of, blocks_of_class, blocks_of}
 use Rattle.nv_translate.specs.Standing.{class_of, IsClassOf}
 use Rattle.nv_translate.proofs.WarmTranslations.Lists.{counted-rise, flat-rises, rises-less}
 use Rattle.nv_translate.proofs.WarmTranslations.Blocks.{words_of}

@@ -1,37 +1,37 @@
 -- What runs of a block is the code of its piece.
 use Rattle.std.proofs.Common.{◌≡◌, ℕ, ◌+◌, ◌*◌, ◌^◌, ◌<◌, ◌≤◌, false, inl, inr, List, [], length, slice_get, Option, Some, sym, ap, subst, ◌∙◌, arith}
 use Rattle.std.proofs.lemmas.Bool.{true≢false}
-use Rattle.nv_words.specs.declared.order.Order.{Order}
-use Rattle.nv_events.specs.Turn.{Turn, moves, ends as ends_so, leaves, asks}
-use Rattle.mips_decode.specs.State as guest
+use Rattle.run_definition.specs.declared.order.Order.{Order}
+use Rattle.run_definition.specs.Turn.{Turn, moves, ends as ends_so, leaves, asks}
+use Rattle.mips_definition.specs.State as guest
 use Rattle.delay_slots.specs.Units.{units_of}
 use Rattle.delay_slots.specs.Turns.{HasRange, IsBetweenUnits, LeadsOn}
-use Rattle.jvm_program.specs.declared.value.Value.TheVariants.{Int as int}
-use Rattle.jvm_program.specs.declared.linked_method.LinkedMethod.{LinkedMethod}
-use Rattle.jvm_program.specs.Program.{Program, LaidFrom}
-use Rattle.jvm_program.specs.Effect.{Workspace}
-use Rattle.jvm_program.specs.Step.{State, Frame, placed}
-use Rattle.code_steps.specs.Widths.{size}
-use Rattle.guest_layout.specs.FieldNumbers.{pc_field}
-use Rattle.span_code.specs.declared.span_words.SpanWords.{SpanWords}
-use Rattle.span_code.specs.Neighbours.{address}
-use Rattle.span_code.specs.Laying.{entry_at, stretch_at}
-use Rattle.code_paths.specs.Classes.{entries}
-use Rattle.running_laws.specs.SpanCodeLaws.Sites.{stands, whole_weight}
-use Rattle.running_laws.specs.SpanCodeLaws.Instructions.{IsReady}
-use Rattle.running_laws.specs.SpanCodeLaws.Pieces.{piece_turns}
-use Rattle.running_laws.specs.SpanCodeLaws.Entering.{IsEntered}
-use Rattle.running_laws.specs.SpanCodeLaws.Made.{AreTurns}
-use Rattle.running_laws.specs.SpanCodeLaws.Registers.{LinesTouchRegistersOnce, lines_between}
-use Rattle.running_laws.specs.SpanCodeLaws.Resuming.{FollowsInSpan, IsOutside, StandsAtWord, jumps_by_register}
-use Rattle.running_laws.specs.SpanCodeLaws.Spans.{HasSpan, StandsAt}
-use Rattle.running_laws.specs.TrampolineLaws.Classes.{CodeClass, HasClass, IsClass, span_words}
-use Rattle.running_laws.specs.TrampolineLaws.Programs.{IsTranslated}
-use Rattle.running_laws.proofs.TrampolineLaws.Elements.{all-at}
-use Rattle.running_laws.proofs.TrampolineLaws.Words.{span-end}
-use Rattle.running_laws.specs.Standing.{IsGuest}
-use Rattle.program_translation.specs.declared.block_info.BlockInfo.{BlockInfo}
-use Rattle.program_translation.specs.declared.layout.Layout.{Layout}
+use Rattle.jvm_definition.specs.declared.value.Value.TheVariants.{Int as int}
+use Rattle.jvm_definition.specs.declared.linked_method.LinkedMethod.{LinkedMethod}
+use Rattle.jvm_definition.specs.Program.{Program, LaidFrom}
+use Rattle.jvm_definition.specs.Effect.{Workspace}
+use Rattle.jvm_definition.specs.Step.{JvmState, Frame, frame_placed}
+use Rattle.emit_steps.specs.Widths.{size}
+use Rattle.emit_layout.specs.FieldNumbers.{pc_field}
+use Rattle.emit_spans.specs.declared.span_words.SpanWords.{SpanWords}
+use Rattle.emit_spans.specs.Neighbours.{address}
+use Rattle.emit_spans.specs.Laying.{entry_at, stretch_at}
+use Rattle.emit_paths_laws.specs.Classes.{entries}
+use Rattle.emit_program_laws.specs.SpanCodeLaws.Sites.{stands, whole_weight}
+use Rattle.emit_program_laws.specs.SpanCodeLaws.Instructions.{IsReady}
+use Rattle.emit_program_laws.specs.SpanCodeLaws.Pieces.{piece_turns}
+use Rattle.emit_program_laws.specs.SpanCodeLaws.Entering.{IsEntered}
+use Rattle.emit_program_laws.specs.SpanCodeLaws.Made.{AreTurns}
+use Rattle.emit_program_laws.specs.SpanCodeLaws.Registers.{LinesTouchRegistersOnce, lines_between}
+use Rattle.emit_program_laws.specs.SpanCodeLaws.Resuming.{FollowsInSpan, IsOutside, StandsAtWord, jumps_by_register}
+use Rattle.emit_program_laws.specs.SpanCodeLaws.Spans.{HasSpan, StandsAt}
+use Rattle.emit_program_laws.specs.TrampolineLaws.Classes.{CodeClass, HasClass, IsClass, span_words}
+use Rattle.emit_program_laws.specs.TrampolineLaws.Programs.{IsTranslated}
+use Rattle.emit_program_laws.proofs.TrampolineLaws.Elements.{all-at}
+use Rattle.emit_program_laws.proofs.TrampolineLaws.Words.{span-end}
+use Rattle.emit_program_laws.specs.Standing.{IsGuest}
+use Rattle.translate_program.specs.declared.block_info.BlockInfo.{BlockInfo}
+use Rattle.translate_program.specs.declared.layout.Layout.{Layout}
 use Rattle.nv_translate.specs.Warm.{IsPieceOf, AtBlock, Follows, GoesOn, IsAlone, RunsWarm, code_of, last_unit, method_of, own_units, site_of, span_of, LeavesGuest, Matches}
 use Rattle.nv_translate.proofs.WarmTranslations.Given.{WarmLaws}
 use Rattle.nv_translate.proofs.WarmTranslations.Calling.{part-none}
@@ -156,7 +156,7 @@ module _ (laws : WarmLaws) (program : Program) (order : Order) (choose missing :
         part-none laws.helpers_call order 0 false (units_of p.class.words) p.class.leads (span_of p) p.word p.begin
         (laws.pieces_call 0 p.word (units_of p.class.words) p.class.leads (span_of p) (laws.lawful p.class.words is.are_words is.no_float))
 
-    resumed-stands : (words : ℕ) (others : List Frame) (y : State) (t : guest.State) → GoesOn program words p others y t
+    resumed-stands : (words : ℕ) (others : List Frame) (y : JvmState) (t : guest.State) → GoesOn program words p others y t
         → (at : ℕ) × (v : Workspace) × (y ≡ stands (site_of program words p others) at v)
     resumed-stands words others y t (inl s) = (s.at, s.workspace, s.is_there)
     resumed-stands words others y t (inr s) = (s.at, s.workspace, s.is_there)
@@ -187,7 +187,7 @@ module _ (laws : WarmLaws) (program : Program) (order : Order) (choose missing :
 
   module _ (b d : BlockInfo) (p : IsPieceOf classes layout b) (q : IsPieceOf classes layout d) (same : b.span ≡ d.span) (words : ℕ)
       (others : List Frame)
-      (y : State) (t : guest.State) (pc : t.pc ≡ d.first) (is_guest : IsGuest order code t) (small : length others ≤ 31) where
+      (y : JvmState) (t : guest.State) (pc : t.pc ≡ d.first) (is_guest : IsGuest order code t) (small : length others ≤ 31) where
     starts : p.class.start ≡ q.class.start
     starts = ap (λ (c : CodeClass). c.start) (one-span classes layout b d p q same).classes_are
 
@@ -220,7 +220,7 @@ module _ (laws : WarmLaws) (program : Program) (order : Order) (choose missing :
         record {
           workspace = s.workspace;
           matches = record { guest_is = is_guest; pc = pc; rests = s.rests; few = small };
-          is_there = s.is_there ∙ (λ i. placed (methods-same i) (entry i) s.workspace others);
+          is_there = s.is_there ∙ (λ i. frame_placed (methods-same i) (entry i) s.workspace others);
         }
 
     block-goes-on : GoesOn program words p others y t → jumps_by_register (last_unit p) ≡ false → AtBlock program order code words q others t y

@@ -1,12 +1,12 @@
 -- Words of a program's classes are told by their addresses.
 use Rattle.std.proofs.Common.{◌≡◌, ℕ, ◌+◌, ◌*◌, ◌<◌, ◌≤◌, inl, inr, List, length, slice_get, Some, All, sym, ap, subst, ◌∙◌, arith}
 use Rattle.std.proofs.lemmas.Bool.{cases_lt}
-use Rattle.span_code.specs.Neighbours as words
-use Rattle.running_laws.specs.TrampolineLaws.Classes.{CodeClass, IsClass, AreOrdered, span_words}
-use Rattle.running_laws.proofs.TrampolineLaws.Elements.{all-at}
-use Rattle.running_laws.proofs.TrampolineLaws.Spans.{joined-apart}
-use Rattle.running_laws.proofs.TrampolineLaws.Words.{span-in}
-use Rattle.running_laws.proofs.TrampolineLaws.Order.{classes-apart}
+use Rattle.emit_spans.specs.Neighbours as words
+use Rattle.emit_program_laws.specs.TrampolineLaws.Classes.{CodeClass, IsClass, AreOrdered, span_words}
+use Rattle.emit_program_laws.proofs.TrampolineLaws.Elements.{all-at}
+use Rattle.emit_program_laws.proofs.TrampolineLaws.Spans.{joined-apart}
+use Rattle.emit_program_laws.proofs.TrampolineLaws.Words.{span-in}
+use Rattle.emit_program_laws.proofs.TrampolineLaws.Order.{classes-apart}
 
 -- a word of a span of a class
 pub record IsWordOf (classes : List CodeClass) (n : ℕ) (c : CodeClass) (j k : ℕ) : Type 0 where

@@ -1,29 +1,29 @@
 -- A linked translation is warm.
 use Rattle.std.proofs.Common.{◌≡◌, ℕ, ◌+◌, ◌*◌, ◌≤◌, true, false, List, None, All, ap, subst, arith}
-use Rattle.nv_events.specs.Answer.{Answer, next_answer}
-use Rattle.nv_events.specs.Memory.{Memory}
-use Rattle.nv_events.specs.Run.{Run, run_of}
-use Rattle.nv_events.specs.declared.outcome.Outcome.TheVariants.{Going}
-use Rattle.command_values.specs.Names.{Text}
-use Rattle.run_laws.specs.Runs.{ComesBy}
-use Rattle.mips_decode.specs.State as guest
-use Rattle.mips_decode.specs.Step as guest_step
-use Rattle.elf_image.specs.Start.{Source, image_of, readable, writable}
-use Rattle.image_parts.specs.Pages.{page_words}
-use Rattle.jvm_program.specs.Program.{Program}
-use Rattle.jvm_program.specs.Step.{State, Frame, start, turn}
-use Rattle.jvm_link.specs.Linking.{program_of}
-use Rattle.guest_layout.specs.Numbers.{choose_number, missing_number}
-use Rattle.running_laws.specs.LoadingCodeLaws.Loaded.{paged}
-use Rattle.running_laws.specs.TrampolineLaws.Classes.{CodeClass, HasClass, IsClass}
-use Rattle.running_laws.proofs.TrampolineLaws.Elements.{all-at}
-use Rattle.running_laws.specs.Alike.{TranslatedProgramsComeToMarks}
-use Rattle.running_laws.specs.Marks.{AtPiece}
-use Rattle.running_laws.specs.Translated as runs
-use Rattle.running_laws.specs.Translated.{TranslatedProgram, LoadsWithin}
-use Rattle.program_translation.specs.declared.block_info.BlockInfo.{BlockInfo}
-use Rattle.program_translation.specs.declared.built.Built.{Built}
-use Rattle.program_translation.specs.Bounds.{allow, need}
+use Rattle.run_definition.specs.Answer.{Answer, next_answer}
+use Rattle.run_definition.specs.Memory.{Memory}
+use Rattle.run_definition.specs.Run.{Run, run_of}
+use Rattle.run_definition.specs.declared.outcome.Outcome.TheVariants.{Going}
+use Rattle.nv_values.specs.Names.{Text}
+use Rattle.run_simulation_laws.specs.Runs.{ComesBy}
+use Rattle.mips_definition.specs.State as guest
+use Rattle.mips_definition.specs.Step as guest_step
+use Rattle.elf_definition.specs.Start.{Source, image_of, readable, writable}
+use Rattle.elf_image_parts.specs.Pages.{page_words}
+use Rattle.jvm_definition.specs.Program.{Program}
+use Rattle.jvm_definition.specs.Step.{JvmState, Frame, jvm_start, jvm_turn}
+use Rattle.class_definition.specs.Linking.{program_of}
+use Rattle.emit_layout.specs.Numbers.{choose_number, missing_number}
+use Rattle.emit_program_laws.specs.LoadingCodeLaws.Loaded.{paged}
+use Rattle.emit_program_laws.specs.TrampolineLaws.Classes.{CodeClass, HasClass, IsClass}
+use Rattle.emit_program_laws.proofs.TrampolineLaws.Elements.{all-at}
+use Rattle.emit_program_laws.specs.Alike.{TranslatedProgramsComeToMarks}
+use Rattle.emit_program_laws.specs.Marks.{AtPiece}
+use Rattle.emit_program_laws.specs.Translated as runs
+use Rattle.emit_program_laws.specs.Translated.{TranslatedProgram, LoadsWithin}
+use Rattle.translate_program.specs.declared.block_info.BlockInfo.{BlockInfo}
+use Rattle.translate_program.specs.declared.built.Built.{Built}
+use Rattle.translate_program.specs.Bounds.{allow, need}
 use Rattle.nv_translate.specs.Linked.{IsLinked}
 use Rattle.nv_translate.specs.Images.{IsImage}
 use Rattle.nv_translate.specs.Loading.{LoadsSource}
@@ -71,10 +71,10 @@ module _ (laws : WarmLaws) (marks-law : TranslatedProgramsComeToMarks) (source :
     runs-same : runs.guest_run t n answers ≡ guest_run source n answers
     runs-same = ap (λ memory. run_of guest_step.turn next_answer n (starts memory) answers) same
 
-    abbrev Comes : (State → Type 0) → Run guest.State (List Answer) → Type 0
-    Comes At run = ComesBy (turn program words) next_answer (allow (image_of source).mapped (n + 1)) At run.questions (start program) answers
+    abbrev Comes : (JvmState → Type 0) → Run guest.State (List Answer) → Type 0
+    Comes At run = ComesBy (jvm_turn program words) next_answer (allow (image_of source).mapped (n + 1)) At run.questions (jvm_start program) answers
 
-    abbrev Piece : Run guest.State (List Answer) → State → Type 0
+    abbrev Piece : Run guest.State (List Answer) → JvmState → Type 0
     Piece run y = AtPiece program words (image_of source).order classes choose_number (image_of source).code run.last y
 
     comes-to-piece : (run : Run guest.State (List Answer)) → runs.guest_run t n answers ≡ run → run.outcome ≡ Going → marks_block b run.last ≡ true
@@ -104,7 +104,7 @@ module _ (laws : WarmLaws) (marks-law : TranslatedProgramsComeToMarks) (source :
           goes = comes.goes;
           stands =
               at-block classes are stands.translated.ordered built.layout b p from program words (image_of source).order choose_number (image_of source).code run.last
-              (run_of (turn program words) next_answer comes.turns (start program) answers).last comes.stands at;
+              (run_of (jvm_turn program words) next_answer comes.turns (jvm_start program) answers).last comes.stands at;
         }
 
   -- ---- all of it

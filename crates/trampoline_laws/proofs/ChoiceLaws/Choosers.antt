@@ -1,22 +1,22 @@
 -- The methods that choose.
 use Rattle.std.proofs.Common.{◌≡◌, ℕ, ◌+◌, ◌%◌, ◌^◌, ◌==◌, ◌<◌, ◌≤◌, not, Bool, true, false, if◌then◌else◌, inl, inr, List, [], ◌∷◌, ◌++◌, length, None, refl, ap, ◌∙◌, sym, arith}
 use Rattle.std.proofs.lemmas.Bool.{lt-ltb, le-ltb, cases_lt, ltb-false, ltb-true, eqb-true, eq-eqb}
-use Rattle.nv_words.specs.Words.{IsWord}
-use Rattle.mips_decode.specs.Effect.{fetch_fault, pc_align_fault}
-use Rattle.jvm_names.specs.declared.branch_name.BranchName.TheVariants.{Goto}
-use Rattle.jvm_program.specs.declared.value.Value.TheVariants.{Int as int}
-use Rattle.jvm_program.specs.declared.local_kind.LocalKind.TheVariants as local_kinds
-use Rattle.jvm_program.specs.declared.instruction.Instruction.TheVariants.{Store, Call, FaultHost}
-use Rattle.jvm_program.specs.Program.{Program}
-use Rattle.jvm_program.specs.Effect.{Workspace, with_operands, pushes, gives, faults, enters}
-use Rattle.code_steps.specs.declared.step.Step.{Step}
-use Rattle.code_steps.specs.declared.step.Step.TheVariants.{Does, Skips, Leaves}
-use Rattle.code_steps.specs.Outcomes.{Outcome, stopped, beyond, after_instruction, outcome, outcome_from}
-use Rattle.guest_layout.specs.FieldNumbers.{pc_field}
-use Rattle.guest_code.specs.Access.{push_word}
+use Rattle.run_definition.specs.Words.{IsWord}
+use Rattle.mips_definition.specs.Effect.{fetch_fault, pc_align_fault}
+use Rattle.jvm_definition.specs.declared.branch_name.BranchName.TheVariants.{Goto}
+use Rattle.jvm_definition.specs.declared.value.Value.TheVariants.{Int as int}
+use Rattle.jvm_definition.specs.declared.local_kind.LocalKind.TheVariants as local_kinds
+use Rattle.jvm_definition.specs.declared.instruction.Instruction.TheVariants.{Store, Call, FaultHost}
+use Rattle.jvm_definition.specs.Program.{Program}
+use Rattle.jvm_definition.specs.Effect.{Workspace, with_operands, pushes, gives, faults, enters}
+use Rattle.emit_steps.specs.declared.step.Step.{Step}
+use Rattle.emit_steps.specs.declared.step.Step.TheVariants.{Does, Skips, Leaves}
+use Rattle.emit_steps.specs.Outcomes.{Outcome, stopped, beyond, after_instruction, outcome, outcome_from}
+use Rattle.emit_layout.specs.FieldNumbers.{pc_field}
+use Rattle.emit_instructions.specs.Access.{push_word}
 use Rattle.trampoline.specs.declared.start.Start.{Start}
 use Rattle.trampoline.specs.Trees.{reached_code, first_of, tree}
-use Rattle.code_steps.specs.Returning.{returns}
+use Rattle.emit_steps.specs.Returning.{returns}
 use Rattle.trampoline.specs.Choosers.{load_address, address_code, unaligned_code, below_code, chosen_code, class_chooser, main_chooser, missing_code}
 use Rattle.trampoline_laws.specs.Choosing.{is_below, chosen, Rise, IsMethod, AreMethods, IsWithin, IsReached}
 use Rattle.trampoline_laws.specs.Coming.{Stops, Calls, begins_anew, with_address, stray_fault, with_stray}

@@ -1,6 +1,6 @@
 -- The method that belongs to an address, by halves of the starts.
 use Rattle.std.proofs.Common.{◌≡◌, ℕ, suc, ◌≤◌, true, false, if◌then◌else◌, List, [], ◌∷◌, ◌++◌, length, refl, ap, ◌∙◌, arith}
-use Rattle.nv_words.specs.Words.{IsWord}
+use Rattle.run_definition.specs.Words.{IsWord}
 use Rattle.trampoline.specs.declared.start.Start.{Start}
 use Rattle.trampoline.specs.Trees.{first_of}
 use Rattle.trampoline_laws.specs.Choosing.{is_below, chosen_from, chosen, RiseFrom}

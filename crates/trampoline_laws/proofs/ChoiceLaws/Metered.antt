@@ -1,17 +1,17 @@
 -- The method for addresses outside all code, in a program with a meter.
 use Rattle.std.proofs.Common.{◌≡◌, ℕ, ◌^◌, ◌<◌, ◌≤◌, int_lt, not, Bool, true, List, ◌∷◌, ap, ◌∙◌, arith, lit≤}
 use Rattle.std.proofs.lemmas.Int.{ints}
-use Rattle.nv_words.specs.Words.{signed_of}
-use Rattle.jvm_names.specs.declared.branch_name.BranchName.TheVariants.{IfIcmpge}
-use Rattle.jvm_program.specs.declared.value.Value.TheVariants.{Int as int}
-use Rattle.jvm_program.specs.declared.instruction.Instruction.TheVariants.{FaultHost}
-use Rattle.jvm_program.specs.Program.{Program}
-use Rattle.jvm_program.specs.Effect.{Workspace, with_operands, faults, chooses}
-use Rattle.code_steps.specs.declared.step.Step.{Step}
-use Rattle.code_steps.specs.declared.step.Step.TheVariants.{Does, Skips}
-use Rattle.code_steps.specs.Outcomes.{Outcome, stopped, later, after_branch, outcome, outcome_from}
-use Rattle.guest_layout.specs.FieldNumbers.{pc_field}
-use Rattle.guest_code.specs.Access.{push_word, get_field}
+use Rattle.run_definition.specs.Words.{signed_of}
+use Rattle.jvm_definition.specs.declared.branch_name.BranchName.TheVariants.{IfIcmpge}
+use Rattle.jvm_definition.specs.declared.value.Value.TheVariants.{Int as int}
+use Rattle.jvm_definition.specs.declared.instruction.Instruction.TheVariants.{FaultHost}
+use Rattle.jvm_definition.specs.Program.{Program}
+use Rattle.jvm_definition.specs.Effect.{Workspace, with_operands, faults, chooses}
+use Rattle.emit_steps.specs.declared.step.Step.{Step}
+use Rattle.emit_steps.specs.declared.step.Step.TheVariants.{Does, Skips}
+use Rattle.emit_steps.specs.Outcomes.{Outcome, stopped, later, after_branch, outcome, outcome_from}
+use Rattle.emit_layout.specs.FieldNumbers.{pc_field}
+use Rattle.emit_instructions.specs.Access.{push_word, get_field}
 use Rattle.meter.specs.Guards.{spent_kind}
 use Rattle.meter_laws.specs.Meters.{HasLeft, spent_fault}
 use Rattle.trampoline.specs.Choosers.{missing_code, metered_missing_code}

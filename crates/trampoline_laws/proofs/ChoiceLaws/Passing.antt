@@ -1,9 +1,9 @@
 -- Code behind steps that are passed over.
 use Rattle.std.proofs.Common.{◌≡◌, ℕ, zero, suc, List, [], ◌∷◌, ◌++◌, length, slice_get, refl, ap, ◌∙◌}
-use Rattle.jvm_program.specs.Program.{Program}
-use Rattle.jvm_program.specs.Effect.{Workspace, Effect}
-use Rattle.code_steps.specs.declared.step.Step.{Step}
-use Rattle.code_steps.specs.Outcomes.{Outcome, stopped, beyond, later, outcome, outcome_from}
+use Rattle.jvm_definition.specs.Program.{Program}
+use Rattle.jvm_definition.specs.Effect.{Workspace, InstructionEffect}
+use Rattle.emit_steps.specs.declared.step.Step.{Step}
+use Rattle.emit_steps.specs.Outcomes.{Outcome, stopped, beyond, later, outcome, outcome_from}
 
 -- the number of a step behind others
 abbrev pub past : List Step → ℕ → ℕ
@@ -33,7 +33,7 @@ pub get-past : (first second : List Step) (i : ℕ) → slice_get (first ++ seco
 get-past [] second i = refl
 get-past (s ∷ first) second i = get-past first second i
 
-pub stops-past : (program : Program) (words n i : ℕ) (first second : List Step) (w v : Workspace) (e : Effect) → outcome program words second w ≡ stopped n i v e → outcome_from program words (first ++ second) (length first) w ≡ stopped n (past first i) v e
+pub stops-past : (program : Program) (words n i : ℕ) (first second : List Step) (w v : Workspace) (e : InstructionEffect) → outcome program words second w ≡ stopped n i v e → outcome_from program words (first ++ second) (length first) w ≡ stopped n (past first i) v e
 stops-past program words n i [] second w v e is = is
 stops-past program words n i (s ∷ first) second w v e is = ap beyond (stops-past program words n i first second w v e is)
 

@@ -3,28 +3,28 @@ use Rattle.std.proofs.Common.{◌≡◌, ℕ, ◌%◌, ◌^◌, ◌==◌, ◌<�
 use Rattle.std.proofs.lemmas.Bool.{lt-ltb, cases_lt, ltb-true}
 use Rattle.std.proofs.lemmas.Nat.{and_mask}
 use Rattle.std.proofs.lemmas.Int.{ints}
-use Rattle.nv_words.specs.Words.{IsWord, signed_of}
-use Rattle.jvm_names.specs.declared.branch_name.BranchName.TheVariants.{Ifne, IfIcmpge, IfIcmplt}
-use Rattle.jvm_names.specs.declared.int_arithmetic.IntArithmetic.TheVariants.{Iand}
-use Rattle.jvm_program.specs.declared.value.Value.TheVariants.{Int as int}
-use Rattle.jvm_program.specs.declared.local_kind.LocalKind.TheVariants as local_kinds
-use Rattle.jvm_program.specs.Program.{Program}
-use Rattle.jvm_program.specs.Effect.{Workspace, with_operands, pushes, moves, wrong, same, chooses}
-use Rattle.code_steps.specs.declared.step.Step.{Step}
-use Rattle.code_steps.specs.declared.step.Step.TheVariants.{Skips}
-use Rattle.code_steps.specs.Outcomes.{later, after_instruction, after_branch, outcome, outcome_from}
-use Rattle.guest_code.specs.Access.{push_word, arithmetic}
+use Rattle.run_definition.specs.Words.{IsWord, signed_of}
+use Rattle.jvm_definition.specs.declared.branch_name.BranchName.TheVariants.{Ifne, IfIcmpge, IfIcmplt}
+use Rattle.jvm_definition.specs.declared.int_arithmetic.IntArithmetic.TheVariants.{Iand}
+use Rattle.jvm_definition.specs.declared.value.Value.TheVariants.{Int as int}
+use Rattle.jvm_definition.specs.declared.local_kind.LocalKind.TheVariants as local_kinds
+use Rattle.jvm_definition.specs.Program.{Program}
+use Rattle.jvm_definition.specs.Effect.{Workspace, with_operands, pushes, moves_value, wrong, same_integer, chooses}
+use Rattle.emit_steps.specs.declared.step.Step.{Step}
+use Rattle.emit_steps.specs.declared.step.Step.TheVariants.{Skips}
+use Rattle.emit_steps.specs.Outcomes.{later, after_instruction, after_branch, outcome, outcome_from}
+use Rattle.emit_instructions.specs.Access.{push_word, arithmetic}
 use Rattle.trampoline.specs.Trees.{reached_code}
 use Rattle.trampoline.specs.Choosers.{load_address, unaligned_code, below_code}
-use Rattle.guest_follows.proofs.Signs.{same-signed}
+use Rattle.emit_simulation_laws.proofs.Signs.{same-signed}
 use Rattle.trampoline_laws.specs.Choosing.{is_below}
 
 -- ---- what the tests are
 
-aligned-test : (x : ℕ) → same (signed_of (bit_and x 3)) (pos 0) ≡ (x % 4 == 0)
+aligned-test : (x : ℕ) → same_integer (signed_of (bit_and x 3)) (pos 0) ≡ (x % 4 == 0)
 aligned-test x =
     let low : x % 4 < 2 ^ 32 = omega arith in
-    ap (λ n. same (signed_of n) (pos 0)) (and_mask x 2) ∙ same-signed (x % 4) 0 low (lit< tt)
+    ap (λ n. same_integer (signed_of n) (pos 0)) (and_mask x 2) ∙ same-signed (x % 4) 0 low (lit< tt)
 
 signed-low : (x : ℕ) → x < 2 ^ 31 → signed_of x ≡ pos x
 signed-low x low = grind (arith, ints)
@@ -53,7 +53,7 @@ below-more x a b word more low is = elim (cases_lt x (2 ^ 31)) [
 module _ (program : Program) (words x : ℕ) (code : List Step) (w : Workspace) (is : w.locals 0 ≡ int x) where
   loaded : (behind : List Step) → outcome program words (load_address ∷ behind) w ≡ later (outcome program words behind (with_operands w (int x ∷ w.operands)))
   loaded behind =
-      ap (λ v. after_instruction w (if moves local_kinds.Int v then pushes w v w.operands else wrong) (outcome_from program words behind 0)) is
+      ap (λ v. after_instruction w (if moves_value local_kinds.Int v then pushes w v w.operands else wrong) (outcome_from program words behind 0)) is
 
   branched : (b : Bool) (v : Workspace) (over : ℕ) → after_branch v (chooses b v w.operands) (outcome_from program words code 0) (outcome_from program words code over) ≡ later (outcome_from program words code (if b then over else 0) (with_operands v w.operands))
   branched true v over = refl
@@ -73,5 +73,5 @@ module _ (program : Program) (words x : ℕ) (code : List Step) (w : Workspace) 
   pub unaligned : (over : ℕ) → outcome program words (unaligned_code over ++ code) w ≡ later (later (later (later (outcome_from program words code (if not (x % 4 == 0) then over else 0) w))))
   unaligned over =
       loaded (push_word 3 ∷ arithmetic Iand ∷ Skips Ifne over ∷ code)
-      ∙ ap (λ o. later (later (later o))) (branched (not (same (signed_of (bit_and x 3)) (pos 0))) (with_operands w (int (bit_and x 3) ∷ w.operands)) over)
+      ∙ ap (λ o. later (later (later o))) (branched (not (same_integer (signed_of (bit_and x 3)) (pos 0))) (with_operands w (int (bit_and x 3) ∷ w.operands)) over)
       ∙ ap (λ b. later (later (later (later (outcome_from program words code (if not b then over else 0) w))))) (aligned-test x)

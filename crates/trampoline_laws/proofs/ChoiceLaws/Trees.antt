@@ -2,17 +2,17 @@
 use Rattle.std.proofs.Common.{◌≡◌, ℕ, zero, suc, ◌+◌, ◌-◌, ◌*◌, ◌/◌, ◌^◌, ◌≤◌, not, Bool, true, false, if◌then◌else◌, List, [], ◌∷◌, ◌++◌, length, slice_get, take, drop, Option, Some, refl, ap, subst, sym, ◌∙◌, append_assoc, arith}
 use Rattle.std.proofs.lemmas.List.{length-take-le, length-drop, take-append-drop, append-nil, length-append}
 use Rattle.std.proofs.lemmas.List.Elements.{All-head, All-take, All-drop}
-use Rattle.nv_words.specs.Words.{IsWord}
-use Rattle.jvm_names.specs.declared.branch_name.BranchName.TheVariants.{Goto}
-use Rattle.jvm_program.specs.declared.value.Value.TheVariants.{Int as int}
-use Rattle.jvm_program.specs.declared.linked_method.LinkedMethod.{LinkedMethod}
-use Rattle.jvm_program.specs.declared.kind.Kind.{Kind}
-use Rattle.jvm_program.specs.declared.instruction.Instruction.TheVariants.{Call}
-use Rattle.jvm_program.specs.Program.{Program}
-use Rattle.jvm_program.specs.Effect.{Workspace, enters, calls, arguments, last_first, with_operands}
-use Rattle.code_steps.specs.declared.step.Step.{Step}
-use Rattle.code_steps.specs.declared.step.Step.TheVariants.{Does, Skips}
-use Rattle.code_steps.specs.Outcomes.{Outcome, ended, stopped, beyond, later, after_instruction, outcome, outcome_from}
+use Rattle.run_definition.specs.Words.{IsWord}
+use Rattle.jvm_definition.specs.declared.branch_name.BranchName.TheVariants.{Goto}
+use Rattle.jvm_definition.specs.declared.value.Value.TheVariants.{Int as int}
+use Rattle.jvm_definition.specs.declared.linked_method.LinkedMethod.{LinkedMethod}
+use Rattle.jvm_definition.specs.declared.kind.Kind.{Kind}
+use Rattle.jvm_definition.specs.declared.instruction.Instruction.TheVariants.{Call}
+use Rattle.jvm_definition.specs.Program.{Program}
+use Rattle.jvm_definition.specs.Effect.{Workspace, enters, calls, arguments, last_first, with_operands}
+use Rattle.emit_steps.specs.declared.step.Step.{Step}
+use Rattle.emit_steps.specs.declared.step.Step.TheVariants.{Does, Skips}
+use Rattle.emit_steps.specs.Outcomes.{Outcome, ended, stopped, beyond, later, after_instruction, outcome, outcome_from}
 use Rattle.trampoline.specs.declared.start.Start.{Start}
 use Rattle.trampoline.specs.Trees.{reached_code, halves_code, first_of, tree_of, tree}
 use Rattle.trampoline_laws.specs.Choosing.{is_below, chosen, Rise, IsMethod, AreMethods}

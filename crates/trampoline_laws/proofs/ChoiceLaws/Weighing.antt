@@ -2,17 +2,17 @@
 use Rattle.std.proofs.Common.{◌≡◌, ℕ, zero, suc, ◌+◌, ◌/◌, ◌≤◌, Bool, true, false, ◌&&◌, List, [], ◌∷◌, ◌++◌, length, take, drop, refl, arith}
 use Rattle.std.proofs.lemmas.List.{length-take-le, length-drop}
 use Rattle.std.proofs.lemmas.List.Sums.{sum_by-cons, sum_by-take-drop}
-use Rattle.jvm_names.specs.declared.branch_name.BranchName.TheVariants.{Goto}
-use Rattle.jvm_program.specs.declared.instruction.Instruction.{Instruction}
-use Rattle.jvm_program.specs.declared.instruction.Instruction.TheVariants.{Array, Branch, Put, Call, CharAt, TableSwitch, LookupSwitch, NewArray}
-use Rattle.code_steps.specs.declared.step.Step.{Step}
-use Rattle.code_steps.specs.declared.step.Step.TheVariants.{Does, Skips, Leaves, Selects}
+use Rattle.jvm_definition.specs.declared.branch_name.BranchName.TheVariants.{Goto}
+use Rattle.jvm_definition.specs.declared.instruction.Instruction.{Instruction}
+use Rattle.jvm_definition.specs.declared.instruction.Instruction.TheVariants.{Array, Branch, Put, Call, CharAt, TableSwitch, LookupSwitch, NewArray}
+use Rattle.emit_steps.specs.declared.step.Step.{Step}
+use Rattle.emit_steps.specs.declared.step.Step.TheVariants.{Does, Skips, Leaves, Selects}
 use Rattle.trampoline.specs.declared.start.Start.{Start}
 use Rattle.trampoline.specs.Trees.{first_of, reached_code, halves_code, tree_of, tree}
 use Rattle.trampoline.specs.Choosers.{address_code, within_code, unaligned_code, chosen_code, class_chooser, main_chooser, missing_method}
-use Rattle.code_paths.specs.Paths.{step_weight, weigh}
-use Rattle.code_paths.proofs.Weighing.{weigh-both}
-use Rattle.code_paths.specs.Classes.{reads, chars, switches, entries, puts}
+use Rattle.emit_paths_laws.specs.Paths.{step_weight, weigh}
+use Rattle.emit_paths_laws.proofs.Weighing.{weigh-both}
+use Rattle.emit_paths_laws.specs.Classes.{reads, chars, switches, entries, puts}
 use Rattle.trampoline_laws.specs.Weights.{only_compares, SparesComparing, SparesCalls, calls_weight, alters, beside_calls}
 
 -- ---- steps that only compare

@@ -4,7 +4,7 @@ use Rattle.std.specs.List.{range_with_len}
 use Rattle.std.proofs.lemmas.Bool.{and_parts, and_left, and_right, or_from, ltb-true, leb-true, cases_lt}
 use Rattle.std.proofs.lemmas.Bool.Decides.{nat_tests}
 use Rattle.std.proofs.lemmas.List.Elements.{All-head, All-tail}
-use Rattle.code_paths.specs.Guest.{Span, holds, in_one_span}
+use Rattle.emit_paths_laws.specs.Guest.{Span, holds, in_one_span}
 use Rattle.trampoline_laws.specs.Classes.{CodeClass, IsClass, AreOrdered, counted_span, counted_spans}
 use Rattle.trampoline_laws.proofs.TrampolineLaws.Elements.{all-at, all-joined, all-counted}
 use Rattle.trampoline_laws.proofs.TrampolineLaws.Spans.{joined-apart}

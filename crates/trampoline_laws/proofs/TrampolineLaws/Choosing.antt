@@ -3,7 +3,7 @@ use Rattle.std.proofs.Common.{◌≡◌, ℕ, zero, suc, ◌+◌, ◌^◌, ◌<�
 use Rattle.std.specs.List.{range_with_len}
 use Rattle.std.proofs.lemmas.Bool.{lt-ltb, le-ltb, cases_lt}
 use Rattle.std.proofs.lemmas.Int.{ints}
-use Rattle.nv_words.specs.Words.{signed_of}
+use Rattle.run_definition.specs.Words.{signed_of}
 use Rattle.trampoline.specs.declared.start.Start.{Start}
 use Rattle.trampoline_laws.specs.Choosing.{is_below, chosen_from, chosen, RiseFrom}
 

@@ -1,9 +1,9 @@
 -- Facts of a translated program.
 use Rattle.std.proofs.Common.{◌≡◌, ℕ, ◌+◌, ◌<◌, ◌≤◌, Bool, List, [], ◌∷◌, length, slice_get, Option, Some, None, All, ap, sym, ◌∙◌, arith}
 use Rattle.std.proofs.lemmas.List.Elements.{All-weaker}
-use Rattle.nv_words.specs.declared.order.Order.{Order}
+use Rattle.run_definition.specs.declared.order.Order.{Order}
 use Rattle.delay_slots.specs.Turns.{HasRange}
-use Rattle.jvm_program.specs.Program.{Program}
+use Rattle.jvm_definition.specs.Program.{Program}
 use Rattle.trampoline.specs.declared.start.Start.{Start}
 use Rattle.trampoline_laws.specs.Choosing.{chosen, chosen_from, Rise, IsMethod, AreMethods, IsReached}
 use Rattle.trampoline_laws.specs.Classes.{CodeClass, IsClass, HasClass, AreOrdered, address, run_of, span_start, span_starts, starts_of}

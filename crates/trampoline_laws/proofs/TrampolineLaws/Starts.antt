@@ -1,7 +1,7 @@
 -- The starts of classes.
 use Rattle.std.proofs.Common.{◌≡◌, ℕ, zero, suc, ◌<◌, ◌≤◌, Bool, true, false, if◌then◌else◌, List, [], ◌∷◌, ◌++◌, length, slice_get, Some, All, refl, subst, ◌∙◌, arith}
 use Rattle.std.proofs.lemmas.List.Elements.{All-nil, All-cons, All-head, All-tail}
-use Rattle.jvm_program.specs.Program.{Program}
+use Rattle.jvm_definition.specs.Program.{Program}
 use Rattle.trampoline.specs.declared.start.Start.{Start}
 use Rattle.trampoline.specs.Trees.{first_of}
 use Rattle.trampoline_laws.specs.Choosing.{chosen_from, Rise, RiseFrom, IsMethod, AreMethods}

@@ -1,20 +1,20 @@
 use Rattle.std.proofs.Common.{◌≡◌, ◌-◌, ◌++◌, ◌∷◌, [], suc, arith}
 use Rattle.std.proofs.lemmas.Result.{err_from_is_err_and}
 use Rattle.class_format.proofs.Loops.{chain_more, chain_fails, chain_done}
-use Rattle.framed_class_file.specs.Tables.{method}
+use Rattle.class_definition.specs.Tables.{framed_method}
 use Rattle.class_reader.proofs.framed_member_reading.so_many_methods.Goals as goal
 
 pub returns-in_err-method : goal.returns-in_err-method
 returns-in_err-method c =
     let p = err_from_is_err_and c.from_residual.result c.from_residual.ensures.1 in
     let more : c.loop-to_come.to_come ≡ suc (c.loop-to_come.to_come - 1) = omega arith in
-    rw (p.1, p.2) (chain_fails {S = Unit {0}} (λ _ _. method c.args.pool.now) (λ s _. s) c.in_err-method.field-0.0 tt c.loop-to_come.to_come (c.loop-to_come.to_come - 1) c.loop-to_come.rest.now c.loop-to_come.methods.items _ more c.in_err-method.ensures c.loop-to_come.invariant)
+    rw (p.1, p.2) (chain_fails {S = Unit {0}} (λ _ _. framed_method c.args.pool.now) (λ s _. s) c.in_err-method.field-0.0 tt c.loop-to_come.to_come (c.loop-to_come.to_come - 1) c.loop-to_come.rest.now c.loop-to_come.methods.items _ more c.in_err-method.ensures c.loop-to_come.invariant)
 
 pub loop-to_come-preserved : goal.loop-to_come-preserved
 loop-to_come-preserved c =
     let more : c.loop-to_come.to_come ≡ suc (c.loop-to_come.to_come - 1) = omega arith in
     let e : c.push.new.self.items ≡ c.loop-to_come.methods.items ++ c.in_ok-method.method ∷ [] = c.in_ok-push.ensures.items in
-    rw e (chain_more {S = Unit {0}} (λ _ _. method c.args.pool.now) (λ s _. s) tt c.loop-to_come.to_come (c.loop-to_come.to_come - 1) c.loop-to_come.rest.now c.in_ok-method.others.now c.loop-to_come.methods.items c.in_ok-method.method _ more c.in_ok-method.ensures c.loop-to_come.invariant)
+    rw e (chain_more {S = Unit {0}} (λ _ _. framed_method c.args.pool.now) (λ s _. s) tt c.loop-to_come.to_come (c.loop-to_come.to_come - 1) c.loop-to_come.rest.now c.in_ok-method.others.now c.loop-to_come.methods.items c.in_ok-method.method _ more c.in_ok-method.ensures c.loop-to_come.invariant)
 
 pub returns : goal.returns
-returns c = chain_done {S = Unit {0}} (λ _ _. method c.args.pool.now) (λ s _. s) tt c.loop-to_come.to_come c.loop-to_come.rest.now c.loop-to_come.methods.items _ (omega arith) c.loop-to_come.invariant
+returns c = chain_done {S = Unit {0}} (λ _ _. framed_method c.args.pool.now) (λ s _. s) tt c.loop-to_come.to_come c.loop-to_come.rest.now c.loop-to_come.methods.items _ (omega arith) c.loop-to_come.invariant

@@ -1,5 +1,5 @@
 use Rattle.std.proofs.Common.{arith}
-use Rattle.framed_class_file.proofs.FramedClassLaws.{read_spelled, no_fault, same_read}
+use Rattle.class_definition_laws.proofs.FramedClassLaws.{read_spelled, no_fault, same_read}
 use Rattle.class_reader.proofs.framed_read.read_class_51.Goals as goal
 
 pub returns-in-Ok-clause-spelled : goal.returns-in-Ok-clause-spelled

@@ -1,7 +1,7 @@
 use Rattle.std.proofs.Common.{◌≡◌, ◌-◌, ◌++◌, ◌∷◌, [], suc, arith}
 use Rattle.std.proofs.lemmas.Result.{err_from_is_err_and}
 use Rattle.class_format.proofs.Loops.{chain_more, chain_fails, chain_done}
-use Rattle.class_file.specs.Members.{method}
+use Rattle.class_definition.specs.Members.{method}
 use Rattle.class_reader.proofs.member_reading.so_many_methods.Goals as goal
 
 pub returns-in_err-method : goal.returns-in_err-method

@@ -1,7 +1,7 @@
 use Rattle.std.proofs.Common.{◌≡◌}
-use Rattle.class_format.specs.Format.{chain_reading, repeated}
+use Rattle.class_definition.specs.Format.{chain_reading, repeated}
 use Rattle.class_format.proofs.Loops.{with_front}
-use Rattle.class_file.specs.Members.{method}
+use Rattle.class_definition.specs.Members.{method}
 use Rattle.class_reader.proofs.member_reading.so_many_methods.Given as goal
 
 abbrev pub invariant-loop-to_come : goal.invariant-loop-to_come

@@ -1,5 +1,5 @@
 use Rattle.std.proofs.Common.{arith}
-use Rattle.class_file.proofs.ClassLaws.{read_spelled, no_fault, same_read}
+use Rattle.class_definition_laws.proofs.ClassLaws.{read_spelled, no_fault, same_read}
 use Rattle.class_reader.proofs.read.read_class.Goals as goal
 
 pub returns-in-Ok-clause-spelled : goal.returns-in-Ok-clause-spelled

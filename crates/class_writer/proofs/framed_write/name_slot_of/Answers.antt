@@ -1,6 +1,6 @@
 use Rattle.std.proofs.Common.{sym, ◌∙◌, ap, arith}
 use Rattle.std.specs.Prelude.{unwrap_or}
-use Rattle.framed_class_file.proofs.TabledLaws.{slot-within}
+use Rattle.class_definition_laws.proofs.TabledLaws.{slot-within}
 use Rattle.class_writer.proofs.framed_write.name_slot_of.Goals as goal
 
 pub overflow_cast-result : goal.overflow_cast-result

@@ -1,5 +1,5 @@
 use Rattle.std.proofs.Common.{rules, ◌≡◌, None}
-use Rattle.framed_class_file.proofs.FramedClassLaws.{no_fault, same_framed}
+use Rattle.class_definition_laws.proofs.FramedClassLaws.{no_fault, same_framed}
 use Rattle.class_writer.specs.Limits.{limit}
 use Rattle.class_writer.proofs.Spelled.{codes_short}
 use Rattle.class_writer.proofs.FramedSpelled.{framed_spells, tables_short}

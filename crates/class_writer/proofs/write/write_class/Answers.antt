@@ -1,5 +1,5 @@
 use Rattle.std.proofs.Common.{rules, ◌≡◌, None}
-use Rattle.class_file.proofs.ClassLaws.{no_fault, same_class}
+use Rattle.class_definition_laws.proofs.ClassLaws.{no_fault, same_class}
 use Rattle.class_writer.specs.Limits.{limit}
 use Rattle.class_writer.proofs.Spelled.{codes_short, written_spells}
 use Rattle.class_writer.proofs.write.write_class.Goals as goal

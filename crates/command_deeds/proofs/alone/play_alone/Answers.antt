@@ -1,6 +1,6 @@
 use Rattle.std.proofs.Common.{[], ◌∷◌, sym, ap, ◌∙◌}
-use Rattle.nv_events.specs.Run.{run_of}
-use Rattle.unix_system.specs.Unix.{reply}
+use Rattle.run_definition.specs.Run.{run_of}
+use Rattle.unix_definition.specs.Unix.{reply}
 use Rattle.command_deeds.specs.Runs.{answer_of}
 use Rattle.command_deeds.proofs.alone.play_alone.Goals as goal
 

@@ -1,5 +1,5 @@
 use Rattle.std.proofs.lemmas.Result.{err_from_is_err_and}
-use Rattle.unix_files.specs.Files.{node_named}
+use Rattle.unix_definition.specs.Files.{node_named}
 use Rattle.command_deeds.specs.World.{shelf_seen}
 use Rattle.command_deeds.proofs.ReadyLemmas.{keep_no_memory}
 use Rattle.command_deeds.proofs.keeping.keep_file.Goals as goal

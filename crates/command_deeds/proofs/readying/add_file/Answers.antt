@@ -1,5 +1,5 @@
 use Rattle.std.proofs.Common.{[], ◌≡◌, ◌-◌, ◌^◌, ◌∷◌, ◌++◌, ◌<◌, subst}
-use Rattle.unix_system.specs.Unix.{blocks_needed}
+use Rattle.unix_definition.specs.Unix.{blocks_needed}
 use Rattle.unix_calls.specs.Starting.{Begins}
 use Rattle.unix_calls.specs.declared.unix_error.UnixError.TheVariants.{FilesTooLarge}
 use Rattle.std.proofs.lemmas.Result.{err_from_is_err_and}

@@ -6,7 +6,7 @@ use Rattle.std.proofs.lemmas.Result.{err_from_is_err_and}
 use Rattle.clap.specs.Words.{HasKind, app_of, fault_of, is_simple, is_simple_and_free, matches_of, found_of, rows_of, kind_of}
 use Rattle.clap.specs.Simple.{App}
 use Rattle.command_forms.specs.Word.{is_formed, texts}
-use Rattle.command_forms.specs.Given.{form_from, start}
+use Rattle.command_forms.specs.Given.{form_from, nothing_given}
 use Rattle.command_forms.specs.Builder.{form_app}
 use Rattle.command_forms.proofs.FormReads.{clap_agrees, form_is_free, form_is_simple}
 use Rattle.command_forms.proofs.MatchLemmas.{err_case, ok_case, unformed}
@@ -15,7 +15,7 @@ use Rattle.command_forms.proofs.matching.match_words.Goals as goal
 pub returns-then-not-are_formed : goal.returns-then-not-are_formed
 returns-then-not-are_formed c =
     let bad : list_all (λ w. is_formed (string_bytes w)) c.args.words.now ≡ false = grind arith in
-    unformed (form_from c.args.names.now c.args.options.now) (texts c.args.words.now) start (list_all-map is_formed string_bytes c.args.words.now ∙ bad)
+    unformed (form_from c.args.names.now c.args.options.now) (texts c.args.words.now) nothing_given (list_all-map is_formed string_bytes c.args.words.now ∙ bad)
 
 pub returns-in_err-parser : goal.returns-in_err-parser
 returns-in_err-parser c =

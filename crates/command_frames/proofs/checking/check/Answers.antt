@@ -6,7 +6,7 @@ use Rattle.command_deeds.specs.World.{output_seen, seen, shelf_seen, world}
 use Rattle.command_deeds.specs.declared.done.Done.TheVariants.{Good}
 use Rattle.command_deeds.specs.declared.stop.Stop.TheVariants.{WriteFault}
 use Rattle.command_frames.proofs.CheckLemmas.{check-due}
-use Rattle.command_guest.specs.Classes.{counted, counts_line}
+use Rattle.command_guest.specs.Classes.{classes_counted, counts_line}
 use Rattle.command_frames.specs.Check.{IsCheckedFrom, IsDueOfCheck}
 use Rattle.command_frames.proofs.checking.check.Goals as goal
 
@@ -30,7 +30,7 @@ returns-in_err-write_counts g c =
     let p = err_from_is_err_and c.from_residual-in_err-write_counts.result c.from_residual-in_err-write_counts.ensures.1 in
     let class = c.args.class.now in
     let classes = c.in_ok-linked.linked.classes in
-    let due = counted classes in
+    let due = classes_counted classes in
     let w = seen g.H.Shelf g.S.Source g.O.Sink g.E.Sink c.args.outside.now in
     let u = world (shelf_seen g.H.Shelf c.checked_classes.new.shelf) w.input w.out w.err in
     let v = world u.shelf w.input (output_seen g.O.Sink c.write_counts.new.out) w.err in
@@ -48,7 +48,7 @@ pub returns : goal.returns
 returns g c =
     let class = c.args.class.now in
     let classes = c.in_ok-linked.linked.classes in
-    let due = counted classes in
+    let due = classes_counted classes in
     let w = seen g.H.Shelf g.S.Source g.O.Sink g.E.Sink c.args.outside.now in
     let u = world (shelf_seen g.H.Shelf c.checked_classes.new.shelf) w.input w.out w.err in
     let v = world u.shelf w.input (output_seen g.O.Sink c.write_counts.new.out) w.err in

@@ -1,8 +1,8 @@
 use Rattle.std.proofs.Common.{◌∙◌, refl, sym, subst}
 use Rattle.std.specs.Prelude.{All}
-use Rattle.name_resolution.specs.Kept.{IsClass}
-use Rattle.named_sets.specs.declared.version.Version.TheVariants.{V51}
-use Rattle.named_sets.proofs.KeptLaws.{classes-kept}
+use Rattle.class_names.specs.Kept.{IsClass}
+use Rattle.class_sets.specs.declared.version.Version.TheVariants.{V51}
+use Rattle.class_sets.proofs.KeptLaws.{classes-kept}
 use Rattle.command_frames.proofs.CheckLemmas.{link-refused, linked-makes, tables-kept}
 use Rattle.command_frames.proofs.checking.check_members.Goals as goal
 

@@ -1,5 +1,5 @@
 use Rattle.std.proofs.Common.{false, refl}
-use Rattle.named_sets.specs.declared.version.Version.TheVariants.{V48}
+use Rattle.class_sets.specs.declared.version.Version.TheVariants.{V48}
 use Rattle.command_deeds.specs.World.{shelf_seen}
 use Rattle.command_frames.specs.Frames.{AreFilesOfSet, deeds_of}
 use Rattle.command_frames.proofs.CheckLemmas.{set-gives}

@@ -1,7 +1,7 @@
 use Rattle.std.proofs.Common.{length, map, sym, ap, subst, ◌∙◌}
 use Rattle.std.proofs.lemmas.Result.{err_from_is_err_and}
-use Rattle.class_set.specs.Kept.{IsKeptSet}
-use Rattle.named_sets.proofs.KeptLaws.{plain-kept}
+use Rattle.class_sets.specs.Kept.{IsKeptSet}
+use Rattle.class_sets.proofs.KeptLaws.{plain-kept}
 use Rattle.command_deeds.specs.Ends.{end_of}
 use Rattle.command_frames.specs.Frames.{AreWritten, deed_of}
 use Rattle.command_frames.proofs.FramesLemmas.{tables-refused, all-written, loaded-framed, names-as-many}

@@ -1,6 +1,6 @@
 use Rattle.std.proofs.Common.{Ok, refl}
-use Rattle.jvm_link.specs.Linking.{program_of}
-use Rattle.type_inference.specs.Unique.{AllTyped-from_least}
+use Rattle.class_definition.specs.Linking.{program_of}
+use Rattle.jvm_type_inference.proofs.Unique.{AllTyped-from_least}
 use Rattle.command_frames.proofs.tabling.framed_linked.Goals as goal
 
 pub returns-in-Ok-clause-makes : goal.returns-in-Ok-clause-makes

@@ -1,8 +1,8 @@
 use Rattle.std.proofs.Common.{true, Ok, Err, inl, refl, subst}
 use Rattle.std.proofs.lemmas.Result.{err_from_is_err_and}
-use Rattle.mips_decode.specs.Step.{turn}
-use Rattle.elf_image.specs.Start.{image_of}
-use Rattle.mips_machine.specs.Loading.{start_of}
+use Rattle.mips_definition.specs.Step.{turn}
+use Rattle.elf_definition.specs.Start.{image_of}
+use Rattle.elf_definition.specs.Loading.{start_of}
 use Rattle.command_deeds.proofs.DeedLemmas.{gives_ends, gives_then}
 use Rattle.command_deeds.specs.Ends.{Comes, end_of, ended}
 use Rattle.command_deeds.specs.World.{seen, shelf_seen, world}

@@ -1,6 +1,6 @@
 use Rattle.std.proofs.Common.{◌≡◌, Ok, Err, inl, inr, refl}
 use Rattle.std.proofs.lemmas.Result.{err_from_is_err_and}
-use Rattle.elf_image.specs.Start.{image_of}
+use Rattle.elf_definition.specs.Start.{image_of}
 use Rattle.command_deeds.proofs.DeedLemmas.{gives_ends, gives_then, same_shelf, written}
 use Rattle.command_deeds.specs.Ends.{end_of, says}
 use Rattle.command_deeds.specs.World.{output_seen, seen, shelf_seen, world}

@@ -1,5 +1,5 @@
 use Rattle.std.proofs.lemmas.Result.{err_from_is_err_and}
-use Rattle.elf_image.specs.Start.{image_of}
+use Rattle.elf_definition.specs.Start.{image_of}
 use Rattle.command_deeds.specs.World.{output_seen}
 use Rattle.command_guest.proofs.ListingLemmas.{leads_more, leads_stopped, runs_next}
 use Rattle.command_guest.proofs.listing.write_runs.Goals as goal

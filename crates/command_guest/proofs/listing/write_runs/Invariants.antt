@@ -1,5 +1,5 @@
 use Rattle.std.proofs.Common.{drop}
-use Rattle.elf_image.specs.Start.{image_of}
+use Rattle.elf_definition.specs.Start.{image_of}
 use Rattle.command_deeds.specs.World.{output_seen}
 use Rattle.command_guest.specs.Listing.{runs_lines}
 use Rattle.command_guest.proofs.ListingLemmas.{Leads}

@@ -1,7 +1,7 @@
 use Rattle.std.proofs.Common.{true, Ok, Err, refl, subst}
 use Rattle.std.proofs.lemmas.Result.{err_from_is_err_and}
-use Rattle.jvm_program.specs.Step.{loaded, loaded_turn}
-use Rattle.jvm_link.specs.Linking.{program_of}
+use Rattle.jvm_definition.specs.Step.{loaded_program, loaded_turn}
+use Rattle.class_definition.specs.Linking.{program_of}
 use Rattle.command_deeds.proofs.DeedLemmas.{gives_ends, gives_then}
 use Rattle.command_deeds.specs.Ends.{Comes, end_of, ended}
 use Rattle.command_deeds.specs.World.{seen, shelf_seen, world}
@@ -41,7 +41,7 @@ returns g c =
     record {
       ends = (
         c.play_session.ensures.ends.0,
-        gives_then (IsDueOfRun class words plan) (IsDueOfPlay loaded_turn (loaded (program_of classes) words) plan)
+        gives_then (IsDueOfRun class words plan) (IsDueOfPlay loaded_turn (loaded_program (program_of classes) words) plan)
             (λ files. IsAcceptedSet class files (Ok classes)) w u v (ended c.play_session.result) over (refl, refl, refl)
             (λ files due agree h later. run_due class words plan w now files classes due over.same.0 agree h later)
             (subst (λ s. Comes true (IsDueOfPlay loaded_turn s plan) u v (ended c.play_session.result))

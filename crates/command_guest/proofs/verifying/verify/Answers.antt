@@ -6,7 +6,7 @@ use Rattle.command_deeds.specs.World.{output_seen, seen, shelf_seen, world}
 use Rattle.command_deeds.specs.declared.done.Done.TheVariants.{Good}
 use Rattle.command_deeds.specs.declared.stop.Stop.TheVariants.{WriteFault}
 use Rattle.command_guest.proofs.DueLemmas.{verify_due}
-use Rattle.command_guest.specs.Classes.{IsAcceptedSet, IsDueOfVerify, counted, counts_line}
+use Rattle.command_guest.specs.Classes.{IsAcceptedSet, IsDueOfVerify, classes_counted, counts_line}
 use Rattle.command_guest.proofs.verifying.verify.Goals as goal
 
 pub returns-in_err-verified : goal.returns-in_err-verified
@@ -29,7 +29,7 @@ returns-in_err-write_counts g c =
     let p = err_from_is_err_and c.from_residual-in_err-write_counts.result c.from_residual-in_err-write_counts.ensures.1 in
     let class = c.args.class.now in
     let classes = c.in_ok-verified.verified.linked.classes in
-    let due = counted classes in
+    let due = classes_counted classes in
     let w = seen g.H.Shelf g.S.Source g.O.Sink g.E.Sink c.args.outside.now in
     let u = world (shelf_seen g.H.Shelf c.accept.new.shelf) w.input w.out w.err in
     let v = world u.shelf w.input (output_seen g.O.Sink c.write_counts.new.out) w.err in
@@ -47,7 +47,7 @@ pub returns : goal.returns
 returns g c =
     let class = c.args.class.now in
     let classes = c.in_ok-verified.verified.linked.classes in
-    let due = counted classes in
+    let due = classes_counted classes in
     let w = seen g.H.Shelf g.S.Source g.O.Sink g.E.Sink c.args.outside.now in
     let u = world (shelf_seen g.H.Shelf c.accept.new.shelf) w.input w.out w.err in
     let v = world u.shelf w.input (output_seen g.O.Sink c.write_counts.new.out) w.err in

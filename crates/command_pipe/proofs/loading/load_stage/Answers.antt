@@ -1,8 +1,8 @@
 use Rattle.std.proofs.Common.{◌∙◌, [], ◌∷◌, List, Ok, ℕ, sym, ap, subst}
 use Rattle.std.proofs.lemmas.Result.{err_from_is_err_and}
-use Rattle.jvm_code.specs.declared.class.Class.{Class}
-use Rattle.jvm_program.specs.Step.{loaded}
-use Rattle.jvm_link.specs.Linking.{program_of}
+use Rattle.class_definition.specs.declared.class.Class.{Class}
+use Rattle.jvm_definition.specs.Step.{loaded_program}
+use Rattle.class_definition.specs.Linking.{program_of}
 use Rattle.unix_calls.specs.Starting.{Begins}
 use Rattle.command_deeds.specs.Ends.{Over}
 use Rattle.command_deeds.specs.World.{shelf_seen}
@@ -37,7 +37,7 @@ pub returns-clause-stage : goal.returns-clause-stage
 returns-clause-stage g c =
     let launch = c.args.launch.now in
     record {
-      state = c.in_ok-jvm.ensures.state ∙ ap (λ (set : List Class). loaded (program_of set) launch.words) (sym c.in_ok-jvm.ensures.classes);
+      state = c.in_ok-jvm.ensures.state ∙ ap (λ (set : List Class). loaded_program (program_of set) launch.words) (sym c.in_ok-jvm.ensures.classes);
       going = c.in_ok-jvm.ensures.going;
       none = c.in_ok-jvm.ensures.count;
       begins = subst (λ (name : List ℕ). Begins c.in_ok-unix.unix launch.disk launch.moment [] (name ∷ [])) c.as_str.ensures.value

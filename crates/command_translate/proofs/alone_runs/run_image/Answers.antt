@@ -1,6 +1,6 @@
 use Rattle.std.proofs.Common.{◌≡◌, Some, subst}
 use Rattle.std.specs.Prelude.{IfOk}
-use Rattle.mips_decode.specs.Step.{turn}
+use Rattle.mips_definition.specs.Step.{turn}
 use Rattle.command_deeds.specs.Runs.{answer_of, run_alone}
 use Rattle.command_translate.specs.Make.{made_name}
 use Rattle.command_translate.proofs.alone_runs.run_image.Goals as goal

@@ -1,6 +1,6 @@
 use Rattle.std.proofs.Common.{◌∙◌, sym, subst}
-use Rattle.jvm_program.specs.Typing.{AllTyped}
-use Rattle.jvm_link.specs.Linking.{Accepted, program_of}
+use Rattle.jvm_definition.specs.Typing.{AllTyped}
+use Rattle.class_definition.specs.Linking.{Accepted, program_of}
 use Rattle.command_translate.specs.Classes.{SpellClasses}
 use Rattle.command_translate.proofs.FileLemmas.{all_kept, same_classes}
 use Rattle.command_translate.proofs.classes.linked_files.Goals as goal

@@ -1,5 +1,6 @@
 use Rattle.std.proofs.Common.{Err, true, refl, subst, sym}
 use Rattle.std.proofs.lemmas.Result.{err_from_is_err_and}
+use Rattle.nv_translate.specs.Made.{AreMade}
 use Rattle.command_deeds.proofs.DeedLemmas.{gives_ends}
 use Rattle.command_deeds.specs.Ends.{Comes, end_of, ended}
 use Rattle.command_deeds.specs.World.{seen, shelf_seen, world}
@@ -21,7 +22,7 @@ returns-in_err-image g c =
     record {
       ends = (
         (refl, refl, refl, refl),
-        rw (p.1, p.2) (gives_ends (IsDueOfGo input guest.pages c.args.method_bytes meter plan)
+        rw (p.1, p.2) (gives_ends (IsDueOfGo AreMade input guest.pages c.args.method_bytes meter plan)
             (λ files answer. IsImagedFrom input guest.pages files (Err answer)) w v
             (end_of c.in_err-image.field-0.0) c.in_err-image.ensures.gives (refl, refl, refl)
             (λ files answer agree h. go_refused input guest.pages c.args.method_bytes meter plan w files answer agree h)),
@@ -56,7 +57,7 @@ returns-in-Some g c =
     record {
       ends = (
         c.go_by_meter.ensures.same,
-        subst (λ meter. Comes true (IsDueOfGo guest.input.now guest.pages c.args.method_bytes meter plan) w v end) (sym c.in-Some.is)
+        subst (λ meter. Comes true (IsDueOfGo AreMade guest.input.now guest.pages c.args.method_bytes meter plan) w v end) (sym c.in-Some.is)
             (go_comes_by_meter plan (λ held rest found begins. c.begins_at_start.ensures held plan.session.disk plan.moment found (arguments_of plan) rest begins)
             c.args.method_bytes c.in-Some.turns guest.input.now guest.pages c.in_ok-image.image c.in_ok-unix.unix w u x v end
             c.in_ok-image.ensures.gives (refl, refl, refl) c.in_ok-unix.ensures.gives (refl, refl, refl) c.go_by_meter.ensures.comes),
@@ -75,7 +76,7 @@ returns-in-None g c =
     record {
       ends = (
         c.go_by_steps.ensures.same,
-        subst (λ meter. Comes true (IsDueOfGo guest.input.now guest.pages c.args.method_bytes meter plan) w v end) (sym c.in-None.is)
+        subst (λ meter. Comes true (IsDueOfGo AreMade guest.input.now guest.pages c.args.method_bytes meter plan) w v end) (sym c.in-None.is)
             (go_comes plan (λ held rest found begins. c.begins_at_start.ensures held plan.session.disk plan.moment found (arguments_of plan) rest begins)
             c.args.method_bytes guest.input.now guest.pages c.in_ok-image.image c.in_ok-unix.unix w u x v end
             c.in_ok-image.ensures.gives (refl, refl, refl) c.in_ok-unix.ensures.gives (refl, refl, refl) c.go_by_steps.ensures.comes),

@@ -1,7 +1,7 @@
 use Rattle.std.proofs.Common.{◌∙◌, true, ap, inl, inr, refl, subst, sym}
 use Rattle.std.proofs.lemmas.Result.{err_from_is_err_and}
-use Rattle.elf_image.specs.Start.{image_of}
-use Rattle.program_translation.specs.Bounds.{meter_allow, need}
+use Rattle.elf_definition.specs.Start.{image_of}
+use Rattle.translate_program.specs.Bounds.{meter_allow, need}
 use Rattle.command_deeds.proofs.DeedLemmas.{same_shelf}
 use Rattle.command_deeds.specs.Ends.{Comes, WorksOn, ended}
 use Rattle.command_deeds.specs.Runs.{plan_of}
@@ -15,7 +15,7 @@ use Rattle.command_translate.proofs.going.go_by_meter.Goals as goal
 pub play_stored-end-requires : goal.play_stored-end-requires
 play_stored-end-requires g c =
     let plan = plan_of c.args.launch.now in
-    hold_metered c.args.image plan.name c.args.method_bytes c.args.turns c.in_ok-made.made.items c.as_slice-files.result.now c.in_ok-made.ensures
+    hold_metered c.args.image plan.name c.args.turns c.in_ok-made.made.items c.as_slice-files.result.now c.in_ok-made.ensures.translated
     c.as_slice-files.ensures.value
 
 pub returns-in_err-made : goal.returns-in_err-made
@@ -31,25 +31,23 @@ returns g c =
     let unix = c.args.unix in
     let turns = c.args.turns in
     let made = c.in_ok-made.made.items in
-    let are = c.in_ok-made.ensures in
-    let built = are.built in
-    let t = are.translated in
-    let classes = t.linked.classes in
+    let t = c.in_ok-made.ensures.translated in
+    let classes = t.classes in
     let keep = plan.session.keep.names in
     let words = need (image_of image).mapped in
     let w = seen g.H.Shelf g.S.Source g.O.Sink g.E.Sink c.args.outside.now in
     let v = seen g.H.Shelf g.S.Source g.O.Sink g.E.Sink c.play_stored-end.new.outside in
     let end = ended c.play_stored-end.result in
-    let spelled = spell_metered image plan.name c.args.method_bytes turns made c.as_slice-files.result.now are c.as_slice-files.ensures.value in
-    let files = c.as_slice-files.ensures.value ∙ sym are.files_are in
+    let spelled = spell_metered image plan.name turns made c.as_slice-files.result.now t c.as_slice-files.ensures.value in
+    let files = c.as_slice-files.ensures.value in
     let bound = c.meter_allow-bound.ensures ∙ ap (λ m. meter_allow m turns) c.mapped.ensures.sum in
     record {
       same = c.play_stored-end.ensures.same;
       comes =
           subst (λ e. Comes true (λ x. IsDueOfHeldMetered plan c.args.method_bytes turns image unix x.input.told) w v e) (sym c.end_by_meter.ensures)
-          (inr (metered_works plan c.args.method_bytes turns image unix built w v end t
-          (subst (λ b. WorksOn (λ x. IsDueBehind built.files.items (IsDueOfHeldRun b words unix keep classes x.input.told)) w v end) bound
-          (subst (λ n. WorksOn (λ x. IsDueBehind built.files.items (IsDueOfHeldRun c.meter_allow-bound.result n unix keep classes x.input.told)) w v end)
+          (inr (metered_works plan c.args.method_bytes turns image unix made w v end t c.in_ok-made.ensures.made
+          (subst (λ b. WorksOn (λ x. IsDueBehind made (IsDueOfHeldRun b words unix keep classes x.input.told)) w v end) bound
+          (subst (λ n. WorksOn (λ x. IsDueBehind made (IsDueOfHeldRun c.meter_allow-bound.result n unix keep classes x.input.told)) w v end)
           c.need-words.ensures
           (subst (λ fs. WorksOn (λ x. IsDueBehind fs (IsDueOfHeldRun c.meter_allow-bound.result c.need-words.result unix keep classes x.input.told)) w v end)
           files (c.play_stored-end.ensures.works classes spelled))))));

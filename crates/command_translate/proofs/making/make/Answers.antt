@@ -1,5 +1,6 @@
 use Rattle.std.proofs.Common.{◌+◌, ◌*◌, Ok, Err, ap, inl, inr, refl}
 use Rattle.std.proofs.lemmas.Result.{err_from_is_err_and}
+use Rattle.nv_translate.specs.Made.{AreMade}
 use Rattle.command_deeds.proofs.DeedLemmas.{makes_ends, no_memory, same_shelf, written}
 use Rattle.command_deeds.specs.Ends.{end_of, says}
 use Rattle.command_deeds.specs.World.{output_seen, seen, world}
@@ -18,7 +19,7 @@ returns-in_err-image g c =
     let w = seen g.H.Shelf g.S.Source g.O.Sink g.E.Sink c.args.outside.now in
     record {
       same = (refl, refl, refl, refl);
-      comes = rw (p.1, p.2) (makes_ends (λ x. IsDueOfMake c.args.count c.args.method_bytes c.args.moment)
+      comes = rw (p.1, p.2) (makes_ends (λ x. IsDueOfMake AreMade c.args.count c.args.method_bytes c.args.moment)
           (λ answer. IsImaged DEFAULT_PAGES c.as_slice.result.now (Err answer)) w (end_of c.in_err-image.field-0.0) c.in_err-image.ensures.makes
           (λ answer h. absurd (make_accepted c.in_ok-file.file.items c.as_slice.result.now answer c.as_slice.ensures.value
           (c.made_files_are_accepted.ensures.file c.args.count c.in_ok-file.file.items c.requires.count c.in_ok-file.ensures)
@@ -32,7 +33,7 @@ returns-in_err-interp_end g c =
     let w = seen g.H.Shelf g.S.Source g.O.Sink g.E.Sink c.args.outside.now in
     record {
       same = (refl, refl, refl, refl);
-      comes = rw (p.1, p.2) (no_memory (λ x. IsDueOfMake c.args.count c.args.method_bytes c.args.moment) w);
+      comes = rw (p.1, p.2) (no_memory (λ x. IsDueOfMake AreMade c.args.count c.args.method_bytes c.args.moment) w);
     }
 
 pub returns-in_err-classes_end : goal.returns-in_err-classes_end
@@ -41,7 +42,7 @@ returns-in_err-classes_end g c =
     let w = seen g.H.Shelf g.S.Source g.O.Sink g.E.Sink c.args.outside.now in
     record {
       same = (refl, refl, refl, refl);
-      comes = rw (p.1, p.2) (no_memory (λ x. IsDueOfMake c.args.count c.args.method_bytes c.args.moment) w);
+      comes = rw (p.1, p.2) (no_memory (λ x. IsDueOfMake AreMade c.args.count c.args.method_bytes c.args.moment) w);
     }
 
 pub returns-in_err-write_lines : goal.returns-in_err-write_lines

@@ -1,7 +1,7 @@
 use Rattle.std.proofs.Common.{refl, subst}
 use Rattle.std.proofs.lemmas.Result.{err_from_is_err_and}
-use Rattle.jvm_program.specs.Step.{loaded, loaded_turn}
-use Rattle.jvm_link.specs.Linking.{program_of}
+use Rattle.jvm_definition.specs.Step.{loaded_program, loaded_turn}
+use Rattle.class_definition.specs.Linking.{program_of}
 use Rattle.command_deeds.proofs.PlayLemmas.{some_run}
 use Rattle.command_deeds.specs.Ends.{WorksOn, ended}
 use Rattle.command_deeds.specs.Runs.{IsDueOfHeld}
@@ -22,7 +22,7 @@ returns-in_err-store_files g c =
       same = (refl, refl, refl, refl);
       works = λ classes spelled.
           rw (p.1, p.2) (works_stopped c.args.files.now (λ x. IsDueOfHeldRun c.args.bound words c.args.unix keep classes x.input.told) w v stop
-          (some_run c.args.bound loaded_turn (loaded (program_of classes) words) c.args.unix keep w.input.told)
+          (some_run c.args.bound loaded_turn (loaded_program (program_of classes) words) c.args.unix keep w.input.told)
           (c.in_err-store_files.ensures.stores w.input w.out w.err));
     }
 
@@ -37,7 +37,7 @@ returns-in_err-jvm g c =
       same = (refl, refl, refl, refl);
       works = λ classes spelled.
           rw (p.1, p.2) (no_memory_behind c.args.files.now (λ x. IsDueOfHeldRun c.args.bound words c.args.unix keep classes x.input.told) w v
-          (some_run c.args.bound loaded_turn (loaded (program_of classes) words) c.args.unix keep w.input.told)
+          (some_run c.args.bound loaded_turn (loaded_program (program_of classes) words) c.args.unix keep w.input.told)
           (c.in_ok-store_files.ensures.stores w.input w.out w.err));
     }
 

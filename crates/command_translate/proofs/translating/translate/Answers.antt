@@ -1,5 +1,6 @@
 use Rattle.std.proofs.Common.{[], ◌≡◌, ◌∷◌, Some, Ok, Err, inl, inr, refl, subst, sym}
 use Rattle.std.proofs.lemmas.Result.{err_from_is_err_and}
+use Rattle.nv_translate.specs.Made.{AreMade}
 use Rattle.command_deeds.proofs.DeedLemmas.{all_then_stops, all_then_works, gives_ends, gives_then, same_shelf, stops_before, written}
 use Rattle.command_deeds.specs.Deeds.{prints}
 use Rattle.command_deeds.specs.Ends.{end_of, says}
@@ -8,8 +9,8 @@ use Rattle.command_deeds.specs.declared.done.Done.TheVariants.{Good}
 use Rattle.command_deeds.specs.declared.stop.Stop.TheVariants.{WriteFault}
 use Rattle.command_guest.specs.Imaging.{IsImagedFrom}
 use Rattle.command_translate.proofs.TranslationLemmas.{translate_due, translate_refused}
-use Rattle.command_translate.specs.Metered.{AreFilesBy}
-use Rattle.command_translate.specs.Stores.{counts_line, files_counted, stored}
+use Rattle.command_translate.specs.Held.{AreTranslatedBy}
+use Rattle.command_translate.specs.Stores.{translation_line, files_counted, files_stored}
 use Rattle.command_translate.specs.Translate.{IsDueOfTranslate}
 use Rattle.command_translate.proofs.translating.translate.Goals as goal
 
@@ -23,7 +24,7 @@ returns-in_err-image g c =
     record {
       ends = (
         (refl, refl, refl, refl),
-        rw (p.1, p.2) (gives_ends (IsDueOfTranslate input name c.args.pages c.args.method_bytes c.args.meter)
+        rw (p.1, p.2) (gives_ends (IsDueOfTranslate AreMade input name c.args.pages c.args.method_bytes c.args.meter)
             (λ files answer. IsImagedFrom input c.args.pages files (Err answer)) w v (end_of c.in_err-image.field-0.0) c.in_err-image.ensures.gives
             (refl, refl, refl)
             (λ files answer agree h. translate_refused input name c.args.pages c.args.method_bytes c.args.meter w files answer agree h)),
@@ -44,21 +45,22 @@ returns-in_err-store_files g c =
     let image = c.in_ok-image.image in
     let made = c.as_slice-files.result.now in
     let words = c.need-words.result in
-    let are = subst (AreFilesBy c.args.meter image name c.args.method_bytes) (sym c.as_slice-files.ensures.value) c.in_ok-made.ensures in
+    let t = subst (AreTranslatedBy c.args.meter image name) (sym c.as_slice-files.ensures.value) c.in_ok-made.ensures.translated in
+    let how = subst (AreMade c.args.meter image name c.args.method_bytes) (sym c.as_slice-files.ensures.value) c.in_ok-made.ensures.made in
     let w = seen g.H.Shelf g.S.Source g.O.Sink g.E.Sink c.args.outside.now in
     let u = world (shelf_seen g.H.Shelf c.load_image.new.shelf) w.input w.out w.err in
     let v = world (shelf_seen g.H.Shelf c.store_files.new.shelf) w.input w.out w.err in
     record {
       ends = (
         (refl, refl, refl, refl),
-        rw (p.1, p.2) (gives_then (IsDueOfTranslate input name c.args.pages c.args.method_bytes c.args.meter) (λ x d. d ≡ files_counted made words)
+        rw (p.1, p.2) (gives_then (IsDueOfTranslate AreMade input name c.args.pages c.args.method_bytes c.args.meter) (λ x d. d ≡ files_counted made words)
             (λ files. IsImagedFrom input c.args.pages files (Ok image)) w u v (Err stop) c.in_ok-image.ensures.gives (refl, refl, refl)
-            (λ files d agree h later. translate_due input name c.args.pages c.args.method_bytes c.args.meter w files image made words d agree h are
+            (λ files d agree h later. translate_due input name c.args.pages c.args.method_bytes c.args.meter w files image made words d agree h t how
             c.need-words.ensures later)
             (inr (
               files_counted made words,
               refl,
-              stops_before (stored made) (prints (counts_line made words) ∷ []) u v stop
+              stops_before (files_stored made) (prints (translation_line made words) ∷ []) u v stop
                   (c.in_err-store_files.ensures.stores w.input w.out w.err),
             ))),
       );
@@ -72,7 +74,8 @@ returns-in_err-write_counts g c =
     let image = c.in_ok-image.image in
     let made = c.as_slice-files.result.now in
     let words = c.need-words.result in
-    let are = subst (AreFilesBy c.args.meter image name c.args.method_bytes) (sym c.as_slice-files.ensures.value) c.in_ok-made.ensures in
+    let t = subst (AreTranslatedBy c.args.meter image name) (sym c.as_slice-files.ensures.value) c.in_ok-made.ensures.translated in
+    let how = subst (AreMade c.args.meter image name c.args.method_bytes) (sym c.as_slice-files.ensures.value) c.in_ok-made.ensures.made in
     let w = seen g.H.Shelf g.S.Source g.O.Sink g.E.Sink c.args.outside.now in
     let u = world (shelf_seen g.H.Shelf c.load_image.new.shelf) w.input w.out w.err in
     let x = world (shelf_seen g.H.Shelf c.store_files.new.shelf) w.input w.out w.err in
@@ -80,14 +83,14 @@ returns-in_err-write_counts g c =
     record {
       ends = (
         (refl, refl, refl, refl),
-        rw (p.1, p.2) (gives_then (IsDueOfTranslate input name c.args.pages c.args.method_bytes c.args.meter) (λ x d. d ≡ files_counted made words)
+        rw (p.1, p.2) (gives_then (IsDueOfTranslate AreMade input name c.args.pages c.args.method_bytes c.args.meter) (λ x d. d ≡ files_counted made words)
             (λ files. IsImagedFrom input c.args.pages files (Ok image)) w u v (Err WriteFault) c.in_ok-image.ensures.gives (refl, refl, refl)
-            (λ files d agree h later. translate_due input name c.args.pages c.args.method_bytes c.args.meter w files image made words d agree h are
+            (λ files d agree h later. translate_due input name c.args.pages c.args.method_bytes c.args.meter w files image made words d agree h t how
             c.need-words.ensures later)
             (inr (
               files_counted made words,
               refl,
-              all_then_stops (stored made) (prints (counts_line made words) ∷ []) u x v WriteFault
+              all_then_stops (files_stored made) (prints (translation_line made words) ∷ []) u x v WriteFault
                   (c.in_ok-store_files.ensures.stores w.input w.out w.err)
                   (inl (c.in_err-write_counts.ensures.writes, (same_shelf x.shelf, refl, refl))),
             ))),
@@ -101,7 +104,8 @@ returns g c =
     let image = c.in_ok-image.image in
     let made = c.as_slice-files.result.now in
     let words = c.need-words.result in
-    let are = subst (AreFilesBy c.args.meter image name c.args.method_bytes) (sym c.as_slice-files.ensures.value) c.in_ok-made.ensures in
+    let t = subst (AreTranslatedBy c.args.meter image name) (sym c.as_slice-files.ensures.value) c.in_ok-made.ensures.translated in
+    let how = subst (AreMade c.args.meter image name c.args.method_bytes) (sym c.as_slice-files.ensures.value) c.in_ok-made.ensures.made in
     let w = seen g.H.Shelf g.S.Source g.O.Sink g.E.Sink c.args.outside.now in
     let u = world (shelf_seen g.H.Shelf c.load_image.new.shelf) w.input w.out w.err in
     let x = world (shelf_seen g.H.Shelf c.store_files.new.shelf) w.input w.out w.err in
@@ -109,16 +113,16 @@ returns g c =
     record {
       ends = (
         (refl, refl, refl, refl),
-        gives_then (IsDueOfTranslate input name c.args.pages c.args.method_bytes c.args.meter) (λ x d. d ≡ files_counted made words)
+        gives_then (IsDueOfTranslate AreMade input name c.args.pages c.args.method_bytes c.args.meter) (λ x d. d ≡ files_counted made words)
             (λ files. IsImagedFrom input c.args.pages files (Ok image)) w u v (Ok (says Good)) c.in_ok-image.ensures.gives (refl, refl, refl)
-            (λ files d agree h later. translate_due input name c.args.pages c.args.method_bytes c.args.meter w files image made words d agree h are
+            (λ files d agree h later. translate_due input name c.args.pages c.args.method_bytes c.args.meter w files image made words d agree h t how
             c.need-words.ensures later)
             (inr (
               files_counted made words,
               refl,
-              all_then_works (stored made) (prints (counts_line made words) ∷ []) (Some (says Good)) u x v (Ok (says Good))
+              all_then_works (files_stored made) (prints (translation_line made words) ∷ []) (Some (says Good)) u x v (Ok (says Good))
                   (c.in_ok-store_files.ensures.stores w.input w.out w.err)
-                  (written (counts_line made words) x v (says Good) refl c.in_ok-write_counts.ensures.writes (same_shelf x.shelf, refl, refl)),
+                  (written (translation_line made words) x v (says Good) refl c.in_ok-write_counts.ensures.writes (same_shelf x.shelf, refl, refl)),
             )),
       );
     }

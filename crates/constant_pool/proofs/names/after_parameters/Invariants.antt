@@ -1,5 +1,5 @@
 use Rattle.std.proofs.Common.{◌≡◌, ◌-◌}
-use Rattle.constant_pool.specs.Names.{after_parameters}
+use Rattle.class_definition.specs.NameGrammar.{after_parameters}
 use Rattle.constant_pool.proofs.names.after_parameters.Given as goal
 
 abbrev pub invariant-loop : goal.invariant-loop

@@ -1,6 +1,6 @@
 use Rattle.std.proofs.Common.{◌≡◌, length}
 use Rattle.std.specs.List.{list_all}
-use Rattle.constant_pool.specs.Names.{is_part_character}
+use Rattle.class_definition.specs.NameGrammar.{is_part_character}
 use Rattle.constant_pool.proofs.names.are_part_characters.Given as goal
 
 abbrev pub invariant-loop-c : goal.invariant-loop-c

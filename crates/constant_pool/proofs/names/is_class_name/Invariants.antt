@@ -1,5 +1,5 @@
 use Rattle.std.proofs.Common.{◌≡◌, length, false}
-use Rattle.constant_pool.specs.Names.{is_name_from}
+use Rattle.class_definition.specs.NameGrammar.{is_name_from}
 use Rattle.constant_pool.proofs.names.is_class_name.Given as goal
 
 abbrev pub invariant-loop-c : goal.invariant-loop-c

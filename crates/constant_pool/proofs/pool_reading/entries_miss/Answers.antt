@@ -1,6 +1,6 @@
 use Rattle.std.proofs.Common.{◌≡◌, ◌+◌, ◌-◌, sym, arith}
 use Rattle.std.proofs.lemmas.List.{nil_from_length}
-use Rattle.constant_pool.specs.Checks.{slot_size}
+use Rattle.class_definition.specs.PoolChecks.{slot_size}
 use Rattle.constant_pool.proofs.PoolLemmas.{entry_missed, entry_passed, entries_passed}
 use Rattle.constant_pool.proofs.pool_reading.entries_miss.Goals as goal
 

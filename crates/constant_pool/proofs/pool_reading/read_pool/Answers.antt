@@ -1,5 +1,5 @@
 use Rattle.std.proofs.Common.{◌≡◌, ◌+◌, drop, refl, ap, arith}
-use Rattle.constant_pool.specs.Checks.{pool}
+use Rattle.class_definition.specs.PoolChecks.{pool}
 use Rattle.constant_pool.proofs.EntryLaws.{pool_law}
 use Rattle.constant_pool.proofs.ReadingLemmas.{taken_at, read_at, same_read}
 use Rattle.constant_pool.proofs.pool_reading.read_pool.Goals as goal

@@ -1,5 +1,5 @@
 use Rattle.std.proofs.Common.{◌≡◌, ◌++◌, take}
-use Rattle.constant_pool.specs.Text.{text_bytes}
+use Rattle.class_definition.specs.Utf8.{text_bytes}
 use Rattle.constant_pool.proofs.text.append_text.Given as goal
 
 abbrev pub invariant-loop-character : goal.invariant-loop-character

@@ -1,5 +1,5 @@
 use Rattle.std.proofs.Common.{◌≡◌, length}
-use Rattle.constant_pool.specs.Text.{text_from, text_of_bytes, IsPartial}
+use Rattle.class_definition.specs.Utf8.{text_from, text_of_bytes, IsPartial}
 use Rattle.constant_pool.specs.Answer.{whole_text}
 use Rattle.constant_pool.proofs.text_reading.read_text.Given as goal
 

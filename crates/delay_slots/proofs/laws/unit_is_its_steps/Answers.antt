@@ -1,4 +1,4 @@
-use Rattle.nv_events.specs.Answer.{next_answer}
+use Rattle.run_definition.specs.Answer.{next_answer}
 use Rattle.delay_slots.specs.Turns.{unit_turns}
 use Rattle.delay_slots.proofs.PlaceLemmas.{unit_turns_made}
 use Rattle.delay_slots.proofs.LeadLemmas.{unit_count}

@@ -1,6 +1,6 @@
 use Rattle.std.proofs.Common.{◌≡◌, ◌≤◌, ◌<◌, ◌*◌, take, length, get_or}
-use Rattle.elf_reader.specs.declared.range.Range.{Range}
-use Rattle.elf_image.specs.Refusals.{code_words}
+use Rattle.elf_definition.specs.declared.range.Range.{Range}
+use Rattle.elf_definition.specs.ImageFault.{code_words}
 use Rattle.elf_image.proofs.checks.code_words.Given as goal
 
 abbrev pub invariant-loop-range : goal.invariant-loop-range

@@ -1,7 +1,7 @@
 use Rattle.std.proofs.Common.{◌≡◌, ℕ, length, take}
 use Rattle.std.specs.List.{list_any}
-use Rattle.elf_image.specs.Content.{has_data}
-use Rattle.elf_image.specs.Pages.{heap_page}
+use Rattle.elf_definition.specs.Content.{has_data}
+use Rattle.elf_definition.specs.Pages.{heap_page}
 use Rattle.elf_image.specs.PageTable.{marked}
 use Rattle.elf_image.proofs.filled.filled_marks.Given as goal
 

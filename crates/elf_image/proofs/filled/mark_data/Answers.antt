@@ -1,6 +1,6 @@
 use Rattle.std.proofs.Common.{◌∙◌, ◌+◌, ◌/◌, ◌≤◌, sym, ap, refl, arith}
-use Rattle.elf_reader.specs.Segments.{file_end}
-use Rattle.elf_image.specs.Content.{has_data}
+use Rattle.elf_definition.specs.Segments.{file_end}
+use Rattle.elf_definition.specs.Content.{has_data}
 use Rattle.elf_image.proofs.MarkLemmas.{or_first, or_step, or_done}
 use Rattle.elf_image.proofs.PieceLemmas.{before_data, behind_data}
 use Rattle.elf_image.proofs.filled.mark_data.Goals as goal

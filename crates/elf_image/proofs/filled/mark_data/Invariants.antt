@@ -1,5 +1,5 @@
 use Rattle.std.proofs.Common.{◌≡◌, ℕ, ◌&&◌, ◌||◌, nat_lt, length}
-use Rattle.elf_image.specs.Content.{has_data}
+use Rattle.elf_definition.specs.Content.{has_data}
 use Rattle.elf_image.specs.PageTable.{marked}
 use Rattle.elf_image.proofs.filled.mark_data.Given as goal
 

@@ -1,5 +1,5 @@
 use Rattle.std.proofs.Common.{◌≡◌, drop}
-use Rattle.elf_image.specs.Refusals.{first_float}
+use Rattle.elf_definition.specs.ImageFault.{first_float}
 use Rattle.elf_image.proofs.floats.first_float.Given as goal
 
 abbrev pub invariant-loop-range : goal.invariant-loop-range

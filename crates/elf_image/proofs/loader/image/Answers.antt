@@ -1,7 +1,7 @@
 use Rattle.std.proofs.Common.{◌∙◌, sym, ap, subst}
 use Rattle.std.proofs.lemmas.Result.{err_from_is_err_and}
 use Rattle.elf_image.specs.Answer.{IsAnswerTo}
-use Rattle.elf_image.specs.Refusals.{image_fault}
+use Rattle.elf_definition.specs.ImageFault.{image_fault}
 use Rattle.elf_image.proofs.Accepted.{sound_of, apart_of}
 use Rattle.elf_image.proofs.LoaderLemmas.{first_answer, second_answer, last_fault, last_answer}
 use Rattle.elf_image.proofs.loader.image.Goals as goal

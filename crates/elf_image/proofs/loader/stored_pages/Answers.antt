@@ -2,8 +2,8 @@ use Rattle.std.proofs.Common.{◌∙◌, refl, sym, ap, subst}
 use Rattle.std.proofs.lemmas.Result.{err_from_is_err_and}
 use Rattle.std.specs.Option.{option_or}
 use Rattle.elf_image.specs.Answer.{IsAnswer}
-use Rattle.elf_image.specs.Content.{is_filled_page}
-use Rattle.elf_image.specs.Refusals.{data_fault, layout_fault}
+use Rattle.elf_definition.specs.Content.{is_filled_page}
+use Rattle.elf_definition.specs.ImageFault.{data_fault, layout_fault}
 use Rattle.elf_image.proofs.LoaderLemmas.{answer_first, answer_second, data_same, none_both}
 use Rattle.elf_image.proofs.loader.stored_pages.Goals as goal
 

@@ -1,5 +1,5 @@
 use Rattle.std.proofs.Common.{◌≡◌, ◌≤◌}
-use Rattle.elf_image.specs.Pages.{count_below}
+use Rattle.elf_definition.specs.Pages.{count_below}
 use Rattle.elf_image.specs.PageTable.{marked}
 use Rattle.elf_image.proofs.page_marks.count_marks.Given as goal
 

@@ -1,7 +1,7 @@
 use Rattle.std.proofs.Common.{◌∙◌, ◌&&◌, ap, length}
-use Rattle.elf_reader.specs.Segments.{is_writable}
-use Rattle.elf_reader.specs.declared.segment.Segment.{Segment}
-use Rattle.elf_image.specs.Pages.{is_on_page, is_data_page}
+use Rattle.elf_definition.specs.Segments.{is_writable}
+use Rattle.elf_definition.specs.declared.segment.Segment.{Segment}
+use Rattle.elf_definition.specs.Pages.{is_on_page, is_data_page}
 use Rattle.elf_image.specs.PageTable.{marked}
 use Rattle.elf_image.proofs.MarkLemmas.{any_step, any_done, written_back}
 use Rattle.elf_image.proofs.page_marks.data_marks.Goals as goal

@@ -1,7 +1,7 @@
 use Rattle.std.proofs.Common.{◌≡◌, ℕ, ◌&&◌, length, take}
 use Rattle.std.specs.List.{list_any}
-use Rattle.elf_reader.specs.Segments.{is_writable}
-use Rattle.elf_image.specs.Pages.{is_on_page, heap_page}
+use Rattle.elf_definition.specs.Segments.{is_writable}
+use Rattle.elf_definition.specs.Pages.{is_on_page, heap_page}
 use Rattle.elf_image.specs.PageTable.{marked}
 use Rattle.elf_image.proofs.page_marks.data_marks.Given as goal
 

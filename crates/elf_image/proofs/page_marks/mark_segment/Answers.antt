@@ -1,5 +1,5 @@
 use Rattle.std.proofs.Common.{◌∙◌, ◌≤◌, sym, ap, refl, arith}
-use Rattle.elf_image.specs.Pages.{is_on_page, page_behind}
+use Rattle.elf_definition.specs.Pages.{is_on_page, page_behind}
 use Rattle.elf_image.proofs.MarkLemmas.{or_first, or_step, or_done, before_segment, behind_segment}
 use Rattle.elf_image.proofs.page_marks.mark_segment.Goals as goal
 

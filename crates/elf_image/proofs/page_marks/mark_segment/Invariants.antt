@@ -1,5 +1,5 @@
 use Rattle.std.proofs.Common.{◌≡◌, ℕ, ◌&&◌, ◌||◌, nat_lt, length}
-use Rattle.elf_image.specs.Pages.{is_on_page}
+use Rattle.elf_definition.specs.Pages.{is_on_page}
 use Rattle.elf_image.specs.PageTable.{marked}
 use Rattle.elf_image.proofs.page_marks.mark_segment.Given as goal
 

@@ -1,5 +1,5 @@
 use Rattle.std.proofs.Common.{◌≡◌, ℕ, ◌<◌, ◌≤◌, length, get_or}
-use Rattle.elf_image.specs.Pages.{count_below}
+use Rattle.elf_definition.specs.Pages.{count_below}
 use Rattle.elf_image.specs.PageTable.{marked, number_of}
 use Rattle.elf_image.proofs.page_marks.numbers.Given as goal
 

@@ -2,7 +2,7 @@ use Rattle.std.proofs.Common.{◌≡◌, ◌∙◌, ap, arith}
 use Rattle.std.specs.List.{fold}
 use Rattle.std.proofs.lemmas.List.{take_all}
 use Rattle.std.specs.Prelude.{max}
-use Rattle.elf_image.specs.Pages.{page_behind, heap_page}
+use Rattle.elf_definition.specs.Pages.{page_behind, heap_page}
 use Rattle.elf_image.proofs.Layouts.{all_behind}
 use Rattle.elf_image.proofs.pages.heap_page.Goals as goal
 

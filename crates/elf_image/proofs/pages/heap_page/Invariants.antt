@@ -1,6 +1,6 @@
 use Rattle.std.proofs.Common.{◌≡◌, ◌≤◌, max, take}
 use Rattle.std.specs.List.{fold}
-use Rattle.elf_image.specs.Pages.{page_behind}
+use Rattle.elf_definition.specs.Pages.{page_behind}
 use Rattle.elf_image.proofs.pages.heap_page.Given as goal
 
 abbrev pub invariant-loop-s : goal.invariant-loop-s

@@ -1,6 +1,6 @@
 use Rattle.std.proofs.Common.{◌∙◌, sym, arith}
 use Rattle.elf_image.proofs.StoreLemmas.{put_page, skip_page, page_room}
-use Rattle.elf_reader.specs.Segments.{file_end}
+use Rattle.elf_definition.specs.Segments.{file_end}
 use Rattle.elf_image.proofs.store.put_page.Goals as goal
 
 pub put_bytes-requires : goal.put_bytes-requires

@@ -1,5 +1,5 @@
 use Rattle.std.proofs.Common.{◌∙◌, refl, arith}
-use Rattle.elf_image.specs.Content.{is_in_file_part}
+use Rattle.elf_definition.specs.Content.{is_in_file_part}
 use Rattle.elf_image.proofs.StoreLemmas.{segment_first, segment_more, segment_done}
 use Rattle.elf_image.proofs.store.put_segment.Goals as goal
 

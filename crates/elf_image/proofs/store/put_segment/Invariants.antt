@@ -1,5 +1,5 @@
 use Rattle.std.proofs.Common.{◌≡◌, ℕ, ◌/◌, ◌&&◌, nat_lt, cond, length, get_or}
-use Rattle.elf_image.specs.Content.{is_in_file_part, file_byte}
+use Rattle.elf_definition.specs.Content.{is_in_file_part, file_byte}
 use Rattle.elf_image.specs.PageTable.{table_byte}
 use Rattle.elf_image.proofs.store.put_segment.Given as goal
 

@@ -1,6 +1,6 @@
 use Rattle.std.proofs.Common.{◌≡◌, ◌∙◌, ◌+◌, ◌-◌, sym, ap, arith, length, drop}
-use Rattle.elf_reader.specs.declared.segment.Segment.{Segment}
-use Rattle.elf_image.specs.Content.{stored_byte}
+use Rattle.elf_definition.specs.declared.segment.Segment.{Segment}
+use Rattle.elf_definition.specs.Content.{stored_byte}
 use Rattle.elf_image.specs.PageTable.{table_byte}
 use Rattle.elf_image.proofs.MarkLemmas.{written_back}
 use Rattle.elf_image.proofs.StoreLemmas.{none_put, one_put}

@@ -1,5 +1,5 @@
 use Rattle.std.proofs.Common.{◌≡◌, ℕ, ◌*◌, ◌/◌, ◌-◌, drop, length, get_or}
-use Rattle.elf_image.specs.Content.{stored_byte}
+use Rattle.elf_definition.specs.Content.{stored_byte}
 use Rattle.elf_image.specs.PageTable.{table_byte}
 use Rattle.elf_image.proofs.store.stored_words.Given as goal
 

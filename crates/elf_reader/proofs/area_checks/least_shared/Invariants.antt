@@ -1,6 +1,6 @@
 use Rattle.std.proofs.Common.{◌+◌, ◌^◌, ◌<◌, ◌&&◌, take, IfSome}
 use Rattle.std.specs.List.{list_any}
-use Rattle.elf_reader.specs.Area.{range_is_on_page}
+use Rattle.elf_definition.specs.Area.{range_is_on_page}
 use Rattle.elf_reader.specs.Spans.{are_within, IsLeastFrom}
 use Rattle.elf_reader.proofs.area_checks.least_shared.Given as goal
 

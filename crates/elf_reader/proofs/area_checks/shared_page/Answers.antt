@@ -1,4 +1,4 @@
-use Rattle.elf_reader.specs.Area.{page_count}
+use Rattle.elf_definition.specs.Area.{page_count}
 use Rattle.elf_reader.proofs.PageLemmas.{pages_filled, shared_least}
 use Rattle.elf_reader.proofs.area_checks.shared_page.Goals as goal
 

@@ -1,6 +1,6 @@
 use Rattle.std.proofs.Common.{rules}
 use Rattle.std.proofs.lemmas.List.Sorted.{IsNonDecreasingBy-from_sort_by_key}
-use Rattle.elf_reader.specs.declared.range.Range.{Range}
+use Rattle.elf_definition.specs.declared.range.Range.{Range}
 use Rattle.elf_reader.proofs.code_area.by_first.Goals as goal
 
 pub returns-clause-rise : goal.returns-clause-rise

@@ -1,5 +1,5 @@
 use Rattle.std.proofs.Common.{◌^◌, ◌∙◌, ◌++◌, ◌+◌, get_or, drop, ap, arith, rules}
-use Rattle.elf_reader.specs.declared.range.Range.{Range}
+use Rattle.elf_definition.specs.declared.range.Range.{Range}
 use Rattle.elf_reader.proofs.RunLemmas.{merge_joined, merge_parted, merge_done, merge_from, joined_low, same_low, first_before, no_runs}
 use Rattle.elf_reader.proofs.code_area.merged.Goals as goal
 use Rattle.elf_reader.proofs.code_area.merged.Goals.{then-from-end, else-from-end+in_ok-push}

@@ -1,6 +1,6 @@
 use Rattle.std.proofs.Common.{◌≡◌, ℕ, ◌^◌, ◌<◌, ◌≤◌, ◌++◌, length, drop, get_or}
-use Rattle.elf_reader.specs.Area.{range_end}
-use Rattle.elf_reader.specs.declared.range.Range.{Range}
+use Rattle.elf_definition.specs.Area.{range_end}
+use Rattle.elf_definition.specs.declared.range.Range.{Range}
 use Rattle.elf_reader.proofs.RunLemmas.{merge_from}
 use Rattle.elf_reader.proofs.code_area.merged.Given as goal
 

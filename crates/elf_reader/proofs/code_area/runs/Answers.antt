@@ -1,7 +1,7 @@
 use Rattle.std.proofs.Common.{◌%◌, ◌^◌, ◌≤◌, ◌≡◌}
 use Rattle.std.proofs.lemmas.Result.{IfOk-weaker}
-use Rattle.elf_reader.specs.declared.range.Range.{Range}
-use Rattle.elf_reader.specs.Area.{range_end}
+use Rattle.elf_definition.specs.declared.range.Range.{Range}
+use Rattle.elf_definition.specs.Area.{range_end}
 use Rattle.elf_reader.proofs.RunLemmas.{kept_all, kept_filled, kept_runs}
 use Rattle.elf_reader.proofs.code_area.runs.Goals as goal
 

@@ -1,5 +1,5 @@
 use Rattle.std.proofs.Common.{◌∙◌}
-use Rattle.elf_reader.specs.Sections.{has_sections}
+use Rattle.elf_definition.specs.Sections.{has_sections}
 use Rattle.elf_reader.proofs.FaultLemmas.{ranges_placed, placed_low, placed_aligned}
 use Rattle.elf_reader.proofs.elf.read_area.Goals as goal
 

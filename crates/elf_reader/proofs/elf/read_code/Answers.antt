@@ -1,11 +1,11 @@
 use Rattle.std.proofs.Common.{◌∙◌, sym}
 use Rattle.std.proofs.lemmas.Result.{IfOk-weaker, IfErr-weaker, on_ok_weaker}
-use Rattle.elf_reader.specs.Sections.{has_sections}
-use Rattle.elf_reader.specs.Area.{ranges_of}
+use Rattle.elf_definition.specs.Sections.{has_sections}
+use Rattle.elf_definition.specs.Area.{ranges_of}
 use Rattle.elf_reader.proofs.FaultLemmas.{code_first, ranges_known, answer_known, runs_known}
 use Rattle.elf_reader.proofs.PassedLemmas.{area_text, runs_low, section_passed}
 use Rattle.std.proofs.Common.{length}
-use Rattle.elf_reader.specs.Area.{area}
+use Rattle.elf_definition.specs.Area.{area}
 use Rattle.elf_reader.proofs.elf.read_code.Goals as goal
 
 pub returns-clause-refused : goal.returns-clause-refused

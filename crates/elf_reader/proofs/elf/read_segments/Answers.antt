@@ -1,6 +1,6 @@
 use Rattle.std.proofs.Common.{◌∙◌, sym, ap, map, filter, length, arith}
-use Rattle.elf_reader.specs.declared.program_header.ProgramHeader.{ProgramHeader}
-use Rattle.elf_reader.specs.Segments.{live, is_live, segment_fault}
+use Rattle.elf_definition.specs.declared.program_header.ProgramHeader.{ProgramHeader}
+use Rattle.elf_definition.specs.Segments.{live, is_live, segment_fault}
 use Rattle.elf_reader.proofs.FaultLemmas.{segments_sound}
 use Rattle.elf_reader.proofs.PassedLemmas.{segments_apart}
 use Rattle.elf_reader.proofs.elf.read_segments.Goals as goal

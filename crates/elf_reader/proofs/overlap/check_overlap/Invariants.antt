@@ -1,5 +1,5 @@
 use Rattle.std.proofs.Common.{◌≡◌, drop}
-use Rattle.elf_reader.specs.Segments.{overlap_from}
+use Rattle.elf_definition.specs.Segments.{overlap_from}
 use Rattle.elf_reader.proofs.overlap.check_overlap.Given as goal
 
 abbrev pub invariant-loop-i : goal.invariant-loop-i

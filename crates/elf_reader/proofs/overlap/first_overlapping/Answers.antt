@@ -1,6 +1,6 @@
 use Rattle.std.proofs.Common.{◌≡◌, sym, arith, rules, count_by, false}
 use Rattle.std.proofs.lemmas.Bool.Decides.{nat_tests}
-use Rattle.elf_reader.specs.Segments.{is_live, overlap}
+use Rattle.elf_definition.specs.Segments.{is_live, overlap}
 use Rattle.elf_reader.proofs.CountLemmas.{count_by-none, position-none}
 use Rattle.elf_reader.proofs.OverlapLemmas.{not_live_first}
 use Rattle.elf_reader.proofs.overlap.first_overlapping.Goals as goal

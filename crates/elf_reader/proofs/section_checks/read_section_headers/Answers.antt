@@ -1,4 +1,4 @@
-use Rattle.elf_reader.specs.Sections.{section_header}
+use Rattle.elf_definition.specs.Sections.{section_header}
 use Rattle.elf_reader.proofs.TableLemmas.{table_more, few_more}
 use Rattle.elf_reader.proofs.section_checks.read_section_headers.Goals as goal
 
@@ -6,7 +6,7 @@ pub loop-i-preserved : goal.loop-i-preserved
 loop-i-preserved c =
     record {
       read =
-          table_more (section_header c.args.b.now) c.loop-i.sections.items _ c.read.result c.loop-i.i
-          c.loop-i.invariant.read c.read.ensures c.in_ok-push.ensures.items;
-      few = few_more c.loop-i.sections.items _ c.read.result c.loop-i.i c.loop-i.invariant.few c.in_ok-push.ensures.items;
+          table_more (section_header c.args.b.now) c.loop-i.sections.items _ c.section_header_at.result c.loop-i.i
+          c.loop-i.invariant.read c.section_header_at.ensures c.in_ok-push.ensures.items;
+      few = few_more c.loop-i.sections.items _ c.section_header_at.result c.loop-i.i c.loop-i.invariant.few c.in_ok-push.ensures.items;
     }

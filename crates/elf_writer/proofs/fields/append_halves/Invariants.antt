@@ -1,5 +1,5 @@
 use Rattle.std.proofs.Common.{◌≡◌, ◌++◌, take}
-use Rattle.elf_writer.specs.Fields.{halves}
+use Rattle.elf_definition.specs.FileFields.{halves}
 use Rattle.elf_writer.proofs.fields.append_halves.Given as goal
 
 -- the fields so far were appended

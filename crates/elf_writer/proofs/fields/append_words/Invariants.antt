@@ -1,5 +1,5 @@
 use Rattle.std.proofs.Common.{◌≡◌, ◌++◌, take}
-use Rattle.elf_writer.specs.Fields.{words}
+use Rattle.elf_definition.specs.FileFields.{words}
 use Rattle.elf_writer.proofs.fields.append_words.Given as goal
 
 -- the fields so far were appended

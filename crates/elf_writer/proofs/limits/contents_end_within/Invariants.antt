@@ -1,5 +1,5 @@
 use Rattle.std.proofs.Common.{◌≡◌, ◌≤◌, length}
-use Rattle.elf_writer.specs.Places.{contents_end}
+use Rattle.elf_definition.specs.FilePlaces.{contents_end}
 use Rattle.elf_writer.proofs.limits.contents_end_within.Given as goal
 
 -- the end behind the rest is the end behind them all, and the file is not too long so far

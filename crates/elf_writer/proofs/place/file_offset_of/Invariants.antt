@@ -1,5 +1,5 @@
 use Rattle.std.proofs.Common.{◌≡◌, length}
-use Rattle.elf_writer.specs.Places.{contents_end, file_offset}
+use Rattle.elf_definition.specs.FilePlaces.{contents_end, file_offset}
 use Rattle.elf_writer.proofs.place.file_offset_of.Given as goal
 
 -- no segment so far holds the address: its offset in the rest is its offset in them all

@@ -1,6 +1,6 @@
 use Rattle.std.proofs.Common.{◌≡◌, ◌++◌, length}
-use Rattle.elf_writer.specs.File.{contents}
-use Rattle.elf_writer.specs.Places.{contents_end}
+use Rattle.elf_definition.specs.File.{contents}
+use Rattle.elf_definition.specs.FilePlaces.{contents_end}
 use Rattle.elf_writer.proofs.tables.append_contents.Given as goal
 
 -- what was appended, and what the rest will be, is what all are

@@ -1,5 +1,5 @@
 use Rattle.std.proofs.Common.{rules, ◌≡◌, append_assoc}
-use Rattle.elf_writer.specs.File.{elf_file}
+use Rattle.elf_definition.specs.File.{elf_file}
 use Rattle.elf_writer.proofs.LengthLemmas.{length-elf_file}
 use Rattle.elf_writer.proofs.writer.write_elf.Goals as goal
 

@@ -1,7 +1,7 @@
 use Rattle.std.proofs.Common.{◌≡◌, ◌+◌, ◌<◌, ◌≤◌, length, get_or, [], sym, ap, subst, ◌∙◌, arith, Some, None}
 use Rattle.std.specs.Prelude.{slice_get}
-use Rattle.jvm_link.specs.Linking.{linked_methods}
-use Rattle.type_inference.specs.Actions.{program_over}
+use Rattle.class_definition.specs.Linking.{linked_methods}
+use Rattle.jvm_type_inference.specs.Actions.{program_over}
 use Rattle.type_verifier.specs.Refusal.{methods_before}
 use Rattle.frame_maps.specs.Checked.{IsFirstOf}
 use Rattle.frame_maps.proofs.CheckLaws.{methods-within, next-before, class-typed, class-fails, more-typed, stands-at, table-is, first-moved}

@@ -1,10 +1,10 @@
 use Rattle.std.proofs.Common.{◌≡◌, true, false, sym, ap, subst, ◌∙◌, get_or, Some, None}
 use Rattle.std.specs.Prelude.{option_map, IsTrue, ◌↔◌, slice_get}
 use Rattle.std.proofs.lemmas.Option.{get_or_from_slice_get}
-use Rattle.jvm_program.specs.declared.linked_method.LinkedMethod.{LinkedMethod}
-use Rattle.type_inference.specs.Actions.{program_over}
-use Rattle.type_inference.specs.Frames.{frame_at}
-use Rattle.frame_tables.specs.Meaning.{frames_of}
+use Rattle.jvm_definition.specs.declared.linked_method.LinkedMethod.{LinkedMethod}
+use Rattle.jvm_type_inference.specs.Actions.{program_over}
+use Rattle.jvm_type_inference.specs.Frames.{frame_at}
+use Rattle.stackmap_table.specs.Meaning.{frames_of}
 use Rattle.frame_maps.specs.Framed.{Framed}
 use Rattle.frame_maps.specs.Checked.{IsResult}
 use Rattle.frame_maps.proofs.CheckLaws.{not-framed, result-of}

@@ -1,5 +1,5 @@
 use Rattle.std.proofs.Common.{ℕ, ◌<◌}
-use Rattle.type_inference.specs.Actions.{program_over}
+use Rattle.jvm_type_inference.specs.Actions.{program_over}
 use Rattle.frame_maps.specs.Checked.{IsTypedAt}
 use Rattle.frame_maps.proofs.checking.first_fault.Given as goal
 

@@ -2,8 +2,8 @@ use Rattle.std.proofs.Common.{rules, ◌≡◌, ◌<◌, ◌++◌, ◌∷◌, []
 use Rattle.std.specs.Prelude.{is_some}
 use Rattle.std.proofs.lemmas.Bool.{true≢false}
 use Rattle.std.proofs.lemmas.List.{length-replicate, length-set}
-use Rattle.jvm_program.specs.Program.{line_in}
-use Rattle.type_inference.specs.declared.frame.Frame.{Frame}
+use Rattle.jvm_definition.specs.Program.{line_in}
+use Rattle.jvm_type_inference.specs.declared.frame.Frame.{Frame}
 use Rattle.frame_maps.proofs.PlacingLaws.{first-placing, next-placing, no-line, all-placed}
 use Rattle.frame_maps.proofs.placing.placed.Goals as goal
 

@@ -1,9 +1,9 @@
 use Rattle.std.proofs.Common.{Some, ap, length, ◌≤◌, arith}
 use Rattle.std.specs.Prelude.{option_map}
 use Rattle.std.proofs.lemmas.Bool.{false≢true}
-use Rattle.jvm_program.specs.Typing.{entry_frame}
-use Rattle.type_inference.specs.Actions.{program_over}
-use Rattle.type_inference.specs.Frames.{type_frame, frame_at}
+use Rattle.jvm_definition.specs.Typing.{entry_frame}
+use Rattle.jvm_type_inference.specs.Actions.{program_over}
+use Rattle.jvm_type_inference.specs.Frames.{type_frame, frame_at}
 use Rattle.frame_maps.specs.Walk.{Walks}
 use Rattle.frame_maps.proofs.WalkLaws.{walk-fails, walk-ends}
 use Rattle.frame_maps.proofs.FramedLaws.{framed-parameters, framed-walks, framed-exactly}

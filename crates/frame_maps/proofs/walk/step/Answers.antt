@@ -1,8 +1,8 @@
 use Rattle.std.proofs.Common.{sym, subst, ◌∙◌}
 use Rattle.std.specs.Prelude.{All, option_map}
 use Rattle.std.proofs.lemmas.Bool.{true≢false}
-use Rattle.type_inference.specs.Actions.{program_over}
-use Rattle.type_inference.specs.Frames.{type_frame, frame_at}
+use Rattle.jvm_type_inference.specs.Actions.{program_over}
+use Rattle.jvm_type_inference.specs.Frames.{type_frame, frame_at}
 use Rattle.frame_maps.specs.Walk.{ListedAbove, IsWay}
 use Rattle.frame_maps.proofs.WalkLaws.{no-step, way-on}
 use Rattle.frame_maps.proofs.walk.step.Goals as goal

@@ -2,8 +2,8 @@ use Rattle.std.proofs.Common.{◌≡◌, ◌-◌, ◌+◌, suc, eqb, false, leng
 use Rattle.std.proofs.lemmas.Result.{err_from_is_err_and}
 use Rattle.std.proofs.lemmas.Bool.{ne_eqb}
 use Rattle.class_format.specs.Gives.{Fails}
-use Rattle.jvm_code.specs.declared.line.Line.{Line}
-use Rattle.jvm_code.specs.Instructions.{instruction}
+use Rattle.class_definition.specs.declared.line.Line.{Line}
+use Rattle.class_definition.specs.Instructions.{instruction}
 use Rattle.jvm_code.proofs.LineLemmas.{lines_more, lines_fail, lines_end, lines_done}
 use Rattle.jvm_code.proofs.code_reading.lines_of.Goals as goal
 

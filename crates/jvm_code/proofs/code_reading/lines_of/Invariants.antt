@@ -1,5 +1,5 @@
 use Rattle.std.proofs.Common.{◌≡◌, ◌-◌, length}
-use Rattle.jvm_code.specs.Code.{lines_from}
+use Rattle.class_definition.specs.Code.{lines_from}
 use Rattle.jvm_code.proofs.LineLemmas.{with_lines}
 use Rattle.jvm_code.proofs.code_reading.lines_of.Given as goal
 

@@ -1,6 +1,6 @@
 use Rattle.std.proofs.Common.{◌≡◌, false, length, sym, ◌∙◌, arith}
 use Rattle.std.proofs.lemmas.Result.{IfOk-weaker}
-use Rattle.jvm_code.specs.Code.{is_bad_length}
+use Rattle.class_definition.specs.Code.{is_bad_length}
 use Rattle.jvm_code.proofs.DecodeLemmas.{lines_of_code, good_length, kept_lines, kept_code}
 use Rattle.jvm_code.proofs.ReadBack.{one_list, are_code}
 use Rattle.jvm_code.proofs.decode.decode_ops.Goals as goal

@@ -1,6 +1,6 @@
 use Rattle.std.proofs.Common.{◌≡◌, length}
 use Rattle.std.specs.List.{list_all}
-use Rattle.jvm_code.specs.Code.{is_line}
+use Rattle.class_definition.specs.Code.{is_line}
 use Rattle.jvm_code.proofs.marks.are_lines.Given as goal
 
 abbrev pub invariant-loop-target : goal.invariant-loop-target

@@ -1,7 +1,7 @@
 use Rattle.std.proofs.Common.{◌≡◌, length}
 use Rattle.std.specs.Prelude.{map}
 use Rattle.std.specs.List.{list_all}
-use Rattle.jvm_code.specs.Code.{is_line}
+use Rattle.class_definition.specs.Code.{is_line}
 use Rattle.jvm_code.proofs.marks.are_pairs_lines.Given as goal
 
 abbrev pub invariant-loop-pair : goal.invariant-loop-pair

@@ -1,5 +1,5 @@
 use Rattle.std.proofs.Common.{◌≡◌, length}
-use Rattle.jvm_code.specs.Code.{is_line}
+use Rattle.class_definition.specs.Code.{is_line}
 use Rattle.jvm_code.proofs.marks.is_among.Given as goal
 
 abbrev pub invariant-loop-line : goal.invariant-loop-line

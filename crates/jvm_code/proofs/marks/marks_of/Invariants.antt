@@ -1,5 +1,5 @@
 use Rattle.std.proofs.Common.{take}
-use Rattle.jvm_code.specs.Code.{AreMarks}
+use Rattle.jvm_code.specs.Answer.{AreMarks}
 use Rattle.jvm_code.proofs.marks.marks_of.Given as goal
 
 abbrev pub invariant-loop-line : goal.invariant-loop-line

@@ -1,5 +1,5 @@
 use Rattle.std.proofs.Common.{◌≡◌, length}
-use Rattle.jvm_code.specs.Switches.{is_padding}
+use Rattle.class_definition.specs.Switches.{is_padding}
 use Rattle.jvm_code.proofs.switch_reading.is_padding.Given as goal
 
 abbrev pub invariant-loop-byte : goal.invariant-loop-byte

@@ -1,7 +1,7 @@
 use Rattle.std.proofs.Common.{◌≡◌, ◌-◌, ◌++◌, ◌∷◌, [], suc, arith}
 use Rattle.std.proofs.lemmas.Result.{err_from_is_err_and}
 use Rattle.class_format.proofs.Loops.{chain_more, chain_fails, chain_done}
-use Rattle.jvm_code.specs.Switches.{pair}
+use Rattle.class_definition.specs.Switches.{pair}
 use Rattle.jvm_code.proofs.switch_reading.pairs_of.Goals as goal
 
 pub returns-in_err-pair : goal.returns-in_err-pair

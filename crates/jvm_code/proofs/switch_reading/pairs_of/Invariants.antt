@@ -1,7 +1,7 @@
 use Rattle.std.proofs.Common.{◌≡◌}
-use Rattle.class_format.specs.Format.{chain_reading, repeated}
+use Rattle.class_definition.specs.Format.{chain_reading, repeated}
 use Rattle.class_format.proofs.Loops.{with_front}
-use Rattle.jvm_code.specs.Switches.{pair}
+use Rattle.class_definition.specs.Switches.{pair}
 use Rattle.jvm_code.proofs.switch_reading.pairs_of.Given as goal
 
 abbrev pub invariant-loop-to_come : goal.invariant-loop-to_come

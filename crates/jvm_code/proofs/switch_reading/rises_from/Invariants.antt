@@ -1,5 +1,5 @@
 use Rattle.std.proofs.Common.{◌≡◌, length}
-use Rattle.jvm_code.specs.Switches.{rises_from}
+use Rattle.class_definition.specs.Switches.{rises_from}
 use Rattle.jvm_code.proofs.switch_reading.rises_from.Given as goal
 
 abbrev pub invariant-loop-pair : goal.invariant-loop-pair

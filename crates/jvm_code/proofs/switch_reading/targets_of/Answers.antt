@@ -1,7 +1,7 @@
 use Rattle.std.proofs.Common.{◌≡◌, ◌-◌, ◌++◌, ◌∷◌, [], suc, arith}
 use Rattle.std.proofs.lemmas.Result.{err_from_is_err_and}
 use Rattle.class_format.proofs.Loops.{chain_more, chain_fails, chain_done}
-use Rattle.jvm_code.specs.Targets.{wide}
+use Rattle.class_definition.specs.Targets.{wide}
 use Rattle.jvm_code.proofs.switch_reading.targets_of.Goals as goal
 
 pub returns-in_err-target : goal.returns-in_err-target

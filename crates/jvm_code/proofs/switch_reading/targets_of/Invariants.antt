@@ -1,7 +1,7 @@
 use Rattle.std.proofs.Common.{◌≡◌}
-use Rattle.class_format.specs.Format.{chain_reading, repeated}
+use Rattle.class_definition.specs.Format.{chain_reading, repeated}
 use Rattle.class_format.proofs.Loops.{with_front}
-use Rattle.jvm_code.specs.Targets.{wide}
+use Rattle.class_definition.specs.Targets.{wide}
 use Rattle.jvm_code.proofs.switch_reading.targets_of.Given as goal
 
 abbrev pub invariant-loop-to_come : goal.invariant-loop-to_come

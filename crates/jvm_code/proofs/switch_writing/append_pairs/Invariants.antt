@@ -1,6 +1,6 @@
 use Rattle.std.proofs.Common.{◌≡◌, ◌++◌, length}
-use Rattle.class_format.specs.Format.{chain_spelling}
-use Rattle.jvm_code.specs.Switches.{pair}
+use Rattle.class_definition.specs.Format.{chain_spelling}
+use Rattle.class_definition.specs.Switches.{pair}
 use Rattle.jvm_code.proofs.switch_writing.append_pairs.Given as goal
 
 abbrev pub invariant-loop-pair : goal.invariant-loop-pair

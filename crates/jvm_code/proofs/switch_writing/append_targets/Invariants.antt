@@ -1,6 +1,6 @@
 use Rattle.std.proofs.Common.{◌≡◌, ◌++◌, length}
-use Rattle.class_format.specs.Format.{chain_spelling}
-use Rattle.jvm_code.specs.Targets.{wide}
+use Rattle.class_definition.specs.Format.{chain_spelling}
+use Rattle.class_definition.specs.Targets.{wide}
 use Rattle.jvm_code.proofs.switch_writing.append_targets.Given as goal
 
 abbrev pub invariant-loop-target : goal.invariant-loop-target

@@ -1,7 +1,7 @@
 use Rattle.std.proofs.Common.{◌<◌, [], ◌∷◌, ap, sym, subst, ◌∙◌}
 use Rattle.int_region.specs.Arrays.{Contents}
-use Rattle.jvm_program.specs.Values.{is_ints_reference}
-use Rattle.jvm_frames.specs.Stack.{on_top}
+use Rattle.jvm_definition.specs.Values.{is_ints_reference}
+use Rattle.jvm_activations.specs.Stack.{on_top}
 use Rattle.jvm_heap.specs.Regions.{heap_of}
 use Rattle.jvm_heap.proofs.AccessLaws.{int_put, ints_at}
 use Rattle.jvm_heap.proofs.SafetyLaws.{safe_int}

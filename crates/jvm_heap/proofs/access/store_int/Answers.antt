@@ -1,11 +1,11 @@
 use Rattle.std.proofs.Common.{◌≡◌, ℕ, ◌<◌, ◌∷◌, [], List, slice_index_or, length, subst, ap, sym, ◌∙◌, true, refl}
-use Rattle.jvm_names.specs.declared.array_name.ArrayName.TheVariants.{Iastore}
-use Rattle.jvm_program.specs.declared.instruction.Instruction.TheVariants as instructions
-use Rattle.jvm_program.specs.declared.value.Value.{Value}
-use Rattle.jvm_program.specs.declared.value.Value.TheVariants.{Unset as unset, Int as int, Array as array}
-use Rattle.jvm_program.specs.Values.{is_int, is_ints_reference}
+use Rattle.jvm_definition.specs.declared.array_name.ArrayName.TheVariants.{Iastore}
+use Rattle.jvm_definition.specs.declared.instruction.Instruction.TheVariants as instructions
+use Rattle.jvm_definition.specs.declared.value.Value.{Value}
+use Rattle.jvm_definition.specs.declared.value.Value.TheVariants.{Unset as unset, Int as int, Array as array}
+use Rattle.jvm_definition.specs.Values.{is_int, is_ints_reference}
 use Rattle.int_region.specs.Arrays.{Block, Contents, with_value, values_at}
-use Rattle.jvm_frames.specs.Stack.{on_top}
+use Rattle.jvm_activations.specs.Stack.{on_top}
 use Rattle.jvm_heap.specs.Regions.{heap_of}
 use Rattle.jvm_heap.specs.HeapForms.{Does}
 use Rattle.jvm_heap.proofs.AccessLaws.{does_by, int_put, ints_at, IntsAt}

@@ -1,13 +1,13 @@
 use Rattle.std.proofs.Common.{◌≡◌, ◌≢◌, ℕ, ◌+◌, ◌-◌, ◌<◌, ◌≤◌, ◌%◌, ◌^◌, ◌&&◌, ◌∷◌, [], List, IsSome, slice_index_or, length, subst, ap, sym, ◌∙◌, true, false, Bool, ◌==◌, if◌then◌else◌, Option, Some, None, option_map, refl, arith}
-use Rattle.command_values.specs.RegionWords.{most_region_words}
-use Rattle.jvm_names.specs.declared.array_name.ArrayName.TheVariants.{Aastore}
-use Rattle.jvm_program.specs.declared.instruction.Instruction.TheVariants as instructions
-use Rattle.jvm_program.specs.declared.value.Value.{Value}
-use Rattle.jvm_program.specs.declared.value.Value.TheVariants.{Unset as unset, Int as int, Long as long, Null as null, Array as array, Text as text}
-use Rattle.jvm_program.specs.Values.{is_int, is_ints_reference, is_pages_reference}
+use Rattle.nv_values.specs.RegionWords.{most_region_words}
+use Rattle.jvm_definition.specs.declared.array_name.ArrayName.TheVariants.{Aastore}
+use Rattle.jvm_definition.specs.declared.instruction.Instruction.TheVariants as instructions
+use Rattle.jvm_definition.specs.declared.value.Value.{Value}
+use Rattle.jvm_definition.specs.declared.value.Value.TheVariants.{Unset as unset, Int as int, Long as long, Null as null, Array as array, Text as text}
+use Rattle.jvm_definition.specs.Values.{is_int, is_ints_reference, is_pages_reference}
 use Rattle.int_region.specs.Arrays.{Block, Contents, IsSound, used_by, array_at, IsLive, with_value, with_element, values_at, kind_at, kind_in}
 use Rattle.int_region.proofs.ArrayLemmas.{used_by-with_value, array_at-with_value, live_within, there}
-use Rattle.jvm_frames.specs.Stack.{on_top}
+use Rattle.jvm_activations.specs.Stack.{on_top}
 use Rattle.jvm_heap.specs.Heaps.{IsSafe, StandsAt}
 use Rattle.jvm_heap.proofs.SafetyLaws.{safe_put}
 use Rattle.jvm_heap.specs.Regions.{heap_of, element_word}

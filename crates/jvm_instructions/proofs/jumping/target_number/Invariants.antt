@@ -1,6 +1,6 @@
 use Rattle.std.proofs.Common.{◌-◌, ◌≡◌, ℕ, ◌<◌, ◌≤◌, length, get_or, true}
 use Rattle.std.specs.Prelude.{int_lt}
-use Rattle.jvm_names.specs.declared.pair.Pair.{Pair}
+use Rattle.jvm_definition.specs.declared.pair.Pair.{Pair}
 use Rattle.jvm_instructions.proofs.jumping.target_number.Given as goal
 
 abbrev pub invariant-loop-low : goal.invariant-loop-low

@@ -1,5 +1,5 @@
 use Rattle.std.proofs.Common.{◌≡◌, take}
-use Rattle.jvm_link.specs.Linking.{field_kinds}
+use Rattle.class_definition.specs.Linking.{field_kinds}
 use Rattle.jvm_link.proofs.fields.field_kinds.Given as goal
 
 abbrev pub invariant-loop-class : goal.invariant-loop-class

@@ -1,5 +1,5 @@
 use Rattle.std.proofs.Common.{◌≡◌, ◌++◌, take, map}
-use Rattle.jvm_link.specs.Linking.{field_kind}
+use Rattle.class_definition.specs.Linking.{field_kind}
 use Rattle.jvm_link.proofs.fields.push_kinds.Given as goal
 
 abbrev pub invariant-loop-field : goal.invariant-loop-field

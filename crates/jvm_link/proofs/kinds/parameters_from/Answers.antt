@@ -1,6 +1,6 @@
 use Rattle.std.proofs.Common.{◌≡◌, ◌-◌, ◌+◌, [], ◌∷◌, ◌++◌, ◌∙◌, suc, refl, sym, ap, arith}
-use Rattle.jvm_program.specs.declared.kind.Kind.{Kind}
-use Rattle.jvm_link.specs.Linking.{parameters_from}
+use Rattle.jvm_definition.specs.declared.kind.Kind.{Kind}
+use Rattle.class_definition.specs.Linking.{parameters_from}
 use Rattle.jvm_link.proofs.ParameterLemmas.{kinds_more, kinds_end, kinds_done}
 use Rattle.jvm_link.proofs.kinds.parameters_from.Goals as goal
 

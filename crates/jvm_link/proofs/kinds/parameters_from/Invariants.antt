@@ -1,5 +1,5 @@
 use Rattle.std.proofs.Common.{◌≡◌, ◌++◌, ◌-◌}
-use Rattle.jvm_link.specs.Linking.{parameters_from}
+use Rattle.class_definition.specs.Linking.{parameters_from}
 use Rattle.jvm_link.proofs.kinds.parameters_from.Given as goal
 
 abbrev pub invariant-loop : goal.invariant-loop

@@ -1,6 +1,6 @@
 use Rattle.std.proofs.Common.{◌≡◌, List, None, ◌∙◌, sym, subst}
-use Rattle.jvm_code.specs.declared.class.Class.{Class}
-use Rattle.name_resolution.specs.Faults.{link_fault}
+use Rattle.class_definition.specs.declared.class.Class.{Class}
+use Rattle.class_definition.specs.LinkFault.{link_fault}
 use Rattle.jvm_link.proofs.LinkLemmas.{run_there_if}
 use Rattle.jvm_link.proofs.LinkedLaws.{linked_if}
 use Rattle.jvm_link.proofs.linking.link.Goals as goal

@@ -1,7 +1,7 @@
 use Rattle.std.proofs.Common.{◌∙◌, [], ap, sym}
-use Rattle.name_resolution.specs.Faults.{twice_fault}
-use Rattle.name_resolution.specs.declared.numbered.Numbered.{Numbered}
-use Rattle.name_resolution.specs.Keys.{classes_in}
+use Rattle.class_definition.specs.LinkFault.{twice_fault}
+use Rattle.class_names.specs.declared.numbered.Numbered.{Numbered}
+use Rattle.class_names.specs.Keys.{classes_in}
 use Rattle.jvm_link.proofs.LinkLemmas.{refused_there}
 use Rattle.jvm_link.proofs.linking.names_of.Goals as goal
 

@@ -1,12 +1,13 @@
 use Rattle.std.proofs.Common.{◌≡◌, ◌+◌, List, length, map, subst, sym, arith}
 use Rattle.std.proofs.lemmas.List.{nil_from_length}
-use Rattle.jvm_code.specs.declared.line.Line.{Line}
+use Rattle.class_definition.specs.declared.line.Line.{Line}
 use Rattle.std.specs.Vec.Iter.{into_iter_items}
-use Rattle.jvm_code.specs.Writing.{AreLaid, size_at}
-use Rattle.name_resolution.specs.Keys.{classes_in}
-use Rattle.jvm_link.specs.Linking.{linked_line}
+use Rattle.jvm_code.specs.Writing.{AreLaid}
+use Rattle.class_definition.specs.Sizes.{size_at}
+use Rattle.class_names.specs.Keys.{classes_in}
+use Rattle.class_definition.specs.Linking.{linked_line}
 use Rattle.jvm_link.proofs.MethodLemmas.{laid_first, map_begins, map_goes, map_ends}
-use Rattle.jvm_program.specs.declared.linked_line.LinkedLine.{LinkedLine}
+use Rattle.jvm_definition.specs.declared.linked_line.LinkedLine.{LinkedLine}
 use Rattle.jvm_link.specs.Order.{AreInOrder}
 use Rattle.jvm_link.proofs.LaidLemmas.{lines_in_order}
 use Rattle.jvm_link.proofs.methods.linked_lines.Goals as goal

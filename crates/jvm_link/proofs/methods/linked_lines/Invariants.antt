@@ -1,8 +1,8 @@
 use Rattle.std.proofs.Common.{◌≡◌, ℕ, ◌++◌, map}
 use Rattle.std.specs.Vec.Iter.{into_iter_items}
 use Rattle.jvm_code.specs.Writing.{AreLaid}
-use Rattle.jvm_link.specs.Linking.{linked_line}
-use Rattle.name_resolution.specs.Keys.{classes_in}
+use Rattle.class_definition.specs.Linking.{linked_line}
+use Rattle.class_names.specs.Keys.{classes_in}
 use Rattle.jvm_link.proofs.methods.linked_lines.Given as goal
 
 abbrev pub invariant-loop-line : goal.invariant-loop-line

@@ -1,8 +1,8 @@
 use Rattle.std.proofs.Common.{◌≡◌, ◌++◌, drop}
 use Rattle.std.specs.List.{All}
-use Rattle.jvm_link.specs.Linking.{methods_from, linked_methods}
+use Rattle.class_definition.specs.Linking.{methods_from, linked_methods}
 use Rattle.jvm_link.specs.Order.{IsInOrder}
-use Rattle.name_resolution.specs.Keys.{classes_in}
+use Rattle.class_names.specs.Keys.{classes_in}
 use Rattle.jvm_link.proofs.methods.linked_methods.Given as goal
 
 abbrev pub invariant-loop-number : goal.invariant-loop-number

@@ -1,8 +1,8 @@
 use Rattle.std.proofs.Common.{◌≡◌, ◌++◌, take, map}
 use Rattle.std.specs.List.{All}
-use Rattle.jvm_link.specs.Linking.{linked_method}
+use Rattle.class_definition.specs.Linking.{linked_method}
 use Rattle.jvm_link.specs.Order.{IsInOrder}
-use Rattle.name_resolution.specs.Keys.{classes_in}
+use Rattle.class_names.specs.Keys.{classes_in}
 use Rattle.jvm_link.proofs.methods.push_methods.Given as goal
 
 abbrev pub invariant-loop-method : goal.invariant-loop-method

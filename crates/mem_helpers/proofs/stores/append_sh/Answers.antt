@@ -1,5 +1,5 @@
 use Rattle.std.proofs.Common.{◌≡◌, ◌++◌, OnOk, List, ap, subst, ◌∙◌}
-use Rattle.code_steps.specs.declared.step.Step.{Step}
+use Rattle.emit_steps.specs.declared.step.Step.{Step}
 use Rattle.mem_helpers.specs.Stores as emitted
 use Rattle.mem_helpers.proofs.stores.append_sh.Goals as goal
 

@@ -1,5 +1,5 @@
 use Rattle.std.proofs.Common.{◌∙◌, sym}
-use Rattle.mips_decode.specs.declared.names.store_name.StoreName.TheVariants.{Sw}
+use Rattle.mips_definition.specs.declared.names.store_name.StoreName.TheVariants.{Sw}
 use Rattle.mem_helpers_laws.proofs.StoreLaws.Places.{same-word}
 use Rattle.mem_helpers_laws.proofs.StoreLaws.Allowed.{allowed-is}
 use Rattle.mem_helpers_laws.proofs.StoreLaws.Conditional.{unaligned-conditional, refused-conditional, no-link, other-link, this-link}

@@ -1,5 +1,5 @@
 use Rattle.std.proofs.Common.{ap, sym, subst, ◌∙◌, true, false, Result, Ok, Err, OnOk, IfOk}
-use Rattle.elf_writer.specs.Fields.{words}
+use Rattle.elf_definition.specs.FileFields.{words}
 use Rattle.mips_asm.specs.Answers.{IsFault}
 use Rattle.mips_asm.specs.File.{IsFileOf}
 use Rattle.mips_asm.specs.Program.{text_words}

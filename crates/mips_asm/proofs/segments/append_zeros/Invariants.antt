@@ -1,5 +1,5 @@
 use Rattle.std.proofs.Common.{◌≡◌, ◌++◌, replicate}
-use Rattle.elf_writer.specs.Fields.{words}
+use Rattle.elf_definition.specs.FileFields.{words}
 use Rattle.mips_asm.proofs.segments.append_zeros.Given as goal
 
 -- so many words of zeros were appended

@@ -1,5 +1,5 @@
 use Rattle.std.proofs.Common.{◌≡◌, ℕ, ◌==◌, ap, sym, ◌∙◌, arith}
-use Rattle.mips_decode.specs.Table.{op_of, funct_of, rs_of, rt_of, rd_of, sa_of}
+use Rattle.mips_definition.specs.Table.{op_of, funct_of, rs_of, rt_of, rd_of, sa_of}
 use Rattle.mips_decode.proofs.Rows.{by_fields, inst_is, one_test}
 use Rattle.mips_decode.proofs.decoder.decode.Goals as goal
 

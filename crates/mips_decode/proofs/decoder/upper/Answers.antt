@@ -1,6 +1,6 @@
 use Rattle.std.proofs.Common.{◌≡◌, ℕ, false, ◌==◌, ap, sym, ◌∙◌, arith}
 use Rattle.std.proofs.lemmas.Bool.Decides.{nat_tests}
-use Rattle.mips_decode.specs.Table.{op_of, funct_of, rs_of, rt_of, rd_of, sa_of}
+use Rattle.mips_definition.specs.Table.{op_of, funct_of, rs_of, rt_of, rd_of, sa_of}
 use Rattle.mips_decode.proofs.Rows.{by_fields, has_op, inst_is, inst_unlisted, one_test}
 use Rattle.mips_decode.proofs.decoder.upper.Goals as goal
 

@@ -1,5 +1,5 @@
 use Rattle.std.proofs.Common.{ap, sym, ◌∙◌}
-use Rattle.mips_decode.specs.Table.{inst}
+use Rattle.mips_definition.specs.Table.{inst}
 use Rattle.mips_decode.specs.Encoding.{word_of}
 use Rattle.mips_decode.proofs.Backwards.{word_of-inst}
 use Rattle.mips_decode.proofs.laws.encoding_inverts_decoding.Goals as goal

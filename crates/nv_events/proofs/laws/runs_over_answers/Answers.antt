@@ -1,4 +1,4 @@
-use Rattle.nv_events.specs.Answer.{next_answer}
+use Rattle.run_definition.specs.Answer.{next_answer}
 use Rattle.nv_events.proofs.RunLaws.{longer-runs, run_of-more}
 use Rattle.nv_events.proofs.laws.runs_over_answers.Goals as goal
 

@@ -1,5 +1,5 @@
 use Rattle.std.proofs.Common.{◌≡◌, ◌+◌, ◌-◌}
-use Rattle.nv_events.specs.Memory.{can_write}
+use Rattle.run_definition.specs.Memory.{can_write}
 use Rattle.nv_events.proofs.patch.all_writable.Given as goal
 
 abbrev pub invariant-loop-i : goal.invariant-loop-i

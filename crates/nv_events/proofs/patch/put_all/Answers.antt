@@ -1,6 +1,6 @@
 use Rattle.std.proofs.Common.{◌≡◌, ◌+◌, ◌<◌, true, length, drop, get_or, ◌∙◌, sym, ap, arith}
 use Rattle.std.proofs.lemmas.List.{at_drop_more, at_drop_all}
-use Rattle.nv_events.specs.Memory.{patched}
+use Rattle.run_definition.specs.Memory.{patched}
 use Rattle.nv_events.proofs.Rooms.{below_end, writable_in}
 use Rattle.nv_events.proofs.patch.put_all.Goals as goal
 

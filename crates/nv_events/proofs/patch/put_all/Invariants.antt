@@ -1,5 +1,5 @@
 use Rattle.std.proofs.Common.{◌≡◌, ℕ, ◌+◌, drop}
-use Rattle.nv_events.specs.Memory.{patched}
+use Rattle.run_definition.specs.Memory.{patched}
 use Rattle.nv_events.proofs.patch.put_all.Given as goal
 
 abbrev pub invariant-loop-i : goal.invariant-loop-i

@@ -1,6 +1,6 @@
 use Rattle.std.proofs.Common.{◌≡◌, ◌+◌, Ok, refl, ap, ◌∙◌, arith}
 use Rattle.std.proofs.lemmas.Result.{err_from_is_err_and}
-use Rattle.nv_events.specs.declared.outcome.Outcome.TheVariants.{Going}
+use Rattle.run_definition.specs.declared.outcome.Outcome.TheVariants.{Going}
 use Rattle.nv_events.proofs.Progress.{falls_by, progress_none, progress_on, progress_end, progress_falls, progress_bound, reaches_none, told_on, told_end, told_bound}
 use Rattle.nv_events.proofs.MoveLaws.{progress_moves, told_moves, turns_not_going}
 use Rattle.nv_events.proofs.runs.run.Goals as goal

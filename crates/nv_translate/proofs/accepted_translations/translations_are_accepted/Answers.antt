@@ -1,10 +1,10 @@
 use Rattle.std.specs.Prelude.{ℕ, Option}
-use Rattle.command_values.specs.Names.{Text}
-use Rattle.elf_image.specs.Start.{Source}
-use Rattle.jvm_program.specs.Typing.{AllTyped}
-use Rattle.jvm_link.specs.Linking.{Accepted, program_of}
-use Rattle.program_translation.specs.declared.built.Built.{Built}
-use Rattle.program_translation.specs.Translation.{IsTranslationBy}
+use Rattle.nv_values.specs.Names.{Text}
+use Rattle.elf_definition.specs.Start.{Source}
+use Rattle.jvm_definition.specs.Typing.{AllTyped}
+use Rattle.class_definition.specs.Linking.{Accepted, program_of}
+use Rattle.translate_program.specs.declared.built.Built.{Built}
+use Rattle.translate_program.specs.Translation.{IsTranslationBy}
 use Rattle.nv_translate.specs.Linked.{IsLinkedBy}
 use Rattle.nv_translate.specs.AcceptedCode.{HasAcceptedCode}
 use Rattle.nv_translate.proofs.AcceptedTranslations.Linking.{classes-link}

@@ -1,5 +1,5 @@
-use Rattle.unix_system.specs.Unix.{reply}
-use Rattle.jvm_link.specs.Linking.{program_of}
+use Rattle.unix_definition.specs.Unix.{reply}
+use Rattle.class_definition.specs.Linking.{program_of}
 use Rattle.nv_translate.proofs.EndedRuns.{back, forth, system_fits}
 use Rattle.nv_translate.proofs.ended_translations.runs_end_alike.Goals as goal
 

@@ -1,7 +1,7 @@
 use Rattle.std.specs.Prelude.{None}
-use Rattle.elf_image.specs.Start.{image_of}
-use Rattle.jvm_link.specs.Linking.{program_of}
-use Rattle.guest_layout.specs.Numbers.{choose_number, missing_number}
+use Rattle.elf_definition.specs.Start.{image_of}
+use Rattle.class_definition.specs.Linking.{program_of}
+use Rattle.emit_layout.specs.Numbers.{choose_number, missing_number}
 use Rattle.nv_translate.proofs.entered_translations.translations_go_on.Goals as goal
 
 pub returns : goal.returns

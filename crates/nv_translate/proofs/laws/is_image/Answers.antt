@@ -1,5 +1,5 @@
 use Rattle.std.proofs.Common.{sym, subst, ◌∙◌}
-use Rattle.nv_words.specs.Words.{IsWord}
+use Rattle.run_definition.specs.Words.{IsWord}
 use Rattle.nv_translate.proofs.laws.is_image.Goals as goal
 
 pub returns : goal.returns

@@ -1,15 +1,15 @@
 use Rattle.std.proofs.Common.{ℕ, ◌+◌, ◌*◌, false, None, subst, arith}
-use Rattle.nv_events.specs.Answer.{next_answer}
-use Rattle.nv_events.specs.Memory.{Memory}
-use Rattle.run_laws.specs.Runs.{SameRuns}
-use Rattle.mips_decode.specs.State as guest_state
-use Rattle.mips_decode.specs.Step as guest
-use Rattle.elf_image.specs.Start.{image_of}
-use Rattle.jvm_program.specs.Program.{Program}
-use Rattle.jvm_program.specs.Step.{start, turn}
-use Rattle.jvm_link.specs.Linking.{program_of}
-use Rattle.running_laws.specs.Translated.{TranslatedProgram, LoadsWithin}
-use Rattle.program_translation.specs.Bounds.{allow}
+use Rattle.run_definition.specs.Answer.{next_answer}
+use Rattle.run_definition.specs.Memory.{Memory}
+use Rattle.run_simulation_laws.specs.Runs.{SameRuns}
+use Rattle.mips_definition.specs.State as guest_state
+use Rattle.mips_definition.specs.Step as guest
+use Rattle.elf_definition.specs.Start.{image_of}
+use Rattle.jvm_definition.specs.Program.{Program}
+use Rattle.jvm_definition.specs.Step.{jvm_start, jvm_turn}
+use Rattle.class_definition.specs.Linking.{program_of}
+use Rattle.emit_program_laws.specs.Translated.{TranslatedProgram, LoadsWithin}
+use Rattle.translate_program.specs.Bounds.{allow}
 use Rattle.nv_translate.proofs.PairedTranslations.{behind_all}
 use Rattle.nv_translate.proofs.CountedTranslations.Paired.{plain, are-paired}
 use Rattle.nv_translate.proofs.laws.translations_run_alike.Goals as goal
@@ -26,7 +26,7 @@ returns c source name method_bytes built image large l = record {
       let translated : TranslatedProgram = plain source name method_bytes built image l stands words loads in
       let time = loads.in_time in
       let within : LoadsWithin translated (131072 * (mapped + 4)) = omega (arith, time) in
-      subst (λ (memory : Memory). SameRuns guest.turn (turn program words) next_answer (allow mapped) (guest_state.start (image_of source).order (image_of source).entry memory (image_of source).code (image_of source).heap_start (image_of source).heap_bytes) (start program) answers)
+      subst (λ (memory : Memory). SameRuns guest.turn (jvm_turn program words) next_answer (allow mapped) (guest_state.start (image_of source).order (image_of source).entry memory (image_of source).code (image_of source).heap_start (image_of source).heap_bytes) (jvm_start program) answers)
       (c.images_are_pages.ensures source image.pages.whole).memory_is
       (c.translated_programs_run_alike.ensures translated (131072 * (mapped + 4)) (are-paired source name method_bytes built image l stands words loads) within answers);
 }

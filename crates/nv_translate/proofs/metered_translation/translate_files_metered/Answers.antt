@@ -1,9 +1,10 @@
-use Rattle.std.proofs.Common.{Some, arith}
+use Rattle.std.proofs.Common.{IfOk, Some, arith, subst}
 use Rattle.std.specs.Prelude.{Vec}
 use Rattle.std.specs.declared.alloc.Global.{Global}
-use Rattle.program_translation.specs.declared.named_file.NamedFile.{NamedFile}
-use Rattle.program_translation.specs.Translation.{AreFilesOf}
-use Rattle.nv_translate.specs.Metered.{AreMeteredFiles}
+use Rattle.translate_program.specs.declared.named_file.NamedFile.{NamedFile}
+use Rattle.translate_program.specs.Translation.{AreFilesOf}
+use Rattle.nv_translate.specs.Made.{AreMade}
+use Rattle.nv_translate.specs.Metered.{TranslatedMetered}
 use Rattle.nv_translate.proofs.Making.{if-made}
 use Rattle.nv_translate.proofs.metered_translation.translate_files_metered.Goals as goal
 
@@ -13,12 +14,20 @@ returns c =
     let name = c.args.name.now in
     let turns = c.args.turns in
     let range = c.get-count.ensures.range in
+    let made : IfOk c.translate_files_metered.result (λ (files : Vec NamedFile Global). AreMade (Some turns) image name c.args.method_bytes files.items) =
     if-made (λ (files : Vec NamedFile Global). AreFilesOf (Some turns) image name c.args.method_bytes files.items)
-    (λ (files : Vec NamedFile Global). AreMeteredFiles image name c.args.method_bytes turns files.items)
+    (λ (files : Vec NamedFile Global). AreMade (Some turns) image name c.args.method_bytes files.items)
     (λ files are. record {
       built = are.built;
-      translated = c.metered_images_are_translated.ensures name c.args.method_bytes turns are.built c.laws.ensures c.laws-2.ensures.0
+      made = c.metered_images_are_translated.ensures name c.args.method_bytes turns are.built c.laws.ensures c.laws-2.ensures.0
           (omega (arith, range.1)) are.is;
       files_are = are.files_are;
     })
-    c.translate_files_metered.result c.translate_files_metered.ensures
+    c.translate_files_metered.result c.translate_files_metered.ensures in
+    record {
+      translated = if-made (λ (files : Vec NamedFile Global). AreMade (Some turns) image name c.args.method_bytes files.items)
+          (λ (files : Vec NamedFile Global). TranslatedMetered image name turns files.items)
+          (λ files are. subst (TranslatedMetered image name turns) are.files_are are.made.translated)
+          c.translate_files_metered.result made;
+      made = made;
+    }

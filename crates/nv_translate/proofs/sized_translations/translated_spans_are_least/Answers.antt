@@ -1,8 +1,8 @@
-use Rattle.elf_image.specs.Start.{image_of}
+use Rattle.elf_definition.specs.Start.{image_of}
 use Rattle.method_splitter.proofs.SpanLemmas.{least}
-use Rattle.program_translation.specs.Classes.{IsPlaced}
-use Rattle.program_translation.specs.Places.{places_of}
-use Rattle.program_translation.specs.Spans.{weights_of}
+use Rattle.translate_program.specs.Classes.{IsPlaced}
+use Rattle.translate_program.specs.Places.{places_of}
+use Rattle.translate_program.specs.Spans.{weights_of}
 use Rattle.nv_translate.proofs.LinkedTranslations.Lists.{zip-second}
 use Rattle.nv_translate.proofs.sized_translations.translated_spans_are_least.Goals as goal
 

@@ -2,20 +2,20 @@ use Rattle.std.proofs.Common.{◌≡◌, ℕ, ◌+◌, ◌≤◌, List, [], ◌�
 use Rattle.std.specs.Prelude.{is_some}
 use Rattle.std.proofs.lemmas.List.Elements.{All-nil, All-cons}
 use Rattle.std.proofs.lemmas.Option.{slice_get-get_or}
-use Rattle.elf_image.specs.Start.{image_of}
-use Rattle.jvm_program.specs.declared.linked_line.LinkedLine.{LinkedLine}
-use Rattle.jvm_program.specs.declared.linked_method.LinkedMethod.{LinkedMethod}
-use Rattle.jvm_program.specs.Program.{Program}
-use Rattle.jvm_link.specs.Linking.{program_of}
-use Rattle.code_steps.specs.declared.step.Step.{Step}
-use Rattle.code_steps.specs.Placing.{laid, placed_line}
-use Rattle.code_steps.specs.Widths.{size, width}
-use Rattle.span_code.specs.Pieces.{flagged}
-use Rattle.program_classes.specs.Code.{code_of_span, run_plan, span_at, span_plan, span_plans}
-use Rattle.program_classes.specs.Making.{Plan}
-use Rattle.program_translation.specs.Classes.{IsPlaced}
-use Rattle.program_translation.specs.Places.{places_of}
-use Rattle.running_laws.proofs.TrampolineLaws.Elements.{all-at}
+use Rattle.elf_definition.specs.Start.{image_of}
+use Rattle.jvm_definition.specs.declared.linked_line.LinkedLine.{LinkedLine}
+use Rattle.jvm_definition.specs.declared.linked_method.LinkedMethod.{LinkedMethod}
+use Rattle.jvm_definition.specs.Program.{Program}
+use Rattle.class_definition.specs.Linking.{program_of}
+use Rattle.emit_steps.specs.declared.step.Step.{Step}
+use Rattle.emit_steps.specs.Placing.{laid, placed_line}
+use Rattle.emit_steps.specs.Widths.{size, width}
+use Rattle.emit_spans.specs.Pieces.{flagged}
+use Rattle.translate_classes.specs.Code.{code_of_span, run_plan, span_at, span_plan, span_plans}
+use Rattle.translate_classes.specs.Making.{Plan}
+use Rattle.translate_program.specs.Classes.{IsPlaced}
+use Rattle.translate_program.specs.Places.{places_of}
+use Rattle.emit_program_laws.proofs.TrampolineLaws.Elements.{all-at}
 use Rattle.nv_translate.specs.Linked.{IsPlanned}
 use Rattle.nv_translate.specs.Sizes.{HasBytes}
 use Rattle.nv_translate.proofs.LinkedTranslations.Lists.{mapped-get, zip-second}

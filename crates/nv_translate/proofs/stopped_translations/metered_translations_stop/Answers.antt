@@ -1,7 +1,7 @@
 use Rattle.std.proofs.Common.{ℕ, true, Some, arith}
-use Rattle.nv_events.specs.Answer.{next_answer}
-use Rattle.run_laws.proofs.Answering.{next_fits}
-use Rattle.unix_system.specs.Unix.{reply}
+use Rattle.run_definition.specs.Answer.{next_answer}
+use Rattle.run_simulation_laws.proofs.Answering.{next_fits}
+use Rattle.unix_definition.specs.Unix.{reply}
 use Rattle.nv_translate.proofs.EndedRuns.{system_fits}
 use Rattle.nv_translate.proofs.PairedTranslations.{behind_all}
 use Rattle.nv_translate.proofs.StoppedTranslations.Stopping.{ended, stopped}

@@ -1,21 +1,21 @@
 use Rattle.std.proofs.Common.{◌≡◌, ℕ, ◌+◌, ◌*◌, ◌^◌, ◌<◌, ◌≤◌, Bool, true, false, List, length, refl, ap, sym, subst, ◌∙◌, arith}
 use Rattle.std.specs.Prelude.{is_some}
 use Rattle.std.specs.List.{AllZip}
-use Rattle.elf_image.specs.Start.{image_of, readable, writable}
-use Rattle.image_parts.specs.declared.page_run.PageRun.{PageRun}
-use Rattle.image_parts.specs.Runs.{pages_of}
-use Rattle.image_parts.specs.Pages.{page_words, filled_below}
-use Rattle.jvm_program.specs.Program.{Program}
-use Rattle.jvm_link.specs.Linking.{program_of}
-use Rattle.guest_layout.specs.FieldNumbers.{page_count}
-use Rattle.guest_layout.specs.Numbers.{pages_number}
-use Rattle.running_laws.specs.LoadingCodeLaws.Loaded.{Filler, MakesMemory, TellsRuns, run_shares, pages_told, slots_of, memory_turns}
-use Rattle.running_laws.specs.LoadingCodeLaws.Made.{IsProgram}
-use Rattle.program_classes.specs.Content.{text_runs}
-use Rattle.program_translation.specs.Bounds.{need}
-use Rattle.program_translation.specs.DataFiles.{fill_of, first_method}
-use Rattle.program_translation.specs.MainFile.{beginning_of}
-use Rattle.program_translation.specs.Translation.{code_methods}
+use Rattle.elf_definition.specs.Start.{image_of, readable, writable}
+use Rattle.elf_image_parts.specs.declared.page_run.PageRun.{PageRun}
+use Rattle.elf_image_parts.specs.Runs.{pages_of}
+use Rattle.elf_image_parts.specs.Pages.{page_words, filled_below}
+use Rattle.jvm_definition.specs.Program.{Program}
+use Rattle.class_definition.specs.Linking.{program_of}
+use Rattle.emit_layout.specs.FieldNumbers.{page_count}
+use Rattle.emit_layout.specs.Numbers.{pages_number}
+use Rattle.emit_program_laws.specs.LoadingCodeLaws.Loaded.{Filler, MakesMemory, TellsRuns, run_shares, pages_told, slots_of, memory_turns}
+use Rattle.emit_program_laws.specs.LoadingCodeLaws.Made.{IsProgram}
+use Rattle.translate_classes.specs.Content.{text_runs}
+use Rattle.translate_program.specs.Bounds.{need}
+use Rattle.translate_program.specs.DataFiles.{fill_of, first_method}
+use Rattle.translate_program.specs.MainFile.{beginning_of}
+use Rattle.translate_program.specs.Translation.{code_methods}
 use Rattle.nv_translate.proofs.LinkedTranslations.Metered.{fields-least}
 use Rattle.nv_translate.proofs.TranslatedLoading.Pages.{numbers_of_pages, pages_of_slots, pages-counted}
 use Rattle.nv_translate.proofs.TranslatedLoading.Fillers.{fillers, all-apart, all-fill, all-have-slots, all-numbers, all-slots}

@@ -1,5 +1,5 @@
 use Rattle.std.proofs.Common.{refl, arith}
-use Rattle.nv_words.specs.Words.{lane_of_word}
+use Rattle.run_definition.specs.Words.{lane_of_word}
 use Rattle.nv_words.proofs.LaneLemmas.{shifted_into_lane, IsWord-with_lane, lane_of_word-with_lane, lane_of_word-lt}
 use Rattle.nv_words.proofs.lanes.with_lane.Goals as goal
 

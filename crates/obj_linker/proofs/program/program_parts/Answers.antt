@@ -1,5 +1,5 @@
 use Rattle.std.proofs.Common.{refl}
-use Rattle.elf_writer.specs.declared.parts.Parts.{Parts}
+use Rattle.elf_definition.specs.declared.parts.Parts.{Parts}
 use Rattle.obj_linker.proofs.ProgramLemmas.{pushed_program, writable}
 use Rattle.obj_linker.proofs.program.program_parts.Goals as goal
 

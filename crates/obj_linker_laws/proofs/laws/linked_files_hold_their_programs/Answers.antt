@@ -1,11 +1,11 @@
 use Rattle.std.proofs.Common.{◌≡◌, ◌-◌, [], ◌∷◌, Some, inl, inr, ◌⊎◌, sym, ap, ◌∙◌, arith}
-use Rattle.elf_reader.specs.Area.{code_ranges}
-use Rattle.elf_reader.specs.Header.{header_of, order_of}
-use Rattle.elf_reader.specs.Segments.{live}
-use Rattle.elf_writer.specs.declared.parts.Parts.{Parts}
-use Rattle.elf_laws.proofs.Contents.{entry_read, order_read, parts_read}
-use Rattle.elf_laws.proofs.Programs.{have_words}
-use Rattle.elf_laws.specs.Reading.{contents_in, with_memory}
+use Rattle.elf_definition.specs.Area.{code_ranges}
+use Rattle.elf_definition.specs.Header.{header_of, order_of}
+use Rattle.elf_definition.specs.Segments.{live}
+use Rattle.elf_definition.specs.declared.parts.Parts.{Parts}
+use Rattle.mips_asm_laws.proofs.Contents.{entry_read, order_read, parts_read}
+use Rattle.mips_asm_laws.proofs.Programs.{have_words}
+use Rattle.mips_asm_laws.specs.Reading.{contents_in, with_memory}
 use Rattle.obj_linker.specs.Layout.{code_end, text_end, text_start, zeros_end}
 use Rattle.obj_linker.proofs.ProgramLemmas.{writable}
 use Rattle.obj_linker_laws.specs.Held.{image_in, sections_in}

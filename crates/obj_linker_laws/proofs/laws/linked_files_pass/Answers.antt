@@ -1,7 +1,7 @@
 use Rattle.std.proofs.Common.{◌≡◌, true, None, inl, inr, ◌⊎◌}
-use Rattle.elf_reader.specs.Check.{fails}
-use Rattle.elf_reader.specs.Fault.{elf_fault}
-use Rattle.elf_writer.specs.declared.parts.Parts.{Parts}
+use Rattle.elf_definition.specs.Check.{fails}
+use Rattle.elf_definition.specs.Fault.{elf_fault}
+use Rattle.elf_definition.specs.declared.parts.Parts.{Parts}
 use Rattle.obj_linker_laws.proofs.Files.{one_whole, one_without, two_whole, two_without}
 use Rattle.obj_linker_laws.proofs.Shapes.{Lengths, OneSegment, TwoSegments, lengths, shaped}
 use Rattle.obj_linker_laws.proofs.laws.linked_files_pass.Goals as goal

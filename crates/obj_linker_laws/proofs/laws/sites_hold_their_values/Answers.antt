@@ -2,7 +2,7 @@ use Rattle.std.proofs.Common.{◌≡◌, ◌+◌, ◌&&◌, ◌≤◌, true, sli
 use Rattle.obj_reader.specs.declared.section.Section.{Section}
 use Rattle.obj_reader.specs.Sections.{has_bytes, is_placed}
 use Rattle.obj_linker.specs.Link.{linked_image}
-use Rattle.obj_linker.specs.Sites.{word_in}
+use Rattle.obj_linker.specs.Sites.{site_word}
 use Rattle.obj_linker_laws.specs.Held.{image_before, low_offset, relocations_in, sections_in, symbols_in}
 use Rattle.obj_linker_laws.proofs.Facts.{Sited}
 use Rattle.obj_linker_laws.proofs.Linked.{inside_objects, low_is, low_within, not_large, sited, site_is, the_one}
@@ -27,10 +27,10 @@ returns c files entry none j r s site at in_s here =
     record {
       last = λ free. last_word files all symbols rs j r.section r.r_offset s site inside small in_s bytes each is.3 within here place free;
       own = λ free.
-          ap (word_in (image_before files j)) place
+          ap (site_word (image_before files j)) place
           ∙ own_before files all symbols rs j r.section r.r_offset s inside small in_s bytes each is.3 within free;
       own_low = λ high free.
           let low = low_within files entry j r s none at in_s high in
-          ap (word_in (image_before files j)) (low_is files j r site at here)
+          ap (site_word (image_before files j)) (low_is files j r site at here)
           ∙ own_before files all symbols rs j r.section (low_offset files j r) s inside small in_s bytes each low.0 low.1 free;
     }

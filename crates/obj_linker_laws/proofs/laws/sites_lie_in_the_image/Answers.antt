@@ -1,5 +1,5 @@
 use Rattle.std.proofs.Common.{◌≡◌, arith}
-use Rattle.obj_linker.specs.Image.{image_of}
+use Rattle.obj_linker.specs.Image.{linked_bytes}
 use Rattle.obj_linker.specs.Link.{linked_image}
 use Rattle.obj_linker_laws.specs.Held.{byte_place, relocations_in, sections_in, sites_in}
 use Rattle.obj_linker_laws.proofs.Facts.{Sited}
@@ -20,5 +20,5 @@ returns c files entry none j r site at here =
     record {
       place = place;
       section = (is.0, (is.1, is.2), is.4);
-      image = omega (arith, place, range, relocated_size (image_of files all) (sites_in files), there.1.range.short, is.4);
+      image = omega (arith, place, range, relocated_size (linked_bytes files all) (sites_in files), there.1.range.short, is.4);
     }

@@ -1,7 +1,7 @@
 use Rattle.std.proofs.Common.{◌≡◌, ◌++◌, drop}
 use Rattle.std.specs.Prelude.{flat_map}
 use Rattle.obj_reader.specs.Fault.{first_place}
-use Rattle.obj_reader.specs.Relocations.{placed_entries, target_fault}
+use Rattle.obj_reader.specs.Relocations.{placed_entries, relocation_target_fault}
 use Rattle.obj_reader.proofs.relocations.read_relocations.Given as goal
 
 -- what is left gives what is not there yet, and the first fault
@@ -11,6 +11,6 @@ invariant-loop-s l = record {
       l.relocations.items ++ flat_map (placed_entries l.start l.b l.sections) (drop l.s-index l.sections)
       ≡ flat_map (placed_entries l.start l.b l.sections) l.sections;
   passed :
-      first_place (target_fault l.start l.b l.limit l.sections) (drop l.s-index l.sections)
-      ≡ first_place (target_fault l.start l.b l.limit l.sections) l.sections;
+      first_place (relocation_target_fault l.start l.b l.limit l.sections) (drop l.s-index l.sections)
+      ≡ first_place (relocation_target_fault l.start l.b l.limit l.sections) l.sections;
 }

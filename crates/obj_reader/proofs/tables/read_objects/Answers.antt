@@ -1,7 +1,7 @@
 use Rattle.std.proofs.Common.{arith, refl, ap, length}
 use Rattle.obj_reader.specs.declared.start.Start.{Start}
 use Rattle.obj_reader.specs.Files.{files_of}
-use Rattle.obj_reader.specs.Objects.{sections_from, symbols_from, relocations_from, behind}
+use Rattle.obj_reader.specs.Objects.{sections_from, symbols_from, relocations_from, next_start}
 use Rattle.obj_reader.specs.Sections.{sections_of}
 use Rattle.obj_reader.specs.Symbols.{symbols_of}
 use Rattle.obj_reader.specs.Relocations.{relocations_of}
@@ -9,7 +9,7 @@ use Rattle.obj_reader.proofs.ObjectLemmas.{appended_object, files_first, passed_
 use Rattle.obj_reader.proofs.tables.read_objects.Goals as goal
 
 pub loop-object-preserved : goal.loop-object-preserved
-unfolding behind
+unfolding next_start
 loop-object-preserved c =
     let start = c.loop-object.start in
     let next = c.in_ok-start.start in

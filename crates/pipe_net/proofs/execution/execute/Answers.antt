@@ -1,8 +1,8 @@
 use Rattle.std.proofs.Common.{◌≡◌, Some, None, Result, Ok, Err, refl, ap, sym, ◌∙◌, subst, arith}
 use Rattle.std.proofs.lemmas.Result.{err_from_is_err_and}
-use Rattle.nv_events.specs.declared.io_fault.IoFault.{IoFault}
-use Rattle.nv_events.specs.declared.outcome.Outcome.TheVariants.{Waiting}
-use Rattle.jvm_program.specs.Step.{loaded_turn}
+use Rattle.run_definition.specs.declared.io_fault.IoFault.{IoFault}
+use Rattle.run_definition.specs.declared.outcome.Outcome.TheVariants.{Waiting}
+use Rattle.jvm_definition.specs.Step.{loaded_turn}
 use Rattle.jvm_machine.specs.Machine.{state_of}
 use Rattle.pipe_net.specs.declared.executed.Executed.{Executed}
 use Rattle.pipe_net.specs.Executing.{Executes, Fails, Scene, Walks}

@@ -2,7 +2,7 @@ use Rattle.std.proofs.Common.{◌≡◌, ◌≤◌, ◌<◌, ◌+◌, suc, set, 
 use Rattle.std.specs.Prelude.{slice_get, IfOk}
 use Rattle.std.proofs.lemmas.List.{length-set}
 use Rattle.nv_outside.specs.Seen.{input_seen, output_seen}
-use Rattle.nv_events.specs.declared.outcome.Outcome.{Outcome}
+use Rattle.run_definition.specs.declared.outcome.Outcome.{Outcome}
 use Rattle.unix_calls.specs.Held.{Held}
 use Rattle.jvm_machine.specs.declared.jvm.Jvm.{Jvm}
 use Rattle.jvm_machine.specs.Machine.{has_ended}

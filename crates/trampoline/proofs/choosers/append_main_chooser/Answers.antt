@@ -1,5 +1,5 @@
 use Rattle.std.proofs.Common.{◌≡◌, ◌++◌, OnOk, List, ap, subst, append_assoc, ◌∙◌}
-use Rattle.code_steps.specs.declared.step.Step.{Step}
+use Rattle.emit_steps.specs.declared.step.Step.{Step}
 use Rattle.trampoline.specs.Choosers as emitted
 use Rattle.trampoline.specs.Trees.{first_of}
 use Rattle.trampoline.proofs.choosers.append_main_chooser.Goals as goal

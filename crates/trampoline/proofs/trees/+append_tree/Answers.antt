@@ -1,7 +1,7 @@
 use Rattle.std.proofs.Common.{◌≡◌, ◌++◌, ◌+◌, OnOk, List, [], ◌∷◌, ap, subst, ◌∙◌}
-use Rattle.jvm_names.specs.declared.branch_name.BranchName.TheVariants.{Goto}
-use Rattle.code_steps.specs.declared.step.Step.{Step}
-use Rattle.code_steps.specs.declared.step.Step.TheVariants.{Skips}
+use Rattle.jvm_definition.specs.declared.branch_name.BranchName.TheVariants.{Goto}
+use Rattle.emit_steps.specs.declared.step.Step.{Step}
+use Rattle.emit_steps.specs.declared.step.Step.TheVariants.{Skips}
 use Rattle.trampoline.specs.Trees.{reached_code, tree}
 use Rattle.trampoline.proofs.TreeLemmas.{tree-made, halves-appended}
 use Rattle.trampoline.proofs.trees.+append_tree.Goals as goal

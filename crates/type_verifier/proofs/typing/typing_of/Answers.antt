@@ -1,7 +1,7 @@
 use Rattle.std.proofs.Common.{◌≡◌, ◌+◌, ◌<◌, length, sym, ap, subst, ◌∙◌, Some, arith}
 use Rattle.std.specs.Prelude.{slice_get}
-use Rattle.jvm_link.specs.Linking.{linked_methods, program_of}
-use Rattle.type_inference.specs.Actions.{program_over}
+use Rattle.class_definition.specs.Linking.{linked_methods, program_of}
+use Rattle.jvm_type_inference.specs.Actions.{program_over}
 use Rattle.type_verifier.specs.Refusal.{methods_before}
 use Rattle.type_verifier.specs.Typings.{AreListed}
 use Rattle.type_verifier.proofs.VerifyLaws.{method-there, same-methods, fails-same}

@@ -1,7 +1,7 @@
 use Rattle.std.proofs.Common.{◌≡◌, ℕ, ◌<◌, Some}
-use Rattle.jvm_program.specs.declared.linked_method.LinkedMethod.{LinkedMethod}
-use Rattle.type_inference.specs.Actions.{program_over}
-use Rattle.type_inference.specs.Verdict.{LeastTyping}
+use Rattle.jvm_definition.specs.declared.linked_method.LinkedMethod.{LinkedMethod}
+use Rattle.jvm_type_inference.specs.Actions.{program_over}
+use Rattle.jvm_type_inference.specs.Verdict.{LeastTyping}
 use Rattle.type_verifier.proofs.verification.first_fault.Given as goal
 
 abbrev pub invariant-loop-number : goal.invariant-loop-number

@@ -1,12 +1,12 @@
-use Rattle.nv_events.specs.Answer.{next_answer}
-use Rattle.jvm_program.specs.Step.{start}
-use Rattle.jvm_link.specs.Linking.{program_of}
+use Rattle.run_definition.specs.Answer.{next_answer}
+use Rattle.jvm_definition.specs.Step.{jvm_start}
+use Rattle.class_definition.specs.Linking.{program_of}
 use Rattle.jvm_link.proofs.LinkLemmas.{run_there_if}
 use Rattle.jvm_link.proofs.LinkedLaws.{linked_if}
-use Rattle.jvm_safety.proofs.StepLaws.{start_safe}
-use Rattle.jvm_safety.proofs.RunSafety.{safe_run}
+use Rattle.jvm_definition_laws.proofs.StepLaws.{start_safe}
+use Rattle.jvm_definition_laws.proofs.RunSafety.{safe_run}
 use Rattle.type_verifier.proofs.VerifyLaws.{all-least, refusal-from}
-use Rattle.type_inference.specs.Unique.{AllTyped-from_least}
+use Rattle.jvm_type_inference.proofs.Unique.{AllTyped-from_least}
 use Rattle.type_verifier.proofs.verification.verify.Goals as goal
 
 pub invariant_of-result : goal.invariant_of-result
@@ -29,4 +29,4 @@ returns-in-Ok-None-clause-sound c words n answers =
     let first = rw (c.in-Ok-None.field-0-is, c.as_slice.ensures) at c.in-Ok-None.ensures in
     let typed = AllTyped-from_least program (all-least l.classes l.methods l.methods_are first) in
     let linked = linked_if l.classes (run_there_if l.classes l.faultless) in
-    (safe_run program words next_answer typed linked n (start program) answers (start_safe program typed linked)).outcome
+    (safe_run program words next_answer typed linked n (jvm_start program) answers (start_safe program typed linked)).outcome

@@ -1,5 +1,5 @@
 use Rattle.std.proofs.Common.{◌≡◌, ◌+◌, ◌*◌, ◌++◌, ◌∷◌, [], ◌<◌, List, ℕ, length, drop, get_or, arith, length-append, ap, ◌∙◌}
-use Rattle.unix_system.specs.Asked.{word_in_order, words_in_order, addresses}
+use Rattle.unix_definition.specs.Asked.{word_in_order, words_in_order, addresses}
 use Rattle.unix_calls.proofs.ArgsLemmas.{addresses-put, addresses-end, texts-longer, length-word}
 use Rattle.unix_calls.proofs.args.push_addresses.Goals as goal
 

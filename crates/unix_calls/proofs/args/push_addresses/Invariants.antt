@@ -1,5 +1,5 @@
 use Rattle.std.proofs.Common.{◌≡◌, ◌+◌, ◌*◌, ◌++◌, ◌∷◌, [], drop, length}
-use Rattle.unix_system.specs.Asked.{words_in_order, addresses, texts_with_zeros}
+use Rattle.unix_definition.specs.Asked.{words_in_order, addresses, texts_with_zeros}
 use Rattle.unix_calls.proofs.args.push_addresses.Given as goal
 
 abbrev pub invariant-loop-text : goal.invariant-loop-text

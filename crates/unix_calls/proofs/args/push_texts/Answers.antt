@@ -1,5 +1,5 @@
 use Rattle.std.proofs.Common.{◌≡◌, ◌++◌, ◌<◌, List, ℕ, length, drop, get_or, arith, length-append, ap, ◌∙◌}
-use Rattle.unix_system.specs.Asked.{texts_with_zeros}
+use Rattle.unix_definition.specs.Asked.{texts_with_zeros}
 use Rattle.unix_calls.proofs.ArgsLemmas.{texts-put, texts-longer, texts-end}
 use Rattle.unix_calls.proofs.args.push_texts.Goals as goal
 

@@ -1,5 +1,5 @@
 use Rattle.std.proofs.Common.{◌≡◌, ◌++◌, drop}
-use Rattle.unix_system.specs.Asked.{texts_with_zeros}
+use Rattle.unix_definition.specs.Asked.{texts_with_zeros}
 use Rattle.unix_calls.proofs.args.push_texts.Given as goal
 
 abbrev pub invariant-loop-text : goal.invariant-loop-text

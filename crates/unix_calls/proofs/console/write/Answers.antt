@@ -1,9 +1,9 @@
 use Rattle.std.proofs.Common.{ℤ, subst}
-use Rattle.nv_events.specs.Question.{text_at}
-use Rattle.nv_events.specs.declared.text_place.TextPlace.TheVariants.{Counted}
+use Rattle.run_definition.specs.Question.{asked_text_at}
+use Rattle.run_definition.specs.declared.text_place.TextPlace.TheVariants.{Counted}
 use Rattle.nv_outside.specs.Seen.{output_seen}
-use Rattle.unix_system.specs.Asked.{bytes_of_text}
-use Rattle.unix_system.specs.Calls.{write_target}
+use Rattle.unix_definition.specs.Asked.{bytes_of_text}
+use Rattle.unix_definition.specs.Calls.{write_target}
 use Rattle.unix_calls.specs.Access.{write_of}
 use Rattle.unix_calls.specs.Reading.{outputs, Writes}
 use Rattle.unix_calls.proofs.CallLemmas.{signed-back}
@@ -25,7 +25,7 @@ pub returns-in-Granted : goal.returns-in-Granted
 returns-in-Granted g c =
     let m = g.M.View.memory (g.M.View.content c.args.view.now) in
     let call = c.args.call.now in
-    let text = bytes_of_text (text_at m (Counted call.a1 call.a2)) in
+    let text = bytes_of_text (asked_text_at m (Counted call.a1 call.a2)) in
     let description = c.in-Granted.description in
     record {
       served = writes-by (write_of m call) (λ s. write_target s c.in-Granted.d description text description.target) c.args.disk.now c.args.opened.now (output_seen g.O.Sink c.args.out.now) (output_seen g.E.Sink c.args.err.now)

@@ -3,10 +3,10 @@ use Rattle.std.specs.Option.{IsSome}
 use Rattle.std.proofs.Math.Seq.{take-add}
 use Rattle.std.proofs.lemmas.List.{take_all}
 use Rattle.std.proofs.lemmas.Result.{err_from_is_err_and}
-use Rattle.nv_events.specs.Memory.{Memory, bytes_from}
-use Rattle.nv_events.specs.Question.{text_at}
-use Rattle.nv_events.specs.declared.text_place.TextPlace.TheVariants.{Counted}
-use Rattle.unix_system.specs.Asked.{bytes_of_text}
+use Rattle.run_definition.specs.Memory.{Memory, bytes_from}
+use Rattle.run_definition.specs.Question.{asked_text_at}
+use Rattle.run_definition.specs.declared.text_place.TextPlace.TheVariants.{Counted}
+use Rattle.unix_definition.specs.Asked.{bytes_of_text}
 use Rattle.unix_system.proofs.ReadLemmas.{some-bytes, some-is, from-part, length-bytes_from}
 use Rattle.unix_calls.proofs.GainLemmas.{gains-part}
 use Rattle.unix_calls.proofs.console.write_out.Goals as goal
@@ -19,7 +19,7 @@ loop-done-init g c = record { gained = takes-nothing _; within = omega arith }
 pub read_piece-piece-requires-clause-readable : goal.read_piece-piece-requires-clause-readable
 read_piece-piece-requires-clause-readable g c =
     let m = g.M.View.memory (g.M.View.content c.args.view.now) in
-    let text = bytes_of_text (text_at m (Counted c.args.at c.args.count)) in
+    let text = bytes_of_text (asked_text_at m (Counted c.args.at c.args.count)) in
     let read : bytes_from m c.args.at c.args.count ≡ Some text = some-bytes (bytes_from m c.args.at c.args.count) c.requires in
     let min = c.min-size.ensures in
     subst (λ o. IsSome o) (sym (from-part m c.args.at c.args.count c.loop-done.done c.min-size.result text (let w = c.loop-done-test.true in omega arith) read)) refl
@@ -30,7 +30,7 @@ part-is m at count done size text piece given le read part is = is ∙ some-is (
 pub loop-done-preserved : goal.loop-done-preserved
 loop-done-preserved g c =
     let m = g.M.View.memory (g.M.View.content c.args.view.now) in
-    let text = bytes_of_text (text_at m (Counted c.args.at c.args.count)) in
+    let text = bytes_of_text (asked_text_at m (Counted c.args.at c.args.count)) in
     let done = c.loop-done.done in
     let size = c.min-size.result in
     let read : bytes_from m c.args.at c.args.count ≡ Some text = some-bytes (bytes_from m c.args.at c.args.count) c.requires in
@@ -47,7 +47,7 @@ loop-done-preserved g c =
 pub returns-in_err-write_all-clause-err : goal.returns-in_err-write_all-clause-err
 returns-in_err-write_all-clause-err g c =
     let m = g.M.View.memory (g.M.View.content c.args.view.now) in
-    let text = bytes_of_text (text_at m (Counted c.args.at c.args.count)) in
+    let text = bytes_of_text (asked_text_at m (Counted c.args.at c.args.count)) in
     let read : bytes_from m c.args.at c.args.count ≡ Some text = some-bytes (bytes_from m c.args.at c.args.count) c.requires in
     let min = c.min-size.ensures in
     let w = c.loop-done-test.true in
@@ -60,7 +60,7 @@ returns-in_err-write_all-clause-err g c =
 pub returns-clause-ok : goal.returns-clause-ok
 returns-clause-ok g c =
     let m = g.M.View.memory (g.M.View.content c.args.view.now) in
-    let text = bytes_of_text (text_at m (Counted c.args.at c.args.count)) in
+    let text = bytes_of_text (asked_text_at m (Counted c.args.at c.args.count)) in
     let read : bytes_from m c.args.at c.args.count ≡ Some text = some-bytes (bytes_from m c.args.at c.args.count) c.requires in
     let all : length text ≡ c.args.count = length-bytes_from m c.args.at c.args.count text read in
     let past = c.loop-done-test.false in

@@ -1,6 +1,6 @@
 use Rattle.std.proofs.Common.{Some, ℤ, sym, subst}
-use Rattle.nv_events.specs.Question.{Room, there, room_at}
-use Rattle.unix_system.specs.Calls.{read_target}
+use Rattle.run_definition.specs.Question.{Room, there, room_at}
+use Rattle.unix_definition.specs.Calls.{read_target}
 use Rattle.unix_system.proofs.RoomLemmas.{room-there}
 use Rattle.unix_calls.specs.Access.{read_of}
 use Rattle.unix_calls.specs.Reading.{inputs, with_input, Reads, ReadGives}

@@ -1,6 +1,6 @@
 use Rattle.std.proofs.Common.{◌≡◌, ℕ, zero, suc, ◌+◌, ◌≤◌, true, refl, arith}
 use Rattle.std.proofs.lemmas.Bool.{and_parts, and_from}
-use Rattle.nv_events.specs.Memory.{Memory, can_write}
+use Rattle.run_definition.specs.Memory.{Memory, can_write}
 use Rattle.unix_calls.proofs.input.read_console.Goals as goal
 
 -- where many addresses may be written, so may fewer

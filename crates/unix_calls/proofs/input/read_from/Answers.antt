@@ -1,8 +1,8 @@
 use Rattle.std.proofs.Common.{ap, take, drop, refl, subst, ◌∙◌, min, arith, ℤ, negsuc}
-use Rattle.nv_events.specs.Question.{there}
-use Rattle.unix_files.specs.Files.{bytes_at}
-use Rattle.unix_system.specs.Calls.{first_line, input_read, read_target, file_read}
-use Rattle.unix_system.specs.System.{System}
+use Rattle.run_definition.specs.Question.{there}
+use Rattle.unix_definition.specs.Files.{bytes_at}
+use Rattle.unix_definition.specs.Calls.{first_line, input_read, read_target, file_read}
+use Rattle.unix_definition.specs.System.{System}
 use Rattle.unix_calls.specs.Reading.{inputs, with_input, Reads}
 use Rattle.unix_calls.proofs.CallLemmas.{signed-back}
 use Rattle.unix_calls.proofs.ReadGiven.{reads-quiet, reads-file, not-readable, console-given}

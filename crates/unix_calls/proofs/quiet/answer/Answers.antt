@@ -1,6 +1,6 @@
 use Rattle.std.proofs.Common.{◌∙◌}
-use Rattle.nv_events.specs.Question.{asked}
-use Rattle.unix_system.specs.Unix.{unix}
+use Rattle.run_definition.specs.Question.{asked}
+use Rattle.unix_definition.specs.Unix.{unix}
 use Rattle.unix_calls.specs.Held.{with_parts}
 use Rattle.unix_calls.proofs.CallLemmas.{is-sbrk, is-lseek, is-ftruncate, answered-back}
 use Rattle.unix_calls.proofs.quiet.answer.Goals as goal
@@ -39,4 +39,4 @@ pub returns-in-7-clause-call : goal.returns-in-7-clause-call
 returns-in-7-clause-call g c s =
     let q = asked c.args.call.now (g.M.View.memory (g.M.View.content c.args.view.now)) in
     let before = with_parts s c.args.disk.now c.args.opened.now c.args.heap.now c.args.moment in
-    answered-back c.sbrk.result (unix before q) (with_parts s c.args.disk.now c.args.opened.now c.sbrk.new.self c.args.moment) c.sbrk.type_inv (is-sbrk before q c.in-7.is ∙ c.sbrk.ensures.call before)
+    answered-back c.sbrk.result (unix before q) (with_parts s c.args.disk.now c.args.opened.now c.sbrk.new.heap c.args.moment) c.sbrk.type_inv (is-sbrk before q c.in-7.is ∙ c.sbrk.ensures.call before)

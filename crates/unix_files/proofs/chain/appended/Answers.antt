@@ -1,6 +1,6 @@
 use Rattle.std.proofs.Common.{◌≡◌, ◌+◌, ◌-◌, ◌/◌, ◌%◌, ◌<◌, refl, ap, sym, ◌∙◌, arith, subst, set}
 use Rattle.block_pool.specs.Blocks.{IsSound, bytes_of, with_bytes, free_count}
-use Rattle.unix_files.specs.Files.{blocks_for}
+use Rattle.unix_definition.specs.Files.{blocks_for}
 use Rattle.unix_files.specs.Stored.{IsChain, Changes, block_in, blocks_in, file_bytes}
 use Rattle.unix_files.proofs.LaidLemmas.{index-lt}
 use Rattle.unix_files.proofs.WriteLemmas.{of_size, IsChain-of_size, written_pool, written-chain, written-changes, written-byte, other-byte, bytes-push}

@@ -1,6 +1,6 @@
 use Rattle.std.proofs.Common.{◌≡◌, ◌≢◌, ℕ, ◌+◌, ◌-◌, ◌<◌, refl, ap, sym, ◌∙◌, arith}
 use Rattle.block_pool.specs.Blocks.{block_at, free_count}
-use Rattle.unix_files.specs.Files.{blocks_for}
+use Rattle.unix_definition.specs.Files.{blocks_for}
 use Rattle.unix_files.specs.Stored.{block_after, block_in, blocks_in}
 use Rattle.unix_files.proofs.CutLemmas.{take-bytes, released-used, released-once, cut-changes, cut-bytes}
 use Rattle.unix_files.proofs.chain.shortened.Goals as goal

@@ -2,11 +2,11 @@ use Rattle.std.proofs.Common.{◌≡◌, ℕ, ◌+◌, ◌-◌, ◌≤◌, List,
 use Rattle.std.specs.Option.{IsSome}
 use Rattle.std.proofs.Math.Seq.{take-add}
 use Rattle.std.proofs.lemmas.List.{length-take-le, take_all}
-use Rattle.nv_events.specs.Memory.{bytes_from}
-use Rattle.nv_events.specs.Question.{text_at}
-use Rattle.nv_events.specs.declared.text_place.TextPlace.TheVariants.{Counted}
-use Rattle.unix_files.specs.Files.{blocks_for, bytes_at, with_bytes, written}
-use Rattle.unix_system.specs.Asked.{bytes_of_text}
+use Rattle.run_definition.specs.Memory.{bytes_from}
+use Rattle.run_definition.specs.Question.{asked_text_at}
+use Rattle.run_definition.specs.declared.text_place.TextPlace.TheVariants.{Counted}
+use Rattle.unix_definition.specs.Files.{blocks_for, bytes_at, with_bytes, written}
+use Rattle.unix_definition.specs.Asked.{bytes_of_text}
 use Rattle.unix_system.proofs.ReadLemmas.{some-bytes, some-is, from-part, length-bytes_from}
 use Rattle.unix_system.proofs.WriteLemmas.{stored-again, written-more, length-written, bytes-with_bytes, free-with_bytes}
 use Rattle.unix_system.proofs.file_calls.copy_in.Goals as goal
@@ -14,7 +14,7 @@ use Rattle.unix_system.proofs.file_calls.copy_in.Goals as goal
 pub read_piece-piece-requires-clause-readable : goal.read_piece-piece-requires-clause-readable
 read_piece-piece-requires-clause-readable g c =
     let m = g.M.View.memory (g.M.View.content c.args.view.now) in
-    let text = bytes_of_text (text_at m (Counted c.args.at c.args.count)) in
+    let text = bytes_of_text (asked_text_at m (Counted c.args.at c.args.count)) in
     let read : bytes_from m c.args.at c.args.count ≡ Some text = some-bytes (bytes_from m c.args.at c.args.count) c.requires.readable in
     let min = c.min-size.ensures in
     subst (λ o. IsSome o) (sym (from-part m c.args.at c.args.count c.loop-done.done c.min-size.result text (let w = c.loop-done-test.true in omega arith) read)) refl
@@ -31,7 +31,7 @@ write-requires-in-loop-done-clause-small g c =
 pub write-requires-in-loop-done-clause-room : goal.write-requires-in-loop-done-clause-room
 write-requires-in-loop-done-clause-room g c =
     let m = g.M.View.memory (g.M.View.content c.args.view.now) in
-    let text = bytes_of_text (text_at m (Counted c.args.at c.args.count)) in
+    let text = bytes_of_text (asked_text_at m (Counted c.args.at c.args.count)) in
     let f = c.args.disk.now in
     let file = bytes_at f c.args.n in
     let front : List ℕ = take c.loop-done.done text in
@@ -51,7 +51,7 @@ write-requires-in-loop-done-clause-room g c =
 pub loop-done-preserved : goal.loop-done-preserved
 loop-done-preserved g c =
     let m = g.M.View.memory (g.M.View.content c.args.view.now) in
-    let text = bytes_of_text (text_at m (Counted c.args.at c.args.count)) in
+    let text = bytes_of_text (asked_text_at m (Counted c.args.at c.args.count)) in
     let f = c.args.disk.now in
     let file = bytes_at f c.args.n in
     let done = c.loop-done.done in
@@ -79,7 +79,7 @@ loop-done-preserved g c =
 pub returns : goal.returns
 returns g c =
     let m = g.M.View.memory (g.M.View.content c.args.view.now) in
-    let text = bytes_of_text (text_at m (Counted c.args.at c.args.count)) in
+    let text = bytes_of_text (asked_text_at m (Counted c.args.at c.args.count)) in
     let f = c.args.disk.now in
     let file = bytes_at f c.args.n in
     let read : bytes_from m c.args.at c.args.count ≡ Some text = some-bytes (bytes_from m c.args.at c.args.count) c.requires.readable in

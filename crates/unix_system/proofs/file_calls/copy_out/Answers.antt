@@ -1,8 +1,8 @@
 use Rattle.std.proofs.Common.{◌≡◌, ◌+◌, ◌<◌, true, length, take, drop, get_or, ◌∙◌, sym, ap, arith}
 use Rattle.std.proofs.lemmas.List.{take_more, get_or-drop, length-drop, length-take-le}
-use Rattle.nv_events.specs.Memory.{patched}
+use Rattle.run_definition.specs.Memory.{patched}
 use Rattle.nv_events.proofs.Rooms.{below_end, writable_in}
-use Rattle.unix_files.specs.Files.{bytes_at}
+use Rattle.unix_definition.specs.Files.{bytes_at}
 use Rattle.unix_system.proofs.ReadLemmas.{patched-more}
 use Rattle.unix_system.proofs.RoomLemmas.{more-small}
 use Rattle.unix_system.proofs.file_calls.copy_out.Goals as goal

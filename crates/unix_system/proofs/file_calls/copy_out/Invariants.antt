@@ -1,7 +1,7 @@
 use Rattle.std.proofs.Common.{◌≡◌, ℕ, take, drop, nat_lt, true}
 use Rattle.std.specs.List.{list_all}
-use Rattle.nv_events.specs.Memory.{patched}
-use Rattle.unix_files.specs.Files.{bytes_at}
+use Rattle.run_definition.specs.Memory.{patched}
+use Rattle.unix_definition.specs.Files.{bytes_at}
 use Rattle.unix_system.proofs.file_calls.copy_out.Given as goal
 
 abbrev pub invariant-loop-i : goal.invariant-loop-i

@@ -1,5 +1,5 @@
 use Rattle.std.proofs.Common.{◌≡◌, ◌+◌, ◌-◌}
-use Rattle.nv_events.specs.Memory.{can_write}
+use Rattle.run_definition.specs.Memory.{can_write}
 use Rattle.unix_system.proofs.guest.has_room.Given as goal
 
 abbrev pub invariant-loop-i : goal.invariant-loop-i

@@ -1,5 +1,5 @@
 use Rattle.std.proofs.Common.{◌≡◌, ℕ, ◌+◌, drop}
-use Rattle.nv_events.specs.Memory.{patched}
+use Rattle.run_definition.specs.Memory.{patched}
 use Rattle.unix_system.proofs.guest.put_bytes.Given as goal
 
 abbrev pub invariant-loop-i : goal.invariant-loop-i

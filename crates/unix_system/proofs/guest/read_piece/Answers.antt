@@ -2,7 +2,7 @@ use Rattle.std.proofs.Common.{◌≡◌, ◌+◌, ap, sym, ◌∙◌, subst, len
 use Rattle.std.specs.Option.{IsSome}
 use Rattle.std.proofs.lemmas.Bool.{false≢true}
 use Rattle.std.proofs.lemmas.List.{length_push}
-use Rattle.nv_events.specs.Memory.{bytes_from}
+use Rattle.run_definition.specs.Memory.{bytes_from}
 use Rattle.unix_system.proofs.ReadLemmas.{Reads-start, Reads-none, Reads-more, Reads-all}
 use Rattle.unix_system.proofs.guest.read_piece.Goals as goal
 

@@ -1,5 +1,5 @@
 use Rattle.std.proofs.Common.{◌++◌, ℕ, List, [], if◌then◌else◌, ap, ◌∙◌, arith}
-use Rattle.code_steps.specs.declared.step.Step.{Step}
+use Rattle.emit_steps.specs.declared.step.Step.{Step}
 use Rattle.word_emitter.specs.Pieces.{is_needed, fetched}
 use Rattle.word_emitter.proofs.RegisterLemmas.{register-done}
 use Rattle.word_emitter.proofs.pieces.append_fetches.Goals as goal

@@ -1,6 +1,6 @@
 use Rattle.std.proofs.Common.{◌==◌, ◌++◌, ℕ, List, [], if◌then◌else◌, ap, ◌∙◌}
 use Rattle.std.specs.Int.{bit_at}
-use Rattle.code_steps.specs.declared.step.Step.{Step}
+use Rattle.emit_steps.specs.declared.step.Step.{Step}
 use Rattle.word_emitter.specs.Pieces.{is_written, put_back}
 use Rattle.word_emitter.proofs.RegisterLemmas.{register-done}
 use Rattle.word_emitter.proofs.SetLemmas.{has_written}

@@ -6,4 +6,4 @@ use Rattle.asm_lines.proofs.labels.Labels.address_of.Goals as goal
 pub returns : goal.returns
 returns c =
     c.copied.ensures ∙ c.get.ensures.value ∙ found_in c.self.inside.addresses c.args.name.now
-    ∙ ap (λ labels. operands.address_of labels c.args.name.now) c.self.view_is
+    ∙ ap (λ labels. operands.label_address labels c.args.name.now) c.self.view_is

@@ -1,15 +1,15 @@
 use Rattle.std.proofs.Common.{◌≡◌, ℕ, ◌*◌, ◌/◌, ◌%◌, ◌≤◌, ◌<◌, ◌^◌, false, List, length, refl, sym, ap, subst, ◌∙◌, arith}
 use Rattle.std.specs.List.{All}
-use Rattle.elf_reader.specs.declared.range.Range.{Range}
-use Rattle.elf_reader.specs.Fault.{IsRunsOf}
-use Rattle.nv_words.specs.Words.{lane_of_word}
-use Rattle.elf_reader.specs.declared.segment.Segment.{Segment}
-use Rattle.elf_reader.specs.Segments.{live}
-use Rattle.elf_reader.specs.Area.{area}
-use Rattle.elf_image.specs.Pages.{heap_page}
-use Rattle.elf_image.specs.Content.{stored_byte, stored_word, is_filled_page}
-use Rattle.elf_image.specs.Refusals.{code_words}
-use Rattle.elf_image.specs.Start.{Source, image_of, readable}
+use Rattle.elf_definition.specs.declared.range.Range.{Range}
+use Rattle.elf_definition.specs.Fault.{IsRunsOf}
+use Rattle.run_definition.specs.Words.{lane_of_word}
+use Rattle.elf_definition.specs.declared.segment.Segment.{Segment}
+use Rattle.elf_definition.specs.Segments.{live}
+use Rattle.elf_definition.specs.Area.{area}
+use Rattle.elf_definition.specs.Pages.{heap_page}
+use Rattle.elf_definition.specs.Content.{stored_byte, stored_word, is_filled_page}
+use Rattle.elf_definition.specs.ImageFault.{code_words}
+use Rattle.elf_definition.specs.Start.{Source, image_of, readable}
 use Rattle.elf_image.specs.Whole.{IsWholeRange}
 use Rattle.elf_image.proofs.Accepted.{live_low, sound_of}
 use Rattle.elf_image.proofs.MappedLemmas.{heap_short}

@@ -1,9 +1,9 @@
 use Rattle.std.proofs.Common.{◌∙◌, ◌≤◌, ap, arith}
-use Rattle.elf_image.specs.Pages.{pages_below, count_below, heap_page}
-use Rattle.elf_image.specs.Start.{readable}
+use Rattle.elf_definition.specs.Pages.{pages_below, count_below, heap_page}
+use Rattle.elf_definition.specs.Start.{readable}
 use Rattle.elf_image.proofs.MappedLemmas.{mapped_count}
 use Rattle.elf_image.proofs.WholeLemmas.{passes}
-use Rattle.elf_reader.specs.Segments.{live}
+use Rattle.elf_definition.specs.Segments.{live}
 use Rattle.elf_image.proofs.guest_image.Image.mapped.Goals as goal
 
 pub returns-clause-count : goal.returns-clause-count

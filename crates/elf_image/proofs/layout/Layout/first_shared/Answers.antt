@@ -1,5 +1,5 @@
 use Rattle.std.proofs.Common.{sym, arith}
-use Rattle.elf_image.specs.Pages.{is_shared}
+use Rattle.elf_definition.specs.Pages.{is_shared}
 use Rattle.elf_image.proofs.Counting.{least_stays, least_past}
 use Rattle.elf_image.proofs.Layouts.{unused_unshared}
 use Rattle.elf_image.proofs.layout.Layout.first_shared.Goals as goal

@@ -1,6 +1,6 @@
 use Rattle.std.proofs.Common.{◌≡◌, None}
-use Rattle.elf_reader.specs.Check.{least_below}
-use Rattle.elf_image.specs.Pages.{is_shared}
+use Rattle.elf_definition.specs.Check.{least_below}
+use Rattle.elf_definition.specs.Pages.{is_shared}
 use Rattle.elf_image.proofs.layout.Layout.first_shared_from.Given as goal
 
 abbrev pub invariant-loop-page : goal.invariant-loop-page

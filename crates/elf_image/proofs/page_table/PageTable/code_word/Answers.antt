@@ -1,12 +1,12 @@
 use Rattle.std.proofs.Common.{◌∙◌, ap}
-use Rattle.mips_decode.specs.Memory.{word_of_lanes}
-use Rattle.elf_reader.specs.Header.{order_of}
-use Rattle.elf_image.specs.Content.{code_word}
+use Rattle.mips_definition.specs.Memory.{word_of_lanes}
+use Rattle.elf_definition.specs.Header.{order_of}
+use Rattle.elf_definition.specs.Content.{stored_code_word}
 use Rattle.elf_image.proofs.TableLemmas.{word_at}
 use Rattle.elf_image.proofs.page_table.PageTable.code_word.Goals as goal
 
 pub returns : goal.returns
-unfolding code_word
+unfolding stored_code_word
 returns c =
     let table = c.args.self.now in
     c.word_of_lanes.ensures

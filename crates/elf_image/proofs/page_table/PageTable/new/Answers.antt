@@ -1,6 +1,6 @@
 use Rattle.std.proofs.Common.{ℕ, ◌∙◌, ◌*◌, ◌/◌, ◌^◌, ◌<◌, sym, ap, arith, length, get_or}
-use Rattle.elf_reader.specs.Header.{order_of}
-use Rattle.elf_image.specs.Content.{stored_byte, stored_word, is_filled_page}
+use Rattle.elf_definition.specs.Header.{order_of}
+use Rattle.elf_definition.specs.Content.{stored_byte, stored_word, is_filled_page}
 use Rattle.elf_image.specs.PageTable.{marked, table_byte}
 use Rattle.elf_image.proofs.MarkLemmas.{number_distinct, number_within}
 use Rattle.elf_image.proofs.TableLemmas.{index_filled, all_bytes, all_words}

@@ -1,8 +1,8 @@
 use Rattle.std.proofs.Common.{◌≡◌, ℕ, ◌<◌, ◌%◌, List, length, subst, ap, ◌∙◌, Option, Some, arith}
-use Rattle.nv_words.specs.Words.{word_with_lane}
+use Rattle.run_definition.specs.Words.{word_with_lane}
 use Rattle.int_region.specs.Arrays.{Block, Contents, values_at, values_in, with_value, IsSound}
-use Rattle.jvm_program.specs.Values.{with_int}
-use Rattle.jvm_program.specs.HostMemory.{cell_of, with_cell, with_byte}
+use Rattle.jvm_definition.specs.Values.{with_int}
+use Rattle.jvm_definition.specs.HostMemory.{cell_of, with_cell, with_host_byte}
 use Rattle.jvm_heap.specs.Regions.{heap_of}
 use Rattle.jvm_heap.specs.Heaps.{StandsAt, IsSafe, Held, host_memory, seen, with_seen_byte}
 use Rattle.jvm_heap.proofs.HeapLaws.{heap_put_int}
@@ -17,7 +17,7 @@ kept region after readable writable p i v safe sound s h made =
     safe_put region after readable writable p i v s.block safe sound (ap (λ (r : Contents). r.arrays) made) s.there (inside region.arrays p i s h)
     (λ kind. absurd (omega (arith, kind, s.kind_is)))
 
-put : (region after : Contents) (readable writable : Option ℕ) (at b p i w v : ℕ) → StandsAt region.arrays p 0 → i < length (values_at region.arrays p) → after ≡ record { size = region.size; arrays = with_value region.arrays p i v } → Some (record { place = p; index = i; word = w }) ≡ cell_of (heap_of region.arrays) writable at → v ≡ word_with_lane w (at % 4) b → host_memory (record { region = after; readable = readable; writable = writable }) ≡ with_byte (host_memory (record { region = region; readable = readable; writable = writable })) at b
+put : (region after : Contents) (readable writable : Option ℕ) (at b p i w v : ℕ) → StandsAt region.arrays p 0 → i < length (values_at region.arrays p) → after ≡ record { size = region.size; arrays = with_value region.arrays p i v } → Some (record { place = p; index = i; word = w }) ≡ cell_of (heap_of region.arrays) writable at → v ≡ word_with_lane w (at % 4) b → host_memory (record { region = after; readable = readable; writable = writable }) ≡ with_host_byte (host_memory (record { region = region; readable = readable; writable = writable })) at b
 put region after readable writable at b p i w v s h made cell word =
     ap (λ (r : Contents). host_memory (record { region = r; readable = readable; writable = writable })) made
     ∙ (λ j. record { heap = heap_put_int region.arrays p i v s.block s.there s.kind_is (inside region.arrays p i s h) j; readable = readable; writable = writable })

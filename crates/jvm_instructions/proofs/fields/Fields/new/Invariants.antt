@@ -1,5 +1,5 @@
 use Rattle.std.proofs.Common.{◌≡◌, take, map}
-use Rattle.jvm_program.specs.Values.{zero_of}
+use Rattle.jvm_definition.specs.Values.{zero_of}
 use Rattle.jvm_instructions.proofs.fields.Fields.new.Given as goal
 
 abbrev pub invariant-loop-kind : goal.invariant-loop-kind

@@ -1,11 +1,11 @@
 use Rattle.std.proofs.Common.{subst}
-use Rattle.jvm_names.specs.declared.table_switch.TableSwitch.{TableSwitch}
-use Rattle.jvm_names.specs.declared.lookup_switch.LookupSwitch.{LookupSwitch}
-use Rattle.jvm_program.specs.Values.{is_long}
-use Rattle.jvm_program.specs.Shuffles.{forms_of, shuffled}
-use Rattle.jvm_program.specs.declared.instruction.Instruction.{Instruction}
-use Rattle.jvm_program.specs.declared.instruction.Instruction.TheVariants as instructions
-use Rattle.jvm_link.specs.Linking.{program_of}
+use Rattle.jvm_definition.specs.declared.table_switch.TableSwitch.{TableSwitch}
+use Rattle.jvm_definition.specs.declared.lookup_switch.LookupSwitch.{LookupSwitch}
+use Rattle.jvm_definition.specs.Values.{is_long_value}
+use Rattle.jvm_definition.specs.Shuffles.{forms_of, shuffled}
+use Rattle.jvm_definition.specs.declared.instruction.Instruction.{Instruction}
+use Rattle.jvm_definition.specs.declared.instruction.Instruction.TheVariants as instructions
+use Rattle.class_definition.specs.Linking.{program_of}
 use Rattle.jvm_instructions.specs.Workings.{workspace}
 use Rattle.jvm_instructions.specs.Executes.{Jumps}
 use Rattle.jvm_instructions.specs.Ready.{IsReady}
@@ -95,4 +95,4 @@ returns-in-LookupSwitch-clause-executes c =
 pub shuffle-requires : goal.shuffle-requires
 shuffle-requires c =
     let ready = subst (λ (i : Instruction). IsReady (program_of c.args.classes.now) i c.args.self.now) c.in-Stack.is c.requires.ready in
-    room_left c.args.self.now.frames.current.operands.limit (workspace c.args.self.now) (shuffled is_long (forms_of c.in-Stack.name) c.args.self.now.frames.current.operands.items) ready.operands ready.room
+    room_left c.args.self.now.frames.current.operands.limit (workspace c.args.self.now) (shuffled is_long_value (forms_of c.in-Stack.name) c.args.self.now.frames.current.operands.items) ready.operands ready.room

@@ -2,7 +2,7 @@ use Rattle.std.proofs.Common.{ap, sym, ◌∙◌, ◌-◌, length, arith, get_or
 use Rattle.std.specs.Int.{w32}
 use Rattle.std.proofs.lemmas.Int.{to_z-of_z}
 use Rattle.std.specs.Prelude.{List, pos, FitsSigned}
-use Rattle.jvm_names.specs.declared.pair.Pair.{Pair}
+use Rattle.jvm_definition.specs.declared.pair.Pair.{Pair}
 use Rattle.jvm_instructions.specs.Workings.{workspace}
 use Rattle.jvm_instructions.proofs.Targets.{lookup_jumps, pair_behind}
 use Rattle.jvm_instructions.proofs.working.Working.lookup_switch.Goals as goal

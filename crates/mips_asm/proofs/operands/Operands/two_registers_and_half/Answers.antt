@@ -1,5 +1,5 @@
 use Rattle.std.proofs.Common.{[], ◌∷◌, sym}
-use Rattle.asm_lines.specs.Lexical.{operands_of}
+use Rattle.asm_lines.specs.Lexical.{operand_texts}
 use Rattle.mips_asm.specs.Instructions.{Register}
 use Rattle.mips_asm.specs.Halves.{form_of}
 use Rattle.mips_asm.proofs.ShapeLemmas.{other_count}
@@ -7,4 +7,4 @@ use Rattle.mips_asm.proofs.operands.Operands.two_registers_and_half.Goals as goa
 
 pub returns-in-None : goal.returns-in-None
 returns-in-None c =
-    sym (other_count c.args.self.now.labels.now c.args.self.now.at (Register ∷ Register ∷ form_of c.args.form ∷ []) (operands_of c.args.self.now.text.now) (sym c.in-None.ensures.count))
+    sym (other_count c.args.self.now.labels.now c.args.self.now.at (Register ∷ Register ∷ form_of c.args.form ∷ []) (operand_texts c.args.self.now.text.now) (sym c.in-None.ensures.count))

@@ -1,8 +1,8 @@
 -- A jump that links reads where it stands.
 use Rattle.std.proofs.Common.{◌≡◌, ap, sym, ◌∙◌, subst}
-use Rattle.mips_decode.specs.Branches.{jump_effect, jump_and_link_register_effect}
-use Rattle.mips_decode.specs.Step.{effect}
-use Rattle.mips_decode.specs.declared.inst.Inst.{Inst}
+use Rattle.mips_definition.specs.Branches.{jump_effect, jump_and_link_register_effect}
+use Rattle.mips_definition.specs.Step.{effect}
+use Rattle.mips_definition.specs.declared.inst.Inst.{Inst}
 use Rattle.mips_machine.specs.Moving.{at_word}
 use Rattle.mips_machine.specs.Processor.{processor_state, effect_of}
 use Rattle.mips_machine.proofs.processor.Processor.execute.Goals as goal

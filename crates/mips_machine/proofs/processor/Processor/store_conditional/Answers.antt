@@ -1,8 +1,8 @@
 use Rattle.std.proofs.Common.{true, ap, sym, ◌∙◌}
-use Rattle.mips_decode.specs.Effect.{goes_on}
-use Rattle.mips_decode.specs.Loads.{store_allowed, store_conditional_to}
-use Rattle.mips_decode.specs.State.{State}
-use Rattle.mips_decode.specs.declared.names.store_name.StoreName.TheVariants.{Sw}
+use Rattle.mips_definition.specs.Effect.{goes_on}
+use Rattle.mips_definition.specs.Loads.{store_allowed, store_conditional_to}
+use Rattle.mips_definition.specs.State.{State}
+use Rattle.mips_definition.specs.declared.names.store_name.StoreName.TheVariants.{Sw}
 use Rattle.mips_machine.specs.Processor.{processor_state}
 use Rattle.mips_machine.proofs.LinkLemmas.{conditional}
 use Rattle.mips_machine.proofs.processor.Processor.store_conditional.Goals as goal

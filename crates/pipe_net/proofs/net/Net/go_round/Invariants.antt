@@ -1,8 +1,8 @@
 use Rattle.std.proofs.Common.{◌≡◌, ◌≤◌, ℕ, List}
 use Rattle.nv_outside.specs.Seen.{Seen, input_seen, output_seen}
-use Rattle.jvm_program.specs.Step.{Loaded}
-use Rattle.pipe_laws.specs.Pipelines.{Pipeline}
-use Rattle.pipe_laws.specs.Alone.{IsFreshPipeline}
+use Rattle.jvm_definition.specs.Step.{Loaded}
+use Rattle.unix_pipe_laws.specs.Pipelines.{Pipeline}
+use Rattle.unix_pipe_laws.specs.Alone.{IsFreshPipeline}
 use Rattle.pipe_net.specs.Showing.{IsSound, stage_count}
 use Rattle.pipe_net.specs.Turning.{turns_left}
 use Rattle.pipe_net.specs.Histories.{HasCome}

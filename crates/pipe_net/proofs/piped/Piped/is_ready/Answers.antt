@@ -1,5 +1,5 @@
 use Rattle.std.proofs.Common.{sym, ◌∙◌}
-use Rattle.nv_events.specs.Question.{asked}
+use Rattle.run_definition.specs.Question.{asked}
 use Rattle.pipe_net.specs.Views.{ports}
 use Rattle.pipe_net.proofs.ServedLemmas.{ready-else, ready-reads, ready-writes}
 use Rattle.pipe_net.proofs.piped.Piped.is_ready.Goals as goal

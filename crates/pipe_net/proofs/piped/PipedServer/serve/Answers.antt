@@ -2,7 +2,7 @@ use Rattle.std.proofs.Common.{Some, Err, rules, refl, sym, ◌∙◌}
 use Rattle.std.specs.Prelude.{FitsSigned}
 use Rattle.std.specs.Int.{w32}
 use Rattle.std.proofs.lemmas.Int.{to_z-of_z}
-use Rattle.nv_events.specs.Question.{asked}
+use Rattle.run_definition.specs.Question.{asked}
 use Rattle.unix_calls.proofs.JoinedLemmas.{joined-causes, joined-none_falls}
 use Rattle.pipe_net.specs.Views.{ports}
 use Rattle.pipe_net.proofs.ServedLemmas.{piped-falls, piped-goes, piped-waits}

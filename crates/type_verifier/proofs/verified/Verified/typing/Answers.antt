@@ -1,6 +1,6 @@
 use Rattle.std.proofs.Common.{◌≡◌, ◌+◌, sym, ap, ◌∙◌, Some}
 use Rattle.std.specs.Prelude.{slice_get}
-use Rattle.jvm_link.specs.Linking.{program_of}
+use Rattle.class_definition.specs.Linking.{program_of}
 use Rattle.type_verifier.specs.Refusal.{methods_before}
 use Rattle.type_verifier.proofs.VerifyLaws.{method-there}
 use Rattle.type_verifier.proofs.TypingLaws.{number-within, least-not-failing}

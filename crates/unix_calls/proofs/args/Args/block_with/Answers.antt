@@ -1,5 +1,5 @@
 use Rattle.std.proofs.Common.{◌≡◌, arith, ap}
-use Rattle.unix_system.specs.Calls.{block_length}
+use Rattle.unix_definition.specs.Calls.{block_length}
 use Rattle.unix_calls.proofs.ArgsLemmas.{block-more}
 use Rattle.unix_calls.proofs.args.Args.block_with.Goals as goal
 

@@ -1,4 +1,4 @@
-use Rattle.nv_events.specs.Question.{asked}
+use Rattle.run_definition.specs.Question.{asked}
 use Rattle.std.proofs.Common.{None, ◌≡◌, subst, sym}
 use Rattle.std.specs.Prelude.{OnOk}
 use Rattle.nv_events.specs.Serving.{Causes}

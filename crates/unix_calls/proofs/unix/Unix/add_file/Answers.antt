@@ -1,6 +1,6 @@
 use Rattle.std.proofs.Common.{◌≡◌, ◌≤◌, ◌++◌, ◌∷◌, [], map, length, Some, ap, sym, ◌∙◌, arith}
-use Rattle.unix_files.specs.Files.{free_node, with_name}
-use Rattle.unix_system.specs.Unix.{file_named}
+use Rattle.unix_definition.specs.Files.{free_node, with_name}
+use Rattle.unix_definition.specs.Unix.{found_file}
 use Rattle.unix_calls.specs.Held.{Held, limited, with_tables_held}
 use Rattle.unix_calls.specs.Starting.{held_at_start}
 use Rattle.unix_calls.specs.contracts.unix.Unix.{the_view}
@@ -12,7 +12,7 @@ unreachable-requires c =
     let b = c.requires.begins in
     let disk : c.self.inside.disk ≡ start_files b.blocks b.files = ap (λ h. h.files) (c.self.view_is ∙ b.begins.is) in
     let few : length b.files ≤ 255 = omega (arith, b.few) in
-    c.in_default.not-Some (length (map file_named b.files)) (c.unused.ensures.value ∙ (ap free_node disk ∙ start-some b.blocks b.files (omega (arith, few))))
+    c.in_default.not-Some (length (map found_file b.files)) (c.unused.ensures.value ∙ (ap free_node disk ∙ start-some b.blocks b.files (omega (arith, few))))
 
 pub returns-clause-added : goal.returns-clause-added
 returns-clause-added c most blocks moment files args b =

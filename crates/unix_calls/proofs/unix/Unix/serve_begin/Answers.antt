@@ -1,8 +1,8 @@
 use Rattle.std.proofs.Common.{◌≡◌, ℤ, Ok, Some, sym, subst}
-use Rattle.nv_events.specs.Question.{Room, asked, room_at}
-use Rattle.unix_system.specs.Calls.{begin}
+use Rattle.run_definition.specs.Question.{Room, asked, room_at}
+use Rattle.unix_definition.specs.Calls.{begin}
 use Rattle.unix_system.specs.Serving.{Gives}
-use Rattle.unix_system.specs.Unix.{unix}
+use Rattle.unix_definition.specs.Unix.{unix}
 use Rattle.unix_calls.specs.Held.{Held, system_of, with_begun_held}
 use Rattle.unix_calls.specs.Serving.{parts, Serves}
 use Rattle.unix_calls.specs.contracts.unix.Unix.{the_view}

@@ -1,8 +1,8 @@
-use Rattle.nv_events.specs.Question.{asked}
+use Rattle.run_definition.specs.Question.{asked}
 use Rattle.std.proofs.Common.{Some}
-use Rattle.nv_events.specs.Question.{room_at}
+use Rattle.run_definition.specs.Question.{room_at}
 use Rattle.nv_outside.specs.Seen.{input_seen}
-use Rattle.unix_system.specs.Unix.{unix}
+use Rattle.unix_definition.specs.Unix.{unix}
 use Rattle.unix_calls.specs.Held.{Held}
 use Rattle.unix_calls.specs.Access.{read_of}
 use Rattle.unix_calls.specs.Reading.{inputs}

@@ -1,8 +1,8 @@
 use Rattle.std.proofs.Common.{◌≡◌, ℤ, Ok, Some, refl, sym, subst, to_z, of_z, w32}
-use Rattle.nv_events.specs.Question.{Room, asked, room_at}
-use Rattle.unix_system.specs.Calls.{fstat}
+use Rattle.run_definition.specs.Question.{Room, asked, room_at}
+use Rattle.unix_definition.specs.Calls.{fstat}
 use Rattle.unix_system.specs.Serving.{Gives}
-use Rattle.unix_system.specs.Unix.{unix}
+use Rattle.unix_definition.specs.Unix.{unix}
 use Rattle.unix_calls.specs.Held.{Held, system_of}
 use Rattle.unix_calls.specs.Serving.{parts, Serves}
 use Rattle.unix_calls.specs.contracts.unix.Unix.{the_view}

@@ -1,6 +1,6 @@
-use Rattle.nv_events.specs.Question.{asked}
+use Rattle.run_definition.specs.Question.{asked}
 use Rattle.nv_outside.specs.Seen.{output_seen}
-use Rattle.unix_system.specs.Unix.{unix}
+use Rattle.unix_definition.specs.Unix.{unix}
 use Rattle.unix_calls.specs.Held.{Held}
 use Rattle.unix_calls.specs.Access.{write_of}
 use Rattle.unix_calls.specs.Reading.{outputs}

@@ -1,6 +1,6 @@
 use Rattle.std.proofs.Common.{ap, sym, ◌∙◌, subst, ◌<◌, length, get_or, inl, inr, arith}
 use Rattle.std.proofs.lemmas.Bool.{cases_lt}
-use Rattle.unix_files.specs.Files.{bytes_of}
+use Rattle.unix_definition.specs.Files.{node_bytes}
 use Rattle.unix_files.proofs.DiskLemmas.{bytes-is, none-past}
 use Rattle.unix_files.proofs.disk.Disk.byte.Goals as goal
 
@@ -12,7 +12,7 @@ byte-requires-clause-file c =
       | inl less ↦ omega arith
       | inr past ↦
           let none = none-past d.entries.items d.store c.args.self.now c.self.view_is c.self.invariant c.args.n past in
-          let empty = ap (λ o. length (bytes_of o)) none in
+          let empty = ap (λ o. length (node_bytes o)) none in
           let r = c.requires in
           absurd (omega arith)
     ]

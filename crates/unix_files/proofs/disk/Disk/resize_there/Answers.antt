@@ -1,6 +1,6 @@
 use Rattle.std.proofs.Common.{◌+◌, ◌-◌, ◌++◌, ap, sym, ◌∙◌, arith, length, take, replicate}
 use Rattle.std.proofs.lemmas.Bool.{leb-true}
-use Rattle.unix_files.specs.Files.{blocks_for, bytes_at, with_bytes, resized}
+use Rattle.unix_definition.specs.Files.{blocks_for, bytes_at, with_bytes, resized}
 use Rattle.unix_files.specs.Stored.{file_at}
 use Rattle.unix_files.specs.Kept.{files_of}
 use Rattle.unix_files.proofs.DiskLemmas.{bytes-is, within, bytes-set, IsKept-bytes, free-is, resized-longer, resized-shorter}

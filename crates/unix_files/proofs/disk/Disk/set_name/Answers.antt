@@ -1,5 +1,5 @@
 use Rattle.std.proofs.Common.{ap, ◌∙◌, Some}
-use Rattle.unix_files.specs.Files.{with_node, bytes_at}
+use Rattle.unix_definition.specs.Files.{with_node, bytes_at}
 use Rattle.unix_files.proofs.DiskLemmas.{entry-set}
 use Rattle.unix_files.proofs.disk.Disk.set_name.Goals as goal
 

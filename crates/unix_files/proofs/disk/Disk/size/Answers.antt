@@ -1,5 +1,5 @@
 use Rattle.std.proofs.Common.{ap, sym, ◌∙◌, length}
-use Rattle.unix_files.specs.Files.{bytes_of}
+use Rattle.unix_definition.specs.Files.{node_bytes}
 use Rattle.unix_files.proofs.DiskLemmas.{bytes-is, none-past}
 use Rattle.unix_files.proofs.disk.Disk.size.Goals as goal
 
@@ -11,4 +11,4 @@ returns-then-n-lt-NODES c =
 pub returns-else-n-lt-NODES : goal.returns-else-n-lt-NODES
 returns-else-n-lt-NODES c =
     let d = c.self.inside in
-    sym (ap (λ o. length (bytes_of o)) (none-past d.entries.items d.store c.args.self.now c.self.view_is c.self.invariant c.args.n c.if-n-lt-NODES.false))
+    sym (ap (λ o. length (node_bytes o)) (none-past d.entries.items d.store c.args.self.now c.self.view_is c.self.invariant c.args.n c.if-n-lt-NODES.false))

@@ -1,6 +1,6 @@
 use Rattle.std.proofs.Common.{ap, sym, ◌∙◌}
 use Rattle.std.specs.Option.{is_none}
-use Rattle.unix_files.specs.Files.{free_node}
+use Rattle.unix_definition.specs.Files.{free_node}
 use Rattle.unix_files.proofs.DiskLemmas.{position-nodes_of, is_none-node_of}
 use Rattle.unix_files.proofs.disk.Disk.unused.Goals as goal
 

@@ -1,6 +1,6 @@
 use Rattle.std.proofs.Common.{◌≡◌, ℕ, List, ◌<◌, ◌≤◌, ◌+◌, ◌-◌, ◌++◌, ap, sym, ◌∙◌, arith, length, replicate}
 use Rattle.std.proofs.lemmas.List.{length-set}
-use Rattle.unix_files.specs.Files.{blocks_for, with_bytes, written}
+use Rattle.unix_definition.specs.Files.{blocks_for, with_bytes, written}
 use Rattle.unix_files.specs.Stored.{Contents, file_at, with_file, overwritten}
 use Rattle.unix_files.specs.Kept.{files_of}
 use Rattle.unix_files.proofs.FileLemmas.{stored-again, file_at-with_file, length-zeros_behind}

@@ -1,6 +1,6 @@
 use Rattle.std.proofs.Common.{◌≡◌, [], ◌∷◌, ◌+◌, ◌-◌, ◌≤◌, ◌++◌, length, replicate, ap, ◌∙◌, arith, inl, inr}
 use Rattle.std.proofs.lemmas.Bool.{cases_lt}
-use Rattle.unix_files.specs.Files.{blocks_for}
+use Rattle.unix_definition.specs.Files.{blocks_for}
 use Rattle.unix_files.specs.Stored.{file_at, with_file}
 use Rattle.unix_files.proofs.FileLemmas.{stored-again, more-zeros, length-zeros_behind}
 use Rattle.unix_files.proofs.store.Store.extend.Goals as goal

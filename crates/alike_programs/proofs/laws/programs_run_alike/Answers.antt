@@ -1,9 +1,0 @@
-use Rattle.nv_events.specs.Answer.{next_answer}
-use Rattle.alike_programs.proofs.RunLaws.{programs-run-alike}
-use Rattle.alike_programs.proofs.laws.programs_run_alike.Goals as goal
-
-pub returns : goal.returns
-returns c d = record {
-  served = λ good p q words n k alike. programs-run-alike good p q alike words _ n k;
-  listed = λ good p q words n answers alike. programs-run-alike good p q alike words next_answer n answers;
-}

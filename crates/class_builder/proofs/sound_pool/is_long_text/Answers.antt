@@ -1,6 +1,0 @@
-use Rattle.std.proofs.Common.{arith}
-use Rattle.class_builder.proofs.Joining.{text-is}
-use Rattle.class_builder.proofs.sound_pool.is_long_text.Goals as goal
-
-pub returns-clause-text : goal.returns-clause-text
-returns-clause-text c = text-is c.args.characters.now (λ i. omega (arith, c.type_inv.characters i))

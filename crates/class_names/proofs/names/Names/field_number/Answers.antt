@@ -1,0 +1,10 @@
+use Rattle.std.proofs.Common.{◌∙◌}
+use Rattle.class_names.specs.Keys.{classes_in}
+use Rattle.class_names.proofs.FaultLemmas.{field_number_is}
+use Rattle.class_names.proofs.names.Names.field_number.Goals as goal
+
+pub returns : goal.returns
+returns c =
+    let n = c.args.self.now in
+    let a = n.numbered in
+    c.number.ensures ∙ field_number_is a.texts.keys a.texts_are n.class_names.keys n.fields n.methods (classes_in a.classes.items) n.knows c.args.class.now c.requires c.args.owner c.args.name c.key.result c.key.ensures

@@ -1,5 +1,0 @@
-pub mod WaitingLemmas
-pub mod QueueLemmas
-pub mod EntryLemmas
-pub mod SetLemmas
-pub mod FoundLemmas

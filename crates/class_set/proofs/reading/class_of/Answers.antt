@@ -1,7 +1,0 @@
-use Rattle.std.proofs.Common.{ap, sym, length}
-use Rattle.class_file.proofs.ClassLaws.{spelled_read}
-use Rattle.class_set.specs.ClassSets.{class_or_fault}
-use Rattle.class_set.proofs.reading.class_of.Goals as goal
-
-pub returns-in-Ok-clause-is : goal.returns-in-Ok-clause-is
-returns-in-Ok-clause-is c = sym (ap (class_or_fault (length c.args.bytes.now)) (spelled_read c.args.bytes.now c.in-Ok.class c.in-Ok.ensures.spelled))

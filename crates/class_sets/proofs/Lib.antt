@@ -1,0 +1,9 @@
+pub mod WaitingLemmas
+pub mod QueueLemmas
+pub mod EntryLemmas
+pub mod SetLemmas
+pub mod FoundLemmas
+pub mod ReadLemmas
+pub mod NamedSetLemmas
+pub mod PlainLaws
+pub mod KeptLaws

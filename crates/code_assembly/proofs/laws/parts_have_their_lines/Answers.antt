@@ -1,5 +1,0 @@
-use Rattle.code_assembly.proofs.JoinLemmas.{lines-joined}
-use Rattle.code_assembly.proofs.laws.parts_have_their_lines.Goals as goal
-
-pub returns : goal.returns
-returns c at first second = lines-joined at first second

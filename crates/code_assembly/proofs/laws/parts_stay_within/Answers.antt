@@ -1,5 +1,0 @@
-use Rattle.code_assembly.proofs.JoinLemmas.{within-joined}
-use Rattle.code_assembly.proofs.laws.parts_stay_within.Goals as goal
-
-pub returns : goal.returns
-returns c first second = within-joined first second

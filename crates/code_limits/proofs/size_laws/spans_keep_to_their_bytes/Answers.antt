@@ -1,5 +1,0 @@
-use Rattle.code_limits.proofs.SpanSizes.{span-fits}
-use Rattle.code_limits.proofs.size_laws.spans_keep_to_their_bytes.Goals as goal
-
-pub returns : goal.returns
-returns c units leads span = span-fits units leads span

@@ -1,8 +1,0 @@
-use Rattle.code_paths.proofs.Standing.{leaf_counts, leaf_visits}
-use Rattle.code_paths.proofs.count_laws.calls_count_with_their_bodies.Goals as goal
-
-pub returns : goal.returns
-returns c program words m n line w caller back result others call few = record {
-  counts = λ weight still. leaf_counts program words m n line w caller back result others call few weight still;
-  visits = λ differ. leaf_visits program words m n line w caller back result others call few differ;
-}

@@ -1,6 +1,0 @@
-use Rattle.code_paths.proofs.Stopping.{stop-effect}
-use Rattle.code_paths.proofs.laws.stops_are_effects.Goals as goal
-
-pub returns : goal.returns
-returns c program words k n i code instruction w v e is step =
-    stop-effect program words code k n i w v e instruction is step

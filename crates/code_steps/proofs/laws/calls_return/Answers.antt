@@ -1,6 +1,0 @@
-use Rattle.code_steps.proofs.Calling.{calls-return}
-use Rattle.code_steps.proofs.laws.calls_return.Goals as goal
-
-pub returns : goal.returns
-returns c program words m at i callee n code w caller back given result others =
-    calls-return program words m at i callee n code w caller back given result others

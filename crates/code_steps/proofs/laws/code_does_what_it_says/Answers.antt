@@ -1,5 +1,0 @@
-use Rattle.code_steps.proofs.Lying.{code-leads}
-use Rattle.code_steps.proofs.laws.code_does_what_it_says.Goals as goal
-
-pub returns : goal.returns
-returns c program words m at k code w others lies = code-leads program words m others code at k w lies

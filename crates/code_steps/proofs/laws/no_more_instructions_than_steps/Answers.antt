@@ -1,5 +1,0 @@
-use Rattle.code_steps.proofs.Counting.{once}
-use Rattle.code_steps.proofs.laws.no_more_instructions_than_steps.Goals as goal
-
-pub returns : goal.returns
-returns c program words code w = once program words code 0 w

@@ -1,9 +1,0 @@
--- The step that ends a method.
-use Rattle.jvm_names.specs.declared.return_name.ReturnName.TheVariants.{Return}
-use Rattle.jvm_program.specs.declared.instruction.Instruction.TheVariants as instructions
-use Rattle.code_steps.specs.declared.step.Step.{Step}
-use Rattle.code_steps.specs.declared.step.Step.TheVariants.{Does}
-
--- a method that gives nothing ends
-abbrev pub returns : Step
-returns = Does (instructions.Return Return)

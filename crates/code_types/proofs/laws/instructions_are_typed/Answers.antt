@@ -1,5 +1,0 @@
-use Rattle.code_types.proofs.TypedCode.Instructions.{instruction-typed}
-use Rattle.code_types.proofs.laws.instructions_are_typed.Goals as goal
-
-pub returns : goal.returns
-returns c i e rules bank known goal at helpers a = instruction-typed i e rules bank known goal at helpers a

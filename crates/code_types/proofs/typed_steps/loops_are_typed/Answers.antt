@@ -1,5 +1,0 @@
-use Rattle.code_types.proofs.TypedSteps.Looping.{flows-body}
-use Rattle.code_types.proofs.typed_steps.loops_are_typed.Goals as goal
-
-pub returns : goal.returns
-returns c rules code from ahead h owed = flows-body rules code from ahead h owed

@@ -1,5 +1,0 @@
-use Rattle.code_types.proofs.TypedSteps.Joining.{parts-typed}
-use Rattle.code_types.proofs.typed_steps.parts_are_typed.Goals as goal
-
-pub returns : goal.returns
-returns c rules part parts f behind m all = parts-typed rules part parts f behind m all

@@ -1,5 +1,0 @@
-use Rattle.code_types.proofs.TypedSteps.Joining.{code-redirected}
-use Rattle.code_types.proofs.typed_steps.redirected_code_is_typed.Goals as goal
-
-pub returns : goal.returns
-returns c program old new to code from behind carries plain t = code-redirected program old new to code from behind carries plain t

@@ -1,0 +1,14 @@
+pub mod Pages
+pub mod Content
+pub mod ImageFault
+pub mod Start
+pub mod Check
+pub mod Header
+pub mod Segments
+pub mod Sections
+pub mod Area
+pub mod Fault
+pub mod FileFields
+pub mod FilePlaces
+pub mod File
+pub mod Loading

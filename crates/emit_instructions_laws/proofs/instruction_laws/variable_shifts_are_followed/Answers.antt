@@ -1,0 +1,6 @@
+use Rattle.emit_simulation_laws.proofs.GuestFollows.CodeLaws.{code-laws}
+use Rattle.emit_instructions_laws.proofs.InstructionLaws.Shifts.{variable-shift-follows}
+use Rattle.emit_instructions_laws.proofs.instruction_laws.variable_shifts_are_followed.Goals as goal
+
+pub returns : goal.returns
+returns c = variable-shift-follows (code-laws c.code_is_paths.ensures)

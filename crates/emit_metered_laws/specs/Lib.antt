@@ -1,0 +1,6 @@
+pub mod Writing
+pub mod Leaving
+pub mod Metering
+pub mod Turning
+pub mod Programs
+pub mod Running

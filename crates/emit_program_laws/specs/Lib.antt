@@ -1,0 +1,13 @@
+pub mod Entered
+pub mod Going
+pub mod Standing
+pub mod Choosing
+pub mod Counted
+pub mod Rests
+pub mod Marks
+pub mod Turning
+pub mod Translated
+pub mod Alike
+pub mod LoadingCodeLaws
+pub mod SpanCodeLaws
+pub mod TrampolineLaws

@@ -1,0 +1,12 @@
+pub mod Holding
+pub mod Outcomes
+pub mod Helpers
+pub mod Sites
+pub mod Following
+pub mod Laws
+pub mod Match
+pub mod Memory
+pub mod Behind
+pub mod Knowing
+pub mod Lawful
+pub mod UnitLaws

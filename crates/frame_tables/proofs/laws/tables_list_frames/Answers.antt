@@ -1,5 +1,0 @@
-use Rattle.frame_tables.proofs.WrittenLaws.{tables-listed}
-use Rattle.frame_tables.proofs.laws.tables_list_frames.Goals as goal
-
-pub returns : goal.returns
-returns c = λ pool method listed bytes t w i. tables-listed pool method listed bytes t w i

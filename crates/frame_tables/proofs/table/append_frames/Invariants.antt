@@ -1,9 +1,0 @@
-use Rattle.std.proofs.Common.{length}
-use Rattle.frame_tables.proofs.WrittenLaws.{IsWriting}
-use Rattle.frame_tables.proofs.table.append_frames.Given as goal
-
-abbrev pub invariant-loop-next : goal.invariant-loop-next
-invariant-loop-next l = IsWriting l.pool l.parameters l.listed l.fn.bytes.items l.last l.before l.rest l.bytes.items
-
-abbrev pub decreases-loop-next : goal.decreases-loop-next
-decreases-loop-next l = length l.rest

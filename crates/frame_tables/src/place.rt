@@ -1,6 +1,0 @@
-/// Where a type stands in a frame.
-#[derive(Clone, Copy, Debug, PartialEq, Eq)]
-pub enum Place {
-    Local,
-    Operand,
-}

@@ -1,2 +1,0 @@
-pub mod FramedClassLaws
-pub mod TabledLaws

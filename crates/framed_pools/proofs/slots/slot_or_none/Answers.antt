@@ -1,9 +1,0 @@
-use Rattle.std.proofs.Common.{sym, arith}
-use Rattle.framed_pools.specs.Longer.{is_class}
-use Rattle.framed_pools.proofs.PoolLaws.{slot-near}
-use Rattle.framed_pools.proofs.slots.slot_or_none.Goals as goal
-
-pub overflow_cast-result : goal.overflow_cast-result
-overflow_cast-result c =
-    let near = slot-near (is_class c.args.pool.now c.args.name.now) c.args.pool.now c.in-Some.slot (sym c.in-Some.ensures) in
-    omega (arith, near, c.requires)

@@ -1,5 +1,0 @@
-pub mod TableSteps
-pub mod MadeLaws
-pub mod Kept
-pub mod Bounds
-pub mod TypedLaws

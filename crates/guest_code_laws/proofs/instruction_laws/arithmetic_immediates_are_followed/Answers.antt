@@ -1,6 +1,0 @@
-use Rattle.guest_follows.proofs.GuestFollows.CodeLaws.{code-laws}
-use Rattle.guest_code_laws.proofs.InstructionLaws.Immediates.{arithmetic-immediate-follows}
-use Rattle.guest_code_laws.proofs.instruction_laws.arithmetic_immediates_are_followed.Goals as goal
-
-pub returns : goal.returns
-returns c = arithmetic-immediate-follows (code-laws c.code_is_paths.ensures)

@@ -1,6 +1,0 @@
-use Rattle.guest_follows.proofs.GuestFollows.CodeLaws.{code-laws}
-use Rattle.guest_code_laws.proofs.InstructionLaws.Immediates.{load-upper-follows}
-use Rattle.guest_code_laws.proofs.instruction_laws.load_upper_is_followed.Goals as goal
-
-pub returns : goal.returns
-returns c = load-upper-follows (code-laws c.code_is_paths.ensures)

@@ -1,6 +1,0 @@
-use Rattle.guest_follows.proofs.GuestFollows.CodeLaws.{code-laws}
-use Rattle.guest_code_laws.proofs.InstructionLaws.Shifts.{variable-shift-follows}
-use Rattle.guest_code_laws.proofs.instruction_laws.variable_shifts_are_followed.Goals as goal
-
-pub returns : goal.returns
-returns c = variable-shift-follows (code-laws c.code_is_paths.ensures)

@@ -1,5 +1,0 @@
-use Rattle.guest_code_laws.proofs.UnitLaws.Units.{unit-follows}
-use Rattle.guest_code_laws.proofs.unit_laws.units_are_followed.Goals as goal
-
-pub returns : goal.returns
-returns c = unit-follows c.code_is_paths.ensures

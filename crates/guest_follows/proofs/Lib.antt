@@ -1,8 +1,0 @@
-pub mod RegisterLaws
-pub mod GuestFollows
-mod MatchExamples
-pub mod Signs
-pub mod MatchedPages
-pub mod ReadLemmas
-pub mod Stores
-pub mod Patches

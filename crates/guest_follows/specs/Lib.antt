@@ -1,9 +1,0 @@
-pub mod Holding
-pub mod Outcomes
-pub mod Helpers
-pub mod Sites
-pub mod Following
-pub mod Laws
-pub mod Match
-pub mod Memory
-pub mod Behind

@@ -1,6 +1,0 @@
-pub mod Pages
-pub mod OneWord
-pub mod ByteList
-pub mod ViewLaws
-pub mod Ops
-pub mod CodeChunks

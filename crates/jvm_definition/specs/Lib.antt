@@ -1,0 +1,9 @@
+pub mod Values
+pub mod Words
+pub mod Shuffles
+pub mod HostMemory
+pub mod Program
+pub mod Effect
+pub mod Step
+pub mod Typing
+pub mod Again

@@ -1,0 +1,52 @@
+//! The definition of the class machine: linked programs, one step of them, and when a method is typed (JVM Specification, 2.6, 2.11, 4.10 and 6.5).
+#![tactic(auto)]
+
+mod array_kind;
+mod array_name;
+mod branch_name;
+mod constant;
+mod conversion;
+mod instruction;
+mod int_arithmetic;
+mod int_division;
+mod int_shift;
+mod kept;
+mod kind;
+mod linked_line;
+mod linked_method;
+mod local_kind;
+mod long_arithmetic;
+mod long_division;
+mod long_shift;
+mod lookup_switch;
+mod pair;
+mod return_name;
+mod sequence;
+mod stack_name;
+mod table_switch;
+mod value;
+
+pub use array_kind::ArrayKind;
+pub use array_name::ArrayName;
+pub use branch_name::BranchName;
+pub use constant::Constant;
+pub use conversion::Conversion;
+pub use instruction::Instruction;
+pub use int_arithmetic::IntArithmetic;
+pub use int_division::IntDivision;
+pub use int_shift::IntShift;
+pub use kept::Kept;
+pub use kind::Kind;
+pub use linked_line::LinkedLine;
+pub use linked_method::LinkedMethod;
+pub use local_kind::LocalKind;
+pub use long_arithmetic::LongArithmetic;
+pub use long_division::LongDivision;
+pub use long_shift::LongShift;
+pub use lookup_switch::LookupSwitch;
+pub use pair::Pair;
+pub use return_name::ReturnName;
+pub use sequence::Sequence;
+pub use stack_name::StackName;
+pub use table_switch::TableSwitch;
+pub use value::Value;

@@ -1,7 +1,0 @@
-use Rattle.std.proofs.Common.{◌-◌, arith}
-use Rattle.std.proofs.lemmas.Grind.{common_steps}
-use Rattle.jvm_frames.proofs.StackLemmas.{dropped}
-use Rattle.jvm_frames.proofs.operands.Operands.drop_top.Goals as goal
-
-pub returns : goal.returns
-returns c = grind (arith, common_steps, dropped c.self.inside.slots.items c.self.inside.top (c.self.inside.top - c.args.count) c.args.count)

@@ -1,6 +1,0 @@
-use Rattle.jvm_program.proofs.Stretches.{stretch-stands}
-use Rattle.jvm_program.proofs.laws.stretches_stand_anywhere.Goals as goal
-
-pub returns : goal.returns
-returns c program words m by n at lines w others p it =
-    stretch-stands program words m by lines others it.stands n at w p it.leads

@@ -1,6 +1,0 @@
-use Rattle.jvm_program.proofs.Turning.{turn-at-line}
-use Rattle.jvm_program.proofs.laws.turns_where_code_stands.Goals as goal
-
-pub returns : goal.returns
-returns c program words m by at lines line w others it =
-    turn-at-line program words m by at lines line w others it.stands it.line_is

@@ -1,0 +1,3 @@
+pub mod Relocation
+pub mod Below
+pub mod Laws

@@ -1,4 +1,0 @@
-pub mod Relocation
-pub mod Again
-pub mod Below
-pub mod Laws

@@ -1,5 +1,0 @@
-//! That a program whose fields are reset begins afresh, whatever runs before have left of the heap,
-//! since what it does never depends on where its arrays stand.
-#![tactic(auto)]
-
-pub mod laws;

@@ -1,9 +1,0 @@
-pub mod KindLaws
-pub mod HeapLaws
-pub mod ShuffleLaws
-pub mod TakingLaws
-pub mod EffectLaws
-pub mod StepLaws
-pub mod RunSafety
-pub mod OperandLaws
-pub mod Examples

@@ -1,0 +1,14 @@
+pub mod Unique
+pub mod Ordered
+pub mod Finding
+pub mod Arriving
+pub mod Readiness
+pub mod Taking
+pub mod Leading
+pub mod Frequent
+pub mod Calls
+pub mod Returns
+pub mod Hosts
+pub mod Lines
+pub mod Methods
+pub mod Fetching

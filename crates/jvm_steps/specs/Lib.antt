@@ -1,0 +1,6 @@
+pub mod Standing
+pub mod Settling
+pub mod Leading
+pub mod Hosting
+pub mod Loading
+pub mod Decoded

@@ -1,7 +1,0 @@
-pub mod Standing
-pub mod Settling
-pub mod Leading
-pub mod Hosting
-pub mod Loading
-pub mod Unique
-pub mod Decoded

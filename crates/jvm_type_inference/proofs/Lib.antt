@@ -1,0 +1,11 @@
+pub mod Unique
+pub mod KindLaws
+pub mod StackLaws
+pub mod JoinLaws
+pub mod FlowLaws
+pub mod TableLaws
+pub mod StepLaws
+pub mod SettleLaws
+pub mod CallLaws
+pub mod LeastLaws
+pub mod SameLaws

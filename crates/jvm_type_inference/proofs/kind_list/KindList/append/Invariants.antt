@@ -1,0 +1,8 @@
+use Rattle.std.proofs.Common.{◌≡◌, ◌++◌, length}
+use Rattle.jvm_type_inference.proofs.kind_list.KindList.append.Given as goal
+
+abbrev pub invariant-loop-kind : goal.invariant-loop-kind
+invariant-loop-kind l = l.self ++ l.rest ≡ l.initial.self ++ l.kinds
+
+abbrev pub decreases-loop-kind : goal.decreases-loop-kind
+decreases-loop-kind l = length l.rest

@@ -1,0 +1,82 @@
+ghost use Rattle.std.specs.Prelude.{◌≡◌, ◌<◌, ◌++◌, ◌∷◌, [], true, length, slice_set};
+
+use jvm_definition::Kind;
+use std::marker::Model;
+
+/// The greatest number of types.
+const ROOM: usize = 14;
+
+/// At most 14 types in order, which cost no memory.
+#[derive(Drop)]
+pub struct FewKinds {
+    kinds: [Kind; ROOM],
+    count: u8,
+}
+
+impl Model for FewKinds {
+    ghost use Rattle.std.specs.Prelude.{List, ◌≤◌, take};
+    ghost use Rattle.jvm_definition.specs.declared.kind.Kind.{Kind};
+
+    ghost Value = { List Kind };
+
+    ghost view = { λ k. take k.count k.kinds };
+
+    ghost invariant = { λ k. k.count ≤ 14 };
+}
+
+impl FewKinds {
+    #[inline(always)]
+    pub fn new() -> FewKinds
+        ensures { result ≡ [] }
+    {
+        FewKinds {
+            kinds: [Kind::Top; ROOM],
+            count: 0,
+        }
+    }
+
+    /// The same types once more.
+    #[inline(always)]
+    pub fn copied(&self) -> FewKinds
+        ensures { result ≡ self.now }
+    {
+        FewKinds {
+            kinds: self.kinds,
+            count: self.count,
+        }
+    }
+
+    /// The types, to be read.
+    #[inline(always)]
+    pub fn as_slice(&self) -> &[Kind]
+        ensures { result.now ≡ self.now }
+    {
+        &self.kinds[..usize::from(self.count)]
+    }
+
+    /// Whether there is room for one more.
+    #[inline(always)]
+    pub fn has_room(&self) -> bool
+        ensures { result ≡ true → length self.now < 14 }
+    {
+        usize::from(self.count) < ROOM
+    }
+
+    /// Adds a type after the others.
+    #[inline(always)]
+    pub fn push(&mut self, kind: Kind)
+        requires { length self.old < 14 }
+        ensures { self.new ≡ self.old ++ kind ∷ [] }
+    {
+        self.kinds[usize::from(self.count)] = kind;
+        self.count += 1;
+    }
+
+    /// Puts a type in the place of another.
+    pub fn set(&mut self, index: usize, kind: Kind)
+        requires { index < length self.old }
+        ensures { self.new ≡ slice_set self.old index kind }
+    {
+        self.kinds[index] = kind;
+    }
+}

@@ -1,2 +1,0 @@
-pub mod LawfulUnits
-pub mod PieceSets

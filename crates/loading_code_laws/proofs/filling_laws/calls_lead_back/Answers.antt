@@ -1,5 +1,0 @@
-use Rattle.loading_code_laws.proofs.FillingLaws.Calling.{call-leads}
-use Rattle.loading_code_laws.proofs.filling_laws.calls_lead_back.Goals as goal
-
-pub returns : goal.returns
-returns c = call-leads

@@ -1,5 +1,0 @@
-use Rattle.loading_code_laws.proofs.LoadingCodeLaws.Bounds.{turns-few}
-use Rattle.loading_code_laws.proofs.laws.loading_takes.Goals as goal
-
-pub returns : goal.returns
-returns c = turns-few

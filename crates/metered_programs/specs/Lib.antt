@@ -1,4 +1,0 @@
-pub mod Metering
-pub mod Turning
-pub mod Programs
-pub mod Running

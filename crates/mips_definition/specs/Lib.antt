@@ -1,0 +1,11 @@
+pub mod Mnemonics
+pub mod Table
+pub mod Targets
+pub mod Memory
+pub mod State
+pub mod Effect
+pub mod Arithmetic
+pub mod Loads
+pub mod Branches
+pub mod Traps
+pub mod Step

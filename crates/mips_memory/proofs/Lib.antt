@@ -1,0 +1,10 @@
+pub mod LoadLemmas
+pub mod CodeLoading
+pub mod ImageLemmas
+pub mod CodeLemmas
+pub mod MapLemmas
+pub mod MemoryLemmas
+pub mod LaneForms
+pub mod PageLemmas
+pub mod WordLemmas
+pub mod ByteLemmas

@@ -1,0 +1,13 @@
+use Rattle.std.proofs.Common.{◌≡◌, arith}
+use Rattle.mips_memory.proofs.lanes.from_on.Goals as goal
+
+pub returns-in-1 : goal.returns-in-1
+returns-in-1 c = rw c.in-1.is (omega arith)
+
+pub returns-in-2 : goal.returns-in-2
+returns-in-2 c = rw c.in-2.is (omega arith)
+
+pub returns-in_default : goal.returns-in_default
+returns-in_default c =
+    let last : c.args.place ≡ 3 = omega arith in
+    rw last (omega arith)

@@ -1,4 +1,0 @@
-pub mod ReadLemmas
-pub mod SetLemmas
-pub mod PlainLaws
-pub mod KeptLaws

@@ -1,3 +1,0 @@
-pub mod NamedSets
-pub mod Plain
-pub mod Kept

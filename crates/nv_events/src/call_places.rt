@@ -1,9 +1,0 @@
-use crate::text_place::TextPlace;
-
-/// Where the texts of a call stand, and the room for its answer: an address and a number of bytes.
-#[derive(Clone, Copy, Debug, PartialEq, Eq)]
-pub struct Places {
-    pub text: TextPlace,
-    pub second: TextPlace,
-    pub room: Option<(u32, u32)>,
-}

@@ -1,6 +1,0 @@
-use Rattle.std.proofs.Common.{◌≡◌}
-use Rattle.program_translation.specs.Classes.{span_infos}
-use Rattle.program_translation.proofs.coding.span_infos.Given as goal
-
-abbrev pub invariant-loop-k : goal.invariant-loop-k
-invariant-loop-k l = l.infos.items ≡ span_infos l.class l.part l.spans l.k

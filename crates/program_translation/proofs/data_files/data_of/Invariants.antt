@@ -1,5 +1,0 @@
-use Rattle.program_translation.specs.DataFiles.{HasFiles, filled_pages}
-use Rattle.program_translation.proofs.data_files.data_of.Given as goal
-
-abbrev pub invariant-loop-k : goal.invariant-loop-k
-invariant-loop-k l = HasFiles l.name l.code_classes l.methods (filled_pages l.image) l.k l.made

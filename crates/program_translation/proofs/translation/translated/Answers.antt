@@ -1,7 +1,0 @@
-use Rattle.std.proofs.Common.{subst}
-use Rattle.program_translation.specs.Taking.{IsTaken}
-use Rattle.program_translation.proofs.translation.translated.Goals as goal
-
-pub built_of-requires : goal.built_of-requires
-built_of-requires c =
-    subst (λ metered. IsTaken metered c.args.name.now c.args.method_bytes c.in_ok-taken.taken) c.is_some.ensures c.in_ok-taken.ensures.taken

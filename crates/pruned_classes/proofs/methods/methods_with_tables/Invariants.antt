@@ -1,6 +1,0 @@
-use Rattle.std.proofs.Common.{take}
-use Rattle.pruned_classes.specs.Made.{AreMade}
-use Rattle.pruned_classes.proofs.methods.methods_with_tables.Given as goal
-
-abbrev pub invariant-loop-method : goal.invariant-loop-method
-invariant-loop-method l = AreMade l.linked.classes l.number l.class l.pool (take l.method l.class.methods) l.methods.items l.tables.items

@@ -1,9 +1,0 @@
-use jvm_code::Method;
-use jvm_names::Sequence;
-
-/// A method with pruned code, and its table.
-#[derive(Drop)]
-pub struct TabledMethod {
-    pub method: Method,
-    pub table: Sequence<u8>,
-}

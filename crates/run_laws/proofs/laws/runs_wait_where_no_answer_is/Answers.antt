@@ -1,5 +1,0 @@
-use Rattle.run_laws.proofs.Waiting.{waits-where}
-use Rattle.run_laws.proofs.laws.runs_wait_where_no_answer_is.Goals as goal
-
-pub returns : goal.returns
-returns g c turn = waits-where turn g.V.Server.reply

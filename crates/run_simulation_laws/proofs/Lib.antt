@@ -1,0 +1,15 @@
+pub mod Paying
+pub mod Agreement
+pub mod Comparing
+pub mod Following
+pub mod Loading
+pub mod Marking
+pub mod Reaching
+pub mod Rounds
+pub mod Starting
+pub mod Places
+pub mod Metering
+pub mod Answering
+pub mod Working
+pub mod Passing
+pub mod Waiting

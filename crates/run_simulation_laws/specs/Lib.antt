@@ -1,0 +1,9 @@
+pub mod Pairs
+pub mod MeteredLaws
+pub mod Trail
+pub mod Turns
+pub mod Runs
+pub mod Places
+pub mod Meter
+pub mod Example
+pub mod Laws

@@ -1,4 +1,0 @@
-mod ChoicePasses
-pub mod TurnLaws
-pub mod TranslationRuns
-pub mod TrampolineLaws

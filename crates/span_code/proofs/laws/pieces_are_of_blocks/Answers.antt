@@ -1,5 +1,0 @@
-use Rattle.span_code.proofs.PieceLemmas.{piece-is-piece}
-use Rattle.span_code.proofs.laws.pieces_are_of_blocks.Goals as goal
-
-pub returns : goal.returns
-returns c units leads span k known begins within = piece-is-piece units leads span k known begins within

@@ -1,7 +1,0 @@
-use Rattle.std.proofs.Common.{◌≡◌, ◌++◌, replicate}
-use Rattle.code_steps.specs.declared.step.Step.TheVariants.{Does}
-use Rattle.jvm_program.specs.declared.instruction.Instruction.TheVariants.{Nop}
-use Rattle.span_code.proofs.opening.append_padding.Given as goal
-
-abbrev pub invariant-loop : goal.invariant-loop
-invariant-loop l = l.code.items ≡ l.fn.code.items ++ replicate l.counter (Does Nop)

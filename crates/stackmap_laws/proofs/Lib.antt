@@ -1,0 +1,10 @@
+pub mod TextLaws
+pub mod RunLaws
+pub mod MethodLaws
+pub mod ClosedLaws
+pub mod ClassLaws
+pub mod ProgramLaws
+pub mod FramedLaws
+pub mod NameLaws
+pub mod LinkLaws
+pub mod InstructionLaws

@@ -1,0 +1,4 @@
+pub mod Sizes
+pub mod Refusals
+pub mod Full
+pub mod Made

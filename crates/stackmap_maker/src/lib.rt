@@ -1,0 +1,18 @@
+//! Makes classes with tables of frames for classes that are verified (JVM Specification, Java SE 7 edition, 4.7.4 and 4.10.1).
+#![tactic(auto)]
+
+mod classes;
+mod framing;
+mod methods;
+mod size_laws;
+mod sizes;
+mod tabled_method;
+mod tabled_methods;
+mod unframed;
+mod unmade;
+
+pub use classes::classes_with_tables;
+pub use framing::{frames, verified_frames};
+pub use size_laws::sizes_are_lengths;
+pub use unframed::Unframed;
+pub use unmade::Unmade;

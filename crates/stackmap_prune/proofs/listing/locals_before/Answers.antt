@@ -1,0 +1,15 @@
+use Rattle.std.proofs.Common.{sym, ap, ◌∙◌}
+use Rattle.stackmap_table.specs.Last.{last_locals}
+use Rattle.stackmap_table.proofs.MeaningLaws.{locals-empty, locals-pushed}
+use Rattle.stackmap_prune.proofs.listing.locals_before.Goals as goal
+
+pub returns-in-None : goal.returns-in-None
+returns-in-None c =
+    let p = c.args.method.now.parameters in
+    c.as_slice.ensures ∙ sym (locals-empty p c.args.listed.now c.in-None.ensures.cases)
+
+pub returns-in-Some : goal.returns-in-Some
+returns-in-Some c =
+    let p = c.args.method.now.parameters in
+    let last = c.in-Some.last.now in
+    c.as_slice-in-Some.ensures ∙ (sym (locals-pushed p c.in-Some._others.now last.0 last.1) ∙ ap (last_locals p) (sym c.in-Some.ensures.cases.0))

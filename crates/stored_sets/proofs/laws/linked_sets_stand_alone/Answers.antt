@@ -1,5 +1,0 @@
-use Rattle.stored_sets.proofs.AloneLaws.{stored-alone}
-use Rattle.stored_sets.proofs.laws.linked_sets_stand_alone.Goals as goal
-
-pub returns : goal.returns
-returns c = λ version files later name members stored is linked own held. stored-alone version files later name members stored is linked own held

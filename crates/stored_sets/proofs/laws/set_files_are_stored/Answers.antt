@@ -1,5 +1,0 @@
-use Rattle.stored_sets.proofs.ApartLaws.{set-stored}
-use Rattle.stored_sets.proofs.laws.set_files_are_stored.Goals as goal
-
-pub returns : goal.returns
-returns c = λ version files later name members stored is set. set-stored version files later name members stored is set

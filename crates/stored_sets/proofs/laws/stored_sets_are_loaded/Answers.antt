@@ -1,5 +1,0 @@
-use Rattle.stored_sets.proofs.SetLaws.{stored-loaded}
-use Rattle.stored_sets.proofs.laws.stored_sets_are_loaded.Goals as goal
-
-pub returns : goal.returns
-returns c = λ files later name members framed stored is kept are spelled s. stored-loaded files later name members framed stored is kept are spelled s

@@ -1,9 +1,0 @@
--- Types in order, as they are kept.
-use Rattle.std.specs.Prelude.{List}
-use Rattle.jvm_program.specs.declared.kind.Kind.{Kind}
-use Rattle.type_inference.specs.declared.kept_kinds.KeptKinds.{KeptKinds}
-use Rattle.type_inference.specs.declared.kept_kinds.KeptKinds.TheVariants.{Few, Many}
-
-abbrev pub kinds_of : KeptKinds → List Kind
-kinds_of (Few kinds) = kinds
-kinds_of (Many kinds) = kinds.value.items

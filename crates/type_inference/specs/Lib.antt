@@ -1,9 +1,0 @@
-pub mod Kinds
-pub mod Verdict
-pub mod Joins
-pub mod Frames
-pub mod Actions
-pub mod Flow
-pub mod Unique
-pub mod Reached
-pub mod Inferred

@@ -1,5 +1,0 @@
-use Rattle.whole_methods.proofs.NamedCode.Helpers.{helper-well}
-use Rattle.whole_methods.proofs.named_code.helpers_name_well.Goals as goal
-
-pub returns : goal.returns
-returns c order class number h = helper-well order class number h

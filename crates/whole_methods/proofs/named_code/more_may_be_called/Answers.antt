@@ -1,5 +1,0 @@
-use Rattle.whole_methods.proofs.NamedCode.Steps.{code-more}
-use Rattle.whole_methods.proofs.named_code.more_may_be_called.Goals as goal
-
-pub returns : goal.returns
-returns c calls more class gives code also is = code-more calls more class gives also code is
