@@ -53,5 +53,28 @@ def text_of(path):
         return file.read()
 
 
+def with_drawn(path, maker, drawn):
+    """The text of a document with other lines between the marker of what makes them and `<!-- up to here -->`."""
+    begin, end = f"<!-- {maker} writes this -->\n", "<!-- up to here -->\n"
+    text = text_of(path) or ""
+    if text.count(begin) != 1 or end not in text.partition(begin)[2]:
+        raise SystemExit(f"{path}: has no lines {begin.strip()} and {end.strip()}")
+    head, _, rest = text.partition(begin)
+    return head + begin + drawn + end + rest.partition(end)[2]
+
+
+def write_text(path, text):
+    with open(os.path.join(TOP, path), "w", encoding="utf-8") as file:
+        file.write(text)
+
+
+def files_below(folder, ending):
+    """The paths of the files in a folder and below it whose names end so."""
+    found = []
+    for place, _, names in os.walk(folder):
+        found += [os.path.join(place, it) for it in names if it.endswith(ending)]
+    return sorted(found)
+
+
 def listed_rooms():
     return read_rooms(text_of("crates.txt") or "")
