@@ -6,7 +6,7 @@ Left out, since docs/GUEST.md and docs/ASSEMBLER.md differ:
   point are in no program (the group `files` has them). JALX (1D), which objdump shows for every processor.
 - SYNC with a number: objdump knows it of later processors alone, so it is asked as for MIPS32.
 - In texts: signed immediates above 32,767, of which the GNU assembler makes two words, or none; targets that are numbers, which it takes for
-  jumps alone; and JALR with one register twice, which it refuses. BREAK has one number here, and two of ten bits there.
+  jumps alone; and JALR with one register twice, and branches that test and write register 31, which it refuses. BREAK has one number here, and two of ten bits there.
 """
 import re
 import struct
@@ -173,7 +173,7 @@ class Text:
             lambda: f"{names(('mfhi', 'mflo', 'mthi', 'mtlo', 'jr'))} {r()}",
             lambda: f"{names(mips.LOADS, mips.STORES)} {r()},{signed()}({r()})",
             lambda: f"{names(mips.BRANCHES_EQUAL)} {r()},{r()},{target()}",
-            lambda: f"{names(mips.BRANCHES_ZERO, mips.BRANCHES_SIGN)} {r()},{target()}",
+            lambda: f"{names(mips.BRANCHES_ZERO, mips.BRANCHES_SIGN)} ${self.random.randrange(31)},{target()}",
             lambda: f"{names(('j', 'jal'))} {target()}",
             lambda: "jalr ${},${}".format(*self.random.sample(range(32), 2)),
             lambda: f"{names(mips.TRAPS)} {r()},{r()},{between(0, 1023)}",
@@ -208,7 +208,7 @@ def try_text(trial, k, random):
         return trial.differ(k, f"asm: {line}: {text.own().splitlines()[number_of_line - 1]}")
     for words in (
         ("mips-linux-gnu-as", "-mips2", "-32", "-EB", "-o", "theirs.o", "gnu.s"),
-        ("mips-linux-gnu-ld", "-EB", f"-Ttext={TEXT:#x}", f"-Tdata={DATA:#x}", f"-e{TEXT:#x}", "-o", "theirs", "theirs.o"),
+        ("mips-linux-gnu-ld", "-EB", "-T", "script", f"-e{TEXT:#x}", "-o", "theirs", "theirs.o"),
     ):
         status, _, error = trial.call(*words)
         if status:
@@ -225,8 +225,13 @@ def try_text(trial, k, random):
             trial.differ(k, f"asm: {address + at:08x} is {mine[at:at + 4].hex()}, and {theirs[at:at + 4].hex()}")
 
 
+SCRIPT = f"SECTIONS {{ .text {TEXT:#x} : {{ *(.text) }} .data {DATA:#x} : {{ *(.data) }} /DISCARD/ : {{ *(*) }} }}\n"
+
+
 def try_all(trial):
     trial.needs("mips-linux-gnu-objdump", "mips-linux-gnu-objcopy", "mips-linux-gnu-as", "mips-linux-gnu-ld")
+    with open(trial.path("script"), "w", encoding="ascii") as file:
+        file.write(SCRIPT)
     for k in trial.numbers:
         random = trial.random(k)
         try_words(trial, k, random)
