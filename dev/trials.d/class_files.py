@@ -150,11 +150,12 @@ def assembled(items, pool):
 
 
 class ClassFile:
-    """A class while it is made. A method is its name, its descriptor, its most operands and local variables, and its instructions."""
+    """A class while it is made. A method is its name, its descriptor, its most operands and local variables, and its instructions; the bytes of its
+    table of frames, if it has one, stand in `tables` under its name."""
 
     def __init__(self, name, version=48):
         self.name, self.version = name, version
-        self.pool, self.fields, self.methods = Pool(), [], []
+        self.pool, self.fields, self.methods, self.tables = Pool(), [], [], {}
 
     def bytes(self):
         pool = self.pool
@@ -166,7 +167,9 @@ class ClassFile:
 
     def method(self, name, descriptor, stack, variables, items):
         code = assembled(items, self.pool)
-        attribute = struct.pack(">HHI", stack, variables, len(code)) + code + bytes(4)
+        table = self.tables.get(name)
+        attributes = bytes(2) if table is None else struct.pack(">HHI", 1, self.pool.text("StackMapTable"), len(table)) + table
+        attribute = struct.pack(">HHI", stack, variables, len(code)) + code + bytes(2) + attributes
         head = struct.pack(">HHHH", 9, self.pool.text(name), self.pool.text(descriptor), 1)
         return head + struct.pack(">HI", self.pool.text("Code"), len(attribute)) + attribute
 

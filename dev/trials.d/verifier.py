@@ -143,8 +143,9 @@ def changed(random, parts, members):
     items = list(items)
     labels = [item[1] for item in items if item[0] == "label"]
     for _ in range(random.choice((0, 1, 1, 1, 2, 3))):
-        at = random.randrange(len(items))
-        choice = random.random()
+        at, choice = random.randrange(len(items) or 1), random.random()
+        if not items:
+            break
         if choice < 0.12:
             stack = max(0, stack + random.choice((-2, -1, 1)))
         elif choice < 0.2:
@@ -165,7 +166,7 @@ def changed(random, parts, members):
             items[at] = (items[at][0], random.randrange(variables + 1))
         else:
             items[at] = any_instruction(random, labels, members)
-    if items[-1][0] == "label":
+    if not items or items[-1][0] == "label":
         items.append(("nop",))
     return stack, variables, items
 
