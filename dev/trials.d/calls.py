@@ -9,7 +9,7 @@ Left out, since docs/CALLS.md differs:
 - `begin`, `exit`, `getpid`, `time`, and numbers of no call.
 
 And these answers differ, each by its rule (`agrees`):
-- A path that is too long: -22 here, ENAMETOOLONG there; of `rename` ENOENT, where the other path has no file or is empty.
+- A path that is too long: -22 here, ENAMETOOLONG there; of `rename` what is wrong with the other path, if anything is.
 - A descriptor that is not for writing: `ftruncate` has -9 here and EINVAL there, and there a length below 0 is tested first.
 - No free descriptor: -24 there before it is looked whether there is such a file.
 - A place that is not there: `read` has -14 here, and 0 there where nothing is left to be read. Of the console Linux drops what it could not
@@ -255,7 +255,7 @@ def agrees(call, mine, theirs):
     if theirs == ENAMETOOLONG:
         return mine == -22 and TOO_LONG in call
     if number == RENAME and TOO_LONG in call:
-        return (mine, theirs) == (-22, -2)
+        return mine == -22 and theirs in (-2, -14)
     if number == FTRUNCATE:
         return (mine, theirs) == (-9, -22)
     if number == OPEN and theirs == -24:

@@ -1,8 +1,10 @@
-"""Methods at random of version 48, typed and not: `nested verify` beside the Java virtual machine's verifier by inference.
+"""Methods at random of version 48, typed and not: `nested verify` beside the Java virtual machine's verifier by inference. And class files of which a
+few bytes are others: what `nested` takes there, the other one has to take too.
 
 Left out, since docs/CLASSES.md differs (inference.py says where):
 - Two types of arrays or texts meet in a local variable or an operand. The standard has a type above both, and this profile has none.
 - Code that is not reached names a local variable or a constant that is not there for it. It has no rule here.
+- Of the files with other bytes those that this profile does not read, and those whose names mean nothing: they are resolved at a run there.
 """
 from class_files import BRANCHES, CALL, CHAR_AT, DESCRIPTORS, FAULT, KINDS, LENGTH, LOCALS, PLAIN, SLOTS, ClassFile
 from inference import Inference
@@ -220,16 +222,31 @@ def rule_for(is_typed, tried):
     return None
 
 
+def with_other_bytes(random, files):
+    """The files, of which one has a few bytes that are others."""
+    name = random.choice(list(files))
+    data = bytearray(files[name])
+    for _ in range(random.choice((1, 1, 2, 3))):
+        at = random.randrange(8, len(data))
+        data[at] = random.choice((data[at] ^ 1 << random.randrange(8), data[at] + 1 & 255, data[at] - 1 & 255, random.getrandbits(8)))
+    return {**files, name: bytes(data)}
+
+
 def try_all(trial):
     with Java(trial, "Verifier", options=("-Xverify:all",)) as java:
         for k in trial.numbers:
-            folder = trial.path(str(k))
-            files, tried = case_files(trial.random(k))
+            random, folder = trial.random(k), trial.path(str(k))
+            files, tried = case_files(random)
+            if random.random() < 0.2:
+                files, tried = with_other_bytes(random, files), None
             write_classes(folder, files)
             status, _, line = trial.ask("verify", "Main", cwd=folder)
+            if tried is None and line.startswith(("nested: class", "nested: link")):
+                trial.leave_out("files that are not of the profile")
+                continue
             told = java.ask(folder, *files)
             mine, theirs = status == 0, told == "ok"
-            rule = rule_for(mine, tried) if mine != theirs else None
+            rule = rule_for(mine, tried) if tried and mine != theirs else None
             if rule:
                 trial.leave_out(rule)
                 continue
