@@ -22,6 +22,7 @@ import select
 import struct
 import subprocess
 import termios
+from contextlib import contextmanager
 
 import mips
 from common import HERE
@@ -263,7 +264,17 @@ def agrees(call, mine, theirs):
     return number == READ and (mine, theirs) == (-14, 0)
 
 
-def try_case(trial, k):
+@contextmanager
+def ready(trial):
+    trial.needs("gcc")
+    source = os.path.join(HERE, "linux_calls.c")
+    status, _, error = trial.call("gcc", "-O1", "-Wall", "-nostdlib", "-ffreestanding", "-fno-stack-protector", "-static-pie", "-fPIE", "-o", "linux_calls", source)
+    if status:
+        raise RuntimeError(error.decode())
+    yield
+
+
+def try_case(trial, k, _):
     case = Case(trial.random(k))
     mine, theirs = run_here(trial, case), run_linux(trial, case)
     trial.came("calls", len(case.calls))
@@ -276,12 +287,3 @@ def try_case(trial, k):
         if ours != other:
             at = next((i for i, (a, b) in enumerate(zip(ours, other)) if a != b), min(len(ours), len(other)))
             return trial.differ(k, f"{what} from {at:x}: {ours[at:at + 16].hex()}, and {other[at:at + 16].hex()}")
-
-
-def try_all(trial):
-    trial.needs("gcc")
-    source = os.path.join(HERE, "linux_calls.c")
-    status, _, error = trial.call("gcc", "-O1", "-Wall", "-nostdlib", "-ffreestanding", "-fno-stack-protector", "-static-pie", "-fPIE", "-o", "linux_calls", source)
-    assert status == 0, error.decode()
-    for k in trial.numbers:
-        try_case(trial, k)

@@ -18,13 +18,15 @@ def expected(end, out, errors):
     return {"trap": 80, "fault": 79}.get(kind, end), out, errors + f"nested: {end}\n".encode()
 
 
-def try_all(trial):
-    with Java(trial, "Machine", trial.folder, INPUT.hex()) as java:
-        for k in trial.numbers:
-            folder = trial.path(str(k))
-            write_classes(folder, ClassSet(trial.random(k)).files())
-            mine = trial.call(trial.nested, "run", "Main", cwd=folder, input=INPUT)
-            end, out, errors = java.ask(k).split("; ")
-            trial.came(end if end.startswith("trap") else end.split()[0])
-            if mine != expected(end, bytes.fromhex(out), bytes.fromhex(errors)):
-                trial.differ(k, f"{mine[0]}, {mine[1].hex()}, {mine[2]}; and {end}, {out}, {errors}")
+def ready(trial):
+    return Java(trial, "Machine", trial.folder, INPUT.hex())
+
+
+def try_case(trial, k, java):
+    folder = trial.path(str(k))
+    write_classes(folder, ClassSet(trial.random(k)).files())
+    mine = trial.call(trial.nested, "run", "Main", cwd=folder, input=INPUT)
+    end, out, errors = java.ask(k).split("; ")
+    trial.came(end if end.startswith("trap") else end.split()[0])
+    if mine != expected(end, bytes.fromhex(out), bytes.fromhex(errors)):
+        trial.differ(k, f"{mine[0]}, {mine[1].hex()}, {mine[2]}; and {end}, {out}, {errors}")

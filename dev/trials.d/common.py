@@ -2,6 +2,7 @@
 import os
 import random
 import shutil
+import struct
 import subprocess
 import sys
 import tempfile
@@ -75,6 +76,15 @@ class Trial:
     def leave_out(self, rule):
         """Counts a case that is left out by a rule of the group."""
         self.left_out[rule] += 1
+
+    def try_cases(self, group):
+        """Tries all cases of the group, whose file has `ready`, what its cases share, and `try_case`."""
+        with group.ready(self) as shared:
+            for case in self.numbers:
+                try:
+                    group.try_case(self, case, shared)
+                except (AssertionError, LookupError, OSError, RuntimeError, ValueError, struct.error, subprocess.TimeoutExpired) as error:
+                    self.differ(case, f"{type(error).__name__}: {error}")
 
     def report(self):
         for case, texts in sorted(self.differing.items()):

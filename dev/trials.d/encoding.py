@@ -10,6 +10,7 @@ Left out, since docs/GUEST.md and docs/ASSEMBLER.md differ:
 """
 import re
 import struct
+from contextlib import contextmanager
 
 import mips
 
@@ -228,11 +229,15 @@ def try_text(trial, k, random):
 SCRIPT = f"SECTIONS {{ .text {TEXT:#x} : {{ *(.text) }} .data {DATA:#x} : {{ *(.data) }} /DISCARD/ : {{ *(*) }} }}\n"
 
 
-def try_all(trial):
+@contextmanager
+def ready(trial):
     trial.needs("mips-linux-gnu-objdump", "mips-linux-gnu-objcopy", "mips-linux-gnu-as", "mips-linux-gnu-ld")
     with open(trial.path("script"), "w", encoding="ascii") as file:
         file.write(SCRIPT)
-    for k in trial.numbers:
-        random = trial.random(k)
-        try_words(trial, k, random)
-        try_text(trial, k, random)
+    yield
+
+
+def try_case(trial, k, _):
+    random = trial.random(k)
+    try_words(trial, k, random)
+    try_text(trial, k, random)

@@ -8,6 +8,7 @@ section 0, since e_shnum is 0: here there are no sections then.
 import os
 import re
 import struct
+from contextlib import contextmanager
 
 import mips
 
@@ -325,6 +326,15 @@ def listed(out):
     return [(int(line[:8], 16), int(line[10:18], 16)) for line in out.decode().splitlines()]
 
 
+@contextmanager
+def ready(trial):
+    trial.needs("readelf", "gcc", "mips-linux-gnu-gcc", "mipsel-linux-gnu-gcc", "mips-linux-gnu-objdump")
+    programs = compiled(trial)
+    for i, file in enumerate(programs):
+        shown_as_objdump(trial, i, file)
+    yield programs
+
+
 def try_case(trial, k, programs):
     random = trial.random(k)
     choice = random.random()
@@ -355,15 +365,6 @@ def compare_list(trial, k, file, told, order):
     trial.came("words", len(words))
     if line != (wanted or "") or listed(out) != words:
         trial.differ(k, f"list: {line or 'other words'}; and {wanted}")
-
-
-def try_all(trial):
-    trial.needs("readelf", "gcc", "mips-linux-gnu-gcc", "mipsel-linux-gnu-gcc", "mips-linux-gnu-objdump")
-    programs = compiled(trial)
-    for i, file in enumerate(programs):
-        shown_as_objdump(trial, i, file)
-    for k in trial.numbers:
-        try_case(trial, k, programs)
 
 
 def shown_as_objdump(trial, i, file):

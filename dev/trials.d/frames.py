@@ -180,6 +180,10 @@ def class_texts(data, texts):
     return found
 
 
+def ready(trial):
+    return Java(trial, "Verifier", options=("-Xverify:all",))
+
+
 def try_case(trial, k, java):
     random = trial.random(k)
     folder = trial.path(str(k))
@@ -195,9 +199,3 @@ def try_case(trial, k, java):
     trial.came("typed" if mine else "refused")
     if mine != theirs:
         trial.differ(k, f"{line or 'typed'}; and {told[:300]}")
-
-
-def try_all(trial):
-    with Java(trial, "Verifier", options=("-Xverify:all",)) as java:
-        for k in trial.numbers:
-            try_case(trial, k, java)

@@ -27,7 +27,7 @@ def effect_of(item):
     name = item[0]
     if name in EFFECTS:
         return EFFECTS[name]
-    constant = item[1]
+    constant = item[1] if len(item) > 1 else ()
     if name in ("ldc", "ldc_w"):
         return {"int": ("", "I"), "text": ("", "S")}.get(constant[0])
     if name == "ldc2_w":

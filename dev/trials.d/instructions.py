@@ -14,6 +14,7 @@ Left out, since the manual leaves it open, or docs/GUEST.md differs:
 import os
 import re
 import struct
+from contextlib import contextmanager
 
 from mips import *
 
@@ -310,7 +311,13 @@ def agrees_with_signal(fault, told, order, body):
     return signal in signals and at == pc + 4 * slot and (not accesses or address == value)
 
 
-def try_case(trial, k):
+@contextmanager
+def ready(trial):
+    trial.needs("qemu-mips", "qemu-mipsel")
+    yield
+
+
+def try_case(trial, k, _):
     random = trial.random(k)
     order = random.choice("<>")
     (own, linux), body = files_of(random, order)
@@ -348,9 +355,3 @@ def different_state(own, told, order):
     names = {32: "hi", 33: "lo"}
     where = f"memory {DATA + at:08x}" if at >= ARENA else names.get(at // 4, f"register {at // 4}")
     return f"{where}: {own[at:at + 4].hex()}, and {told[at:at + 4].hex()} ({order})"
-
-
-def try_all(trial):
-    trial.needs("qemu-mips", "qemu-mipsel")
-    for k in trial.numbers:
-        try_case(trial, k)

@@ -7,6 +7,7 @@ merged, and two sections of one name in an object, which a script cannot tell ap
 import os
 import re
 import struct
+from contextlib import contextmanager
 
 CASES = 1000
 TEXT, DATA = 0x00400000, 0x10000000
@@ -146,7 +147,13 @@ def assemble(trial, objects):
     return names
 
 
-def try_case(trial, k):
+@contextmanager
+def ready(trial):
+    trial.needs("mips-linux-gnu-as", "mips-linux-gnu-ld")
+    yield
+
+
+def try_case(trial, k, _):
     objects = Objects(trial.random(k))
     names = assemble(trial, objects)
     with open(trial.path("script"), "w", encoding="ascii") as file:
@@ -182,9 +189,3 @@ def compare(trial, k):
         if mine.rstrip(b"\0") != other.rstrip(b"\0") or len(mine) != len(other):
             at = next((i for i, (a, b) in enumerate(zip(mine, other)) if a != b), min(len(mine), len(other)))
             trial.differ(k, f"{start + at:08x}: {mine[at:at + 8].hex()}, and {other[at:at + 8].hex()} (of {len(mine)} and {len(other)} bytes)")
-
-
-def try_all(trial):
-    trial.needs("mips-linux-gnu-as", "mips-linux-gnu-ld")
-    for k in trial.numbers:
-        try_case(trial, k)

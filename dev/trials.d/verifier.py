@@ -9,6 +9,7 @@ Left out, since docs/CLASSES.md differs (inference.py says where):
 from class_files import BRANCHES, CALL, CHAR_AT, DESCRIPTORS, FAULT, KINDS, LENGTH, LOCALS, PLAIN, SLOTS, ClassFile
 from inference import Inference
 from java_side import Java, write_classes
+from reading import classes_named, methods_of
 from typed_code import FUEL, PUT, TABLE, ClassSet, Method, any_int, any_long, any_text, constant_int
 
 CASES = 4000
@@ -193,33 +194,39 @@ def small(random):
 
 
 def case_files(random):
-    """The files of a case, and the code that is tried as the method's descriptor, its most operands and local variables, and its items."""
+    """The files of a case."""
     choice = random.random()
     if choice < 0.2:
         tried = Tried(random)
-        parts = (tried.descriptor, *tried.parts())
-        return {"Main": other_class(random, parts[0], parts[1:]).bytes()}, parts
+        return {"Main": other_class(random, tried.descriptor, tried.parts()).bytes()}
     if choice < 0.65:
-        parts = small(random)
+        descriptor, *parts = small(random)
         if random.random() < 0.5:
-            parts = (parts[0], *changed(random, parts[1:], Members))
-        return {"Main": other_class(random, parts[0], parts[1:]).bytes()}, parts
+            parts = changed(random, parts, Members)
+        return {"Main": other_class(random, descriptor, parts).bytes()}
     whole = ClassSet(random)
     methods = whole.classes["Main"].methods
     at = random.randrange(len(methods))
-    parts = changed(random, methods[at][2:], whole)
-    methods[at] = (*methods[at][:2], *parts)
-    return whole.files(), (methods[at][1], *parts)
+    methods[at] = (*methods[at][:2], *changed(random, methods[at][2:], whole))
+    return whole.files()
 
 
-def rule_for(is_typed, tried):
+def rule_for(is_typed, files):
     """The rule by which a case is left out in which nested says this and the other one the contrary, if there is one."""
-    found = Inference(*tried)
-    if not is_typed and found.references_meet:
+    found = [Inference(*method) for data in files.values() for method in methods_of(data)]
+    if not is_typed and any(f.references_meet for f in found):
         return "two types of references meet"
-    if is_typed and found.dead_is_wrong():
+    if is_typed and any(f.dead_is_wrong() for f in found):
         return "code that is not reached"
     return None
+
+
+def loaded(files):
+    """Of the files those whose classes are named by ones that are loaded, from Main on."""
+    names = ["Main"]
+    for name in names:
+        names += [n for n in classes_named(files[name]) if n in files and n not in names]
+    return names
 
 
 def with_other_bytes(random, files):
@@ -232,24 +239,24 @@ def with_other_bytes(random, files):
     return {**files, name: bytes(data)}
 
 
-def try_all(trial):
-    with Java(trial, "Verifier", options=("-Xverify:all",)) as java:
-        for k in trial.numbers:
-            random, folder = trial.random(k), trial.path(str(k))
-            files, tried = case_files(random)
-            if random.random() < 0.2:
-                files, tried = with_other_bytes(random, files), None
-            write_classes(folder, files)
-            status, _, line = trial.ask("verify", "Main", cwd=folder)
-            if tried is None and line.startswith(("nested: class", "nested: link")):
-                trial.leave_out("files that are not of the profile")
-                continue
-            told = java.ask(folder, *files)
-            mine, theirs = status == 0, told == "ok"
-            rule = rule_for(mine, tried) if tried and mine != theirs else None
-            if rule:
-                trial.leave_out(rule)
-                continue
-            trial.came("typed" if mine else "refused")
-            if mine != theirs:
-                trial.differ(k, f"{line or 'typed'}; and {told[:300]}")
+def ready(trial):
+    return Java(trial, "Verifier", options=("-Xverify:all",))
+
+
+def try_case(trial, k, java):
+    random, folder = trial.random(k), trial.path(str(k))
+    files, has_other_bytes = case_files(random), random.random() < 0.2
+    if has_other_bytes:
+        files = with_other_bytes(random, files)
+    write_classes(folder, files)
+    status, _, line = trial.ask("verify", "Main", cwd=folder)
+    if has_other_bytes and line.startswith(("nested: class", "nested: link")):
+        return trial.leave_out("files that are not of the profile")
+    told = java.ask(folder, *loaded(files))
+    mine, theirs = status == 0, told == "ok"
+    rule = rule_for(mine, files) if mine != theirs else None
+    if rule:
+        return trial.leave_out(rule)
+    trial.came("typed" if mine else "refused")
+    if mine != theirs:
+        trial.differ(k, f"{line or 'typed'}; and {told[:300]}")
