@@ -1,22 +1,26 @@
 """Classes of version 51 with tables of frames: `nested check` beside the Java virtual machine's verifier by tables, which does not go back to
 inference for this version. Some tables are those that `nested frames` stores, and damaged ones; the others come from inference.py, in any
-form that a frame may have, with more frames than are needed, weaker ones and wrong ones.
+form that a frame may have, with more frames than are needed, weaker ones and wrong ones. And of some class files a few bytes are others.
 
-Left out, since docs/CLASSES.md differs: tables with types that this profile has not, which are Top for an operand, a long for a local variable,
-float, double, objects that are not initialized, and references to any class but [I, [[I and String.
+Left out, since docs/CLASSES.md differs:
+- Tables with types that this profile has not, which are Top for an operand, a long for a local variable, float, double, objects that are not
+  initialized, and references to any class but [I, [[I and String.
+- LDC of a class, an instruction since version 49 and of this profile in none.
+- Of the files with other bytes those that this profile does not read, and those whose names mean nothing: they are resolved at a run there.
 """
 import struct
 
 from class_files import offsets_of
 from inference import Inference
 from java_side import Java, write_classes
-from stack_maps import Malformed, needed, skip_pool, table_of, tables_in, types_of, with_table, without_tops
+from reading import constant_at, methods_of, pool_of
+from stack_maps import Malformed, needed, table_of, tables_in, types_of, with_table, without_tops
 from typed_code import ClassSet
-from verifier import Members, changed, other_class, small
+from verifier import Members, changed, loaded, other_class, small, with_other_bytes
 
 CASES = 4000
 PROFILE = {"local": (0, 1, 5, 7), "operand": (1, 4, 5, 7)}
-CLASSES = (b"[I", b"[[I", b"java/lang/String")
+CLASSES = [("class", name) for name in ("[I", "[[I", "java/lang/String")]
 
 
 # ---- tables from inference
@@ -61,7 +65,6 @@ def listed_frames(random, items, found, places, exact):
 
 
 def has_class_constant(items):
-    """LDC of a class is an instruction of version 49, and of this profile in none."""
     return any(item[0] in ("ldc", "ldc_w") and item[1][0] == "class" for item in items)
 
 
@@ -155,29 +158,24 @@ def with_stored_table(trial, folder, random):
 def other_types(files):
     """Whether a table has types that this profile has not."""
     for data in files.values():
-        texts, _ = skip_pool(data)
-        classes = class_texts(data, texts)
+        entries, _ = pool_of(data)
         for _, _, table in tables_in(data):
             try:
                 found = types_of(table)
             except (Malformed, struct.error):
                 continue
-            if any(tag not in PROFILE[of] or tag == 7 and classes.get(slot) not in CLASSES for of, tag, slot in found):
+            if any(tag not in PROFILE[of] or tag == 7 and constant_at(entries, slot) not in CLASSES for of, tag, slot in found):
                 return True
     return False
 
 
-def class_texts(data, texts):
-    """The names of the pool's classes by their slots."""
-    (count,) = struct.unpack_from(">H", data, 8)
-    at, slot, found = 10, 1, {}
-    while slot < count:
-        tag = data[at]
-        if tag == 7:
-            found[slot] = texts.get(struct.unpack_from(">H", data, at + 1)[0])
-        at += 3 + struct.unpack_from(">H", data, at + 1)[0] if tag == 1 else {3: 5, 5: 9, 7: 3, 8: 3, 9: 5, 10: 5, 12: 5}[tag]
-        slot += 2 if tag == 5 else 1
-    return found
+def rule_for(files):
+    """The rule by which a case is left out that nested refuses and the other one takes, if there is one."""
+    if other_types(files):
+        return "types that this profile has not"
+    if any(has_class_constant(items) for data in files.values() for *_, items in methods_of(data)):
+        return "LDC of a class"
+    return None
 
 
 def ready(trial):
@@ -190,12 +188,18 @@ def try_case(trial, k, java):
     files = with_own_table(random) if random.random() < 0.6 else with_stored_table(trial, folder, random)
     if isinstance(files, str):
         return trial.differ(k, f"frames: {files}")
+    has_other_bytes = random.random() < 0.15
+    if has_other_bytes:
+        files = with_other_bytes(random, files)
     write_classes(folder, files)
     status, _, line = trial.ask("check", "Main", cwd=folder)
-    told = java.ask(folder, *files)
+    if has_other_bytes and line.startswith(("nested: class", "nested: link")):
+        return trial.leave_out("files that are not of the profile")
+    told = java.ask(folder, *loaded(files))
     mine, theirs = status == 0, told == "ok"
-    if theirs and not mine and other_types(files):
-        return trial.leave_out("types that this profile has not")
+    rule = rule_for(files) if theirs and not mine else None
+    if rule:
+        return trial.leave_out(rule)
     trial.came("typed" if mine else "refused")
     if mine != theirs:
         trial.differ(k, f"{line or 'typed'}; and {told[:300]}")

@@ -1,4 +1,4 @@
-"""Objects of the GNU assembler at random, linked by `nested link` and by the GNU linker with a script that names their sections in the order of
+"""Objects of the GNU assembler and of gcc at random, linked by `nested link` and by the GNU linker with a script that names their sections in the order of
 docs/LINKING.md: each byte of both segments, and the entry. Where one refuses objects, the other has to do so, for the same reason.
 
 Left out, since docs/LINKING.md differs: common symbols, small data, relocations of code that does not depend on its place, sections that may be
@@ -9,15 +9,14 @@ import re
 import struct
 from contextlib import contextmanager
 
+from c_sources import Sources, flags
+
 CASES = 1000
 TEXT, DATA = 0x00400000, 0x10000000
-# by name: the flags, the type, and the part of the program that it goes into (1 code, 2 constants, 3 data, 4 zeros)
-SECTIONS = {
-    ".text": ("ax", "progbits", 1), ".text.hot": ("ax", "progbits", 1), ".code": ("awx", "progbits", 1),
-    ".rodata": ("a", "progbits", 2), ".constants": ("a", "progbits", 2), ".nothing": ("a", "nobits", 2),
-    ".data": ("aw", "progbits", 3), ".data.own": ("aw", "progbits", 3),
-    ".bss": ("aw", "nobits", 4), ".zeros": ("aw", "nobits", 4),
-}
+# sections by name: the flags and the type
+SECTIONS = {".text": ("ax", "progbits"), ".text.hot": ("ax", "progbits"), ".code": ("awx", "progbits"), ".rodata": ("a", "progbits")}
+SECTIONS |= {".constants": ("a", "progbits"), ".nothing": ("a", "nobits"), ".data": ("aw", "progbits"), ".data.own": ("aw", "progbits")}
+SECTIONS |= {".bss": ("aw", "nobits"), ".zeros": ("aw", "nobits")}
 # what the GNU linker says of a fault, by the kind of docs/LINKING.md
 SAID = {9: r"LO16|HI16", 10: r"multiple definition", 11: r"undefined reference|discarded section", 13: r"truncated to fit|not.*aligned|unaligned"}
 
@@ -55,7 +54,7 @@ class Objects:
     def text(self, i):
         lines = [".set noreorder", ".set noat", ".set nomacro"]
         for name in self.sections[i]:
-            flags, kind, _ = SECTIONS[name]
+            flags, kind = SECTIONS[name]
             lines += [f'.section {name},"{flags}",@{kind}', f".balign {1 << self.random.choice((2, 2, 3, 4, 6))}" if kind == "progbits" else f".balign {1 << self.random.randrange(7)}"]
             inside = [s for s in self.symbols if s.owner == i and s.section == name]
             parts = [self.unit(i, name) for _ in range(self.random.choice((0, 1, 4, 12)))]
@@ -88,7 +87,7 @@ class Objects:
 
     def unit(self, i, section):
         random = self.random
-        flags, kind, _ = SECTIONS[section]
+        flags, kind = SECTIONS[section]
         if kind == "nobits":
             return [f".space {random.randrange(1, 40)}"]
         if "x" not in flags:
@@ -104,25 +103,49 @@ class Objects:
             return upper + lower if random.random() < 0.99 else upper
         return [f".word {self.reference(i)}"] if choice < 0.7 else [f"addu $2,$3,${random.randrange(32)}"]
 
-    def script(self, names):
-        """Both segments, with their sections part by part."""
-        parts = {n: [] for n in (1, 2, 3, 4)}
-        for file, sections in zip(names, self.present):
-            for section in sections:
-                parts[SECTIONS[section][2]].append(f'KEEP("{file}"({section}))')
-        of = lambda *numbers: " ".join(text for n in numbers for text in parts[n])
-        return f"SECTIONS {{ .first {TEXT:#x} : {{ {of(1, 2)} }} .second {DATA:#x} : {{ {of(3, 4)} }} /DISCARD/ : {{ *(*) }} }}\n"
+
+# ---- objects
 
 
-def sections_of(path):
-    """The names of the sections of an object that are placed, in their order. The assembler makes some that no text names."""
+def placed_sections(path):
+    """The names of the sections of an object that are placed, in their order, each with the part of the program that it goes into."""
     with open(path, "rb") as file:
         data = file.read()
     (table,), (count, names) = struct.unpack_from(">I", data, 32), struct.unpack_from(">HH", data, 48)
     headers = [struct.unpack_from(">10I", data, table + 40 * i) for i in range(count)]
     start = headers[names][4]
-    named = [(data[start + h[0] : data.index(b"\0", start + h[0])].decode(), h) for h in headers]
-    return [name for name, h in named if h[1] in (1, 8) and h[2] & 2]
+    named = [(data[start + h[0] : data.index(b"\0", start + h[0])].decode(), h[1], h[2]) for h in headers]
+    part = lambda kind, flags: 1 if flags & 4 else 2 if not flags & 1 else 3 if kind == 1 else 4
+    return [(name, part(kind, flags)) for name, kind, flags in named if kind in (1, 8) and flags & 2]
+
+
+def script(names, sections):
+    """A script for the GNU linker: both segments, with their sections part by part."""
+    parts = {n: [] for n in (1, 2, 3, 4)}
+    for file, placed in zip(names, sections):
+        for section, part in placed:
+            parts[part].append(f'KEEP("{file}"({section}))')
+    of = lambda *numbers: " ".join(text for n in numbers for text in parts[n])
+    return f"SECTIONS {{ .first {TEXT:#x} : {{ {of(1, 2)} }} .second {DATA:#x} : {{ {of(3, 4)} }} /DISCARD/ : {{ *(*) }} }}\n"
+
+
+def objects_of(trial, random):
+    """The names of the objects of a case."""
+    is_c = random.random() < 0.2
+    if is_c:
+        texts, command = Sources(random).texts, ("mips-linux-gnu-gcc", *flags(random))
+    else:
+        texts, command = Objects(random).texts, ("mips-linux-gnu-as", "-mips2", "-32", "-EB", "-mno-shared", "-no-mips16", "-G0")
+    names = []
+    for i, text in enumerate(texts):
+        source = f"{i}.{'c' if is_c else 's'}"
+        with open(trial.path(source), "w", encoding="ascii") as file:
+            file.write(text)
+        status, _, error = trial.call(*command, "-o", f"{i}.o", source)
+        if status:
+            raise RuntimeError(error.decode())
+        names.append(f"{i}.o")
+    return names
 
 
 def memory_of(path):
@@ -134,30 +157,19 @@ def memory_of(path):
     return entry, {h[2]: data[h[1] : h[1] + h[4]] + bytes(h[5] - h[4]) for h in headers if h[0] == 1 and h[5]}
 
 
-def assemble(trial, objects):
-    names = [f"{i}.o" for i in range(len(objects.texts))]
-    for name, text in zip(names, objects.texts):
-        with open(trial.path(name + ".s"), "w", encoding="ascii") as file:
-            file.write(text)
-        status, _, error = trial.call(
-            "mips-linux-gnu-as", "-mips2", "-32", "-EB", "-mno-shared", "-no-mips16", "-G0", "-o", name, name + ".s"
-        )
-        assert status == 0, error.decode()
-    objects.present = [sections_of(trial.path(name)) for name in names]
-    return names
-
-
 @contextmanager
 def ready(trial):
-    trial.needs("mips-linux-gnu-as", "mips-linux-gnu-ld")
+    trial.needs("mips-linux-gnu-as", "mips-linux-gnu-gcc", "mips-linux-gnu-ld")
     yield
 
 
 def try_case(trial, k, _):
-    objects = Objects(trial.random(k))
-    names = assemble(trial, objects)
+    names = objects_of(trial, trial.random(k))
+    sections = [placed_sections(trial.path(name)) for name in names]
+    if any(len(dict(placed)) < len(placed) for placed in sections):
+        return trial.leave_out("two sections of one name")
     with open(trial.path("script"), "w", encoding="ascii") as file:
-        file.write(objects.script(names))
+        file.write(script(names, sections))
     for name in ("own", "theirs"):
         if os.path.exists(trial.path(name)):
             os.unlink(trial.path(name))

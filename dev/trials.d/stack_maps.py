@@ -3,6 +3,7 @@ import struct
 
 from class_files import DESCRIPTORS, parameters_of
 from inference import ENDS
+from reading import pool_of
 
 TAGS = {"T": 0, "I": 1, "J": 4, "N": 5}
 CLASSES = {kind: text if kind != "S" else "java/lang/String" for kind, text in DESCRIPTORS.items() if kind != "I"}
@@ -65,27 +66,9 @@ def needed(items, found):
 # ---- class files
 
 
-def skip_pool(data):
-    """The texts of a pool by their slots, and the place behind it."""
-    (count,) = struct.unpack_from(">H", data, 8)
-    at, slot, texts = 10, 1, {}
-    sizes = {3: 5, 5: 9, 7: 3, 8: 3, 9: 5, 10: 5, 12: 5}
-    while slot < count:
-        tag = data[at]
-        if tag == 1:
-            (size,) = struct.unpack_from(">H", data, at + 1)
-            texts[slot] = data[at + 3 : at + 3 + size]
-            at += 3 + size
-        else:
-            at += sizes[tag]
-        slot += 2 if tag == 5 else 1
-    return texts, at
-
-
 def tables_in(data):
     """The tables of a class file: for each the places of the lengths of its method's code attribute and of its own, and the table."""
-    texts, at = skip_pool(data)
-    at += 8
+    at = pool_of(data)[1] + 8
     found = []
     (fields,) = struct.unpack_from(">H", data, at)
     at += 2 + 8 * fields
