@@ -3,7 +3,7 @@ a file follows by docs/ANSWERS.md the first check that it fails, which is to be 
 a program that passes are the words of its code at their places, for a file as gcc left it those that objdump shows.
 
 Left out: files of more than 64 MiB (images, check 1) and of so many pages that are not 0 (check 5). Section headers whose number stands in
-section 0, since e_shnum is 0: here there are no sections then.
+section 0, since e_shnum is 0: here there are no sections then. `list` is not asked of programs of a million words.
 """
 import os
 import re
@@ -256,15 +256,13 @@ def image_fault(told, file, order, runs, heap, stack):
         return 2, words, 0
     if len(runs) > 64:
         return 3, len(runs), 0
-    live = [s for s in told.segments if s.is_live]
-    pages = {page for s in live for page in range(s.address >> 12, (s.end - 1 >> 12) + 1)}
-    if len(pages) + heap + stack + 1 > 65_536:
-        return 4, len(pages) + heap + stack + 1, 0
-    start = max(pages) + 1
-    parts = [(start, start + heap), (0x7FFFF - stack, 0x7FFFF), (0x7FFFF, 0x80000)]
-    shared = {p for first, last in parts for p in pages if first <= p < last}
-    for i, (first, last) in enumerate(parts):
-        shared |= {max(first, a) for a, b in parts[i + 1 :] if max(first, a) < min(last, b)}
+    segments = joined([(s.address >> 12, (s.end - 1 >> 12) + 1) for s in told.segments if s.is_live])
+    pages = sum(last - first for first, last in segments) + heap + stack + 1
+    if pages > 65_536:
+        return 4, pages, 0
+    start = segments[-1][1]
+    parts = [*segments, (start, start + heap), (0x7FFFF - stack, 0x7FFFF), (0x7FFFF, 0x80000)]
+    shared = [max(a[0], b[0]) for i, a in enumerate(parts) for b in parts[i + 1 :] if max(a[0], b[0]) < min(a[1], b[1])]
     if shared:
         return 6, min(shared), 0
     for at, word in code_words(told, file, order, runs):
@@ -353,7 +351,7 @@ def try_case(trial, k, programs):
     trial.came(" ".join(wanted.split()[1:3]) if wanted != "nested: spent" else "programs")
     if line != wanted:
         trial.differ(k, f"{line}; and {wanted}")
-    if not refused:
+    if not refused and len(file) < 1 << 20:
         compare_list(trial, k, file, told, order)
 
 

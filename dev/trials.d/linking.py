@@ -1,5 +1,7 @@
 """Objects of the GNU assembler and of gcc at random, linked by `nested link` and by the GNU linker with a script that names their sections in the order of
-docs/LINKING.md: each byte of both segments, and the entry. Where one refuses objects, the other has to do so, for the same reason.
+docs/LINKING.md: each byte of both segments, and the entry. Where one refuses objects, the other has to do so, for the same reason. A third of the
+cases has an object of which some numbers are others: these, of which the GNU linker takes more and less, are linked by bench/link/reference.py,
+which was written from docs/LINKING.md alone, and the whole program or the fault has to be the same.
 
 Left out, since docs/LINKING.md differs: common symbols, small data, relocations of code that does not depend on its place, sections that may be
 merged, and two sections of one name in an object, which a script cannot tell apart.
@@ -7,11 +9,16 @@ merged, and two sections of one name in an object, which a script cannot tell ap
 import os
 import re
 import struct
+import sys
 from contextlib import contextmanager
 
 from c_sources import Sources, flags
+from common import TOP
 
-CASES = 1000
+sys.path.insert(0, os.path.join(TOP, "bench", "link"))
+import reference
+
+CASES = 1500
 TEXT, DATA = 0x00400000, 0x10000000
 # sections by name: the flags and the type
 SECTIONS = {".text": ("ax", "progbits"), ".text.hot": ("ax", "progbits"), ".code": ("awx", "progbits"), ".rodata": ("a", "progbits")}
@@ -163,8 +170,63 @@ def ready(trial):
     yield
 
 
+def changed(random, file):
+    """An object with some numbers of its header, its section headers, its symbols or its relocations changed, or cut."""
+    file = bytearray(file)
+    (table,), (count,) = struct.unpack_from(">I", file, 32), struct.unpack_from(">H", file, 48)
+    headers = [struct.unpack_from(">10I", file, table + 40 * i) for i in range(count)]
+    for _ in range(random.choice((1, 1, 2))):
+        choice = random.random()
+        if choice < 0.1:
+            at, size = random.choice(((random.randrange(7), 1), (16, 2), (18, 2), (20, 4), (32, 4), (46, 2), (48, 2)))
+        elif choice < 0.5:
+            at, size = table + 40 * random.randrange(count) + 4 * random.choice((1, 2, 4, 5, 6, 7, 8)), 4
+        elif choice < 0.95:
+            # a symbol or a relocation
+            tables = [h for h in headers if h[1] in (2, 9) and h[5]]
+            if not tables:
+                continue
+            of = random.choice(tables)
+            entry = of[4] + of[9] * random.randrange(of[5] // of[9])
+            at, size = random.choice(((entry, 4), (entry + 4, 4), (entry + 7, 1)) if of[1] == 9 else ((entry, 4), (entry + 4, 4), (entry + 12, 1), (entry + 14, 2)))
+        else:
+            del file[random.randrange(len(file)) :]
+            break
+        old = int.from_bytes(file[at : at + size], "big")
+        others = (0, 1, 2, 3, 4, 5, 6, 9, old + 1, old - 1, old + 4, old ^ 1 << random.randrange(8 * size), random.getrandbits(8 * size), len(file), 0xFFF1, 0xFFF2, 2 * old)
+        file[at : at + size] = (random.choice(others) % 256**size).to_bytes(size, "big")
+    return bytes(file)
+
+
+def compare_with_reference(trial, k, random, names):
+    """Links objects, of which one is changed, by `nested link` and by reference.py."""
+    files = []
+    for name in names:
+        with open(trial.path(name), "rb") as file:
+            files.append(file.read())
+    at = random.randrange(len(files))
+    files[at] = changed(random, files[at])
+    with open(trial.path(names[at]), "wb") as file:
+        file.write(files[at])
+    status, _, line = trial.ask("link", "own", *names)
+    try:
+        wanted, program = "", reference.link(files)
+    except reference.Fault as fault:
+        wanted, program = f"nested: {fault}", None
+    trial.came(f"changed, kind {wanted.split()[3]}" if wanted else "changed and linked")
+    if line != wanted:
+        return trial.differ(k, f"{line or 'linked'}; and {wanted or 'linked'}")
+    if program is not None:
+        with open(trial.path("own"), "rb") as file:
+            if file.read() != program:
+                trial.differ(k, "another program than that of reference.py")
+
+
 def try_case(trial, k, _):
-    names = objects_of(trial, trial.random(k))
+    random = trial.random(k)
+    names = objects_of(trial, random)
+    if random.random() < 0.33:
+        return compare_with_reference(trial, k, random, names)
     sections = [placed_sections(trial.path(name)) for name in names]
     if any(len(dict(placed)) < len(placed) for placed in sections):
         return trial.leave_out("two sections of one name")
