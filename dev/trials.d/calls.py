@@ -41,7 +41,13 @@ SPARE_PLACE = READABLE + 0xA00
 def readable_memory(random):
     """Paths, with the names at their places, a path of 256 bytes, and three bytes of one that does not end before the memory does."""
     memory = bytearray(random.randbytes(READABLE_SIZE))
-    for place, text in ((EMPTY, b"\0"), (TOO_LONG, b"l" * 256 + b"\0"), (UNENDED, b"xyz"), (SPARE_PLACE, SPARE + b"\0"), *((PLACES[n], n + b"\0") for n in NAMES)):
+    for place, text in (
+        (EMPTY, b"\0"),
+        (TOO_LONG, b"l" * 256 + b"\0"),
+        (UNENDED, b"xyz"),
+        (SPARE_PLACE, SPARE + b"\0"),
+        *((PLACES[n], n + b"\0") for n in NAMES),
+    ):
         memory[place - READABLE : place - READABLE + len(text)] = text
     return bytes(memory)
 
@@ -53,7 +59,20 @@ class Script:
         self.random, self.calls, self.heap = random, [], 0
         if random.random() < 0.1:
             self.calls += [(DUP, random.choice((0, 1)))] * random.choice((58, 60, 61))
-        makes = (self.open, self.close, self.read, self.write, self.lseek, self.sbrk, self.fstat, self.unlink, self.dup, self.ftruncate, self.rename, self.isatty)
+        makes = (
+            self.open,
+            self.close,
+            self.read,
+            self.write,
+            self.lseek,
+            self.sbrk,
+            self.fstat,
+            self.unlink,
+            self.dup,
+            self.ftruncate,
+            self.rename,
+            self.isatty,
+        )
         weights = (10, 5, 10, 12, 8, 2, 4, 3, 4, 4, 4, 1)
         for make in random.choices(makes, weights, k=random.choice((10, 40, 80))):
             made = make()
@@ -83,7 +102,9 @@ class Script:
 
     def open(self):
         access = self.random.randrange(3)
-        flags = access | (self.random.random() < 0.3 and APPEND) | (self.random.random() < 0.6 and CREATE) | (self.random.random() < 0.15 and EXCLUSIVE)
+        flags = (
+            access | (self.random.random() < 0.3 and APPEND) | (self.random.random() < 0.6 and CREATE) | (self.random.random() < 0.15 and EXCLUSIVE)
+        )
         if access:
             flags |= self.random.random() < 0.2 and TRUNCATE
         # other bits are not looked at
@@ -101,7 +122,9 @@ class Script:
         return WRITE, self.descriptor(), self.bytes(n, ((WRITABLE, WRITABLE_SIZE),) * 6 + ((READABLE, READABLE_SIZE), (NOWHERE, 0))), n
 
     def lseek(self):
-        offset = self.random.choice((0, 1, 4095, self.random.randrange(100), self.random.randrange(20000), -1, -self.random.randrange(5000), -(2**31)))
+        offset = self.random.choice(
+            (0, 1, 4095, self.random.randrange(100), self.random.randrange(20000), -1, -self.random.randrange(5000), -(2**31))
+        )
         return LSEEK, self.descriptor(), offset & 0xFFFFFFFF, self.random.choice((0, 1, 2))
 
     def sbrk(self):
@@ -121,7 +144,11 @@ class Script:
         return DUP, self.descriptor()
 
     def ftruncate(self):
-        return FTRUNCATE, self.descriptor(), self.random.choice((0, 1, self.random.randrange(100), self.random.randrange(20000), 2**31, 2**32 - 1))
+        return (
+            FTRUNCATE,
+            self.descriptor(),
+            self.random.choice((0, 1, self.random.randrange(100), self.random.randrange(20000), 2**31, 2**32 - 1)),
+        )
 
     def rename(self):
         return RENAME, self.path(), self.path()
@@ -268,7 +295,9 @@ def agrees(call, mine, theirs):
 def ready(trial):
     trial.needs("gcc")
     source = os.path.join(HERE, "linux_calls.c")
-    status, _, error = trial.call("gcc", "-O1", "-Wall", "-nostdlib", "-ffreestanding", "-fno-stack-protector", "-static-pie", "-fPIE", "-o", "linux_calls", source)
+    status, _, error = trial.call(
+        "gcc", "-O1", "-Wall", "-nostdlib", "-ffreestanding", "-fno-stack-protector", "-static-pie", "-fPIE", "-o", "linux_calls", source
+    )
     if status:
         raise RuntimeError(error.decode())
     yield

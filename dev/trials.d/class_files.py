@@ -8,7 +8,19 @@ import struct
 PLAIN = dict(zip("nop aconst_null iconst_m1 iconst_0 iconst_1 iconst_2 iconst_3 iconst_4 iconst_5".split(), range(9)))
 PLAIN |= {"iaload": 46, "aaload": 50, "iastore": 79, "aastore": 83}
 PLAIN |= {"pop": 87, "pop2": 88, "dup": 89, "dup_x1": 90, "dup_x2": 91, "dup2": 92, "swap": 95}
-PLAIN |= {"iadd": 96, "isub": 100, "imul": 104, "iand": 126, "ior": 128, "ixor": 130, "idiv": 108, "irem": 112, "ishl": 120, "ishr": 122, "iushr": 124}
+PLAIN |= {
+    "iadd": 96,
+    "isub": 100,
+    "imul": 104,
+    "iand": 126,
+    "ior": 128,
+    "ixor": 130,
+    "idiv": 108,
+    "irem": 112,
+    "ishl": 120,
+    "ishr": 122,
+    "iushr": 124,
+}
 PLAIN |= {"ladd": 97, "lmul": 105, "land": 127, "ldiv": 109, "lrem": 113, "lshl": 121, "lshr": 123, "lushr": 125}
 PLAIN |= {"i2l": 133, "l2i": 136, "i2b": 145, "i2c": 146, "i2s": 147, "lcmp": 148, "ireturn": 172, "return": 177, "arraylength": 190}
 LOCALS = {"iload": 21, "aload": 25, "istore": 54, "astore": 58}

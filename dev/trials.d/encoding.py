@@ -5,8 +5,9 @@ Left out, since docs/GUEST.md and docs/ASSEMBLER.md differ:
 - Words of coprocessors (primary opcodes 10 to 13, 2F, 31 to 37 and 39 to 3F, hexadecimal), which are no instructions here. Those of floating
   point are in no program (the group `files` has them). JALX (1D), which objdump shows for every processor.
 - SYNC with a number: objdump knows it of later processors alone, so it is asked as for MIPS32.
-- In texts: signed immediates above 32,767, of which the GNU assembler makes two words, or none; targets that are numbers, which it takes for
-  jumps alone; and JALR with one register twice, and branches that test and write register 31, which it refuses. BREAK has one number here, and two of ten bits there.
+- In texts: signed immediates above 32,767, of which the GNU assembler makes two words, or none; targets that are numbers, which it takes for jumps
+  alone; and JALR with one register twice, and branches that test and write register 31, which it refuses. BREAK has one number here, and two
+  of ten bits there.
 """
 import re
 import struct
@@ -74,7 +75,18 @@ def objdump(trial, words, processor):
     with open(trial.path("words"), "wb") as file:
         file.write(struct.pack(f">{len(words)}I", *words))
     status, out, error = trial.call(
-        "mips-linux-gnu-objdump", "-D", "-z", "-b", "binary", "-EB", "-m", processor, "-M", "no-aliases,reg-names=numeric", f"--adjust-vma={TEXT:#x}", "words"
+        "mips-linux-gnu-objdump",
+        "-D",
+        "-z",
+        "-b",
+        "binary",
+        "-EB",
+        "-m",
+        processor,
+        "-M",
+        "no-aliases,reg-names=numeric",
+        f"--adjust-vma={TEXT:#x}",
+        "words",
     )
     lines = [line.split("\t", 2)[2] for line in out.decode().splitlines() if re.match(r" +[0-9a-f]+:\t", line)]
     assert status == 0 and len(lines) == len(words), error

@@ -1,11 +1,10 @@
-"""Programs of gcc and ld and others, as they are and with fields of their headers changed, read by `nested` and by readelf. From what readelf tells of
-a file follows by docs/ANSWERS.md the first check that it fails, which is to be the answer of `interp` with no step; and what `list` prints of
+"""Programs of gcc and ld and others, as they are and with fields of their headers changed, read by `nested` and by readelf. From what readelf tells
+of a file follows by docs/ANSWERS.md the first check that it fails, which is to be the answer of `interp` with no step; and what `list` prints of
 a program that passes are the words of its code at their places, for a file as gcc left it those that objdump shows.
 
 Left out: files of more than 64 MiB (images, check 1) and of so many pages that are not 0 (check 5). Section headers whose number stands in
 section 0, since e_shnum is 0: here there are no sections then. `list` is not asked of programs of a million words.
 """
-import os
 import re
 import struct
 from contextlib import contextmanager
@@ -26,8 +25,17 @@ void __start(void) { zeros[1] = sum(numbers, 2000) + sum(table, 40); for (;;) { 
 """
 FLAGS = "-O2 -mips2 -mabi=32 -msoft-float -mno-abicalls -fno-pic -G0 -ffreestanding -nostdlib -static -Wl,-e,__start -Wl,--build-id=none".split()
 VARIANTS = (
-    [], ["-s"], ["-Wl,-N"], ["-Wl,-n"], ["-O0"], ["-Wl,-Ttext=0x7efff000"], ["-Wl,-Tdata=0x7ef00000"], ["-Wl,-z,separate-code"], ["-ffunction-sections"],
-    ["-r"], ["-g"],
+    [],
+    ["-s"],
+    ["-Wl,-N"],
+    ["-Wl,-n"],
+    ["-O0"],
+    ["-Wl,-Ttext=0x7efff000"],
+    ["-Wl,-Tdata=0x7ef00000"],
+    ["-Wl,-z,separate-code"],
+    ["-ffunction-sections"],
+    ["-r"],
+    ["-g"],
 )
 
 
@@ -93,7 +101,21 @@ def large(random):
 
 def other_number(random, old, size, length):
     most = 256**size - 1
-    choices = (0, 1, 2, old + 1, old - 1, old + 4, old - 4, old ^ 1 << random.randrange(8 * size), 2 * old, random.randrange(most + 1), most, length, length - old)
+    choices = (
+        0,
+        1,
+        2,
+        old + 1,
+        old - 1,
+        old + 4,
+        old - 4,
+        old ^ 1 << random.randrange(8 * size),
+        2 * old,
+        random.randrange(most + 1),
+        most,
+        length,
+        length - old,
+    )
     choices += (0x7F000000 - random.randrange(3), 0x00400000 + random.randrange(0x3000), 0x10000000, old & ~4095, 32, 40)
     return random.choice(choices) & most
 
@@ -186,8 +208,14 @@ def elf_fault(told, length):
     if not told.is_elf:
         return 2, 0, 0
     checks = (
-        (3, not told.is_32), (4, not told.has_order), (5, not told.is_version_1), (6, not told.is_executable), (7, not told.is_mips), (8, told.phnum == 0),
-        (9, told.phentsize != 32), (10, told.phoff + 32 * told.phnum > length),
+        (3, not told.is_32),
+        (4, not told.has_order),
+        (5, not told.is_version_1),
+        (6, not told.is_executable),
+        (7, not told.is_mips),
+        (8, told.phnum == 0),
+        (9, told.phentsize != 32),
+        (10, told.phoff + 32 * told.phnum > length),
     )
     kind = next((kind for kind, fails in checks if fails), None)
     return (kind, 0, 0) if kind else None
@@ -226,7 +254,9 @@ def table_fault(told, length, has_sections):
     if not any(last > first for first, last in ranges):
         return 21, 0, 0
     written = [(s.address >> 12, s.end - 1 >> 12) for s in live if s.writes]
-    pages = [page for first, last in ranges if last > first for page in range(first >> 12, (last - 1 >> 12) + 1) if any(a <= page <= b for a, b in written)]
+    pages = [
+        page for first, last in ranges if last > first for page in range(first >> 12, (last - 1 >> 12) + 1) if any(a <= page <= b for a, b in written)
+    ]
     return (22, min(pages), 0) if pages else None
 
 

@@ -6,10 +6,29 @@ from typed_code import SHUFFLES, width
 REFERENCES = "NAPSO"
 # what plain instructions take, the last one uppermost, and what they give
 EFFECTS = {"nop": ("", ""), "aconst_null": ("", "N"), "iaload": ("AI", "I"), "iastore": ("AII", ""), "aaload": ("PI", "A"), "aastore": ("PIA", "")}
-EFFECTS |= {f"iconst_{n}": ("", "I") for n in ("m1", *range(6))} | {n: ("II", "I") for n in "iadd isub imul iand ior ixor idiv irem ishl ishr iushr".split()}
+EFFECTS |= {f"iconst_{n}": ("", "I") for n in ("m1", *range(6))} | {
+    n: ("II", "I") for n in "iadd isub imul iand ior ixor idiv irem ishl ishr iushr".split()
+}
 EFFECTS |= {n: ("JJ", "J") for n in "ladd lmul land ldiv lrem".split()} | {n: ("JI", "J") for n in "lshl lshr lushr".split()}
-EFFECTS |= {"lcmp": ("JJ", "I"), "i2l": ("I", "J"), "l2i": ("J", "I"), "i2b": ("I", "I"), "i2c": ("I", "I"), "i2s": ("I", "I"), "bipush": ("", "I"), "sipush": ("", "I")}
-EFFECTS |= {"newarray": ("I", "A"), "tableswitch": ("I", ""), "lookupswitch": ("I", ""), "ireturn": ("I", ""), "return": ("", ""), "goto": ("", ""), "goto_w": ("", "")}
+EFFECTS |= {
+    "lcmp": ("JJ", "I"),
+    "i2l": ("I", "J"),
+    "l2i": ("J", "I"),
+    "i2b": ("I", "I"),
+    "i2c": ("I", "I"),
+    "i2s": ("I", "I"),
+    "bipush": ("", "I"),
+    "sipush": ("", "I"),
+}
+EFFECTS |= {
+    "newarray": ("I", "A"),
+    "tableswitch": ("I", ""),
+    "lookupswitch": ("I", ""),
+    "ireturn": ("I", ""),
+    "return": ("", ""),
+    "goto": ("", ""),
+    "goto_w": ("", ""),
+}
 EFFECTS |= {n: ("II", "") for n in BRANCHES if n.startswith("if_icmp")} | {n: ("I", "") for n in "ifeq ifne iflt ifge ifgt ifle".split()}
 ENDS = ("goto", "goto_w", "tableswitch", "lookupswitch", "ireturn", "return")
 

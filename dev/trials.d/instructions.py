@@ -16,7 +16,34 @@ import re
 import struct
 from contextlib import contextmanager
 
-from mips import *
+from mips import (
+    ALIGNED,
+    BRANCHES_EQUAL,
+    BRANCHES_SIGN,
+    BRANCHES_ZERO,
+    DIVISIONS,
+    IMMEDIATES,
+    LOADS,
+    NOP,
+    PRODUCTS,
+    SHIFTS,
+    STORES,
+    SYSCALL,
+    THREE,
+    TRAPS,
+    TRAP_IMMEDIATES,
+    VARIABLE_SHIFTS,
+    bytes_of,
+    constant,
+    immediate,
+    is_branch,
+    jump,
+    load,
+    lui,
+    program,
+    special,
+    store,
+)
 
 CASES = 2000
 TEXT, FINISH, HANDLER, BODY, DATA = 0x00400000, 0x00400800, 0x00400A00, 0x00401000, 0x10000000
@@ -28,7 +55,18 @@ FREE = [r for r in range(32) if r not in (*DIVISORS, CODE, *PLACES, BASE, TURNS)
 EDGES = (0, 1, 2, 0x7FFF, 0x8000, 0xFFFF, 0x10000, 0x7FFFFFFF, 0x80000000, 0x80000001, 0xFFFF8000, 0xFFFFFFFE, 0xFFFFFFFF)
 SIGILL, SIGTRAP, SIGFPE, SIGBUS, SIGSEGV = 4, 5, 8, 10, 11
 # the signals that stand for a kind of fault; BREAK and traps of two codes are taken for those of arithmetic
-SIGNALS = {1: {SIGSEGV}, 2: {SIGBUS}, 3: {SIGSEGV}, 4: {SIGSEGV}, 5: {SIGBUS}, 6: {SIGBUS}, 7: {SIGFPE}, 8: {SIGTRAP, SIGFPE}, 9: {SIGILL}, 11: {SIGTRAP, SIGFPE}}
+SIGNALS = {
+    1: {SIGSEGV},
+    2: {SIGBUS},
+    3: {SIGSEGV},
+    4: {SIGSEGV},
+    5: {SIGBUS},
+    6: {SIGBUS},
+    7: {SIGFPE},
+    8: {SIGTRAP, SIGFPE},
+    9: {SIGILL},
+    11: {SIGTRAP, SIGFPE},
+}
 # words of no instruction: of coprocessors 2 and 3, and of 64 bits
 NO_INSTRUCTIONS = (0x48000000, 0x4C000000, 0x64420001, 0x68A00000, 0xDC000000, 0xFC000000, 0x0000002D, 0x00000038, 0x0000001E)
 
@@ -61,7 +99,14 @@ class Body:
         return self.random.choice(FREE)
 
     def add_unit(self):
-        kinds = ((self.add_plain, 60), (self.add_branch, 14), (self.add_jump, 4), (self.add_loop, 2), (self.add_link, 4), (self.add_end, 60 * self.risk))
+        kinds = (
+            (self.add_plain, 60),
+            (self.add_branch, 14),
+            (self.add_jump, 4),
+            (self.add_loop, 2),
+            (self.add_link, 4),
+            (self.add_end, 60 * self.risk),
+        )
         makes, weights = zip(*kinds)
         self.random.choices(makes, weights)[0]()
 

@@ -1,7 +1,7 @@
-"""Objects of the GNU assembler and of gcc at random, linked by `nested link` and by the GNU linker with a script that names their sections in the order of
-docs/LINKING.md: each byte of both segments, and the entry. Where one refuses objects, the other has to do so, for the same reason. A third of the
-cases has an object of which some numbers are others: these, of which the GNU linker takes more and less, are linked by bench/link/reference.py,
-which was written from docs/LINKING.md alone, and the whole program or the fault has to be the same.
+"""Objects of the GNU assembler and of gcc at random, linked by `nested link` and by the GNU linker with a script that names their sections in the
+order of docs/LINKING.md: each byte of both segments, and the entry. Where one refuses objects, the other has to do so, for the same reason. A third
+of the cases has an object of which some numbers are others: these, of which the GNU linker takes more and less, are linked by
+bench/link/reference.py, which was written from docs/LINKING.md alone, and the whole program or the fault has to be the same.
 
 Left out, since docs/LINKING.md differs: common symbols, small data, relocations of code that does not depend on its place, sections that may be
 merged, and two sections of one name in an object, which a script cannot tell apart.
@@ -62,7 +62,10 @@ class Objects:
         lines = [".set noreorder", ".set noat", ".set nomacro"]
         for name in self.sections[i]:
             flags, kind = SECTIONS[name]
-            lines += [f'.section {name},"{flags}",@{kind}', f".balign {1 << self.random.choice((2, 2, 3, 4, 6))}" if kind == "progbits" else f".balign {1 << self.random.randrange(7)}"]
+            lines += [
+                f'.section {name},"{flags}",@{kind}',
+                f".balign {1 << self.random.choice((2, 2, 3, 4, 6))}" if kind == "progbits" else f".balign {1 << self.random.randrange(7)}",
+            ]
             inside = [s for s in self.symbols if s.owner == i and s.section == name]
             parts = [self.unit(i, name) for _ in range(self.random.choice((0, 1, 4, 12)))]
             for s in inside:
@@ -83,7 +86,8 @@ class Objects:
         if random.random() < 0.005:
             return "missing"
         fitting = [
-            s.name for s in self.symbols
+            s.name
+            for s in self.symbols
             if (s.binding != "local" or s.owner == i) and (within is None or s.section is None or s.section in within) and (s.name != "nowhere")
         ]
         return random.choice(fitting) if fitting else "__start"
@@ -188,12 +192,32 @@ def changed(random, file):
                 continue
             of = random.choice(tables)
             entry = of[4] + of[9] * random.randrange(of[5] // of[9])
-            at, size = random.choice(((entry, 4), (entry + 4, 4), (entry + 7, 1)) if of[1] == 9 else ((entry, 4), (entry + 4, 4), (entry + 12, 1), (entry + 14, 2)))
+            at, size = random.choice(
+                ((entry, 4), (entry + 4, 4), (entry + 7, 1)) if of[1] == 9 else ((entry, 4), (entry + 4, 4), (entry + 12, 1), (entry + 14, 2))
+            )
         else:
             del file[random.randrange(len(file)) :]
             break
         old = int.from_bytes(file[at : at + size], "big")
-        others = (0, 1, 2, 3, 4, 5, 6, 9, old + 1, old - 1, old + 4, old ^ 1 << random.randrange(8 * size), random.getrandbits(8 * size), len(file), 0xFFF1, 0xFFF2, 2 * old)
+        others = (
+            0,
+            1,
+            2,
+            3,
+            4,
+            5,
+            6,
+            9,
+            old + 1,
+            old - 1,
+            old + 4,
+            old ^ 1 << random.randrange(8 * size),
+            random.getrandbits(8 * size),
+            len(file),
+            0xFFF1,
+            0xFFF2,
+            2 * old,
+        )
         file[at : at + size] = (random.choice(others) % 256**size).to_bytes(size, "big")
     return bytes(file)
 

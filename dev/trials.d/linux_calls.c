@@ -24,7 +24,10 @@ static long call(long number, long a, long b, long c, long d, long e, long f)
 {
     register long r10 __asm__("r10") = d, r8 __asm__("r8") = e, r9 __asm__("r9") = f;
     long answer;
-    __asm__ volatile("syscall" : "=a"(answer) : "a"(number), "D"(a), "S"(b), "d"(c), "r"(r10), "r"(r8), "r"(r9) : "rcx", "r11", "memory");
+    __asm__ volatile("syscall"
+                     : "=a"(answer)
+                     : "a"(number), "D"(a), "S"(b), "d"(c), "r"(r10), "r"(r8), "r"(r9)
+                     : "rcx", "r11", "memory");
     return answer;
 }
 
@@ -39,7 +42,8 @@ static long flags_of(word flags)
     return (flags & 3) | (flags & 0x8 ? 02000 : 0) | (flags & 0x200 ? 0100 : 0) | (flags & 0x400 ? 01000 : 0) | (flags & 0x800 ? 0200 : 0);
 }
 
-/* the four words of fstat, of which the kind and the length are Linux's; they go through a pipe, so that a bad address is told and does not end this */
+/* the four words of fstat, of which the kind and the length are Linux's; they go through a pipe, so that a bad address is told and does not end
+ * this program */
 static long status(int descriptor, word place)
 {
     struct {

@@ -55,7 +55,9 @@ SYSCALL = special(0x0C)
 def is_branch(word):
     """A branch or a jump, which has a delay slot."""
     op = word >> 26
-    return op in (2, 3, 4, 5, 6, 7, 0x14, 0x15, 0x16, 0x17) or op == 0 and word & 0x3F in (8, 9) or op == 1 and word >> 16 & 31 in BRANCHES_SIGN.values()
+    return (
+        op in (2, 3, 4, 5, 6, 7, 0x14, 0x15, 0x16, 0x17) or op == 0 and word & 0x3F in (8, 9) or op == 1 and word >> 16 & 31 in BRANCHES_SIGN.values()
+    )
 
 
 def bytes_of(words, order):

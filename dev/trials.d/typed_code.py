@@ -146,9 +146,23 @@ class Method:
 
     def step(self):
         steps = (
-            (self.push_any, 5), (self.int_operation, 8), (self.long_operation, 5), (self.divide, 2), (self.convert, 4), (self.increment, 2),
-            (self.store_any, 6), (self.put_field, 3), (self.shuffle, 6), (self.ints, 5), (self.pages, 3), (self.text, 3), (self.call, 2),
-            (self.put, 4), (self.choose, 3), (self.host, 1), (lambda: self.emit(("nop",)), 1),
+            (self.push_any, 5),
+            (self.int_operation, 8),
+            (self.long_operation, 5),
+            (self.divide, 2),
+            (self.convert, 4),
+            (self.increment, 2),
+            (self.store_any, 6),
+            (self.put_field, 3),
+            (self.shuffle, 6),
+            (self.ints, 5),
+            (self.pages, 3),
+            (self.text, 3),
+            (self.call, 2),
+            (self.put, 4),
+            (self.choose, 3),
+            (self.host, 1),
+            (lambda: self.emit(("nop",)), 1),
         )
         if sum(map(width, self.stack)) > DEEPEST:
             return self.store_any()
@@ -503,8 +517,14 @@ class ClassSet:
         run.emit(constant_int(random, random.choice((20, 100, 300))), 0, "I")
         run.emit(("putstatic", FUEL), 1)
         for item, pops, pushes in (
-            (("iconst_2",), 0, "I"), (("anewarray", ("class", "[I")), 1, "P"), (("putstatic", TABLE), 1, ""),
-            (("getstatic", TABLE), 0, "P"), (("iconst_0",), 0, "I"), (("bipush", 16), 0, "I"), (("newarray",), 1, "A"), (("aastore",), 3, ""),
+            (("iconst_2",), 0, "I"),
+            (("anewarray", ("class", "[I")), 1, "P"),
+            (("putstatic", TABLE), 1, ""),
+            (("getstatic", TABLE), 0, "P"),
+            (("iconst_0",), 0, "I"),
+            (("bipush", 16), 0, "I"),
+            (("newarray",), 1, "A"),
+            (("aastore",), 3, ""),
         ):
             run.emit(item, pops, *pushes)
         for field in self.fields:

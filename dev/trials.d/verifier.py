@@ -13,6 +13,8 @@ from reading import classes_named, methods_of
 from typed_code import FUEL, PUT, TABLE, ClassSet, Method, any_int, any_long, any_text, constant_int
 
 CASES = 4000
+
+
 class Members:
     """The fields and methods of a class of its own, in which code is tried."""
 
@@ -111,7 +113,9 @@ def branching(random, labels):
 
 
 def any_constant(random):
-    return random.choice((("int", any_int(random)), ("long", any_long(random)), ("text", any_text(random)), ("class", "[I"), ("class", "[[I"), ("class", "Main")))
+    return random.choice(
+        (("int", any_int(random)), ("long", any_long(random)), ("text", any_text(random)), ("class", "[I"), ("class", "[[I"), ("class", "Main"))
+    )
 
 
 def any_instruction(random, labels, members):
@@ -186,7 +190,12 @@ def small(random):
     for label in labels:
         items.insert(random.randrange(len(items)), ("label", label))
         name = random.choice(("goto", "ifeq", "ifeq", "ifnull", "if_icmplt", "tableswitch"))
-        branch = {"ifeq": [("iconst_0",)], "ifnull": [("getstatic", FIELDS["A"])], "if_icmplt": [("iconst_0",), ("iconst_1",)], "tableswitch": [("iconst_1",)]}.get(name, [])
+        branch = {
+            "ifeq": [("iconst_0",)],
+            "ifnull": [("getstatic", FIELDS["A"])],
+            "if_icmplt": [("iconst_0",), ("iconst_1",)],
+            "tableswitch": [("iconst_1",)],
+        }.get(name, [])
         branch.append((name, label) if name != "tableswitch" else (name, label, 0, [label]))
         at = random.randrange(len(items))
         items[at:at] = branch

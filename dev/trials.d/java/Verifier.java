@@ -3,8 +3,8 @@ import java.io.IOException;
 import java.io.InputStreamReader;
 
 /**
- * Links classes, which verifies them. For each line of input, a folder and the names of classes in it, it prints {@code ok}, or the error of the first
- * class that does not link.
+ * Links classes, which verifies them. For each line of input, a folder and the names of classes in it, it prints {@code ok}, or the error of the
+ * first class that does not link.
  */
 public final class Verifier {
     private Verifier() {
