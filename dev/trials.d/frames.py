@@ -5,18 +5,18 @@ form that a frame may have, with more frames than are needed, weaker ones and wr
 Left out, since docs/CLASSES.md differs:
 - Tables with types that this profile has not, which are Top for an operand, a long for a local variable, float, double, objects that are not
   initialized, and references to any class but [I, [[I and String.
-- LDC of a class, an instruction since version 49 and of this profile in none.
+- LDC of a class, an instruction since version 49 and of this profile in none; and what verifier.py has of AALOAD, AASTORE and ANEWARRAY.
 - Of the files with other bytes those that this profile does not read, and those whose names mean nothing: they are resolved at a run there.
 """
 import struct
 
 from class_files import offsets_of
-from inference import Inference
+from inference import MEET, Inference
 from java_side import Java, write_classes
 from reading import constant_at, methods_of, pool_of
 from stack_maps import Malformed, needed, table_of, tables_in, types_of, with_table, without_tops
 from typed_code import ClassSet
-from verifier import Members, changed, loaded, other_class, small, with_other_bytes
+from verifier import Members, changed, loaded, other_class, probe, small, with_other_bytes
 
 CASES = 4000
 PROFILE = {"local": (0, 1, 5, 7), "operand": (1, 4, 5, 7)}
@@ -71,7 +71,10 @@ def has_class_constant(items):
 def with_own_table(random):
     """A class with a method of typed code, or nearly so, and a table of it."""
     while True:
-        if random.random() < 0.6:
+        choice = random.random()
+        if choice < 0.2:
+            descriptor, *parts = probe(random)
+        elif choice < 0.65:
             descriptor, *parts = small(random)
         else:
             whole = ClassSet(random)
@@ -173,9 +176,11 @@ def rule_for(files):
     """The rule by which a case is left out that nested refuses and the other one takes, if there is one."""
     if other_types(files):
         return "types that this profile has not"
-    if any(has_class_constant(items) for data in files.values() for *_, items in methods_of(data)):
+    methods = [method for data in files.values() for method in methods_of(data)]
+    if any(has_class_constant(items) for *_, items in methods):
         return "LDC of a class"
-    return None
+    beyond = sorted(set().union(*(Inference(*method).beyond for method in methods)) - {MEET})
+    return beyond[0] if beyond else None
 
 
 def ready(trial):

@@ -1,11 +1,11 @@
-"""Types of code by inference, as the standard has them: two types of references meet in one of which only that is known (O). It says what a rule
-that leaves cases out asks: which instructions are reached, and whether two types of references meet at one of them."""
+"""Types of code by inference, as the standard has them. It says what the rules ask by which cases are left out: which instructions are reached, and
+where code goes beyond the types of this profile. A reference of any other type is one of which only that is known (O)."""
 from class_files import BRANCHES, KINDS, LOCALS, parameters_of
 from typed_code import SHUFFLES, width
 
 REFERENCES = "NAPSO"
 # what plain instructions take, the last one uppermost, and what they give
-EFFECTS = {"nop": ("", ""), "aconst_null": ("", "N"), "iaload": ("AI", "I"), "iastore": ("AII", ""), "aaload": ("PI", "A"), "aastore": ("PIA", "")}
+EFFECTS = {"nop": ("", ""), "aconst_null": ("", "N"), "iaload": ("AI", "I"), "iastore": ("AII", ""), "aastore": ("PIO", "")}
 EFFECTS |= {f"iconst_{n}": ("", "I") for n in ("m1", *range(6))} | {
     n: ("II", "I") for n in "iadd isub imul iand ior ixor idiv irem ishl ishr iushr".split()
 }
@@ -30,6 +30,8 @@ EFFECTS |= {
     "goto_w": ("", ""),
 }
 EFFECTS |= {n: ("II", "") for n in BRANCHES if n.startswith("if_icmp")} | {n: ("I", "") for n in "ifeq ifne iflt ifge ifgt ifle".split()}
+MEET, NO_ARRAY, OTHER_ELEMENT = "two types of references meet", "AALOAD of null", "AASTORE of what is no array of ints"
+OTHER_ARRAY = "ANEWARRAY of another type than [I"
 ENDS = ("goto", "goto_w", "tableswitch", "lookupswitch", "ireturn", "return")
 
 
@@ -59,8 +61,8 @@ def effect_of(item):
         if is_text == (name == "invokevirtual"):
             taken = "".join(parameters_of(constant[3]))
             return ("S" + taken if is_text else taken), "" if constant[3].endswith("V") else "I"
-    if name == "anewarray" and constant == ("class", "[I"):
-        return "I", "P"
+    if name == "anewarray" and constant[0] == "class":
+        return "I", "P" if constant[1] == "[I" else "O"
     return None
 
 
@@ -70,7 +72,9 @@ class Inference:
     def __init__(self, descriptor, most, count, items):
         self.most, self.count, self.items = most, count, items
         self.labels = {item[1]: at for at, item in enumerate(items) if item[0] == "label"}
-        self.frames, self.references_meet, self.typed = {}, False, True
+        self.frames, self.typed = {}, True
+        # what of the standard the code needs, and this profile has not
+        self.beyond = set()
         parameters = parameters_of(descriptor)
         self.gives_int = descriptor.endswith("I")
         try:
@@ -125,7 +129,7 @@ class Inference:
         if is_below(b, a):
             return a
         if a in REFERENCES and b in REFERENCES:
-            self.references_meet = True
+            self.beyond.add(MEET)
             return "O"
         return "T"
 
@@ -142,16 +146,31 @@ class Inference:
             if kind not in ("NAP" if name == "arraylength" else REFERENCES):
                 raise Untyped
             stack += ["I"] if name == "arraylength" else []
+        elif name == "aaload":
+            self.load_element(stack)
         else:
             taken, given = effect_of(item) or (None, None)
             if taken is None or name in ("ireturn", "return") and (name == "ireturn") != self.gives_int:
                 raise Untyped
             if len(stack) < len(taken) or not all(map(is_below, stack[len(stack) - len(taken) :], taken)):
                 raise Untyped
+            if name == "aastore" and stack[-1] not in "AN":
+                self.beyond.add(OTHER_ELEMENT)
+            if given == "O":
+                self.beyond.add(OTHER_ARRAY)
             stack[len(stack) - len(taken) :] = given
         if sum(map(width, stack)) > self.most:
             raise Untyped
         return variables, stack
+
+    def load_element(self, stack):
+        """AALOAD gives a null where its array is null, of which any type may be made."""
+        if len(stack) < 2 or stack[-1] != "I" or stack[-2] not in "PN":
+            raise Untyped
+        is_null = stack[-2] == "N"
+        if is_null:
+            self.beyond.add(NO_ARRAY)
+        stack[-2:] = "N" if is_null else "A"
 
     def move(self, name, i, variables, stack):
         if i >= self.count:
@@ -177,7 +196,7 @@ class Inference:
     def dead_is_wrong(self):
         """Whether an instruction that is not reached breaks a rule that the standard has for all: its local variable or its constant is not there."""
         dead = [item for at, item in enumerate(self.items) if at not in self.frames and item[0] != "label"]
-        special = (*SHUFFLES, "ifnull", "ifnonnull", "arraylength")
+        special = (*SHUFFLES, "ifnull", "ifnonnull", "arraylength", "aaload")
         return any(
             item[1] >= self.count if item[0] in LOCALS or item[0] == "iinc" else item[0] not in special and effect_of(item) is None for item in dead
         )

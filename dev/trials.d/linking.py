@@ -25,7 +25,7 @@ SECTIONS = {".text": ("ax", "progbits"), ".text.hot": ("ax", "progbits"), ".code
 SECTIONS |= {".constants": ("a", "progbits"), ".nothing": ("a", "nobits"), ".data": ("aw", "progbits"), ".data.own": ("aw", "progbits")}
 SECTIONS |= {".bss": ("aw", "nobits"), ".zeros": ("aw", "nobits")}
 # what the GNU linker says of a fault, by the kind of docs/LINKING.md
-SAID = {9: r"LO16|HI16", 10: r"multiple definition", 11: r"undefined reference|discarded section", 13: r"truncated to fit|not.*aligned|unaligned"}
+SAID = {9: r"LO16|HI16", 10: r"multiple definition", 11: r"undefined reference|discarded section", 13: r"truncated to fit|non-instruction-aligned"}
 
 
 class Symbol:

@@ -3,16 +3,18 @@ few bytes are others: what `nested` takes there, the other one has to take too.
 
 Left out, since docs/CLASSES.md differs (inference.py says where):
 - Two types of arrays or texts meet in a local variable or an operand. The standard has a type above both, and this profile has none.
+- AALOAD of null gives null there, of which any reference may be made, and an array of ints here. AASTORE takes any reference there, and tests it when
+  it runs, and null or an array of ints here. ANEWARRAY has any type there, and [I alone here.
 - Code that is not reached names a local variable or a constant that is not there for it. It has no rule here.
 - Of the files with other bytes those that this profile does not read, and those whose names mean nothing: they are resolved at a run there.
 """
 from class_files import BRANCHES, CALL, CHAR_AT, DESCRIPTORS, FAULT, KINDS, LENGTH, LOCALS, PLAIN, SLOTS, ClassFile
-from inference import Inference
+from inference import Inference, effect_of
 from java_side import Java, write_classes
 from reading import classes_named, methods_of
-from typed_code import FUEL, PUT, TABLE, ClassSet, Method, any_int, any_long, any_text, constant_int
+from typed_code import FUEL, PUT, SHUFFLES, TABLE, ClassSet, Method, any_int, any_long, any_text, constant_int, width
 
-CASES = 4000
+CASES = 5000
 
 
 class Members:
@@ -202,8 +204,43 @@ def small(random):
     return descriptor, stack + random.choice((0, 0, 1, 2)), variables, items
 
 
+def probe(random):
+    """An instruction or two on operands that it takes, or nearly so, and what may be done with what they leave."""
+    pushes = {kind: ("getstatic", FIELDS[kind]) for kind in "IAPS"} | {"J": ("ldc2_w", ("long", 1)), "N": ("aconst_null",)}
+    instruction = any_instruction(random, [], Members)
+    if random.random() < 0.2:
+        # where this profile is narrower
+        instruction = random.choice((("aaload",), ("aastore",), ("anewarray", ("class", random.choice(("[I", "[[I", "Main"))))))
+    taken = (
+        "PI"
+        if instruction == ("aaload",)
+        else effect_of(instruction)[0]
+        if is_plain(instruction)
+        else random.choices("IJNAPS", k=random.randrange(4))
+    )
+    operands = [*random.choices("IIJNAPS", k=random.randrange(3)), *(k.replace("O", "A") for k in taken)]
+    for i in range(len(operands)):
+        if random.random() < 0.15:
+            operands[i] = random.choice("IJNAPS" if operands[i] in "IJ" else "INNAPS")
+    items = [pushes[kind] for kind in operands] + [instruction]
+    items += [any_instruction(random, [], Members)] * (random.random() < 0.1)
+    ends = [("invokevirtual", LENGTH), ("arraylength",), ("pop",), ("astore", 0), ("istore", 0), *(("putstatic", f) for f in Members.fields)]
+    items += random.choices(ends, k=random.choice((0, 1, 1)))
+    most = sum(map(width, operands)) + random.choice((-1, 0, 1, 1, 2, 2, 3, 4))
+    return "()V", max(0, most), random.choice((0, 1, 3, 6)), [*items, ("return",)]
+
+
+def is_plain(item):
+    """What an instruction takes does not depend on what is there."""
+    return item[0] not in (*SHUFFLES, *LOCALS, "iinc", "ifnull", "ifnonnull", "arraylength", "aaload") and effect_of(item) is not None
+
+
 def case_files(random):
     """The files of a case."""
+    choice = random.random()
+    if choice < 0.25:
+        descriptor, *parts = probe(random)
+        return {"Main": other_class(random, descriptor, parts).bytes()}
     choice = random.random()
     if choice < 0.2:
         tried = Tried(random)
@@ -223,8 +260,9 @@ def case_files(random):
 def rule_for(is_typed, files):
     """The rule by which a case is left out in which nested says this and the other one the contrary, if there is one."""
     found = [Inference(*method) for data in files.values() for method in methods_of(data)]
-    if not is_typed and any(f.references_meet for f in found):
-        return "two types of references meet"
+    beyond = sorted(set().union(*(f.beyond for f in found)))
+    if not is_typed and beyond:
+        return beyond[0]
     if is_typed and any(f.dead_is_wrong() for f in found):
         return "code that is not reached"
     return None
