@@ -49,9 +49,9 @@ CASES = 2000
 TEXT, FINISH, HANDLER, BODY, DATA = 0x00400000, 0x00400800, 0x00400A00, 0x00401000, 0x10000000
 # in the data: the registers with HI and LO, the memory that is worked on, and a stack for the handler of signals
 SAVED, ARENA, ARENA_END, STACK, DATA_SIZE = 0, 0x400, 0x1400, 0x2000, 0x4000
-# registers that hold divisors, the code's address, places in the arena, the data's address, and the turns of a loop
-DIVISORS, CODE, PLACES, BASE, TURNS = (21, 22), 23, (24, 25), 26, 27
-FREE = [r for r in range(32) if r not in (*DIVISORS, CODE, *PLACES, BASE, TURNS)]
+# registers that hold a sum of results, divisors, the code's address, places in the arena, the data's address, and the turns of a loop
+SUM, DIVISORS, CODE, PLACES, BASE, TURNS = 20, (21, 22), 23, (24, 25), 26, 27
+FREE = [r for r in range(32) if r not in (SUM, *DIVISORS, CODE, *PLACES, BASE, TURNS)]
 EDGES = (0, 1, 2, 0x7FFF, 0x8000, 0xFFFF, 0x10000, 0x7FFFFFFF, 0x80000000, 0x80000001, 0xFFFF8000, 0xFFFFFFFE, 0xFFFFFFFF)
 SIGILL, SIGTRAP, SIGFPE, SIGBUS, SIGSEGV = 4, 5, 8, 10, 11
 # the signals that stand for a kind of fault; BREAK and traps of two codes are taken for those of arithmetic
@@ -113,7 +113,12 @@ class Body:
     # ---- what is no branch
 
     def add_plain(self):
-        self.add(self.plain())
+        """A word, and most often one that adds what it has written to the sum, so that it is not lost."""
+        word = self.plain()
+        self.add(word)
+        op, written = word >> 26, word >> 11 & 31 if word >> 26 == 0 else word >> 16 & 31
+        if written in FREE and (op == 0 or 8 <= op < 16 or 0x20 <= op < 0x27) and self.random.random() < 0.7:
+            self.add(special(THREE["addu"], SUM, written, SUM))
 
     def plain(self):
         makes = (self.three, self.shift, self.immediate, self.upper, self.product, self.moved, self.load, self.store, self.pointer, self.trap)
@@ -196,7 +201,7 @@ class Body:
         self.add(immediate(STORES["sc"], base, self.free(), offset))
 
     def target(self):
-        return len(self.items) + self.random.randrange(1, 12)
+        return len(self.items) + self.random.choice((1, 2, 2, 3, 3, 4, 6, 11))
 
     def add_branch(self):
         choice, target = self.random.random(), self.target()
