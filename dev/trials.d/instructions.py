@@ -47,8 +47,8 @@ from mips import (
 
 CASES = 2000
 TEXT, FINISH, HANDLER, BODY, DATA = 0x00400000, 0x00400800, 0x00400A00, 0x00401000, 0x10000000
-# in the data: the registers with HI and LO, the memory that is worked on, and a stack for the handler of signals
-SAVED, ARENA, ARENA_END, STACK, DATA_SIZE = 0, 0x400, 0x1400, 0x2000, 0x4000
+# in the data: from 0 on the registers with HI and LO, then the memory that is worked on, and a stack for the handler of signals
+ARENA, ARENA_END, STACK, DATA_SIZE = 0x400, 0x1400, 0x2000, 0x4000
 # registers that hold a sum of results, divisors, the code's address, places in the arena, the data's address, and the turns of a loop
 SUM, DIVISORS, CODE, PLACES, BASE, TURNS = 20, (21, 22), 23, (24, 25), 26, 27
 FREE = [r for r in range(32) if r not in (SUM, *DIVISORS, CODE, *PLACES, BASE, TURNS)]
