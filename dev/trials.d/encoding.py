@@ -93,6 +93,10 @@ def objdump(trial, words, processor):
     return [normal(line.strip()) for line in lines]
 
 
+def is_numbered_sync(word):
+    return word & ~0x7C0 == 0x0F and word != 0x0F
+
+
 def try_words(trial, k, random):
     words = [w for w in (word_at_random(random) for _ in range(WORDS)) if w >> 26 not in FLOATS]
     with open(trial.path("listed"), "wb") as file:
@@ -101,13 +105,14 @@ def try_words(trial, k, random):
     if status:
         return trial.differ(k, f"list: {line}")
     listed = [text.split(" ", 2) for text in out.decode().splitlines()]
-    theirs, later = objdump(trial, words, "mips:6000"), objdump(trial, words, "mips:isa32r2")
+    theirs = objdump(trial, words, "mips:6000")
+    later = objdump(trial, words, "mips:isa32r2") if any(map(is_numbered_sync, words)) else theirs
     for i, word in enumerate(words):
         at, shown, text = listed[i]
         if word >> 26 in OTHERS:
             wanted = (".word", word)
         else:
-            wanted = later[i] if later[i][0] == "sync" else theirs[i]
+            wanted = later[i] if is_numbered_sync(word) else theirs[i]
         trial.came("no instruction" if wanted[0] == ".word" else "instructions")
         if (int(at.rstrip(":"), 16), int(shown, 16)) != (TEXT + 4 * i, word) or own_normal(text) != wanted:
             trial.differ(k, f"{word:08x} is {text}, and {wanted}")
@@ -197,17 +202,13 @@ class Text:
         return self.random.choice(makes)()
 
 
-def segments(file):
+def segments(trial, name):
     """The bytes of the segments of a big-endian program by their addresses."""
+    with open(trial.path(name), "rb") as opened:
+        file = opened.read()
     (table,), (count,) = struct.unpack_from(">I", file, 28), struct.unpack_from(">H", file, 44)
     headers = [struct.unpack_from(">8I", file, table + 32 * i) for i in range(count)]
     return {h[2]: file[h[1] : h[1] + h[4]] for h in headers if h[0] == 1}
-
-
-def section(trial, name):
-    trial.call("mips-linux-gnu-objcopy", "-O", "binary", "-j", name, "theirs", "bytes")
-    with open(trial.path("bytes"), "rb") as file:
-        return file.read()
 
 
 def try_text(trial, k, random):
@@ -226,10 +227,9 @@ def try_text(trial, k, random):
         status, _, error = trial.call(*words)
         if status:
             return trial.differ(k, f"{words[0]}: {error.decode().strip()}")
-    with open(trial.path("own"), "rb") as file:
-        own = segments(file.read())
-    for address, name in ((TEXT, ".text"), (DATA, ".data")):
-        mine, theirs = own.get(address, b""), section(trial, name)
+    own, gnu = (segments(trial, name) for name in ("own", "theirs"))
+    for address in (TEXT, DATA):
+        mine, theirs = own.get(address, b""), gnu.get(address, b"")
         # the GNU assembler rounds sections up to 16 bytes
         theirs = theirs[: len(mine)] if not any(theirs[len(mine) :]) else theirs
         trial.came("words of texts", len(mine) // 4)
@@ -243,7 +243,7 @@ SCRIPT = f"SECTIONS {{ .text {TEXT:#x} : {{ *(.text) }} .data {DATA:#x} : {{ *(.
 
 @contextmanager
 def ready(trial):
-    trial.needs("mips-linux-gnu-objdump", "mips-linux-gnu-objcopy", "mips-linux-gnu-as", "mips-linux-gnu-ld")
+    trial.needs("mips-linux-gnu-objdump", "mips-linux-gnu-as", "mips-linux-gnu-ld")
     with open(trial.path("script"), "w", encoding="ascii") as file:
         file.write(SCRIPT)
     yield
