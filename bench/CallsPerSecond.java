@@ -12,7 +12,7 @@ import nestedvm.Call;
 import nestedvm.Program;
 
 /**
- * Times calls of programs, in folders that {@code jvm/tests/prepare-cases} has made: how many a second one thread makes once the program is
+ * Times calls of programs, in folders that {@code jvm/prepare-cases} has made: how many a second one thread makes once the program is
  * warm, and how many processes of the launcher run one after the other.
  */
 public final class CallsPerSecond {

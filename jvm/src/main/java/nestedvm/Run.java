@@ -4,7 +4,7 @@ import java.util.List;
 
 /**
  * Runs the class NAME of the folder in which it was started, as {@code nested run NAME} does, but on this JVM:
- * {@code java -cp jvm nestedvm.Run NAME [--disk N] [--with A,B] [--keep A,B] [-- ARGS]}.
+ * {@code java -cp jvm/target/classes nestedvm.Run NAME [--disk N] [--with A,B] [--keep A,B] [-- ARGS]}.
  *
  * <p>It ends with the status of {@code nested run}, after the same line on error output. docs/HOST.md says where a JVM differs.
  */

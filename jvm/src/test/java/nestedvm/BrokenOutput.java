@@ -1,4 +1,4 @@
-package tests;
+package nestedvm;
 
 import java.io.OutputStream;
 

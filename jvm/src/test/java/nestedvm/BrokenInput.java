@@ -1,4 +1,4 @@
-package tests;
+package nestedvm;
 
 import java.io.IOException;
 import java.io.InputStream;
@@ -9,7 +9,7 @@ final class BrokenInput extends InputStream {
     private int place;
 
     BrokenInput(String text) {
-        bytes = Check.bytes(text);
+        bytes = Texts.bytes(text);
     }
 
     @Override

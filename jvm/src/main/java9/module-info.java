@@ -1,0 +1,4 @@
+/** Runs translated programs on a Java virtual machine. */
+module nestedvm {
+    exports nestedvm;
+}

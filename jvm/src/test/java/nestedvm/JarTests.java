@@ -1,0 +1,40 @@
+package nestedvm;
+
+import static org.junit.jupiter.api.Assertions.assertEquals;
+import static org.junit.jupiter.api.Assertions.assertThrows;
+
+import java.io.IOException;
+import java.nio.file.Path;
+import java.nio.file.Paths;
+import org.junit.jupiter.api.DisplayName;
+import org.junit.jupiter.api.Test;
+import org.junit.jupiter.api.condition.EnabledIfSystemProperty;
+
+/** A program in a jar that {@code jvm/package} has made of the guest deeds, which is on the class path as well. The property has its folder. */
+@EnabledIfSystemProperty(named = "nested.jars", matches = ".+", disabledReason = "jvm/try makes the jars")
+final class JarTests {
+    private static Path jar(String name) {
+        return Paths.get(System.getProperty("nested.jars"), name);
+    }
+
+    @Test
+    @DisplayName("a program in a jar")
+    void inJar() throws IOException {
+        Program program = Program.inJar(jar("deeds.jar"));
+        assertEquals("deeds", program.name());
+        assertEquals("deeds\n1\n", Texts.text(program.call("name", "count").run().output()));
+    }
+
+    @Test
+    @DisplayName("a program on the class path")
+    void onClassPath() {
+        Program program = Program.of(JarTests.class.getClassLoader(), "deeds/Deeds");
+        assertEquals("Deeds\n1\n", Texts.text(program.call("name", "count").run().output()));
+    }
+
+    @Test
+    @DisplayName("a jar without a program")
+    void withoutProgram() {
+        assertThrows(IllegalArgumentException.class, () -> Program.inJar(jar("nestedvm.jar")));
+    }
+}
