@@ -59,6 +59,19 @@ static int work(void) {
     return (int)sum;
 }
 
+/* bytes to output for ever */
+static void flood(void) {
+    for (;;) syscall3(WRITE, 1, (int)room, sizeof room);
+}
+
+/* bytes into a file until no more go in; the error of the call that was refused */
+static int grow(const char *name) {
+    int out = syscall3(OPEN, (int)name, FOR_WRITING | CREATE, 0);
+    int n = out;
+    while (n >= 0) n = syscall3(WRITE, out, (int)room, sizeof room);
+    return n;
+}
+
 static int is(const char *a, const char *b) {
     while (*a && *a == *b) a++, b++;
     return *a == *b;
@@ -76,6 +89,8 @@ int main(int argc, char **argv) {
         else if (is(argv[i], "remove")) put_number(syscall3(UNLINK, (int)argv[i + 1], 0, 0)), i += 1;
         else if (is(argv[i], "open")) put_number(syscall3(OPEN, (int)argv[i + 1], FOR_READING, 0)), i += 1;
         else if (is(argv[i], "fault")) put_number(*(volatile int *)4);
+        else if (is(argv[i], "flood")) flood();
+        else if (is(argv[i], "grow")) put_number(grow(argv[i + 1])), i += 1;
         else if (is(argv[i], "wait")) for (;;) syscall3(TIME, 0, 0, 0);
         else put(argv[i]), put("\n");
     }

@@ -2,7 +2,6 @@ package nestedvm;
 
 import java.nio.ByteBuffer;
 import java.nio.ByteOrder;
-import java.nio.charset.StandardCharsets;
 import java.util.ArrayList;
 import java.util.List;
 
@@ -30,7 +29,7 @@ final class Arguments {
     }
 
     private void add(String argument) {
-        byte[] text = argument.getBytes(StandardCharsets.UTF_8);
+        byte[] text = Names.bytesOf(argument);
         long needed = (long) blockBytes + WORD_BYTES + text.length + 1;
         if (needed > LONGEST_BLOCK) {
             throw new Stopped(Answer.argumentsTooLong(needed));

@@ -1,10 +1,8 @@
 package nestedvm;
 
 import java.io.ByteArrayInputStream;
-import java.io.ByteArrayOutputStream;
 import java.io.InputStream;
 import java.io.OutputStream;
-import java.nio.charset.StandardCharsets;
 import java.nio.file.Path;
 import java.util.Arrays;
 import java.util.LinkedHashMap;
@@ -20,6 +18,7 @@ import java.util.Objects;
  */
 public final class Call {
     private static final int LONGEST_NAME = 255;
+    private static final int DEFAULT_OUTPUT_BYTES = 67_108_864;
 
     private final Program program;
     private final String[] arguments;
@@ -33,6 +32,7 @@ public final class Call {
     private FolderAccess access;
     private int blocks = GuestFiles.MOST_BLOCKS;
     private Long moment;
+    private int mostOutput = DEFAULT_OUTPUT_BYTES;
 
     Call(Program program, String[] arguments) {
         this.program = program;
@@ -111,18 +111,19 @@ public final class Call {
     /**
      * A file that the program finds. It is in memory, and what the program does to it is seen in {@link Result#files} alone.
      *
-     * @param path its name, by which the program opens it: 1 to 255 bytes in UTF-8
-     * @param content its bytes, which are copied
+     * @param path its name, by which the program opens it: 1 to 255 bytes in UTF-8. A character DC80 to DCFF stands for the byte of its last two
+     *     digits, as in {@link Result#files}
+     * @param content its bytes. They are copied only where the program changes the file, so they have to stay as they are while the call runs
      * @return this
      * @throws IllegalArgumentException where the name is empty, too long or has a character 0, or where there are 256 files already
      */
     public Call file(String path, byte[] content) {
         requireText(path);
-        int length = path.getBytes(StandardCharsets.UTF_8).length;
+        int length = Names.bytesOf(path).length;
         if (length == 0 || length > LONGEST_NAME) {
             throw new IllegalArgumentException("the name of a file has 1 to 255 bytes, and not " + length);
         }
-        files.put(path, content.clone());
+        files.put(path, Objects.requireNonNull(content));
         if (files.size() > GuestFiles.MOST_FILES) {
             throw new IllegalArgumentException("a program finds at most 256 files");
         }
@@ -160,6 +161,22 @@ public final class Call {
     }
 
     /**
+     * The most bytes of output, and as many of error output, that are gathered where they have no stream. A program that writes more ends with
+     * {@link Ending#OUTPUT_FAILED}. For a library this counts what was not yet taken.
+     *
+     * @param bytes the most bytes: 67,108,864 at first
+     * @return this
+     * @throws IllegalArgumentException where the number is negative
+     */
+    public Call mostOutput(int bytes) {
+        if (bytes < 0) {
+            throw new IllegalArgumentException("the most bytes of output are no negative number, as " + bytes);
+        }
+        mostOutput = bytes;
+        return this;
+    }
+
+    /**
      * The moment that the program takes for the present. At first it is the moment at which the call is run.
      *
      * @param seconds seconds since 1970, of which the program sees the lowest 31 bits
@@ -182,7 +199,15 @@ public final class Call {
      */
     public Result run() {
         try (Session session = session(HostCalls.NONE)) {
-            return session.result(name, program.play(session.system()));
+            return session.result(name, play(session));
+        }
+    }
+
+    private Answer play(Session session) {
+        try {
+            return program.play(session.system());
+        } catch (OutOfMemoryError end) {
+            return Answer.trapped(Traps.NO_MEMORY, end);
         }
     }
 
@@ -219,10 +244,10 @@ public final class Call {
         Arguments words = Arguments.of(name, Arrays.asList(arguments));
         GuestFiles guestFiles = new GuestFiles(blocks, folder == null ? null : LiveFolder.of(folder, access));
         for (Map.Entry<String, byte[]> file : files.entrySet()) {
-            guestFiles.add(GuestFiles.pathOf(file.getKey()), file.getValue().clone());
+            guestFiles.add(Names.pathOf(file.getKey()), file.getValue());
         }
-        ByteArrayOutputStream gathered = new ByteArrayOutputStream();
-        ByteArrayOutputStream errorsGathered = new ByteArrayOutputStream();
+        GatheredOutput gathered = new GatheredOutput(mostOutput);
+        GatheredOutput errorsGathered = new GatheredOutput(mostOutput);
         Console console = new Console(
             input == null ? new ByteArrayInputStream(inputBytes) : input,
             output == null ? gathered : output,

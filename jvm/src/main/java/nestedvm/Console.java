@@ -1,6 +1,5 @@
 package nestedvm;
 
-import java.io.BufferedOutputStream;
 import java.io.FileDescriptor;
 import java.io.FileInputStream;
 import java.io.FileOutputStream;
@@ -19,6 +18,9 @@ final class Console {
     /** The most bytes of input that are read ahead. */
     private static final int AHEAD_BYTES = 4096;
 
+    /** The most written bytes that are gathered. */
+    private static final int GATHERED_BYTES = 8192;
+
     private final InputStream input;
     private final OutputStream output;
     private final OutputStream errorOutput;
@@ -27,17 +29,20 @@ final class Console {
     private int aheadPlace;
     private int aheadEnd;
 
-    /** The output that has bytes which are gathered, if one has. */
+    /** The output of the bytes that are gathered. */
     private OutputStream gathering;
+
+    private final byte[] gathered = new byte[GATHERED_BYTES];
+    private int gatheredCount;
 
     /** What an output has thrown. */
     private Exception failure;
 
     Console(InputStream input, OutputStream output, OutputStream errorOutput) {
         this.input = input;
-        this.output = new BufferedOutputStream(output);
-        this.errorOutput = new BufferedOutputStream(errorOutput);
-        this.gathering = this.output;
+        this.output = output;
+        this.errorOutput = errorOutput;
+        this.gathering = output;
     }
 
     /** The console of the process. */
@@ -73,18 +78,30 @@ final class Console {
             gathering = stream;
         }
         needSound();
-        try {
-            stream.write(bytes);
-        } catch (IOException | RuntimeException thrown) {
-            failure = thrown;
-            throw failed();
+        if (gatheredCount + bytes.length > GATHERED_BYTES) {
+            flush();
+        }
+        if (bytes.length > GATHERED_BYTES) {
+            send(bytes, bytes.length);
+        } else {
+            System.arraycopy(bytes, 0, gathered, gatheredCount, bytes.length);
+            gatheredCount += bytes.length;
         }
     }
 
     /** Lets all that was written go out. */
     synchronized void flush() {
         needSound();
+        if (gatheredCount > 0) {
+            int count = gatheredCount;
+            gatheredCount = 0;
+            send(gathered, count);
+        }
+    }
+
+    private void send(byte[] bytes, int count) {
         try {
+            gathering.write(bytes, 0, count);
             gathering.flush();
         } catch (IOException | RuntimeException thrown) {
             failure = thrown;
@@ -92,7 +109,12 @@ final class Console {
         }
     }
 
-    /** Once an output has failed nothing more is written, since a front part of what was gathered may have gone out. */
+    /** Forgets that an output has failed, so that what is written from now on is tried again. */
+    synchronized void forgetFailure() {
+        failure = null;
+    }
+
+    /** Once an output has failed nothing more is written: what was gathered then is lost, but for a front part that may have gone out. */
     private void needSound() {
         if (failure != null) {
             throw failed();

@@ -1,5 +1,7 @@
 package nestedvm;
 
+import java.util.Locale;
+
 /** The fault in which a program ended. docs/GUEST.md has the kinds. */
 public final class Fault {
     private final int kind;
@@ -15,7 +17,7 @@ public final class Fault {
     /**
      * The kind of the fault.
      *
-     * @return 1 to 11
+     * @return 1 to 12; 12 is a spent meter (docs/HOST.md)
      */
     public int kind() {
         return kind;
@@ -41,6 +43,6 @@ public final class Fault {
 
     @Override
     public String toString() {
-        return String.format("fault %s pc %08X value %08X", Integer.toUnsignedString(kind), address, value);
+        return String.format(Locale.ROOT, "fault %s pc %08X value %08X", Integer.toUnsignedString(kind), address, value);
     }
 }

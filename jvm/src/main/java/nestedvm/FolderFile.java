@@ -5,32 +5,34 @@ import java.nio.ByteBuffer;
 import java.nio.channels.ClosedByInterruptException;
 import java.nio.channels.FileChannel;
 import java.nio.file.AccessDeniedException;
+import java.nio.file.Files;
 import java.nio.file.NoSuchFileException;
 import java.nio.file.Path;
 import java.nio.file.StandardOpenOption;
+import java.nio.file.attribute.BasicFileAttributes;
+import java.util.Objects;
 
 /** A file of a folder, whose bytes are read and written where they are. It uses no block of the guest's disk. A failure ends the run. */
 final class FolderFile extends GuestFile {
     private static final int PIECE_BYTES = 65_536;
 
-    private final Path path;
-
-    /** Whether the file may be written, renamed and unlinked. */
-    private final boolean mayChange;
+    private final LiveFolder folder;
 
     /** Where the bytes are, while a description stands for the file. */
     private FileChannel channel;
+
+    /** What tells the file from others, where the file system has such a thing. */
+    private Object key;
     private boolean isWritable;
 
-    FolderFile(String name, Path path, boolean mayChange) {
+    FolderFile(String name, LiveFolder folder) {
         super(name);
-        this.path = path;
-        this.mayChange = mayChange;
+        this.folder = folder;
     }
 
     /** Refuses the call where the files of the folder are only read. */
     void needChange() throws Refusal {
-        if (!mayChange) {
+        if (!folder.mayChange()) {
             throw new Refusal(Refusal.DENIED);
         }
     }
@@ -38,7 +40,7 @@ final class FolderFile extends GuestFile {
     @Override
     void open(boolean toWrite) throws Refusal {
         if (!isOpen()) {
-            channel = openChannel();
+            openFirst();
         }
         super.open(toWrite);
         if (toWrite && !isWritable || size() > Integer.MAX_VALUE) {
@@ -47,31 +49,60 @@ final class FolderFile extends GuestFile {
         }
     }
 
-    /** Opens the file for reading, and for writing as well where that can be. */
-    private FileChannel openChannel() throws Refusal {
+    private void openFirst() throws Refusal {
         try {
-            return mayChange ? openToChange() : FileChannel.open(path, StandardOpenOption.READ);
+            Path path = needPath();
+            key = keyOf(path);
+            channel = openChannel(path);
         } catch (NoSuchFileException missing) {
             throw new Refusal(Refusal.NO_ENTRY);
         } catch (AccessDeniedException denied) {
             throw new Refusal(Refusal.DENIED);
-        } catch (IOException failure) {
+        } catch (IOException | RuntimeException failure) {
             throw failed(failure);
         }
     }
 
-    private FileChannel openToChange() throws IOException {
-        try {
-            FileChannel both = FileChannel.open(path, StandardOpenOption.READ, StandardOpenOption.WRITE);
-            isWritable = true;
-            return both;
-        } catch (AccessDeniedException denied) {
-            return FileChannel.open(path, StandardOpenOption.READ);
+    private Path needPath() throws NoSuchFileException {
+        Path path = name() == null ? null : folder.pathOf(name());
+        if (path == null) {
+            throw new NoSuchFileException(name());
         }
+        return path;
+    }
+
+    private static Object keyOf(Path path) throws IOException {
+        return Files.readAttributes(path, BasicFileAttributes.class).fileKey();
+    }
+
+    /** Opens the file for reading, and for writing as well where that can be. */
+    private FileChannel openChannel(Path path) throws IOException {
+        if (folder.mayChange()) {
+            try {
+                FileChannel both = FileChannel.open(path, StandardOpenOption.READ, StandardOpenOption.WRITE);
+                isWritable = true;
+                return both;
+            } catch (AccessDeniedException denied) {
+                isWritable = false;
+            }
+        }
+        return FileChannel.open(path, StandardOpenOption.READ);
+    }
+
+    /** The open file. An interrupt closes it whatever stands for it; then it is opened again, unless its name means another file by now. */
+    private FileChannel channel() throws IOException {
+        if (!channel.isOpen()) {
+            Path path = needPath();
+            if (!Objects.equals(key, keyOf(path))) {
+                throw new IOException("another file is called " + path + " by now");
+            }
+            channel = openChannel(path);
+        }
+        return channel;
     }
 
     /** A thread that is interrupted while it reads or writes finds the file closed: that is an interrupt, and no failure of the folder. */
-    private static Stopped failed(IOException failure) {
+    private static Stopped failed(Exception failure) {
         if (failure instanceof ClosedByInterruptException) {
             Thread.interrupted();
             return new Stopped(Answer.interrupted());
@@ -81,8 +112,8 @@ final class FolderFile extends GuestFile {
 
     private long size() {
         try {
-            return channel.size();
-        } catch (IOException failure) {
+            return channel().size();
+        } catch (IOException | RuntimeException failure) {
             throw failed(failure);
         }
     }
@@ -100,12 +131,13 @@ final class FolderFile extends GuestFile {
     @Override
     void resize(int size) {
         try {
-            if (size < channel.size()) {
-                channel.truncate(size);
-            } else if (size > channel.size()) {
-                channel.write(ByteBuffer.allocate(1), size - 1L);
+            FileChannel file = channel();
+            if (size < file.size()) {
+                file.truncate(size);
+            } else if (size > file.size()) {
+                file.write(ByteBuffer.allocate(1), size - 1L);
             }
-        } catch (IOException failure) {
+        } catch (IOException | RuntimeException failure) {
             throw failed(failure);
         }
     }
@@ -125,9 +157,9 @@ final class FolderFile extends GuestFile {
         try {
             ByteBuffer rest = ByteBuffer.wrap(piece);
             while (rest.hasRemaining()) {
-                channel.write(rest, place + rest.position());
+                channel().write(rest, place + rest.position());
             }
-        } catch (IOException failure) {
+        } catch (IOException | RuntimeException failure) {
             throw failed(failure);
         }
     }
@@ -149,9 +181,9 @@ final class FolderFile extends GuestFile {
             ByteBuffer room = ByteBuffer.wrap(piece);
             int count = 0;
             while (room.hasRemaining() && count >= 0) {
-                count = channel.read(room, place + room.position());
+                count = channel().read(room, place + room.position());
             }
-        } catch (IOException failure) {
+        } catch (IOException | RuntimeException failure) {
             throw failed(failure);
         }
     }
@@ -168,7 +200,7 @@ final class FolderFile extends GuestFile {
     void closeChannel() {
         try {
             channel.close();
-        } catch (IOException failure) {
+        } catch (IOException | RuntimeException failure) {
             throw failed(failure);
         }
     }

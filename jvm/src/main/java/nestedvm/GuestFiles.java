@@ -1,9 +1,10 @@
 package nestedvm;
 
-import java.nio.charset.StandardCharsets;
 import java.util.HashMap;
 import java.util.Map;
+import java.util.Set;
 import java.util.TreeMap;
+import java.util.TreeSet;
 
 /**
  * The files of a guest, by their names, and the blocks of its disk. They are in memory. There may be a folder beside, whose files are
@@ -38,12 +39,7 @@ final class GuestFiles {
         this.folder = folder;
     }
 
-    /** A name as a guest's path, with a character for each byte of its UTF-8. */
-    static String pathOf(String name) {
-        return new String(name.getBytes(StandardCharsets.UTF_8), StandardCharsets.ISO_8859_1);
-    }
-
-    /** Adds a file that the guest finds, which has these bytes for its own, or stops where there are too few blocks for it. */
+    /** Adds a file that the guest finds, which begins with these bytes, or stops where there are too few blocks for it. The array is not changed. */
     void add(String path, byte[] content) {
         int needed = GuestFile.blocksFor(content.length);
         if (needed > freeBlocks) {
@@ -178,14 +174,23 @@ final class GuestFiles {
         return file == null ? null : file.content();
     }
 
-    /** The files in memory that have a name, by their names, with copies of their bytes. */
-    Map<String, byte[]> contents() {
-        Map<String, byte[]> contents = new TreeMap<>();
-        for (MemoryFile file : named.values()) {
-            String name = new String(file.name().getBytes(StandardCharsets.ISO_8859_1), StandardCharsets.UTF_8);
-            contents.put(name, file.content());
+    /** The names of the files in memory, in order. */
+    Set<String> names() {
+        Set<String> names = new TreeSet<>();
+        for (String path : named.keySet()) {
+            names.add(Names.nameOf(path));
         }
-        return contents;
+        return names;
+    }
+
+    /** The files in memory that have a name, by their names in order, which do not change any longer. */
+    Map<String, MemoryFile> leave() {
+        Map<String, MemoryFile> files = new TreeMap<>();
+        for (Map.Entry<String, MemoryFile> file : named.entrySet()) {
+            file.getValue().leave();
+            files.put(Names.nameOf(file.getKey()), file.getValue());
+        }
+        return files;
     }
 
     /** Closes the files of the folder. */

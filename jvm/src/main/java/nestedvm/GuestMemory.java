@@ -1,6 +1,7 @@
 package nestedvm;
 
 import java.io.ByteArrayOutputStream;
+import java.nio.charset.Charset;
 import java.nio.charset.StandardCharsets;
 
 /**
@@ -138,12 +139,21 @@ final class GuestMemory {
 
     /** The path at an address, with a character for each of its bytes; or the call is refused. */
     String path(int address) throws Refusal {
+        return shortText(address, StandardCharsets.ISO_8859_1);
+    }
+
+    /** The name at an address, of 1 to 255 bytes in UTF-8, or the call is refused. */
+    String name(int address) throws Refusal {
+        return shortText(address, StandardCharsets.UTF_8);
+    }
+
+    private String shortText(int address, Charset charset) throws Refusal {
         byte[] path = new byte[PATH_BYTES];
         int length = copyPath(address, path);
         if (length == 0) {
             throw new Refusal(Refusal.NO_ENTRY);
         }
-        return new String(path, 0, length, StandardCharsets.ISO_8859_1);
+        return new String(path, 0, length, charset);
     }
 
     /** Copies the bytes of a path up to the first zero, and tells how many they are; or the call is refused. */

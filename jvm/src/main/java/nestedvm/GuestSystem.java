@@ -5,6 +5,8 @@ import java.nio.ByteOrder;
 
 /** The system that answers the calls of a guest, as docs/CALLS.md says. */
 final class GuestSystem {
+    private static final int EXIT = 1;
+
     private static final int PROCESS = 1;
     private static final int NEW_LINE = 0x0A;
 
@@ -48,9 +50,12 @@ final class GuestSystem {
         return order;
     }
 
-    /** The answer to a call with a number and four words. Where the thread is interrupted the run ends instead. */
+    /**
+     * The answer to a call with a number and four words. Where the thread is interrupted the run ends instead, but not where the program leaves
+     * by the call or a function returns: what it has done is done.
+     */
     int answer(GuestMemory memory, int number, int a0, int a1, int a2, int a3) {
-        if (Thread.interrupted()) {
+        if (number != EXIT && number < HostCalls.FIRST && Thread.interrupted()) {
             throw new Stopped(Answer.interrupted());
         }
         try {
@@ -64,7 +69,7 @@ final class GuestSystem {
         switch (number) {
             case 0:
                 return begin(memory, a0, a1, a2, a3);
-            case 1:
+            case EXIT:
                 throw new Ended(Answer.exited(a0));
             case 2:
                 return open(memory.path(a0), new OpenFlags(a1));

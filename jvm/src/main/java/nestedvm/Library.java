@@ -4,6 +4,7 @@ import java.nio.ByteBuffer;
 import java.nio.charset.StandardCharsets;
 import java.util.Collections;
 import java.util.LinkedHashMap;
+import java.util.Locale;
 import java.util.Map;
 import java.util.Set;
 
@@ -22,6 +23,12 @@ public final class Library implements AutoCloseable {
     private static final int WORD_BYTES = 4;
     private static final int REGISTER_WORDS = 4;
 
+    /** The bytes of what the table of functions has for each. */
+    private static final int ENTRY_BYTES = 8;
+
+    /** The most functions that a program tells. */
+    private static final int MOST_FUNCTIONS = 16_384;
+
     private final String name;
     private final Program program;
     private final Copy copy;
@@ -35,6 +42,12 @@ public final class Library implements AutoCloseable {
 
     /** Whether no function can be called any longer. */
     private boolean isOver;
+
+    /** Whether the library was closed, maybe while a function runs. */
+    private boolean isClosed;
+
+    /** Whether a function runs. */
+    private boolean isRunning;
 
     /** Starts the program of a copy in this thread, or throws where it is not ready before it ends. */
     Library(String name, Program program, Copy copy, Session session) {
@@ -68,10 +81,22 @@ public final class Library implements AutoCloseable {
 
     /** The table has the addresses of a name and of its function in turn, and 0 behind them. */
     private void readTable() {
+        int end = ready.table() + MOST_FUNCTIONS * ENTRY_BYTES;
         int at = ready.table();
         while (word(at) != 0) {
-            functions.put(text(word(at)), word(at + WORD_BYTES));
-            at += 2 * WORD_BYTES;
+            if (at == end) {
+                throw new IllegalArgumentException(name + " tells more than " + MOST_FUNCTIONS + " functions");
+            }
+            functions.put(functionName(word(at)), word(at + WORD_BYTES));
+            at += ENTRY_BYTES;
+        }
+    }
+
+    private String functionName(int address) {
+        try {
+            return memory.name(address);
+        } catch (Refusal refusal) {
+            throw new IllegalArgumentException(String.format(Locale.ROOT, "%s tells a function whose name at %08X is not 1 to 255 bytes", name, address));
         }
     }
 
@@ -134,7 +159,23 @@ public final class Library implements AutoCloseable {
         if (isOver) {
             throw new IllegalStateException(name + " is closed, or has left");
         }
-        pass(function, words);
+        if (isRunning) {
+            throw new IllegalStateException("a call of " + name + " is under way in this thread, as where one of its streams calls it");
+        }
+        isRunning = true;
+        try {
+            session.forgetFailure();
+            pass(function, words);
+            return enter();
+        } finally {
+            isRunning = false;
+            if (isClosed) {
+                giveBack();
+            }
+        }
+    }
+
+    private Returned enter() {
         try {
             throw ended(Copy.play(registers.choose(), session.system()));
         } catch (Returned returned) {
@@ -178,7 +219,7 @@ public final class Library implements AutoCloseable {
         if (answer.ending() == Ending.EXITED) {
             isOver = true;
         }
-        return new CallFailed(name, session.resultNow(name, answer));
+        return new CallFailed(name, session.failure(name, answer));
     }
 
     /**
@@ -245,7 +286,7 @@ public final class Library implements AutoCloseable {
     }
 
     private IllegalArgumentException notThere(int address, int count) {
-        return new IllegalArgumentException(String.format("%s does not have %d such bytes from %08X on", name, count, address));
+        return new IllegalArgumentException(String.format(Locale.ROOT, "%s does not have %d such bytes from %08X on", name, count, address));
     }
 
     /**
@@ -297,15 +338,60 @@ public final class Library implements AutoCloseable {
         return session.takeOutput();
     }
 
-    /** Drops the memory of the program, and closes its files. Its classes go back to the program. To close again does nothing. */
+    /**
+     * Takes what the program has written to error output since this was asked last.
+     *
+     * @return the bytes; none where error output has a stream
+     */
+    public synchronized byte[] takeErrorOutput() {
+        return session.takeErrorOutput();
+    }
+
+    /**
+     * The files in memory, as they are now.
+     *
+     * @return their names in order, as {@link Result#files} has them
+     */
+    public synchronized Set<String> files() {
+        return session.files().names();
+    }
+
+    /**
+     * A file in memory, as it is now.
+     *
+     * @param file its name
+     * @return a copy of its bytes, or null where there is none of that name
+     */
+    public synchronized byte[] file(String file) {
+        return session.files().contentOf(Names.pathOf(file));
+    }
+
+    /**
+     * Drops the memory of the program, and closes its files. Its classes go back to the program. To close again does nothing. While a function runs this
+     * waits until it has returned; where it is called in that function's own thread, as by a stream, it takes effect then.
+     *
+     * @throws CallFailed where a file of the folder cannot be closed; all else is done
+     */
     @Override
     public synchronized void close() {
         isOver = true;
-        if (memory != null) {
-            memory = null;
-            copy.forget();
-            program.putBack(copy);
-            session.close();
+        isClosed = true;
+        if (!isRunning) {
+            giveBack();
+        }
+    }
+
+    private void giveBack() {
+        if (memory == null) {
+            return;
+        }
+        memory = null;
+        copy.forget();
+        program.putBack(copy);
+        try {
+            session.files().closeAll();
+        } catch (Stopped failure) {
+            throw new CallFailed(name, session.failure(name, failure.answer()));
         }
     }
 }

@@ -1,6 +1,8 @@
 package nestedvm;
 
 import java.io.IOException;
+import java.nio.ByteBuffer;
+import java.nio.charset.CharacterCodingException;
 import java.nio.charset.StandardCharsets;
 import java.nio.file.AccessDeniedException;
 import java.nio.file.FileAlreadyExistsException;
@@ -9,6 +11,7 @@ import java.nio.file.InvalidPathException;
 import java.nio.file.NoSuchFileException;
 import java.nio.file.Path;
 import java.nio.file.Paths;
+import java.nio.file.ReadOnlyFileSystemException;
 import java.nio.file.StandardCopyOption;
 import java.util.ArrayList;
 import java.util.List;
@@ -37,7 +40,7 @@ final class LiveFolder {
     static LiveFolder of(Path root, FolderAccess access) {
         try {
             return new LiveFolder(root.toRealPath(), access == FolderAccess.READ_AND_WRITE, true);
-        } catch (IOException failure) {
+        } catch (IOException | RuntimeException failure) {
             throw new Stopped(Answer.shelfFault(failure));
         }
     }
@@ -60,19 +63,24 @@ final class LiveFolder {
             }
         }
         Path path = pathOf(name);
-        return path != null && Files.isRegularFile(path) ? new FolderFile(name, path, mayChange) : null;
+        return path != null && isFile(path) ? new FolderFile(name, this) : null;
+    }
+
+    private static boolean isFile(Path path) {
+        try {
+            return Files.isRegularFile(path);
+        } catch (RuntimeException failure) {
+            throw new Stopped(Answer.shelfFault(failure));
+        }
     }
 
     /** The place of a name, or null where it leads out of the folder, to no folder, or is no UTF-8. */
-    private Path pathOf(String name) {
+    Path pathOf(String name) {
         try {
-            String text = new String(name.getBytes(StandardCharsets.ISO_8859_1), StandardCharsets.UTF_8);
-            if (!GuestFiles.pathOf(text).equals(name)) {
-                return null;
-            }
-            Path path = root.resolve(text);
+            byte[] bytes = name.getBytes(StandardCharsets.ISO_8859_1);
+            Path path = root.resolve(StandardCharsets.UTF_8.newDecoder().decode(ByteBuffer.wrap(bytes)).toString());
             return isConfined ? within(path.normalize()) : path;
-        } catch (InvalidPathException none) {
+        } catch (CharacterCodingException | InvalidPathException none) {
             return null;
         }
     }
@@ -85,7 +93,7 @@ final class LiveFolder {
             return isInside ? path : null;
         } catch (NoSuchFileException missing) {
             return null;
-        } catch (IOException failure) {
+        } catch (IOException | RuntimeException failure) {
             throw new Stopped(Answer.shelfFault(failure));
         }
     }
@@ -103,7 +111,7 @@ final class LiveFolder {
     FolderFile create(String name) throws Refusal {
         Path path = needPath(name);
         change(() -> Files.createFile(path));
-        return new FolderFile(name, path, true);
+        return new FolderFile(name, this);
     }
 
     /** Opens a file, or the call is refused. */
@@ -157,9 +165,9 @@ final class LiveFolder {
             change.make();
         } catch (NoSuchFileException missing) {
             throw new Refusal(Refusal.NO_ENTRY);
-        } catch (AccessDeniedException | FileAlreadyExistsException denied) {
+        } catch (AccessDeniedException | FileAlreadyExistsException | ReadOnlyFileSystemException denied) {
             throw new Refusal(Refusal.DENIED);
-        } catch (IOException failure) {
+        } catch (IOException | RuntimeException failure) {
             throw new Stopped(Answer.shelfFault(failure));
         }
     }

@@ -2,21 +2,30 @@ package nestedvm;
 
 import java.util.Collections;
 import java.util.Map;
+import java.util.TreeMap;
 
-/** How a call of a program ended, and what it left. */
+/**
+ * How a call of a program ended, and what it left.
+ *
+ * <p>That of a function of a {@link Library} which did not return has no files and no output, since the library still has them; of error output it
+ * has the last 4,096 bytes that were not taken.
+ */
 public final class Result {
     private final String name;
     private final Answer answer;
     private final byte[] output;
     private final byte[] errorOutput;
-    private final Map<String, byte[]> files;
+    private final Map<String, MemoryFile> files;
 
-    Result(String name, Answer answer, byte[] output, byte[] errorOutput, Map<String, byte[]> files) {
+    /** The bytes of the files, once they were asked for. */
+    private Map<String, byte[]> contents;
+
+    Result(String name, Answer answer, byte[] output, byte[] errorOutput, Map<String, MemoryFile> files) {
         this.name = name;
         this.answer = answer;
         this.output = output;
         this.errorOutput = errorOutput;
-        this.files = Collections.unmodifiableMap(files);
+        this.files = files;
     }
 
     /**
@@ -97,20 +106,27 @@ public final class Result {
      * The files in memory: those that the call gave and the program did not remove, and those that it made. Files of a folder are not
      * among them.
      *
-     * @return the bytes of each, by their names in order
+     * @return the bytes of each, which are the caller's, by their names in order. A byte of a name that is no part of UTF-8 is the character
+     *     DC00 and its value
      */
-    public Map<String, byte[]> files() {
-        return files;
+    public synchronized Map<String, byte[]> files() {
+        if (contents == null) {
+            Map<String, byte[]> all = new TreeMap<>();
+            files.forEach((file, bytes) -> all.put(file, bytes.ownContent()));
+            contents = Collections.unmodifiableMap(all);
+        }
+        return contents;
     }
 
     /**
      * A file in memory.
      *
      * @param file its name
-     * @return its bytes, or null where there is none of that name
+     * @return its bytes, which are the caller's, or null where there is none of that name
      */
-    public byte[] file(String file) {
-        return files.get(file);
+    public synchronized byte[] file(String file) {
+        MemoryFile found = files.get(file);
+        return found == null ? null : found.ownContent();
     }
 
     /**

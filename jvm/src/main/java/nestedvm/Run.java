@@ -63,14 +63,14 @@ public final class Run {
             if (content == null) {
                 throw new Stopped(Answer.noFile(name));
             }
-            files.add(GuestFiles.pathOf(name), content);
+            files.add(Names.pathOf(name), content);
         }
     }
 
     /** Stores the files of these names that the guest has. */
     private static void keep(GuestFiles files, List<String> names) {
         for (String name : names) {
-            byte[] content = files.contentOf(GuestFiles.pathOf(name));
+            byte[] content = files.contentOf(Names.pathOf(name));
             if (content != null) {
                 Folder.store(name, content);
             }

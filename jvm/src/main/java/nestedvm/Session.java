@@ -1,17 +1,21 @@
 package nestedvm;
 
-import java.io.ByteArrayOutputStream;
-import java.util.Map;
+import java.util.Collections;
 
 /** The system of one run, with what it has of the outside. */
 final class Session implements AutoCloseable {
+    /** The bytes of error output that the result of a failed function shows. */
+    private static final int SHOWN_BYTES = 4096;
+
+    private static final byte[] NOTHING = {};
+
     private final Console console;
     private final GuestFiles files;
     private final GuestSystem system;
-    private final ByteArrayOutputStream output;
-    private final ByteArrayOutputStream errorOutput;
+    private final GatheredOutput output;
+    private final GatheredOutput errorOutput;
 
-    Session(Console console, GuestFiles files, GuestSystem system, ByteArrayOutputStream output, ByteArrayOutputStream errorOutput) {
+    Session(Console console, GuestFiles files, GuestSystem system, GatheredOutput output, GatheredOutput errorOutput) {
         this.console = console;
         this.files = files;
         this.system = system;
@@ -23,24 +27,49 @@ final class Session implements AutoCloseable {
         return system;
     }
 
-    /** What came of a run that has ended so. Where what was gathered does not go out, or files do not close, it ended in that. */
+    GuestFiles files() {
+        return files;
+    }
+
+    /**
+     * What came of a run that has ended so, with all that it has left. Where what was gathered does not go out, or files do not close, it ended in
+     * that; and where there is no memory to tell all of it, in want of memory.
+     */
     Result result(String name, Answer answer) {
         Answer ended = answer;
         try {
-            files.closeAll();
-            if (answer.ending() != Ending.OUTPUT_FAILED) {
+            if (ended.ending() != Ending.OUTPUT_FAILED) {
                 console.flush();
             }
+            files.closeAll();
         } catch (Stopped stopped) {
             ended = stopped.answer();
+        } catch (OutOfMemoryError end) {
+            return emptyResult(name, end);
         }
-        return resultNow(name, ended);
+        return resultOf(name, ended);
     }
 
-    /** The result with what there is now. */
-    Result resultNow(String name, Answer answer) {
-        Map<String, byte[]> contents = files.contents();
-        return new Result(name, answer, output.toByteArray(), errorOutput.toByteArray(), contents);
+    private Result resultOf(String name, Answer answer) {
+        try {
+            return new Result(name, answer, output.take(), errorOutput.take(), files.leave());
+        } catch (OutOfMemoryError end) {
+            return emptyResult(name, end);
+        }
+    }
+
+    private static Result emptyResult(String name, OutOfMemoryError end) {
+        return new Result(name, Answer.trapped(Traps.NO_MEMORY, end), NOTHING, NOTHING, Collections.emptyMap());
+    }
+
+    /** What came of a function that did not return: the run goes on, so it keeps its files and what it has written. */
+    Result failure(String name, Answer answer) {
+        return new Result(name, answer, NOTHING, errorOutput.last(SHOWN_BYTES), Collections.emptyMap());
+    }
+
+    /** Forgets that an output has failed: what was gathered for it then is lost, and what is written from now on is tried again. */
+    void forgetFailure() {
+        console.forgetFailure();
     }
 
     /** Lets what was gathered go out. */
@@ -50,14 +79,21 @@ final class Session implements AutoCloseable {
 
     /** Takes what was gathered of output since the last time. */
     byte[] takeOutput() {
-        byte[] bytes = output.toByteArray();
-        output.reset();
-        return bytes;
+        return output.take();
     }
 
-    /** Closes the files of the folder, whatever stands for them. */
+    /** Takes what was gathered of error output since the last time. */
+    byte[] takeErrorOutput() {
+        return errorOutput.take();
+    }
+
+    /** Closes the files of the folder, whatever stands for them. It does so also where one fails, which then ended the run. */
     @Override
     public void close() {
-        files.closeAll();
+        try {
+            files.closeAll();
+        } catch (Stopped failure) {
+            // A run that has ended has told it already, and one that was given up has nobody to tell.
+        }
     }
 }

@@ -2,6 +2,9 @@ package nestedvm;
 
 /** The traps of the class machine, as a virtual machine throws them. */
 final class Traps {
+    /** The number of the trap of memory that has ended. */
+    static final int NO_MEMORY = 6;
+
     private Traps() {
     }
 
@@ -37,6 +40,6 @@ final class Traps {
         if (thrown instanceof StackOverflowError) {
             return 5;
         }
-        return thrown instanceof OutOfMemoryError ? 6 : 0;
+        return thrown instanceof OutOfMemoryError ? NO_MEMORY : 0;
     }
 }

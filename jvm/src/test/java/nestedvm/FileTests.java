@@ -1,14 +1,23 @@
 package nestedvm;
 
 import static org.junit.jupiter.api.Assertions.assertEquals;
+import static org.junit.jupiter.api.Assertions.assertNotSame;
+import static org.junit.jupiter.api.Assertions.assertNull;
+import static org.junit.jupiter.api.Assertions.assertSame;
 import static org.junit.jupiter.api.Assertions.assertThrows;
 import static org.junit.jupiter.api.Assertions.assertTrue;
 
 import java.io.IOException;
+import java.net.URI;
+import java.nio.file.FileSystem;
+import java.nio.file.FileSystems;
 import java.nio.file.Files;
 import java.nio.file.Path;
 import java.util.Arrays;
+import java.util.Collections;
 import java.util.TreeSet;
+import java.util.concurrent.CountDownLatch;
+import java.util.concurrent.atomic.AtomicInteger;
 import org.junit.jupiter.api.DisplayName;
 import org.junit.jupiter.api.Test;
 
@@ -59,6 +68,83 @@ final class FileTests {
         result.file("\u00e4")[0] = 0;
         assertEquals("content", Texts.text(content));
         answers("-28\n-28\n", deeds.call("copy", "a", "b", "copy", "a", "c").file("a", content).blocks(1).run());
+    }
+
+    @Test
+    @DisplayName("names that are no UTF-8")
+    void rawNames() throws IOException {
+        Result result = deeds.call("copy", "a", "\udce9", "copy", "a", "\u00e9", "copy", "a", "x\udcc3", "rename", "\udcff\udcfe", "y").file("a", new byte[3])
+            .file("\udcff\udcfe", new byte[2]).run();
+        answers("0\n0\n0\n0\n", result);
+        assertEquals(new TreeSet<>(Arrays.asList("a", "\udce9", "\u00e9", "x\udcc3", "y")), result.files().keySet());
+        assertEquals(3, result.file("\udce9").length);
+        assertEquals(2, result.file("y").length);
+        assertEquals("n\udce9\n", Names.textOf(deeds.call("n\udce9").run().output()));
+        answers(NO_ENTRY + "\n", inFolder(FolderAccess.READ, "open", "\udce9").run());
+    }
+
+    @Test
+    @DisplayName("a file that is given is copied where it is changed, and only there")
+    void copies() {
+        byte[] large = new byte[24_000_000];
+        byte[] small = Texts.bytes("small");
+        Result result = deeds.call("copy", "small", "other", "copy", "other", "small", "open", "large").file("small", small).file("large", large).run();
+        answers("0\n0\n3\n", result);
+        assertEquals("small", Texts.text(small));
+        assertNotSame(small, result.file("small"));
+        assertSame(result.file("other"), result.file("other"));
+        result.file("small")[0] = 0;
+        assertEquals("small", Texts.text(small));
+    }
+
+    @Test
+    @DisplayName("a file of a folder is read again after an interrupt")
+    void readAfterInterrupt() throws Exception {
+        Files.write(folder.resolve("large"), new byte[65_536]);
+        AtomicInteger interrupts = new AtomicInteger();
+        CountDownLatch opened = new CountDownLatch(1);
+        Throwable[] failure = new Throwable[1];
+        Thread reading = new Thread(() -> {
+            try (SystemCalls calls = new SystemCalls(Guests.program("syscalls").call().folder(folder, FolderAccess.READ_AND_WRITE).library())) {
+                int file = calls.open("large");
+                opened.countDown();
+                while (interrupts.get() < 30) {
+                    try {
+                        assertEquals(0, calls.call(SystemCalls.SEEK, file, 0, 0));
+                        assertEquals(65_536, calls.call(SystemCalls.READ, file, calls.room(), 65_536));
+                    } catch (CallFailed interrupted) {
+                        assertEquals(Ending.INTERRUPTED, interrupted.result().ending());
+                        interrupts.incrementAndGet();
+                    }
+                }
+            } catch (IOException | RuntimeException | Error thrown) {
+                failure[0] = thrown;
+            }
+        });
+        reading.start();
+        opened.await();
+        while (reading.isAlive()) {
+            reading.interrupt();
+            reading.join(1);
+        }
+        assertNull(failure[0]);
+    }
+
+    @Test
+    @DisplayName("a file of a folder that cannot be closed")
+    void closeFails() throws IOException {
+        Path zip = top.resolve("files.zip");
+        FileSystem files = FileSystems.newFileSystem(URI.create("jar:" + zip.toUri()), Collections.singletonMap("create", "true"));
+        Path inZip = Files.createDirectory(files.getPath("/folder"));
+        Files.write(inZip.resolve("a"), Texts.bytes("inside"));
+        SystemCalls calls = new SystemCalls(Guests.program("syscalls").call().folder(inZip, FolderAccess.READ_AND_WRITE).library());
+        int file = calls.open("a");
+        assertEquals(6, calls.call(SystemCalls.READ, file, calls.room(), 10));
+        files.close();
+        CallFailed failed = assertThrows(CallFailed.class, calls::close);
+        assertEquals(Ending.FOLDER_FAILED, failed.result().ending());
+        calls.close();
+        assertThrows(IllegalArgumentException.class, () -> deeds.call().folder(inZip, FolderAccess.READ).run());
     }
 
     @Test

@@ -1,12 +1,19 @@
 package nestedvm;
 
 import static org.junit.jupiter.api.Assertions.assertEquals;
+import static org.junit.jupiter.api.Assertions.assertNull;
 import static org.junit.jupiter.api.Assertions.assertThrows;
 import static org.junit.jupiter.api.Assertions.assertTrue;
 import static org.junit.jupiter.params.provider.Arguments.arguments;
 
+import java.io.ByteArrayOutputStream;
 import java.io.IOException;
+import java.io.InputStream;
+import java.io.OutputStream;
+import java.util.ArrayList;
 import java.util.Arrays;
+import java.util.Collections;
+import java.util.List;
 import java.util.Random;
 import java.util.stream.Stream;
 import org.junit.jupiter.api.DisplayName;
@@ -14,6 +21,7 @@ import org.junit.jupiter.api.Test;
 import org.junit.jupiter.params.ParameterizedTest;
 import org.junit.jupiter.params.provider.Arguments;
 import org.junit.jupiter.params.provider.MethodSource;
+import org.junit.jupiter.params.provider.ValueSource;
 
 /** Functions of resident programs, of both orders of bytes. */
 final class LibraryTests {
@@ -22,6 +30,7 @@ final class LibraryTests {
             arguments("big-endian", Guests.program("functions")),
             arguments("little-endian", Guests.program("functions-little")));
     }
+
     @ParameterizedTest(name = "{0}: arguments and values")
     @MethodSource("programs")
     void values(String name, Program program) {
@@ -163,6 +172,124 @@ final class LibraryTests {
             }
             assertEquals(4001, library.call(next));
         }
+    }
+
+    /** Input that does something when it is read, and has one byte. */
+    private static InputStream input(Runnable deed) {
+        return new InputStream() {
+            @Override
+            public int read() {
+                return 0;
+            }
+
+            @Override
+            public int read(byte[] into, int at, int count) {
+                deed.run();
+                return 1;
+            }
+        };
+    }
+
+    @Test
+    @DisplayName("a call from a stream of the library, while a function runs")
+    void callFromStream() throws IOException {
+        SystemCalls[] calls = new SystemCalls[1];
+        List<IllegalStateException> thrown = new ArrayList<>();
+        Call call = Guests.program("syscalls").call()
+            .input(input(() -> thrown.add(assertThrows(IllegalStateException.class, () -> calls[0].call(SystemCalls.WRITE, 1, 0, 0)))));
+        calls[0] = new SystemCalls(call.library());
+        try (SystemCalls open = calls[0]) {
+            assertEquals(1, open.call(SystemCalls.READ, 0, open.room(), 1));
+            assertEquals(1, thrown.size());
+            assertEquals(1, open.call(SystemCalls.READ, 0, open.room(), 1));
+        }
+    }
+
+    @Test
+    @DisplayName("a library that is closed by a stream, while a function runs")
+    void closeFromStream() throws IOException {
+        Program program = Guests.program("syscalls");
+        SystemCalls[] calls = new SystemCalls[1];
+        SystemCalls[] other = new SystemCalls[1];
+        calls[0] = new SystemCalls(program.call().input(input(() -> {
+            calls[0].close();
+            other[0] = new SystemCalls(program.call().library());
+            other[0].library().setWord(other[0].room(), 0x11223344);
+        })).library());
+        calls[0].library().setWord(calls[0].room() + 4, 0x55667788);
+        assertEquals(1, calls[0].call(SystemCalls.READ, 0, calls[0].room(), 1));
+        assertThrows(IllegalStateException.class, () -> calls[0].call(SystemCalls.READ, 0, calls[0].room(), 1));
+        assertThrows(IllegalStateException.class, () -> calls[0].library().word(calls[0].room()));
+        assertEquals(0x11223344, other[0].library().word(other[0].room()));
+        assertEquals(0, other[0].library().word(other[0].room() + 4));
+        other[0].close();
+    }
+
+    @Test
+    @DisplayName("an interrupt before a function returns does not take its value away")
+    void interruptBeforeTheEnd() throws IOException {
+        try (SystemCalls calls = new SystemCalls(Guests.program("syscalls").call().input(new InterruptingInput("")).library())) {
+            assertEquals(0, calls.call(SystemCalls.READ, 0, calls.room(), 1));
+            assertTrue(Thread.interrupted(), "the thread is no longer interrupted");
+        }
+    }
+
+    @Test
+    @DisplayName("an output that fails once, and further calls")
+    void outputFailsOnce() throws IOException {
+        ByteArrayOutputStream written = new ByteArrayOutputStream();
+        boolean[] fails = {true};
+        OutputStream output = new OutputStream() {
+            @Override
+            public void write(int value) throws IOException {
+                if (fails[0]) {
+                    throw new IOException("full");
+                }
+                written.write(value);
+            }
+        };
+        try (SystemCalls calls = new SystemCalls(Guests.program("syscalls").call().output(output).library())) {
+            calls.library().write(calls.room(), Texts.bytes("first second"));
+            CallFailed failed = assertThrows(CallFailed.class, () -> calls.call(SystemCalls.WRITE, 1, calls.room(), 5));
+            assertEquals(Ending.OUTPUT_FAILED, failed.result().ending());
+            assertEquals("full", failed.getCause().getMessage());
+            fails[0] = false;
+            assertEquals(6, calls.call(SystemCalls.WRITE, 1, calls.room() + 6, 6));
+            assertEquals("second", Texts.text(written.toByteArray()));
+        }
+    }
+
+    @Test
+    @DisplayName("a function that fails beside large files")
+    void failsBesideFiles() throws IOException {
+        Call call = Guests.program("syscalls").call().file("large", new byte[24_000_000]).mostOutput(20);
+        try (SystemCalls calls = new SystemCalls(call.library())) {
+            calls.library().write(calls.room(), Texts.bytes("to output to errors "));
+            assertEquals(10, calls.call(SystemCalls.WRITE, 1, calls.room(), 10));
+            assertEquals(10, calls.call(SystemCalls.WRITE, 2, calls.room() + 10, 10));
+            CallFailed failed = assertThrows(CallFailed.class, () -> calls.library().call(4));
+            assertTrue(failed.getMessage().endsWith("to errors"), failed.getMessage());
+            assertEquals(0, failed.result().output().length);
+            assertTrue(failed.result().files().isEmpty(), "the result has files");
+            assertEquals("to output ", Texts.text(calls.library().takeOutput()));
+            assertEquals("to errors ", Texts.text(calls.library().takeErrorOutput()));
+            assertEquals("", Texts.text(calls.library().takeErrorOutput()));
+            assertEquals(Collections.singleton("large"), calls.library().files());
+            assertEquals(24_000_000, calls.library().file("large").length);
+            assertNull(calls.library().file("none"));
+            assertEquals(20, calls.call(SystemCalls.WRITE, 1, calls.room(), 20));
+            assertEquals(Ending.OUTPUT_FAILED, assertThrows(CallFailed.class, () -> calls.call(SystemCalls.WRITE, 1, calls.room(), 1)).result().ending());
+            assertEquals(20, calls.library().takeOutput().length);
+            assertEquals(1, calls.call(SystemCalls.WRITE, 1, calls.room(), 1));
+        }
+    }
+
+    @ParameterizedTest(name = "a table of functions that no program should tell: {0}")
+    @ValueSource(strings = {"many", "stray", "endless", "none"})
+    void hostileTable(String kind) throws IOException {
+        Program program = Guests.program("syscalls");
+        assertThrows(IllegalArgumentException.class, () -> program.call(kind).library());
+        program.call().library().close();
     }
 
     @Test

@@ -1,6 +1,7 @@
 package nestedvm;
 
 import static org.junit.jupiter.api.Assertions.assertEquals;
+import static org.junit.jupiter.api.Assertions.assertNotEquals;
 import static org.junit.jupiter.api.Assertions.assertThrows;
 import static org.junit.jupiter.api.Assertions.assertTrue;
 import static org.junit.jupiter.api.Assumptions.assumeTrue;
@@ -14,6 +15,7 @@ import java.util.ArrayList;
 import java.util.Arrays;
 import java.util.Collections;
 import java.util.List;
+import java.util.Locale;
 import java.util.concurrent.CountDownLatch;
 import java.util.concurrent.ExecutorService;
 import java.util.concurrent.Executors;
@@ -182,6 +184,61 @@ final class ProgramTests {
         assertEquals(130, results.get(0).status());
         assertEquals("before\n", Texts.text(results.get(0).output()));
         exited(1, "1\nMain\n", results.get(1));
+    }
+
+    @Test
+    @DisplayName("an interrupt before a program leaves does not take its end away")
+    void interruptBeforeTheEnd() {
+        Result result = deeds.call("count", "echo").input(new InterruptingInput("x\n")).run();
+        assertTrue(Thread.interrupted(), "the thread is no longer interrupted");
+        exited(1, "1\nx\n", result);
+    }
+
+    @Test
+    @DisplayName("output that is gathered has a limit")
+    void mostOutput() {
+        Result result = deeds.call("flood").mostOutput(10_000).run();
+        assertEquals(Ending.OUTPUT_FAILED, result.ending());
+        assertEquals("more than 10000 bytes of output are not gathered", result.cause().getMessage());
+        assertTrue(result.output().length <= 10_000, "more was gathered");
+        exited(1, "1\n", deeds.call("count").mostOutput(2).run());
+        assertThrows(IllegalArgumentException.class, () -> deeds.call().mostOutput(-1));
+        works();
+    }
+
+    @Test
+    @DisplayName("a program that takes all memory there is")
+    void noMemoryLeft() {
+        assumeTrue(Runtime.getRuntime().maxMemory() < 100_000_000, "the memory of this virtual machine is large");
+        for (int i = 0; i < 3; i++) {
+            Result flood = deeds.call("flood").mostOutput(Integer.MAX_VALUE).run();
+            assertEquals("trap 6", flood.line());
+            Result grow = deeds.call("grow", "f").run();
+            assertEquals("trap 6", grow.line());
+            works();
+        }
+        exited(0, "-28\n", deeds.call("grow", "f").blocks(1000).run());
+    }
+
+    @Test
+    @DisplayName("a spent meter is fault 12")
+    void spentMeter() throws IOException {
+        Result result = Guests.program("deeds", "--meter", "1000").call("work").run();
+        assertEquals(Ending.FAULTED, result.ending());
+        assertEquals(12, result.fault().kind());
+    }
+
+    @Test
+    @DisplayName("messages have the digits of no language")
+    void locale() {
+        Locale before = Locale.getDefault();
+        Locale.setDefault(Locale.forLanguageTag("ar-EG-u-nu-arab"));
+        try {
+            assertNotEquals("3", String.format("%d", 3));
+            assertTrue(deeds.call("fault").run().line().matches("fault 3 pc [0-9A-F]{8} value 00000004"), "other digits");
+        } finally {
+            Locale.setDefault(before);
+        }
     }
 
     @Test
