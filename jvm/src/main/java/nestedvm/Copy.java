@@ -27,7 +27,7 @@ final class Copy {
 
     /** Loads and verifies the main class. The others are loaded as they are used. */
     Copy(ClassSource source, String name) throws ReflectiveOperationException {
-        main = Class.forName(name, true, new ProgramClasses(source));
+        main = Class.forName(name, true, new ProgramClasses(source, name));
         fields = new StaticFields(main);
         run = method("run");
     }

@@ -32,7 +32,8 @@ public final class Program {
      * @param resources the class loader
      * @param main the resource of the main class without {@code .class}, as {@code bzip2/Bzip2}; the other classes stand beside it
      * @return the program
-     * @throws IllegalArgumentException where there is no such class, or it is no main class of a program
+     * @throws IllegalArgumentException where there is no such class, or it is no main class of a program, or it names other classes than {@code Object},
+     *     {@code String}, {@code Host} and those of the program. Of a further class that is told when it is first used, by a {@link LinkageError}
      */
     public static Program of(ClassLoader resources, String main) {
         int start = main.lastIndexOf('/') + 1;
@@ -47,10 +48,11 @@ public final class Program {
      * @param className the name of the main class
      * @return the program
      * @throws IOException where the folder or a file cannot be read
-     * @throws IllegalArgumentException where there is no such class, or it is no main class of a program
+     * @throws IllegalArgumentException where there is no such class, or it is no main class of a program, or where a class of the program names others
+     *     than {@code Object}, {@code String}, {@code Host} and classes of the program
      */
     public static Program inFolder(Path folder, String className) throws IOException {
-        return new Program(StoredSource.ofFolder(folder, className), className, className);
+        return new Program(accepted(() -> StoredSource.ofFolder(folder, className)), className, className);
     }
 
     /**
@@ -59,7 +61,7 @@ public final class Program {
      * @param jar the jar
      * @return the program
      * @throws IOException where the jar cannot be read
-     * @throws IllegalArgumentException where its manifest names no program, or there is no such class
+     * @throws IllegalArgumentException where its manifest names no program, or as {@link #inFolder}
      */
     public static Program inJar(Path jar) throws IOException {
         try (ZipFile file = new ZipFile(jar.toFile())) {
@@ -67,7 +69,20 @@ public final class Program {
             if (entry == null) {
                 throw new IllegalArgumentException(jar + " names no program");
             }
-            return new Program(StoredSource.ofJar(file, entry.folder(), entry.className()), entry.className(), entry.name());
+            ClassSource classes = accepted(() -> StoredSource.ofJar(file, entry.folder(), entry.className()));
+            return new Program(classes, entry.className(), entry.name());
+        }
+    }
+
+    private interface Reading {
+        ClassSource read() throws IOException;
+    }
+
+    private static ClassSource accepted(Reading reading) throws IOException {
+        try {
+            return reading.read();
+        } catch (LinkageError refused) {
+            throw new IllegalArgumentException(refused.getMessage(), refused);
         }
     }
 
@@ -102,7 +117,7 @@ public final class Program {
         try {
             return new Copy(source, className);
         } catch (ReflectiveOperationException | LinkageError refused) {
-            throw new IllegalArgumentException(className + " is no main class of a program", refused);
+            throw new IllegalArgumentException(className + " is no main class of a program: " + refused.getMessage(), refused);
         }
     }
 

@@ -13,8 +13,11 @@ final class StaticFields {
     private final List<Field> ints = new ArrayList<>();
     private final List<Field> references = new ArrayList<>();
 
-    /** Those of a class that was just loaded. */
-    StaticFields(Class<?> holder) {
+    /** Those of a class that was just loaded, which is public. */
+    StaticFields(Class<?> holder) throws IllegalAccessException {
+        if (!Modifier.isPublic(holder.getModifiers())) {
+            throw new IllegalAccessException(holder.getName() + " is not public");
+        }
         for (Field field : holder.getFields()) {
             if (Modifier.isStatic(field.getModifiers()) && !Modifier.isFinal(field.getModifiers())) {
                 (field.getType() == int.class ? ints : references).add(field);

@@ -11,15 +11,15 @@ import java.util.Map;
 import java.util.zip.ZipEntry;
 import java.util.zip.ZipFile;
 
-/** The class files of a program, all read when it was made. */
+/** The class files of a program, all read, and held to their confinement, when it was made. */
 final class StoredSource implements ClassSource {
     private static final String SUFFIX = ".class";
 
     private final Map<String, byte[]> files = new HashMap<>();
-    private final String name;
+    private final Confinement confinement;
 
     private StoredSource(String name) {
-        this.name = name;
+        confinement = new Confinement(name);
     }
 
     /** The class files of the program of a name in a folder. */
@@ -51,13 +51,17 @@ final class StoredSource implements ClassSource {
         return source;
     }
 
-    /** A program NAME has the classes NAME, NAME_0 and on, and NAME_D0 and on. */
     private boolean isOwn(String file) {
-        return file.equals(name + SUFFIX) || file.startsWith(name + "_") && file.endsWith(SUFFIX) && file.indexOf('/') < 0;
+        return file.endsWith(SUFFIX) && confinement.isOwn(classOf(file));
+    }
+
+    private static String classOf(String file) {
+        return file.substring(0, file.length() - SUFFIX.length());
     }
 
     private void add(String file, byte[] content) {
-        files.put(file.substring(0, file.length() - SUFFIX.length()), content);
+        confinement.check(classOf(file), content);
+        files.put(classOf(file), content);
     }
 
     @Override

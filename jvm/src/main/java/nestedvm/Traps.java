@@ -8,7 +8,7 @@ final class Traps {
     private Traps() {
     }
 
-    /** The trap in which the class machine ends where a virtual machine throws this; what is no trap is thrown on. */
+    /** The trap in which the class machine ends where a virtual machine throws this; an error that is no trap is thrown on. */
     static Answer answerTo(Throwable thrown) {
         int trap = numberOf(thrown);
         if (trap != 0) {
@@ -17,10 +17,7 @@ final class Traps {
         if (thrown instanceof Error) {
             throw (Error) thrown;
         }
-        if (thrown instanceof RuntimeException) {
-            throw (RuntimeException) thrown;
-        }
-        throw new IllegalStateException(thrown);
+        throw new LinkageError("a class does what no translated class does: " + thrown, thrown);
     }
 
     /** The number of the trap, or 0 where this is none. */
