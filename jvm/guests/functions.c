@@ -1,9 +1,11 @@
 /* Functions for a host that calls them: the program stays, and tells them by a table (docs/HOST.md). */
 #include "calls.h"
+#include "heap.h"
 
-/* hands the table to the host, and is ready (resident.s) */
-int resident(const void *table, const void *back);
-extern const char back[];
+#include <nested/resident.h>
+
+/* hands the table to the host, and is ready (guest/system/resident.S) */
+void nested_resident(const struct nested_function *table);
 
 static int count;
 
@@ -52,48 +54,15 @@ static void wait(void) {
     for (;;) syscall3(TIME, 0, 0, 0);
 }
 
-/* ---- a heap: blocks that were given back are taken again where they are large enough */
+/* ---- the table */
 
-struct block {
-    unsigned size;
-    struct block *next;
-};
-
-static struct block *given_back;
-
-static void *malloc(unsigned size) {
-    size = (size + 7) & ~7u;
-    for (struct block **at = &given_back; *at; at = &(*at)->next) {
-        if ((*at)->size >= size) {
-            struct block *found = *at;
-            *at = found->next;
-            return found + 1;
-        }
-    }
-    int start = syscall3(SBRK, (int)(size + sizeof(struct block)), 0, 0);
-    if (start < 0) return 0;
-    struct block *made = (struct block *)start;
-    made->size = size;
-    return made + 1;
-}
-
-static void free(void *place) {
-    struct block *block = (struct block *)place - 1;
-    block->next = given_back;
-    given_back = block;
-}
-
-/* ---- the table: a name and a function in turn, and 0 behind them */
-
-static const struct {
-    const char *name;
-    const void *function;
-} table[] = {
-    {"add", add}, {"six", six}, {"deep", deep}, {"next", next}, {"sum", sum}, {"wide", wide}, {"say", say},
-    {"load", load}, {"leave", leave}, {"wait", wait}, {"malloc", malloc}, {"free", free}, {0, 0},
+static const struct nested_function table[] = {
+    NESTED_FUNCTION(add), NESTED_FUNCTION(six), NESTED_FUNCTION(deep), NESTED_FUNCTION(next), NESTED_FUNCTION(sum),
+    NESTED_FUNCTION(wide), NESTED_FUNCTION(say), NESTED_FUNCTION(load), NESTED_FUNCTION(leave), NESTED_FUNCTION(wait),
+    NESTED_FUNCTION(malloc), NESTED_FUNCTION(free), NESTED_END,
 };
 
 int main(void) {
-    resident(table, back);
+    nested_resident(table);
     return 1; /* no host that calls functions */
 }

@@ -66,6 +66,10 @@ final class Answer {
         return failed(Ending.FOLDER_FAILED, 76, "shelf fault", cause);
     }
 
+    static Answer callbackFailed(Throwable cause) {
+        return failed(Ending.CALLBACK_FAILED, 85, "callback " + cause, cause);
+    }
+
     static Answer usage() {
         return withoutRun(64, "usage 2");
     }

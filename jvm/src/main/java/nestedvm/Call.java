@@ -220,10 +220,11 @@ public final class Call {
      * @throws LinkageError where a class of the program cannot be loaded
      */
     public Library library() {
-        Session session = session(new ResidentCalls());
+        ResidentCalls calls = new ResidentCalls();
+        Session session = session(calls);
         Copy copy = program.takeCopy();
         try {
-            return new Library(name, program, copy, session);
+            return new Library(name, program, copy, session, calls);
         } catch (RuntimeException | Error thrown) {
             session.close();
             copy.forget();

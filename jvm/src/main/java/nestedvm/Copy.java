@@ -74,7 +74,9 @@ final class Copy {
 
     /** Runs a method of the main class in this thread, over a system. */
     static Answer play(MethodHandle method, GuestSystem system) {
-        GuestSystem before = Host.answerBy(system);
+        Object[] answering = Host.answering();
+        Object before = answering[0];
+        answering[0] = system;
         try {
             method.invokeExact();
             return Answer.exited(0);
@@ -85,7 +87,7 @@ final class Copy {
         } catch (Throwable thrown) {
             return Traps.answerTo(thrown);
         } finally {
-            Host.answerBy(before);
+            answering[0] = before;
         }
     }
 

@@ -21,5 +21,8 @@ public enum Ending {
     OUTPUT_FAILED,
 
     /** The folder of files failed. */
-    FOLDER_FAILED
+    FOLDER_FAILED,
+
+    /** A function of Java that the program called threw. */
+    CALLBACK_FAILED
 }

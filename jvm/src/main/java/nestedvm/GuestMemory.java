@@ -1,6 +1,6 @@
 package nestedvm;
 
-import java.io.ByteArrayOutputStream;
+import java.nio.ByteBuffer;
 import java.nio.charset.Charset;
 import java.nio.charset.StandardCharsets;
 
@@ -11,6 +11,7 @@ import java.nio.charset.StandardCharsets;
  */
 final class GuestMemory {
     private static final long END = 1L << 32;
+    private static final int WORD_BYTES = 4;
     private static final int PAGE_BYTES = 4096;
     private static final int PAGE_MASK = PAGE_BYTES - 1;
     private static final int WORD_MASK = 1023;
@@ -70,6 +71,12 @@ final class GuestMemory {
         return page != null && wordAt(address) < page.length ? page : null;
     }
 
+    /** The page from which the word at an address is read, or null. */
+    private int[] readablePageAt(int address) {
+        int[] page = pageAt(readable, address);
+        return page == null ? pageAt(writable, address) : page;
+    }
+
     private static int wordAt(int address) {
         return (address >>> 2) & WORD_MASK;
     }
@@ -81,17 +88,37 @@ final class GuestMemory {
 
     /** The byte at an address, or -1 where it cannot be read. */
     private int byteAt(int address) {
-        int[] page = pageAt(readable, address);
-        if (page == null) {
-            page = pageAt(writable, address);
-        }
+        int[] page = readablePageAt(address);
         return page == null ? -1 : (page[wordAt(address)] >>> shiftAt(address)) & 0xFF;
     }
 
     /** Copies bytes that can be read, from an address on, to a place of an array. */
     void copy(int address, byte[] into, int place, int count) {
-        for (int i = 0; i < count; i++) {
-            into[place + i] = (byte) byteAt(address + i);
+        int done = 0;
+        while (done < count) {
+            int part = partOfPage(address + done, count - done);
+            copyFrom(readablePageAt(address + done), address + done, into, place + done, part);
+            done += part;
+        }
+    }
+
+    /** How many of some bytes are in the page in which they begin. */
+    private static int partOfPage(int address, int count) {
+        return Math.min(count, PAGE_BYTES - (address & PAGE_MASK));
+    }
+
+    /** Copies bytes of one page: whole words at once, and what stands before and behind them one by one. */
+    private static void copyFrom(int[] page, int address, byte[] into, int place, int count) {
+        int done = 0;
+        while (done < count) {
+            int words = (address + done & 3) == 0 ? (count - done) / WORD_BYTES : 0;
+            if (words > 0) {
+                ByteBuffer.wrap(into, place + done, words * WORD_BYTES).asIntBuffer().put(page, wordAt(address + done), words);
+                done += words * WORD_BYTES;
+            } else {
+                into[place + done] = (byte) (page[wordAt(address + done)] >>> shiftAt(address + done));
+                done++;
+            }
         }
     }
 
@@ -108,18 +135,47 @@ final class GuestMemory {
 
     /** The bytes from an address up to the first zero, or the call is refused. */
     byte[] bytesToZero(int address) throws Refusal {
-        ByteArrayOutputStream bytes = new ByteArrayOutputStream();
-        for (long i = 0; i < bytesFrom(address); i++) {
-            int value = byteAt(address + (int) i);
-            if (value == 0) {
-                return bytes.toByteArray();
-            }
-            if (value < 0) {
-                break;
-            }
-            bytes.write(value);
+        int length = 0;
+        int value = byteAt(address);
+        while (value > 0) {
+            length++;
+            value = length < bytesFrom(address) ? byteAt(address + length) : -1;
         }
-        throw new Refusal(Refusal.BAD_ADDRESS);
+        if (value < 0) {
+            throw new Refusal(Refusal.BAD_ADDRESS);
+        }
+        byte[] bytes = new byte[length];
+        copy(address, bytes, 0, length);
+        return bytes;
+    }
+
+    /** The number that one, two or four bytes are, of which the first one counts most; or the call is refused. */
+    int number(int address, int count) throws Refusal {
+        if (count == WORD_BYTES && (address & 3) == 0) {
+            int[] page = readablePageAt(address);
+            if (page == null) {
+                throw new Refusal(Refusal.BAD_ADDRESS);
+            }
+            return page[wordAt(address)];
+        }
+        needBytes(address, count);
+        int number = 0;
+        for (int i = 0; i < count; i++) {
+            number = number << 8 | byteAt(address + i);
+        }
+        return number;
+    }
+
+    /** Puts such a number where it may be written, or the call is refused. */
+    void setNumber(int address, int count, int number) throws Refusal {
+        needRoom(address, count);
+        if (count == WORD_BYTES && (address & 3) == 0) {
+            pageAt(writable, address)[wordAt(address)] = number;
+            return;
+        }
+        for (int i = 0; i < count; i++) {
+            put(address + i, number >>> 8 * (count - 1 - i));
+        }
     }
 
     /** Puts a byte where it may be written. */
@@ -132,8 +188,26 @@ final class GuestMemory {
 
     /** Puts bytes from a place of an array on where they may be written, from an address on. */
     void put(int address, byte[] bytes, int place, int count) {
-        for (int i = 0; i < count; i++) {
-            put(address + i, bytes[place + i]);
+        int done = 0;
+        while (done < count) {
+            int part = partOfPage(address + done, count - done);
+            putInto(pageAt(writable, address + done), address + done, bytes, place + done, part);
+            done += part;
+        }
+    }
+
+    /** Puts bytes into one page: whole words at once, and what stands before and behind them one by one. */
+    private void putInto(int[] page, int address, byte[] bytes, int place, int count) {
+        int done = 0;
+        while (done < count) {
+            int words = (address + done & 3) == 0 ? (count - done) / WORD_BYTES : 0;
+            if (words > 0) {
+                ByteBuffer.wrap(bytes, place + done, words * WORD_BYTES).asIntBuffer().get(page, wordAt(address + done), words);
+                done += words * WORD_BYTES;
+            } else {
+                put(address + done, bytes[place + done]);
+                done++;
+            }
         }
     }
 

@@ -59,7 +59,7 @@ final class GuestSystem {
             throw new Stopped(Answer.interrupted());
         }
         try {
-            return serve(memory, number, a0, a1, a2, a3);
+            return number < HostCalls.FIRST ? serve(memory, number, a0, a1, a2, a3) : hostCalls.answer(number, a0, a1, a2, a3);
         } catch (Refusal refusal) {
             return refusal.error();
         }
@@ -100,15 +100,8 @@ final class GuestSystem {
             case 15:
                 return descriptors.need(a0).isConsole() ? 1 : 0;
             default:
-                return serveHostCall(number, a0, a1, a2, a3);
+                throw new Refusal(Refusal.NO_CALL);
         }
-    }
-
-    private int serveHostCall(int number, int a0, int a1, int a2, int a3) throws Refusal {
-        if (number < HostCalls.FIRST) {
-            throw new Refusal(Refusal.NO_CALL);
-        }
-        return hostCalls.answer(number, a0, a1, a2, a3);
     }
 
     private int begin(GuestMemory memory, int place, int heapStart, int heapBytes, int orderNumber) throws Refusal {

@@ -7,21 +7,20 @@ package nestedvm;
  * {@link Program}, {@link Library} or {@link Run} runs them. The contract stands in docs/HOST.md, and the calls in docs/CALLS.md.
  */
 public final class Host {
-    /** The system of the run that each thread makes, none where it makes none. */
-    private static final ThreadLocal<GuestSystem> SYSTEMS = new ThreadLocal<>();
+    /** Of each thread one element: the system of the run that it makes, null where it makes none. */
+    private static final ThreadLocal<Object[]> SYSTEMS = new ThreadLocal<>();
 
     private Host() {
     }
 
-    /** From now on this system answers the calls of this thread, or none; the one that did before. */
-    static GuestSystem answerBy(GuestSystem system) {
-        GuestSystem before = SYSTEMS.get();
-        if (system == null) {
-            SYSTEMS.remove();
-        } else {
-            SYSTEMS.set(system);
+    /** The place of the system that answers the calls of this thread. Setting it takes no stack, so it can be set back where the stack has ended. */
+    static Object[] answering() {
+        Object[] place = SYSTEMS.get();
+        if (place == null) {
+            place = new Object[1];
+            SYSTEMS.set(place);
         }
-        return before;
+        return place;
     }
 
     /**
@@ -38,7 +37,7 @@ public final class Host {
      * @throws IllegalStateException where this thread makes no run
      */
     public static int call(int[][] readable, int[][] writable, int number, int a0, int a1, int a2, int a3) {
-        GuestSystem system = SYSTEMS.get();
+        GuestSystem system = (GuestSystem) answering()[0];
         if (system == null) {
             throw new IllegalStateException("classes are run by nestedvm.Program, nestedvm.Library or nestedvm.Run");
         }

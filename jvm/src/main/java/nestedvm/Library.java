@@ -1,10 +1,9 @@
 package nestedvm;
 
-import java.nio.ByteBuffer;
+import java.nio.ByteOrder;
 import java.nio.charset.StandardCharsets;
 import java.util.Collections;
 import java.util.LinkedHashMap;
-import java.util.Locale;
 import java.util.Map;
 import java.util.Set;
 
@@ -21,7 +20,6 @@ import java.util.Set;
  */
 public final class Library implements AutoCloseable {
     private static final int WORD_BYTES = 4;
-    private static final int REGISTER_WORDS = 4;
 
     /** The bytes of what the table of functions has for each. */
     private static final int ENTRY_BYTES = 8;
@@ -33,36 +31,38 @@ public final class Library implements AutoCloseable {
     private final Program program;
     private final Copy copy;
     private final Session session;
-    private final Registers registers;
     private final Map<String, Integer> functions = new LinkedHashMap<>();
-    private final Ready ready;
+    private final ResidentMemory memory;
+    private final Callbacks callbacks;
+    private final CallStack stack;
 
-    /** The memory of the program, or null once the library is closed. */
-    private GuestMemory memory;
-
-    /** Whether no function can be called any longer. */
+    /** Whether the program has left, so that no function can be called any longer. */
     private boolean isOver;
 
-    /** Whether the library was closed, maybe while a function runs. */
-    private boolean isClosed;
+    /** Whether output goes out at the end of a call. */
+    private boolean isFlushing;
 
-    /** Whether a function runs. */
-    private boolean isRunning;
+    /** Whether the library was closed, maybe while calls are under way, and whether all was then given back. */
+    private boolean isClosed;
+    private boolean isGivenBack;
 
     /** Starts the program of a copy in this thread, or throws where it is not ready before it ends. */
-    Library(String name, Program program, Copy copy, Session session) {
+    Library(String name, Program program, Copy copy, Session session, ResidentCalls calls) {
         this.name = name;
         this.program = program;
         this.copy = copy;
         this.session = session;
-        this.ready = start();
+        Ready ready = start();
         try {
-            this.registers = copy.registers();
-            this.memory = new GuestMemory(copy.table("rd"), copy.table("wr"));
+            GuestMemory pages = new GuestMemory(copy.table("rd"), copy.table("wr"));
+            this.memory = new ResidentMemory(name, pages, session.system().order());
+            this.callbacks = new Callbacks(name, calls.stubs());
+            this.stack = new CallStack(name, session.system(), copy.registers(), pages, memory, callbacks, ready);
         } catch (ReflectiveOperationException missing) {
             throw new IllegalArgumentException(name + " has other classes than a translated program", missing);
         }
-        readTable();
+        calls.setStack(stack);
+        readTable(ready.table());
     }
 
     private Ready start() {
@@ -80,23 +80,15 @@ public final class Library implements AutoCloseable {
     }
 
     /** The table has the addresses of a name and of its function in turn, and 0 behind them. */
-    private void readTable() {
-        int end = ready.table() + MOST_FUNCTIONS * ENTRY_BYTES;
-        int at = ready.table();
+    private void readTable(int table) {
+        int end = table + MOST_FUNCTIONS * ENTRY_BYTES;
+        int at = table;
         while (word(at) != 0) {
             if (at == end) {
                 throw new IllegalArgumentException(name + " tells more than " + MOST_FUNCTIONS + " functions");
             }
-            functions.put(functionName(word(at)), word(at + WORD_BYTES));
+            functions.put(memory.functionName(word(at)), word(at + WORD_BYTES));
             at += ENTRY_BYTES;
-        }
-    }
-
-    private String functionName(int address) {
-        try {
-            return memory.name(address);
-        } catch (Refusal refusal) {
-            throw new IllegalArgumentException(String.format(Locale.ROOT, "%s tells a function whose name at %08X is not 1 to 255 bytes", name, address));
         }
     }
 
@@ -151,67 +143,57 @@ public final class Library implements AutoCloseable {
      */
     public synchronized long callLong(int function, int... words) {
         Returned returned = play(function, words);
-        ByteBuffer both = ByteBuffer.allocate(2 * WORD_BYTES).order(session.system().order());
-        return both.putInt(returned.first()).putInt(returned.second()).getLong(0);
+        return memory.pairOf(returned.first(), returned.second());
     }
 
     private Returned play(int function, int[] words) {
-        if (isOver) {
-            throw new IllegalStateException(name + " is closed, or has left");
-        }
-        if (isRunning) {
-            throw new IllegalStateException("a call of " + name + " is under way in this thread, as where one of its streams calls it");
-        }
-        isRunning = true;
+        needCall();
         try {
-            session.forgetFailure();
-            pass(function, words);
-            return enter();
-        } finally {
-            isRunning = false;
-            if (isClosed) {
-                giveBack();
+            if (stack.depth() == 0) {
+                session.forgetFailure();
             }
-        }
-    }
-
-    private Returned enter() {
-        try {
-            throw ended(Copy.play(registers.choose(), session.system()));
-        } catch (Returned returned) {
-            flush();
+            Returned returned = stack.call(function, words);
+            if (stack.depth() == 0) {
+                flush();
+            }
             return returned;
         } catch (Stopped stopped) {
             throw ended(stopped.answer());
+        } finally {
+            giveBackIfClosed();
         }
     }
 
-    private GuestMemory openMemory() {
-        if (memory == null) {
+    private void needCall() {
+        if (isOver || isClosed) {
+            throw new IllegalStateException(name + (isClosed ? " is closed" : " has left"));
+        }
+        if (isFlushing) {
+            throw new IllegalStateException("a call of " + name + " is under way in this thread, as where one of its streams calls it");
+        }
+    }
+
+    /** Lets output go out, to a stream that may try to call this library. */
+    private void flush() {
+        isFlushing = true;
+        try {
+            session.flush();
+        } finally {
+            isFlushing = false;
+        }
+    }
+
+    /** The order of bytes of the program. */
+    ByteOrder order() {
+        return memory.order();
+    }
+
+    /** The memory of the program, unless it was given back. */
+    ResidentMemory memory() {
+        if (isGivenBack) {
             throw new IllegalStateException(name + " is closed");
         }
         return memory;
-    }
-
-    /** Lays arguments down as the System V ABI has it: four in registers, the others on the stack above room for these. */
-    private void pass(int function, int[] words) {
-        int stack = (ready.stack() - WORD_BYTES * Math.max(words.length, REGISTER_WORDS)) & -8;
-        for (int i = 0; i < words.length; i++) {
-            if (i < REGISTER_WORDS) {
-                registers.setArgument(i, words[i]);
-            } else {
-                setWord(stack + WORD_BYTES * i, words[i]);
-            }
-        }
-        registers.enter(function, ready.back(), stack, ready.global());
-    }
-
-    private void flush() {
-        try {
-            session.flush();
-        } catch (Stopped stopped) {
-            throw ended(stopped.answer());
-        }
     }
 
     /** A function did not return. Where the program has left there is no further call. */
@@ -252,6 +234,26 @@ public final class Library implements AutoCloseable {
     }
 
     /**
+     * Takes room in the program's heap, by its function {@code malloc}, as {@link #allocate} does.
+     *
+     * @param bytes how many bytes
+     * @return the room, which its {@link Memory#close} gives back
+     * @throws IllegalArgumentException where the program has told no such function
+     * @throws IllegalStateException where the function gives 0, or as {@link #call}
+     * @throws CallFailed as {@link #call}
+     */
+    public Memory allocateMemory(int bytes) {
+        return new Memory(this, allocate(bytes), bytes);
+    }
+
+    /** Gives such room back, where the library is still open. */
+    synchronized void releaseMemory(int address) {
+        if (!isOver && !isClosed) {
+            release(address);
+        }
+    }
+
+    /**
      * Reads bytes of the program's memory.
      *
      * @param address where they begin
@@ -261,11 +263,7 @@ public final class Library implements AutoCloseable {
      * @throws IllegalStateException where the library is closed
      */
     public synchronized byte[] read(int address, int count) {
-        try {
-            return openMemory().bytes(address, count);
-        } catch (Refusal refusal) {
-            throw notThere(address, count);
-        }
+        return memory().read(address, count);
     }
 
     /**
@@ -277,16 +275,7 @@ public final class Library implements AutoCloseable {
      * @throws IllegalStateException where the library is closed
      */
     public synchronized void write(int address, byte[] bytes) {
-        try {
-            openMemory().needRoom(address, bytes.length);
-            memory.put(address, bytes, 0, bytes.length);
-        } catch (Refusal refusal) {
-            throw notThere(address, bytes.length);
-        }
-    }
-
-    private IllegalArgumentException notThere(int address, int count) {
-        return new IllegalArgumentException(String.format(Locale.ROOT, "%s does not have %d such bytes from %08X on", name, count, address));
+        memory().write(address, bytes, 0, bytes.length);
     }
 
     /**
@@ -297,8 +286,8 @@ public final class Library implements AutoCloseable {
      * @throws IllegalArgumentException where it cannot be read
      * @throws IllegalStateException where the library is closed
      */
-    public int word(int address) {
-        return ByteBuffer.wrap(read(address, WORD_BYTES)).order(session.system().order()).getInt();
+    public synchronized int word(int address) {
+        return memory().word(address);
     }
 
     /**
@@ -309,8 +298,8 @@ public final class Library implements AutoCloseable {
      * @throws IllegalArgumentException where it may not be written
      * @throws IllegalStateException where the library is closed
      */
-    public void setWord(int address, int value) {
-        write(address, ByteBuffer.allocate(WORD_BYTES).order(session.system().order()).putInt(value).array());
+    public synchronized void setWord(int address, int value) {
+        memory().setWord(address, value);
     }
 
     /**
@@ -322,11 +311,63 @@ public final class Library implements AutoCloseable {
      * @throws IllegalStateException where the library is closed
      */
     public synchronized String text(int address) {
-        try {
-            return new String(openMemory().bytesToZero(address), StandardCharsets.UTF_8);
-        } catch (Refusal refusal) {
-            throw notThere(address, 1);
-        }
+        return new String(memory().bytesToZero(address), StandardCharsets.UTF_8);
+    }
+
+    /**
+     * The place of the program's memory at an address.
+     *
+     * @param address the address
+     * @return the pointer, null for 0
+     */
+    public Pointer pointer(int address) {
+        return address == 0 ? null : new Pointer(this, address);
+    }
+
+    /**
+     * Gives a function of Java an address, by which the program calls it and gets one word. The function is called in the thread that has called
+     * the program, and may itself call functions of this library and of others. While it runs, no other thread can use this library.
+     *
+     * @param function the function
+     * @return what has the address, until it is closed
+     * @throws IllegalStateException where 256 such functions have addresses, where the program has no stubs, or where the library is closed
+     */
+    public JavaFunction callback(Callback function) {
+        return add(new JavaFunction(this, function, false, null));
+    }
+
+    /**
+     * The same for a function that gives a {@code long long}, or the bits of a {@code double}.
+     *
+     * @param function the function
+     * @return what has the address, until it is closed
+     * @throws IllegalStateException as {@link #callback(Callback)}
+     */
+    public JavaFunction wideCallback(Callback function) {
+        return add(new JavaFunction(this, function, true, null));
+    }
+
+    /**
+     * The same as {@link #callback(Callback)}, but that C does not see it where the function throws: it gets a default answer, and what was thrown ends the
+     * call that Java made, once C has returned from it. So C can close what it has opened.
+     *
+     * @param function the function
+     * @param defaultAnswer the answer where it throws
+     * @return what has the address, until it is closed
+     * @throws IllegalStateException as {@link #callback(Callback)}
+     */
+    public JavaFunction callback(Callback function, int defaultAnswer) {
+        return add(new JavaFunction(this, function, false, (long) defaultAnswer));
+    }
+
+    synchronized JavaFunction add(JavaFunction function) {
+        memory();
+        callbacks.add(function);
+        return function;
+    }
+
+    synchronized void release(JavaFunction function) {
+        callbacks.remove(function);
     }
 
     /**
@@ -368,24 +409,22 @@ public final class Library implements AutoCloseable {
 
     /**
      * Drops the memory of the program, and closes its files. Its classes go back to the program. To close again does nothing. While a function runs this
-     * waits until it has returned; where it is called in that function's own thread, as by a stream, it takes effect then.
+     * waits until it has returned; where it is called in that function's own thread, as by a stream or a function of Java, it takes effect then, and
+     * no further function can be called.
      *
      * @throws CallFailed where a file of the folder cannot be closed; all else is done
      */
     @Override
     public synchronized void close() {
-        isOver = true;
         isClosed = true;
-        if (!isRunning) {
-            giveBack();
-        }
+        giveBackIfClosed();
     }
 
-    private void giveBack() {
-        if (memory == null) {
+    private void giveBackIfClosed() {
+        if (!isClosed || isGivenBack || stack.depth() > 0 || isFlushing) {
             return;
         }
-        memory = null;
+        isGivenBack = true;
         copy.forget();
         program.putBack(copy);
         try {

@@ -1,58 +1,75 @@
 package nestedvm;
 
 import java.lang.invoke.MethodHandle;
+import java.lang.invoke.MethodHandles;
+import java.lang.invoke.MethodType;
 
-/** The entry of a program for a host that calls a function: the fields of registers, and the method that goes on from there. */
+/**
+ * The entry of a resident program: the fields of registers, and the method that goes on from there.
+ *
+ * <p>Setting the fields, entering the program and catching what it leaves by are one method handle each way, so that the virtual machine compiles
+ * them together: a call of a function is then as short as it can be.
+ */
 final class Registers {
-    private static final int FIRST_ARGUMENT = 4;
-    private static final int ARGUMENTS = 4;
+    private static final int WORD_BYTES = 4;
+    private static final int REGISTER_WORDS = 4;
 
-    private final MethodHandle[] arguments = new MethodHandle[ARGUMENTS];
-    private final MethodHandle global;
-    private final MethodHandle stack;
-    private final MethodHandle back;
-    private final MethodHandle place;
-    private final MethodHandle hasLink;
-    private final MethodHandle choose;
+    /** The alignment of the stack pointer, less one. */
+    private static final int STACK_MASK = 7;
+
+    /** Takes the words of r4 to r7, r28, r29, r31, pc and lf. */
+    private final MethodHandle enter;
+
+    /** Takes the words of r29, pc and lf. */
+    private final MethodHandle goOn;
 
     Registers(Copy copy) throws ReflectiveOperationException {
-        for (int i = 0; i < ARGUMENTS; i++) {
-            arguments[i] = copy.setter("r" + (FIRST_ARGUMENT + i));
+        MethodHandle play = catchingDeparture(copy.method("choose"));
+        enter = setting(copy, play, "r4", "r5", "r6", "r7", "r28", "r29", "r31", "pc", "lf");
+        goOn = setting(copy, play, "r29", "pc", "lf");
+    }
+
+    /** Gives what a method is left by, and null where it returns. */
+    private static MethodHandle catchingDeparture(MethodHandle method) {
+        MethodHandle returning = MethodHandles.filterReturnValue(method, MethodHandles.constant(Departure.class, null));
+        return MethodHandles.catchException(returning, Departure.class, MethodHandles.identity(Departure.class));
+    }
+
+    /** Sets fields, and then does what there is to do. */
+    private static MethodHandle setting(Copy copy, MethodHandle then, String... fields) throws ReflectiveOperationException {
+        MethodHandle all = then;
+        for (int i = fields.length - 1; i >= 0; i--) {
+            all = MethodHandles.collectArguments(all, 0, copy.setter(fields[i]));
         }
-        global = copy.setter("r28");
-        stack = copy.setter("r29");
-        back = copy.setter("r31");
-        place = copy.setter("pc");
-        hasLink = copy.setter("lf");
-        choose = copy.method("choose");
+        return all;
     }
 
-    /** Sets the register of argument 0 to 3. */
-    void setArgument(int number, int value) {
-        set(arguments[number], value);
+    /** The stack pointer for a function with so many words of arguments, whose stack ends at a place. */
+    static int stackOf(int top, int count) {
+        return top - WORD_BYTES * Math.max(count, REGISTER_WORDS) & ~STACK_MASK;
     }
 
-    /** The program goes on at a function, which returns to {@code back}. No link of LL is left. */
-    void enter(int function, int back, int stack, int global) {
-        set(this.place, function);
-        set(this.back, back);
-        set(this.stack, stack);
-        set(this.global, global);
-        set(this.hasLink, 0);
-    }
-
-    /** The method by which the program goes on where it stands. */
-    MethodHandle choose() {
-        return choose;
-    }
-
-    private static void set(MethodHandle field, int value) {
-        try {
-            field.invokeExact(value);
-        } catch (RuntimeException | Error thrown) {
-            throw thrown;
-        } catch (Throwable impossible) {
-            throw new IllegalStateException(impossible);
+    /** Lays arguments down as the System V ABI has it: four in registers, the others on the stack above room for these. */
+    static void layOut(ResidentMemory memory, int stack, int[] words) {
+        for (int i = REGISTER_WORDS; i < words.length; i++) {
+            memory.setWord(stack + WORD_BYTES * i, words[i]);
         }
+    }
+
+    /**
+     * The program goes on at a function, until it leaves; null where its run has ended. No link of LL is left. Whatever else ends the run
+     * is thrown.
+     */
+    Departure enter(int[] words, int function, Ready ready, int stack) throws Throwable {
+        int r4 = words.length > 0 ? words[0] : 0;
+        int r5 = words.length > 1 ? words[1] : 0;
+        int r6 = words.length > 2 ? words[2] : 0;
+        int r7 = words.length > 3 ? words[3] : 0;
+        return (Departure) enter.invokeExact(r4, r5, r6, r7, ready.global(), stack, ready.back(), function, 0);
+    }
+
+    /** The program goes on at a place, of which it needs no register but its stack pointer, until it leaves. */
+    Departure goOn(int place, int stack) throws Throwable {
+        return (Departure) goOn.invokeExact(stack, place, 0);
     }
 }

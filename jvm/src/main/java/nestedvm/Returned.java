@@ -1,14 +1,14 @@
 package nestedvm;
 
-/** A function has returned to the host. It is thrown through the classes of the program. */
-final class Returned extends Error {
+/** A function has returned to the host, with the stack pointer with which the call was made that has ended so. */
+final class Returned extends Departure {
     private static final long serialVersionUID = 1;
 
     private final int first;
     private final int second;
 
-    Returned(int first, int second) {
-        super(null, null, false, false);
+    Returned(CallStack owner, int first, int second, int stack) {
+        super(owner, stack);
         this.first = first;
         this.second = second;
     }
