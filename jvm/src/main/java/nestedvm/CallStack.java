@@ -18,6 +18,9 @@ final class CallStack {
 
     private static final int ANSWER_BYTES = 8;
 
+    /** The alignment of the stack pointer, less one. */
+    static final int STACK_MASK = 7;
+
     private final String name;
     private final GuestSystem system;
     private final Registers registers;
@@ -69,6 +72,21 @@ final class CallStack {
     /** Whether the program runs: then it cannot be called. */
     boolean isRunning() {
         return isRunning;
+    }
+
+    /** Where the stack of the next call ends. */
+    int top() {
+        return top;
+    }
+
+    void setTop(int top) {
+        this.top = top;
+    }
+
+    /** Takes room for so many bytes off the stack of the next call, and gives its address. */
+    int lowerTop(int bytes) {
+        top = top - bytes & ~STACK_MASK;
+        return top;
     }
 
     // ---- calls by Java

@@ -5,6 +5,7 @@ import java.nio.charset.StandardCharsets;
 import java.util.Collections;
 import java.util.LinkedHashMap;
 import java.util.Map;
+import java.util.Objects;
 import java.util.Set;
 
 /**
@@ -38,6 +39,9 @@ public final class Library implements AutoCloseable {
 
     /** Whether the program has left, so that no function can be called any longer. */
     private boolean isOver;
+
+    /** How many calls by interfaces have something in memory. */
+    private int areas;
 
     /** Whether output goes out at the end of a call. */
     private boolean isFlushing;
@@ -325,6 +329,52 @@ public final class Library implements AutoCloseable {
     }
 
     /**
+     * The functions of the program by an interface: its methods are functions of C, of the same names or of those that {@link FunctionName} has.
+     *
+     * <table>
+     * <caption>Types</caption>
+     * <tr><th>Java</th><th>C</th></tr>
+     * <tr><td>byte, short, char, int, long</td><td>signed char, short, unsigned short, int or long, long long</td></tr>
+     * <tr><td>float, double, boolean</td><td>float, double, an int or _Bool that is not 0 where it is true</td></tr>
+     * <tr><td>String</td><td>const char *: a copy with a zero behind it, in UTF-8 or as {@link Encoding} has it; given, a text up to a zero</td></tr>
+     * <tr><td>byte[] and other arrays of numbers, ByteBuffer</td><td>a pointer to a copy, which is copied back; see {@link In} and {@link Out}. Of a buffer
+     * these are the bytes from its position to its limit</td></tr>
+     * <tr><td>{@link Pointer}, {@link JavaFunction}, a {@link Structure}</td><td>its address</td></tr>
+     * <tr><td>an interface with one method</td><td>a pointer to a function, which is there while the call lasts</td></tr>
+     * </table>
+     *
+     * <p>Null is 0, both ways. Copies are there while the call lasts: small ones on the program's stack, and others in its heap, by {@code malloc}. What a function
+     * of C gives may be one of these but an array, a buffer, an interface or a {@code JavaFunction}. Default and static methods of the interface are
+     * its own. Methods throw as {@link #call} does.
+     *
+     * @param <T> the interface
+     * @param type the interface
+     * @return an object of it, which is good as long as this library
+     * @throws IllegalArgumentException where a method names no function of the program, or has a type that is none of these
+     */
+    public <T> T as(Class<T> type) {
+        return Binding.of(this, type);
+    }
+
+    /** What a call by an interface has in memory. The library is not closed before that is. */
+    CallArea newCallArea() {
+        memory();
+        CallArea area = new CallArea(this, stack, areas);
+        areas++;
+        return area;
+    }
+
+    /** There are so many such areas again. */
+    void setAreas(int areas) {
+        this.areas = areas;
+        giveBackIfClosed();
+    }
+
+    String name() {
+        return name;
+    }
+
+    /**
      * Gives a function of Java an address, by which the program calls it and gets one word. The function is called in the thread that has called
      * the program, and may itself call functions of this library and of others. While it runs, no other thread can use this library.
      *
@@ -358,6 +408,22 @@ public final class Library implements AutoCloseable {
      */
     public JavaFunction callback(Callback function, int defaultAnswer) {
         return add(new JavaFunction(this, function, false, (long) defaultAnswer));
+    }
+
+    /**
+     * Gives an object of an interface with one method an address, by which the program calls this method as {@link #callback(Callback)} says. Its
+     * arguments and its value are of the types that {@link #as} has for what C gives and gets, but for texts and arrays as values;
+     * {@link DefaultAnswer} may say what C gets where it throws. An object that {@code as} is given to an interface's method needs no such address.
+     *
+     * @param <T> the interface
+     * @param type the interface
+     * @param function the object, as a lambda expression is one
+     * @return what has the address, until it is closed
+     * @throws IllegalArgumentException where the interface has not exactly one method to implement, or this has other types
+     * @throws IllegalStateException as {@link #callback(Callback)}
+     */
+    public <T> JavaFunction callback(Class<T> type, T function) {
+        return FunctionType.of(type).place(this, Objects.requireNonNull(function));
     }
 
     synchronized JavaFunction add(JavaFunction function) {
@@ -421,7 +487,7 @@ public final class Library implements AutoCloseable {
     }
 
     private void giveBackIfClosed() {
-        if (!isClosed || isGivenBack || stack.depth() > 0 || isFlushing) {
+        if (!isClosed || isGivenBack || stack.depth() > 0 || areas > 0 || isFlushing) {
             return;
         }
         isGivenBack = true;

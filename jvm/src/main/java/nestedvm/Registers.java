@@ -14,9 +14,6 @@ final class Registers {
     private static final int WORD_BYTES = 4;
     private static final int REGISTER_WORDS = 4;
 
-    /** The alignment of the stack pointer, less one. */
-    private static final int STACK_MASK = 7;
-
     /** Takes the words of r4 to r7, r28, r29, r31, pc and lf. */
     private final MethodHandle enter;
 
@@ -46,7 +43,7 @@ final class Registers {
 
     /** The stack pointer for a function with so many words of arguments, whose stack ends at a place. */
     static int stackOf(int top, int count) {
-        return top - WORD_BYTES * Math.max(count, REGISTER_WORDS) & ~STACK_MASK;
+        return top - WORD_BYTES * Math.max(count, REGISTER_WORDS) & ~CallStack.STACK_MASK;
     }
 
     /** Lays arguments down as the System V ABI has it: four in registers, the others on the stack above room for these. */
