@@ -4,10 +4,16 @@ import java.io.ByteArrayInputStream;
 import java.io.InputStream;
 import java.io.OutputStream;
 import java.nio.file.Path;
+import java.time.Clock;
+import java.time.Instant;
+import java.time.ZoneOffset;
+import java.util.ArrayList;
 import java.util.Arrays;
 import java.util.LinkedHashMap;
+import java.util.List;
 import java.util.Map;
 import java.util.Objects;
+import java.util.function.LongSupplier;
 
 /**
  * A call of a program that is to be made: its arguments, its streams, its files and its moment.
@@ -18,11 +24,13 @@ import java.util.Objects;
  */
 public final class Call {
     private static final int LONGEST_NAME = 255;
+    private static final int MOST_HEAP_PAGES = 32_768;
     private static final int DEFAULT_OUTPUT_BYTES = 67_108_864;
 
     private final Program program;
     private final String[] arguments;
     private final Map<String, byte[]> files = new LinkedHashMap<>();
+    private final Map<String, String> environment = new LinkedHashMap<>();
     private String name;
     private byte[] inputBytes = new byte[0];
     private InputStream input;
@@ -31,7 +39,8 @@ public final class Call {
     private Path folder;
     private FolderAccess access;
     private int blocks = GuestFiles.MOST_BLOCKS;
-    private Long moment;
+    private Clock clock;
+    private int heapPages = GuestSystem.AS_TRANSLATED;
     private int mostOutput = DEFAULT_OUTPUT_BYTES;
 
     Call(Program program, String[] arguments) {
@@ -177,14 +186,70 @@ public final class Call {
     }
 
     /**
-     * The moment that the program takes for the present. At first it is the moment at which the call is run.
+     * The moment that the program takes for the present, as long as it runs. At first it is the moment at which the call is run.
      *
      * @param seconds seconds since 1970, of which the program sees the lowest 31 bits
      * @return this
      */
     public Call moment(long seconds) {
-        moment = seconds;
+        return clock(Clock.fixed(Instant.ofEpochSecond(seconds), ZoneOffset.UTC));
+    }
+
+    /**
+     * The clock by which the program tells the present, as {@link Clock#systemUTC} for one that runs.
+     *
+     * @param running the clock, of which the program sees seconds, and of these the lowest 31 bits
+     * @return this
+     */
+    public Call clock(Clock running) {
+        clock = Objects.requireNonNull(running);
         return this;
+    }
+
+    /**
+     * The pages of the heap, in place of those with which the program was translated. What is proved of a program is said of the heap of its translation;
+     * that another one makes no difference but its size is tested.
+     *
+     * @param pages pages of 4,096 bytes: 0 to 32,768
+     * @return this
+     * @throws IllegalArgumentException where the number is out of this range
+     */
+    public Call heap(int pages) {
+        if (pages < 0 || pages > MOST_HEAP_PAGES) {
+            throw new IllegalArgumentException("a heap has 0 to 32,768 pages, and not " + pages);
+        }
+        heapPages = pages;
+        return this;
+    }
+
+    /**
+     * A variable of the program's environment. It goes to the program before its arguments, as words NAME=VALUE and a word {@code --}, which the C
+     * library of docs/LIBC.md takes for an environment; another program takes them for arguments.
+     *
+     * @param variable its name: a letter or _, and letters, digits and _
+     * @param value its value
+     * @return this
+     * @throws IllegalArgumentException where the name is of another form, or the value has a character 0
+     */
+    public Call environment(String variable, String value) {
+        if (!variable.matches("[A-Za-z_][A-Za-z_0-9]*")) {
+            throw new IllegalArgumentException("the name of a variable is a letter or _, and letters, digits and _, and not " + variable);
+        }
+        requireText(value);
+        environment.put(variable, value);
+        return this;
+    }
+
+    /**
+     * Which streams the program takes for a terminal. It tells a program over the C library of docs/LIBC.md by the variable NESTED_TTY of its environment.
+     *
+     * @param input whether input is a terminal
+     * @param output whether output is
+     * @param errorOutput whether error output is
+     * @return this
+     */
+    public Call terminals(boolean input, boolean output, boolean errorOutput) {
+        return environment("NESTED_TTY", (input ? "0" : "") + (output ? "1" : "") + (errorOutput ? "2" : ""));
     }
 
     /**
@@ -242,7 +307,7 @@ public final class Call {
     }
 
     private Session newSession(HostCalls hostCalls) {
-        Arguments words = Arguments.of(name, Arrays.asList(arguments));
+        Arguments words = Arguments.of(name, words());
         GuestFiles guestFiles = new GuestFiles(blocks, folder == null ? null : LiveFolder.of(folder, access));
         for (Map.Entry<String, byte[]> file : files.entrySet()) {
             guestFiles.add(Names.pathOf(file.getKey()), file.getValue());
@@ -253,7 +318,27 @@ public final class Call {
             input == null ? new ByteArrayInputStream(inputBytes) : input,
             output == null ? gathered : output,
             errorOutput == null ? errorsGathered : errorOutput);
-        long now = moment == null ? System.currentTimeMillis() / 1000 : moment;
-        return new Session(console, guestFiles, new GuestSystem(console, guestFiles, words, now, hostCalls), gathered, errorsGathered);
+        GuestSystem system = new GuestSystem(console, guestFiles, words, seconds(), hostCalls, heapPages);
+        return new Session(console, guestFiles, system, gathered, errorsGathered);
+    }
+
+    private LongSupplier seconds() {
+        if (clock == null) {
+            long now = System.currentTimeMillis() / 1000;
+            return () -> now;
+        }
+        Clock told = clock;
+        return () -> told.instant().getEpochSecond();
+    }
+
+    /** The words behind argument 0. */
+    private List<String> words() {
+        List<String> words = new ArrayList<>();
+        environment.forEach((variable, value) -> words.add(variable + "=" + value));
+        if (!words.isEmpty()) {
+            words.add("--");
+        }
+        words.addAll(Arrays.asList(arguments));
+        return words;
     }
 }

@@ -1,7 +1,5 @@
 package nestedvm;
 
-import java.nio.BufferUnderflowException;
-import java.nio.ByteBuffer;
 import java.util.Arrays;
 import java.util.HashSet;
 import java.util.Set;
@@ -20,13 +18,6 @@ final class Confinement {
 
     private static final int PUBLIC_STATIC = 0x0009;
     private static final int NATIVE = 0x0100;
-
-    /** The bytes of an attribute's name and length, and those of a method's limits that stand before the length of its code. */
-    private static final int HEAD_BYTES = 6;
-    private static final int LIMITS_BYTES = 4;
-
-    /** The bytes of a class file's flags, name and superclass. */
-    private static final int OWN_BYTES = 6;
 
     private final String main;
     private final Pattern further;
@@ -49,11 +40,12 @@ final class Confinement {
      */
     void check(String name, byte[] file) {
         try {
-            ConstantPool pool = new ConstantPool(file);
-            checkPool(pool);
-            checkMembers(name, pool, ByteBuffer.wrap(file));
-        } catch (IndexOutOfBoundsException | BufferUnderflowException | IllegalArgumentException malformed) {
-            throw new ClassFormatError(name + " is no class file");
+            ClassFile read = new ClassFile(file);
+            checkPool(read.pool());
+            checkFields(name, read);
+            checkMethods(read);
+        } catch (IndexOutOfBoundsException malformed) {
+            throw new ClassFormatError(name + " has an index without a constant");
         } catch (ClassFormatError refused) {
             throw new ClassFormatError(name + " has " + refused.getMessage());
         } catch (Refused refused) {
@@ -127,56 +119,26 @@ final class Confinement {
         }
     }
 
-    /** The fields and methods of the class itself, behind its flags, its superclass and its interfaces. */
-    private void checkMembers(String name, ConstantPool pool, ByteBuffer file) throws Refused {
-        file.position(pool.end() + OWN_BYTES);
-        int interfaces = file.getShort() & 0xFFFF;
-        file.position(file.position() + 2 * interfaces);
-        boolean isMain = name.equals(main);
-        int fields = file.getShort() & 0xFFFF;
-        for (int i = 0; i < fields; i++) {
-            checkField(pool, file, isMain);
-        }
-        int methods = file.getShort() & 0xFFFF;
-        for (int i = 0; i < methods; i++) {
-            checkMethod(pool, file);
-        }
-    }
-
     /** All state is in fields that the host sets to 0 and null before the next run. */
-    private static void checkField(ConstantPool pool, ByteBuffer file, boolean isMain) throws Refused {
-        int flags = file.getShort();
-        String field = pool.text(file.getShort() & 0xFFFF);
-        String type = pool.text(file.getShort() & 0xFFFF);
-        if (!isMain || flags != PUBLIC_STATIC || !type.equals("I") && !type.equals("[[I")) {
-            throw new Refused("has a field " + field + " that is no public static int or int[][] of the main class");
+    private void checkFields(String name, ClassFile file) throws Refused {
+        for (ClassFile.Member field : file.fields()) {
+            boolean isState = field.flags == PUBLIC_STATIC && (field.descriptor.equals("I") || field.descriptor.equals("[[I"));
+            if (!isState || !name.equals(main)) {
+                throw new Refused("has a field " + field.name + " that is no public static int or int[][] of the main class");
+            }
         }
-        checkAttributes(pool, file, field);
     }
 
     /** No method is native, is called by the virtual machine itself, or catches what the host throws to end a run. */
-    private void checkMethod(ConstantPool pool, ByteBuffer file) throws Refused {
-        int flags = file.getShort();
-        String method = pool.text(file.getShort() & 0xFFFF);
-        checkDescriptor(pool.text(file.getShort() & 0xFFFF));
-        if ((flags & NATIVE) != 0 || method.equals("finalize")) {
-            throw new Refused("has a method " + method + " that is native or a finalizer");
-        }
-        checkAttributes(pool, file, method);
-    }
-
-    private static void checkAttributes(ConstantPool pool, ByteBuffer file, String member) throws Refused {
-        int attributes = file.getShort() & 0xFFFF;
-        for (int i = 0; i < attributes; i++) {
-            int start = file.position();
-            int next = Math.addExact(start + HEAD_BYTES, file.getInt(start + 2));
-            if (pool.text(file.getShort(start) & 0xFFFF).equals("Code")) {
-                int length = file.getInt(start + HEAD_BYTES + LIMITS_BYTES);
-                if (file.getShort(Math.addExact(start + HEAD_BYTES + LIMITS_BYTES + 4, length)) != 0) {
-                    throw new Refused("has a method " + member + " that catches what is thrown");
-                }
+    private void checkMethods(ClassFile file) throws Refused {
+        for (ClassFile.Member method : file.methods()) {
+            checkDescriptor(method.descriptor);
+            if ((method.flags & NATIVE) != 0 || method.name.equals("finalize")) {
+                throw new Refused("has a method " + method.name + " that is native or a finalizer");
             }
-            file.position(next);
+            if (method.hasHandlers) {
+                throw new Refused("has a method " + method.name + " that catches what is thrown");
+            }
         }
     }
 }

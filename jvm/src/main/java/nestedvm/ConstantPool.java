@@ -102,6 +102,14 @@ final class ConstantPool {
         return file.getShort(places[index] + 3) & 0xFFFF;
     }
 
+    /** The number of a constant that is an int. */
+    int number(int index) {
+        if (tag(index) != INTEGER) {
+            throw new ClassFormatError("constant " + index + " is no int");
+        }
+        return file.getInt(places[index] + 1);
+    }
+
     /** The text of a constant that is one. */
     String text(int index) {
         if (tag(index) != UTF8) {

@@ -4,6 +4,7 @@ import java.lang.invoke.MethodHandle;
 import java.lang.invoke.MethodHandles;
 import java.lang.invoke.MethodHandles.Lookup;
 import java.lang.invoke.MethodType;
+import java.lang.ref.SoftReference;
 
 /**
  * The classes of a program, loaded once more, with static state of their own. One run at a time is made with a copy.
@@ -14,22 +15,31 @@ import java.lang.invoke.MethodType;
 final class Copy {
     private static final MethodType PLAIN = MethodType.methodType(void.class);
     private static final Lookup PUBLIC = MethodHandles.publicLookup();
+    private static final String[] STATE = {"r4", "r5", "r29", "pc", "rd", "wr"};
 
     private final Class<?> main;
-    private final MethodHandle run;
+    private final Images images;
     private final StaticFields fields;
+    private final MethodHandle run;
 
-    /** The same as run, but that it clears the fields where the memory ends; made when it is first used. */
-    private MethodHandle clearingRun;
+    /** Goes on where the fields say that the program stands; made when it is first used. */
+    private MethodHandle choose;
 
     /** What sets the fields of registers, made when it is first asked for. */
     private Registers registers;
 
+    /** The tables of pages, empty unless a run is made. They are let go where memory is short. */
+    private SoftReference<Tables> idleTables = new SoftReference<>(null);
+
+    /** The tables of the run that is made, or null. */
+    private Tables tables;
+
     /** Loads and verifies the main class. The others are loaded as they are used. */
-    Copy(ClassSource source, String name) throws ReflectiveOperationException {
+    Copy(ClassSource source, String name, Images images) throws ReflectiveOperationException {
         main = Class.forName(name, true, new ProgramClasses(source, name));
+        this.images = images;
         fields = new StaticFields(main);
-        run = method("run");
+        run = clearing(method("run"));
     }
 
     /** A method of the main class that takes nothing and gives nothing. */
@@ -57,18 +67,71 @@ final class Copy {
 
     /** Runs the program in this thread to its end, over a system. What stops the run is thrown, and so is what no run ends with. */
     Answer run(GuestSystem system) {
+        try {
+            Image image = images.of(this);
+            if (image != null) {
+                begin(image, system);
+                return play(choose, system);
+            }
+        } catch (OutOfMemoryError end) {
+            forget();
+            return Traps.answerTo(end);
+        }
+        if (system.heapPages() != GuestSystem.AS_TRANSLATED) {
+            throw new IllegalArgumentException(main.getName() + " is no main class of a translated program, so its heap cannot be chosen");
+        }
         return play(run, system);
     }
 
     /** The same, after which the next run can be made. */
     Answer runAndForget(GuestSystem system) {
         try {
-            if (clearingRun == null) {
-                clearingRun = MethodHandles.catchException(run, OutOfMemoryError.class, fields.clearing());
-            }
-            return play(clearingRun, system);
+            return run(system);
         } finally {
             forget();
+        }
+    }
+
+    private void begin(Image image, GuestSystem system) {
+        tables = idleTables.get();
+        if (tables == null) {
+            tables = new Tables();
+            idleTables = new SoftReference<>(tables);
+        }
+        try {
+            image.begin(tables, fields, system);
+            if (choose == null) {
+                choose = clearing(method("choose"));
+            }
+        } catch (ReflectiveOperationException impossible) {
+            throw new IllegalStateException(impossible);
+        }
+    }
+
+    /** The image of the program that begins at an entry, or null where its classes are not those of a translated program. */
+    Image makeImage(int entry) {
+        if (!fields.have(STATE)) {
+            return null;
+        }
+        try {
+            Answer other = play(run, GuestSystem.untilBegun());
+            if (other.cause() instanceof OutOfMemoryError) {
+                throw (OutOfMemoryError) other.cause();
+            }
+            return null;
+        } catch (Begun begun) {
+            return imageOf(begun, entry);
+        } finally {
+            forget();
+        }
+    }
+
+    private Image imageOf(Begun begun, int entry) {
+        try {
+            method("choose");
+            return Image.of(begun, entry, fields.getInt("left"), table("rd"), table("wr"));
+        } catch (ReflectiveOperationException other) {
+            return null;
         }
     }
 
@@ -91,8 +154,31 @@ final class Copy {
         }
     }
 
-    /** The fields of the main class are again as they were when it was loaded. */
+    /** The fields of the main class are again as they were when it was loaded. Nothing is allocated, since it is also done where the memory has ended. */
     void forget() {
         fields.clear();
+        if (tables != null) {
+            tables.clear();
+            tables = null;
+        }
+    }
+
+    /**
+     * A method that, where the memory ends, gives the program's memory back, and throws on. Whoever catches that may need memory, even to come to its
+     * handler.
+     */
+    private MethodHandle clearing(MethodHandle method) {
+        try {
+            MethodType type = MethodType.methodType(void.class, OutOfMemoryError.class);
+            MethodHandle clear = MethodHandles.lookup().findVirtual(Copy.class, "forgetAndThrow", type).bindTo(this);
+            return MethodHandles.catchException(method, OutOfMemoryError.class, clear);
+        } catch (ReflectiveOperationException impossible) {
+            throw new IllegalStateException(impossible);
+        }
+    }
+
+    private void forgetAndThrow(OutOfMemoryError end) {
+        forget();
+        throw end;
     }
 }

@@ -2,9 +2,13 @@ package nestedvm;
 
 import java.nio.ByteBuffer;
 import java.nio.ByteOrder;
+import java.util.function.LongSupplier;
 
 /** The system that answers the calls of a guest, as docs/CALLS.md says. */
 final class GuestSystem {
+    /** A heap of as many pages as the program was translated with. */
+    static final int AS_TRANSLATED = -1;
+
     private static final int EXIT = 1;
 
     private static final int PROCESS = 1;
@@ -25,24 +29,36 @@ final class GuestSystem {
     private final Console console;
     private final GuestFiles files;
     private final Arguments arguments;
-    private final int moment;
+    private final LongSupplier clock;
     private final HostCalls hostCalls;
+    private final int heapPages;
     private final Descriptors descriptors = new Descriptors();
     private final Heap heap = new Heap();
     private ByteOrder order = ByteOrder.BIG_ENDIAN;
 
-    /** A system over a console, files and arguments, at a moment in seconds since 1970. */
-    GuestSystem(Console console, GuestFiles files, Arguments arguments, long moment) {
-        this(console, files, arguments, moment, HostCalls.NONE);
+    /** A system over a console, files and arguments, and a clock that tells seconds since 1970. */
+    GuestSystem(Console console, GuestFiles files, Arguments arguments, LongSupplier clock) {
+        this(console, files, arguments, clock, HostCalls.NONE, AS_TRANSLATED);
     }
 
-    /** The same with calls of the host's own. */
-    GuestSystem(Console console, GuestFiles files, Arguments arguments, long moment, HostCalls hostCalls) {
+    /** The same with calls of the host's own, and with a heap of so many pages. */
+    GuestSystem(Console console, GuestFiles files, Arguments arguments, LongSupplier clock, HostCalls hostCalls, int heapPages) {
         this.console = console;
         this.files = files;
         this.arguments = arguments;
-        this.moment = (int) (moment & 0x7FFFFFFF);
+        this.clock = clock;
         this.hostCalls = hostCalls;
+        this.heapPages = heapPages;
+    }
+
+    /** A system that answers no call: it throws {@link Begun} at the first one. */
+    static GuestSystem untilBegun() {
+        return new GuestSystem(null, null, null, null);
+    }
+
+    /** The pages of the heap, or {@link #AS_TRANSLATED}. */
+    int heapPages() {
+        return heapPages;
     }
 
     /** The order of the bytes of words, which the guest names as it begins. */
@@ -94,7 +110,7 @@ final class GuestSystem {
             case 12:
                 return PROCESS;
             case 13:
-                return moment;
+                return (int) clock.getAsLong() & Integer.MAX_VALUE;
             case 14:
                 return rename(memory.path(a0), memory.path(a1));
             case 15:
@@ -105,6 +121,9 @@ final class GuestSystem {
     }
 
     private int begin(GuestMemory memory, int place, int heapStart, int heapBytes, int orderNumber) throws Refusal {
+        if (arguments == null) {
+            throw new Begun(place, heapStart, heapBytes, orderNumber);
+        }
         heap.needBeginning(heapStart, heapBytes);
         if (orderNumber != 0 && orderNumber != 1) {
             throw new Refusal(Refusal.INVALID);

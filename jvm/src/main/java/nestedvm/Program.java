@@ -17,12 +17,14 @@ public final class Program {
     private final ClassSource source;
     private final String className;
     private final String name;
+    private final Images images;
     private final CopyPool pool = new CopyPool();
 
     private Program(ClassSource source, String className, String name) {
         this.source = source;
         this.className = className;
         this.name = name;
+        this.images = new Images(source.find(className));
         pool.put(newCopy());
     }
 
@@ -96,6 +98,21 @@ public final class Program {
     }
 
     /**
+     * How many copies of the classes are kept for further calls.
+     *
+     * @param most the most copies that are kept while they make no call: at first as many as there are processors, and two at least
+     * @return this
+     * @throws IllegalArgumentException where the number is negative
+     */
+    public Program keepCopies(int most) {
+        if (most < 0) {
+            throw new IllegalArgumentException("the most copies that are kept are no negative number, as " + most);
+        }
+        pool.keep(most);
+        return this;
+    }
+
+    /**
      * A call of the program that is to be made.
      *
      * @param arguments the arguments behind argument 0, which go to the program in UTF-8. With argument 0 they may need at most 4,096 bytes: the
@@ -115,7 +132,7 @@ public final class Program {
 
     private Copy newCopy() {
         try {
-            return new Copy(source, className);
+            return new Copy(source, className, images);
         } catch (ReflectiveOperationException | LinkageError refused) {
             throw new IllegalArgumentException(className + " is no main class of a program: " + refused.getMessage(), refused);
         }

@@ -30,7 +30,7 @@ public final class Run {
             Words words = new Words(given);
             Copy copy = copyOf(words.name());
             GuestFiles files = new GuestFiles(words.disk());
-            GuestSystem system = new GuestSystem(console, files, Arguments.of(words.name(), words.arguments()), moment);
+            GuestSystem system = new GuestSystem(console, files, Arguments.of(words.name(), words.arguments()), () -> moment);
             addFiles(files, words);
             new Flusher(console).start();
             Answer answer = copy.run(system);
@@ -49,7 +49,7 @@ public final class Run {
     /** The class with which the guest begins, loaded and verified. */
     private static Copy copyOf(String name) {
         try {
-            return new Copy(Folder.CLASSES, name);
+            return new Copy(Folder.CLASSES, name, Images.NONE);
         } catch (ClassNotFoundException missing) {
             throw new Stopped(Answer.noFile(name + ".class"));
         } catch (ReflectiveOperationException missing) {

@@ -1,17 +1,18 @@
 package nestedvm;
 
-import java.lang.invoke.MethodHandle;
-import java.lang.invoke.MethodHandles;
-import java.lang.invoke.MethodType;
 import java.lang.reflect.Field;
 import java.lang.reflect.Modifier;
 import java.util.ArrayList;
+import java.util.Arrays;
+import java.util.HashMap;
 import java.util.List;
+import java.util.Map;
 
 /** The public static fields of a class, which hold ints and references. */
 final class StaticFields {
     private final List<Field> ints = new ArrayList<>();
     private final List<Field> references = new ArrayList<>();
+    private final Map<String, Field> named = new HashMap<>();
 
     /** Those of a class that was just loaded, which is public. */
     StaticFields(Class<?> holder) throws IllegalAccessException {
@@ -21,6 +22,7 @@ final class StaticFields {
         for (Field field : holder.getFields()) {
             if (Modifier.isStatic(field.getModifiers()) && !Modifier.isFinal(field.getModifiers())) {
                 (field.getType() == int.class ? ints : references).add(field);
+                named.put(field.getName(), field);
             }
         }
         clear();
@@ -43,21 +45,24 @@ final class StaticFields {
         }
     }
 
-    /**
-     * What a run does where the memory ends: it gives the program's memory back, and throws on. Whoever catches that may need memory,
-     * even to come to its handler.
-     */
-    MethodHandle clearing() {
-        try {
-            MethodType type = MethodType.methodType(void.class, OutOfMemoryError.class);
-            return MethodHandles.lookup().findVirtual(StaticFields.class, "clearAndThrow", type).bindTo(this);
-        } catch (ReflectiveOperationException impossible) {
-            throw new IllegalStateException(impossible);
-        }
+    /** Whether there are fields of all these names. */
+    boolean have(String... names) {
+        return named.keySet().containsAll(Arrays.asList(names));
     }
 
-    private void clearAndThrow(OutOfMemoryError end) {
-        clear();
-        throw end;
+    /** Sets a field that is an int. */
+    void setInt(String name, int value) throws IllegalAccessException {
+        named.get(name).setInt(null, value);
+    }
+
+    /** Sets a field that is a reference. */
+    void set(String name, Object value) throws IllegalAccessException {
+        named.get(name).set(null, value);
+    }
+
+    /** The value of a field that is an int, or 0 where there is none of that name. */
+    int getInt(String name) throws IllegalAccessException {
+        Field field = named.get(name);
+        return field == null ? 0 : field.getInt(null);
     }
 }

@@ -31,7 +31,7 @@ public final class Tool {
             Copy copy = copyOf(program);
             GuestFiles files = new GuestFiles(GuestFiles.MOST_BLOCKS, LiveFolder.ofProcess());
             long moment = System.currentTimeMillis() / 1000;
-            GuestSystem system = new GuestSystem(console, files, Arguments.of(program.name(), Arrays.asList(arguments)), moment);
+            GuestSystem system = new GuestSystem(console, files, Arguments.of(program.name(), Arrays.asList(arguments)), () -> moment);
             new Flusher(console).start();
             Answer answer = copy.run(system);
             console.flush();
@@ -48,7 +48,7 @@ public final class Tool {
 
     private static Copy copyOf(ProgramEntry program) {
         try {
-            return new Copy(new ResourceSource(Tool.class.getClassLoader(), program.folder()), program.className());
+            return new Copy(new ResourceSource(Tool.class.getClassLoader(), program.folder()), program.className(), Images.NONE);
         } catch (ReflectiveOperationException missing) {
             throw new Stopped(Answer.linkRefused(missing.toString()));
         }
