@@ -2,6 +2,9 @@
 #ifndef NESTED_POLL_H
 #define NESTED_POLL_H
 
+#include <signal.h>
+#include <time.h>
+
 #ifdef __cplusplus
 extern "C" {
 #endif
@@ -12,6 +15,10 @@ extern "C" {
 #define POLLERR 8
 #define POLLHUP 16
 #define POLLNVAL 32
+#define POLLRDNORM 64
+#define POLLRDBAND 128
+#define POLLWRNORM 256
+#define POLLWRBAND 512
 
 typedef unsigned int nfds_t;
 
@@ -22,6 +29,7 @@ struct pollfd {
 };
 
 int poll(struct pollfd *descriptors, nfds_t count, int timeout);
+int ppoll(struct pollfd *descriptors, nfds_t count, const struct timespec *timeout, const sigset_t *mask);
 
 #ifdef __cplusplus
 }

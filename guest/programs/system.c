@@ -1,10 +1,14 @@
 /* Tries what only a guest has: one working folder, errors by their numbers, and calls that are not there. It prints a line a trial that fails. */
+#include <dirent.h>
+#include <dlfcn.h>
 #include <errno.h>
 #include <fcntl.h>
+#include <pthread.h>
 #include <stdio.h>
 #include <stdlib.h>
 #include <string.h>
 #include <sys/mman.h>
+#include <sys/socket.h>
 #include <sys/stat.h>
 #include <sys/wait.h>
 #include <time.h>
@@ -64,7 +68,7 @@ static void try_paths(void)
     expect("/a/b/z", length_of("/a/b/z"), 5);
     expect("../b/z", length_of("../b/z"), 5);
     expect("../../x", length_of("../../x"), 3);
-    expect("x", length_of("x"), 3);             /* the name of a file as it stands */
+    expect("x", length_of("x"), -ENOENT);
     expect("chdir", chdir("/"), 0);
     expect("a/b/z", length_of("a/b/z"), 5);
     expect("an empty path", error(open("", O_RDONLY)), ENOENT);
@@ -82,7 +86,7 @@ static void try_long_paths(void)
     unlink(path);
     path[255] = 'p';
     path[256] = 0;
-    expect("a path of 256 bytes", error(open(path, O_RDONLY)), EINVAL);
+    expect("a path of 256 bytes", error(open(path, O_RDONLY)), ENAMETOOLONG);
 }
 
 static void try_numbers(void)
@@ -138,6 +142,7 @@ static void try_memory_and_time(void)
     time_t began = time(0);
     void *before = sbrk(0);
     expect("sbrk past the heap", error((long)sbrk(0x7000000)), ENOMEM);
+    expect("mmap past the heap", error((long)mmap(0, 0x7000000, PROT_READ, MAP_PRIVATE | MAP_ANONYMOUS, -1, 0)), ENOMEM);
     expect("the break stays", sbrk(0) == before, 1);
     expect("time goes", began > 1600000000, 1);
     sleep(2);
@@ -146,15 +151,45 @@ static void try_memory_and_time(void)
     expect("clock", clock(), 0);
 }
 
+static void try_devices(void)
+{
+    struct stat found;
+    char bytes[2] = "xy";
+    int fd = open("/dev/zero", O_RDWR);
+    expect("/dev/zero", read(fd, bytes, 2) == 2 && bytes[0] == 0 && bytes[1] == 0, 1);
+    expect("a write to /dev/zero", write(fd, (void *)1, 1000), 1000);
+    close(fd);
+    expect("/dev/urandom", error(open("/dev/urandom", O_RDONLY)), ENOENT);
+    expect("/tmp", stat("/tmp", &found) == 0 && S_ISDIR(found.st_mode), 1);
+    expect(".", stat(".", &found) == 0 && S_ISDIR(found.st_mode), 1);
+    expect("/dev/null", stat("/dev/null", &found) == 0 && S_ISCHR(found.st_mode), 1);
+    expect("isatty", isatty(0) || isatty(1) || isatty(2), 0);
+    expect("isatty", errno, ENOTTY);
+    setenv("NESTED_TTY", "1", 1);
+    expect("isatty", isatty(1), 1);
+    expect("isatty", isatty(2), 0);
+    setenv("NESTED_SEED", "seed", 1);
+    fd = open("/dev/urandom", O_RDONLY);
+    expect("/dev/urandom with a seed", read(fd, bytes, 2), 2);
+    close(fd);
+    expect("getentropy", getentropy(bytes, 2), 0);
+}
+
 static void try_missing(void)
 {
     int ends[2];
+    pthread_t thread;
     expect("mkdir", error(mkdir("d", 0777)), ENOSYS);
     expect("link", error(link("x", "l")), ENOSYS);
     expect("symlink", error(symlink("x", "l")), ENOSYS);
     expect("pipe", error(pipe(ends)), ENOSYS);
     expect("fork", error(fork()), ENOSYS);
-    expect("mmap", error((long)mmap(0, 4096, PROT_READ, MAP_PRIVATE, -1, 0)), ENOSYS);
+    expect("opendir", opendir("/") == 0 ? errno : 0, ENOSYS);
+    expect("a shared mapping", error((long)mmap(0, 4096, PROT_READ | PROT_WRITE, MAP_SHARED, 0, 0)), ENODEV);
+    expect("socket", error(socket(AF_INET, SOCK_STREAM, 0)), EAFNOSUPPORT);
+    expect("a descriptor that is no socket", error(listen(1, 1)), ENOTSOCK);
+    expect("pthread_create", pthread_create(&thread, 0, 0, 0), EAGAIN);
+    expect("dlopen", dlopen("x", RTLD_NOW) == 0 && dlerror() != 0, 1);
     expect("wait", error(wait(0)), ECHILD);
     expect("system", system("true"), -1);
     expect("popen", popen("true", "r") == 0, 1);
@@ -167,6 +202,7 @@ int main(void)
     try_numbers();
     try_descriptors();
     try_memory_and_time();
+    try_devices();
     try_missing();
     printf("%d tried, %d failed\n", tried, failed);
     return failed != 0;

@@ -2,6 +2,11 @@
 #ifndef NESTED_CALL_H
 #define NESTED_CALL_H
 
+#include <limits.h>
+#include <stddef.h>
+
+struct stat;
+
 enum {
     CALL_EXIT = 1,
     CALL_OPEN,
@@ -41,8 +46,23 @@ long nested_answer(long answer);
 /* Fails with ENOSYS: there is no such call. */
 int nested_missing(void);
 
-/* The name of the file that a path means, in `into` or the path itself, or 0 with errno. The folder / is the empty name. */
+/* The name of the file that a path means, in `into` or the path itself, or 0 with errno. The folder of the run's start has the empty name. */
 const char *nested_name(const char *path, char into[NAME_BYTES]);
+
+/* The path from / on that a path means, without dots: its bytes, or -1 with errno. */
+int nested_whole_path(const char *path, char into[PATH_MAX]);
+
+/* Opens a folder for reading its list: a descriptor, or -1 with errno. Its path is kept while it is open, and freed. */
+int nested_open_folder(const char *path, const char *name);
+const char *nested_folder_path(int fd);
+void nested_set_folder_path(int fd, char *path);
+
+/* What a host tells of a file or folder of this name, in addition to what is there: whether it told. -1 is a refusal, with errno. */
+int nested_host_stat(const char *prefix, const char *name, struct stat *into);
+
+/* Random bytes: from the host, or else from the generator that the environment has a seed for. 0, or -1 with errno. */
+int nested_random(void *into, size_t bytes);
+int nested_has_seed(void);
 
 /* The number by which stat tells files apart, and how it goes with renamed and unlinked ones. */
 unsigned short nested_number(const char *name);

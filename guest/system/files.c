@@ -1,5 +1,6 @@
 /* Files, and the descriptors that stand for them. */
 #include "call.h"
+#include "host.h"
 
 #include <errno.h>
 #include <fcntl.h>
@@ -12,21 +13,28 @@
 
 /* What the system does not tell of a descriptor again: how it was opened, what it is, and its file's number. */
 struct descriptor {
-    unsigned char flags;                /* the access, O_APPEND, and these two */
+    unsigned char flags;                /* the access and O_APPEND */
     unsigned char side;                 /* of a side of the console, 1 more than its number */
+    unsigned char device;               /* what the library answers itself */
     unsigned short number;
 };
 
-#define IS_NULL 0x80                    /* /dev/null */
+enum { NO_DEVICE, DEVICE_NULL, DEVICE_ZERO, DEVICE_RANDOM, DEVICE_FOLDER };
+
 #define KEPT_FLAGS (O_ACCMODE | O_APPEND)
 
 static struct descriptor descriptors[DESCRIPTORS] = {
-    { O_RDONLY, 1, 0 }, { O_WRONLY, 2, 0 }, { O_WRONLY, 3, 0 }
+    { O_RDONLY, 1, 0, 0 }, { O_WRONLY, 2, 0, 0 }, { O_WRONLY, 3, 0, 0 }
 };
 
-static int is_null(int fd)
+static int device_of(int fd)
 {
-    return fd >= 0 && fd < DESCRIPTORS && (descriptors[fd].flags & IS_NULL) != 0;
+    return fd >= 0 && fd < DESCRIPTORS ? descriptors[fd].device : NO_DEVICE;
+}
+
+static int may_write(int fd)
+{
+    return (descriptors[fd].flags & O_ACCMODE) != O_RDONLY;
 }
 
 static int is_open(int fd)
@@ -37,14 +45,14 @@ static int is_open(int fd)
 
 /* ---- open and close */
 
-/* A file without a name or bytes stands for /dev/null: a read of it ends at once, and writes do not reach it. */
-static int open_null(int flags)
+/* A file without a name or bytes stands for a device: no write reaches it. */
+static int open_device(int device, int flags)
 {
     static const char name[] = "/dev/null";
     long fd = nested_answer(nested_call(CALL_OPEN, (long)name, O_RDWR | O_CREAT, 0));
     if (fd >= 0) {
         nested_call(CALL_UNLINK, (long)name, 0, 0);
-        descriptors[fd] = (struct descriptor){ (flags & O_ACCMODE) | IS_NULL, 0, 0 };
+        descriptors[fd] = (struct descriptor){ flags & O_ACCMODE, 0, (unsigned char)device, 0 };
     }
     return (int)fd;
 }
@@ -53,36 +61,88 @@ static int open_file(const char *name, int flags)
 {
     long fd = nested_answer(nested_call(CALL_OPEN, (long)name, flags, 0666));
     if (fd >= 0)
-        descriptors[fd] = (struct descriptor){ flags & KEPT_FLAGS, 0, nested_number(name) };
+        descriptors[fd] = (struct descriptor){ flags & KEPT_FLAGS, 0, NO_DEVICE, nested_number(name) };
     return (int)fd;
 }
 
+/* Random bytes come from the host, or where it has none from a generator, if the environment has a seed for it. */
+static int open_random(const char *path, int flags)
+{
+    int fd = open_file(path, flags & O_ACCMODE);
+    return fd < 0 && errno == ENOENT && nested_has_seed() ? open_device(DEVICE_RANDOM, flags) : fd;
+}
+
 static const char *const sides[] = { "/dev/stdin", "/dev/stdout", "/dev/stderr" };
+
+/* Opens what a path below /dev/ means, or answers -2 where it is for the system to say. */
+static int open_in_dev(const char *path, int flags)
+{
+    if (strcmp(path, "/dev/null") == 0)
+        return open_device(DEVICE_NULL, flags);
+    if (strcmp(path, "/dev/zero") == 0)
+        return open_device(DEVICE_ZERO, flags);
+    if (strcmp(path, "/dev/random") == 0 || strcmp(path, "/dev/urandom") == 0)
+        return open_random(path, flags);
+    for (int side = 0; side < 3; side++)
+        if (strcmp(path, sides[side]) == 0)
+            return dup(side);
+    if (strncmp(path, "/dev/fd/", 8) == 0 && path[8] >= '0' && path[8] <= '9')
+        return dup(atoi(path + 8));
+    if (strcmp(path, "/dev/tty") == 0 && isatty(STDERR_FILENO))
+        return dup((flags & O_ACCMODE) == O_RDONLY ? STDIN_FILENO : STDERR_FILENO);
+    return -2;
+}
+
+/* Opens a folder to be read by readdir, where it may be opened so. */
+static int open_folder(const char *path, const char *name, int flags)
+{
+    int fd;
+    if ((flags & O_ACCMODE) != O_RDONLY || (flags & O_CREAT) != 0 || !nested_host_has_folders()) {
+        errno = EISDIR;
+        return -1;
+    }
+    fd = nested_open_folder(path, name);
+    if (fd >= 0)
+        descriptors[fd] = (struct descriptor){ O_RDONLY, 0, DEVICE_FOLDER, nested_number(name) };
+    return fd;
+}
+
+static int is_folder(const char *path)
+{
+    struct stat found;
+    return stat(path, &found) == 0 && S_ISDIR(found.st_mode);
+}
 
 int open(const char *path, int flags, ...)
 {
     char buffer[NAME_BYTES];
     const char *name;
-    if (path != 0 && strcmp(path, "/dev/null") == 0)
-        return open_null(flags);
-    for (int side = 0; side < 3; side++)
-        if (path != 0 && strcmp(path, sides[side]) == 0)
-            return dup(side);
+    int fd = path != 0 && strncmp(path, "/dev/", 5) == 0 ? open_in_dev(path, flags) : -2;
+    if (fd != -2)
+        return fd;
     name = nested_name(path, buffer);
     if (name == 0)
         return -1;
-    if (*name == 0) {
-        errno = EISDIR;
+    if (*name == 0 || (flags & O_DIRECTORY) != 0) {
+        if (*name == 0 || is_folder(path))
+            return open_folder(path, name, flags);
+        errno = access(path, F_OK) == 0 ? ENOTDIR : ENOENT;
         return -1;
     }
-    return open_file(name, flags);
+    fd = open_file(name, flags);
+    if (fd < 0 && (errno == ENOENT || errno == EACCES) && nested_host_has_folders() && is_folder(path))
+        return open_folder(path, name, flags);
+    return fd;
 }
 
 int close(int fd)
 {
     long answer = nested_answer(nested_call(CALL_CLOSE, fd, 0, 0));
-    if (answer == 0)
-        descriptors[fd] = (struct descriptor){ 0, 0, 0 };
+    if (answer == 0) {
+        if (device_of(fd) == DEVICE_FOLDER)
+            nested_set_folder_path(fd, 0);
+        descriptors[fd] = (struct descriptor){ 0, 0, 0, 0 };
+    }
     return (int)answer;
 }
 
@@ -90,26 +150,37 @@ int close(int fd)
 
 _READ_WRITE_RETURN_TYPE read(int fd, void *into, size_t bytes)
 {
-    return nested_answer(nested_call(CALL_READ, fd, (long)into, (long)bytes));
+    switch (device_of(fd)) {
+    case DEVICE_ZERO:
+        memset(into, 0, bytes);
+        return (_READ_WRITE_RETURN_TYPE)bytes;
+    case DEVICE_RANDOM:
+        return nested_random(into, bytes) == 0 ? (_READ_WRITE_RETURN_TYPE)bytes : -1;
+    case DEVICE_FOLDER:
+        errno = EISDIR;
+        return -1;
+    default:
+        return nested_answer(nested_call(CALL_READ, fd, (long)into, (long)bytes));
+    }
 }
 
 _READ_WRITE_RETURN_TYPE write(int fd, const void *from, size_t bytes)
 {
-    if (is_null(fd) && (descriptors[fd].flags & O_ACCMODE) != O_RDONLY)
+    if (device_of(fd) != NO_DEVICE && may_write(fd))
         return (_READ_WRITE_RETURN_TYPE)bytes;
-    return nested_answer(nested_call(CALL_WRITE, fd, (long)from, is_null(fd) ? 0 : (long)bytes));
+    return nested_answer(nested_call(CALL_WRITE, fd, (long)from, device_of(fd) != NO_DEVICE ? 0 : (long)bytes));
 }
 
 off_t lseek(int fd, off_t offset, int whence)
 {
-    if (is_null(fd))
+    if (device_of(fd) != NO_DEVICE)
         return 0;
     return nested_answer(nested_call(CALL_LSEEK, fd, offset, whence));
 }
 
 int ftruncate(int fd, off_t length)
 {
-    if (is_null(fd)) {
+    if (device_of(fd) != NO_DEVICE) {
         errno = EINVAL;
         return -1;
     }
@@ -137,8 +208,11 @@ int fsync(int fd)
 int dup(int fd)
 {
     long made = nested_answer(nested_call(CALL_DUP, fd, 0, 0));
-    if (made >= 0)
-        descriptors[made] = descriptors[fd];
+    if (made < 0)
+        return -1;
+    descriptors[made] = descriptors[fd];
+    if (device_of(fd) == DEVICE_FOLDER)
+        nested_set_folder_path((int)made, strdup(nested_folder_path(fd)));
     return (int)made;
 }
 
@@ -166,6 +240,16 @@ int dup2(int fd, int wanted)
     if (is_open(wanted))
         close(wanted);
     return dup_from(fd, wanted);
+}
+
+int dup3(int fd, int wanted, int flags)
+{
+    (void)flags;
+    if (fd == wanted) {
+        errno = EINVAL;
+        return -1;
+    }
+    return dup2(fd, wanted);
 }
 
 static int dup_by_word(int fd, long least)
@@ -216,14 +300,14 @@ int flock(int fd, int operation)
 }
 
 /*
- * The system calls each side of the console a terminal, since it does not know better. Who runs the program does, and may say so in
- * the environment: NESTED_TTY has the digits of the sides that are terminals, and may be empty.
+ * The system calls each side of the console a terminal, since it does not know better. Who runs the program does, and says so in the environment:
+ * NESTED_TTY has the digits of the sides that are terminals. Without it none is.
  */
 int isatty(int fd)
 {
     const char *terminals = getenv("NESTED_TTY");
-    long answer = is_null(fd) ? 0 : nested_answer(nested_call(CALL_ISATTY, fd, 0, 0));
-    if (answer > 0 && terminals != 0 && strchr(terminals, '0' + descriptors[fd].side - 1) == 0)
+    long answer = device_of(fd) != NO_DEVICE ? 0 : nested_answer(nested_call(CALL_ISATTY, fd, 0, 0));
+    if (answer > 0 && (terminals == 0 || strchr(terminals, '0' + descriptors[fd].side - 1) == 0))
         answer = 0;
     if (answer == 0)
         errno = ENOTTY;
@@ -247,31 +331,34 @@ static void describe(struct stat *into, mode_t mode, dev_t device, unsigned shor
 
 int fstat(int fd, struct stat *into)
 {
+    char name[NAME_BYTES], digits[12];
     unsigned words[4];                  /* the kind, the length, the blocks of 4,096 bytes, and 4,096 */
     if (nested_answer(nested_call(CALL_FSTAT, fd, (long)words, 0)) < 0)
         return -1;
-    if (is_null(fd) || words[0] == 2) {
+    if ((device_of(fd) != NO_DEVICE && device_of(fd) != DEVICE_FOLDER) || words[0] == 2) {
         describe(into, S_IFCHR | 0666, OF_CONSOLE, descriptors[fd].side);
         return 0;
     }
     describe(into, S_IFREG | 0666, OF_FILES, descriptors[fd].number);
     into->st_size = (off_t)words[1];
     into->st_blocks = words[2] * 8;     /* of 512 bytes */
+    if (nested_host_has_folders() && nested_host_name(HOST_DESCRIPTOR, itoa(fd, digits, 10), name) != 0)
+        nested_host_stat("", name, into);
     return 0;
 }
 
-int stat(const char *path, struct stat *into)
+/* Folders that are there on any system, by their paths. */
+static int is_known_folder(const char *path)
 {
-    char buffer[NAME_BYTES], folder[NAME_BYTES + 1];
-    const char *name = nested_name(path, buffer);
-    int fd, result;
-    if (name == 0)
-        return -1;
-    if (*name == 0 || strcmp(name, getcwd(folder, sizeof folder) + 1) == 0) {
-        describe(into, S_IFDIR | 0777, OF_FILES, *name == 0 ? 0 : nested_number(name));
-        return 0;
-    }
-    fd = open(path, O_RDONLY);
+    char whole[PATH_MAX], folder[PATH_MAX];
+    return nested_whole_path(path, whole) >= 0 && (strcmp(whole, "/dev") == 0 || strcmp(whole, "/tmp") == 0 || strcmp(whole, "/") == 0
+        || (getcwd(folder, sizeof folder) != 0 && strcmp(whole, folder) == 0));
+}
+
+/* What opens as a file, or is a device, is told by fstat. */
+static int stat_open(const char *path, struct stat *into)
+{
+    int fd = open(path, O_RDONLY), result;
     if (fd < 0)
         return -1;
     result = fstat(fd, into);
@@ -279,18 +366,39 @@ int stat(const char *path, struct stat *into)
     return result;
 }
 
+int stat(const char *path, struct stat *into)
+{
+    char buffer[NAME_BYTES];
+    const char *name = nested_name(path, buffer);
+    int told;
+    if (name == 0)
+        return -1;
+    describe(into, S_IFREG | 0666, OF_FILES, 0);
+    told = strncmp(path, "/dev/", 5) != 0 && nested_host_has_folders() ? nested_host_stat(HOST_STATUS, name, into) : 0;
+    if (told > 0)
+        into->st_ino = nested_number(name);
+    else if (is_known_folder(path))
+        describe(into, S_IFDIR | 0777, OF_FILES, nested_number(name));
+    else if (told < 0)
+        return -1;
+    else
+        return stat_open(path, into);
+    return 0;
+}
+
 int lstat(const char *path, struct stat *into)
 {
     return stat(path, into);
 }
 
-/* A file may be read and written. It is no program that could be run. */
+/* A file may be read and written, unless a host says otherwise. It is no program that could be run. */
 int access(const char *path, int mode)
 {
     struct stat found;
     if (stat(path, &found) < 0)
         return -1;
-    if ((mode & X_OK) != 0 && !S_ISDIR(found.st_mode)) {
+    if (((mode & X_OK) != 0 && !S_ISDIR(found.st_mode)) || ((mode & W_OK) != 0 && (found.st_mode & 0222) == 0)
+        || ((mode & R_OK) != 0 && (found.st_mode & 0444) == 0)) {
         errno = EACCES;
         return -1;
     }
@@ -309,6 +417,8 @@ int unlink(const char *path)
     answer = nested_answer(nested_call(CALL_UNLINK, (long)name, 0, 0));
     if (answer == 0)
         nested_unlinked(name);
+    else if (errno == ENOENT && is_folder(path))
+        errno = EISDIR;
     return (int)answer;
 }
 
@@ -376,8 +486,50 @@ int utimes(const char *path, const struct timeval *times)
     return is_there(path);
 }
 
+int lutimes(const char *path, const struct timeval *times)
+{
+    (void)times;
+    return is_there(path);
+}
+
+int futimes(int fd, const struct timeval *times)
+{
+    (void)times;
+    return is_open(fd) ? 0 : -1;
+}
+
+int futimens(int fd, const struct timespec *times)
+{
+    (void)times;
+    return is_open(fd) ? 0 : -1;
+}
+
 mode_t umask(mode_t mode)
 {
-    (void)mode;
-    return 0;
+    static mode_t mask = 022;
+    mode_t before = mask;
+    mask = mode & 0777;
+    return before;
+}
+
+/* ---- the names by which newlib's own parts call these */
+
+int _open(const char *path, int flags, ...)
+{
+    return open(path, flags, 0666);
+}
+
+int _close(int fd)
+{
+    return close(fd);
+}
+
+int _fcntl(int fd, int command, ...)
+{
+    va_list words;
+    long word;
+    va_start(words, command);
+    word = va_arg(words, long);
+    va_end(words);
+    return fcntl(fd, command, word);
 }

@@ -14,6 +14,11 @@ void *sbrk(ptrdiff_t bytes)
     return (void *)before;
 }
 
+int brk(void *end)
+{
+    return sbrk((char *)end - (char *)sbrk(0)) == (void *)-1 ? -1 : 0;
+}
+
 int getpagesize(void)
 {
     return 4096;

@@ -1,22 +1,37 @@
 /*
- * Paths. To the system a file's name is bytes, so x, ./x and /x would be three files. Here they are one: a path is taken apart at
- * its slashes from the working folder on, and put together without empty parts and dots, and with no slash in front.
+ * Paths. To the system a file's name is bytes, so x, ./x and /x would be three files. Here they are one: a path is taken apart at its slashes from
+ * the working folder on, and put together without empty parts and dots.
  *
- * There are no folders. A name may hold slashes, and the working folder is a text that is put before a path.
+ * The folder in which the run began has the empty name, and what is in it has a name without a slash in front. It is / to the program, unless a host
+ * says that its own files are all there: then it has the path that it has there, and what is elsewhere has its whole path for a name.
  *
- * A path that is the name of a file as it stands means that file. So what `nested --with` and `--keep` name is found by that name,
- * be it /etc/hosts or ../x.
+ * A path that is the name of a file as it stands means that file where no other does. So what `nested --with` and `--keep` name is found by that
+ * name, be it /etc/hosts or ../x.
  */
 #include "call.h"
+#include "host.h"
 
 #include <errno.h>
 #include <fcntl.h>
+#include <limits.h>
 #include <stdlib.h>
 #include <string.h>
+#include <sys/stat.h>
 #include <unistd.h>
 
-/* The working folder as a name: without a slash in front, and empty for /. */
-static char folder[NAME_BYTES];
+/* The path of the folder in which the run began, and that of the working folder. Both begin with a slash, and only / ends in one. */
+static char start[PATH_MAX], folder[PATH_MAX];
+
+static void find_start(void)
+{
+    long bytes = *start != 0 ? -1 : nested_host_has_folders() ? nested_host_read(HOST_FOLDER, start, sizeof start - 1) : 0;
+    if (bytes < 0)
+        return;
+    start[bytes] = 0;
+    if (*start != '/')
+        strcpy(start, "/");
+    strcpy(folder, start);
+}
 
 static int is_file(const char *name)
 {
@@ -26,31 +41,34 @@ static int is_file(const char *name)
     return descriptor >= 0;
 }
 
-/* Cuts the last part off a name of so many bytes, unless there is none or it is `..`: the bytes that are left, or -1. */
-static int without_last(const char *name, int bytes)
+/* Cuts the last part off a path of so many bytes. The bytes that are left. */
+static int without_last(const char *path, int bytes)
 {
-    int start = bytes;
-    while (start > 0 && name[start - 1] != '/')
-        start--;
-    if (bytes == 0 || (bytes - start == 2 && name[start] == '.' && name[start + 1] == '.'))
-        return -1;
-    return start > 0 ? start - 1 : 0;
+    while (bytes > 1 && path[bytes - 1] != '/')
+        bytes--;
+    return bytes > 1 ? bytes - 1 : bytes;
 }
 
-/* Appends the parts of a path to a name of so many bytes: the bytes of the whole, or -1 where it is too long. */
-static int append(char into[NAME_BYTES], int bytes, const char *path)
+/* Whether nothing can be cut off a path of so many bytes: it is /, or ends in a part .. itself. */
+static int is_top(const char *path, int bytes)
 {
-    int is_absolute = *path == '/';
+    return bytes == 1 || (bytes >= 3 && memcmp(path + bytes - 3, "/..", 3) == 0);
+}
+
+/*
+ * Appends the parts of a path to a whole one of so many bytes: the bytes of both, or -1 where they are too many. A part .. at the top stays there, or
+ * is kept, since `nested --with ../x` gives a file of that name.
+ */
+static int append(char into[PATH_MAX], int bytes, const char *path, int keeps_up)
+{
     while (*path) {
         int part = (int)strcspn(path, "/");
-        int is_up = part == 2 && path[0] == '.' && path[1] == '.';
-        int shorter = is_up ? without_last(into, bytes) : -1;
-        if (shorter >= 0) {
-            bytes = shorter;
-        } else if (part > 0 && !(part == 1 && *path == '.') && !(is_up && is_absolute)) {
-            if (bytes + (bytes > 0) + part >= NAME_BYTES)
+        if (part == 2 && path[0] == '.' && path[1] == '.' && !(keeps_up && is_top(into, bytes))) {
+            bytes = without_last(into, bytes);
+        } else if (part > 0 && !(part == 1 && *path == '.')) {
+            if (bytes + 1 + part >= PATH_MAX)
                 return -1;
-            if (bytes > 0)
+            if (bytes > 1)
                 into[bytes++] = '/';
             memcpy(into + bytes, path, (size_t)part);
             bytes += part;
@@ -61,41 +79,72 @@ static int append(char into[NAME_BYTES], int bytes, const char *path)
     return bytes;
 }
 
-const char *nested_name(const char *path, char into[NAME_BYTES])
+int nested_whole_path(const char *path, char into[PATH_MAX])
 {
-    int bytes = 0;
+    int bytes;
+    find_start();
     if (path == 0 || *path == 0) {
         errno = path == 0 ? EFAULT : ENOENT;
+        return -1;
+    }
+    strcpy(into, *path == '/' ? "/" : folder);
+    bytes = append(into, (int)strlen(into), path, *path != '/' && !nested_host_has_folders());
+    if (bytes < 0)
+        errno = ENAMETOOLONG;
+    return bytes;
+}
+
+/* The name of a whole path: what is behind the start, and elsewhere the path itself. */
+static const char *name_of(const char *whole)
+{
+    size_t bytes = strlen(start);
+    if (bytes == 1)
+        return whole + 1;
+    if (strncmp(whole, start, bytes) != 0 || (whole[bytes] != 0 && whole[bytes] != '/'))
+        return whole;
+    return whole + bytes + (whole[bytes] == '/');
+}
+
+const char *nested_name(const char *path, char into[NAME_BYTES])
+{
+    char whole[PATH_MAX];
+    const char *name;
+    int is_fixed;
+    if (nested_whole_path(path, whole) < 0)
+        return 0;
+    name = name_of(whole);
+    is_fixed = *path == '/' || strcmp(folder, start) == 0;
+    if (is_fixed && strcmp(name, path) != 0 && !is_file(name) && is_file(path))
+        return path;
+    if (strlen(name) >= NAME_BYTES) {
+        errno = ENAMETOOLONG;
         return 0;
     }
-    if (*path != '/') {
-        bytes = (int)strlen(folder);
-        memcpy(into, folder, (size_t)bytes);
-    }
-    if (append(into, bytes, path) < 0) {
-        errno = EINVAL;
-        return 0;
-    }
-    return strcmp(into, path) != 0 && is_file(path) ? path : into;
+    return strcpy(into, name);
 }
 
 int chdir(const char *path)
 {
-    char buffer[NAME_BYTES];
-    const char *name = nested_name(path, buffer);
-    if (name == 0)
+    char whole[PATH_MAX];
+    struct stat found;
+    if (nested_whole_path(path, whole) < 0)
         return -1;
-    if (*name != 0 && is_file(name)) {
+    if (stat(path, &found) < 0) {
+        if (nested_host_has_folders() || errno != ENOENT)
+            return -1;
+    } else if (!S_ISDIR(found.st_mode)) {
         errno = ENOTDIR;
         return -1;
     }
-    strcpy(folder, name);
+    strcpy(folder, whole);
     return 0;
 }
 
 char *getcwd(char *into, size_t bytes)
 {
-    size_t wanted = strlen(folder) + 2;
+    size_t wanted;
+    find_start();
+    wanted = strlen(folder) + 1;
     if (into == 0 && bytes == 0)
         bytes = wanted;
     if (bytes < wanted) {
@@ -104,9 +153,7 @@ char *getcwd(char *into, size_t bytes)
     }
     if (into == 0 && (into = malloc(bytes)) == 0)
         return 0;
-    *into = '/';
-    strcpy(into + 1, folder);
-    return into;
+    return strcpy(into, folder);
 }
 
 /*

@@ -1,16 +1,20 @@
-/* The process: there is one, and nobody owns it. */
+/* The process: there is one. */
 #include "call.h"
 
 #include <errno.h>
-#include <grp.h>
 #include <limits.h>
 #include <poll.h>
-#include <pwd.h>
 #include <string.h>
 #include <sys/resource.h>
 #include <sys/select.h>
 #include <sys/wait.h>
 #include <unistd.h>
+
+static pid_t no_process(void)
+{
+    errno = ESRCH;
+    return -1;
+}
 
 pid_t getpid(void)
 {
@@ -22,60 +26,25 @@ pid_t getppid(void)
     return 0;
 }
 
-uid_t getuid(void)
+pid_t gettid(void)
 {
-    return 0;
+    return getpid();
 }
 
-uid_t geteuid(void)
+/* It is the only one of its group and session. */
+pid_t getpgrp(void)
 {
-    return 0;
+    return getpid();
 }
 
-gid_t getgid(void)
+pid_t getpgid(pid_t process)
 {
-    return 0;
+    return process == 0 || process == getpid() ? getpid() : no_process();
 }
 
-gid_t getegid(void)
+pid_t getsid(pid_t process)
 {
-    return 0;
-}
-
-int issetugid(void)
-{
-    return 0;
-}
-
-/* No user or group has a name. */
-char *getlogin(void)
-{
-    errno = ENOENT;
-    return 0;
-}
-
-struct passwd *getpwuid(uid_t user)
-{
-    (void)user;
-    return 0;
-}
-
-struct passwd *getpwnam(const char *name)
-{
-    (void)name;
-    return 0;
-}
-
-struct group *getgrgid(gid_t group)
-{
-    (void)group;
-    return 0;
-}
-
-struct group *getgrnam(const char *name)
-{
-    (void)name;
-    return 0;
+    return getpgid(process);
 }
 
 /* No process has a child to wait for. */
@@ -92,7 +61,54 @@ pid_t waitpid(pid_t process, int *status, int options)
     return wait(status);
 }
 
+pid_t wait3(int *status, int options, struct rusage *used)
+{
+    (void)options, (void)used;
+    return wait(status);
+}
+
+pid_t wait4(pid_t process, int *status, int options, struct rusage *used)
+{
+    (void)process, (void)options, (void)used;
+    return wait(status);
+}
+
+int waitid(idtype_t type, id_t id, siginfo_t *into, int options)
+{
+    (void)type, (void)id, (void)into, (void)options;
+    return wait(0);
+}
+
+pid_t _wait(int *status)
+{
+    return wait(status);
+}
+
 /* ---- limits */
+
+int nice(int change)
+{
+    (void)change;
+    return 0;
+}
+
+int getpriority(int which, id_t who)
+{
+    (void)which, (void)who;
+    return 0;
+}
+
+int setpriority(int which, id_t who, int priority)
+{
+    (void)which, (void)who, (void)priority;
+    return 0;
+}
+
+int setdtablesize(int size)
+{
+    (void)size;
+    return 0;
+}
 
 long sysconf(int name)
 {
@@ -108,6 +124,19 @@ long sysconf(int name)
         return 4096;
     case _SC_CLK_TCK:
         return 100;
+    case _SC_VERSION:
+        return _POSIX_VERSION;
+    case _SC_IOV_MAX:
+        return 1024;
+    case _SC_LINE_MAX:
+        return 2048;
+    case _SC_NGROUPS_MAX:
+        return 0;
+    case _SC_CHILD_MAX:
+        return 1;
+    case _SC_GETPW_R_SIZE_MAX:
+    case _SC_GETGR_R_SIZE_MAX:
+        return 1024;
     default:
         errno = EINVAL;
         return -1;
@@ -136,6 +165,18 @@ int poll(struct pollfd *descriptors, nfds_t count, int timeout)
         ready += descriptors[i].revents != 0;
     }
     return ready;
+}
+
+int pselect(int count, fd_set *readable, fd_set *writable, fd_set *urgent, const struct timespec *timeout, const sigset_t *mask)
+{
+    (void)timeout, (void)mask;
+    return select(count, readable, writable, urgent, 0);
+}
+
+int ppoll(struct pollfd *descriptors, nfds_t count, const struct timespec *timeout, const sigset_t *mask)
+{
+    (void)timeout, (void)mask;
+    return poll(descriptors, count, 0);
 }
 
 int select(int count, fd_set *readable, fd_set *writable, fd_set *urgent, struct timeval *timeout)

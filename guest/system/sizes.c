@@ -41,8 +41,9 @@ static unsigned stack_pages(void)
 /* The heap begins with the first page past the program. */
 static unsigned heap_pages(void)
 {
-    unsigned long start = ((unsigned long)_end + PAGE - 1) / PAGE * PAGE;
-    return nested_greatest_break > start ? (nested_greatest_break - start + PAGE - 1) / PAGE : 0;
+    unsigned long start = ((unsigned long)_end + PAGE - 1) / PAGE * PAGE, now = (unsigned long)nested_call(CALL_SBRK, 0, 0, 0);
+    unsigned long most = nested_greatest_break > now ? nested_greatest_break : now;
+    return (most - start + PAGE - 1) / PAGE;
 }
 
 static void put(const char *text)

@@ -18,11 +18,19 @@ extern function *__fini_array_start[], *__fini_array_end[];
 /* C++ names the program that registers a destructor by this; there is one. */
 void *__dso_handle;
 
-static const char *program_name = "";
+char *program_invocation_name = "", *program_invocation_short_name = "";
 
 const char *getprogname(void)
 {
-    return program_name;
+    return program_invocation_short_name;
+}
+
+void setprogname(const char *name)
+{
+    program_invocation_name = program_invocation_short_name = (char *)name;
+    for (; *name != 0; name++)
+        if (*name == '/')
+            program_invocation_short_name = (char *)name + 1;
 }
 
 long nested_answer(long answer)
@@ -57,7 +65,7 @@ void nested_start(int argc, char **argv)
 {
     nested_environment(&argc, &argv);
     if (argc > 0)
-        program_name = argv[0];
+        setprogname(argv[0]);
     if (getenv("NESTED_SIZES") != 0)
         atexit(nested_tell_sizes);      /* registered first, so that it is run last */
     if (&__fini_array_end[0] > &__fini_array_start[0])

@@ -1,19 +1,10 @@
-/* The types of <dirent.h>. Folders cannot be listed: opendir fails. */
+/* The types of <dirent.h>. On a host that answers folders they can be listed; elsewhere opendir fails with ENOSYS. */
 #ifndef NESTED_SYS_DIRENT_H
 #define NESTED_SYS_DIRENT_H
 
 #include <sys/types.h>
 
-typedef struct {
-    int dd_fd;
-    long dd_loc;
-    long dd_size;
-    char *dd_buf;
-    int dd_len;
-    long dd_seek;
-} DIR;
-
-#define __dirfd(folder) ((folder)->dd_fd)
+typedef struct __nested_folder DIR;
 
 struct dirent {
     ino_t d_ino;
@@ -23,6 +14,9 @@ struct dirent {
     char d_name[256];
 };
 
+#define _DIRENT_HAVE_D_TYPE
+#define d_fileno d_ino
+
 #define DT_UNKNOWN 0
 #define DT_FIFO 1
 #define DT_CHR 2
@@ -31,5 +25,7 @@ struct dirent {
 #define DT_REG 8
 #define DT_LNK 10
 #define DT_SOCK 12
+#define IFTODT(mode) (((mode) & 0170000) >> 12)
+#define DTTOIF(type) ((type) << 12)
 
 #endif

@@ -1,0 +1,37 @@
+/* Walks through a folder and what is in it. */
+#ifndef NESTED_FTW_H
+#define NESTED_FTW_H
+
+#include <sys/stat.h>
+
+#ifdef __cplusplus
+extern "C" {
+#endif
+
+#define FTW_F 1
+#define FTW_D 2
+#define FTW_DNR 3
+#define FTW_NS 4
+#define FTW_SL 5
+#define FTW_DP 6
+#define FTW_SLN 7
+
+#define FTW_PHYS 1
+#define FTW_MOUNT 2
+#define FTW_CHDIR 4
+#define FTW_DEPTH 8
+
+struct FTW {
+    int base;
+    int level;
+};
+
+int ftw(const char *path, int (*visit)(const char *path, const struct stat *found, int kind), int descriptors);
+int nftw(const char *path, int (*visit)(const char *path, const struct stat *found, int kind, struct FTW *place), int descriptors,
+    int flags);
+
+#ifdef __cplusplus
+}
+#endif
+
+#endif
