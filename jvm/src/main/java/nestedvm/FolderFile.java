@@ -30,13 +30,6 @@ final class FolderFile extends GuestFile {
         this.folder = folder;
     }
 
-    /** Refuses the call where the files of the folder are only read. */
-    void needChange() throws Refusal {
-        if (!folder.mayChange()) {
-            throw new Refusal(Refusal.DENIED);
-        }
-    }
-
     @Override
     void open(boolean toWrite) throws Refusal {
         if (!isOpen()) {

@@ -8,7 +8,7 @@ import java.util.TreeSet;
 
 /**
  * The files of a guest, by their names, and the blocks of its disk. They are in memory. There may be a folder beside, whose files are
- * found where none in memory has the name; they use no blocks, and do not count.
+ * found where none in memory has the name, and files that the host answers. These use no blocks, and do not count.
  */
 final class GuestFiles {
     /** The most blocks of a disk. */
@@ -22,21 +22,25 @@ final class GuestFiles {
     private final Map<String, MemoryFile> named = new HashMap<>();
     private final int blocks;
     private final LiveFolder folder;
+    private final HostFiles host;
+    private final Folders folders;
     private int freeBlocks;
 
     /** How many files there are in memory, those without a name included. */
     private int count;
 
-    /** No files, and so many free blocks. */
-    GuestFiles(int blocks) {
-        this(blocks, null);
+    /** No files but those of the host, and so many free blocks. */
+    GuestFiles(int blocks, HostFiles host) {
+        this(blocks, null, host);
     }
 
-    /** The files of a folder, or none where it is null, and so many free blocks. */
-    GuestFiles(int blocks, LiveFolder folder) {
+    /** The files of a folder, or none where it is null, those of the host, and so many free blocks. */
+    GuestFiles(int blocks, LiveFolder folder, HostFiles host) {
         this.blocks = blocks;
         this.freeBlocks = blocks;
         this.folder = folder;
+        this.host = host;
+        this.folders = new Folders(named, folder, host.clock());
     }
 
     /** Adds a file that the guest finds, which begins with these bytes, or stops where there are too few blocks for it. The array is not changed. */
@@ -56,10 +60,22 @@ final class GuestFiles {
         return file;
     }
 
-    /** The file of a path, or null. */
-    GuestFile find(String path) {
+    /** The file of a path, or null. The host may refuse the call. */
+    GuestFile find(String path) throws Refusal {
         GuestFile file = named.get(path);
+        if (file == null && path.startsWith(HostFiles.DEVICES)) {
+            file = host.find(path, folders);
+        } else if (file == null && Folders.isFolderName(path)) {
+            file = folders.find(path);
+        }
         return file == null && folder != null ? folder.find(path) : file;
+    }
+
+    /** A file of the host that tells what a descriptor stands for. */
+    GuestFile statusOf(String path, Description description) {
+        GuestFile file = description.file();
+        FileStatus status = file == null ? FileStatus.device() : file instanceof HostFile ? ((HostFile) file).status() : folders.status(file);
+        return new HostRecord(path, status.record(), FileStatus.device());
     }
 
     /** The file of a path, or the call is refused. */
@@ -71,9 +87,12 @@ final class GuestFiles {
         return file;
     }
 
-    /** Makes an empty file of a new path: in the folder where it may be changed, and else in memory. */
+    /** Makes an empty file of a new path, or a folder: in the live folder where it may be changed, and else in memory. */
     GuestFile create(String path) throws Refusal {
-        if (folder != null && folder.mayChange()) {
+        if (Folders.isFolderName(path)) {
+            return folders.make(path);
+        }
+        if (folder != null && folder.mayChange() && !folders.isForMemory(path)) {
             return folder.create(path);
         }
         if (count == MOST_FILES) {
@@ -114,8 +133,12 @@ final class GuestFiles {
         return (int) end;
     }
 
-    /** Takes the name of a file away, or the call is refused. */
+    /** Takes the name of a file away, or removes a folder; or the call is refused. */
     void unlink(GuestFile file) throws Refusal {
+        if (file instanceof HostFile) {
+            folders.remove(file.name());
+            return;
+        }
         if (file instanceof FolderFile) {
             folder.delete((FolderFile) file);
             return;
@@ -128,6 +151,10 @@ final class GuestFiles {
     /** Gives a file a path, which a present file of that path loses; or the call is refused. */
     void rename(GuestFile file, String path) throws Refusal {
         if (path.equals(file.name())) {
+            return;
+        }
+        if (file instanceof HostFile || Folders.isFolderName(path)) {
+            folders.move(file.name(), path);
             return;
         }
         if (file instanceof FolderFile) {

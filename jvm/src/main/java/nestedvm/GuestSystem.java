@@ -140,7 +140,7 @@ final class GuestSystem {
     }
 
     private int open(String path, OpenFlags flags) throws Refusal {
-        GuestFile file = files.find(path);
+        GuestFile file = find(path);
         if (file == null && !flags.creates()) {
             throw new Refusal(Refusal.NO_ENTRY);
         }
@@ -157,6 +157,11 @@ final class GuestSystem {
         }
         descriptors.set(descriptor, Description.ofFile(file, flags));
         return descriptor;
+    }
+
+    private GuestFile find(String path) throws Refusal {
+        int descriptor = HostFiles.descriptorOf(path);
+        return descriptor < 0 ? files.find(path) : files.statusOf(path, descriptors.need(descriptor));
     }
 
     private int close(int descriptor) throws Refusal {
@@ -202,6 +207,10 @@ final class GuestSystem {
 
     private static int readFile(Description description, GuestMemory memory, int place, int count) {
         GuestFile file = description.file();
+        if (file instanceof HostStream) {
+            file.read(0, memory, place, count);
+            return count;
+        }
         int from = description.place();
         int given = Math.min(count, Math.max(file.length() - from, 0));
         file.read(from, memory, place, given);

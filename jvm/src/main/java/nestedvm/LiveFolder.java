@@ -5,6 +5,8 @@ import java.nio.ByteBuffer;
 import java.nio.charset.CharacterCodingException;
 import java.nio.charset.StandardCharsets;
 import java.nio.file.AccessDeniedException;
+import java.nio.file.DirectoryNotEmptyException;
+import java.nio.file.DirectoryStream;
 import java.nio.file.FileAlreadyExistsException;
 import java.nio.file.Files;
 import java.nio.file.InvalidPathException;
@@ -15,6 +17,7 @@ import java.nio.file.ReadOnlyFileSystemException;
 import java.nio.file.StandardCopyOption;
 import java.util.ArrayList;
 import java.util.List;
+import java.util.Map;
 
 /**
  * A folder whose files a guest finds by their names, in folders of the folder as well. A failure ends the run.
@@ -133,7 +136,7 @@ final class LiveFolder {
 
     /** Removes a file, or the call is refused. Whoever has it open keeps it. */
     void delete(FolderFile file) throws Refusal {
-        file.needChange();
+        needChange();
         Path path = needPath(file.name());
         change(() -> Files.delete(path));
         file.setName(null);
@@ -141,7 +144,7 @@ final class LiveFolder {
 
     /** Gives a file another name, which a present file of that name loses; or the call is refused. */
     void move(FolderFile file, String name) throws Refusal {
-        file.needChange();
+        needChange();
         Path from = needPath(file.name());
         Path to = needPath(name);
         if (Files.isDirectory(to)) {
@@ -156,6 +159,85 @@ final class LiveFolder {
         file.setName(name);
     }
 
+    /** The path that the guest gives to this folder: its own where names are those of the file system, and else a slash. */
+    String startPath() {
+        return isConfined ? "/" : root.toAbsolutePath().normalize().toString();
+    }
+
+    private Path folderPath(String name) {
+        return name.isEmpty() ? root : pathOf(name);
+    }
+
+    /** What a name stands for, or null. */
+    FileStatus status(String name) {
+        Path path = folderPath(name);
+        try {
+            return path == null || !Files.exists(path) ? null : FileStatus.of(path, mayChange);
+        } catch (IOException gone) {
+            return null;
+        } catch (RuntimeException failure) {
+            throw new Stopped(Answer.shelfFault(failure));
+        }
+    }
+
+    /** Adds the names in a folder, with the letters of their kinds, where all of them have at most so many bytes; or the call is refused. */
+    void addNames(String name, Map<String, Character> names, int mostBytes) throws Refusal {
+        Path path = folderPath(name);
+        if (path == null || !Files.isDirectory(path)) {
+            return;
+        }
+        int bytes = 0;
+        try (DirectoryStream<Path> children = Files.newDirectoryStream(path)) {
+            for (Path child : children) {
+                String own = Names.pathOf(child.getFileName().toString());
+                bytes += own.length() + 2;
+                if (bytes > mostBytes) {
+                    throw new Refusal(Refusal.NO_MEMORY);
+                }
+                if (!isConfined || !Files.isSymbolicLink(child) || within(child) != null) {
+                    names.put(own, Files.isDirectory(child) ? 'd' : Files.isRegularFile(child) ? 'f' : 'o');
+                }
+            }
+        } catch (AccessDeniedException denied) {
+            throw new Refusal(Refusal.DENIED);
+        } catch (IOException | RuntimeException failure) {
+            throw new Stopped(Answer.shelfFault(failure));
+        }
+    }
+
+    /** Makes a folder of a new name, or the call is refused. */
+    void makeFolder(String name) throws Refusal {
+        Path path = needPath(name);
+        change(() -> Files.createDirectory(path));
+    }
+
+    /** Removes a folder in which nothing is, or the call is refused. */
+    void removeFolder(String name) throws Refusal {
+        needChange();
+        Path path = needPath(name);
+        change(() -> Files.delete(path));
+    }
+
+    /** Gives a folder a new name, or the call is refused. Files in it that are open stay so, by their new names. */
+    void moveFolder(String from, String to) throws Refusal {
+        needChange();
+        Path path = needPath(from);
+        Path moved = needPath(to);
+        change(() -> Files.move(path, moved));
+        for (FolderFile file : open) {
+            if (file.name() != null && file.name().startsWith(from + "/")) {
+                file.setName(to + file.name().substring(from.length()));
+            }
+        }
+    }
+
+    /** Refuses the call where the files of the folder are only read. */
+    void needChange() throws Refusal {
+        if (!mayChange) {
+            throw new Refusal(Refusal.DENIED);
+        }
+    }
+
     private interface Change {
         void make() throws IOException;
     }
@@ -165,6 +247,8 @@ final class LiveFolder {
             change.make();
         } catch (NoSuchFileException missing) {
             throw new Refusal(Refusal.NO_ENTRY);
+        } catch (DirectoryNotEmptyException full) {
+            throw new Refusal(Refusal.NOT_EMPTY);
         } catch (AccessDeniedException | FileAlreadyExistsException | ReadOnlyFileSystemException denied) {
             throw new Refusal(Refusal.DENIED);
         } catch (IOException | RuntimeException failure) {

@@ -10,13 +10,24 @@ final class Refusal extends Exception {
     static final int DENIED = -13;
 
     static final int BAD_ADDRESS = -14;
+
+    /** Of folders alone: the folder at the start stays. */
+    static final int BUSY = -16;
+
     static final int PRESENT = -17;
+
+    /** Of folders alone: a name stands for no folder. */
+    static final int NO_FOLDER = -20;
+
     static final int INVALID = -22;
     static final int TOO_MANY_OPEN = -24;
     static final int TOO_LARGE = -27;
     static final int NO_SPACE = -28;
     static final int NO_SEEK = -29;
     static final int NO_CALL = -88;
+
+    /** Of folders alone: something is in the folder. */
+    static final int NOT_EMPTY = -90;
 
     private static final long serialVersionUID = 1;
 

@@ -29,7 +29,7 @@ public final class Run {
         try {
             Words words = new Words(given);
             Copy copy = copyOf(words.name());
-            GuestFiles files = new GuestFiles(words.disk());
+            GuestFiles files = new GuestFiles(words.disk(), HostFiles.ofProcess());
             GuestSystem system = new GuestSystem(console, files, Arguments.of(words.name(), words.arguments()), () -> moment);
             addFiles(files, words);
             new Flusher(console).start();

@@ -29,7 +29,7 @@ public final class Tool {
     private static Answer perform(ProgramEntry program, String[] arguments, Console console) {
         try {
             Copy copy = copyOf(program);
-            GuestFiles files = new GuestFiles(GuestFiles.MOST_BLOCKS, LiveFolder.ofProcess());
+            GuestFiles files = new GuestFiles(GuestFiles.MOST_BLOCKS, LiveFolder.ofProcess(), HostFiles.ofProcess());
             long moment = System.currentTimeMillis() / 1000;
             GuestSystem system = new GuestSystem(console, files, Arguments.of(program.name(), Arrays.asList(arguments)), () -> moment);
             new Flusher(console).start();
