@@ -54,6 +54,7 @@ int nested_whole_path(const char *path, char into[PATH_MAX]);
 
 /* Opens a folder for reading its list: a descriptor, or -1 with errno. Its path is kept while it is open, and freed. */
 int nested_open_folder(const char *path, const char *name);
+int nested_rename_folder(const char *from, const char *to);
 const char *nested_folder_path(int fd);
 void nested_set_folder_path(int fd, char *path);
 

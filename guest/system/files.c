@@ -422,18 +422,24 @@ int unlink(const char *path)
     return (int)answer;
 }
 
+static int rename_file(const char *old, const char *new)
+{
+    long answer = nested_answer(nested_call(CALL_RENAME, (long)old, (long)new, 0));
+    if (answer == 0)
+        nested_renamed(old, new);
+    return (int)answer;
+}
+
 int _rename(const char *from, const char *to)
 {
     char from_buffer[NAME_BYTES], to_buffer[NAME_BYTES];
     const char *old = nested_name(from, from_buffer);
     const char *new = old != 0 ? nested_name(to, to_buffer) : 0;
-    long answer;
     if (new == 0)
         return -1;
-    answer = nested_answer(nested_call(CALL_RENAME, (long)old, (long)new, 0));
-    if (answer == 0)
-        nested_renamed(old, new);
-    return (int)answer;
+    if (!nested_host_has_folders() || !is_folder(from))
+        return rename_file(old, new);
+    return nested_rename_folder(from, to);
 }
 
 /* ---- what files do not have: modes, owners and times. To set them does nothing to a file that is there. */

@@ -312,6 +312,13 @@ int rmdir(const char *path)
     return (int)nested_answer(nested_call(CALL_UNLINK, (long)name, 0, 0));
 }
 
+int nested_rename_folder(const char *from, const char *to)
+{
+    char old_buffer[NAME_BYTES], new_buffer[NAME_BYTES];
+    const char *old = folder_name(from, old_buffer), *new = old != 0 ? folder_name(to, new_buffer) : 0;
+    return new != 0 ? (int)nested_answer(nested_call(CALL_RENAME, (long)old, (long)new, 0)) : -1;
+}
+
 int fchdir(int fd)
 {
     const char *path = nested_folder_path(fd);
