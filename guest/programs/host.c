@@ -90,7 +90,7 @@ static void try_folders(void)
     nftw("one/three", visit, 8, FTW_DEPTH);
     printf("\n");
     printf("%d", glob("one/*", 0, 0, &found));
-    printf(" %d %s\n", (int)found.gl_pathc, found.gl_pathv[0]);
+    printf(" %d %s\n", (int)found.gl_pathc, found.gl_pathc > 0 ? found.gl_pathv[0] : "");
     say("rmdir", rmdir("one/three"));
     say("rmdir", rmdir("one/a"));
     say("unlink", unlink("one/three/b"));
