@@ -72,9 +72,10 @@ final class Folders {
         return status != null ? status : FileStatus.file(MAY_READ_AND_WRITE, file.length(), clock.start(), clock.start());
     }
 
-    /** Whether a file that is made with this name is one in memory: a device, or a temporary one where the live folder has no folder for such files. */
+    /** Whether a file that is made with this name is one in memory: a device, or a temporary one where a call's folder has no folder for such files. */
     boolean isForMemory(String name) {
-        return name.startsWith(HostFiles.DEVICES) || name.startsWith(TEMPORARY) && live.status(withoutSlash(TEMPORARY)) == null;
+        return name.startsWith(HostFiles.DEVICES)
+            || live.isConfined() && name.startsWith(TEMPORARY) && live.status(withoutSlash(TEMPORARY)) == null;
     }
 
     /** The folder of a name with a slash behind it, or null. */

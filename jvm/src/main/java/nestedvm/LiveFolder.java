@@ -58,6 +58,11 @@ final class LiveFolder {
         return mayChange;
     }
 
+    /** Whether no name leads out of the folder. */
+    boolean isConfined() {
+        return isConfined;
+    }
+
     /** The present file of a name, or null. */
     FolderFile find(String name) {
         for (FolderFile file : open) {
