@@ -45,11 +45,20 @@ final class Guests {
         return Program.inFolder(classes(guest, options), "Main");
     }
 
+    /** A program in a file that stands elsewhere, whose main class is Main, translated in the same way. */
+    static Program program(Path file, String... options) throws IOException {
+        return Program.inFolder(classes(file, options), "Main");
+    }
+
     /** The folder of the classes of a program, translated with options of {@code nested translate}. */
-    static synchronized Path classes(String guest, String... options) throws IOException {
+    static Path classes(String guest, String... options) throws IOException {
+        return classes(TOP.resolve("jvm/guests").resolve(guest), options);
+    }
+
+    private static synchronized Path classes(Path file, String... options) throws IOException {
         assumeTrue(Files.isExecutable(NESTED), "there is no program " + NESTED);
-        Path folder = TOP.resolve("jvm/target/guests").resolve(guest + String.join("", options));
-        File program = TOP.resolve("jvm/guests").resolve(guest).toFile();
+        Path folder = TOP.resolve("jvm/target/guests").resolve(file.getFileName() + String.join("", options));
+        File program = file.toFile();
         File main = folder.resolve("Main.class").toFile();
         if (main.lastModified() < Math.max(program.lastModified(), NESTED.toFile().lastModified())) {
             translate(program, Files.createDirectories(folder), options);
