@@ -161,13 +161,34 @@ static int call_kept(int a, int b) {
     return kept(a, b);
 }
 
+/* all arguments of an open list in one number; the letters tell their types */
+static long long all(const char *kinds, ...) {
+    __builtin_va_list list;
+    long long all = 0;
+    __builtin_va_start(list, kinds);
+    for (; *kinds; kinds++) {
+        union {
+            double real;
+            long long bits;
+        } real;
+        switch (*kinds) {
+            case 'i': all ^= __builtin_va_arg(list, int); break;
+            case 'l': all ^= __builtin_va_arg(list, long long); break;
+            case 'd': real.real = __builtin_va_arg(list, double); all ^= real.bits; break;
+            default: all ^= length(__builtin_va_arg(list, const char *));
+        }
+    }
+    __builtin_va_end(list);
+    return all;
+}
+
 static const struct nested_function table[] = {
     NESTED_FUNCTION(negated_byte), NESTED_FUNCTION(negated_short), NESTED_FUNCTION(next_char), NESTED_FUNCTION(negated_int),
     NESTED_FUNCTION(negated_long), NESTED_FUNCTION(negated_boolean), NESTED_FUNCTION(same_float), NESTED_FUNCTION(same_double),
     NESTED_FUNCTION(mixed), NESTED_FUNCTION(length), NESTED_FUNCTION(greeting), NESTED_FUNCTION(reverse), NESTED_FUNCTION(sum),
     NESTED_FUNCTION(count_up), NESTED_FUNCTION(next_shorts), NESTED_FUNCTION(next_ints), NESTED_FUNCTION(next_longs),
     NESTED_FUNCTION(turn_doubles), NESTED_FUNCTION(size_of_sample), NESTED_FUNCTION(advance), NESTED_FUNCTION(each), NESTED_FUNCTION(add),
-    NESTED_FUNCTION(adder_of), NESTED_FUNCTION(keep), NESTED_FUNCTION(call_kept), NESTED_FUNCTION(malloc), NESTED_FUNCTION(free),
+    NESTED_FUNCTION(adder_of), NESTED_FUNCTION(keep), NESTED_FUNCTION(call_kept), NESTED_FUNCTION(all), NESTED_FUNCTION(malloc), NESTED_FUNCTION(free),
     NESTED_END,
 };
 

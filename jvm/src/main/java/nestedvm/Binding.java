@@ -14,31 +14,35 @@ final class Binding implements InvocationHandler {
     private final Map<Method, BoundFunction> functions = new HashMap<>();
     private final Map<Method, MethodHandle> defaults = new HashMap<>();
 
-    private Binding(Library library, Class<?> type) {
+    /** The functions of the names of methods, or where an address is given the one function that stands there. */
+    private Binding(Library library, Class<?> type, Integer address) {
         this.name = library.name() + " as " + type.getName();
         for (Method method : type.getMethods()) {
             if (Modifier.isAbstract(method.getModifiers())) {
-                functions.put(method, bind(library, method));
+                functions.put(method, bind(library, method, address));
             } else if (method.isDefault()) {
                 defaults.put(method, DefaultMethods.handle(method));
             }
         }
+        if (address != null && functions.size() != 1) {
+            throw new IllegalArgumentException(type.getName() + " has " + functions.size() + " methods to implement, and not one");
+        }
     }
 
-    private static BoundFunction bind(Library library, Method method) {
+    private static BoundFunction bind(Library library, Method method, Integer address) {
         try {
-            return new BoundFunction(library, method);
+            return address == null ? new BoundFunction(library, method) : new BoundFunction(library, method, address);
         } catch (IllegalArgumentException wrong) {
             throw new IllegalArgumentException(method + ": " + wrong.getMessage(), wrong);
         }
     }
 
-    /** An object of an interface whose methods are functions of a library. */
-    static <T> T of(Library library, Class<T> type) {
+    /** An object of an interface whose methods are functions of a library: those of their names, or where an address is given the one there. */
+    static <T> T of(Library library, Class<T> type, Integer address) {
         if (!type.isInterface()) {
             throw new IllegalArgumentException(type.getName() + " is no interface");
         }
-        Binding binding = new Binding(library, type);
+        Binding binding = new Binding(library, type, address);
         return type.cast(Proxy.newProxyInstance(type.getClassLoader(), new Class<?>[] {type}, binding));
     }
 

@@ -3,6 +3,7 @@ package nestedvm;
 import java.nio.ByteOrder;
 import java.nio.charset.StandardCharsets;
 import java.util.Collections;
+import java.util.HashMap;
 import java.util.LinkedHashMap;
 import java.util.Map;
 import java.util.Objects;
@@ -33,6 +34,9 @@ public final class Library implements AutoCloseable {
     private final Copy copy;
     private final Session session;
     private final Map<String, Integer> functions = new LinkedHashMap<>();
+
+    /** Interfaces whose objects were given addresses. */
+    private final Map<Class<?>, FunctionType> functionTypes = new HashMap<>();
     private final ResidentMemory memory;
     private final Callbacks callbacks;
     private final CallStack stack;
@@ -341,6 +345,7 @@ public final class Library implements AutoCloseable {
      * these are the bytes from its position to its limit</td></tr>
      * <tr><td>{@link Pointer}, {@link JavaFunction}, a {@link Structure}</td><td>its address</td></tr>
      * <tr><td>an interface with one method</td><td>a pointer to a function, which is there while the call lasts</td></tr>
+     * <tr><td>Object... at the end</td><td>an open list, as printf has one: each argument by its own type</td></tr>
      * </table>
      *
      * <p>Null is 0, both ways. Copies are there while the call lasts: small ones on the program's stack, and others in its heap, by {@code malloc}. What a function
@@ -353,7 +358,32 @@ public final class Library implements AutoCloseable {
      * @throws IllegalArgumentException where a method names no function of the program, or has a type that is none of these
      */
     public <T> T as(Class<T> type) {
-        return Binding.of(this, type);
+        return Binding.of(this, type, null);
+    }
+
+    /**
+     * A function of C by its address, as an object of an interface with one method, whose types are those of {@link #as(Class)}.
+     *
+     * @param <T> the interface
+     * @param type the interface
+     * @param function where the function stands
+     * @return an object of the interface, which is good as long as this library
+     * @throws IllegalArgumentException where the interface has not one method to implement, or this has a type that C does not have, or where the
+     *     pointer is one of another library
+     */
+    public <T> T as(Class<T> type, Pointer function) {
+        Objects.requireNonNull(function);
+        return Binding.of(this, type, (int) PointerType.INSTANCE.bits(this, function));
+    }
+
+    /** Puts bits into the words of a call, one or a pair of them. */
+    void putBits(int[] words, int place, boolean isWide, long bits) {
+        if (isWide) {
+            words[place] = memory.firstOf(bits);
+            words[place + 1] = memory.secondOf(bits);
+        } else {
+            words[place] = (int) bits;
+        }
     }
 
     /** What a call by an interface has in memory. The library is not closed before that is. */
@@ -423,7 +453,12 @@ public final class Library implements AutoCloseable {
      * @throws IllegalStateException as {@link #callback(Callback)}
      */
     public <T> JavaFunction callback(Class<T> type, T function) {
-        return FunctionType.of(type).place(this, Objects.requireNonNull(function));
+        Objects.requireNonNull(function);
+        return functionType(type).place(this, function);
+    }
+
+    private synchronized FunctionType functionType(Class<?> type) {
+        return functionTypes.computeIfAbsent(type, FunctionType::of);
     }
 
     synchronized JavaFunction add(JavaFunction function) {

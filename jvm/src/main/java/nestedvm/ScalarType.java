@@ -3,7 +3,7 @@ package nestedvm;
 /** The primitive types of Java, as C has them in registers and in memory. A boolean is true where it is not 0, and one byte in memory. */
 enum ScalarType implements ValueType {
     /** A {@code signed char}. */
-    BYTE(byte.class, Byte.BYTES) {
+    BYTE(byte.class, Byte.class, Byte.BYTES) {
         @Override
         public Object value(Library library, long bits) {
             return (byte) bits;
@@ -16,7 +16,7 @@ enum ScalarType implements ValueType {
     },
 
     /** A {@code _Bool}, or an int that is one. */
-    BOOLEAN(boolean.class, Byte.BYTES) {
+    BOOLEAN(boolean.class, Boolean.class, Byte.BYTES) {
         @Override
         public Object value(Library library, long bits) {
             return (int) bits != 0;
@@ -29,7 +29,7 @@ enum ScalarType implements ValueType {
     },
 
     /** A {@code short}. */
-    SHORT(short.class, Short.BYTES) {
+    SHORT(short.class, Short.class, Short.BYTES) {
         @Override
         public Object value(Library library, long bits) {
             return (short) bits;
@@ -42,7 +42,7 @@ enum ScalarType implements ValueType {
     },
 
     /** An {@code unsigned short}. */
-    CHAR(char.class, Character.BYTES) {
+    CHAR(char.class, Character.class, Character.BYTES) {
         @Override
         public Object value(Library library, long bits) {
             return (char) bits;
@@ -55,7 +55,7 @@ enum ScalarType implements ValueType {
     },
 
     /** An {@code int} or {@code long}, with a sign or without. */
-    INT(int.class, Integer.BYTES) {
+    INT(int.class, Integer.class, Integer.BYTES) {
         @Override
         public Object value(Library library, long bits) {
             return (int) bits;
@@ -68,7 +68,7 @@ enum ScalarType implements ValueType {
     },
 
     /** A {@code long long}, with a sign or without. */
-    LONG(long.class, Long.BYTES) {
+    LONG(long.class, Long.class, Long.BYTES) {
         @Override
         public Object value(Library library, long bits) {
             return bits;
@@ -81,7 +81,7 @@ enum ScalarType implements ValueType {
     },
 
     /** A {@code float}, whose bits are a word. */
-    FLOAT(float.class, Float.BYTES) {
+    FLOAT(float.class, Float.class, Float.BYTES) {
         @Override
         public Object value(Library library, long bits) {
             return Float.intBitsToFloat((int) bits);
@@ -94,7 +94,7 @@ enum ScalarType implements ValueType {
     },
 
     /** A {@code double}, whose bits are those of a {@code long long}. */
-    DOUBLE(double.class, Double.BYTES) {
+    DOUBLE(double.class, Double.class, Double.BYTES) {
         @Override
         public Object value(Library library, long bits) {
             return Double.longBitsToDouble(bits);
@@ -107,10 +107,12 @@ enum ScalarType implements ValueType {
     };
 
     private final Class<?> type;
+    private final Class<?> objects;
     private final int size;
 
-    ScalarType(Class<?> type, int size) {
+    ScalarType(Class<?> type, Class<?> objects, int size) {
         this.type = type;
+        this.objects = objects;
         this.size = size;
     }
 
@@ -122,6 +124,11 @@ enum ScalarType implements ValueType {
             }
         }
         return null;
+    }
+
+    /** Whether an object is a value of this type. */
+    boolean isOf(Object value) {
+        return objects.isInstance(value);
     }
 
     @Override

@@ -156,6 +156,8 @@ final class InterfaceTests {
         @FunctionName("call_kept")
         int callKept(int a, int b);
 
+        long all(String kinds, Object... values);
+
         default int twice(int x) {
             return add(x, x);
         }
@@ -351,6 +353,21 @@ final class InterfaceTests {
             }
             assertThrows(CallFailed.class, () -> types.callKept(1, 2));
             assertEquals(library.function("add"), types.adder().address());
+            assertEquals(42, library.as(Adder.class, types.adder()).add(20, 22));
+            assertThrows(IllegalArgumentException.class, () -> library.as(Types.class, types.adder()));
+        }
+    }
+
+    @ParameterizedTest(name = "{0}: open lists of arguments")
+    @MethodSource("programs")
+    void openLists(String name, Program program) {
+        try (Library library = program.call().library()) {
+            Types types = library.as(Types.class);
+            assertEquals(0, types.all(""));
+            assertEquals(-3 ^ 5L << 40 ^ 300, types.all("ili", (byte) -3, 5L << 40, (short) 300));
+            long expected = 7 ^ Double.doubleToRawLongBits(0.1) ^ Double.doubleToRawLongBits(0.25) ^ 4 ^ -1;
+            assertEquals(expected, types.all("iddtt", 7, 0.1, 0.25f, "text", null));
+            assertThrows(IllegalArgumentException.class, () -> types.all("i", new Object()));
         }
     }
 
