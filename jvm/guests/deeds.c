@@ -91,6 +91,7 @@ int main(int argc, char **argv) {
         else if (is(argv[i], "fault")) put_number(*(volatile int *)4);
         else if (is(argv[i], "flood")) flood();
         else if (is(argv[i], "grow")) put_number(grow(argv[i + 1])), i += 1;
+        else if (is(argv[i], "spin")) for (volatile int n = 0;;) n++;
         else if (is(argv[i], "wait")) for (;;) syscall3(TIME, 0, 0, 0);
         else put(argv[i]), put("\n");
     }

@@ -50,6 +50,10 @@ static int leave(int status) {
     return syscall3(EXIT, status, 0, 0);
 }
 
+static void spin(void) {
+    for (volatile int n = 0;;) n++;
+}
+
 static void wait(void) {
     for (;;) syscall3(TIME, 0, 0, 0);
 }
@@ -58,7 +62,7 @@ static void wait(void) {
 
 static const struct nested_function table[] = {
     NESTED_FUNCTION(add), NESTED_FUNCTION(six), NESTED_FUNCTION(deep), NESTED_FUNCTION(next), NESTED_FUNCTION(sum),
-    NESTED_FUNCTION(wide), NESTED_FUNCTION(say), NESTED_FUNCTION(load), NESTED_FUNCTION(leave), NESTED_FUNCTION(wait),
+    NESTED_FUNCTION(wide), NESTED_FUNCTION(say), NESTED_FUNCTION(load), NESTED_FUNCTION(leave), NESTED_FUNCTION(wait), NESTED_FUNCTION(spin),
     NESTED_FUNCTION(malloc), NESTED_FUNCTION(free), NESTED_END,
 };
 

@@ -7,6 +7,7 @@ package nestedvm;
 final class Answer {
     private static final int FAULTED = 79;
     private static final int TRAPPED = 80;
+    private static final int TIMED_OUT = 124;
     private static final int INTERRUPTED = 130;
 
     /** How the run ended, or null where none was made. */
@@ -52,6 +53,10 @@ final class Answer {
 
     static Answer interrupted() {
         return failed(Ending.INTERRUPTED, INTERRUPTED, "interrupted", null);
+    }
+
+    static Answer timedOut() {
+        return failed(Ending.TIMED_OUT, TIMED_OUT, "timed out", null);
     }
 
     static Answer readFault(Throwable cause) {

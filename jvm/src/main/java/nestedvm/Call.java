@@ -5,16 +5,16 @@ import java.io.InputStream;
 import java.io.OutputStream;
 import java.nio.file.Path;
 import java.time.Clock;
+import java.time.Duration;
 import java.time.Instant;
 import java.time.ZoneOffset;
 import java.util.ArrayList;
 import java.util.Arrays;
-import java.util.Collections;
 import java.util.LinkedHashMap;
 import java.util.List;
 import java.util.Map;
 import java.util.Objects;
-import java.util.Random;
+import java.util.function.LongSupplier;
 
 /**
  * A call of a program that is to be made: its arguments, its streams, its files and its moment.
@@ -41,8 +41,9 @@ public final class Call {
     private FolderAccess access;
     private int blocks = GuestFiles.MOST_BLOCKS;
     private Clock clock;
-    private Random random;
     private int heapPages = GuestSystem.AS_TRANSLATED;
+    private Long instructions;
+    private Duration time;
     private int mostOutput = DEFAULT_OUTPUT_BYTES;
 
     Call(Program program, String[] arguments) {
@@ -188,10 +189,9 @@ public final class Call {
     }
 
     /**
-     * The moment that the program takes for the present, as long as it runs: its clock stands still, and to wait takes no time. At first the clock is
-     * that of the process.
+     * The moment that the program takes for the present, as long as it runs. At first it is the moment at which the call is run.
      *
-     * @param seconds seconds since 1970, of which the program sees the lowest 31 bits where it asks by the system's call
+     * @param seconds seconds since 1970, of which the program sees the lowest 31 bits
      * @return this
      */
     public Call moment(long seconds) {
@@ -199,25 +199,13 @@ public final class Call {
     }
 
     /**
-     * The clock by which the program tells the present, as {@link Clock#systemUTC} for one that runs. At first the system's call tells the moment at
-     * which the call is run, and a file of the host (docs/HOST.md) the time of the process.
+     * The clock by which the program tells the present, as {@link Clock#systemUTC} for one that runs.
      *
-     * @param running the clock. Of its seconds a program sees the lowest 31 bits where it asks by the system's call
+     * @param running the clock, of which the program sees seconds, and of these the lowest 31 bits
      * @return this
      */
     public Call clock(Clock running) {
         clock = Objects.requireNonNull(running);
-        return this;
-    }
-
-    /**
-     * Where the program's random bytes come from ({@code /dev/urandom}). At first they are those of a {@link java.security.SecureRandom}.
-     *
-     * @param source a source of bytes; one that begins with the same seed gives the same run
-     * @return this
-     */
-    public Call random(Random source) {
-        random = Objects.requireNonNull(source);
         return this;
     }
 
@@ -234,6 +222,35 @@ public final class Call {
             throw new IllegalArgumentException("a heap has 0 to 32,768 pages, and not " + pages);
         }
         heapPages = pages;
+        return this;
+    }
+
+    /**
+     * The most instructions that a metered program makes, in place of those of its translation (docs/HOST.md): it ends with fault 12 where it would go on.
+     * In a library each call of a function from outside has so many.
+     *
+     * @param most the most instructions: 1 to 2^63 - 1, which is as good as none. At first it is what {@code --meter} said, where its most, 2,147,483,647,
+     *     stands for no bound
+     * @return this, of which {@link #run} and {@link #library} throw an {@code IllegalArgumentException} where the program has no meter
+     * @throws IllegalArgumentException where the number is out of this range
+     */
+    public Call instructions(long most) {
+        if (most < 1) {
+            throw new IllegalArgumentException("a program makes 1 instruction or more, and not " + most);
+        }
+        instructions = most;
+        return this;
+    }
+
+    /**
+     * The time after which a metered program ends with {@link Ending#TIMED_OUT}: within a slice of 1,000,000 instructions, or at a call of the system. In a
+     * library each call of a function from outside has as much. Time that a stream of the caller's takes is not cut short.
+     *
+     * @param most the time from the start of the run, or of the call of a function
+     * @return this, of which {@link #run} and {@link #library} throw an {@code IllegalArgumentException} where the program has no meter
+     */
+    public Call deadline(Duration most) {
+        time = Objects.requireNonNull(most);
         return this;
     }
 
@@ -271,7 +288,7 @@ public final class Call {
      * Runs the program in this thread, until it has ended. Calls of one program may run in several threads at once.
      *
      * <p>A thread that is interrupted ends its call when the program makes its next call of the system: reads, writes, opens and the
-     * like. A program that only computes goes on.
+     * like. A program that only computes goes on, unless it is metered: then it ends within a slice of 1,000,000 instructions.
      *
      * @return how it ended, and what it left
      * @throws IllegalArgumentException where the arguments need more than 4,096 bytes, or the files more blocks than there are
@@ -323,9 +340,7 @@ public final class Call {
 
     private Session newSession(HostCalls hostCalls) {
         Arguments words = Arguments.of(name, words());
-        GuestClock guestClock = clock == null ? GuestClock.running() : GuestClock.of(clock);
-        HostFiles host = new HostFiles(guestClock, random, Collections.emptyMap());
-        GuestFiles guestFiles = new GuestFiles(blocks, folder == null ? null : LiveFolder.of(folder, access), host);
+        GuestFiles guestFiles = new GuestFiles(blocks, folder == null ? null : LiveFolder.of(folder, access));
         for (Map.Entry<String, byte[]> file : files.entrySet()) {
             guestFiles.add(Names.pathOf(file.getKey()), file.getValue());
         }
@@ -335,8 +350,17 @@ public final class Call {
             input == null ? new ByteArrayInputStream(inputBytes) : input,
             output == null ? gathered : output,
             errorOutput == null ? errorsGathered : errorOutput);
-        GuestSystem system = new GuestSystem(console, guestFiles, words, guestClock::seconds, hostCalls, heapPages);
+        GuestSystem system = new GuestSystem(console, guestFiles, words, seconds(), hostCalls, heapPages, new Meter(instructions, time));
         return new Session(console, guestFiles, system, gathered, errorsGathered);
+    }
+
+    private LongSupplier seconds() {
+        if (clock == null) {
+            long now = System.currentTimeMillis() / 1000;
+            return () -> now;
+        }
+        Clock told = clock;
+        return () -> told.instant().getEpochSecond();
     }
 
     /** The words behind argument 0. */

@@ -25,6 +25,9 @@ final class Copy {
     /** Goes on where the fields say that the program stands; made when it is first used. */
     private MethodHandle choose;
 
+    /** The same for a run that is over where the memory ends. */
+    private MethodHandle chooseAndClear;
+
     /** What sets the fields of registers, made when it is first asked for. */
     private Registers registers;
 
@@ -71,7 +74,10 @@ final class Copy {
             Image image = images.of(this);
             if (image != null) {
                 begin(image, system);
-                return play(choose, system);
+                if (chooseAndClear == null) {
+                    chooseAndClear = clearing(choose());
+                }
+                return play(chooseAndClear, system);
             }
         } catch (OutOfMemoryError end) {
             forget();
@@ -80,6 +86,7 @@ final class Copy {
         if (system.heapPages() != GuestSystem.AS_TRANSLATED) {
             throw new IllegalArgumentException(main.getName() + " is no main class of a translated program, so its heap cannot be chosen");
         }
+        needMeter(system);
         return play(run, system);
     }
 
@@ -98,13 +105,48 @@ final class Copy {
             tables = new Tables();
             idleTables = new SoftReference<>(tables);
         }
+        needMeter(system);
         try {
             image.begin(tables, fields, system);
-            if (choose == null) {
-                choose = clearing(method("choose"));
-            }
         } catch (ReflectiveOperationException impossible) {
             throw new IllegalStateException(impossible);
+        }
+    }
+
+    private void needMeter(GuestSystem system) {
+        if (system.meter().isChosen() && !fields.have("left")) {
+            throw new IllegalArgumentException(main.getName() + " was translated without --meter, so it has no number of instructions and no deadline");
+        }
+    }
+
+    /** The method that goes on where the fields say that the program stands, from slice to slice where it is metered. */
+    MethodHandle choose() {
+        if (choose == null) {
+            try {
+                MethodHandle plain = method("choose");
+                choose = fields.have("left") ? inSlices(plain) : plain;
+            } catch (ReflectiveOperationException impossible) {
+                throw new IllegalStateException(impossible);
+            }
+        }
+        return choose;
+    }
+
+    private static MethodHandle inSlices(MethodHandle method) throws ReflectiveOperationException {
+        MethodType type = MethodType.methodType(void.class, MethodHandle.class, Spent.class);
+        MethodHandle goOn = MethodHandles.lookup().findStatic(Copy.class, "goOn", type);
+        return MethodHandles.catchException(method, Spent.class, goOn.bindTo(method));
+    }
+
+    private static void goOn(MethodHandle method, Spent first) throws Throwable {
+        Spent spent = first;
+        while (spent != null) {
+            try {
+                method.invokeExact();
+                spent = null;
+            } catch (Spent next) {
+                spent = next;
+            }
         }
     }
 

@@ -11,8 +11,11 @@ public enum Ending {
     /** The virtual machine threw what no instruction of a program asks for, as it does where the stack or the memory ends. */
     TRAPPED,
 
-    /** The thread was interrupted, and the program then made a call of the system. */
+    /** The thread was interrupted, and the program then made a call of the system, or came to the end of a slice. */
     INTERRUPTED,
+
+    /** The time that the call gave to a metered program was over. */
+    TIMED_OUT,
 
     /** The stream for input threw. */
     INPUT_FAILED,

@@ -32,28 +32,35 @@ final class GuestSystem {
     private final LongSupplier clock;
     private final HostCalls hostCalls;
     private final int heapPages;
+    private final Meter meter;
     private final Descriptors descriptors = new Descriptors();
     private final Heap heap = new Heap();
     private ByteOrder order = ByteOrder.BIG_ENDIAN;
 
     /** A system over a console, files and arguments, and a clock that tells seconds since 1970. */
     GuestSystem(Console console, GuestFiles files, Arguments arguments, LongSupplier clock) {
-        this(console, files, arguments, clock, HostCalls.NONE, AS_TRANSLATED);
+        this(console, files, arguments, clock, HostCalls.NONE, AS_TRANSLATED, new Meter(null, null));
     }
 
-    /** The same with calls of the host's own, and with a heap of so many pages. */
-    GuestSystem(Console console, GuestFiles files, Arguments arguments, LongSupplier clock, HostCalls hostCalls, int heapPages) {
+    /** The same with calls of the host's own, with a heap of so many pages, and a meter. */
+    GuestSystem(Console console, GuestFiles files, Arguments arguments, LongSupplier clock, HostCalls hostCalls, int heapPages, Meter meter) {
         this.console = console;
         this.files = files;
         this.arguments = arguments;
         this.clock = clock;
         this.hostCalls = hostCalls;
         this.heapPages = heapPages;
+        this.meter = meter;
     }
 
     /** A system that answers no call: it throws {@link Begun} at the first one. */
     static GuestSystem untilBegun() {
         return new GuestSystem(null, null, null, null);
+    }
+
+    /** The meter of the program, which is of use where its classes are metered. */
+    Meter meter() {
+        return meter;
     }
 
     /** The pages of the heap, or {@link #AS_TRANSLATED}. */
@@ -71,8 +78,11 @@ final class GuestSystem {
      * by the call or a function returns: what it has done is done.
      */
     int answer(GuestMemory memory, int number, int a0, int a1, int a2, int a3) {
-        if (number != EXIT && number < HostCalls.FIRST && Thread.interrupted()) {
-            throw new Stopped(Answer.interrupted());
+        if (number != EXIT && number < HostCalls.FIRST) {
+            if (Thread.interrupted()) {
+                throw new Stopped(Answer.interrupted());
+            }
+            meter.check();
         }
         try {
             return number < HostCalls.FIRST ? serve(memory, number, a0, a1, a2, a3) : hostCalls.answer(number, a0, a1, a2, a3);

@@ -52,6 +52,10 @@ public final class Host {
      * @param value the fault's value
      */
     public static void fault(int kind, int pc, int value) {
+        GuestSystem system = (GuestSystem) answering()[0];
+        if (kind == Meter.KIND && system != null) {
+            system.meter().spend(pc);
+        }
         throw new Ended(Answer.faulted(new Fault(kind, pc, value)));
     }
 }

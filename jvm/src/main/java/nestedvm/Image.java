@@ -100,8 +100,8 @@ final class Image {
         fields.setInt("r5", begun.place());
         fields.setInt("r29", STACK_POINTER);
         fields.setInt("pc", entry);
-        if (left > 0) {
-            fields.setInt("left", left);
+        if (fields.have("left")) {
+            system.meter().attach(fields, left);
         }
     }
 }

@@ -159,6 +159,7 @@ public final class Library implements AutoCloseable {
         try {
             if (stack.depth() == 0) {
                 session.forgetFailure();
+                session.system().meter().beginCall();
             }
             Returned returned = stack.call(function, words);
             if (stack.depth() == 0) {
@@ -511,12 +512,19 @@ public final class Library implements AutoCloseable {
     /**
      * Drops the memory of the program, and closes its files. Its classes go back to the program. To close again does nothing. While a function runs this
      * waits until it has returned; where it is called in that function's own thread, as by a stream or a function of Java, it takes effect then, and
-     * no further function can be called.
+     * no further function can be called. A function of a metered program that runs in another thread is ended, as by an interrupt.
      *
      * @throws CallFailed where a file of the folder cannot be closed; all else is done
      */
     @Override
-    public synchronized void close() {
+    public void close() {
+        if (!Thread.holdsLock(this)) {
+            session.system().meter().stop();
+        }
+        closeInTurn();
+    }
+
+    private synchronized void closeInTurn() {
         isClosed = true;
         giveBackIfClosed();
     }

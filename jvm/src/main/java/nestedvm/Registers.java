@@ -21,7 +21,7 @@ final class Registers {
     private final MethodHandle goOn;
 
     Registers(Copy copy) throws ReflectiveOperationException {
-        MethodHandle play = catchingDeparture(copy.method("choose"));
+        MethodHandle play = catchingDeparture(copy.choose());
         enter = setting(copy, play, "r4", "r5", "r6", "r7", "r28", "r29", "r31", "pc", "lf");
         goOn = setting(copy, play, "r29", "pc", "lf");
     }

@@ -41,7 +41,7 @@ public final class Result {
      * The status, as {@code nested run} has it.
      *
      * @return 0 to 255: where the program left its own status modulo 256; 79 after a fault, 80 after a trap, 74 where input failed, 75
-     *     where an output failed, 76 where the folder failed, 85 where a function of Java that it called threw, and 130 where the thread was
+     *     where an output failed, 76 where the folder failed, 124 where the time was over, 85 where a function of Java that it called threw, and 130 where the thread was
      *     interrupted. A program may leave with these, too
      */
     public int status() {

@@ -86,7 +86,7 @@ final class FileTests {
     @Test
     @DisplayName("a file that is given is copied where it is changed, and only there")
     void copies() {
-        byte[] large = new byte[24_000_000];
+        byte[] large = new byte[12_000_000];
         byte[] small = Texts.bytes("small");
         Result result = deeds.call("copy", "small", "other", "copy", "other", "small", "open", "large").file("small", small).file("large", large).run();
         answers("0\n0\n3\n", result);

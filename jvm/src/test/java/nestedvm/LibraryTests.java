@@ -38,7 +38,7 @@ final class LibraryTests {
             assertEquals(42, library.call(library.function("add"), 20, 22));
             assertEquals(654_321, library.call(library.function("six"), 1, 2, 3, 4, 5, 6));
             assertEquals(0x0123456789ABCDEFL, library.callLong(library.function("wide"), 0x01234567, 0x89ABCDEF));
-            assertEquals(12, library.functions().size());
+            assertEquals(13, library.functions().size());
             assertThrows(IllegalArgumentException.class, () -> library.function("none"));
         }
     }
@@ -262,7 +262,7 @@ final class LibraryTests {
     @Test
     @DisplayName("a function that fails beside large files")
     void failsBesideFiles() throws IOException {
-        Call call = Guests.program("syscalls").call().file("large", new byte[24_000_000]).mostOutput(20);
+        Call call = Guests.program("syscalls").call().file("large", new byte[12_000_000]).mostOutput(20);
         try (SystemCalls calls = new SystemCalls(call.library())) {
             calls.library().write(calls.room(), Texts.bytes("to output to errors "));
             assertEquals(10, calls.call(SystemCalls.WRITE, 1, calls.room(), 10));
@@ -275,7 +275,7 @@ final class LibraryTests {
             assertEquals("to errors ", Texts.text(calls.library().takeErrorOutput()));
             assertEquals("", Texts.text(calls.library().takeErrorOutput()));
             assertEquals(Collections.singleton("large"), calls.library().files());
-            assertEquals(24_000_000, calls.library().file("large").length);
+            assertEquals(12_000_000, calls.library().file("large").length);
             assertNull(calls.library().file("none"));
             assertEquals(20, calls.call(SystemCalls.WRITE, 1, calls.room(), 20));
             assertEquals(Ending.OUTPUT_FAILED, assertThrows(CallFailed.class, () -> calls.call(SystemCalls.WRITE, 1, calls.room(), 1)).result().ending());
